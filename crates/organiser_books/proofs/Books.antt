@@ -1,12 +1,12 @@
 -- What an organiser keeps, after a store and after a reply.
-use Rattle.std.proofs.Common.{◌≡◌, ◌∙◌, ℕ, ◌+◌, ◌<◌, ◌≤◌, Bool, true, false, not, ◌&&◌, ◌||◌, cond, List, [], ◌∷◌, ◌++◌, Option, None, Some, refl, sym, ap, subst, inl, inr, arith}
+use Rattle.std.proofs.Common.{◌≡◌, ◌∙◌, ℕ, ◌<◌, ◌≤◌, Bool, true, false, ◌&&◌, cond, List, [], ◌∷◌, ◌++◌, Option, None, Some, refl, sym, ap, subst, inl, inr, arith}
 use Rattle.std.specs.Prelude.{◌==◌}
-use Rattle.std.specs.List.{AllZip, filter, find, flat_map, list_any, Contains}
+use Rattle.std.specs.List.{AllZip, filter, find, Contains}
 use Rattle.std.specs.Str.{bytes_eq}
 use Rattle.std.specs.Ordering.{is_eq}
-use Rattle.std.proofs.lemmas.Bool.{true≢false, and_parts, cases_Bool, both_ways, false_from_ne_true, eqb-true}
+use Rattle.std.proofs.lemmas.Bool.{and_parts, both_ways, false_from_ne_true, eqb-true}
 use Rattle.std.proofs.lemmas.List.Elements.{Contains-append_cases, filter-append}
-use Rattle.itip_order.proofs.Lists.{filter_at, in_head, in_cons, in_tail, none_in_nil}
+use Rattle.itip_order.proofs.Lists.{in_head, in_tail}
 use Rattle.ical_values.specs.Octets.{text_octets}
 use Rattle.ical_values.specs.declared.text.Text.{Text}
 use Rattle.profile.specs.rooms.Revisions.{Slot, slot_cmp}
@@ -17,7 +17,7 @@ use Rattle.itip_order.specs.Parts.{revision_of}
 use Rattle.itip_messages.specs.OrganiserObjects.{SaysObjectComponent}
 use Rattle.organiser_books.specs.Attending.{lists_said, AreAttending}
 use Rattle.organiser_books.proofs.Latest.{latest_turned}
-use Rattle.organiser_books.proofs.Lines.{same_back, same_is, same_itself}
+use Rattle.organiser_books.proofs.Lines.{same_is}
 
 -- an organiser's meetings, by their UIDs, keep a book
 abbrev pub KeepsAll : (Text → Option Meeting) → OrganiserBook → Type 0

@@ -1,17 +1,17 @@
 -- The attendees in memory, with one line more.
-use Rattle.std.proofs.Common.{◌≡◌, ◌∙◌, ℕ, ◌+◌, ◌≤◌, Bool, true, false, not, ◌&&◌, ◌||◌, cond, List, [], ◌∷◌, ◌++◌, map, Option, None, Some, refl, sym, ap, subst, append-nil, append_assoc, arith, inl, inr}
+use Rattle.std.proofs.Common.{◌≡◌, ◌∙◌, ℕ, ◌+◌, Bool, true, false, ◌||◌, cond, List, [], ◌∷◌, ◌++◌, map, Option, None, Some, refl, sym, ap, subst, append-nil, append_assoc, arith, inl, inr}
 use Rattle.std.proofs.lemmas.List.{map-append}
 use Rattle.std.specs.Prelude.{◌==◌}
-use Rattle.std.specs.List.{filter, flat_map, list_any}
-use Rattle.std.specs.Map.{lookup, set_value, keys_of}
+use Rattle.std.specs.List.{flat_map, list_any}
+use Rattle.std.specs.Map.{set_value, keys_of}
 use Rattle.std.specs.Str.{bytes_eq}
-use Rattle.std.proofs.lemmas.Bool.{true≢false, or_parts, or_from, or_left, or_right, cases_Bool, eq-eqb, ne_eqb, both_ways}
+use Rattle.std.proofs.lemmas.Bool.{or_parts, or_right, cases_Bool, eq-eqb, ne_eqb, both_ways}
 use Rattle.ical_values.specs.Octets.{address_octets}
 use Rattle.ical_values.specs.declared.address.Address.{Address}
 use Rattle.profile.specs.events.Events.{Attendee}
 use Rattle.profile.specs.rooms.Kept.{each_once}
 use Rattle.organiser_books.specs.declared.attending.Attendance.{Attendance}
-use Rattle.organiser_books.specs.Attending.{Entries, addresses_in, attendance_of, is_address, names, noted_too, schedules, Attends, IsAttending, AreAttending, IsNoted, Noted, AreNoted}
+use Rattle.organiser_books.specs.Attending.{Entries, addresses_in, attendance_of, is_address, names, noted_too, schedules, Attends, AreAttending, IsNoted, Noted, AreNoted}
 use Rattle.organiser_books.proofs.Loops.{any_push, flat_push}
 use Rattle.organiser_books.proofs.Lines.{among_lines, all_unnamed, names_push, once_push, same_is, same_itself, schedules_other, schedules_own, unnamed}
 

@@ -1,23 +1,28 @@
 -- Attendees in memory that pass a test, and what they are in the book.
-use Rattle.std.proofs.Common.{◌≡◌, ◌∙◌, ℕ, Bool, true, false, not, ◌&&◌, ◌||◌, cond, List, [], ◌∷◌, ◌++◌, map, Option, None, Some, refl, sym, ap, subst, inl, inr}
+use Rattle.std.proofs.Common.{◌≡◌, ◌∙◌, ℕ, Bool, true, false, not, ◌&&◌, ◌||◌, List, [], ◌∷◌, ◌++◌, map, Option, None, Some, refl, sym, ap, subst, inl, inr}
 use Rattle.std.specs.List.{filter, flat_map, list_any, Contains, IsDistinct}
-use Rattle.std.specs.Map.{lookup, keys_of}
+use Rattle.std.specs.Map.{keys_of}
 use Rattle.std.specs.Str.{bytes_eq}
 use Rattle.std.specs.Cmp.{IsEquivalence, both_ways as same_tests}
-use Rattle.std.proofs.lemmas.Bool.{true≢false, and_parts, and_from, cases_Bool, both_ways, false_from_ne_true}
+use Rattle.std.proofs.lemmas.Bool.{true≢false, cases_Bool, both_ways}
 use Rattle.std.proofs.lemmas.List.{map-append}
+<<<<<<< HEAD
 use Rattle.std.proofs.lemmas.List.Elements.{filter-append}
-use Rattle.std.proofs.lemmas.Map.Views.{lookup-from_Contains}
+use Rattle.std.proofs.lemmas.Map.Views.{any-filter_same, lookup-from_Contains}
 use Rattle.itip_order.proofs.Lists.{any_at, any_from, filter_at, filter_from, in_cons, in_head, in_tail, none_in_nil}
+=======
+use Rattle.std.proofs.lemmas.Map.Views.{lookup-from_Contains}
+use Rattle.itip_order.proofs.Lists.{any_at, any_from, filter_at, filter_from, in_head, in_tail}
+>>>>>>> c776d976ec76714d185498bbe0b03a7b71d42e4e
 use Rattle.ical_values.specs.Octets.{address_octets}
 use Rattle.ical_values.specs.declared.address.Address.{Address}
 use Rattle.profile.specs.events.Events.{Attendee}
 use Rattle.profile.specs.rooms.Kept.{each_once}
 use Rattle.profile.specs.organisers.Organisers.{without}
 use Rattle.organiser_books.specs.declared.attending.Attendance.{Attendance}
-use Rattle.organiser_books.specs.Attending.{Entries, addresses_in, attendance_of, gone_in, is_sent, is_sent_in, names, scheduled_among, schedules, sent_in, Attends, AreAttending}
+use Rattle.organiser_books.specs.Attending.{Entries, addresses_in, attendance_of, gone_in, is_other, is_sent, is_sent_in, names, scheduled_among, schedules, sent_among, sent_in, Attends, AreAttending}
 use Rattle.organiser_books.proofs.Loops.{any_flat, any_map, filter_both, filter_no, filter_of_map, filter_yes, same_filter}
-use Rattle.organiser_books.proofs.Lines.{all_unnamed, among_lines, same_back, same_is, same_itself}
+use Rattle.organiser_books.proofs.Lines.{all_unnamed, same_back, same_is, same_itself}
 use Rattle.organiser_books.proofs.Noting.{same_address}
 
 abbrev pub Entry : Type 0
@@ -74,10 +79,6 @@ module _ (lists : List (List Attendee)) (es : Entries) (are : AreAttending lists
         map_map [] = refl
         map_map (x ∷ xs) = ap (λ l. address_octets x.0 ∷ l) (map_map xs)
 
-    -- those whom the server sends messages
-    pub sent_is : sent_in es ≡ scheduled_among lists
-    sent_is = filter_of_map (λ (e : Entry). address_octets e.0) (λ e. e.1.scheduled) test es entry_sent ∙ ap (filter test) keys_are
-
     -- those of them who pass another test
     pub sent_and : (other : List ℕ → Bool) → map (λ (e : Entry). address_octets e.0) (filter (λ (e : Entry). e.1.scheduled && other (address_octets e.0)) es) ≡ filter other (scheduled_among lists)
     sent_and other =
@@ -112,8 +113,40 @@ among_scheduled lists q = same_tests _ _
         same_any [] = refl
         same_any (l ∷ ls) = λ i. any_map (λ y. bytes_eq y q) (λ (a : Attendee). a.address) l i || same_any ls i
 
-pub gone_is : (before lists : List (List Attendee)) (last now : Entries) → AreAttending before last → AreAttending lists now → IsDistinct same_address (keys_of last)
-    → gone_in last now ≡ without (scheduled_among before) (scheduled_among lists)
-gone_is before lists last now was are distinct =
-    sent_and before last was distinct (λ q. not (is_sent q now))
-    ∙ same_filter (λ q. not (is_sent q now)) (λ q. not (list_any (bytes_eq q) (scheduled_among lists))) (λ q. ap not (is_sent_is lists now are q ∙ sym (among_scheduled lists q))) (scheduled_among before)
+-- what is among those that pass a test
+pub among_passing : (f : List ℕ → Bool) (q : List ℕ) (xs : List (List ℕ)) → list_any (bytes_eq q) (filter f xs) ≡ (f q && list_any (bytes_eq q) xs)
+among_passing f q xs = any-filter_same (bytes_eq q) f (f q) (λ k e. ap f (sym (same_is q k e))) xs
+
+others : List ℕ → List ℕ → Bool
+others organiser q = not (bytes_eq q organiser)
+
+-- the server sends messages to the others
+pub sent_is : (organiser : List ℕ) (lists : List (List Attendee)) (es : Entries) → AreAttending lists es → IsDistinct same_address (keys_of es) → sent_in organiser es ≡ sent_among organiser lists
+unfolding others
+sent_is organiser lists es are distinct = sent_and lists es are distinct (others organiser)
+
+-- whom it sends messages to, by what is in memory
+pub among_sent : (organiser : List ℕ) (lists : List (List Attendee)) (es : Entries) → AreAttending lists es → (q : List ℕ) → list_any (bytes_eq q) (sent_among organiser lists) ≡ (not (bytes_eq q organiser) && is_sent q es)
+unfolding others
+among_sent organiser lists es are q = among_passing (others organiser) q (scheduled_among lists) ∙ ap (λ b. others organiser q && b) (among_scheduled lists q ∙ sym (is_sent_is lists es are q))
+
+pub gone_is : (organiser : List ℕ) (before lists : List (List Attendee)) (last now : Entries) → AreAttending before last → AreAttending lists now → IsDistinct same_address (keys_of last)
+    → gone_in organiser last now ≡ without (sent_among organiser before) (sent_among organiser lists)
+unfolding others octets
+gone_is organiser before lists last now was are distinct =
+    ap (map octets) (same_filter (λ (e : Entry). is_other organiser e.0 && (e.1.scheduled && not (is_sent (octets e) now))) (λ e. e.1.scheduled && (others organiser (octets e) && not (is_sent (octets e) now)))
+    (λ e. swapped (others organiser (octets e)) e.1.scheduled (not (is_sent (octets e) now))) last)
+    ∙ sent_and before last was distinct (λ q. others organiser q && not (is_sent q now))
+    ∙ same_filter (λ q. others organiser q && not (is_sent q now)) (λ q. others organiser q && not (list_any (bytes_eq q) (sent_among organiser lists)))
+    (λ q. sym (ap (λ b. others organiser q && not b) (among_sent organiser lists now are q) ∙ once (others organiser q) (is_sent q now))) (scheduled_among before)
+    ∙ sym (filter_both (λ q. not (list_any (bytes_eq q) (sent_among organiser lists))) (others organiser) (scheduled_among before))
+  where
+    swapped : (a b c : Bool) → (a && (b && c)) ≡ (b && (a && c))
+    swapped true true c = refl
+    swapped true false c = refl
+    swapped false true c = refl
+    swapped false false c = refl
+
+    once : (a b : Bool) → (a && not (a && b)) ≡ (a && not b)
+    once true b = refl
+    once false b = refl

@@ -1,16 +1,15 @@
 -- A REPLY that is taken, and one that isn't.
-use Rattle.std.proofs.Common.{◌≡◌, ◌∙◌, ℕ, ◌<◌, ◌≤◌, Bool, true, false, cond, List, [], ◌∷◌, ◌++◌, Option, None, Some, refl, sym, ap, subst, inl, inr, arith, Result, Ok, Err, IfErr, IsErrAnd}
+use Rattle.std.proofs.Common.{◌≡◌, ◌∙◌, ℕ, ◌≤◌, Bool, true, false, cond, List, [], ◌∷◌, ◌++◌, Option, None, Some, refl, sym, ap, subst, inl, inr, arith, Result, Ok, Err, IfErr, IsErrAnd}
 use Rattle.std.specs.Prelude.{nat_lt}
-use Rattle.std.specs.List.{flat_map, list_any, position, Contains, AllZip}
+use Rattle.std.specs.List.{flat_map, position, Contains, AllZip}
 use Rattle.std.specs.Map.{keys_of}
-use Rattle.std.specs.Str.{bytes_eq}
 use Rattle.std.proofs.lemmas.Bool.{both_ways, cases_lt, lt-ltb}
 use Rattle.std.proofs.lemmas.List.Elements.{Contains-append_cases}
 use Rattle.itip_order.proofs.Lists.{any_from, in_cons, in_head, in_tail, none_in_nil}
 use Rattle.ical_lines.specs.Fault.{RefusesBy}
 use Rattle.ical_lines.specs.declared.fault.Fault.{Fault}
 use Rattle.ical_lines.specs.declared.fault.Fault.TheVariants.{Memory, Refused}
-use Rattle.ical_values.specs.Octets.{address_octets, text_octets}
+use Rattle.ical_values.specs.Octets.{text_octets}
 use Rattle.ical_values.specs.declared.text.Text.{Text}
 use Rattle.profile.specs.events.Events.{Attendee, Event}
 use Rattle.profile.specs.rooms.Messages.{own_revision}
@@ -24,10 +23,10 @@ use Rattle.itip_messages.specs.declared.organiser_object.OrganiserObject.{Organi
 use Rattle.organiser_books.specs.declared.meeting.Meeting.{Meeting}
 use Rattle.organiser_books.specs.Attending.{is_address, lists_said, AreAttending}
 use Rattle.organiser_books.specs.Calls.{MayTake}
-use Rattle.organiser_books.specs.Standing.{answer_at, answer_in, heard_of, is_ahead, is_strange, same_text, AreSeen, LatestOf, Stands, StandsAt}
+use Rattle.organiser_books.specs.Standing.{answer_at, heard_of, is_ahead, is_strange, same_text, AreSeen, LatestOf, Stands, StandsAt}
 use Rattle.organiser_books.proofs.Books.{keeps_heard, own_heard, stands_known, stored_own, KeepsAll}
 use Rattle.organiser_books.proofs.Lines.{same_is}
-use Rattle.organiser_books.proofs.Said.{heard_are, uids_are}
+use Rattle.organiser_books.proofs.Said.{uids_are}
 use Rattle.organiser_books.proofs.Taking.{ahead_is, heard_is, may_take}
 
 -- the exit of a `?`
@@ -89,7 +88,7 @@ module _ (address : List ℕ) (object : OrganiserObject) (said : objects.Organis
       → MayTake objects.Reply address said book × KeepsAll after (after_reply said book)
   replied kind organiser sent names seen =
       let heard : flat_map (heard_of stored.uid) object.components.items ≡ heard_in said.events =
-          ap (λ u. flat_map (heard_of u) object.components.items) (stored_own said.uid book.stores stored last) ∙ heard_is address object said is book in (
+      ap (λ u. flat_map (heard_of u) object.components.items) (stored_own said.uid book.stores stored last) ∙ heard_is address object said is book in (
         may_take address object said is book m stands objects.Reply kind refl (λ e. sent) names organiser,
         keeps_heard book (heard_in said.events) said.uid heard_own meetings after object.uid (sym is.uid) n put stored last
             (own_heard book (heard_in said.events) said.uid heard_own m n stored revision components attending octets (heard_sent sent)

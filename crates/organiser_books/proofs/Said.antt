@@ -1,29 +1,25 @@
 -- What was read of an object says what its events do.
-use Rattle.std.proofs.Common.{◌≡◌, ◌∙◌, ℕ, ℤ, Bool, true, false, not, is_some, ◌&&◌, ◌||◌, cond, List, [], ◌∷◌, ◌++◌, map, Option, None, Some, refl, sym, ap, subst}
-use Rattle.std.specs.Prelude.{nat_lt, unwrap_or}
+use Rattle.std.proofs.Common.{◌≡◌, ◌∙◌, ℕ, ℤ, Bool, true, false, not, is_some, ◌&&◌, ◌||◌, cond, List, [], ◌∷◌, ◌++◌, Option, None, Some, refl, sym, ap}
+use Rattle.std.specs.Prelude.{nat_lt}
 use Rattle.std.specs.List.{AllZip, flat_map, filter, list_any, Contains}
-use Rattle.std.specs.Str.{bytes_eq}
 use Rattle.itip_order.proofs.Lists.{in_head, in_tail}
-use Rattle.profile.specs.events.Events.{Attendee, Event, meeting_said}
-use Rattle.profile.specs.events.Meetings.{is_master}
+use Rattle.profile.specs.events.Events.{Attendee, Event}
 use Rattle.profile.specs.rooms.Revisions as Revisions
-use Rattle.profile.specs.rooms.Messages.{names_room, own_revision, slot_named}
-use Rattle.profile.specs.rooms.Messages as messages
+use Rattle.profile.specs.rooms.Messages.{slot_named}
 use Rattle.profile.specs.rooms.Kept.{each_once}
-use Rattle.profile.specs.organisers.Objects as objects
-use Rattle.profile.specs.organisers.Objects.{AreOfMeeting, counted}
+use Rattle.profile.specs.organisers.Objects.{AreOfMeeting}
 use Rattle.profile.specs.organisers.Organisers as profile
-use Rattle.profile.specs.organisers.Organisers.{Heard, attendees_of, greater, heard_in, is_attendee, is_called_off, own_sequence, scheduled_in}
+use Rattle.profile.specs.organisers.Organisers.{Heard, attendees_of, greater, heard_in, is_attendee, is_called_off, own_sequence, left_to_server, scheduled_in}
 use Rattle.itip_order.specs.declared.part.Slot.{Slot}
 use Rattle.itip_order.specs.declared.part.Slot.TheVariants.{Whole, At}
-use Rattle.itip_order.specs.Parts.{revision_of, slot_of}
+use Rattle.itip_order.specs.Parts.{slot_of}
 use Rattle.itip_messages.specs.OrganiserObjects.{SaysObjectComponent}
 use Rattle.itip_messages.specs.declared.organiser_object.ObjectComponent.{ObjectComponent}
-use Rattle.organiser_books.specs.Attending.{addresses_in, attendance_of, lists_of, lists_said, names, scheduled_among, schedules, Attends, AreAttending, Entries}
+use Rattle.organiser_books.specs.Attending.{addresses_in, attendance_of, lists_of, lists_said, names, scheduled_among, schedules, sent_among, Attends, AreAttending, Entries}
 use Rattle.organiser_books.specs.declared.attending.Attendance.{Attendance}
 use Rattle.organiser_books.specs.declared.meeting.Meeting.{Meeting}
 use Rattle.organiser_books.specs.Standing.{heard_by, heard_of, is_unknown}
-use Rattle.organiser_books.specs.Storing.{cancels_whole, calls_off, is_whole, own_in}
+use Rattle.organiser_books.specs.Storing.{calls_off, is_whole, own_in}
 use Rattle.organiser_books.proofs.Loops.{any_flat, any_map, flat_of_map}
 
 -- ---- events and their lines
@@ -31,14 +27,17 @@ use Rattle.organiser_books.proofs.Loops.{any_flat, any_map, flat_of_map}
 pub attendees_are : (events : List Event) → attendees_of events ≡ each_once (flat_map addresses_in (lists_said events))
 attendees_are events = ap each_once (sym (flat_of_map addresses_in (λ (e : Event). e.attendees) events))
 
-pub scheduled_are : (events : List Event) → scheduled_in events ≡ scheduled_among (lists_said events)
-scheduled_are events =
+pub left_are : (events : List Event) → left_to_server events ≡ scheduled_among (lists_said events)
+left_are events =
     same_filters (λ a. list_any (profile.schedules a) events) (λ a. list_any (schedules a) (lists_said events)) (λ a. sym (any_map (schedules a) (λ (e : Event). e.attendees) events)) (attendees_of events)
     ∙ ap (filter (λ a. list_any (schedules a) (lists_said events))) (attendees_are events)
   where
     same_filters : {X : Type 0} (p q : X → Bool) → ((y : X) → p y ≡ q y) → (xs : List X) → filter p xs ≡ filter q xs
     same_filters p q h [] = refl
     same_filters p q h (x ∷ xs) = (λ i. cond (h x i) (x ∷ same_filters p q h xs i) (same_filters p q h xs i))
+
+pub scheduled_are : (organiser : List ℕ) (events : List Event) → scheduled_in organiser events ≡ sent_among organiser (lists_said events)
+scheduled_are organiser events = ap (filter (λ address. not (bytes_eq address organiser))) (left_are events)
 
 pub attendee_is : (q : List ℕ) (events : List Event) → is_attendee q events ≡ list_any (names q) (lists_said events)
 attendee_is q events = sym (any_map (names q) (λ (e : Event). e.attendees) events)

@@ -1,6 +1,5 @@
 -- A meeting that is stored.
-use Rattle.std.proofs.Common.{◌≡◌, ◌∙◌, ℕ, ℤ, ◌+◌, ◌<◌, ◌≤◌, Bool, true, false, cond, List, [], ◌∷◌, ◌++◌, Option, None, Some, refl, sym, ap, subst, inl, inr, arith}
-use Rattle.std.specs.Prelude.{nat_lt}
+use Rattle.std.proofs.Common.{◌≡◌, ◌∙◌, ℕ, ℤ, ◌+◌, ◌<◌, ◌≤◌, Bool, true, false, cond, List, [], ◌∷◌, Option, None, Some, refl, sym, ap, subst, inl, inr, arith}
 use Rattle.std.specs.List.{AllZip, filter, Contains, position}
 use Rattle.std.specs.Map.{keys_of}
 use Rattle.std.specs.Str.{bytes_eq}
@@ -20,11 +19,11 @@ use Rattle.itip_messages.specs.declared.organiser_object.OrganiserObject.{Organi
 use Rattle.organiser_books.specs.declared.answers.Answer.{Answer}
 use Rattle.organiser_books.specs.declared.answers.AnswerKey.{AnswerKey}
 use Rattle.organiser_books.specs.declared.meeting.Meeting.{Meeting}
-use Rattle.organiser_books.specs.Attending.{is_address, lists_of, lists_said, scheduled_among, AreAttending}
+use Rattle.organiser_books.specs.Attending.{is_address, lists_of, lists_said, sent_among, AreAttending}
 use Rattle.organiser_books.specs.Calls.{CallFault, MayTake}
 use Rattle.organiser_books.specs.Calls.CallFault.{in_state}
-use Rattle.organiser_books.specs.Standing.{answer_at, answer_in, same_text, LatestOf, Stands, StandsAt}
-use Rattle.organiser_books.specs.Storing.{calls_off, own_in, sequence_then, LastAttends, SendsObject, SendsTo}
+use Rattle.organiser_books.specs.Standing.{answer_at, same_text, LatestOf, Stands, StandsAt}
+use Rattle.organiser_books.specs.Storing.{calls_off, sequence_then, LastAttends, SendsObject, SendsTo}
 use Rattle.organiser_books.proofs.Books.{keeps_stored, none_answer, stored_own, KeepsAll}
 use Rattle.organiser_books.proofs.Said.{lists_are, off_are, own_are, scheduled_are}
 
@@ -63,7 +62,7 @@ module _ (book : OrganiserBook) (uid : List ℕ) (events : List Event) (componen
       let above = greater_above (own_sequence events) (s.revision.sequence + 1) in
       omega (arith, most, above)
 
-sends_store : (b : Bool) (organiser : List ℕ) (stored : Stored) (gone : List (List ℕ)) (sent : List Sent) → SendsTo b organiser stored (scheduled_in stored.events) gone sent → SendsStore b organiser stored gone sent
+sends_store : (b : Bool) (organiser : List ℕ) (stored : Stored) (gone : List (List ℕ)) (sent : List Sent) → SendsTo b organiser stored (scheduled_in organiser stored.events) gone sent → SendsStore b organiser stored gone sent
 sends_store true organiser stored gone sent h = h
 sends_store false organiser stored gone sent h = h
 
@@ -87,8 +86,8 @@ module _ (address : List ℕ) (object : OrganiserObject) (said : objects.Organis
   sequence_is = sequence_same book said.uid said.events object.components.items is.each (meetings object.uid) last stands
 
   -- where no greater SEQUENCE is left
-  pub spent_fault : said.operation ≡ objects.Store → most_sequence < sequence_then (meetings object.uid) object.components.items → CallFault objects.Store address said book 72
-  spent_fault kind most = in_state kind (spent kind (subst (λ n. most_sequence < n) sequence_is most))
+  pub spent_fault : said.operation ≡ objects.Store → said.organiser ≡ address → most_sequence < sequence_then (meetings object.uid) object.components.items → CallFault objects.Store address said book 72
+  spent_fault kind own most = in_state kind own (spent kind (subst (λ n. most_sequence < n) sequence_is most))
 
   module _ (moment : ℤ) (meeting : Meeting) (sequence : meeting.revision.sequence ≡ sequence_then (meetings object.uid) object.components.items) (stamp : meeting.revision.stamp ≡ moment) where
     abbrev stored : Stored
@@ -114,23 +113,23 @@ module _ (address : List ℕ) (object : OrganiserObject) (said : objects.Organis
       sent = λ h c same. let less = below h c same in omega (arith, less);
     }
 
-    scheduled_is : scheduled_among (lists_of object.components.items) ≡ scheduled_in said.events
-    scheduled_is = ap scheduled_among (lists_are said.events object.components.items is.each) ∙ sym (scheduled_are said.events)
+    scheduled_is : sent_among said.organiser (lists_of object.components.items) ≡ scheduled_in said.organiser said.events
+    scheduled_is = ap (sent_among said.organiser) (lists_are said.events object.components.items is.each) ∙ sym (scheduled_are said.organiser said.events)
 
     -- what is sent
     is_sent : (sent : List Sent) → ((events : List Event) (before : List (List Attendee)) → AllZip SaysObjectComponent events object.components.items → LastAttends before (meetings object.uid)
-        → SendsObject object meeting.revision events before meeting.object.items sent)
-        → SendsStore (is_called_off said.events) said.organiser stored (without (scheduled_in (last_events last)) (scheduled_in said.events)) sent
+        → SendsObject said.organiser object meeting.revision events before meeting.object.items sent)
+        → SendsStore (is_called_off said.events) said.organiser stored (without (scheduled_in said.organiser (last_events last)) (scheduled_in said.organiser said.events)) sent
     is_sent sent sends =
         let before = lists_said (last_events last) in
         let s = sends said.events before is.each (last_attends book said.uid said.events object.components.items is.each (meetings object.uid) last stands) in
-        let to = scheduled_in said.events in
-        let gone = without (scheduled_in (last_events last)) (scheduled_in said.events) in
-        let gone_same : without (scheduled_among before) (scheduled_among (lists_of object.components.items)) ≡ gone = λ i. without (sym (scheduled_are (last_events last)) i) (scheduled_is i) in
+        let to = scheduled_in said.organiser said.events in
+        let gone = without (scheduled_in said.organiser (last_events last)) (scheduled_in said.organiser said.events) in
+        let gone_same : without (sent_among said.organiser before) (sent_among said.organiser (lists_of object.components.items)) ≡ gone = λ i. without (sym (scheduled_are said.organiser (last_events last)) i) (scheduled_is i) in
         let made : Stored = record { uid = text_octets object.uid; events = said.events; revision = revision_of meeting.revision; object = meeting.object.items } in
         let same : made ≡ stored = λ i. record { uid = is.uid i; events = said.events; revision = revision_is i; object = meeting.object.items } in
         let off = off_are said.events object.components.items is.each in
-        let s1 = subst (λ g. SendsTo (calls_off object.components.items) (address_octets object.organiser) made (scheduled_among (lists_of object.components.items)) g sent) gone_same s in
+        let s1 = subst (λ g. SendsTo (calls_off object.components.items) (address_octets object.organiser) made (sent_among said.organiser (lists_of object.components.items)) g sent) gone_same s in
         let s2 = subst (λ t. SendsTo (calls_off object.components.items) (address_octets object.organiser) made t gone sent) scheduled_is s1 in
         let s3 = subst (λ m. SendsTo (calls_off object.components.items) (address_octets object.organiser) m to gone sent) same s2 in
         let s4 = subst (λ o. SendsTo (calls_off object.components.items) o stored to gone sent) is.organiser s3 in
@@ -147,13 +146,13 @@ module _ (address : List ℕ) (object : OrganiserObject) (said : objects.Organis
         → said.operation ≡ objects.Store → said.organiser ≡ address → meeting.revision.sequence ≤ most_sequence
         → meeting.components.items ≡ object.components.items → AreAttending (lists_of object.components.items) meeting.attending.entries → meeting.answers.entries ≡ []
         → ((events : List Event) (before : List (List Attendee)) → AllZip SaysObjectComponent events object.components.items → LastAttends before (meetings object.uid)
-        → SendsObject object meeting.revision events before meeting.object.items sent)
+        → SendsObject address object meeting.revision events before meeting.object.items sent)
         → MayTake objects.Store address said book × ((x : OrganiserBook) × IsStore moment said book sent x × KeepsAll after x)
     is_stored after put sent kind organiser fits components attending none sends = (
       record { kind = kind; organiser = organiser; allowed = no_fault kind fits },
       (
         next,
-        record { stored = stored; of_meeting = refl; events = refl; revision = refl; sends = is_sent sent sends; kept = refl },
+        record { stored = stored; of_meeting = refl; events = refl; revision = refl; sends = is_sent sent (λ given before each last_is. subst (λ o. SendsObject o object meeting.revision given before meeting.object.items sent) (sym organiser) (sends given before each last_is)); kept = refl },
         keeps_stored meetings after book object.uid meeting stored (sym is.uid) (meeting_stands components attending none) put keeps,
       ),
     )

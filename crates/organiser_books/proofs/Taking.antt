@@ -1,34 +1,31 @@
 -- What the calls of an organiser take, answer and refuse.
-use Rattle.std.proofs.Common.{◌≡◌, ◌∙◌, ℕ, ◌+◌, ◌<◌, ◌≤◌, Bool, true, false, not, is_some, ◌&&◌, ◌||◌, cond, List, [], ◌∷◌, ◌++◌, map, Option, None, Some, refl, sym, ap, subst, inl, inr, arith}
-use Rattle.std.specs.Prelude.{◌⊎◌, codes, nat_lt}
-use Rattle.std.specs.List.{AllZip, filter, flat_map, list_any, Contains}
+use Rattle.std.proofs.Common.{◌≡◌, ◌∙◌, ℕ, Bool, true, false, not, is_some, List, [], ◌∷◌, ◌++◌, Option, None, Some, refl, sym, ap, subst, inl, inr}
+use Rattle.std.specs.Prelude.{codes, nat_lt}
+use Rattle.std.specs.List.{AllZip, flat_map, list_any}
 use Rattle.std.specs.Str.{bytes_eq}
-use Rattle.std.proofs.lemmas.Bool.{true≢false, both_ways, cases_lt, lt-ltb, le-ltb, false_from_ne_true}
-use Rattle.std.proofs.lemmas.List.Elements.{Contains-get_or}
-use Rattle.itip_order.proofs.Lists.{any_from}
-use Rattle.ical_values.specs.Octets.{address_octets, text_octets}
+use Rattle.std.proofs.lemmas.Bool.{true≢false, both_ways}
+use Rattle.ical_values.specs.Octets.{text_octets}
 use Rattle.profile.specs.events.Events.{Attendee, Event, Participation}
 use Rattle.profile.specs.rooms.Revisions.{Revision, Slot}
 use Rattle.profile.specs.organisers.Objects as objects
 use Rattle.profile.specs.organisers.Objects.{is_of_attendee}
-use Rattle.profile.specs.organisers.Organisers.{Heard, OrganiserBook, Stored, StateFault, heard_in, is_attendee, last_store, most_sequence, own_sequence, greater, sequence_after, scheduled_in, sent_status, participation_word, IsSeen, ShowsSeen}
+use Rattle.profile.specs.organisers.Organisers.{Heard, OrganiserBook, Stored, StateFault, heard_in, is_attendee, last_store, sent_status, participation_word, IsSeen, ShowsSeen}
 use Rattle.profile.specs.organisers.Organisers.StateFault.{unknown, ahead, spent, stranger}
 use Rattle.profile.specs.organisers.Sent.{IsComponentText, IsMeetingText}
-use Rattle.itip_order.specs.Parts.{revision_of}
-use Rattle.itip_messages.specs.OrganiserObjects.{operation_said, SaysObjectComponent, StandsForObject}
+use Rattle.itip_messages.specs.OrganiserObjects.{operation_said, StandsForObject}
 use Rattle.itip_messages.specs.declared.organiser_object.Operation.{Operation}
 use Rattle.itip_messages.specs.declared.organiser_object.Operation.TheVariants.{Store, Reply, Refresh}
 use Rattle.itip_messages.specs.declared.organiser_object.OrganiserObject.{OrganiserObject}
 use Rattle.itip_messages.specs.contracts.organiser_object.OperationPartialEq.TheImpl as operations
 use Rattle.organiser_books.specs.declared.meeting.Meeting.{Meeting}
-use Rattle.organiser_books.specs.Attending.{attendance_of, is_sent, lists_said}
+use Rattle.organiser_books.specs.Attending.{attendance_of, lists_said}
 use Rattle.organiser_books.specs.Calls.{CallFault, MayTake}
 use Rattle.organiser_books.specs.Calls.CallFault.{in_state}
 use Rattle.organiser_books.specs.Shown.{ShowsAnswered}
-use Rattle.organiser_books.specs.Standing.{answer_in, answered, heard_of, is_ahead, is_strange, AreSeen, IsReplyFault, Stands, StandsAt}
+use Rattle.organiser_books.specs.Standing.{answer_in, answered, heard_of, is_ahead, is_strange, IsReplyFault, Stands, StandsAt}
 use Rattle.organiser_books.proofs.Books.{stands_known, stands_unknown}
 use Rattle.organiser_books.proofs.Latest.{latest_is}
-use Rattle.organiser_books.proofs.Picking.{among_scheduled, is_sent_is}
+use Rattle.organiser_books.proofs.Picking.{among_sent}
 use Rattle.organiser_books.proofs.Said.{ahead_are, attendee_is, heard_are, known_is, scheduled_are, strangers_are, uids_are}
 
 -- ---- what is asked
@@ -64,8 +61,8 @@ module _ (address : List ℕ) (object : OrganiserObject) (said : objects.Organis
   last_is = ap (λ u. last_store u book) (sym is.uid)
 
   -- of a meeting that isn't known
-  pub unknown_fault : (op : objects.Operation) → said.operation ≡ op → is_of_attendee op ≡ true → StandsAt book uid None (last_store uid book) → CallFault op address said book 71
-  unknown_fault op kind speaks found = in_state kind (unknown (ap is_of_attendee kind ∙ speaks) (last_is ∙ stands_unknown book uid (last_store uid book) found))
+  pub unknown_fault : (op : objects.Operation) → said.operation ≡ op → said.organiser ≡ address → is_of_attendee op ≡ true → StandsAt book uid None (last_store uid book) → CallFault op address said book 71
+  unknown_fault op kind own speaks found = in_state kind own (unknown (ap is_of_attendee kind ∙ speaks) (last_is ∙ stands_unknown book uid (last_store uid book) found))
 
   pub heard_is : flat_map (heard_of said.uid) object.components.items ≡ heard_in said.events
   heard_is = heard_are said.uid said.events object.components.items is.each (uids_are said.organiser said.uid said.events is.are)
@@ -83,16 +80,16 @@ module _ (address : List ℕ) (object : OrganiserObject) (said : objects.Organis
     strange_is : is_strange m object.components.items ≡ list_any (λ (h : Heard). not (is_attendee h.attendee known.0.events)) (heard_in said.events)
     strange_is = strangers_are known.0.events m known.2.attending said.uid object.components.items ∙ ap (list_any (λ (h : Heard). not (is_attendee h.attendee known.0.events))) heard_is
 
-    pub strange_fault : (op : objects.Operation) → said.operation ≡ op → is_of_attendee op ≡ true → is_strange m object.components.items ≡ true → CallFault op address said book 73
-    strange_fault op kind speaks strange = in_state kind (stranger (ap is_of_attendee kind ∙ speaks) known.0 (last_is ∙ known.1) (sym strange_is ∙ strange))
+    pub strange_fault : (op : objects.Operation) → said.operation ≡ op → said.organiser ≡ address → is_of_attendee op ≡ true → is_strange m object.components.items ≡ true → CallFault op address said book 73
+    strange_fault op kind own speaks strange = in_state kind own (stranger (ap is_of_attendee kind ∙ speaks) known.0 (last_is ∙ known.1) (sym strange_is ∙ strange))
 
-    pub ahead_fault : said.operation ≡ objects.Reply → is_ahead m object.components.items ≡ true → CallFault objects.Reply address said book 71
-    ahead_fault kind before = in_state kind (ahead kind known.0 (last_is ∙ known.1) (sym ahead_is ∙ before))
+    pub ahead_fault : said.operation ≡ objects.Reply → said.organiser ≡ address → is_ahead m object.components.items ≡ true → CallFault objects.Reply address said book 71
+    ahead_fault kind own before = in_state kind own (ahead kind known.0 (last_is ∙ known.1) (sym ahead_is ∙ before))
 
-    pub reply_fault : (n : ℕ) → said.operation ≡ objects.Reply → IsReplyFault m object.components.items n → CallFault objects.Reply address said book n
-    reply_fault n kind fault = elim fault [
-      | inl f ↦ subst (CallFault objects.Reply address said book) (sym f.0) (ahead_fault kind f.1)
-      | inr f ↦ subst (CallFault objects.Reply address said book) (sym f.0) (strange_fault objects.Reply kind refl f.1)
+    pub reply_fault : (n : ℕ) → said.operation ≡ objects.Reply → said.organiser ≡ address → IsReplyFault m object.components.items n → CallFault objects.Reply address said book n
+    reply_fault n kind own fault = elim fault [
+      | inl f ↦ subst (CallFault objects.Reply address said book) (sym f.0) (ahead_fault kind own f.1)
+      | inr f ↦ subst (CallFault objects.Reply address said book) (sym f.0) (strange_fault objects.Reply kind own refl f.1)
     ]
 
     -- nothing is wrong with what an attendee says
@@ -144,16 +141,16 @@ text_lift method organiser uid revision R S f events octets t = record {
   texts = t.texts;
   each = zip_lift (IsComponentText organiser uid revision _ R) (IsComponentText organiser uid revision _ S)
       (λ component lines w. record {
-      slot = w.slot;
-      tells_slot = w.tells_slot;
-      dated = w.dated;
-      tells_revision = w.tells_revision;
-      name = w.name;
-      named = w.named;
-      attendees = w.attendees;
-      each = zip_lift (R _) (S _) (f _) _ w.attendees w.each;
-      is = w.is;
-    })
+        slot = w.slot;
+        tells_slot = w.tells_slot;
+        dated = w.dated;
+        tells_revision = w.tells_revision;
+        name = w.name;
+        named = w.named;
+        attendees = w.attendees;
+        each = zip_lift (R _) (S _) (f _) _ w.attendees w.each;
+        is = w.is;
+      })
       t.components t.texts t.each;
   is = t.is;
 }
@@ -161,10 +158,14 @@ text_lift method organiser uid revision R S f events octets t = record {
 abbrev shown : List ℕ → Participation → Bool → List ℕ
 shown address p b = codes "ATTENDEE;PARTSTAT=" ++ participation_word p ++ sent_status b ++ codes ":" ++ address
 
-pub shows_seen : (m : Meeting) (book : OrganiserBook) (stored : Stored) → Stands m book stored → (slot : Slot) (a : Attendee) (line : List ℕ) → ShowsAnswered m slot a line → ShowsSeen book stored slot a line
-shows_seen m book stored h slot a line is = (
+pub shows_seen : (organiser : List ℕ) (m : Meeting) (book : OrganiserBook) (stored : Stored) → Stands m book stored → (slot : Slot) (a : Attendee) (line : List ℕ) → ShowsAnswered organiser m slot a line → ShowsSeen organiser book stored slot a line
+shows_seen organiser m book stored h slot a line is = (
   answered (answer_in m slot a.address),
   latest_is _ (answer_in m slot a.address) (h.seen slot a.address),
+<<<<<<< HEAD
+  is ∙ ap (shown a.address (answered (answer_in m slot a.address))) (sym (ap (list_any (bytes_eq a.address)) (scheduled_are organiser stored.events) ∙ among_sent organiser (lists_said stored.events) m.attending.entries h.attending a.address)),
+=======
   is ∙ ap (shown a.address (answered (answer_in m slot a.address))) (is_sent_is (lists_said stored.events) m.attending.entries h.attending a.address
-  ∙ sym (ap (list_any (bytes_eq a.address)) (scheduled_are stored.events) ∙ among_scheduled (lists_said stored.events) a.address)),
+      ∙ sym (ap (list_any (bytes_eq a.address)) (scheduled_are stored.events) ∙ among_scheduled (lists_said stored.events) a.address)),
+>>>>>>> c776d976ec76714d185498bbe0b03a7b71d42e4e
 )

@@ -1,5 +1,5 @@
 -- The attendees of a meeting, as an organiser has them in memory. Components count here as their ATTENDEE lines alone.
-use Rattle.std.specs.Prelude.{◌≡◌, ℕ, ◌≤◌, ◌==◌, Bool, true, false, not, ◌||◌, ◌&&◌, if◌then◌else◌, List, [], ◌∷◌, ◌++◌, map, filter, Option, None, Some}
+use Rattle.std.specs.Prelude.{◌≡◌, ℕ, ◌≤◌, ◌==◌, Bool, true, false, not, ◌||◌, ◌&&◌, if◌then◌else◌, List, ◌++◌, map, filter, Option, None, Some}
 use Rattle.std.specs.List.{flat_map, list_any}
 use Rattle.std.specs.Map.{lookup, keys_of}
 use Rattle.std.specs.Str.{bytes_eq}
@@ -29,9 +29,13 @@ names address lines = list_any (λ a. bytes_eq a.address address) lines
 abbrev pub schedules : List ℕ → List Attendee → Bool
 schedules address lines = list_any (λ attendee. bytes_eq attendee.address address && attendee.scheduled) (counted lines)
 
--- those that the server sends messages to
+-- those of whom it is left to the server
 abbrev pub scheduled_among : List (List Attendee) → List (List ℕ)
 scheduled_among lists = filter (λ address. list_any (schedules address) lists) (each_once (flat_map addresses_in lists))
+
+-- and without the organiser
+abbrev pub sent_among : List ℕ → List (List Attendee) → List (List ℕ)
+sent_among organiser lists = filter (λ address. not (bytes_eq address organiser)) (scheduled_among lists)
 
 -- ---- in memory
 
@@ -86,10 +90,16 @@ is_sent_in (Some attendance) = attendance.scheduled
 abbrev pub is_sent : List ℕ → Entries → Bool
 is_sent address entries = is_sent_in (attendance_of address entries)
 
--- those of them
-abbrev pub sent_in : Entries → List (List ℕ)
-sent_in entries = map (λ entry. address_octets entry.0) (filter (λ entry. entry.1.scheduled) entries)
+-- it isn't the organiser
+abbrev pub is_other : List ℕ → Address → Bool
+is_other organiser address = not (bytes_eq (address_octets address) organiser)
+
+-- those of them but the organiser
+abbrev pub sent_in : List ℕ → Entries → List (List ℕ)
+sent_in organiser entries = map (λ entry. address_octets entry.0) (filter (λ entry. entry.1.scheduled && is_other organiser entry.0) entries)
 
 -- those of the first whom the server no longer sends messages by the second
-abbrev pub gone_in : Entries → Entries → List (List ℕ)
-gone_in last now = map (λ entry. address_octets entry.0) (filter (λ entry. entry.1.scheduled && not (is_sent (address_octets entry.0) now)) last)
+abbrev pub gone_in : List ℕ → Entries → Entries → List (List ℕ)
+gone_in organiser last now =
+    map (λ entry. address_octets entry.0)
+    (filter (λ entry. is_other organiser entry.0 && (entry.1.scheduled && not (is_sent (address_octets entry.0) now))) last)

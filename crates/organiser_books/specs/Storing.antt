@@ -13,7 +13,7 @@ use Rattle.itip_messages.specs.declared.organiser_object.ObjectComponent.{Object
 use Rattle.itip_order.specs.declared.part.Revision.{Revision}
 use Rattle.itip_messages.specs.declared.organiser_object.OrganiserObject.{OrganiserObject}
 use Rattle.organiser_books.specs.declared.meeting.Meeting.{Meeting}
-use Rattle.organiser_books.specs.Attending.{lists_of, scheduled_among, AreAttending}
+use Rattle.organiser_books.specs.Attending.{lists_of, sent_among, AreAttending}
 
 -- the greatest SEQUENCE of these components
 abbrev pub own_in : List ObjectComponent → ℕ
@@ -61,8 +61,8 @@ LastAttends lists None = lists ≡ []
 LastAttends lists (Some last) = AreAttending lists last.attending.entries
 
 -- what is made of these events by an object that is stored with this revision
-abbrev pub SendsObject : OrganiserObject → Revision → List Event → List (List Attendee) → List ℕ → List Sent → Type 0
-SendsObject object revision events before octets sent =
+abbrev pub SendsObject : List ℕ → OrganiserObject → Revision → List Event → List (List Attendee) → List ℕ → List Sent → Type 0
+SendsObject organiser object revision events before octets sent =
     SendsTo (calls_off object.components.items) (address_octets object.organiser)
     (record { uid = text_octets object.uid; events = events; revision = revision_of revision; object = octets })
-    (scheduled_among (lists_of object.components.items)) (without (scheduled_among before) (scheduled_among (lists_of object.components.items))) sent
+    (sent_among organiser (lists_of object.components.items)) (without (sent_among organiser before) (sent_among organiser (lists_of object.components.items))) sent

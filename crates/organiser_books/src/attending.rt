@@ -5,7 +5,7 @@ ghost use Rattle.ical_values.specs.Octets.{address_octets};
 ghost use Rattle.profile.specs.events.Events as events;
 ghost use Rattle.profile.specs.organisers.Organisers.{without};
 ghost use Rattle.cal_events.specs.Events.{attendee_of};
-ghost use Rattle.organiser_books.specs.Attending.{lists_of, is_sent, scheduled_among, AreAttending, AreNoted};
+ghost use Rattle.organiser_books.specs.Attending.{lists_of, is_other, is_sent, sent_among, AreAttending, AreNoted};
 
 use cal_events::Attendee;
 use ical_values::Address;
@@ -95,40 +95,53 @@ pub(crate) fn is_sent(attending: &Attending, address: &Address) -> bool
     }
 }
 
-/// Those whom the server sends messages.
-pub(crate) fn sent(alloc: Global, attending: &Attending) -> Result<Vec<Address>, AllocError>
-    ensures { IfOk result (λ sent. (lists : List (List events.Attendee)) → AreAttending lists attending.now.entries → map address_octets sent.items ≡ scheduled_among lists) }
+/// Those whom the server of this organiser sends messages: never the organiser (RFC 6638 3.2.1).
+pub(crate) fn sent(
+    alloc: Global,
+    organiser: &Address,
+    attending: &Attending,
+) -> Result<Vec<Address>, AllocError>
+    ensures { IfOk result (λ sent. (lists : List (List events.Attendee)) → AreAttending lists attending.now.entries
+        → map address_octets sent.items ≡ sent_among (address_octets organiser.now) lists) }
 {
     let mut sent = Vec::new(alloc);
     for (address, attendance) in attending {
-        if attendance.scheduled {
+        if is_sent_to(organiser, address, attendance) {
             sent.push(address.clone()?)?;
         }
     }
     Ok(sent)
 }
 
-/// Those whom the server sent messages, and no longer does.
+/// Those whom the server of this organiser sent messages, and no longer does.
 pub(crate) fn gone(
     alloc: Global,
+    organiser: &Address,
     last: &Attending,
     now: &Attending,
 ) -> Result<Vec<Address>, AllocError>
     ensures { IfOk result (λ gone. (before lists : List (List events.Attendee)) → AreAttending before last.now.entries → AreAttending lists now.now.entries
-        → map address_octets gone.items ≡ without (scheduled_among before) (scheduled_among lists)) }
+        → map address_octets gone.items ≡ without (sent_among (address_octets organiser.now) before) (sent_among (address_octets organiser.now) lists)) }
 {
     let mut gone = Vec::new(alloc);
     for (address, attendance) in last {
-        if is_gone(address, attendance, now) {
+        if is_gone(organiser, address, attendance, now) {
             gone.push(address.clone()?)?;
         }
     }
     Ok(gone)
 }
 
-/// Whether the server sent messages to this attendee of the last store, and no longer does.
-fn is_gone(address: &Address, attendance: &Attendance, now: &Attending) -> bool
-    ensures { result ≡ (attendance.now.scheduled && not (is_sent (address_octets address.now) now.now.entries)) }
+/// Whether the server of this organiser sends messages to an attendee.
+fn is_sent_to(organiser: &Address, address: &Address, attendance: &Attendance) -> bool
+    ensures { result ≡ (attendance.now.scheduled && is_other (address_octets organiser.now) address.now) }
 {
-    attendance.scheduled && !is_sent(now, address)
+    attendance.scheduled && address != organiser
+}
+
+/// Whether it sent messages to this attendee of the last store, and no longer does.
+fn is_gone(organiser: &Address, address: &Address, attendance: &Attendance, now: &Attending) -> bool
+    ensures { result ≡ (is_other (address_octets organiser.now) address.now && (attendance.now.scheduled && not (is_sent (address_octets address.now) now.now.entries))) }
+{
+    address != organiser && (attendance.scheduled && !is_sent(now, address))
 }

@@ -12,7 +12,7 @@ ghost use Rattle.cal_events.specs.Events.{participation_of};
 ghost use Rattle.itip_order.specs.Parts.{slot_of};
 ghost use Rattle.itip_messages.specs.OrganiserObjects.{operation_said, SaysObjectComponent, StandsForObject};
 ghost use Rattle.organiser_books.specs.Standing.{Keeps, address_of, same_text};
-ghost use Rattle.organiser_books.specs.Attending.{lists_of, scheduled_among, AreAttending};
+ghost use Rattle.organiser_books.specs.Attending.{lists_of, sent_among, AreAttending};
 ghost use Rattle.organiser_books.specs.Storing.{LastAttends, SendsObject};
 ghost use Rattle.organiser_books.specs.Calls.{AnswersRefresh, CallFault, MayTake, is_call_fault, sent_of};
 
@@ -21,6 +21,7 @@ use crate::meeting::Meeting;
 use crate::outgoing::Outgoing;
 use crate::sending::{Sending, send};
 use crate::sequence::sequence_after;
+use crate::shown::Shown;
 use cal_events::ParticipationStatus;
 use ical_lines::{Fault, Refusal};
 use ical_values::{Address, Stamp, Text};
@@ -184,7 +185,11 @@ impl Organiser {
             components: &meeting.components,
         };
         let mut octets = Vec::new(self.alloc);
-        write_meeting(None, &text, meeting, &mut octets)?;
+        let shown = Shown {
+            meeting,
+            organiser: &self.address,
+        };
+        write_meeting(None, &text, &shown, &mut octets)?;
         Ok(Some(octets))
     }
 
@@ -210,10 +215,10 @@ impl Organiser {
         ensures attending { IfOk result (λ made. AreAttending (lists_of object.now.components.items) made.attending.entries) }
         ensures sends { IfOk result (λ made. (events : List Event) (before : List (List Attendee)) → AllZip SaysObjectComponent events object.now.components.items
             → LastAttends before (get same_text self.now.meetings object.now.uid)
-            → SendsObject object.now revision.now events before made.object.items (map sent_of made.sent.items)) }
+            → SendsObject (address_of self.now) object.now revision.now events before made.object.items (map sent_of made.sent.items)) }
     {
         let attending = attending(self.alloc, &object.components)?;
-        let to = sent(self.alloc, &attending)?;
+        let to = sent(self.alloc, &self.address, &attending)?;
         let gone = self.gone(&object.uid, &attending)?;
         let text = MeetingText {
             uid: &object.uid,
@@ -232,11 +237,11 @@ impl Organiser {
     /// Those whom the server sent messages by the last store of this UID, and no longer does.
     fn gone(&self, uid: &Text, now: &Attending) -> Result<Vec<Address>, AllocError>
         ensures { IfOk result (λ gone. (before lists : List (List Attendee)) → LastAttends before (get same_text self.now.meetings uid.now) → AreAttending lists now.now.entries
-            → map address_octets gone.items ≡ without (scheduled_among before) (scheduled_among lists)) }
+            → map address_octets gone.items ≡ without (sent_among (address_of self.now) before) (sent_among (address_of self.now) lists)) }
     {
         let Some(last) = self.meetings.get(uid) else {
             return Ok(Vec::new(self.alloc));
         };
-        gone(self.alloc, &last.attending, now)
+        gone(self.alloc, &self.address, &last.attending, now)
     }
 }

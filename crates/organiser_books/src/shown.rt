@@ -3,16 +3,24 @@
 ghost use Rattle.std.specs.Prelude.{◌≡◌, ◌++◌, codes, string_bytes, IfOk};
 ghost use Rattle.profile.specs.organisers.Organisers.{participation_word, sent_status};
 ghost use Rattle.cal_events.specs.Events.{participation_of};
-ghost use Rattle.organiser_books.specs.Shown.{ShowsAnswered};
+ghost use Rattle.organiser_books.specs.Shown.{Shows};
 
 use crate::meeting::Meeting;
 use cal_events::{Attendee, ParticipationStatus};
+use ical_values::Address;
 use itip_messages::{AttendeeLines, ObjectWriter};
 use itip_order::Slot;
 use std::alloc::{AllocError, Global};
 
-impl AttendeeLines for Meeting {
-    ghost line = { ShowsAnswered };
+/// A meeting that its organiser shows.
+#[derive(Clone, Copy)]
+pub(crate) struct Shown<'a> {
+    pub meeting: &'a Meeting,
+    pub organiser: &'a Address,
+}
+
+impl AttendeeLines for Shown<'_> {
+    ghost line = { Shows };
 
     fn write_line(
         &self,
@@ -20,8 +28,8 @@ impl AttendeeLines for Meeting {
         slot: Slot,
         attendee: &Attendee,
     ) -> Result<(), AllocError> {
-        let status = self.answered(slot, &attendee.address);
-        let sent = self.is_sent(&attendee.address);
+        let status = self.meeting.answered(slot, &attendee.address);
+        let sent = attendee.address != *self.organiser && self.meeting.is_sent(&attendee.address);
         let name = named(object.alloc(), status, sent)?;
         object.named(name.as_str(), attendee.address.as_str())
     }

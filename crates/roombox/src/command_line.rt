@@ -26,10 +26,15 @@ pub enum Invocation<'a> {
 }
 
 const ABOUT: &str =
-    "Keeps rooms free of clashes: answers iCalendar meeting requests, and proves its answers";
+    "Keeps rooms free of clashes: answers iCalendar meeting requests, and proves its answers; keeps organisers' meetings too";
 
 const SERVE: &str =
-    "Reads a preamble and meeting requests, and writes a reply for each (also with no command).\n\
+    "Reads a preamble and objects, and writes the answers: the replies of rooms, and what organisers send (also with no command).\n\
+    The preamble has lines of three kinds, in any order, and ends with an empty line:\n\
+    now 20250102T000000Z\n\
+    room mailto:r1@example.com\n\
+    organiser mailto:ann@example.com\n\
+    The objects follow: for rooms with METHOD REQUEST, ADD or CANCEL; to organisers a REPLY, a REFRESH, or without METHOD a meeting to store.\n\
     Example: roombox serve < examples/first-request.ics-stream";
 
 const KEEP: &str =

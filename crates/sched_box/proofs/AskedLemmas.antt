@@ -1,5 +1,5 @@
 -- The rooms that a message isn't for: they are those whose flags stay off, and take nothing.
-use Rattle.std.proofs.Common.{◌≡◌, ◌≢◌, inl, inr, ℕ, zero, suc, ◌+◌, ◌<◌, ℤ, Bool, true, false, ◌||◌, ◌&&◌, cond, List, [], ◌∷◌, ◌++◌, length, take, get_or, set, replicate, map, Some, None, refl, sym, ap, subst, ◌∙◌, arith, AllPairs, true≢false}
+use Rattle.std.proofs.Common.{◌≡◌, ◌≢◌, inl, inr, ℕ, zero, suc, ◌+◌, ◌<◌, ℤ, Bool, true, false, ◌||◌, ◌&&◌, cond, List, [], ◌∷◌, ◌++◌, length, take, get_or, set, replicate, map, Option, Some, None, IfSome, IfNone, is_some, refl, sym, ap, subst, ◌∙◌, arith, AllPairs, true≢false}
 use Rattle.std.specs.List.{list_any, position}
 use Rattle.std.specs.Str.{bytes_eq}
 use Rattle.std.proofs.Math.Bool.{and-false}
@@ -13,10 +13,10 @@ use Rattle.ical_values.specs.Octets.{address_octets}
 use Rattle.cal_events.specs.declared.component.Attendee.{Attendee}
 use Rattle.cal_events.specs.Events.{attendee_of}
 use Rattle.itip_messages.specs.Messages.{is_for, component_names, cancels_for_all, method_said}
-use Rattle.itip_messages.specs.declared.message.Message.{Message}
-use Rattle.itip_messages.specs.declared.message.Method.{Method}
-use Rattle.itip_messages.specs.declared.message.Method.TheVariants.{Request, Add, Cancel}
-use Rattle.itip_messages.specs.declared.message.MessageComponent.{MessageComponent}
+use Rattle.itip_messages.specs.declared.room_message.RoomMessage.{RoomMessage}
+use Rattle.itip_messages.specs.declared.room_message.Method.{Method}
+use Rattle.itip_messages.specs.declared.room_message.Method.TheVariants.{Request, Add, Cancel}
+use Rattle.itip_messages.specs.declared.room_message.MessageComponent.{MessageComponent}
 use Rattle.itip_messages.proofs.MessageLemmas.{addressed, no_events}
 use Rattle.profile.specs.rooms.Messages.{Accept, is_addressed, is_cancel}
 use Rattle.profile.specs.streams.Streams.{AreClaims}
@@ -75,6 +75,24 @@ off_found keys d a flags found differ long is place off =
     let there : a ≡ get_or addresses found [] = (bytes_eq-Decides a _).0 at.1 ∙ sym (at_place keys d found at.0) in
     (before, untrue _ (λ here. other (same_place addresses differ place found (omega (arith, within, sized)) (omega (arith, at.0, sized)) (sym ((bytes_eq-Decides a _).0 here) ∙ there))))
 
+-- what a look-up for an address finds has it
+pub place_at : (keys : List Address) (address : Address) (found : Option ℕ) → found ≡ position (λ key. bytes_eq (address_octets address) (address_octets key)) keys
+    → IfSome found (λ place. get_or (map address_octets keys) place [] ≡ address_octets address)
+place_at keys address None is = tt
+place_at keys address (Some place) is =
+    let at = position-Some (λ key. bytes_eq (address_octets address) (address_octets key)) keys place address (sym is) in
+    at_place keys address place at.0 ∙ sym ((bytes_eq-Decides _ _).0 at.1)
+
+any_address : (keys : List Address) (a : List ℕ) → list_any (bytes_eq a) (map address_octets keys) ≡ list_any (λ key. bytes_eq a (address_octets key)) keys
+any_address [] a = refl
+any_address (key ∷ keys) a = ap (λ t. bytes_eq a (address_octets key) || t) (any_address keys a)
+
+-- where it finds nothing, no host has it
+pub no_place : (keys : List Address) (address : Address) (found : Option ℕ) → is_some found ≡ list_any (λ key. bytes_eq (address_octets address) (address_octets key)) keys
+    → IfNone found (list_any (bytes_eq (address_octets address)) (map address_octets keys) ≡ false)
+no_place keys address None is = any_address keys (address_octets address) ∙ sym is
+no_place keys address (Some place) is = tt
+
 -- ---- the directory
 
 -- an address that stands for the first time goes last
@@ -129,11 +147,11 @@ names_said [] room = refl
 names_said (x ∷ xs) room = ap (λ b. bytes_eq (address_octets x.address) room || b) (names_said xs room)
 
 -- what the VEVENTs so far ask
-abbrev pub asks_sofar : Message → List MessageComponent → List ℕ → Bool
+abbrev pub asks_sofar : RoomMessage → List MessageComponent → List ℕ → Bool
 asks_sofar message components room = list_any (is_for room message) components
 
 -- the flags after so many VEVENTs
-pub record AsksSofar (message : Message) (addresses : List (List ℕ)) (i : ℕ) (flags : List Bool) : Type 0 where
+pub record AsksSofar (message : RoomMessage) (addresses : List (List ℕ)) (i : ℕ) (flags : List Bool) : Type 0 where
   pub long : length flags ≡ length addresses
   pub out : LeavesOut (asks_sofar message (take i message.components.items)) addresses flags
 
@@ -142,7 +160,7 @@ abbrev pub Marking : List (List ℕ) → List Attendee → List Bool → List Bo
 Marking addresses lines old new = (test : List ℕ → Bool) → LeavesOut test addresses old → LeavesOut (λ room. test room || names lines room) addresses new
 
 -- one VEVENT more, which isn't for all
-pub asks_more : (message : Message) (addresses : List (List ℕ)) (i : ℕ) (x : MessageComponent) (lines : List Attendee) (old new : List Bool)
+pub asks_more : (message : RoomMessage) (addresses : List (List ℕ)) (i : ℕ) (x : MessageComponent) (lines : List Attendee) (old new : List Bool)
     → i < length message.components.items → x ≡ get_or message.components.items i x → map attendee_of lines ≡ x.attendees → cancels_for_all message x ≡ false → length new ≡ length old
     → Marking addresses lines old new → AsksSofar message addresses i old → AsksSofar message addresses (i + 1) new
 asks_more message addresses i x lines old new within is are not_all same marks so = record { long = same ∙ so.long; out = more }
@@ -162,7 +180,7 @@ on_all (suc n) zero = refl
 on_all (suc n) (suc place) = on_all n place
 
 -- one more, which is for all: all flags are on
-pub asks_all : (message : Message) (addresses : List (List ℕ)) (i n : ℕ) (lines : List Attendee) (old new : List Bool) → old ≡ replicate n true → length new ≡ length addresses
+pub asks_all : (message : RoomMessage) (addresses : List (List ℕ)) (i n : ℕ) (lines : List Attendee) (old new : List Bool) → old ≡ replicate n true → length new ≡ length addresses
     → Marking addresses lines old new → AsksSofar message addresses (i + 1) new
 asks_all message addresses i n lines old new on long marks = record {
   long = long;
@@ -184,7 +202,7 @@ off_at (f ∷ fs) (suc place) within off = off_at fs place (omega arith) off
 -- ---- a room that the message isn't for
 
 -- it takes no parts, and answers nothing
-pub left_out : (moment : ℤ) (message : Message) (room : Room) → asks message (address_octets room.address) ≡ false → RoomTakes moment message room room []
+pub left_out : (moment : ℤ) (message : RoomMessage) (room : Room) → asks message (address_octets room.address) ≡ false → RoomTakes moment message room room []
 left_out moment message room none said stands before has =
     let a = address_octets room.address in
     let off : is_addressed a said ≡ false = sym (addressed a message said stands) ∙ none in (

@@ -1,9 +1,12 @@
 pub mod InputLemmas
 pub mod AnswerLemmas
 pub mod AskedLemmas
+pub mod BookLemmas
 pub mod FaultLemmas
+pub mod HostLemmas
 pub mod Lines
 pub mod ObjectLemmas
+pub mod OrganiserLemmas
 pub mod OutputLemmas
 pub mod PreambleLemmas
 pub mod ServingLemmas

@@ -4,7 +4,7 @@ use Rattle.std.proofs.lemmas.Bool.Decides.{nat_tests}
 use Rattle.std.proofs.lemmas.List.{append_cancel_right, append_assoc}
 use Rattle.std.specs.List.{list_all}
 use Rattle.profile.specs.text.Values.{two_digits, four_digits, SpellsDate, SpellsTime, SpellsClock, SpellsStamp, IsAddress, is_scheme, is_scheme_octet, is_path, is_path_octet}
-use Rattle.profile.specs.streams.Streams.{Setting, Now, Room, IsSetting, SaysSettings, by_end, by_lf, by_crlf, last, with_lf, with_crlf}
+use Rattle.profile.specs.streams.Streams.{Setting, Now, Room, Organiser, IsSetting, SaysSettings, by_end, by_lf, by_crlf, last, with_lf, with_crlf}
 use Rattle.sched_box.specs.Settings.{IsUnbroken, Breaks}
 
 -- ---- no octet is below a space
@@ -77,10 +77,15 @@ setting_above line (Now t) (stamp, is, spelled) =
 setting_above line (Room a) (text, is, address, lower) =
     let P : List ℕ → Type 0 = Above in
     subst P (sym is) (above_append (codes "room ") text (omega arith, (omega arith, (omega arith, (omega arith, (omega arith, tt))))) (above_address text address))
+setting_above line (Organiser a) (text, is, address, lower) =
+    let P : List ℕ → Type 0 = Above in
+    let word : Above (codes "organiser ") = (omega arith, (omega arith, (omega arith, (omega arith, (omega arith, (omega arith, (omega arith, (omega arith, (omega arith, (omega arith, tt)))))))))) in
+    subst P (sym is) (above_append (codes "organiser ") text word (above_address text address))
 
 pub setting_some : (line : List ℕ) (setting : Setting) → IsSetting line setting → 0 < length line
 setting_some line (Now t) (stamp, is, spelled) = subst (λ (l : List ℕ). 0 < length l) (sym is) (omega arith)
 setting_some line (Room a) (text, is, address, lower) = subst (λ (l : List ℕ). 0 < length l) (sym is) (omega arith)
+setting_some line (Organiser a) (text, is, address, lower) = subst (λ (l : List ℕ). 0 < length l) (sym is) (omega arith)
 
 -- ---- no LF
 

@@ -6,7 +6,7 @@ use Rattle.memchr.specs.Find.{IsFirstByte, is_byte}
 use Rattle.std.proofs.lemmas.List.{append_assoc, append_cancel_right, get_or-take, take_all, take_more}
 use Rattle.std.specs.Io.KnownBytes.{Consumes, IsAtEnd}
 use Rattle.std.proofs.KnownBytes.{Consumes-trans}
-use Rattle.profile.specs.streams.Streams.{Setting, SaysSettings, by_end, by_lf, by_crlf, last, with_lf, with_crlf, IsPreamble}
+use Rattle.profile.specs.streams.Streams.{Setting, SaysSettings, by_end, by_lf, by_crlf, last, with_lf, with_crlf, Hosts, IsPreamble}
 use Rattle.sched_box.specs.declared.preamble.LineState.{LineState}
 use Rattle.sched_box.specs.declared.preamble.LineState.TheVariants.{Start, Return, Inside, Closed}
 use Rattle.sched_box.specs.Preamble.{is_closed, next_place, place_after, rest_of, Leads, TakesPiece, TakesPreamble, IsLong, Opens, OpensNot, StopsInPreamble}
@@ -118,9 +118,9 @@ says_leads (with_crlf {closed} {rest} {settings} line setting is says) =
     )
 
 -- what follows a preamble
-follows : (octets preamble rest : List ℕ) (closed : Bool) (moment : ℤ) (addresses : List (List ℕ))
-    → octets ≡ preamble ++ rest → (closed ≡ false → rest ≡ []) → IsPreamble closed preamble moment addresses → rest_of Start octets ≡ rest
-follows octets preamble rest closed moment addresses is all says =
+follows : (octets preamble rest : List ℕ) (closed : Bool) (moment : ℤ) (hosts : Hosts)
+    → octets ≡ preamble ++ rest → (closed ≡ false → rest ≡ []) → IsPreamble closed preamble moment hosts → rest_of Start octets ≡ rest
+follows octets preamble rest closed moment hosts is all says =
     let (place, leads, closes) = says_leads says.says in
     ap (rest_of Start) is ∙ leads.rest rest ∙ at closed place closes all
   where
@@ -137,8 +137,8 @@ follows octets preamble rest closed moment addresses is all says =
 one_place : (octets : List ℕ) (a b : LineState) → Leads Start octets a → Leads Start octets b → a ≡ b
 one_place octets a b l m = sym l.place ∙ m.place
 
-pub opened : (a b : Option (List ℕ)) (octets : List ℕ) (moment : ℤ) (addresses : List (List ℕ)) → TakesPreamble a b octets → (closed : Bool) → IsPreamble closed octets moment addresses → Opens a b moment addresses
-opened a b octets moment addresses t closed says = record {
+pub opened : (a b : Option (List ℕ)) (octets : List ℕ) (moment : ℤ) (hosts : Hosts) → TakesPreamble a b octets → (closed : Bool) → IsPreamble closed octets moment hosts → Opens a b moment hosts
+opened a b octets moment hosts t closed says = record {
   preamble = octets;
   closed = closed;
   consumed = t.consumed;
@@ -153,7 +153,7 @@ opened a b octets moment addresses t closed says = record {
     at (inr end) no_end = end
 
 pub opens_not : (a b : Option (List ℕ)) (octets : List ℕ) → TakesPreamble a b octets
-    → ((closed : Bool) (moment : ℤ) (addresses : List (List ℕ)) → IsPreamble closed octets moment addresses → ⊥) → IfSome a OpensNot
+    → ((closed : Bool) (moment : ℤ) (hosts : Hosts) → IsPreamble closed octets moment hosts → ⊥) → IfSome a OpensNot
 opens_not None b octets t none = tt
 opens_not (Some xs) None octets t none = absurd t.consumed
 opens_not (Some xs) (Some ys) octets t none = refuses
@@ -163,17 +163,17 @@ opens_not (Some xs) (Some ys) octets t none = refuses
     after (inr e) = ap (rest_of t.place) e ∙ sym e
 
     refuses : OpensNot xs
-    refuses preamble rest closed moment addresses is all says =
-        let there : rest_of Start xs ≡ rest = follows xs preamble rest closed moment addresses is all says in
+    refuses preamble rest closed moment hosts is all says =
+        let there : rest_of Start xs ≡ rest = follows xs preamble rest closed moment hosts is all says in
         let here : rest_of Start xs ≡ ys = ap (rest_of Start) t.consumed ∙ t.leads.rest ys ∙ after t.stops in
         let same : rest ≡ ys = sym there ∙ here in
         let whole : preamble ≡ octets = append_cancel_right preamble octets ys (sym (ap (λ z. preamble ++ z) same) ∙ sym is ∙ t.consumed) in
-        let P : List ℕ → Type 0 = λ z. IsPreamble closed z moment addresses in
-        none closed moment addresses (subst P whole says)
+        let P : List ℕ → Type 0 = λ z. IsPreamble closed z moment hosts in
+        none closed moment hosts (subst P whole says)
 
 pub long_not : (octets : List ℕ) → IsLong octets → OpensNot octets
-long_not octets long preamble rest closed moment addresses is all says =
-    let there : length (rest_of Start octets) ≡ length rest = ap length (follows octets preamble rest closed moment addresses is all says) in
+long_not octets long preamble rest closed moment hosts is all says =
+    let there : length (rest_of Start octets) ≡ length rest = ap length (follows octets preamble rest closed moment hosts is all says) in
     let split : length octets ≡ length preamble + length rest = ap length is ∙ length-append preamble rest in
     let short = says.short in
     omega arith

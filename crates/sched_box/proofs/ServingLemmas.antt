@@ -5,15 +5,17 @@ use Rattle.std.specs.Io.KnownBytes.{Appends, Consumes, Keeps, IsAtEnd}
 use Rattle.std.proofs.KnownBytes.{Appends-kept, Appends-nil, Appends-trans, Keeps-refl}
 use Rattle.profile.specs.text.Objects.{is_begun, after_object}
 use Rattle.profile.specs.rooms.Rooms.{Book}
-use Rattle.profile.specs.streams.Streams.{BeginsWith, AreObjects, Answers, AllAnswers, Hosted, new_box}
+use Rattle.profile.specs.streams.Streams.{BeginsWith, AreObjects, Answers, AllAnswers, Box, Hosted, Hosts, new_box}
 use Rattle.room_books.specs.declared.room.Room.{Room}
 use Rattle.sched_box.specs.declared.fault.ServeFault.{ServeFault}
 use Rattle.sched_box.specs.declared.fault.ServeFault.TheVariants.{Read, Write, TooLong, Memory}
 use Rattle.sched_box.specs.declared.objects.Objects.{Objects}
 use Rattle.sched_box.specs.declared.serving.ServeReport.{ServeReport}
-use Rattle.sched_box.specs.Answering.{AreHosted, IsHosted, AnswersKept, room_addresses}
+use Rattle.sched_box.specs.Answering.{AreHosted, IsHosted, room_addresses}
+use Rattle.sched_box.specs.Books.{AnswersKept, AreKept, hosted_rooms}
+use Rattle.sched_box.specs.declared.books.Books.{Books}
 use Rattle.sched_box.specs.Objects.{kept_of, TakesObject, ReadsObject, StopsReading}
-use Rattle.sched_box.specs.Serving.{AnswersWhole, Ends, Gives, GivesPart, IsWithinBound, ServesAll, ServesSome, HasRead, ServesUntil, Serves, RoomsServe, ServesStream, KeepsTexts, StopsKeeping}
+use Rattle.sched_box.specs.Serving.{AnswersWhole, Ends, Gives, GivesPart, IsWithinBound, ServesAll, ServesSome, HasRead, ServesUntil, Serves, BooksServe, ServesStream, KeepsTexts, StopsKeeping}
 use Rattle.std.proofs.Common.{◌≢◌, Contains, true≢false}
 use Rattle.std.specs.Str.{bytes_eq}
 use Rattle.std.proofs.lemmas.Slice.Eq.{bytes_eq-Decides}
@@ -29,6 +31,7 @@ use Rattle.sched_box.specs.declared.fault.StreamFault.TheVariants as stream
 use Rattle.sched_box.specs.Faults.{IfRefusedStream, IsReadFault, StopsFor}
 use Rattle.sched_box.specs.Output.{StopsSending}
 use Rattle.sched_box.specs.Preamble.{Opens, OpensNot, StopsInPreamble}
+use Rattle.sched_box.proofs.HostLemmas.{MadeSofar}
 use Rattle.sched_box.proofs.ObjectLemmas.{after_short}
 use Rattle.std.proofs.Common.{get_or, take_all}
 
@@ -70,11 +73,11 @@ gives_all None b c objects kept taken g t = (tt, tt)
 gives_all (Some xs) None c objects kept taken g t = absurd g
 gives_all (Some xs) (Some ys) c objects kept taken g t = ((ys, g, t.begun), t.end refl)
 
-pub answers_more : (moment : ℤ) (k : ℕ) (objects : List (List ℕ)) (object : List ℕ) (before mid after : List Hosted) (octets more : List ℕ) (refused one : ℕ)
+pub answers_more : (moment : ℤ) (k : ℕ) (objects : List (List ℕ)) (object : List ℕ) (before mid after : Box) (octets more : List ℕ) (refused one : ℕ)
     → AllAnswers moment k objects before mid octets refused → Answers moment (k + length objects) object mid after more one
     → AllAnswers moment k (objects ++ object ∷ []) before after (octets ++ more) (refused + one)
 answers_more moment k [] object before mid after octets more refused one (same, none, zero') a =
-    let P : List Hosted → Type 0 = λ box. Answers moment k object box after more one in
+    let P : Box → Type 0 = λ box. Answers moment k object box after more one in
     let Q : ℕ → Type 0 = λ n. Answers moment n object mid after more one in
     let here : k + 0 ≡ k = omega arith in
     let sum : refused + one ≡ one + 0 = omega arith in
@@ -88,11 +91,11 @@ answers_more moment k (o ∷ os) object before mid after octets more refused one
 -- ---- the loop
 
 -- the objects so far were taken, and their answers written
-pub record ServedSofar (moment : ℤ) (news : List Room) (input left output written : Option (List ℕ)) (before : List Hosted) (report : ServeReport) : Type 0 where
+pub record ServedSofar (moment : ℤ) (news : Books) (input left output written : Option (List ℕ)) (before : Box) (report : ServeReport) : Type 0 where
   pub objects : List (List ℕ)
-  pub after : List Hosted
+  pub after : Box
   pub octets : List ℕ
-  pub hosted : AreHosted news after
+  pub hosted : AreKept news after
   pub gives : Gives input left objects
   pub answers : AllAnswers moment 1 objects before after octets report.refused
   pub counted : report.objects ≡ length objects
@@ -104,17 +107,17 @@ HasLeft None left may_read = Unit {0}
 HasLeft (Some octets) None may_read = ⊥
 HasLeft (Some octets) (Some rest) may_read = length octets + may_read ≡ length rest + 1_073_741_824
 
--- from whatever the rooms stood for; they keep their addresses, and so many octets were read
-pub record Sofar (moment : ℤ) (olds news : List Room) (input left output written : Option (List ℕ)) (may_read : ℕ) (report : ServeReport) : Type 0 where
-  pub served : (before : List Hosted) → AreHosted olds before → ServedSofar moment news input left output written before report
-  pub addresses : room_addresses news ≡ room_addresses olds
+-- from whatever the books were; the rooms keep their addresses, and so many octets were read
+pub record Sofar (moment : ℤ) (olds news : Books) (input left output written : Option (List ℕ)) (may_read : ℕ) (report : ServeReport) : Type 0 where
+  pub served : (before : Box) → AreKept olds before → ServedSofar moment news input left output written before report
+  pub addresses : hosted_rooms news ≡ hosted_rooms olds
   pub read : HasLeft input left may_read
   pub few : report.objects + may_read ≤ 1_073_741_824
   pub refusals : report.refused ≤ report.objects
 
-pub none_served : (moment : ℤ) (rooms : List Room) (input output : Option (List ℕ)) (report : ServeReport) (may_read : ℕ) → report.objects ≡ 0 → report.refused ≡ 0 → may_read ≡ 1_073_741_824
-    → Sofar moment rooms rooms input input output output may_read report
-none_served moment rooms input output report may_read no_objects no_refused all = record {
+pub none_served : (moment : ℤ) (books : Books) (input output : Option (List ℕ)) (report : ServeReport) (may_read : ℕ) → report.objects ≡ 0 → report.refused ≡ 0 → may_read ≡ 1_073_741_824
+    → Sofar moment books books input input output output may_read report
+none_served moment books input output report may_read no_objects no_refused all = record {
   served = λ before have. record {
     objects = [];
     after = before;
@@ -158,8 +161,8 @@ read_less (Some xs) None n h some = absurd h
 read_less (Some xs) (Some zs) n h some = omega arith
 
 -- the stream ended before the next object did
-pub stopped : (moment : ℤ) (olds news : List Room) (a b c output written : Option (List ℕ)) (before after : Objects) (report : ServeReport) (fault : ServeFault)
-    → Sofar moment olds news a b output written before.left report → StopsReading b c before after fault → (start : List Hosted) → AreHosted olds start
+pub stopped : (moment : ℤ) (olds news : Books) (a b c output written : Option (List ℕ)) (before after : Objects) (report : ServeReport) (fault : ServeFault)
+    → Sofar moment olds news a b output written before.left report → StopsReading b c before after fault → (start : Box) → AreKept olds start
     → ServesUntil moment start (record { input = a; left = c; output = output; written = written }) fault
 stopped moment olds news a b c output written before after report fault so s start have = at fault s
   where
@@ -186,8 +189,8 @@ stopped moment olds news a b c output written before after report fault so s sta
     at Write s = absurd s.stop
 
 -- an object was taken, and memory was refused for the answers to it, or for writing them
-pub forgotten : (moment : ℤ) (olds news : List Room) (a b c output written now : Option (List ℕ)) (before after : Objects) (report : ServeReport)
-    → Sofar moment olds news a b output written before.left report → ReadsObject b c before after true → Keeps written now → (start : List Hosted) → AreHosted olds start
+pub forgotten : (moment : ℤ) (olds news : Books) (a b c output written now : Option (List ℕ)) (before after : Objects) (report : ServeReport)
+    → Sofar moment olds news a b output written before.left report → ReadsObject b c before after true → Keeps written now → (start : Box) → AreKept olds start
     → ServesUntil moment start (record { input = a; left = c; output = output; written = now }) Memory
 forgotten moment olds news a b c output written now before after report so (taken, t, left, more) keeps start have =
     let served = so.served start have in (
@@ -204,27 +207,27 @@ forgotten moment olds news a b c output written now before after report so (take
     )
 
 -- the same where the fault is said to be that
-pub forgotten_at : (moment : ℤ) (olds news : List Room) (a b c output written : Option (List ℕ)) (before after : Objects) (report : ServeReport) (fault : ServeFault)
-    → Sofar moment olds news a b output written before.left report → ReadsObject b c before after true → fault ≡ Memory → (start : List Hosted) → AreHosted olds start
+pub forgotten_at : (moment : ℤ) (olds news : Books) (a b c output written : Option (List ℕ)) (before after : Objects) (report : ServeReport) (fault : ServeFault)
+    → Sofar moment olds news a b output written before.left report → ReadsObject b c before after true → fault ≡ Memory → (start : Box) → AreKept olds start
     → ServesUntil moment start (record { input = a; left = c; output = output; written = written }) fault
 forgotten_at moment olds news a b c output written before after report fault so reads is start have =
     let P : ServeFault → Type 0 = ServesUntil moment start (record { input = a; left = c; output = output; written = written }) in
     subst P (sym is) (forgotten moment olds news a b c output written written before after report so reads (Keeps-refl written) start have)
 
 -- the answers to an object from the box so far
-next_answers : (moment : ℤ) (news newer : List Room) (number : ℕ) (kept more taken : List ℕ) (one : ℕ) (n : ℕ) → number ≡ n + 1
-    → AnswersKept moment number kept news newer more one → kept ≡ kept_of taken → (mid : List Hosted) → AreHosted news mid
-    → (after : List Hosted) × AreHosted newer after × Answers moment (n + 1) taken mid after more one
+next_answers : (moment : ℤ) (news newer : Books) (number : ℕ) (kept more taken : List ℕ) (one : ℕ) (n : ℕ) → number ≡ n + 1
+    → AnswersKept moment number kept news newer more one → kept ≡ kept_of taken → (mid : Box) → AreKept news mid
+    → (after : Box) × AreKept newer after × Answers moment (n + 1) taken mid after more one
 next_answers moment news newer number kept more taken one n number_is answers kept_is mid have =
     let (after, hosted, answer) = answers taken kept_is mid have in
     let Q : ℕ → Type 0 = λ k. Answers moment k taken mid after more one in
     (after, hosted, subst Q number_is answer)
 
 -- the answers to an object were made, and weren't written whole
-pub unsent : (moment : ℤ) (olds news newer : List Room) (a b c output written now : Option (List ℕ)) (failed : Bool) (before after : Objects) (report : ServeReport) (number one : ℕ) (more : List ℕ) (fault : ServeFault)
+pub unsent : (moment : ℤ) (olds news newer : Books) (a b c output written now : Option (List ℕ)) (failed : Bool) (before after : Objects) (report : ServeReport) (number one : ℕ) (more : List ℕ) (fault : ServeFault)
     → Sofar moment olds news a b output written before.left report → ReadsObject b c before after true → number ≡ report.objects + 1
     → AnswersKept moment number after.octets.items news newer more one → StopsSending written now failed more fault
-    → (start : List Hosted) → AreHosted olds start
+    → (start : Box) → AreKept olds start
     → ServesUntil moment start (record { input = a; left = c; output = output; written = now }) fault
 unsent moment olds news newer a b c output written now failed before after report number one more Read so reads number_is answers sends start have = absurd sends
 unsent moment olds news newer a b c output written now failed before after report number one more TooLong so reads number_is answers sends start have = absurd sends
@@ -254,9 +257,9 @@ unsent moment olds news newer a b c output written now failed before after repor
     )
 
 -- an object more
-pub served_more : (moment : ℤ) (olds news newer : List Room) (a b c output written new : Option (List ℕ)) (before after : Objects) (report next : ServeReport) (number one : ℕ) (more : List ℕ)
+pub served_more : (moment : ℤ) (olds news newer : Books) (a b c output written new : Option (List ℕ)) (before after : Objects) (report next : ServeReport) (number one : ℕ) (more : List ℕ)
     → Sofar moment olds news a b output written before.left report → ReadsObject b c before after true → number ≡ report.objects + 1
-    → AnswersKept moment number after.octets.items news newer more one → one ≤ 1 → room_addresses newer ≡ room_addresses news → Appends written new more
+    → AnswersKept moment number after.octets.items news newer more one → one ≤ 1 → hosted_rooms newer ≡ hosted_rooms news → Appends written new more
     → next.objects ≡ number → next.refused ≡ report.refused + one → Sofar moment olds newer a c output new after.left next
 served_more moment olds news newer a b c output written new before after report next number one more so (taken, t, left, rest) number_is answers small same appended objects_are refused_are =
     let few = so.few in
@@ -287,9 +290,9 @@ served_more moment olds news newer a b c output written new before after report 
     }
 
 -- no object is left
-pub served_all : (moment : ℤ) (olds news : List Room) (a b c output written : Option (List ℕ)) (before after : Objects) (report : ServeReport)
-    → Sofar moment olds news a b output written before.left report → ReadsObject b c before after false → (start : List Hosted) → AreHosted olds start
-    → (final : List Hosted) × AreHosted news final × ServesAll moment start final (record { input = a; left = c; output = output; written = written }) report
+pub served_all : (moment : ℤ) (olds news : Books) (a b c output written : Option (List ℕ)) (before after : Objects) (report : ServeReport)
+    → Sofar moment olds news a b output written before.left report → ReadsObject b c before after false → (start : Box) → AreKept olds start
+    → (final : Box) × AreKept news final × ServesAll moment start final (record { input = a; left = c; output = output; written = written }) report
 served_all moment olds news a b c output written before after report so (taken, t, left, more) start have =
     let served = so.served start have in
     let ended = gives_all a b c served.objects after.octets.items taken served.gives t in (
@@ -301,7 +304,7 @@ served_all moment olds news a b c output written before after report so (taken, 
 -- ---- the parts of a function's answer
 
 -- what is sent is the answer, as the octets that were there before are none
-pub answered_from : (moment : ℤ) (number : ℕ) (kept kept' : List ℕ) (olds news : List Room) (old new sent : List ℕ) (one : ℕ) → old ≡ [] → sent ≡ new → kept' ≡ kept
+pub answered_from : (moment : ℤ) (number : ℕ) (kept kept' : List ℕ) (olds news : Books) (old new sent : List ℕ) (one : ℕ) → old ≡ [] → sent ≡ new → kept' ≡ kept
     → (more : List ℕ) × (new ≡ old ++ more) × AnswersKept moment number kept' olds news more one → AnswersKept moment number kept olds news sent one
 answered_from moment number kept kept' olds news old new sent one none sent_is kept_is (more, is, answers) =
     let same : more ≡ sent = sym (sent_is ∙ is ∙ ap (λ z. z ++ more) none) in
@@ -309,11 +312,11 @@ answered_from moment number kept kept' olds news old new sent one none sent_is k
     let Q : List ℕ → Type 0 = λ z. AnswersKept moment number z olds news sent one in
     subst Q kept_is (subst P same answers)
 
-pub serves_from : (moment : ℤ) (before : List Hosted) (news : List Room) (ends : Ends) (r : Result ServeReport ServeFault) → RoomsServe moment before news ends r → Serves moment before ends r
+pub serves_from : (moment : ℤ) (before : Box) (news : Books) (ends : Ends) (r : Result ServeReport ServeFault) → BooksServe moment before news ends r → Serves moment before ends r
 serves_from moment before news ends (Ok report) (after, hosted, all) = (after, all)
 serves_from moment before news ends (Err fault) h = h
 
-pub serves_none : (moment : ℤ) (before : List Hosted) (input output : Option (List ℕ)) (fault : ServeFault) → fault ≡ Memory
+pub serves_none : (moment : ℤ) (before : Box) (input output : Option (List ℕ)) (fault : ServeFault) → fault ≡ Memory
     → ServesUntil moment before (record { input = input; left = input; output = output; written = output }) fault
 serves_none moment before input output fault is =
     let P : ServeFault → Type 0 = ServesUntil moment before (record { input = input; left = input; output = output; written = output }) in
@@ -330,43 +333,11 @@ serves_none moment before input output fault is =
 
 -- ---- empty rooms
 
--- rooms were made for the first addresses
-pub record MadeSofar (addresses : List Address) (i : ℕ) (rooms : List Room) : Type 0 where
-  pub addresses_are : room_addresses rooms ≡ map address_octets (take i addresses)
-  pub hosted : AreHosted rooms (new_box (map address_octets (take i addresses)))
+abbrev pub nothing_taken : List ℕ → Hosted
+nothing_taken address = record { address = address; book = empty_book }
 
-have_push : (rooms : List Room) (box : List Hosted) (room : Room) (h : Hosted) → AreHosted rooms box → IsHosted room h → AreHosted (rooms ++ room ∷ []) (box ++ h ∷ [])
-have_push [] [] room h all has = (has, tt)
-have_push [] (b ∷ bs) room h all has = absurd all
-have_push (r ∷ rs) [] room h all has = absurd all
-have_push (r ∷ rs) (b ∷ bs) room h all has = (all.0, have_push rs bs room h all.1 has)
-
-pub none_made : (addresses : List Address) (rooms : List Room) → rooms ≡ [] → MadeSofar addresses 0 rooms
-none_made addresses rooms none =
-    let P : List Room → Type 0 = MadeSofar addresses 0 in
-    subst P (sym none) (record { addresses_are = refl; hosted = tt })
-
-pub made_more : (addresses : List Address) (i : ℕ) (rooms newer : List Room) (room : Room) (d : Address) → MadeSofar addresses i rooms → i < length addresses → newer ≡ rooms ++ room ∷ []
-    → address_octets room.address ≡ address_octets (get_or addresses i d) → Stands room.meetings.entries empty_book → MadeSofar addresses (i + 1) newer
-made_more addresses i rooms newer room d so l is same stands =
-    let last = address_octets (get_or addresses i d) in
-    let next : map address_octets (take (i + 1) addresses) ≡ map address_octets (take i addresses) ++ last ∷ [] = ap (map address_octets) (take_more addresses i d l) ∙ map-append address_octets (take i addresses) (get_or addresses i d ∷ []) in
-    let P : List Room → Type 0 = MadeSofar addresses (i + 1) in
-    let Q : List (List ℕ) → Type 0 = λ list. AreHosted (rooms ++ room ∷ []) (new_box list) in
-    let R : List Hosted → Type 0 = AreHosted (rooms ++ room ∷ []) in
-    let h : Hosted = record { address = last; book = empty_book } in
-    subst P (sym is)
-    (record {
-      addresses_are = map-append (λ (r : Room). address_octets r.address) rooms (room ∷ []) ∙ ap (λ z. z ++ address_octets room.address ∷ []) so.addresses_are ∙ ap (λ a. map address_octets (take i addresses) ++ a ∷ []) same ∙ sym next;
-      hosted = subst Q (sym next) (subst R (sym (map-append (λ (a : List ℕ). record { address = a; book = empty_book }) (map address_octets (take i addresses)) (last ∷ []))) (have_push rooms (new_box (map address_octets (take i addresses))) room h so.hosted (record { at = sym same; stands = stands })));
-    })
-
-pub all_made : (addresses : List Address) (i : ℕ) (rooms : List Room) → MadeSofar addresses i rooms → length addresses ≤ i
-    → (room_addresses rooms ≡ map address_octets addresses) × AreHosted rooms (new_box (map address_octets addresses))
-all_made addresses i rooms so end =
-    let all : take i addresses ≡ addresses = take_all i addresses end in
-    let P : List Address → Type 0 = λ list. AreHosted rooms (new_box (map address_octets list)) in
-    (so.addresses_are ∙ ap (map address_octets) all, subst P all so.hosted)
+abbrev pub MadeRooms : List Address → ℕ → List Room → Type 0
+MadeRooms = MadeSofar (λ room. address_octets room.address) IsHosted nothing_taken
 
 -- ---- a stream with its preamble
 
@@ -382,29 +353,29 @@ stream_refused a left output (stream.Serve f) h stops reads = inl (reads, stops,
     kept None = tt
     kept (Some xs) = refl
 
-pub stream_stopped : (a mid left output written : Option (List ℕ)) (moment : ℤ) (rooms : List (List ℕ)) (fault : ServeFault) (f : StreamFault) → Opens a mid moment rooms → f ≡ stream.Serve fault
-    → Serves moment (new_box rooms) (record { input = mid; left = left; output = output; written = written }) (Err fault)
+pub stream_stopped : (a mid left output written : Option (List ℕ)) (moment : ℤ) (hosts : Hosts) (fault : ServeFault) (f : StreamFault) → Opens a mid moment hosts → f ≡ stream.Serve fault
+    → Serves moment (new_box hosts) (record { input = mid; left = left; output = output; written = written }) (Err fault)
     → ServesStream (record { input = a; left = left; output = output; written = written }) (Err f)
-stream_stopped a mid left output written moment rooms fault f opens is h =
+stream_stopped a mid left output written moment hosts fault f opens is h =
     let P : StreamFault → Type 0 = λ x. ServesStream (record { input = a; left = left; output = output; written = written }) (Err x) in
-    subst P (sym is) (inr (moment, rooms, mid, opens, h))
+    subst P (sym is) (inr (moment, hosts, mid, opens, h))
 
-pub stream_served : (a mid left output written : Option (List ℕ)) (moment : ℤ) (rooms : List (List ℕ)) (report : ServeReport) → Opens a mid moment rooms
-    → Serves moment (new_box rooms) (record { input = mid; left = left; output = output; written = written }) (Ok report)
+pub stream_served : (a mid left output written : Option (List ℕ)) (moment : ℤ) (hosts : Hosts) (report : ServeReport) → Opens a mid moment hosts
+    → Serves moment (new_box hosts) (record { input = mid; left = left; output = output; written = written }) (Ok report)
     → ServesStream (record { input = a; left = left; output = output; written = written }) (Ok report)
-stream_served a mid left output written moment rooms report opens (after, all) = (moment, rooms, mid, after, opens, all)
+stream_served a mid left output written moment hosts report opens (after, all) = (moment, hosts, mid, after, opens, all)
 
 -- the stream is its preamble and its objects
-pub stream_whole : (a mid left output written : Option (List ℕ)) (moment : ℤ) (rooms : List (List ℕ)) (report : ServeReport) → Opens a mid moment rooms
-    → Serves moment (new_box rooms) (record { input = mid; left = left; output = output; written = written }) (Ok report)
+pub stream_whole : (a mid left output written : Option (List ℕ)) (moment : ℤ) (hosts : Hosts) (report : ServeReport) → Opens a mid moment hosts
+    → Serves moment (new_box hosts) (record { input = mid; left = left; output = output; written = written }) (Ok report)
     → AnswersWhole (record { input = a; left = left; output = output; written = written })
-stream_whole None mid left output written moment rooms report opens h = tt
-stream_whole (Some xs) None left output written moment rooms report opens h = absurd opens.consumed
-stream_whole (Some xs) (Some ys) left output written moment rooms report opens (after, all) = (
+stream_whole None mid left output written moment hosts report opens h = tt
+stream_whole (Some xs) None left output written moment hosts report opens h = absurd opens.consumed
+stream_whole (Some xs) (Some ys) left output written moment hosts report opens (after, all) = (
   all.octets,
   record {
     moment = moment;
-    rooms = rooms;
+    hosts = hosts;
     objects = all.objects;
     after = after;
     refused = report.refused;
@@ -456,12 +427,12 @@ none_at rooms i a end h (k, l, is) = look rooms (λ n e lt. h n e (omega arith) 
     look (r ∷ rs) g (suc k) l is = look rs (λ n e lt. g (suc n) e (omega arith)) k (omega arith) is
 
 -- what is kept of a room is the texts of its book
-pub keeps_texts : (moment : ℤ) (addresses : List (List ℕ)) (news : List Room) (ends : Ends) (report : ServeReport) (room : Room) (address calendar certificate : List ℕ)
-    → RoomsServe moment (new_box addresses) news ends (Ok report) → Contains news room → address_octets room.address ≡ address
+pub keeps_texts : (moment : ℤ) (hosts : Hosts) (news : Books) (ends : Ends) (report : ServeReport) (room : Room) (address calendar certificate : List ℕ)
+    → BooksServe moment (new_box hosts) news ends (Ok report) → Contains news.rooms.rooms.items room → address_octets room.address ≡ address
     → ((book : Book) → Stands room.meetings.entries book → IsKeptCalendar (address_octets room.address) book calendar) → ((book : Book) → Stands room.meetings.entries book → certificate ≡ kept_certificate book)
-    → KeepsTexts moment addresses ends.input ends.left address calendar certificate
-keeps_texts moment addresses news ends report room address calendar certificate (after, hosted, all) among is text proof' =
-    let (kept, stands, has) = hosted_of news after hosted room among in
+    → KeepsTexts moment hosts ends.input ends.left address calendar certificate
+keeps_texts moment hosts news ends report room address calendar certificate (after, hosted, all) among is text proof' =
+    let (kept, stands, has) = hosted_of news.rooms.rooms.items after.rooms hosted.rooms room among in
     let S : List ℕ → Type 0 = λ a. IsKeptCalendar a kept.book calendar in
     record {
       objects = all.objects;
@@ -480,8 +451,8 @@ keeps_texts moment addresses news ends report room address calendar certificate 
     }
 
 -- serving to a writer that never fails ends so
-pub keeping_stopped : (moment : ℤ) (before : List Hosted) (news : List Room) (a b c d : Option (List ℕ)) (reader : Bool) (f : ServeFault)
-    → RoomsServe moment before news (record { input = a; left = b; output = c; written = d }) (Err f) → StopsFor reader false f → StopsKeeping a b (stream.Serve f)
+pub keeping_stopped : (moment : ℤ) (before : Box) (news : Books) (a b c d : Option (List ℕ)) (reader : Bool) (f : ServeFault)
+    → BooksServe moment before news (record { input = a; left = b; output = c; written = d }) (Err f) → StopsFor reader false f → StopsKeeping a b (stream.Serve f)
 keeping_stopped moment before news a b c d reader Read h cause = h.1
 keeping_stopped moment before news a b c d reader Write h cause = absurd (true≢false (sym cause))
 keeping_stopped moment before news a b c d reader TooLong h cause = h.1

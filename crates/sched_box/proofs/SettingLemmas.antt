@@ -1,5 +1,5 @@
 -- The settings so far, against the settings of the whole text.
-use Rattle.std.proofs.Common.{◌≡◌, ◌≢◌, ℕ, zero, suc, ◌<◌, ◌≤◌, Bool, true, false, List, [], ◌∷◌, ◌++◌, length, get_or, map, refl, sym, ap, subst, ◌∙◌, arith, codes, inl, inr, ◌⊎◌, ℤ, Option, Some, None, Result, Ok, Err, OnOk, OnErr, IfErr, Contains, AllPairs, length-append}
+use Rattle.std.proofs.Common.{◌≡◌, ◌≢◌, ℕ, zero, suc, ◌<◌, ◌≤◌, Bool, true, false, List, [], ◌∷◌, ◌++◌, length, get_or, map, refl, sym, ap, subst, ◌∙◌, arith, codes, inl, inr, ◌⊎◌, ℤ, ◌+◌, Option, Some, None, Result, Ok, Err, OnOk, OnErr, IfErr, Contains, AllPairs, length-append}
 use Rattle.std.proofs.Common.{◌==◌, true≢false}
 use Rattle.std.specs.Option.{option_to_list}
 use Rattle.std.proofs.lemmas.List.{append_assoc, append-nil, get_or_append_left}
@@ -7,7 +7,8 @@ use Rattle.std.proofs.Math.Seq.{get_or-append_seam}
 use Rattle.std.proofs.lemmas.List.Quantifiers.{all_pairs_push}
 use Rattle.profile.specs.text.Values.{SpellsStamp, IsAddress, lower_case}
 use Rattle.ical_values.specs.Octets.{address_octets}
-use Rattle.profile.specs.streams.Streams.{Setting, Now, Room, IsSetting, SaysSettings, by_end, by_lf, by_crlf, last, with_lf, with_crlf, moments, rooms, IsPreamble, IsConfiguration}
+use Rattle.ical_values.specs.declared.address.Address.{Address}
+use Rattle.profile.specs.streams.Streams.{Setting, Now, Room, Organiser, IsSetting, SaysSettings, by_end, by_lf, by_crlf, last, with_lf, with_crlf, moments, rooms, organisers, most_rooms, most_organisers, Hosts, AreHosts, IsPreamble, IsConfiguration}
 use Rattle.std.specs.Str.{IsUtf8}
 use Rattle.std.proofs.lemmas.Str.{IsUtf8-from_is_utf8, is_utf8-from_IsUtf8}
 use Rattle.std.proofs.lemmas.List.{length-map}
@@ -15,28 +16,54 @@ use Rattle.ical_lines.specs.declared.fault.Fault.{Fault}
 use Rattle.ical_lines.specs.declared.fault.Fault.TheVariants.{Refused, Memory}
 use Rattle.ical_values.specs.Refused.{IfRefused}
 use Rattle.sched_box.specs.declared.settings.Settings.{Settings}
-use Rattle.sched_box.specs.Settings.{rooms_of, CanAdd, Adds, AddsLine, IsUnbroken, Breaks, Holds, Reads, ReadsSettings, ReadsNone, SaysNone}
+use Rattle.sched_box.specs.Settings.{rooms_of, organisers_of, CanStand, AddsHost, IsFit, CanAdd, Adds, AddsLine, CanAll, IsUnbroken, Breaks, Holds, Reads, ReadsSettings, ReadsNone, SaysNone}
 use Rattle.sched_box.proofs.Lines.{first_line, same_line, empty_line, setting_some, no_break, nil_no, Ends, Goes}
 
 -- ---- one line
 
-other_word : (xs ys : List ℕ) → codes "now " ++ xs ≡ codes "room " ++ ys → ⊥
-other_word xs ys e =
-    let first = ap (λ (z : List ℕ). get_or z 0 0) e in
+now_room : (line xs ys : List ℕ) → line ≡ codes "now " ++ xs → line ≡ codes "room" ++ codes " " ++ ys → ⊥
+now_room line xs ys a b =
+    let first = ap (λ (z : List ℕ). get_or z 0 0) (sym a ∙ b) in
     let numbers : 110 ≡ 114 = first in
     omega arith
 
-pub set_line : {A E : Type 0} (r : Result A E) (old new : Settings) (line stamp : List ℕ) → line ≡ codes "now " ++ stamp
-    → ((text : List ℕ) (a b : ℤ) → SpellsStamp text a → SpellsStamp text b → a ≡ b)
+now_organiser : (line xs ys : List ℕ) → line ≡ codes "now " ++ xs → line ≡ codes "organiser" ++ codes " " ++ ys → ⊥
+now_organiser line xs ys a b =
+    let first = ap (λ (z : List ℕ). get_or z 0 0) (sym a ∙ b) in
+    let numbers : 110 ≡ 111 = first in
+    omega arith
+
+room_organiser : (line xs ys : List ℕ) → line ≡ codes "room" ++ codes " " ++ xs → line ≡ codes "organiser" ++ codes " " ++ ys → ⊥
+room_organiser line xs ys a b =
+    let first = ap (λ (z : List ℕ). get_or z 0 0) (sym a ∙ b) in
+    let numbers : 114 ≡ 111 = first in
+    omega arith
+
+abbrev OneStamp : Type 0
+OneStamp = (text : List ℕ) (a b : ℤ) → SpellsStamp text a → SpellsStamp text b → a ≡ b
+
+-- a line says one setting
+one_setting : OneStamp → (line : List ℕ) (one other : Setting) → IsSetting line one → IsSetting line other → other ≡ one
+one_setting law line (Now t) (Now s) (text, is, says) (text', is', says') =
+    let same : text' ≡ text = cc in
+    ap Now (law text s t (subst (λ (x : List ℕ). SpellsStamp x s) same says') says)
+one_setting law line (Now t) (Room b) (text, is, says) (text', is', address, lower) = absurd (now_room line text text' is is')
+one_setting law line (Now t) (Organiser b) (text, is, says) (text', is', address, lower) = absurd (now_organiser line text text' is is')
+one_setting law line (Room a) (Now s) (text, is, address, lower) (text', is', says) = absurd (now_room line text' text is' is)
+one_setting law line (Room a) (Room b) (text, is, address, lower) (text', is', address', lower') =
+    let same : text' ≡ text = cc in
+    ap Room (lower' ∙ ap lower_case same ∙ sym lower)
+one_setting law line (Room a) (Organiser b) (text, is, address, lower) (text', is', address', lower') = absurd (room_organiser line text text' is is')
+one_setting law line (Organiser a) (Now s) (text, is, address, lower) (text', is', says) = absurd (now_organiser line text' text is' is)
+one_setting law line (Organiser a) (Room b) (text, is, address, lower) (text', is', address', lower') = absurd (room_organiser line text' text is' is)
+one_setting law line (Organiser a) (Organiser b) (text, is, address, lower) (text', is', address', lower') =
+    let same : text' ≡ text = cc in
+    ap Organiser (lower' ∙ ap lower_case same ∙ sym lower)
+
+pub set_line : {A E : Type 0} (r : Result A E) (old new : Settings) (line stamp : List ℕ) → line ≡ codes "now " ++ stamp → OneStamp
     → OnOk r ((t : ℤ) × SpellsStamp stamp t × Adds old new (Now t)) → OnOk r (AddsLine old new line)
-set_line (Ok u) old new line stamp is law (t, spelled, adds) = record { setting = Now t; is = (stamp, is, spelled); only = only; adds = adds }
-  where
-    only : (other : Setting) → IsSetting line other → other ≡ Now t
-    only (Now s) (text, line_is, says) =
-        let same : text ≡ stamp = cc in
-        let P : List ℕ → Type 0 = λ x. SpellsStamp x s in
-        ap Now (law stamp s t (subst P same says) spelled)
-    only (Room a) (text, line_is, says, lower) = absurd (other_word stamp text (sym is ∙ line_is))
+set_line (Ok u) old new line stamp is law (t, spelled, adds) =
+    record { setting = Now t; is = (stamp, is, spelled); only = λ other says. one_setting law line (Now t) other (stamp, is, spelled) says; adds = adds }
 set_line (Err e) old new line stamp is law h = tt
 
 pub set_none : {A : Type 0} (r : Result A Fault) (old : Settings) (line stamp : List ℕ) → line ≡ codes "now " ++ stamp
@@ -49,35 +76,53 @@ set_none (Err (Refused x)) old line stamp is h = cannot
     cannot : (setting : Setting) → IsSetting line setting → CanAdd old setting → ⊥
     cannot (Now t) (text, line_is, says) can =
         let same : text ≡ stamp = cc in
-        let P : List ℕ → Type 0 = λ x. SpellsStamp x t in
-        h t (subst P same says) can
-    cannot (Room a) (text, line_is, says, lower) can = other_word stamp text (sym is ∙ line_is)
+        h t (subst (λ (x : List ℕ). SpellsStamp x t) same says) can
+    cannot (Room a) (text, line_is, says, lower) can = now_room line stamp text is line_is
+    cannot (Organiser a) (text, line_is, says, lower) can = now_organiser line stamp text is line_is
 
-pub add_line : {A E : Type 0} (r : Result A E) (old new : Settings) (line text : List ℕ) → line ≡ codes "room " ++ text
-    → OnOk r (IsAddress text) → OnOk r (Adds old new (Room (lower_case text))) → OnOk r (AddsLine old new line)
-add_line (Ok u) old new line text is address adds = record { setting = Room (lower_case text); is = (text, is, address, refl); only = only; adds = adds }
-  where
-    only : (other : Setting) → IsSetting line other → other ≡ Room (lower_case text)
-    only (Now s) (stamp, line_is, says) = absurd (other_word stamp text (sym line_is ∙ is))
-    only (Room a) (other, line_is, says, lower) =
-        let same : other ≡ text = cc in
-        ap Room (lower ∙ ap lower_case same)
-add_line (Err e) old new line text is address adds = tt
+-- a room's line
+pub room_line : {A E : Type 0} (r : Result A E) (old new : Settings) (line text : List ℕ) → line ≡ codes "room " ++ text → OneStamp → OnOk r (IsAddress text)
+    → OnOk r (AddsHost most_rooms old.rooms.items new.rooms.items (lower_case text)) → new.moment ≡ old.moment → new.organisers ≡ old.organisers → OnOk r (AddsLine old new line)
+room_line (Ok u) old new line text is law address adds moment others =
+    let said : IsSetting line (Room (lower_case text)) = (text, is, address, refl) in
+    record { setting = Room (lower_case text); is = said; only = λ other says. one_setting law line (Room (lower_case text)) other said says; adds = (adds, moment, others) }
+room_line (Err e) old new line text is law address adds moment others = tt
 
-pub add_none : {A : Type 0} (r : Result A Fault) (old : Settings) (line text : List ℕ) → line ≡ codes "room " ++ text
-    → IfErr r (IfRefused (IsAddress text → CanAdd old (Room (lower_case text)) → ⊥))
+pub room_none : {A : Type 0} (r : Result A Fault) (old : Settings) (line text : List ℕ) → line ≡ codes "room " ++ text
+    → IfErr r (IfRefused (IsAddress text → CanStand most_rooms (rooms_of old) (lower_case text) → ⊥))
     → IfErr r (IfRefused ((setting : Setting) → IsSetting line setting → CanAdd old setting → ⊥))
-add_none (Ok u) old line text is h = tt
-add_none (Err Memory) old line text is h = tt
-add_none (Err (Refused x)) old line text is h = cannot
+room_none (Ok u) old line text is h = tt
+room_none (Err Memory) old line text is h = tt
+room_none (Err (Refused x)) old line text is h = cannot
   where
     cannot : (setting : Setting) → IsSetting line setting → CanAdd old setting → ⊥
-    cannot (Now t) (stamp, line_is, says) can = other_word stamp text (sym line_is ∙ is)
+    cannot (Now t) (stamp, line_is, says) can = now_room line stamp text line_is is
     cannot (Room a) (other, line_is, says, lower) can =
         let same : other ≡ text = cc in
-        let P : List ℕ → Type 0 = IsAddress in
-        let Q : List ℕ → Type 0 = λ x. CanAdd old (Room x) in
-        h (subst P same says) (subst Q (lower ∙ ap lower_case same) can)
+        h (subst IsAddress same says) (subst (CanStand most_rooms (rooms_of old)) (lower ∙ ap lower_case same) can)
+    cannot (Organiser a) (other, line_is, says, lower) can = room_organiser line text other is line_is
+
+-- an organiser's
+pub organiser_line : {A E : Type 0} (r : Result A E) (old new : Settings) (line text : List ℕ) → line ≡ codes "organiser " ++ text → OneStamp → OnOk r (IsAddress text)
+    → OnOk r (AddsHost most_organisers old.organisers.items new.organisers.items (lower_case text)) → new.moment ≡ old.moment → new.rooms ≡ old.rooms → OnOk r (AddsLine old new line)
+organiser_line (Ok u) old new line text is law address adds moment others =
+    let said : IsSetting line (Organiser (lower_case text)) = (text, is, address, refl) in
+    record { setting = Organiser (lower_case text); is = said; only = λ other says. one_setting law line (Organiser (lower_case text)) other said says; adds = (adds, moment, others) }
+organiser_line (Err e) old new line text is law address adds moment others = tt
+
+pub organiser_none : {A : Type 0} (r : Result A Fault) (old : Settings) (line text : List ℕ) → line ≡ codes "organiser " ++ text
+    → IfErr r (IfRefused (IsAddress text → CanStand most_organisers (organisers_of old) (lower_case text) → ⊥))
+    → IfErr r (IfRefused ((setting : Setting) → IsSetting line setting → CanAdd old setting → ⊥))
+organiser_none (Ok u) old line text is h = tt
+organiser_none (Err Memory) old line text is h = tt
+organiser_none (Err (Refused x)) old line text is h = cannot
+  where
+    cannot : (setting : Setting) → IsSetting line setting → CanAdd old setting → ⊥
+    cannot (Now t) (stamp, line_is, says) can = now_organiser line stamp text line_is is
+    cannot (Room a) (other, line_is, says, lower) can = room_organiser line other text line_is is
+    cannot (Organiser a) (other, line_is, says, lower) can =
+        let same : other ≡ text = cc in
+        h (subst IsAddress same says) (subst (CanStand most_organisers (organisers_of old)) (lower ∙ ap lower_case same) can)
 
 -- ---- settings one behind another
 
@@ -85,11 +130,19 @@ rooms_append : (xs ys : List Setting) → rooms (xs ++ ys) ≡ rooms xs ++ rooms
 rooms_append [] ys = refl
 rooms_append (Now t ∷ xs) ys = rooms_append xs ys
 rooms_append (Room a ∷ xs) ys = ap (λ z. a ∷ z) (rooms_append xs ys)
+rooms_append (Organiser a ∷ xs) ys = rooms_append xs ys
+
+organisers_append : (xs ys : List Setting) → organisers (xs ++ ys) ≡ organisers xs ++ organisers ys
+organisers_append [] ys = refl
+organisers_append (Now t ∷ xs) ys = organisers_append xs ys
+organisers_append (Room a ∷ xs) ys = organisers_append xs ys
+organisers_append (Organiser a ∷ xs) ys = ap (λ z. a ∷ z) (organisers_append xs ys)
 
 moments_append : (xs ys : List Setting) → moments (xs ++ ys) ≡ moments xs ++ moments ys
 moments_append [] ys = refl
 moments_append (Now t ∷ xs) ys = ap (λ z. t ∷ z) (moments_append xs ys)
 moments_append (Room a ∷ xs) ys = moments_append xs ys
+moments_append (Organiser a ∷ xs) ys = moments_append xs ys
 
 not_among : (xs : List (List ℕ)) (a : List ℕ) → (Contains xs a → ⊥) → (k : ℕ) (d : List ℕ) → k < length xs → get_or xs k d ≢ a
 not_among xs a lacks k d l e = lacks (k, l, same xs k l ∙ e)
@@ -99,29 +152,56 @@ not_among xs a lacks k d l e = lacks (k, l, same xs k l ∙ e)
     same (y ∷ ys) zero l = refl
     same (y ∷ ys) (suc i) l = same ys i (omega arith)
 
+-- hosts that fit do so with one more that can stand
+fit_more : (most : ℕ) (hosts : List (List ℕ)) (a : List ℕ) → IsFit most hosts → CanStand most hosts a → IsFit most (hosts ++ a ∷ [])
+fit_more most hosts a fit can = record {
+  few = omega (arith, can.few, length-append hosts (a ∷ []));
+  differ = all_pairs_push ◌≢◌ hosts a fit.differ (not_among hosts a can.fresh);
+}
+
+fit_added : (most : ℕ) (old new : List Address) (a : List ℕ) → IsFit most (map address_octets old) → AddsHost most old new a → IsFit most (map address_octets new)
+fit_added most old new a fit adds = subst (IsFit most) (sym adds.more) (fit_more most (map address_octets old) a fit adds.can)
+
+-- those that stay fit as before
+fit_same : (most : ℕ) (old new : List Address) → new ≡ old → IsFit most (map address_octets old) → IsFit most (map address_octets new)
+fit_same most old new same fit = subst (λ (hosts : List Address). IsFit most (map address_octets hosts)) (sym same) fit
+
 holds_add : (old new : Settings) (done : List Setting) (setting : Setting) → Holds old done → Adds old new setting → Holds new (done ++ setting ∷ [])
-holds_add old new done (Now t) h (none, set, same) =
-    let P : List (List ℕ) → Type 0 = AllPairs ◌≢◌ in
-    record {
-      rooms_are = rooms_append done (Now t ∷ []) ∙ append-nil (rooms done) ∙ h.rooms_are ∙ sym same;
-      moments_are = moments_append done (Now t ∷ []) ∙ ap (λ z. z ++ t ∷ []) (h.moments_are ∙ ap option_to_list none) ∙ sym (ap option_to_list set);
-      differ = subst P (sym same) h.differ;
-    }
-holds_add old new done (Room a) h (none, set, more) =
-    let P : List (List ℕ) → Type 0 = AllPairs ◌≢◌ in
-    record {
-      rooms_are = rooms_append done (Room a ∷ []) ∙ ap (λ z. z ++ a ∷ []) h.rooms_are ∙ sym more;
-      moments_are = moments_append done (Room a ∷ []) ∙ append-nil (moments done) ∙ h.moments_are ∙ sym (ap option_to_list set);
-      differ = subst P (sym more) (all_pairs_push ◌≢◌ (rooms_of old) a h.differ (not_among (rooms_of old) a none));
-    }
+holds_add old new done (Now t) h (none, set, rooms_same, organisers_same) = record {
+  rooms_are = rooms_append done (Now t ∷ []) ∙ append-nil (rooms done) ∙ h.rooms_are ∙ sym (ap (λ v. map address_octets v.items) rooms_same);
+  organisers_are = organisers_append done (Now t ∷ []) ∙ append-nil (organisers done) ∙ h.organisers_are ∙ sym (ap (λ v. map address_octets v.items) organisers_same);
+  moments_are = moments_append done (Now t ∷ []) ∙ ap (λ z. z ++ t ∷ []) (h.moments_are ∙ ap option_to_list none) ∙ sym (ap option_to_list set);
+  rooms_fit = fit_same most_rooms old.rooms.items new.rooms.items (ap (λ v. v.items) rooms_same) h.rooms_fit;
+  organisers_fit = fit_same most_organisers old.organisers.items new.organisers.items (ap (λ v. v.items) organisers_same) h.organisers_fit;
+}
+holds_add old new done (Room a) h (adds, set, same) = record {
+  rooms_are = rooms_append done (Room a ∷ []) ∙ ap (λ z. z ++ a ∷ []) h.rooms_are ∙ sym adds.more;
+  organisers_are = organisers_append done (Room a ∷ []) ∙ append-nil (organisers done) ∙ h.organisers_are ∙ sym (ap (λ v. map address_octets v.items) same);
+  moments_are = moments_append done (Room a ∷ []) ∙ append-nil (moments done) ∙ h.moments_are ∙ sym (ap option_to_list set);
+  rooms_fit = fit_added most_rooms old.rooms.items new.rooms.items a h.rooms_fit adds;
+  organisers_fit = fit_same most_organisers old.organisers.items new.organisers.items (ap (λ v. v.items) same) h.organisers_fit;
+}
+holds_add old new done (Organiser a) h (adds, set, same) = record {
+  rooms_are = rooms_append done (Organiser a ∷ []) ∙ append-nil (rooms done) ∙ h.rooms_are ∙ sym (ap (λ v. map address_octets v.items) same);
+  organisers_are = organisers_append done (Organiser a ∷ []) ∙ ap (λ z. z ++ a ∷ []) h.organisers_are ∙ sym adds.more;
+  moments_are = moments_append done (Organiser a ∷ []) ∙ append-nil (moments done) ∙ h.moments_are ∙ sym (ap option_to_list set);
+  rooms_fit = fit_same most_rooms old.rooms.items new.rooms.items (ap (λ v. v.items) same) h.rooms_fit;
+  organisers_fit = fit_added most_organisers old.organisers.items new.organisers.items a h.organisers_fit adds;
+}
 
 pairs_no : (xs ys : List (List ℕ)) (a : List ℕ) → AllPairs ◌≢◌ (xs ++ a ∷ ys) → Contains xs a → ⊥
 pairs_no xs ys a pairs (k, l, is) =
     let longer : length xs < length (xs ++ a ∷ ys) = omega (arith, length-append xs (a ∷ ys)) in
     pairs k (length xs) a l longer (get_or_append_left xs (a ∷ ys) a k l ∙ is ∙ sym (get_or-append_seam xs a ys a))
 
-can_add : (s : Settings) (done : List Setting) (setting : Setting) (more : List Setting) → Holds s done → AllPairs ◌≢◌ (rooms (done ++ setting ∷ more)) → length (moments (done ++ setting ∷ more)) ≤ 1 → CanAdd s setting
-can_add s done (Now t) more h differ few = at s.moment refl
+-- a host can stand behind those that stand before it among hosts that fit
+can_stand : (most : ℕ) (hosts before after : List (List ℕ)) (a : List ℕ) → before ≡ hosts → IsFit most (before ++ a ∷ after) → CanStand most hosts a
+can_stand most hosts before after a is fit =
+    subst (λ (list : List (List ℕ)). CanStand most list a) is
+    (record { fresh = pairs_no before after a fit.differ; few = omega (arith, fit.few, length-append before (a ∷ after)) })
+
+can_add : (s : Settings) (done : List Setting) (setting : Setting) (more : List Setting) → Holds s done → CanAll (done ++ setting ∷ more) → CanAdd s setting
+can_add s done (Now t) more h can = at s.moment refl
   where
     all : moments (done ++ Now t ∷ more) ≡ option_to_list s.moment ++ t ∷ moments more
     all = moments_append done (Now t ∷ more) ∙ ap (λ z. z ++ t ∷ moments more) h.moments_are
@@ -130,11 +210,11 @@ can_add s done (Now t) more h differ few = at s.moment refl
     at None e = e
     at (Some x) e =
         let two : length (moments (done ++ Now t ∷ more)) ≡ length (x ∷ t ∷ moments more) = ap length (all ∙ ap (λ z. option_to_list z ++ t ∷ moments more) e) in
+        let few = can.once in
         absurd (omega arith)
-can_add s done (Room a) more h differ few = λ among.
-    let P : List (List ℕ) → Type 0 = AllPairs ◌≢◌ in
-    let Q : List (List ℕ) → Type 0 = λ z. Contains z a in
-    pairs_no (rooms done) (rooms more) a (subst P (rooms_append done (Room a ∷ more)) differ) (subst Q (sym h.rooms_are) among)
+can_add s done (Room a) more h can = can_stand most_rooms (rooms_of s) (rooms done) (rooms more) a h.rooms_are (subst (IsFit most_rooms) (rooms_append done (Room a ∷ more)) can.rooms_fit)
+can_add s done (Organiser a) more h can =
+    can_stand most_organisers (organisers_of s) (organisers done) (organisers more) a h.organisers_are (subst (IsFit most_organisers) (organisers_append done (Organiser a ∷ more)) can.organisers_fit)
 
 -- ---- the settings so far
 
@@ -144,16 +224,22 @@ pub record Sofar (text rest : List ℕ) (s : Settings) : Type 0 where
   pub sound : (closed : Bool) (more : List Setting) → SaysSettings closed rest more → SaysSettings closed text (done ++ more)
   pub complete : (closed : Bool) (list : List Setting) → SaysSettings closed text list → (more : List Setting) × (list ≡ done ++ more) × SaysSettings closed rest more
 
-pub none_yet : (text : List ℕ) (s : Settings) → s.rooms.items ≡ [] → s.moment ≡ None → Sofar text text s
-none_yet text s no_rooms no_moment =
-    let empty : [] ≡ rooms_of s = sym (ap (map _) no_rooms) in
-    let P : List (List ℕ) → Type 0 = AllPairs ◌≢◌ in
-    record {
-      done = [];
-      holds = record { rooms_are = empty; moments_are = sym (ap option_to_list no_moment); differ = subst P empty (λ i j d less short. absurd (omega arith)) };
-      sound = λ closed more says. says;
-      complete = λ closed list says. (list, refl, says);
-    }
+none_fit : (most : ℕ) (hosts : List Address) → hosts ≡ [] → IsFit most (map address_octets hosts)
+none_fit most hosts none = fit_same most [] hosts none (record { few = omega arith; differ = λ i j d less short. absurd (omega arith) })
+
+pub none_yet : (text : List ℕ) (s : Settings) → s.rooms.items ≡ [] → s.organisers.items ≡ [] → s.moment ≡ None → Sofar text text s
+none_yet text s no_rooms no_organisers no_moment = record {
+  done = [];
+  holds = record {
+    rooms_are = sym (ap (map address_octets) no_rooms);
+    organisers_are = sym (ap (map address_octets) no_organisers);
+    moments_are = sym (ap option_to_list no_moment);
+    rooms_fit = none_fit most_rooms s.rooms.items no_rooms;
+    organisers_fit = none_fit most_organisers s.organisers.items no_organisers;
+  };
+  sound = λ closed more says. says;
+  complete = λ closed list says. (list, refl, says);
+}
 
 with_break : (octets line after : List ℕ) (b : Breaks octets line after) (setting : Setting) (closed : Bool) (more : List Setting) → IsSetting line setting → SaysSettings closed after more → SaysSettings closed octets (setting ∷ more)
 with_break octets line after b setting closed more is says =
@@ -196,13 +282,11 @@ line_more text rest line after old new so b some a = record {
 -- a line that can't be added stands in no settings
 pub line_none : (text rest line after : List ℕ) (s : Settings) → Sofar text rest s → Breaks rest line after → 0 < length line
     → ((setting : Setting) → IsSetting line setting → CanAdd s setting → ⊥) → SaysNone text
-line_none text rest line after s so b some cannot closed list says differ few =
+line_none text rest line after s so b some cannot closed list says can =
     let (more, list_is, rest_says) = so.complete closed list says in
     let (setting, others, is, more_is, after_says) = goes_on rest line after b some closed more rest_says in
     let whole : list ≡ so.done ++ setting ∷ others = list_is ∙ ap (λ z. so.done ++ z) more_is in
-    let P : List Setting → Type 0 = λ z. AllPairs ◌≢◌ (rooms z) in
-    let Q : List Setting → Type 0 = λ z. length (moments z) ≤ 1 in
-    cannot setting is (can_add s so.done setting others so.holds (subst P whole differ) (subst Q whole few))
+    cannot setting is (can_add s so.done setting others so.holds (subst CanAll whole can))
 
 -- ---- the end
 
@@ -238,7 +322,7 @@ ended text rest line after s so b empty none = at b.bare
     at (inr plain) = says (subst P (sym (b.split ∙ ap (λ z. z ++ 10 ∷ after) (plain.0 ∙ empty) ∙ ap (λ z. 10 ∷ z) none)) by_lf)
 
 pub ended_none : (text rest line after : List ℕ) (s : Settings) → Sofar text rest s → Breaks rest line after → line ≡ [] → (after ≡ [] → ⊥) → SaysNone text
-ended_none text rest line after s so b empty some closed list says differ few =
+ended_none text rest line after s so b empty some closed list says can =
     let (more, list_is, rest_says) = so.complete closed list says in
     at (first_line rest_says b.whole after b.split b.first)
   where
@@ -276,13 +360,11 @@ last_more text rest old new so u some a = record {
 
 pub last_none : (text rest : List ℕ) (s : Settings) → Sofar text rest s → IsUnbroken rest → 0 < length rest
     → ((setting : Setting) → IsSetting rest setting → CanAdd s setting → ⊥) → SaysNone text
-last_none text rest s so u some cannot closed list says differ few =
+last_none text rest s so u some cannot closed list says can =
     let (more, list_is, rest_says) = so.complete closed list says in
     let (setting, is, more_is) = last_says rest_says rest refl u some in
     let whole : list ≡ so.done ++ setting ∷ [] = list_is ∙ ap (λ z. so.done ++ z) more_is in
-    let P : List Setting → Type 0 = λ z. AllPairs ◌≢◌ (rooms z) in
-    let Q : List Setting → Type 0 = λ z. length (moments z) ≤ 1 in
-    cannot setting is (can_add s so.done setting [] so.holds (subst P whole differ) (subst Q whole few))
+    cannot setting is (can_add s so.done setting [] so.holds (subst CanAll whole can))
 
 none_says : {closed : Bool} {octets : List ℕ} {list : List Setting} → SaysSettings closed octets list → octets ≡ [] → list ≡ []
 none_says by_end e = refl
@@ -322,36 +404,56 @@ not_nil xs h e = let none : length xs ≡ 0 = ap length e in omega arith
 
 -- ---- a preamble or a configuration
 
--- text without a room is neither
-pub no_room : (s : Settings) (octets : List ℕ) → Reads s octets → length s.rooms.items ≡ 0 → ReadsNone octets
-no_room s octets r none closed list says utf8 short some most differ few =
-    let P : List Setting → Type 0 = λ z. 0 < length (rooms z) in
-    let here : 0 < length (rooms r.list) = subst P (r.only closed list says) some in
-    let empty : length (rooms r.list) ≡ 0 = ap length r.holds.rooms_are ∙ simp length-map none in
+-- hosts that can be named fit
+pub says_none_of : (octets : List ℕ) → SaysNone octets → ReadsNone octets
+says_none_of octets none closed list hosts says utf8 short are once =
+    none closed list says
+    (record {
+      rooms_fit = subst (IsFit most_rooms) (sym are.rooms_are) (record { few = are.few_rooms; differ = are.rooms_differ });
+      organisers_fit = subst (IsFit most_organisers) (sym are.organisers_are) (record { few = are.few_organisers; differ = are.organisers_differ });
+      once = once;
+    })
+
+-- text without a host is neither
+pub no_host : (s : Settings) (octets : List ℕ) → Reads s octets → length s.rooms.items ≡ 0 → length s.organisers.items ≡ 0 → ReadsNone octets
+no_host s octets r no_rooms no_organisers closed list hosts says utf8 short are once =
+    let rooms_none : length hosts.rooms ≡ length s.rooms.items = ap length (sym are.rooms_are ∙ ap rooms (r.only closed list says) ∙ r.holds.rooms_are) ∙ length-map s.rooms.items address_octets in
+    let organisers_none : length hosts.organisers ≡ length s.organisers.items =
+    ap length (sym are.organisers_are ∙ ap organisers (r.only closed list says) ∙ r.holds.organisers_are) ∙ length-map s.organisers.items address_octets in
+    let some = are.some in
     omega arith
 
--- nor is one with too many
-pub many_rooms : (s : Settings) (octets : List ℕ) → Reads s octets → 64 < length s.rooms.items → ReadsNone octets
-many_rooms s octets r many closed list says utf8 short some most differ few =
-    let P : List Setting → Type 0 = λ z. length (rooms z) ≤ 64 in
-    let here : length (rooms r.list) ≤ 64 = subst P (r.only closed list says) most in
-    let all : length (rooms r.list) ≡ length s.rooms.items = ap length r.holds.rooms_are ∙ length-map s.rooms.items address_octets in
-    omega (arith, here, all, many)
-
 pub has_moment : (s : Settings) (octets : List ℕ) (t : ℤ) → ReadsSettings s octets → s.moment ≡ Some t
-    → (closed : Bool) (addresses : List (List ℕ)) → IsConfiguration closed octets addresses → ⊥
-has_moment s octets t r is closed addresses c =
+    → (closed : Bool) (hosts : Hosts) → IsConfiguration closed octets hosts → ⊥
+has_moment s octets t r is closed hosts c =
     let same : [] ≡ t ∷ [] = sym c.timeless ∙ ap moments (r.reads.only closed c.settings c.says) ∙ r.reads.holds.moments_are ∙ ap option_to_list is in
     cc
 
 pub no_moment : (s : Settings) (octets : List ℕ) → ReadsSettings s octets → s.moment ≡ None
-    → (closed : Bool) (moment : ℤ) (addresses : List (List ℕ)) → IsPreamble closed octets moment addresses → ⊥
-no_moment s octets r is closed moment addresses p =
+    → (closed : Bool) (moment : ℤ) (hosts : Hosts) → IsPreamble closed octets moment hosts → ⊥
+no_moment s octets r is closed moment hosts p =
     let same : moment ∷ [] ≡ [] = sym p.moment_is ∙ ap moments (r.reads.only closed p.settings p.says) ∙ r.reads.holds.moments_are ∙ ap option_to_list is in
     cc
 
 pub not_utf8 : (octets : List ℕ) → (IsUtf8 octets → ⊥) → ReadsNone octets
-not_utf8 octets bad closed list says utf8 short some most differ few = bad (IsUtf8-from_is_utf8 octets utf8)
+not_utf8 octets bad closed list hosts says utf8 short are once = bad (IsUtf8-from_is_utf8 octets utf8)
 
-pub is_read : (s : Settings) (octets : List ℕ) → Reads s octets → IsUtf8 octets → length octets ≤ 65_536 → 0 < length s.rooms.items → length s.rooms.items ≤ 64 → ReadsSettings s octets
-is_read s octets r utf8 short some few = record { reads = r; text = is_utf8-from_IsUtf8 octets utf8; short = short; some = simp length-map some; few = simp length-map few }
+pub is_read : (s : Settings) (octets : List ℕ) → Reads s octets → IsUtf8 octets → length octets ≤ 65_536 → 0 < length s.rooms.items + length s.organisers.items → ReadsSettings s octets
+is_read s octets r utf8 short some = record {
+  reads = r;
+  text = is_utf8-from_IsUtf8 octets utf8;
+  short = short;
+  some = omega (arith, some, length-map s.rooms.items address_octets, length-map s.organisers.items address_octets);
+}
+
+-- the hosts of the settings
+pub are_hosts : (s : Settings) (octets : List ℕ) (r : ReadsSettings s octets) → AreHosts r.reads.list (record { rooms = rooms_of s; organisers = organisers_of s })
+are_hosts s octets r = record {
+  rooms_are = r.reads.holds.rooms_are;
+  organisers_are = r.reads.holds.organisers_are;
+  some = r.some;
+  few_rooms = r.reads.holds.rooms_fit.few;
+  few_organisers = r.reads.holds.organisers_fit.few;
+  rooms_differ = r.reads.holds.rooms_fit.differ;
+  organisers_differ = r.reads.holds.organisers_fit.differ;
+}

@@ -1,14 +1,13 @@
--- What the rooms of a box answer to one object.
+-- What the rooms of a box answer to a message.
 use Rattle.std.specs.Prelude.{◌≡◌, ℕ, ℤ, List, [], ◌∷◌, ◌++◌, map, Option, Some, None}
 use Rattle.std.specs.List.{AllZip}
 use Rattle.ical_values.specs.Octets.{address_octets}
 use Rattle.itip_messages.specs.Messages.{StandsFor}
-use Rattle.itip_messages.specs.declared.message.Message.{Message}
+use Rattle.itip_messages.specs.declared.room_message.RoomMessage.{RoomMessage}
 use Rattle.profile.specs.rooms.Messages as profile
-use Rattle.profile.specs.streams.Streams.{Hosted, Takes, Answers}
+use Rattle.profile.specs.streams.Streams.{Hosted, Takes}
 use Rattle.room_books.specs.Standing.{Stands}
 use Rattle.room_books.specs.declared.room.Room.{Room}
-use Rattle.sched_box.specs.Objects.{kept_of}
 
 -- the addresses of the rooms, in order
 abbrev pub room_addresses : List Room → List (List ℕ)
@@ -24,24 +23,18 @@ abbrev pub AreHosted : List Room → List Hosted → Type 0
 AreHosted rooms box = AllZip IsHosted rooms box
 
 -- a room takes the message and answers these octets, from whatever it stands for
-abbrev pub RoomTakes : ℤ → Message → Room → Room → List ℕ → Type 0
+abbrev pub RoomTakes : ℤ → RoomMessage → Room → Room → List ℕ → Type 0
 RoomTakes moment message old new octets =
     (said : profile.Message) → StandsFor message said → (before : Hosted) → IsHosted old before
     → (after : Hosted) × IsHosted new after × Takes moment said before after octets
 
 -- each room takes it in turn; their answers stand one behind another
-abbrev pub RoomsTake : ℤ → Message → List Room → List Room → List ℕ → Type 0
+abbrev pub RoomsTake : ℤ → RoomMessage → List Room → List Room → List ℕ → Type 0
 RoomsTake moment message [] [] octets = octets ≡ []
 RoomsTake moment message (old ∷ olds) (new ∷ news) octets =
     (first : List ℕ) × (rest : List ℕ) × (octets ≡ first ++ rest) × (new.address ≡ old.address)
     × RoomTakes moment message old new first × RoomsTake moment message olds news rest
 RoomsTake moment message _ _ octets = ⊥
-
--- these octets answer object k, of which so much was kept, from whatever the rooms stand for
-abbrev pub AnswersKept : ℤ → ℕ → List ℕ → List Room → List Room → List ℕ → ℕ → Type 0
-AnswersKept moment k kept olds news octets refused =
-    (object : List ℕ) → kept ≡ kept_of object → (before : List Hosted) → AreHosted olds before
-    → (after : List Hosted) × AreHosted news after × Answers moment k object before after octets refused
 
 -- what is sent of an object, if there is one
 abbrev pub sent_octets : Option (List ℕ) → List ℕ

@@ -5,10 +5,10 @@ use Rattle.std.specs.Str.{bytes_eq}
 use Rattle.cal_events.specs.declared.component.Attendee.{Attendee}
 use Rattle.ical_values.specs.Octets.{address_octets}
 use Rattle.itip_messages.specs.Messages.{is_for}
-use Rattle.itip_messages.specs.declared.message.Message.{Message}
+use Rattle.itip_messages.specs.declared.room_message.RoomMessage.{RoomMessage}
 use Rattle.sched_box.specs.declared.directory.Directory.{Directory}
 
--- the addresses of the rooms, in their order
+-- the addresses of the hosts, in their order
 abbrev pub directory_addresses : Directory → List (List ℕ)
 directory_addresses directory = map address_octets directory.addresses.keys
 
@@ -21,5 +21,5 @@ abbrev pub names : List Attendee → List ℕ → Bool
 names attendees room = list_any (λ attendee. bytes_eq (address_octets attendee.address) room) attendees
 
 -- the message is for the room
-abbrev pub asks : Message → List ℕ → Bool
+abbrev pub asks : RoomMessage → List ℕ → Bool
 asks message room = list_any (is_for room message) message.components.items

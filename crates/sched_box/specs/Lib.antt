@@ -1,8 +1,10 @@
 pub mod Answering
 pub mod Asked
+pub mod Books
 pub mod Config
 pub mod Faults
 pub mod Objects
+pub mod Organising
 pub mod Output
 pub mod Preamble
 pub mod Serving

@@ -1,7 +1,7 @@
 -- How a preamble is taken from a reader: up to its empty line, octet by octet.
 use Rattle.std.specs.Prelude.{◌≡◌, ◌⊎◌, ◌<◌, ◌≤◌, ◌+◌, ◌==◌, ℕ, ℤ, Bool, true, false, if◌then◌else◌, List, [], ◌∷◌, ◌++◌, length, Option, IfSome, OnSome}
 use Rattle.std.specs.Io.KnownBytes.{Consumes, IsAtEnd}
-use Rattle.profile.specs.streams.Streams.{IsPreamble}
+use Rattle.profile.specs.streams.Streams.{Hosts, IsPreamble}
 use Rattle.sched_box.specs.declared.preamble.LineState.{LineState}
 use Rattle.sched_box.specs.declared.preamble.LineState.TheVariants.{Start, Return, Inside, Closed}
 
@@ -50,12 +50,12 @@ pub record TakesPreamble (old new : Option (List ℕ)) (octets : List ℕ) : Typ
 abbrev pub IsLong : List ℕ → Type 0
 IsLong octets = length (rest_of Start octets) + 65_536 < length octets
 
--- the reader gave a preamble with this moment and these rooms, and all that it had where no empty line stands
-pub record Opens (old new : Option (List ℕ)) (moment : ℤ) (addresses : List (List ℕ)) : Type 0 where
+-- the reader gave a preamble with this moment and these hosts, and all that it had where no empty line stands
+pub record Opens (old new : Option (List ℕ)) (moment : ℤ) (hosts : Hosts) : Type 0 where
   pub preamble : List ℕ
   pub closed : Bool
   pub consumed : Consumes old new preamble
-  pub says : IsPreamble closed preamble moment addresses
+  pub says : IsPreamble closed preamble moment hosts
   pub all : closed ≡ false → OnSome old (IsAtEnd new)
 
 -- octets were taken, and none past the empty line
@@ -67,5 +67,5 @@ pub record StopsInPreamble (old new : Option (List ℕ)) : Type 0 where
 -- the octets don't begin with a preamble
 abbrev pub OpensNot : List ℕ → Type 0
 OpensNot octets =
-    (preamble rest : List ℕ) (closed : Bool) (moment : ℤ) (addresses : List (List ℕ))
-    → octets ≡ preamble ++ rest → (closed ≡ false → rest ≡ []) → IsPreamble closed preamble moment addresses → ⊥
+    (preamble rest : List ℕ) (closed : Bool) (moment : ℤ) (hosts : Hosts)
+    → octets ≡ preamble ++ rest → (closed ≡ false → rest ≡ []) → IsPreamble closed preamble moment hosts → ⊥

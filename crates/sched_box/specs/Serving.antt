@@ -3,14 +3,14 @@ use Rattle.std.specs.Prelude.{◌≡◌, ◌⊎◌, ℕ, ℤ, ◌+◌, ◌≤◌
 use Rattle.std.specs.Io.KnownBytes.{Appends, Keeps, IsAtEnd}
 use Rattle.profile.specs.text.Objects.{after_object}
 use Rattle.profile.specs.rooms.Kept.{IsKeptCalendar, kept_certificate}
-use Rattle.profile.specs.streams.Streams.{BeginsWith, AreObjects, Answers, AllAnswers, AnswersStream, Hosted, new_box}
-use Rattle.room_books.specs.declared.room.Room.{Room}
+use Rattle.profile.specs.streams.Streams.{BeginsWith, AreObjects, Answers, AllAnswers, AnswersStream, Box, Hosted, Hosts, new_box}
 use Rattle.sched_box.specs.declared.fault.ServeFault.{ServeFault}
 use Rattle.sched_box.specs.declared.fault.ServeFault.TheVariants.{Read, Write, TooLong, Memory}
 use Rattle.sched_box.specs.declared.serving.ServeReport.{ServeReport}
 use Rattle.sched_box.specs.declared.fault.StreamFault.{StreamFault}
 use Rattle.sched_box.specs.declared.fault.StreamFault.TheVariants.{Refused, Serve}
-use Rattle.sched_box.specs.Answering.{AreHosted}
+use Rattle.sched_box.specs.Books.{AreKept}
+use Rattle.sched_box.specs.declared.books.Books.{Books}
 use Rattle.sched_box.specs.Objects.{IsPieceFault}
 use Rattle.sched_box.specs.Preamble.{Opens, OpensNot, StopsInPreamble}
 
@@ -43,7 +43,7 @@ abbrev pub HasRead : ℕ → Option (List ℕ) → Option (List ℕ) → Type 0
 HasRead n input left = IfSome input (λ octets. IfSome left (λ rest. length octets ≡ length rest + n))
 
 -- all objects were taken, and the answers to them written
-pub record ServesAll (moment : ℤ) (before after : List Hosted) (ends : Ends) (report : ServeReport) : Type 0 where
+pub record ServesAll (moment : ℤ) (before after : Box) (ends : Ends) (report : ServeReport) : Type 0 where
   pub objects : List (List ℕ)
   pub octets : List ℕ
   pub are : IfSome ends.input (λ stream. AreObjects stream objects)
@@ -54,9 +54,9 @@ pub record ServesAll (moment : ℤ) (before after : List Hosted) (ends : Ends) (
   pub written : Appends ends.output ends.written octets
 
 -- these objects were taken, and the answers to them written; of the next object a part was read
-pub record ServesSome (moment : ℤ) (before : List Hosted) (ends : Ends) : Type 0 where
+pub record ServesSome (moment : ℤ) (before : Box) (ends : Ends) : Type 0 where
   pub objects : List (List ℕ)
-  pub after : List Hosted
+  pub after : Box
   pub octets : List ℕ
   pub refused : ℕ
   pub gives : GivesPart ends.input ends.left objects
@@ -64,11 +64,11 @@ pub record ServesSome (moment : ℤ) (before : List Hosted) (ends : Ends) : Type
   pub written : Appends ends.output ends.written octets
 
 -- the answers to all objects but the last were written, and of the answers to that, of which there are some, a beginning
-pub record ServesCut (moment : ℤ) (before : List Hosted) (ends : Ends) : Type 0 where
+pub record ServesCut (moment : ℤ) (before : Box) (ends : Ends) : Type 0 where
   pub objects : List (List ℕ)
   pub last : List ℕ
-  pub mid : List Hosted
-  pub after : List Hosted
+  pub mid : Box
+  pub after : Box
   pub octets : List ℕ
   pub answer : List ℕ
   pub refused : ℕ
@@ -81,51 +81,51 @@ pub record ServesCut (moment : ℤ) (before : List Hosted) (ends : Ends) : Type 
   pub written : Appends ends.output ends.written (octets ++ take cut answer)
 
 -- how serving ends before the input does: the stream is too long exactly where 1,073,741,824 octets were read
-abbrev pub ServesUntil : ℤ → List Hosted → Ends → ServeFault → Type 0
+abbrev pub ServesUntil : ℤ → Box → Ends → ServeFault → Type 0
 ServesUntil moment before ends Read = ServesSome moment before ends × IsWithinBound ends.input ends.left
 ServesUntil moment before ends Memory = ServesSome moment before ends × IsWithinBound ends.input ends.left
 ServesUntil moment before ends TooLong = ServesSome moment before ends × HasRead 1_073_741_824 ends.input ends.left
 ServesUntil moment before ends Write = ServesCut moment before ends × IsWithinBound ends.input ends.left
 
 -- what comes of serving, from this box on
-abbrev pub Serves : ℤ → List Hosted → Ends → Result ServeReport ServeFault → Type 0
-Serves moment before ends (Ok report) = (after : List Hosted) × ServesAll moment before after ends report
+abbrev pub Serves : ℤ → Box → Ends → Result ServeReport ServeFault → Type 0
+Serves moment before ends (Ok report) = (after : Box) × ServesAll moment before after ends report
 Serves moment before ends (Err fault) = ServesUntil moment before ends fault
 
--- and the rooms are the box after it
-abbrev pub RoomsServe : ℤ → List Hosted → List Room → Ends → Result ServeReport ServeFault → Type 0
-RoomsServe moment before news ends (Ok report) = (after : List Hosted) × AreHosted news after × ServesAll moment before after ends report
-RoomsServe moment before news ends (Err fault) = ServesUntil moment before ends fault
+-- and the books are the box after it
+abbrev pub BooksServe : ℤ → Box → Books → Ends → Result ServeReport ServeFault → Type 0
+BooksServe moment before new ends (Ok report) = (after : Box) × AreKept new after × ServesAll moment before after ends report
+BooksServe moment before new ends (Err fault) = ServesUntil moment before ends fault
 
 -- what comes of a stream with its preamble; where it is refused, or the reader fails or memory is refused before it is read, nothing is
 -- written, and no octet past its empty line was taken
 abbrev pub ServesStream : Ends → Result ServeReport StreamFault → Type 0
 ServesStream ends (Ok report) =
-    (moment : ℤ) × (rooms : List (List ℕ)) × (rest : Option (List ℕ)) × (after : List Hosted) × Opens ends.input rest moment rooms
-    × ServesAll moment (new_box rooms) after (record ends { input = rest }) report
+    (moment : ℤ) × (hosts : Hosts) × (rest : Option (List ℕ)) × (after : Box) × Opens ends.input rest moment hosts
+    × ServesAll moment (new_box hosts) after (record ends { input = rest }) report
 ServesStream ends (Err (Refused refusal)) =
     IfSome ends.input OpensNot × StopsInPreamble ends.input ends.left × Keeps ends.output ends.written
 ServesStream ends (Err (Serve fault)) =
     (IsPieceFault fault × StopsInPreamble ends.input ends.left × Keeps ends.output ends.written)
-    ⊎ ((moment : ℤ) × (rooms : List (List ℕ)) × (rest : Option (List ℕ)) × Opens ends.input rest moment rooms
-    × ServesUntil moment (new_box rooms) (record ends { input = rest }) fault)
+    ⊎ ((moment : ℤ) × (hosts : Hosts) × (rest : Option (List ℕ)) × Opens ends.input rest moment hosts
+    × ServesUntil moment (new_box hosts) (record ends { input = rest }) fault)
 
 -- where the reader tells its octets, all that was written answers the stream that they are
 abbrev pub AnswersWhole : Ends → Type 0
 AnswersWhole ends = IfSome ends.input (λ stream. (octets : List ℕ) × AnswersStream stream octets × Appends ends.output ends.written octets)
 
 -- what a room keeps after all objects of a stream: the calendar and the certificate of its book
-pub record KeepsTexts (moment : ℤ) (rooms : List (List ℕ)) (input left : Option (List ℕ)) (room calendar certificate : List ℕ) : Type 0 where
+pub record KeepsTexts (moment : ℤ) (hosts : Hosts) (input left : Option (List ℕ)) (room calendar certificate : List ℕ) : Type 0 where
   pub objects : List (List ℕ)
-  pub after : List Hosted
+  pub after : Box
   pub octets : List ℕ
   pub refused : ℕ
   pub kept : Hosted
   pub are : IfSome input (λ stream. AreObjects stream objects)
   pub end : OnSome input (IsAtEnd left)
   pub bound : IsWithinBound input left
-  pub answers : AllAnswers moment 1 objects (new_box rooms) after octets refused
-  pub has : Contains after kept
+  pub answers : AllAnswers moment 1 objects (new_box hosts) after octets refused
+  pub has : Contains after.rooms kept
   pub at : kept.address ≡ room
   pub calendar_is : IsKeptCalendar room kept.book calendar
   pub certificate_is : certificate ≡ kept_certificate kept.book

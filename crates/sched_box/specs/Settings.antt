@@ -1,25 +1,52 @@
 -- What the lines of a preamble or a configuration have set.
-use Rattle.std.specs.Prelude.{◌≡◌, ◌≢◌, ◌⊎◌, ◌≤◌, ◌<◌, ℕ, Bool, true, List, [], ◌∷◌, ◌++◌, length, map, Contains, None, Some, AllPairs, slice_index}
+use Rattle.std.specs.Prelude.{◌≡◌, ◌≢◌, ◌⊎◌, ◌≤◌, ◌<◌, ◌+◌, ℕ, Bool, true, List, [], ◌∷◌, ◌++◌, length, map, Contains, None, Some, AllPairs, slice_index}
 use Rattle.std.specs.Option.{option_to_list}
 use Rattle.std.specs.Str.{is_utf8}
 use Rattle.ical_values.specs.Octets.{address_octets}
-use Rattle.profile.specs.streams.Streams.{Setting, Now, Room, IsSetting, SaysSettings, moments, rooms}
+use Rattle.ical_values.specs.declared.address.Address.{Address}
+use Rattle.profile.specs.streams.Streams.{Setting, Now, Room, Organiser, IsSetting, SaysSettings, Hosts, AreHosts, moments, rooms, organisers, most_rooms, most_organisers}
 use Rattle.sched_box.specs.declared.settings.Settings.{Settings}
 
--- the addresses of the rooms so far
+-- the addresses of the rooms so far, and of the organisers
 abbrev pub rooms_of : Settings → List (List ℕ)
 rooms_of s = map address_octets s.rooms.items
+
+abbrev pub organisers_of : Settings → List (List ℕ)
+organisers_of s = map address_octets s.organisers.items
+
+-- ---- one host more
+
+-- the address can stand behind these hosts, of which there may be so many
+pub record CanStand (most : ℕ) (hosts : List (List ℕ)) (address : List ℕ) : Type 0 where
+  pub fresh : Contains hosts address → ⊥
+  pub few : length hosts < most
+
+-- it was added to them
+pub record AddsHost (most : ℕ) (old new : List Address) (address : List ℕ) : Type 0 where
+  pub can : CanStand most (map address_octets old) address
+  pub more : map address_octets new ≡ map address_octets old ++ address ∷ []
+
+-- there may be so many hosts, and no two are one
+pub record IsFit (most : ℕ) (hosts : List (List ℕ)) : Type 0 where
+  pub few : length hosts ≤ most
+  pub differ : AllPairs ◌≢◌ hosts
+
+-- ---- one line more
 
 -- the setting doesn't stand yet
 abbrev pub CanAdd : Settings → Setting → Type 0
 CanAdd s (Now t) = s.moment ≡ None
-CanAdd s (Room address) = Contains (rooms_of s) address → ⊥
+CanAdd s (Room address) = CanStand most_rooms (rooms_of s) address
+CanAdd s (Organiser address) = CanStand most_organisers (organisers_of s) address
 
 -- new is old with the setting, which didn't stand yet
 abbrev pub Adds : Settings → Settings → Setting → Type 0
-Adds old new (Now t) = (old.moment ≡ None) × (new.moment ≡ Some t) × (rooms_of new ≡ rooms_of old)
+Adds old new (Now t) =
+    (old.moment ≡ None) × (new.moment ≡ Some t) × (new.rooms ≡ old.rooms) × (new.organisers ≡ old.organisers)
 Adds old new (Room address) =
-    (Contains (rooms_of old) address → ⊥) × (new.moment ≡ old.moment) × (rooms_of new ≡ rooms_of old ++ address ∷ [])
+    AddsHost most_rooms old.rooms.items new.rooms.items address × (new.moment ≡ old.moment) × (new.organisers ≡ old.organisers)
+Adds old new (Organiser address) =
+    AddsHost most_organisers old.organisers.items new.organisers.items address × (new.moment ≡ old.moment) × (new.rooms ≡ old.rooms)
 
 -- new is old with what the line says; it says nothing else
 pub record AddsLine (old new : Settings) (line : List ℕ) : Type 0 where
@@ -39,11 +66,13 @@ pub record Breaks (octets line after : List ℕ) : Type 0 where
   pub first : IsUnbroken whole
   pub bare : (whole ≡ line ++ 13 ∷ []) ⊎ ((whole ≡ line) × ((front : List ℕ) → whole ≢ front ++ 13 ∷ []))
 
--- these are the settings, the moment at most once and no room twice
+-- these are the settings, the moment at most once and no host twice
 pub record Holds (s : Settings) (list : List Setting) : Type 0 where
   pub rooms_are : rooms list ≡ rooms_of s
+  pub organisers_are : organisers list ≡ organisers_of s
   pub moments_are : moments list ≡ option_to_list s.moment
-  pub differ : AllPairs ◌≢◌ (rooms_of s)
+  pub rooms_fit : IsFit most_rooms (rooms_of s)
+  pub organisers_fit : IsFit most_organisers (organisers_of s)
 
 -- the octets say them, and nothing else
 pub record Reads (s : Settings) (octets : List ℕ) : Type 0 where
@@ -53,21 +82,25 @@ pub record Reads (s : Settings) (octets : List ℕ) : Type 0 where
   pub only : (close : Bool) (other : List Setting) → SaysSettings close octets other → other ≡ list
   pub holds : Holds s list
 
--- the octets say no settings with the moment at most once and no room twice
-abbrev pub SaysNone : List ℕ → Type 0
-SaysNone octets =
-    (closed : Bool) (list : List Setting) → SaysSettings closed octets list → AllPairs ◌≢◌ (rooms list) → length (moments list) ≤ 1 → ⊥
+-- the settings can stand together: the moment at most once, and hosts that fit
+pub record CanAll (list : List Setting) : Type 0 where
+  pub rooms_fit : IsFit most_rooms (rooms list)
+  pub organisers_fit : IsFit most_organisers (organisers list)
+  pub once : length (moments list) ≤ 1
 
--- the octets are short UTF-8 that says them, and one to 64 rooms stand
+-- the octets say no such settings
+abbrev pub SaysNone : List ℕ → Type 0
+SaysNone octets = (closed : Bool) (list : List Setting) → SaysSettings closed octets list → CanAll list → ⊥
+
+-- the octets are short UTF-8 that says them, and there is a host
 pub record ReadsSettings (s : Settings) (octets : List ℕ) : Type 0 where
   pub reads : Reads s octets
   pub text : is_utf8 octets ≡ true
   pub short : length octets ≤ 65_536
-  pub some : 0 < length (rooms_of s)
-  pub few : length (rooms_of s) ≤ 64
+  pub some : 0 < length (rooms_of s) + length (organisers_of s)
 
 -- the octets say no such settings
 abbrev pub ReadsNone : List ℕ → Type 0
 ReadsNone octets =
-    (closed : Bool) (list : List Setting) → SaysSettings closed octets list → is_utf8 octets ≡ true → length octets ≤ 65_536
-    → 0 < length (rooms list) → length (rooms list) ≤ 64 → AllPairs ◌≢◌ (rooms list) → length (moments list) ≤ 1 → ⊥
+    (closed : Bool) (list : List Setting) (hosts : Hosts) → SaysSettings closed octets list → is_utf8 octets ≡ true → length octets ≤ 65_536
+    → AreHosts list hosts → length (moments list) ≤ 1 → ⊥

@@ -1,4 +1,5 @@
-//! Which rooms of a box a message may be for: they are looked up by the addresses of its attendees.
+//! The addresses of a box's hosts, by which they are found: the rooms that a message may be for, and the organiser that
+//! an object names.
 
 ghost use Rattle.std.specs.Prelude.{◌≢◌, map, AllPairs};
 ghost use Rattle.ical_values.specs.Octets.{address_octets};
@@ -6,10 +7,10 @@ ghost use Rattle.ical_values.specs.Octets.{address_octets};
 use cal_events::Attendee;
 use ical_values::Address;
 use indexmap::IndexSet;
-use itip_messages::{Message, Method};
+use itip_messages::{Method, RoomMessage};
 use std::alloc::{AllocError, Global};
 
-/// The addresses of the rooms, in their order.
+/// The addresses of the hosts of one kind, rooms or organisers, in their order.
 #[derive(Drop)]
 pub(crate) struct Directory {
     addresses: IndexSet<Address>,
@@ -17,25 +18,40 @@ pub(crate) struct Directory {
 }
 
 impl Directory {
-    ghost use Rattle.std.specs.Prelude.{◌≡◌, ◌≢◌, ◌||◌, Bool, List, ℕ, map, length, AllPairs, IfOk};
+    ghost use Rattle.std.specs.Prelude.{◌≡◌, ◌≢◌, ◌<◌, ◌||◌, Bool, false, List, ℕ, [], map, get_or, length, AllPairs, IfOk, IfSome, IfNone};
+    ghost use Rattle.std.specs.List.{list_any};
+    ghost use Rattle.std.specs.Str.{bytes_eq};
     ghost use Rattle.ical_values.specs.Octets.{address_octets};
     ghost use Rattle.sched_box.specs.Asked.{LeavesOut, asks, directory_addresses, names};
 
-    /// The directory of these rooms, of which no two have one address.
-    pub(crate) fn of(alloc: Global, rooms: &[Address]) -> Result<Directory, AllocError>
-        requires { AllPairs ◌≢◌ (map address_octets rooms.now) }
-        ensures { IfOk result (λ directory. directory_addresses directory ≡ map address_octets rooms.now) }
+    /// The directory of these hosts, of which no two have one address.
+    pub(crate) fn of(alloc: Global, hosts: &[Address]) -> Result<Directory, AllocError>
+        requires { AllPairs ◌≢◌ (map address_octets hosts.now) }
+        ensures { IfOk result (λ directory. directory_addresses directory ≡ map address_octets hosts.now) }
     {
         let mut addresses = IndexSet::new(alloc);
-        for room in rooms {
-            addresses.insert(room.clone()?)?;
+        for host in hosts {
+            addresses.insert(host.clone()?)?;
         }
         Ok(Directory { addresses })
     }
 
+    /// The place of the host of this address, by one look-up.
+    pub(crate) fn place_of(&self, address: &Address) -> Option<usize>
+        ensures within { IfSome result (λ place. place < length (directory_addresses self.now)) }
+        ensures at { IfSome result (λ place. get_or (directory_addresses self.now) place [] ≡ address_octets address.now) }
+        ensures none { IfNone result (list_any (bytes_eq (address_octets address.now)) (directory_addresses self.now) ≡ false) }
+    {
+        self.addresses.get_index_of(address)
+    }
+
     /// For each room, whether a message may be for it: one of its VEVENTs names it, or is one of a CANCEL and names nobody.
     /// In time that grows with the rooms and the attendees.
-    pub(crate) fn asked_by(&self, alloc: Global, message: &Message) -> Result<Vec<bool>, AllocError>
+    pub(crate) fn asked_by(
+        &self,
+        alloc: Global,
+        message: &RoomMessage,
+    ) -> Result<Vec<bool>, AllocError>
         ensures long { IfOk result (λ asked. length asked.items ≡ length (directory_addresses self.now)) }
         ensures out { IfOk result (λ asked. LeavesOut (asks message.now) (directory_addresses self.now) asked.items) }
     {

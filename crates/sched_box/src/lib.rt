@@ -1,11 +1,13 @@
-//! A box of rooms: streams of objects, and the answers to them.
+//! A box of rooms and organisers: streams of objects, and the answers to them.
 #![tactic(auto)]
 
+mod books;
 pub mod config;
 mod directory;
 mod fault;
 pub mod input;
 pub mod objects;
+mod organisers;
 pub mod output;
 pub mod preamble;
 mod rooms;

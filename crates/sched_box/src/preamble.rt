@@ -2,7 +2,7 @@
 
 ghost use Rattle.std.specs.Prelude.{◌≡◌, ◌≤◌, ◌<◌, ◌+◌, ◌++◌, ℕ, List, length, nat_lt, ◌&&◌, not, take, true, false, IfOk, IfErr, IfSome, OnOk, OnErr};
 ghost use Rattle.std.specs.Io.KnownBytes.{Keeps};
-ghost use Rattle.sched_box.specs.Config.{config_rooms};
+ghost use Rattle.sched_box.specs.Config.{config_hosts};
 ghost use Rattle.sched_box.specs.Faults.{IfRefusedStream, IsReadFault, KeepsButRead, RefusesPreamble, StopsFor, StreamKeepsButRead, StreamStopsFor};
 ghost use Rattle.sched_box.specs.Objects.{IsPieceFault};
 ghost use Rattle.sched_box.specs.Preamble.{IsLong, Leads, Opens, OpensNot, StopsInPreamble, TakesPiece, TakesPreamble, is_closed, next_place};
@@ -22,7 +22,7 @@ pub fn read_preamble<R: Input>(
     alloc: Global,
     reader: &mut R,
 ) -> Result<(Config, Stamp), StreamFault>
-    ensures opens { IfOk result (λ read. Opens (R.remaining reader.old) (R.remaining reader.new) read.1 (config_rooms read.0)) }
+    ensures opens { IfOk result (λ read. Opens (R.remaining reader.old) (R.remaining reader.new) read.1 (config_hosts read.0)) }
     ensures refuses { IfErr result RefusesPreamble }
     ensures faults { IfErr result IsReadFault }
     ensures cause { IfErr result (StreamStopsFor (R.has_failed reader.new) false) }

@@ -1,33 +1,25 @@
-//! The rooms of a box, in one value: it takes one object after another, and answers each.
+//! The rooms of a box: a message goes to each that it may be for, in turn.
 
-ghost use Rattle.std.specs.Prelude.{◌≡◌, ◌≤◌, ◌++◌, ◌<◌, ℕ, List, length, Contains, option_map, IfOk, IfErr, IfSome, IsNone, OnOk};
-ghost use Rattle.ical_lines.specs.Fault.{RefusesBy};
+ghost use Rattle.std.specs.Prelude.{◌≡◌, ◌++◌, ℕ, List, length, Contains, option_map, IfOk, IfSome, IsNone, OnOk};
 ghost use Rattle.ical_values.specs.Octets.{address_octets};
-ghost use Rattle.itip_messages.specs.Messages.{IsSpelled};
-ghost use Rattle.profile.specs.streams.Streams.{ObjectFault, new_box, refused_line};
-ghost use Rattle.room_books.specs.Standing.{Stands};
+ghost use Rattle.profile.specs.streams.Streams.{new_box};
 ghost use Rattle.profile.specs.rooms.Rooms.{empty_book};
+ghost use Rattle.room_books.specs.Standing.{Stands};
 ghost use Rattle.std.specs.Str.{bytes_eq};
-ghost use Rattle.sched_box.specs.Answering.{AnswersKept, AreHosted, RoomTakes, RoomsTake, room_addresses, sent_octets};
+ghost use Rattle.sched_box.specs.Answering.{AreHosted, RoomTakes, RoomsTake, room_addresses, sent_octets};
 ghost use Rattle.sched_box.specs.Asked.{LeavesOut, asks, directory_addresses};
-ghost use Rattle.sched_box.specs.Config.{config_rooms};
-ghost use Rattle.sched_box.specs.Objects.{kept_of};
+ghost use Rattle.sched_box.specs.Config.{config_hosts, config_rooms};
 
 use crate::config::Config;
 use crate::directory::Directory;
-use crate::fault::ServeFault;
-use crate::objects::KEPT;
-use ical_lines::{Fault, Refusal};
 use ical_values::{Address, Stamp};
-use itip_messages::Message;
-use itoa::Buffer;
+use itip_messages::RoomMessage;
 use room_books::Room;
 use std::alloc::{AllocError, Global};
 
 /// The rooms that a box hosts, each with all that it took.
 #[derive(Drop)]
 pub(crate) struct Rooms {
-    alloc: Global,
     rooms: Vec<Room>,
     directory: Directory,
     ghost listed: { directory_addresses directory ≡ room_addresses rooms.items },
@@ -37,15 +29,11 @@ impl Rooms {
     /// An empty room for each address, in the order of the configuration.
     pub(crate) fn new(alloc: Global, config: &Config) -> Result<Rooms, AllocError>
         ensures addresses { IfOk result (λ rooms. room_addresses rooms.rooms.items ≡ config_rooms config.now) }
-        ensures hosted { IfOk result (λ rooms. AreHosted rooms.rooms.items (new_box (config_rooms config.now))) }
+        ensures hosted { IfOk result (λ rooms. AreHosted rooms.rooms.items (new_box (config_hosts config.now)).rooms) }
     {
         let rooms = rooms_of(alloc, config)?;
         let directory = Directory::of(alloc, config.rooms())?;
-        Ok(Rooms {
-            alloc,
-            rooms,
-            directory,
-        })
+        Ok(Rooms { rooms, directory })
     }
 
     /// The room of an address, if the box hosts it.
@@ -57,39 +45,27 @@ impl Rooms {
         room_at(self.rooms.as_slice(), address)
     }
 
-    /// Takes one object, its number in the stream from 1, and appends the answers to it; how many refusals it is: 0 or 1.
+    /// Hands a message to each room that it may be for, in turn, and appends what they answer.
     pub(crate) fn take(
         &mut self,
-        octets: &[u8],
-        number: u64,
+        alloc: Global,
+        message: &RoomMessage,
         now: Stamp,
         answers: &mut Vec<u8>,
-    ) -> Result<u64, ServeFault>
-        ensures answers { IfOk result (λ refused. (more : List ℕ) × (answers.new.items ≡ answers.old.items ++ more)
-            × AnswersKept now number octets.now self.old.rooms.items self.new.rooms.items more refused) }
-        ensures count { IfOk result (λ refused. refused ≤ 1) }
-        ensures addresses { IfOk result (λ _. room_addresses self.new.rooms.items ≡ room_addresses self.old.rooms.items) }
-        ensures memory { IfErr result (λ fault. fault ≡ ServeFault.Memory) }
+    ) -> Result<(), AllocError>
+        ensures takes { OnOk result ((more : List ℕ) × (answers.new.items ≡ answers.old.items ++ more)
+            × RoomsTake now message.now self.old.rooms.items self.new.rooms.items more) }
+        ensures addresses { room_addresses self.new.rooms.items ≡ room_addresses self.old.rooms.items }
     {
-        match read_kept(self.alloc, octets) {
-            Ok(message) => {
-                let asked = self.directory.asked_by(self.alloc, &message)?;
-                take_all(&mut self.rooms, &asked, &message, now, answers)?;
-                Ok(0)
-            }
-            Err(Fault::Refused(refusal)) => {
-                write_refusal(number, refusal, answers)?;
-                Ok(1)
-            }
-            Err(Fault::Memory) => Err(ServeFault::Memory),
-        }
+        let asked = self.directory.asked_by(alloc, message)?;
+        take_all(&mut self.rooms, &asked, message, now, answers)
     }
 }
 
 /// An empty room for each address, in the order of the configuration.
 fn rooms_of(alloc: Global, config: &Config) -> Result<Vec<Room>, AllocError>
     ensures addresses { IfOk result (λ rooms. room_addresses rooms.items ≡ config_rooms config.now) }
-    ensures hosted { IfOk result (λ rooms. AreHosted rooms.items (new_box (config_rooms config.now))) }
+    ensures hosted { IfOk result (λ rooms. AreHosted rooms.items (new_box (config_hosts config.now)).rooms) }
 {
     let mut rooms = Vec::new(alloc);
     let addresses = config.rooms();
@@ -129,23 +105,11 @@ fn is_at(room: &Room, address: &Address) -> bool
     *room.address() == *address
 }
 
-/// The message that an object is, of which at most 1,048,577 octets were kept.
-/// Refused: 6 where so many were, and as by `Message::read`.
-fn read_kept(alloc: Global, octets: &[u8]) -> Result<Message, Fault>
-    ensures spells { IfOk result (λ message. (object : List ℕ) → octets.now ≡ kept_of object → IsSpelled object message) }
-    ensures stands { IfErr result (λ fault. (object : List ℕ) → octets.now ≡ kept_of object → RefusesBy (λ n. ObjectFault n object) fault) }
-{
-    if octets.len() >= KEPT {
-        return Err(Fault::Refused(Refusal::TOO_LONG));
-    }
-    Message::read(alloc, octets)
-}
-
 /// Hands a message to each room that it may be for, in turn, and appends what it answers.
 fn take_all(
     rooms: &mut Vec<Room>,
     asked: &[bool],
-    message: &Message,
+    message: &RoomMessage,
     now: Stamp,
     answers: &mut Vec<u8>,
 ) -> Result<(), AllocError>
@@ -166,7 +130,7 @@ fn take_all(
 /// Hands a message to a room, and appends its reply and then its refresh.
 fn take_one(
     room: &mut Room,
-    message: &Message,
+    message: &RoomMessage,
     now: Stamp,
     answers: &mut Vec<u8>,
 ) -> Result<(), AllocError>
@@ -187,17 +151,4 @@ fn append(object: &Option<Vec<u8>>, answers: &mut Vec<u8>) -> Result<(), AllocEr
         Some(octets) => answers.extend_from_slice(octets.as_slice()),
         None => Ok(()),
     }
-}
-
-/// The line that stands for a refused object: `REFUSED;OBJECT=k:n`.
-fn write_refusal(number: u64, refusal: Refusal, answers: &mut Vec<u8>) -> Result<(), AllocError>
-    ensures { OnOk result (answers.new.items ≡ answers.old.items ++ refused_line number refusal.number) }
-{
-    let mut digits = Buffer::new();
-    answers.extend_from_slice(b"REFUSED;OBJECT=")?;
-    answers.extend_from_slice(digits.format(number).as_bytes())?;
-    answers.extend_from_slice(b":")?;
-    answers.extend_from_slice(digits.format(refusal.number).as_bytes())?;
-    answers.extend_from_slice(b"\r\n")?;
-    Ok(())
 }

@@ -1,24 +1,24 @@
-//! Serving: each object goes to the rooms that it is addressed to, and what they answer is written.
+//! Serving: each object goes to the rooms that it is addressed to, or to the organiser that it names, and what is answered is written.
 
 ghost use Rattle.std.specs.Prelude.{◌≡◌, ◌≤◌, ℕ, List, Option, Bool, Contains, false, IfErr, IfOk, OnOk};
 ghost use Rattle.std.specs.Io.KnownBytes.{Appends, Keeps};
 ghost use Rattle.std.specs.Result.{IsErrAnd};
 ghost use Rattle.ical_values.specs.Octets.{address_octets};
 ghost use Rattle.profile.specs.checker.Calendars.{CertificateHolds};
-ghost use Rattle.profile.specs.streams.Streams.{Hosted, new_box};
-ghost use Rattle.sched_box.specs.Answering.{AreHosted, room_addresses};
-ghost use Rattle.sched_box.specs.Config.{config_rooms};
+ghost use Rattle.profile.specs.streams.Streams.{Box, new_box};
+ghost use Rattle.sched_box.specs.Books.{AreKept, hosted_rooms};
+ghost use Rattle.sched_box.specs.Config.{config_hosts, config_rooms};
 ghost use Rattle.sched_box.specs.Faults.{IfRefusedStream, IsRefusal, KeepsButRead, KeepsButWrite, RefusesPreamble, StopsFor, StreamKeepsButRead, StreamKeepsButWrite, StreamStopsFor};
 ghost use Rattle.sched_box.specs.Output.{StopsSending};
-ghost use Rattle.sched_box.specs.Serving.{AnswersWhole, KeepsTexts, RoomsServe, Serves, ServesStream, StopsKeeping};
+ghost use Rattle.sched_box.specs.Serving.{AnswersWhole, BooksServe, KeepsTexts, Serves, ServesStream, StopsKeeping};
 
+use crate::books::Books;
 use crate::config::Config;
 use crate::fault::{ServeFault, StreamFault};
 use crate::input::Input;
 use crate::objects::Objects;
 use crate::output::{Nowhere, Output, WriteFault};
 use crate::preamble::read_preamble;
-use crate::rooms::Rooms;
 use ical_lines::Refusal;
 use ical_values::{Address, Stamp};
 use room_books::served_texts_pass;
@@ -52,7 +52,7 @@ pub fn serve_stream<R: Input, W: Output>(
     Ok(report)
 }
 
-/// Serves the objects of a stream from empty books, and writes the answers to each object after all rooms
+/// Serves the objects of a stream from empty books, and writes the answers to each object after all that it goes to
 /// have taken it. Read comes only where the reader has failed, Write only where the writer has: then a beginning of the
 /// answers was written; where memory is refused, the answers to the earlier objects.
 pub fn serve<R: Input, W: Output>(
@@ -68,11 +68,11 @@ pub fn serve<R: Input, W: Output>(
     ensures told { IfErr result (KeepsButRead (R.has_failed reader.old) (R.has_failed reader.new)) }
     ensures sent { OnOk result (W.has_failed writer.new ≡ W.has_failed writer.old) }
     ensures unsent { IfErr result (KeepsButWrite (W.has_failed writer.old) (W.has_failed writer.new)) }
-    ensures serves { Serves now (new_box (config_rooms config.now))
+    ensures serves { Serves now (new_box (config_hosts config.now))
         (record { input = R.remaining reader.old; left = R.remaining reader.new; output = W.contents writer.old; written = W.contents writer.new }) result }
 {
-    let mut rooms = Rooms::new(alloc, config)?;
-    serve_rooms(alloc, &mut rooms, reader, writer, now)
+    let mut books = Books::new(alloc, config)?;
+    serve_objects(alloc, &mut books, reader, writer, now)
 }
 
 /// What a room keeps after the same objects: its calendar and its certificate, for which the checker says yes.
@@ -84,7 +84,7 @@ pub fn keep<R: Input>(
     now: Stamp,
     room: &Address,
 ) -> Result<(Vec<u8>, Vec<u8>), StreamFault>
-    ensures keeps { IfOk result (λ kept. KeepsTexts now (config_rooms config.now) (R.remaining reader.old) (R.remaining reader.new) (address_octets room.now) kept.0.items kept.1.items) }
+    ensures keeps { IfOk result (λ kept. KeepsTexts now (config_hosts config.now) (R.remaining reader.old) (R.remaining reader.new) (address_octets room.now) kept.0.items kept.1.items) }
     ensures passes { IfOk result (λ kept. CertificateHolds (address_octets room.now) kept.0.items kept.1.items) }
     ensures refuses { IfErr result RefusesPreamble }
     ensures cause { IfErr result (StreamStopsFor (R.has_failed reader.new) false) }
@@ -109,7 +109,7 @@ fn keep_hosted<R: Input>(
     now: Stamp,
     room: &Address,
 ) -> Result<(Vec<u8>, Vec<u8>), StreamFault>
-    ensures keeps { IfOk result (λ kept. KeepsTexts now (config_rooms config.now) (R.remaining reader.old) (R.remaining reader.new) (address_octets room.now) kept.0.items kept.1.items) }
+    ensures keeps { IfOk result (λ kept. KeepsTexts now (config_hosts config.now) (R.remaining reader.old) (R.remaining reader.new) (address_octets room.now) kept.0.items kept.1.items) }
     ensures passes { IfOk result (λ kept. CertificateHolds (address_octets room.now) kept.0.items kept.1.items) }
     ensures refuses { IfErr result RefusesPreamble }
     ensures cause { IfErr result (StreamStopsFor (R.has_failed reader.new) false) }
@@ -118,10 +118,10 @@ fn keep_hosted<R: Input>(
     ensures none { IfErr result (IfRefusedStream (Contains (config_rooms config.now) (address_octets room.now) → ⊥)) }
     ensures bound { IfErr result (StopsKeeping (R.remaining reader.old) (R.remaining reader.new)) }
 {
-    let mut rooms = Rooms::new(alloc, config)?;
+    let mut books = Books::new(alloc, config)?;
     let mut nowhere = Nowhere;
-    serve_rooms(alloc, &mut rooms, reader, &mut nowhere, now)?;
-    let Some(kept) = rooms.at(room) else {
+    serve_objects(alloc, &mut books, reader, &mut nowhere, now)?;
+    let Some(kept) = books.room_at(room) else {
         return Err(not_hosted());
     };
     let calendar = kept.calendar_text()?;
@@ -141,22 +141,22 @@ fn not_hosted() -> StreamFault
     StreamFault::Refused(Refusal::BAD_PREAMBLE)
 }
 
-/// Serves the objects from whatever the rooms stand for.
-fn serve_rooms<R: Input, W: Output>(
+/// Serves the objects from whatever the books stand for.
+fn serve_objects<R: Input, W: Output>(
     alloc: Global,
-    rooms: &mut Rooms,
+    books: &mut Books,
     reader: &mut R,
     writer: &mut W,
     now: Stamp,
 ) -> Result<ServeReport, ServeFault>
     ensures counts { IfOk result (λ report. report.refused ≤ report.objects) }
-    ensures addresses { OnOk result (room_addresses rooms.new.rooms.items ≡ room_addresses rooms.old.rooms.items) }
+    ensures addresses { OnOk result (hosted_rooms books.new ≡ hosted_rooms books.old) }
     ensures cause { IfErr result (StopsFor (R.has_failed reader.new) (W.has_failed writer.new)) }
     ensures mark { OnOk result (R.has_failed reader.new ≡ R.has_failed reader.old) }
     ensures told { IfErr result (KeepsButRead (R.has_failed reader.old) (R.has_failed reader.new)) }
     ensures sent { OnOk result (W.has_failed writer.new ≡ W.has_failed writer.old) }
     ensures unsent { IfErr result (KeepsButWrite (W.has_failed writer.old) (W.has_failed writer.new)) }
-    ensures serves { (before : List Hosted) → AreHosted rooms.old.rooms.items before → RoomsServe now before rooms.new.rooms.items
+    ensures serves { (before : Box) → AreKept books.old before → BooksServe now before books.new
         (record { input = R.remaining reader.old; left = R.remaining reader.new; output = W.contents writer.old; written = W.contents writer.new }) result }
 {
     let mut report = ServeReport {
@@ -168,7 +168,7 @@ fn serve_rooms<R: Input, W: Output>(
     while objects.next_object(reader)? {
         let number = report.objects + 1;
         answers.clear();
-        let refused = rooms.take(objects.octets(), number, now, &mut answers)?;
+        let refused = books.take(objects.octets(), number, now, &mut answers)?;
         send(writer, answers.as_slice())?;
         report = ServeReport {
             objects: number,

@@ -4,23 +4,31 @@ ghost use Rattle.std.specs.Prelude.{◌≡◌, ◌↔◌, ◌<◌, ℤ, length, 
 ghost use Rattle.std.specs.List.{list_any};
 ghost use Rattle.std.specs.Str.{bytes_eq};
 ghost use Rattle.profile.specs.faults.Faults.{is_preamble_fault};
-ghost use Rattle.profile.specs.streams.Streams.{Setting, Now, Room, IsSetting};
+ghost use Rattle.profile.specs.streams.Streams.{Setting, Now, Room, Organiser, IsSetting, most_organisers, most_rooms};
 ghost use Rattle.profile.specs.text.Values.{SpellsStamp, IsAddress, lower_case};
 ghost use Rattle.ical_lines.specs.Fault.{RefusesOnly};
 ghost use Rattle.ical_values.specs.Refused.{IfRefused};
 ghost use Rattle.ical_values.specs.Octets.{address_octets};
-ghost use Rattle.sched_box.specs.Settings.{Adds, AddsLine, Breaks, CanAdd, IsUnbroken, Reads, SaysNone};
+ghost use Rattle.sched_box.specs.Settings.{Adds, AddsHost, AddsLine, Breaks, CanAdd, CanStand, IsUnbroken, Reads, SaysNone};
 
 use ical_lines::{Fault, Refusal};
 use ical_values::stamp::one_stamp;
 use ical_values::{Address, Stamp};
 use std::alloc::Global;
 
+/// How many rooms a box may host; this profile's choice.
+const MOST_ROOMS: usize = 64;
+
+/// How many organisers a box may host; this profile's choice.
+const MOST_ORGANISERS: usize = 256;
+
 /// What the lines so far have set.
 #[derive(Drop)]
 pub(crate) struct Settings {
     /// The rooms, in the order of the lines.
     pub(crate) rooms: Vec<Address>,
+    /// The organisers, in the order of the lines.
+    pub(crate) organisers: Vec<Address>,
     /// The moment of every decision.
     pub(crate) moment: Option<Stamp>,
 }
@@ -35,6 +43,7 @@ impl Settings {
     {
         let mut settings = Settings {
             rooms: Vec::new(alloc),
+            organisers: Vec::new(alloc),
             moment: None,
         };
         let mut rest = text;
@@ -55,7 +64,7 @@ impl Settings {
         Ok(settings)
     }
 
-    /// Adds what a line says: the moment, or a room.
+    /// Adds what a line says: the moment, a room or an organiser.
     fn add_line(&mut self, alloc: Global, line: &str) -> Result<(), Fault>
         ensures added { OnOk result (AddsLine self.old self.new line.now) }
         ensures refuses { IfErr result (RefusesOnly is_preamble_fault) }
@@ -66,7 +75,10 @@ impl Settings {
             return self.set_moment(stamp);
         }
         if let Some(address) = line.strip_prefix("room ") {
-            return self.add_room(alloc, address);
+            return add_host(alloc, &mut self.rooms, MOST_ROOMS, address);
+        }
+        if let Some(address) = line.strip_prefix("organiser ") {
+            return add_host(alloc, &mut self.organisers, MOST_ORGANISERS, address);
         }
         Err(refused())
     }
@@ -86,38 +98,42 @@ impl Settings {
         self.moment = Some(moment);
         Ok(())
     }
+}
 
-    /// Adds a room; one that is there is refused.
-    fn add_room(&mut self, alloc: Global, text: &str) -> Result<(), Fault>
-        ensures address { OnOk result (IsAddress text.now) }
-        ensures added { OnOk result (Adds self.old self.new (Room (lower_case text.now))) }
-        ensures refuses { IfErr result (RefusesOnly is_preamble_fault) }
-        ensures none { IfErr result (IfRefused (IsAddress text.now → CanAdd self.old (Room (lower_case text.now)) → ⊥)) }
-    {
-        let room = match Address::read(alloc, text) {
-            Ok(room) => room,
-            Err(Fault::Memory) => return Err(Fault::Memory),
-            Err(Fault::Refused(_)) => return Err(refused()),
-        };
-        if contains(self.rooms.as_slice(), &room) {
-            return Err(refused());
-        }
-        self.rooms.push(room)?;
-        Ok(())
+/// Adds a host to those of its kind, of which there may be so many; one that is there is refused.
+/// At most so many are looked at.
+fn add_host(alloc: Global, hosts: &mut Vec<Address>, most: usize, text: &str) -> Result<(), Fault>
+    ensures address { OnOk result (IsAddress text.now) }
+    ensures added { OnOk result (AddsHost most hosts.old.items hosts.new.items (lower_case text.now)) }
+    ensures refuses { IfErr result (RefusesOnly is_preamble_fault) }
+    ensures none { IfErr result (IfRefused (IsAddress text.now → CanStand most (map address_octets hosts.old.items) (lower_case text.now) → ⊥)) }
+{
+    if hosts.len() >= most {
+        return Err(refused());
     }
+    let host = match Address::read(alloc, text) {
+        Ok(host) => host,
+        Err(Fault::Memory) => return Err(Fault::Memory),
+        Err(Fault::Refused(_)) => return Err(refused()),
+    };
+    if contains(hosts.as_slice(), &host) {
+        return Err(refused());
+    }
+    hosts.push(host)?;
+    Ok(())
 }
 
-/// Whether one of the rooms has this address.
-pub(crate) fn contains(rooms: &[Address], room: &Address) -> bool
-    ensures { IsTrue result ↔ Contains (map address_octets rooms.now) (address_octets room.now) }
+/// Whether one of the hosts has this address.
+pub(crate) fn contains(hosts: &[Address], address: &Address) -> bool
+    ensures { IsTrue result ↔ Contains (map address_octets hosts.now) (address_octets address.now) }
 {
-    has_address(rooms, room)
+    has_address(hosts, address)
 }
 
-fn has_address(rooms: &[Address], room: &Address) -> bool
-    ensures { result ≡ list_any (λ hosted. bytes_eq (address_octets hosted) (address_octets room.now)) rooms.now }
+fn has_address(hosts: &[Address], address: &Address) -> bool
+    ensures { result ≡ list_any (λ hosted. bytes_eq (address_octets hosted) (address_octets address.now)) hosts.now }
 {
-    rooms.iter().any(|hosted| *hosted == *room)
+    hosts.iter().any(|hosted| *hosted == *address)
 }
 
 /// What every fault of a preamble or a configuration is: 90.

@@ -1,6 +1,7 @@
 -- Why nothing is kept.
 use Rattle.std.proofs.Common.{◌≡◌, ◌⊎◌, subst, take, ℕ, ℤ, List, Contains, Option, IfSome, Result, Ok, Err, IfOk, IfErr, inl, inr}
 use Rattle.profile.specs.checker.Calendars.{CertificateHolds}
+use Rattle.profile.specs.streams.Streams.{Hosts}
 use Rattle.sched_box.specs.Faults.{IfRefusedStream, IsReadFault, RefusesPreamble}
 use Rattle.sched_box.specs.Preamble.{Opens, OpensNot, StopsInPreamble}
 use Rattle.sched_box.specs.Serving.{KeepsTexts, StopsKeeping}
@@ -21,23 +22,23 @@ unopened input left room (Serve TooLong) number read none stops = absurd read
 unopened input left room (Serve Memory) number read none stops = tt
 
 -- behind it
-pub unkept : {T : Type 0} (r : Result T StreamFault) (input rest left : Option (List ℕ)) (room : List ℕ) (moment : ℤ) (rooms : List (List ℕ)) → Opens input rest moment rooms
-    → IfErr r RefusesPreamble → IfErr r (IfRefusedStream (Contains rooms room → ⊥)) → IfErr r (StopsKeeping rest left)
-    → {X : Type 0} → ((Contains rooms room → ⊥) → X × Keeps rest left) → IfErr r (KeepsNone input left room)
-unkept (Ok x) input rest left room moment rooms opens number none bound unhosted = tt
-unkept (Err (Refused e)) input rest left room moment rooms opens number none bound unhosted = (number, inr (moment, rooms, rest, opens, none, (unhosted none).1))
-unkept (Err (Serve Read)) input rest left room moment rooms opens number none bound unhosted = tt
-unkept (Err (Serve Write)) input rest left room moment rooms opens number none bound unhosted = tt
-unkept (Err (Serve TooLong)) input rest left room moment rooms opens number none bound unhosted = (moment, rooms, rest, opens, bound)
-unkept (Err (Serve Memory)) input rest left room moment rooms opens number none bound unhosted = tt
+pub unkept : {T : Type 0} (r : Result T StreamFault) (input rest left : Option (List ℕ)) (room : List ℕ) (moment : ℤ) (hosts : Hosts) → Opens input rest moment hosts
+    → IfErr r RefusesPreamble → IfErr r (IfRefusedStream (Contains hosts.rooms room → ⊥)) → IfErr r (StopsKeeping rest left)
+    → {X : Type 0} → ((Contains hosts.rooms room → ⊥) → X × Keeps rest left) → IfErr r (KeepsNone input left room)
+unkept (Ok x) input rest left room moment hosts opens number none bound unhosted = tt
+unkept (Err (Refused e)) input rest left room moment hosts opens number none bound unhosted = (number, inr (moment, hosts, rest, opens, none, (unhosted none).1))
+unkept (Err (Serve Read)) input rest left room moment hosts opens number none bound unhosted = tt
+unkept (Err (Serve Write)) input rest left room moment hosts opens number none bound unhosted = tt
+unkept (Err (Serve TooLong)) input rest left room moment hosts opens number none bound unhosted = (moment, hosts, rest, opens, bound)
+unkept (Err (Serve Memory)) input rest left room moment hosts opens number none bound unhosted = tt
 
 -- where both texts are there
-pub kept_both : {T : Type 0} (r : Result T StreamFault) (calendar certificate : T → List ℕ) (input rest left : Option (List ℕ)) (room : List ℕ) (moment : ℤ) (rooms : List (List ℕ))
-    → Opens input rest moment rooms → IfOk r (λ k. KeepsTexts moment rooms rest left room (calendar k) (certificate k))
+pub kept_both : {T : Type 0} (r : Result T StreamFault) (calendar certificate : T → List ℕ) (input rest left : Option (List ℕ)) (room : List ℕ) (moment : ℤ) (hosts : Hosts)
+    → Opens input rest moment hosts → IfOk r (λ k. KeepsTexts moment hosts rest left room (calendar k) (certificate k))
     → IfOk r (λ k. CertificateHolds room (calendar k) (certificate k)) → IfOk r (λ k. KeepsBoth input left room (calendar k) (certificate k))
-kept_both (Ok k) calendar certificate input rest left room moment rooms opens keeps passes =
-    record { moment = moment; rooms = rooms; rest = rest; opens = opens; keeps = keeps; passes = passes }
-kept_both (Err e) calendar certificate input rest left room moment rooms opens keeps passes = tt
+kept_both (Ok k) calendar certificate input rest left room moment hosts opens keeps passes =
+    record { moment = moment; hosts = hosts; rest = rest; opens = opens; keeps = keeps; passes = passes }
+kept_both (Err e) calendar certificate input rest left room moment hosts opens keeps passes = tt
 
 -- where a beginning of the text that was asked for was written
 pub cut_kept : (kept : Kept) (input left output written : Option (List ℕ)) (room calendar certificate octets : List ℕ) (status : ℕ) → KeepsBoth input left room calendar certificate

@@ -2,6 +2,7 @@
 use Rattle.std.specs.Prelude.{◌≡◌, ◌⊎◌, ℕ, ℤ, Bool, true, if◌then◌else◌, ◌==◌, ◌≤◌, List, ◌++◌, take, codes, decimal, Contains, Option, IfSome, Result, Ok, Err}
 use Rattle.std.specs.Io.KnownBytes.{Appends, Keeps}
 use Rattle.profile.specs.checker.Calendars.{CertificateHolds}
+use Rattle.profile.specs.streams.Streams.{Hosts}
 use Rattle.clash_check.specs.Verdicts.{IsRefusedCalendar, IsJudgement}
 use Rattle.clash_check.specs.declared.verdict.Checked.{Checked}
 use Rattle.clash_check.specs.declared.verdict.Verdict.{Verdict}
@@ -116,10 +117,10 @@ text_of Certificate calendar certificate = certificate
 -- a preamble and objects were read, and after them the room keeps this calendar and this certificate, for which the checker says yes
 pub record KeepsBoth (input left : Option (List ℕ)) (room calendar certificate : List ℕ) : Type 0 where
   pub moment : ℤ
-  pub rooms : List (List ℕ)
+  pub hosts : Hosts
   pub rest : Option (List ℕ)
-  pub opens : Opens input rest moment rooms
-  pub keeps : KeepsTexts moment rooms rest left room calendar certificate
+  pub opens : Opens input rest moment hosts
+  pub keeps : KeepsTexts moment hosts rest left room calendar certificate
   pub passes : CertificateHolds room calendar certificate
 
 -- why nothing is kept of input that is refused or too long: no preamble stands at its front, and no octet past its empty line was taken;
@@ -127,9 +128,9 @@ pub record KeepsBoth (input left : Option (List ℕ)) (room calendar certificate
 abbrev pub KeepsNone : Option (List ℕ) → Option (List ℕ) → List ℕ → StreamFault → Type 0
 KeepsNone input left room (Refused refusal) =
     (refusal.number ≡ 90) × ((IfSome input OpensNot × StopsInPreamble input left)
-    ⊎ ((moment : ℤ) × (rooms : List (List ℕ)) × (rest : Option (List ℕ)) × Opens input rest moment rooms × (Contains rooms room → ⊥) × Keeps rest left))
+    ⊎ ((moment : ℤ) × (hosts : Hosts) × (rest : Option (List ℕ)) × Opens input rest moment hosts × (Contains hosts.rooms room → ⊥) × Keeps rest left))
 KeepsNone input left room (Serve TooLong) =
-    (moment : ℤ) × (rooms : List (List ℕ)) × (rest : Option (List ℕ)) × Opens input rest moment rooms × HasRead 1_073_741_824 rest left
+    (moment : ℤ) × (hosts : Hosts) × (rest : Option (List ℕ)) × Opens input rest moment hosts × HasRead 1_073_741_824 rest left
 KeepsNone input left room (Serve Read) = Unit {0}
 KeepsNone input left room (Serve Write) = Unit {0}
 KeepsNone input left room (Serve Memory) = Unit {0}

@@ -92,7 +92,7 @@ pub fn explanation(number: u8) -> Option<&'static str>
             "56: a period, or more than 366 times of RDATE or of EXDATE in a VEVENT. What to do: write a date-time; send fewer.\n",
         ),
         60 => Some(
-            "60: METHOD twice, or another word than REQUEST, CANCEL, ADD, REPLY and REFRESH, such as PUBLISH. What to do: send REQUEST.\n",
+            "60: METHOD twice, or another word than REQUEST, CANCEL, ADD, REPLY and REFRESH, such as PUBLISH. What to do: send REQUEST, or store the meeting without METHOD.\n",
         ),
         61 => Some(
             "61: UID, DTSTAMP or DTSTART missing, a property twice, or DTEND beside DURATION. What to do: fix the VEVENT.\n",
@@ -101,10 +101,25 @@ pub fn explanation(number: u8) -> Option<&'static str>
             "62: two UIDs or ORGANIZERs in one message. What to do: send a message for each meeting.\n",
         ),
         63 => Some("63: no ORGANIZER. What to do: name the organiser.\n"),
+        64 => Some(
+            "64: a VEVENT of a REPLY or a REFRESH that doesn't have one attendee. What to do: send one for each attendee.\n",
+        ),
         65 => Some("65: RANGE on RECURRENCE-ID. What to do: send an override for each instance.\n"),
         66 => Some("66: no VEVENT. What to do: send a VEVENT.\n"),
         67 => Some(
             "67: RRULE or RDATE beside RECURRENCE-ID, or in an ADD. What to do: leave them to the VEVENT without RECURRENCE-ID.\n",
+        ),
+        70 => Some(
+            "70: a store, a REPLY or a REFRESH whose ORGANIZER isn't hosted. What to do: name the organiser in the preamble; give a meeting for rooms its METHOD.\n",
+        ),
+        71 => Some(
+            "71: a REPLY to a SEQUENCE past the last that was sent, or a REPLY or a REFRESH for a meeting that isn't known. What to do: store the meeting first; answer what was sent.\n",
+        ),
+        72 => Some(
+            "72: a store for which no greater SEQUENCE up to 2147483647 is left. What to do: store the meeting under another UID.\n",
+        ),
+        73 => Some(
+            "73: a REPLY or a REFRESH of one who isn't an attendee of the last store. What to do: store the meeting with that attendee.\n",
         ),
         80 => Some(
             "80: the calendar is refused: it isn't one that roombox reads. What to do: send one VCALENDAR, with the VTIMEZONEs that its times name.\n",
@@ -123,9 +138,6 @@ pub fn explanation(number: u8) -> Option<&'static str>
         ),
         90 => Some(
             "90: the preamble can't be read; for `keep`, also a room that it doesn't name. What to do: see `roombox serve --help`.\n",
-        ),
-        99 => Some(
-            "99: METHOD REPLY, REFRESH, or none in a message: not read yet. What to do: send REQUEST, ADD or CANCEL.\n",
         ),
         _ => None,
     }

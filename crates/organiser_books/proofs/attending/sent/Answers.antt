@@ -1,5 +1,6 @@
-use Rattle.std.proofs.Common.{◌++◌, ◌∷◌, [], List, ◌∙◌, sym, ap, append-nil}
-use Rattle.organiser_books.specs.Attending.{sent_in}
+use Rattle.std.proofs.Common.{◌&&◌, ◌++◌, ◌∷◌, [], List, ◌∙◌, sym, ap, append-nil}
+use Rattle.organiser_books.specs.Attending.{is_other, sent_in}
+use Rattle.ical_values.specs.Octets.{address_octets}
 use Rattle.organiser_books.proofs.Loops.{walked}
 use Rattle.organiser_books.proofs.Picking.{Entry, picked_no, picked_yes, sent_is}
 use Rattle.organiser_books.proofs.attending.sent.Goals as goal
@@ -10,7 +11,7 @@ loop-address-preserved-in_ok-push c =
     let e : Entry = (c.in-Some.address.now, c.in-Some.attendance.now) in (
       i.0 ++ e ∷ [],
       walked i.0 c.loop-address.address-iterator c.next.new.self c.args.attending.now.entries e c.in-Some.ensures.steps i.1,
-      picked_yes (λ (x : Entry). x.1.scheduled) i.0 e c.loop-address.sent.items c.push.new.self.items c.in_ok-clone.field-0 c.in_ok-push.ensures.items c.in_ok-clone.ensures.cases i.2 c.if-attendance.true,
+      picked_yes (λ (x : Entry). x.1.scheduled && is_other (address_octets c.args.organiser.now) x.0) i.0 e c.loop-address.sent.items c.push.new.self.items c.in_ok-clone.field-0 c.in_ok-push.ensures.items c.in_ok-clone.ensures.cases i.2 (sym c.is_sent_to.ensures ∙ c.if-is_sent_to.true),
     )
 
 pub loop-address-preserved : goal.loop-address-preserved
@@ -19,7 +20,7 @@ loop-address-preserved c =
     let e : Entry = (c.in-Some.address.now, c.in-Some.attendance.now) in (
       i.0 ++ e ∷ [],
       walked i.0 c.loop-address.address-iterator c.next.new.self c.args.attending.now.entries e c.in-Some.ensures.steps i.1,
-      picked_no (λ (x : Entry). x.1.scheduled) i.0 e c.loop-address.sent.items i.2 c.if-attendance.false,
+      picked_no (λ (x : Entry). x.1.scheduled && is_other (address_octets c.args.organiser.now) x.0) i.0 e c.loop-address.sent.items i.2 (sym c.is_sent_to.ensures ∙ c.if-is_sent_to.false),
     )
 
 pub returns : goal.returns
@@ -27,4 +28,4 @@ returns c = λ lists are.
     let i = c.loop-address.invariant in
     let all = sym (append-nil i.0) ∙ ap (λ (l : List Entry). i.0 ++ l) (sym c.in-None.ensures.steps.0) ∙ i.1 in
     let u = c.into_iter-address-iterator.ensures.into_iter_gives in
-    i.2 ∙ ap sent_in all ∙ sent_is lists c.args.attending.now.entries are u.4
+    i.2 ∙ ap (sent_in (address_octets c.args.organiser.now)) all ∙ sent_is (address_octets c.args.organiser.now) lists c.args.attending.now.entries are u.4

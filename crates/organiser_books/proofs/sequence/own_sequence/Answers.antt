@@ -1,4 +1,4 @@
-use Rattle.std.proofs.Common.{◌∙◌, take, sym, ap, arith}
+use Rattle.std.proofs.Common.{◌∙◌, take, sym, ap}
 use Rattle.profile.specs.organisers.Organisers.{greater}
 use Rattle.organiser_books.specs.Storing.{own_in}
 use Rattle.organiser_books.proofs.Loops.{one_more}

@@ -1,22 +1,31 @@
 use Rattle.std.proofs.Common.{arith, rules, subst}
-use Rattle.sched_box.specs.Settings.{Reads, ReadsNone}
-use Rattle.sched_box.proofs.SettingLemmas.{if_refused, no_room, many_rooms, not_utf8, is_read}
+use Rattle.std.proofs.lemmas.Result.{err_from_is_err_and}
+use Rattle.sched_box.specs.Settings.{Reads, ReadsNone, SaysNone}
+use Rattle.sched_box.proofs.SettingLemmas.{if_refused, if_refused_map, no_host, not_utf8, says_none_of, is_read}
+use Rattle.ical_values.specs.Refused.{IfRefused}
+use Rattle.sched_box.proofs.config.read_settings.Goals.{else-is_empty-via-then-is_empty+else-is_empty-2, else-is_empty-via-else-is_empty}
 use Rattle.sched_box.proofs.config.read_settings.Goals as goal
 
 pub returns-in_default-clause-none : goal.returns-in_default-clause-none
 returns-in_default-clause-none c = if_refused (ReadsNone c.args.bytes.now) _ (not_utf8 _ c.in_default.ensures.cases.0)
 
-pub returns-then-is_empty-clause-none : goal.returns-then-is_empty-clause-none
-returns-then-is_empty-clause-none c =
+pub returns-in_err-settings-clause-none : goal.returns-in_err-settings-clause-none
+returns-in_err-settings-clause-none c =
+    let p = err_from_is_err_and c.from_residual.result c.from_residual.ensures.1 in
     let same = c.in-Ok.ensures.cases.0 in
-    if_refused (ReadsNone c.args.bytes.now) _ (no_room _ _ (subst (Reads c.in_ok-settings.settings) same c.in_ok-settings.ensures.reads) (search rules))
+    rw (p.1, p.2) (if_refused_map _ (ReadsNone c.args.bytes.now) _ (says_none_of c.args.bytes.now) (subst (λ o. IfRefused (SaysNone o) c.in_err-settings.field-0.0) same c.in_err-settings.ensures.none))
 
-pub returns-then-len-gt-MOST_ROOMS-clause-none : goal.returns-then-len-gt-MOST_ROOMS-clause-none
-returns-then-len-gt-MOST_ROOMS-clause-none c =
+pub returns-then-is_empty-2-clause-none : goal.returns-then-is_empty-2-clause-none
+returns-then-is_empty-2-clause-none c =
     let same = c.in-Ok.ensures.cases.0 in
-    if_refused (ReadsNone c.args.bytes.now) _ (many_rooms _ _ (subst (Reads c.in_ok-settings.settings) same c.in_ok-settings.ensures.reads) (search rules))
+    if_refused (ReadsNone c.args.bytes.now) _ (no_host _ _ (subst (Reads c.in_ok-settings.settings) same c.in_ok-settings.ensures.reads) (search rules) (search rules))
 
 pub returns-clause-reads : goal.returns-clause-reads
 returns-clause-reads c =
     let same = c.in-Ok.ensures.cases.0 in
-    is_read _ _ (subst (Reads c.in_ok-settings.settings) same c.in_ok-settings.ensures.reads) c.in-Ok.ensures.cases.1 (omega arith) (search rules) (search rules)
+    let reads = subst (Reads c.in_ok-settings.settings) same c.in_ok-settings.ensures.reads in
+    is_read _ _ reads c.in-Ok.ensures.cases.1 (omega arith)
+    (elim c.else-is_empty.branch [
+      | else-is_empty-via-then-is_empty+else-is_empty-2 w ↦ (search rules)
+      | else-is_empty-via-else-is_empty w ↦ (search rules)
+    ])

@@ -1,7 +1,7 @@
 use Rattle.std.proofs.Common.{Bool, List, ℕ, ℤ, sym, subst, rules}
 use Rattle.std.proofs.lemmas.Result.{err_from_is_err_and}
-use Rattle.profile.specs.streams.Streams.{IsPreamble}
-use Rattle.sched_box.specs.Config.{config_rooms}
+use Rattle.profile.specs.streams.Streams.{Hosts, IsPreamble}
+use Rattle.sched_box.specs.Config.{config_hosts}
 use Rattle.sched_box.proofs.PreambleLemmas.{opened, opens_not, long_stream, refused_is, stops_after}
 use Rattle.sched_box.proofs.preamble.read_preamble.Goals as goal
 
@@ -14,13 +14,13 @@ pub returns-in-Ok-clause-opens : goal.returns-in-Ok-clause-opens
 returns-in-Ok-clause-opens g c =
     let same = c.as_slice.ensures.value in
     let (closed, says) = c.in-Ok.ensures.reads in
-    opened _ _ _ c.in-Ok.read.1 (config_rooms c.in-Ok.read.0) c.in_ok-octets.ensures.takes closed (subst (λ o. IsPreamble closed o c.in-Ok.read.1 (config_rooms c.in-Ok.read.0)) same says)
+    opened _ _ _ c.in-Ok.read.1 (config_hosts c.in-Ok.read.0) c.in_ok-octets.ensures.takes closed (subst (λ o. IsPreamble closed o c.in-Ok.read.1 (config_hosts c.in-Ok.read.0)) same says)
 
 pub returns-in-Err-Refused-clause-none : goal.returns-in-Err-Refused-clause-none
 returns-in-Err-Refused-clause-none g c =
     let same = c.as_slice.ensures.value in
-    let none = refused_is ((closed : Bool) (moment : ℤ) (addresses : List (List ℕ)) → IsPreamble closed c.as_slice.result.now moment addresses → ⊥) _ c.in-Err-Refused.refusal (search rules) c.in-Err-Refused.ensures.none in
-    opens_not _ _ _ c.in_ok-octets.ensures.takes (λ closed moment addresses says. none closed moment addresses (subst (λ o. IsPreamble closed o moment addresses) (sym same) says))
+    let none = refused_is ((closed : Bool) (moment : ℤ) (hosts : Hosts) → IsPreamble closed c.as_slice.result.now moment hosts → ⊥) _ c.in-Err-Refused.refusal (search rules) c.in-Err-Refused.ensures.none in
+    opens_not _ _ _ c.in_ok-octets.ensures.takes (λ closed moment hosts says. none closed moment hosts (subst (λ o. IsPreamble closed o moment hosts) (sym same) says))
 
 pub returns-in-Err-Refused-clause-stops : goal.returns-in-Err-Refused-clause-stops
 returns-in-Err-Refused-clause-stops g c = stops_after _ _ _ c.in_ok-octets.ensures.takes

@@ -7,7 +7,7 @@ use Rattle.ical_values.specs.Octets.{address_octets}
 use Rattle.ical_values.specs.declared.address.Address.{Address}
 use Rattle.sched_box.proofs.settings.contains.Goals as goal
 
-any_map : (rooms : List Address) (a : List ℕ) → list_any (λ y. bytes_eq y a) (map address_octets rooms) ≡ list_any (λ h. bytes_eq (address_octets h) a) rooms
+any_map : (hosts : List Address) (a : List ℕ) → list_any (λ y. bytes_eq y a) (map address_octets hosts) ≡ list_any (λ h. bytes_eq (address_octets h) a) hosts
 any_map [] a = refl
 any_map (r ∷ rs) a = ap (λ t. bytes_eq (address_octets r) a || t) (any_map rs a)
 
@@ -22,8 +22,8 @@ found_any xs a c = list_any-from_Any (λ y. bytes_eq y a) xs (c.0, a, c.1, c.2, 
 
 pub returns : goal.returns
 returns c =
-    let rooms = c.args.rooms.now in
-    let a = address_octets c.args.room.now in (
-      λ t. among (map address_octets rooms) a (any_map rooms a ∙ sym c.has_address.ensures ∙ t),
-      λ in'. c.has_address.ensures ∙ sym (any_map rooms a) ∙ found_any (map address_octets rooms) a in',
+    let hosts = c.args.hosts.now in
+    let a = address_octets c.args.address.now in (
+      λ t. among (map address_octets hosts) a (any_map hosts a ∙ sym c.has_address.ensures ∙ t),
+      λ in'. c.has_address.ensures ∙ sym (any_map hosts a) ∙ found_any (map address_octets hosts) a in',
     )

@@ -1,4 +1,4 @@
-use Rattle.std.proofs.Common.{◌≡◌, ◌∙◌, Option, Some, sym, subst}
+use Rattle.std.proofs.Common.{◌∙◌, Option, Some, sym, subst}
 use Rattle.ical_values.specs.Octets.{address_octets, text_octets}
 use Rattle.profile.specs.events.Events.{Participation}
 use Rattle.profile.specs.organisers.Organisers.{IsSeen, last_store}
@@ -21,4 +21,4 @@ returns c = λ book keeps.
     let m = c.in_ok-meeting.meeting.now in
     let found : StandsAt book uid (Some m) (last_store uid book) = subst (λ (o : Option Meeting). StandsAt book uid o (last_store uid book)) (sym c.in_ok-meeting.ensures.value) (keeps.each c.args.uid.now) in
     subst (λ (p : Participation). IsSeen book uid (slot_of c.args.slot) (address_octets c.args.attendee.now) (Some p)) (sym c.answered.ensures)
-        (seen_some book uid m found (slot_of c.args.slot) (address_octets c.args.attendee.now) (sym c.has_attendee.ensures ∙ c.if-not-has_attendee.false))
+    (seen_some book uid m found (slot_of c.args.slot) (address_octets c.args.attendee.now) (sym c.has_attendee.ensures ∙ c.if-not-has_attendee.false))

@@ -1,8 +1,7 @@
-use Rattle.std.proofs.Common.{◌≡◌, ◌∙◌, ◌<◌, refl, ℕ, List, map, Option, None, Some, ap, sym, subst}
+use Rattle.std.proofs.Common.{◌≡◌, ◌∙◌, ◌<◌, refl, ℕ, map, sym, subst}
 use Rattle.indexmap.specs.IndexMap.{get}
-use Rattle.ical_values.specs.Octets.{address_octets, text_octets}
+use Rattle.ical_values.specs.Octets.{address_octets}
 use Rattle.profile.specs.organisers.Organisers.{most_sequence}
-use Rattle.itip_messages.specs.declared.organiser_object.ObjectComponent.{ObjectComponent}
 use Rattle.itip_order.specs.declared.part.Revision.{Revision}
 use Rattle.organiser_books.specs.declared.meeting.Meeting.{Meeting}
 use Rattle.organiser_books.specs.Calls.{sent_of}
@@ -14,8 +13,12 @@ use Rattle.organiser_books.proofs.organiser.Organiser.store.Goals as goal
 pub returns-in_default-clause-stands : goal.returns-in_default-clause-stands
 returns-in_default-clause-stands c = λ said is book keeps.
     let same : sequence_then _ c.deref.result.now ≡ sequence_then (get same_text c.args.self.now.meetings c.args.object.uid) c.args.object.components.items = λ i. sequence_then (c.get.ensures.value i) (c.deref.ensures.value i) in
+<<<<<<< HEAD
+    spent_fault (address_octets c.args.self.now.address) c.args.object said is book (get same_text c.args.self.now.meetings) keeps.each (sym is.operation ∙ c.in_ok-expect.ensures.kind) (sym is.organiser ∙ c.in_ok-expect.ensures.own)
+=======
     spent_fault (address_octets c.args.self.now.address) c.args.object said is book (get same_text c.args.self.now.meetings) keeps.each (sym is.operation ∙ c.in_ok-expect.ensures.kind)
-        (subst (λ (n : ℕ). most_sequence < n) same c.in_default.ensures.none)
+>>>>>>> c776d976ec76714d185498bbe0b03a7b71d42e4e
+    (subst (λ (n : ℕ). most_sequence < n) same c.in_default.ensures.none)
 
 pub returns-clause-steps : goal.returns-clause-steps
 returns-clause-steps c = λ said is book keeps.
@@ -26,7 +29,7 @@ returns-clause-steps c = λ said is book keeps.
     let meeting : Meeting = record { revision = revision; components = object.components; attending = made.attending; object = made.object; answers = c.new.result } in
     let same : sequence_then _ c.deref.result.now ≡ sequence_then (meetings object.uid) object.components.items = λ i. sequence_then (c.get.ensures.value i) (c.deref.ensures.value i) in
     let r = is_stored (address_octets c.args.self.now.address) object said is book meetings keeps.each c.args.now meeting (c.in-Some.ensures.is ∙ same) refl
-        (get same_text c.insert.new.self) c.in_ok-insert.ensures.updates.0 (map sent_of made.sent.items)
-        (sym is.operation ∙ c.in_ok-expect.ensures.kind) (sym is.organiser ∙ c.in_ok-expect.ensures.own) c.in-Some.ensures.fits
-        refl c.in_ok-attending.ensures.attending c.new.ensures.empty c.in_ok-attending.ensures.sends in
+    (get same_text c.insert.new.self) c.in_ok-insert.ensures.updates.0 (map sent_of made.sent.items)
+    (sym is.operation ∙ c.in_ok-expect.ensures.kind) (sym is.organiser ∙ c.in_ok-expect.ensures.own) c.in-Some.ensures.fits
+    refl c.in_ok-attending.ensures.attending c.new.ensures.empty c.in_ok-attending.ensures.sends in
     (r.0, (r.1.0, r.1.1, record { each = r.1.2 }))

@@ -17,7 +17,7 @@ returns-in_default-clause-stands c = λ said is book keeps.
     let object = c.args.object.now in
     let uid = text_octets object.uid in
     let found : StandsAt book uid None (last_store uid book) = subst (λ (o : Option Meeting). StandsAt book uid o (last_store uid book)) (sym c.in_default.ensures.value) (keeps.each object.uid) in
-    unknown_fault (address_octets c.args.self.now.address) object said is book objects.Refresh (sym is.operation ∙ c.in_ok-expect.ensures.kind) refl found
+    unknown_fault (address_octets c.args.self.now.address) object said is book objects.Refresh (sym is.operation ∙ c.in_ok-expect.ensures.kind) (sym is.organiser ∙ c.in_ok-expect.ensures.own) refl found
 
 pub returns-then-is_strange-clause-stands : goal.returns-then-is_strange-clause-stands
 returns-then-is_strange-clause-stands c = λ said is book keeps.
@@ -26,7 +26,7 @@ returns-then-is_strange-clause-stands c = λ said is book keeps.
     let m = c.in-Some.meeting.now in
     let found : StandsAt book uid (Some m) (last_store uid book) = subst (λ (o : Option Meeting). StandsAt book uid o (last_store uid book)) (sym c.in-Some.ensures.value) (keeps.each object.uid) in
     let strange = sym (c.is_strange.ensures ∙ ap (is_strange m) c.deref.ensures.value) ∙ c.if-is_strange.true in
-    strange_fault (address_octets c.args.self.now.address) object said is book m found objects.Refresh (sym is.operation ∙ c.in_ok-expect.ensures.kind) refl strange
+    strange_fault (address_octets c.args.self.now.address) object said is book m found objects.Refresh (sym is.operation ∙ c.in_ok-expect.ensures.kind) (sym is.organiser ∙ c.in_ok-expect.ensures.own) refl strange
 
 pub returns-clause-steps : goal.returns-clause-steps
 returns-clause-steps c = λ said is book keeps.

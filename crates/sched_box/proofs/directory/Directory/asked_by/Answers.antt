@@ -4,7 +4,7 @@ use Rattle.std.proofs.Math.Bool.{and-false}
 use Rattle.std.proofs.lemmas.Bool.{true≢false}
 use Rattle.itip_messages.specs.Messages.{cancels_for_all, method_said}
 use Rattle.profile.specs.rooms.Messages.{is_cancel}
-use Rattle.itip_messages.specs.declared.message.MessageComponent.{MessageComponent}
+use Rattle.itip_messages.specs.declared.room_message.MessageComponent.{MessageComponent}
 use Rattle.sched_box.specs.Asked.{LeavesOut, directory_addresses}
 use Rattle.sched_box.proofs.AskedLemmas.{AsksSofar, asks_sofar, asks_more, asks_all, not_cancel}
 use Rattle.sched_box.proofs.directory.Directory.asked_by.Goals as goal

@@ -1,5 +1,5 @@
-use Rattle.std.proofs.Common.{◌++◌, ◌∙◌, ap, sym, codes}
-use Rattle.sched_box.proofs.SettingLemmas.{set_line, set_none, add_line, add_none}
+use Rattle.std.proofs.Common.{◌++◌, ◌∙◌, ap, sym, codes, refl}
+use Rattle.sched_box.proofs.SettingLemmas.{set_line, set_none, room_line, room_none, organiser_line, organiser_none}
 use Rattle.sched_box.proofs.settings.Settings.add_line.Goals as goal
 
 pub returns-in-Some-clause-added : goal.returns-in-Some-clause-added
@@ -15,9 +15,19 @@ returns-in-Some-clause-none c =
 pub returns-in-Some-strip_prefix-clause-added : goal.returns-in-Some-strip_prefix-clause-added
 returns-in-Some-strip_prefix-clause-added c =
     let found = c.in-Some-strip_prefix.ensures.cases in
-    add_line _ _ _ _ _ (found.1.1 ∙ ap (λ z. codes "room " ++ z) (sym found.2)) c.add_room.ensures.address c.add_room.ensures.added
+    room_line _ _ _ _ _ (found.1.1 ∙ ap (λ z. codes "room " ++ z) (sym found.2)) c.one_stamp.ensures.reading c.add_host.ensures.address c.add_host.ensures.added refl refl
 
 pub returns-in-Some-strip_prefix-clause-none : goal.returns-in-Some-strip_prefix-clause-none
 returns-in-Some-strip_prefix-clause-none c =
     let found = c.in-Some-strip_prefix.ensures.cases in
-    add_none _ c.args.self.now _ _ (found.1.1 ∙ ap (λ z. codes "room " ++ z) (sym found.2)) c.add_room.ensures.none
+    room_none _ c.args.self.now _ _ (found.1.1 ∙ ap (λ z. codes "room " ++ z) (sym found.2)) c.add_host.ensures.none
+
+pub returns-in-Some-strip_prefix-2-clause-added : goal.returns-in-Some-strip_prefix-2-clause-added
+returns-in-Some-strip_prefix-2-clause-added c =
+    let found = c.in-Some-strip_prefix-2.ensures.cases in
+    organiser_line _ _ _ _ _ (found.1.1 ∙ ap (λ z. codes "organiser " ++ z) (sym found.2)) c.one_stamp.ensures.reading c.add_host-in-Some-strip_prefix-2.ensures.address c.add_host-in-Some-strip_prefix-2.ensures.added refl refl
+
+pub returns-in-Some-strip_prefix-2-clause-none : goal.returns-in-Some-strip_prefix-2-clause-none
+returns-in-Some-strip_prefix-2-clause-none c =
+    let found = c.in-Some-strip_prefix-2.ensures.cases in
+    organiser_none _ c.args.self.now _ _ (found.1.1 ∙ ap (λ z. codes "organiser " ++ z) (sym found.2)) c.add_host-in-Some-strip_prefix-2.ensures.none

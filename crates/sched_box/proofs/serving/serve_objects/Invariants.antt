@@ -1,10 +1,10 @@
 use Rattle.std.proofs.Common.{◌≡◌}
 use Rattle.sched_box.proofs.ServingLemmas.{Sofar}
-use Rattle.sched_box.proofs.serving.serve_rooms.Given as goal
+use Rattle.sched_box.proofs.serving.serve_objects.Given as goal
 
 abbrev pub invariant-loop-answers : goal.invariant-loop-answers
 invariant-loop-answers g l =
-    Sofar l.now l.fn.rooms.rooms.items l.rooms.rooms.items (g.R.Input.remaining l.fn.reader) (g.R.Input.remaining l.reader) (g.W.Output.contents l.fn.writer) (g.W.Output.contents l.writer) l.objects.left l.report
+    Sofar l.now l.fn.books l.books (g.R.Input.remaining l.fn.reader) (g.R.Input.remaining l.reader) (g.W.Output.contents l.fn.writer) (g.W.Output.contents l.writer) l.objects.left l.report
     × (g.R.Input.has_failed l.reader ≡ g.R.Input.has_failed l.fn.reader) × (g.W.Output.has_failed l.writer ≡ g.W.Output.has_failed l.fn.writer)
 
 abbrev pub decreases-loop-answers : goal.decreases-loop-answers

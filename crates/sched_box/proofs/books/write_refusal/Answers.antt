@@ -1,6 +1,6 @@
 use Rattle.std.proofs.Common.{◌∙◌}
 use Rattle.sched_box.proofs.AnswerLemmas.{line_is}
-use Rattle.sched_box.proofs.rooms.write_refusal.Goals as goal
+use Rattle.sched_box.proofs.books.write_refusal.Goals as goal
 
 pub returns : goal.returns
 returns c =

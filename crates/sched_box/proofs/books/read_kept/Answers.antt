@@ -1,10 +1,10 @@
 use Rattle.std.proofs.Common.{arith, subst}
 use Rattle.ical_lines.specs.Fault.{RefusesBy}
 use Rattle.std.proofs.lemmas.Result.{IfOk-weaker, IfErr-weaker}
-use Rattle.itip_messages.specs.Messages.{IsSpelled}
+use Rattle.itip_messages.specs.Readings.{IsSpelled}
 use Rattle.profile.specs.streams.Streams.{ObjectFault}
 use Rattle.sched_box.proofs.FaultLemmas.{kept_whole, long_fault, object_fault}
-use Rattle.sched_box.proofs.rooms.read_kept.Goals as goal
+use Rattle.sched_box.proofs.books.read_kept.Goals as goal
 
 pub returns-then-octets-ge-KEPT-clause-stands : goal.returns-then-octets-ge-KEPT-clause-stands
 returns-then-octets-ge-KEPT-clause-stands c = λ object is. long_fault c.args.octets.now object is (omega arith)

@@ -2,12 +2,12 @@ use Rattle.std.proofs.Common.{◌+◌, ◌∙◌, refl, subst}
 use Rattle.std.proofs.lemmas.Result.{err_from_is_err_and}
 use Rattle.sched_box.specs.Objects.{ReadsObject}
 use Rattle.sched_box.proofs.ServingLemmas.{forgotten_at, unsent, served_more, served_all, answered_from}
-use Rattle.sched_box.proofs.serving.serve_rooms.Goals as goal
+use Rattle.sched_box.proofs.serving.serve_objects.Goals as goal
 
 pub returns-in_err-refused-clause-serves : goal.returns-in_err-refused-clause-serves
 returns-in_err-refused-clause-serves g c =
-    let olds = c.args.rooms.now.rooms.items in
-    let news = c.loop-answers.rooms.rooms.items in
+    let olds = c.args.books.now in
+    let news = c.loop-answers.books in
     let b = g.R.Input.remaining c.loop-answers.reader in
     let d = g.R.Input.remaining c.next_object.new.reader in
     let before = c.loop-answers.objects in
@@ -19,9 +19,9 @@ returns-in_err-refused-clause-serves g c =
 
 pub returns-in_err-send-clause-serves : goal.returns-in_err-send-clause-serves
 returns-in_err-send-clause-serves g c =
-    let olds = c.args.rooms.now.rooms.items in
-    let news = c.loop-answers.rooms.rooms.items in
-    let newer = c.take.new.self.rooms.items in
+    let olds = c.args.books.now in
+    let news = c.loop-answers.books in
+    let newer = c.take.new.self in
     let b = g.R.Input.remaining c.loop-answers.reader in
     let d = g.R.Input.remaining c.next_object.new.reader in
     let before = c.loop-answers.objects in
@@ -38,9 +38,9 @@ returns-in_err-send-clause-serves g c =
 
 pub loop-answers-preserved : goal.loop-answers-preserved
 loop-answers-preserved g c =
-    let olds = c.args.rooms.now.rooms.items in
-    let news = c.loop-answers.rooms.rooms.items in
-    let newer = c.take.new.self.rooms.items in
+    let olds = c.args.books.now in
+    let news = c.loop-answers.books in
+    let newer = c.take.new.self in
     let b = g.R.Input.remaining c.loop-answers.reader in
     let d = g.R.Input.remaining c.next_object.new.reader in
     let before = c.loop-answers.objects in
@@ -63,5 +63,5 @@ returns-clause-serves g c =
     let before = c.loop-answers.objects in
     let after = c.next_object.new.self in
     let none = subst (ReadsObject b d before after) c.if-branch.false c.in_ok-next_object.ensures.reads in
-    served_all c.args.now c.args.rooms.now.rooms.items c.loop-answers.rooms.rooms.items (g.R.Input.remaining c.args.reader.now) b d (g.W.Output.contents c.args.writer.now) (g.W.Output.contents c.loop-answers.writer) before after c.loop-answers.report
+    served_all c.args.now c.args.books.now c.loop-answers.books (g.R.Input.remaining c.args.reader.now) b d (g.W.Output.contents c.args.writer.now) (g.W.Output.contents c.loop-answers.writer) before after c.loop-answers.report
     c.loop-answers.invariant.0 none

@@ -1,0 +1,194 @@
+-- The organiser that an object names takes or refuses it, and the others are as before.
+use Rattle.std.proofs.Common.{◌≡◌, ℕ, zero, suc, ◌<◌, ℤ, Bool, true, false, List, [], ◌∷◌, ◌++◌, length, map, get_or, set, Contains, Result, Ok, Err, IfOk, OnOk, refl, sym, ap, subst, ◌∙◌, arith, true≢false, ◌||◌}
+use Rattle.std.specs.List.{flat_map, list_any}
+use Rattle.std.specs.Str.{bytes_eq}
+use Rattle.std.proofs.lemmas.Bool.{or_parts}
+use Rattle.std.proofs.lemmas.List.{append-nil}
+use Rattle.std.proofs.lemmas.List.Folds.{flat_map-map}
+use Rattle.std.proofs.lemmas.Slice.Eq.{bytes_eq-Decides}
+use Rattle.ical_lines.specs.Fault.{RefusesBy}
+use Rattle.ical_lines.specs.declared.fault.Fault.{Fault}
+use Rattle.ical_lines.specs.declared.fault.Fault.TheVariants.{Refused, Memory}
+use Rattle.ical_values.specs.Octets.{address_octets}
+use Rattle.ical_values.specs.Refused.{IfRefused}
+use Rattle.ical_values.specs.declared.address.Address.{Address}
+use Rattle.itip_messages.specs.OrganiserObjects.{StandsForObject, operation_said}
+use Rattle.itip_messages.specs.declared.organiser_object.OrganiserObject.{OrganiserObject}
+use Rattle.organiser_books.specs.Calls.{AnswersRefresh, CallFault, MayTake, other_kind, other_organiser, in_state as call_in_state, sent_of}
+use Rattle.organiser_books.specs.Standing.{Keeps, address_of}
+use Rattle.organiser_books.specs.declared.organiser.Organiser.{Organiser}
+use Rattle.organiser_books.specs.declared.outgoing.Outgoing.{Outgoing}
+use Rattle.profile.specs.organisers.Objects as profile
+use Rattle.profile.specs.organisers.Objects.{Operation}
+use Rattle.profile.specs.organisers.Organisers.{OrganiserBook, Sent, IsStore, StateFault, after_reply, empty_organiser}
+use Rattle.profile.specs.streams.Streams.{HostedOrganiser, HostFault, IsTaken, ServesOperation, TakesObject, not_hosted, in_state}
+use Rattle.sched_box.proofs.HostLemmas.{MadeSofar}
+use Rattle.sched_box.specs.Organising.{AreKeptBy, IsKeptBy, KeepBooks, KeepsBook, OrganiserRefuses, OrganiserTakes, OrganisersRefuse, OrganisersTake, organiser_addresses}
+
+-- ---- one organiser, by the call for what is asked
+
+-- what is taken by that call
+served : (operation : Operation) (moment : ℤ) (address : List ℕ) (said : profile.OrganiserObject) (book after : OrganiserBook) (octets : List ℕ) → said.operation ≡ operation
+    → MayTake operation address said book → ServesOperation operation moment said book after octets → TakesObject moment said book after octets
+served operation moment address said book after octets kind may serves = record {
+  allowed = may.allowed;
+  serves = subst (λ o. ServesOperation o moment said book after octets) (sym kind) serves;
+}
+
+-- what is refused by it
+call_fault : (operation : Operation) (address : List ℕ) (said : profile.OrganiserObject) (book : OrganiserBook) (n : ℕ) → said.operation ≡ operation → said.organiser ≡ address
+    → CallFault operation address said book n → StateFault said book n
+call_fault operation address said book n kind to (other_kind no') = absurd (no' kind)
+call_fault operation address said book n kind to (other_organiser no') = absurd (no' to)
+call_fault operation address said book n kind to (call_in_state is own fault) = fault
+
+pub refused_by : (operation : Operation) (object : OrganiserObject) (organiser : Organiser) (f : Fault) → operation_said object.operation ≡ operation
+    → RefusesBy (λ n. (said : profile.OrganiserObject) → StandsForObject object said → (book : OrganiserBook) → Keeps organiser book → CallFault operation (address_of organiser) said book n) f
+    → RefusesBy (OrganiserRefuses object organiser) f
+refused_by operation object organiser Memory kind h = tt
+refused_by operation object organiser (Refused r) kind h =
+    λ said stands to book keeps. call_fault operation (address_of organiser) said book r.number (sym stands.operation ∙ kind) to (h said stands book keeps)
+
+pub store_takes : (moment : ℤ) (object : OrganiserObject) (old new : Organiser) (sent : List Outgoing) → operation_said object.operation ≡ profile.Store
+    → ((said : profile.OrganiserObject) → StandsForObject object said → (book : OrganiserBook) → Keeps old book
+    → MayTake profile.Store (address_of old) said book × ((after : OrganiserBook) × IsStore moment said book (map sent_of sent) after × Keeps new after))
+    → OrganiserTakes moment object old new (flat_map (λ one. one.octets.items) sent)
+store_takes moment object old new sent kind steps said stands to book keeps =
+    let (may, (after, store, has)) = steps said stands book keeps in
+    (after, has, served profile.Store moment (address_of old) said book after _ (sym stands.operation ∙ kind) may (map sent_of sent, store, sym (flat_map-map (λ (one : Sent). one.octets) sent_of sent)))
+
+pub reply_takes : (moment : ℤ) (object : OrganiserObject) (old new : Organiser) → operation_said object.operation ≡ profile.Reply
+    → ((said : profile.OrganiserObject) → StandsForObject object said → (book : OrganiserBook) → Keeps old book
+    → MayTake profile.Reply (address_of old) said book × Keeps new (after_reply said book))
+    → OrganiserTakes moment object old new []
+reply_takes moment object old new kind steps said stands to book keeps =
+    let (may, has) = steps said stands book keeps in
+    (after_reply said book, has, served profile.Reply moment (address_of old) said book (after_reply said book) [] (sym stands.operation ∙ kind) may (refl, refl))
+
+-- nothing is appended for it
+pub reply_answers : {A E : Type 0} (r : Result A E) (moment : ℤ) (object : OrganiserObject) (old new : Organiser) (answers : List ℕ) → operation_said object.operation ≡ profile.Reply
+    → IfOk r (λ _. (said : profile.OrganiserObject) → StandsForObject object said → (book : OrganiserBook) → Keeps old book
+    → MayTake profile.Reply (address_of old) said book × Keeps new (after_reply said book))
+    → OnOk r ((more : List ℕ) × (answers ≡ answers ++ more) × OrganiserTakes moment object old new more)
+reply_answers (Ok u) moment object old new answers kind steps = ([], sym (append-nil answers), reply_takes moment object old new kind steps)
+reply_answers (Err f) moment object old new answers kind steps = tt
+
+pub refresh_takes : (moment : ℤ) (object : OrganiserObject) (organiser : Organiser) (octets : List ℕ) → operation_said object.operation ≡ profile.Refresh
+    → ((said : profile.OrganiserObject) → StandsForObject object said → (book : OrganiserBook) → Keeps organiser book
+    → MayTake profile.Refresh (address_of organiser) said book × AnswersRefresh said book octets)
+    → OrganiserTakes moment object organiser organiser octets
+refresh_takes moment object organiser octets kind steps said stands to book keeps =
+    let (may, (stored, last, is)) = steps said stands book keeps in
+    (book, keeps, served profile.Refresh moment (address_of organiser) said book book octets (sym stands.operation ∙ kind) may (stored, last, refl, is))
+
+-- ---- the one in its place
+
+-- the addresses stay
+pub same_addresses : (olds : List Organiser) (place : ℕ) (d new : Organiser) → address_of new ≡ address_of (get_or olds place d) → organiser_addresses (set olds place new) ≡ organiser_addresses olds
+same_addresses [] place d new same = refl
+same_addresses (o ∷ os) zero d new same = ap (λ a. a ∷ organiser_addresses os) same
+same_addresses (o ∷ os) (suc place) d new same = ap (λ z. address_of o ∷ z) (same_addresses os place d new same)
+
+-- the address in its place is its own
+named_at : (olds : List Organiser) (place : ℕ) (d : Organiser) (a : List ℕ) → place < length olds → get_or (organiser_addresses olds) place [] ≡ a → address_of (get_or olds place d) ≡ a
+named_at [] place d a within is = absurd (omega arith)
+named_at (o ∷ os) zero d a within is = is
+named_at (o ∷ os) (suc place) d a within is = named_at os place d a (omega arith) is
+
+take_in : (moment : ℤ) (said : profile.OrganiserObject) (olds : List Organiser) (place : ℕ) (d new : Organiser) (octets : List ℕ) → place < length olds
+    → said.organiser ≡ address_of (get_or olds place d) → address_of new ≡ address_of (get_or olds place d)
+    → ((book : OrganiserBook) → Keeps (get_or olds place d) book → (after : OrganiserBook) × Keeps new after × TakesObject moment said book after octets)
+    → (before : List HostedOrganiser) → AreKeptBy olds before → (after : List HostedOrganiser) × AreKeptBy (set olds place new) after × IsTaken moment said before after octets
+take_in moment said [] place d new octets within to same takes before have = absurd (omega arith)
+take_in moment said (o ∷ os) place d new octets within to same takes [] have = absurd have
+take_in moment said (o ∷ os) zero d new octets within to same takes (b ∷ bs) have =
+    let (book, keeps, taken) = takes b.book have.0.keeps in (
+      record { address = b.address; book = book } ∷ bs,
+      (record { at = have.0.at ∙ sym same; keeps = keeps }, have.1),
+      record { others_before = []; others_behind = bs; host = b; book = book; address = have.0.at ∙ sym to; takes = taken; of_these = refl; to_these = refl },
+    )
+take_in moment said (o ∷ os) (suc place) d new octets within to same takes (b ∷ bs) have =
+    let (after, hosted, t) = take_in moment said os place d new octets (omega arith) to same takes bs have.1 in (
+      b ∷ after,
+      (have.0, hosted),
+      record {
+        others_before = b ∷ t.others_before;
+        others_behind = t.others_behind;
+        host = t.host;
+        book = t.book;
+        address = t.address;
+        takes = t.takes;
+        of_these = ap (λ z. b ∷ z) t.of_these;
+        to_these = ap (λ z. b ∷ z) t.to_these;
+      },
+    )
+
+-- the object names the organiser in this place
+abbrev pub IsNamed : OrganiserObject → List Organiser → ℕ → Type 0
+IsNamed object olds place = get_or (organiser_addresses olds) place [] ≡ address_octets object.organiser
+
+named : (object : OrganiserObject) (said : profile.OrganiserObject) (olds : List Organiser) (place : ℕ) (d : Organiser) → place < length olds → IsNamed object olds place → StandsForObject object said
+    → said.organiser ≡ address_of (get_or olds place d)
+named object said olds place d within is stands = sym (named_at olds place d said.organiser within (is ∙ stands.organiser))
+
+pub taken_at : (moment : ℤ) (object : OrganiserObject) (olds : List Organiser) (place : ℕ) (d new : Organiser) (octets : List ℕ) → place < length olds → IsNamed object olds place
+    → address_of new ≡ address_of (get_or olds place d) → OrganiserTakes moment object (get_or olds place d) new octets → OrganisersTake moment object olds (set olds place new) octets
+taken_at moment object olds place d new octets within is same takes said stands before have =
+    let to = named object said olds place d within is stands in
+    take_in moment said olds place d new octets within to same (takes said stands to) before have
+
+fault_in : (said : profile.OrganiserObject) (n : ℕ) (olds : List Organiser) (place : ℕ) (d : Organiser) → place < length olds → said.organiser ≡ address_of (get_or olds place d)
+    → ((book : OrganiserBook) → Keeps (get_or olds place d) book → StateFault said book n) → (before : List HostedOrganiser) → AreKeptBy olds before
+    → (host : HostedOrganiser) × Contains before host × (host.address ≡ said.organiser) × StateFault said host.book n
+fault_in said n [] place d within to fault before have = absurd (omega arith)
+fault_in said n (o ∷ os) place d within to fault [] have = absurd have
+fault_in said n (o ∷ os) zero d within to fault (b ∷ bs) have = (b, (zero, omega arith, refl), have.0.at ∙ sym to, fault b.book have.0.keeps)
+fault_in said n (o ∷ os) (suc place) d within to fault (b ∷ bs) have =
+    let (host, (k, l, is), address, stands) = fault_in said n os place d (omega arith) to fault bs have.1 in
+    (host, (suc k, omega arith, is), address, stands)
+
+pub refused_at : (object : OrganiserObject) (olds : List Organiser) (place : ℕ) (d : Organiser) (f : Fault) → place < length olds → IsNamed object olds place
+    → RefusesBy (OrganiserRefuses object (get_or olds place d)) f → RefusesBy (OrganisersRefuse object olds) f
+refused_at object olds place d Memory within is h = tt
+refused_at object olds place d (Refused r) within is h = λ said stands before have.
+    let to = named object said olds place d within is stands in
+    let (host, among, address, fault) = fault_in said r.number olds place d within to (h said stands to) before have in
+    in_state host among address fault
+
+keep_in : (olds : List Organiser) (place : ℕ) (d new : Organiser) → address_of new ≡ address_of (get_or olds place d) → KeepsBook (get_or olds place d) new → KeepBooks olds (set olds place new)
+keep_in [] place d new same keeps before have = have
+keep_in (o ∷ os) place d new same keeps [] have = absurd have
+keep_in (o ∷ os) zero d new same keeps (b ∷ bs) have = (record { at = have.0.at ∙ sym same; keeps = keeps b.book have.0.keeps }, have.1)
+keep_in (o ∷ os) (suc place) d new same keeps (b ∷ bs) have = (have.0, keep_in os place d new same keeps bs have.1)
+
+pub kept_at : (olds : List Organiser) (place : ℕ) (d new : Organiser) (old_answers answers : List ℕ) (f : Fault) → address_of new ≡ address_of (get_or olds place d)
+    → IfRefused (KeepsBook (get_or olds place d) new × (answers ≡ old_answers)) f → IfRefused (KeepBooks olds (set olds place new) × (answers ≡ old_answers)) f
+kept_at olds place d new old_answers answers Memory same h = tt
+kept_at olds place d new old_answers answers (Refused r) same h = (keep_in olds place d new same h.0, h.1)
+
+-- ---- one that isn't hosted
+
+untrue : (b : Bool) → (b ≡ true → ⊥) → b ≡ false
+untrue true never = absurd (never refl)
+untrue false never = refl
+
+none_named : (said : profile.OrganiserObject) (a : List ℕ) (olds : List Organiser) (before : List HostedOrganiser) → a ≡ said.organiser → list_any (bytes_eq a) (organiser_addresses olds) ≡ false
+    → AreKeptBy olds before → list_any (λ host. bytes_eq host.address said.organiser) before ≡ false
+none_named said a [] [] to none have = refl
+none_named said a [] (b ∷ bs) to none have = absurd have
+none_named said a (o ∷ os) [] to none have = absurd have
+none_named said a (o ∷ os) (b ∷ bs) to none have =
+    let both = or_parts (bytes_eq a (address_of o)) (list_any (bytes_eq a) (organiser_addresses os)) none in
+    let other : bytes_eq b.address said.organiser ≡ false = untrue _ (λ here. true≢false (sym ((bytes_eq-Decides a (address_of o)).1 (to ∙ sym ((bytes_eq-Decides b.address said.organiser).0 here) ∙ have.0.at)) ∙ both.0)) in
+    ap (λ t. t || list_any (λ host. bytes_eq host.address said.organiser) bs) other ∙ none_named said a os bs to both.1 have.1
+
+pub refused_unhosted : (object : OrganiserObject) (olds : List Organiser) → list_any (bytes_eq (address_octets object.organiser)) (organiser_addresses olds) ≡ false → OrganisersRefuse object olds 70
+refused_unhosted object olds none said stands before have = not_hosted (none_named said (address_octets object.organiser) olds before stands.organiser none have)
+
+-- ---- empty organisers
+
+abbrev pub nothing_kept : List ℕ → HostedOrganiser
+nothing_kept address = record { address = address; book = empty_organiser }
+
+abbrev pub MadeOrganisers : List Address → ℕ → List Organiser → Type 0
+MadeOrganisers = MadeSofar address_of IsKeptBy nothing_kept

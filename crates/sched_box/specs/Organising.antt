@@ -1,0 +1,58 @@
+-- What the organisers of a box answer to what comes to them.
+use Rattle.std.specs.Prelude.{◌≡◌, ℕ, ℤ, List, map}
+use Rattle.std.specs.List.{AllZip}
+use Rattle.itip_messages.specs.OrganiserObjects.{StandsForObject}
+use Rattle.itip_messages.specs.declared.organiser_object.OrganiserObject.{OrganiserObject}
+use Rattle.organiser_books.specs.Standing.{Keeps, address_of}
+use Rattle.organiser_books.specs.declared.organiser.Organiser.{Organiser}
+use Rattle.profile.specs.organisers.Objects as profile
+use Rattle.profile.specs.organisers.Organisers.{OrganiserBook, StateFault}
+use Rattle.profile.specs.streams.Streams.{HostedOrganiser, HostFault, IsTaken, TakesObject}
+
+-- the addresses of the organisers, in order
+abbrev pub organiser_addresses : List Organiser → List (List ℕ)
+organiser_addresses organisers = map address_of organisers
+
+-- the organiser has the address, and keeps the book
+pub record IsKeptBy (organiser : Organiser) (hosted : HostedOrganiser) : Type 0 where
+  pub at : hosted.address ≡ address_of organiser
+  pub keeps : Keeps organiser hosted.book
+
+-- the organisers are what the box keeps
+abbrev pub AreKeptBy : List Organiser → List HostedOrganiser → Type 0
+AreKeptBy organisers hosted = AllZip IsKeptBy organisers hosted
+
+-- ---- one organiser, to whom the object is
+
+-- it takes the object and answers these octets, from whatever it keeps
+abbrev pub OrganiserTakes : ℤ → OrganiserObject → Organiser → Organiser → List ℕ → Type 0
+OrganiserTakes moment object old new octets =
+    (said : profile.OrganiserObject) → StandsForObject object said → said.organiser ≡ address_of old → (book : OrganiserBook) → Keeps old book
+    → (after : OrganiserBook) × Keeps new after × TakesObject moment said book after octets
+
+-- it refuses the object with this number
+abbrev pub OrganiserRefuses : OrganiserObject → Organiser → ℕ → Type 0
+OrganiserRefuses object organiser n =
+    (said : profile.OrganiserObject) → StandsForObject object said → said.organiser ≡ address_of organiser → (book : OrganiserBook)
+    → Keeps organiser book → StateFault said book n
+
+-- what the first keeps, the second does
+abbrev pub KeepsBook : Organiser → Organiser → Type 0
+KeepsBook old new = (book : OrganiserBook) → Keeps old book → Keeps new book
+
+-- ---- all of them
+
+-- the one that the object names takes it
+abbrev pub OrganisersTake : ℤ → OrganiserObject → List Organiser → List Organiser → List ℕ → Type 0
+OrganisersTake moment object olds news octets =
+    (said : profile.OrganiserObject) → StandsForObject object said → (before : List HostedOrganiser) → AreKeptBy olds before
+    → (after : List HostedOrganiser) × AreKeptBy news after × IsTaken moment said before after octets
+
+-- it isn't among them, or refuses the object with this number
+abbrev pub OrganisersRefuse : OrganiserObject → List Organiser → ℕ → Type 0
+OrganisersRefuse object organisers n =
+    (said : profile.OrganiserObject) → StandsForObject object said → (before : List HostedOrganiser) → AreKeptBy organisers before
+    → HostFault said before n
+
+abbrev pub KeepBooks : List Organiser → List Organiser → Type 0
+KeepBooks olds news = (before : List HostedOrganiser) → AreKeptBy olds before → AreKeptBy news before

@@ -1,0 +1,127 @@
+//! What a box keeps, in one value: it takes one object after another, and answers each.
+
+ghost use Rattle.std.specs.Prelude.{◌≡◌, ◌++◌, List, ℕ, IfOk, IfErr, OnOk};
+ghost use Rattle.ical_lines.specs.Fault.{RefusesBy};
+ghost use Rattle.itip_messages.specs.Readings.{IsSpelled};
+ghost use Rattle.profile.specs.streams.Streams.{ObjectFault, refused_line};
+ghost use Rattle.sched_box.specs.Objects.{kept_of};
+
+use crate::config::Config;
+use crate::fault::ServeFault;
+use crate::objects::KEPT;
+use crate::organisers::Organisers;
+use crate::rooms::Rooms;
+use ical_lines::{Fault, Refusal};
+use ical_values::{Address, Stamp};
+use itip_messages::Message;
+use itoa::Buffer;
+use room_books::Room;
+use std::alloc::{AllocError, Global};
+
+/// The rooms and the organisers that a box hosts, each with all that it took.
+#[derive(Drop)]
+pub(crate) struct Books {
+    alloc: Global,
+    rooms: Rooms,
+    organisers: Organisers,
+}
+
+impl Books {
+    ghost use Rattle.std.specs.Prelude.{◌≡◌, ◌≤◌, ◌++◌, ℕ, List, Contains, IfOk, IfErr, IfSome, IsNone, OnOk};
+    ghost use Rattle.ical_lines.specs.Fault.{RefusesBy};
+    ghost use Rattle.ical_values.specs.Octets.{address_octets};
+    ghost use Rattle.ical_values.specs.Refused.{IfRefused};
+    ghost use Rattle.profile.specs.streams.Streams.{Box, new_box};
+    ghost use Rattle.sched_box.specs.Books.{AnswersKept, AreKept, KeepAll, RefusesKept, TakesKept, hosted_rooms};
+    ghost use Rattle.sched_box.specs.Config.{config_hosts, config_rooms};
+
+    /// Empty books for each room and each organiser, in the order of the configuration.
+    pub(crate) fn new(alloc: Global, config: &Config) -> Result<Books, AllocError>
+        ensures addresses { IfOk result (λ books. hosted_rooms books ≡ config_rooms config.now) }
+        ensures kept { IfOk result (λ books. AreKept books (new_box (config_hosts config.now))) }
+    {
+        let rooms = Rooms::new(alloc, config)?;
+        let organisers = Organisers::new(alloc, config)?;
+        Ok(Books {
+            alloc,
+            rooms,
+            organisers,
+        })
+    }
+
+    /// The room of an address, if the box hosts it.
+    pub(crate) fn room_at(&self, address: &Address) -> Option<&Room>
+        ensures found { IfSome result (λ room. Contains self.now.rooms.rooms.items room.now) }
+        ensures address { IfSome result (λ room. address_octets room.now.address ≡ address_octets address.now) }
+        ensures none { IsNone result → Contains (hosted_rooms self.now) (address_octets address.now) → ⊥ }
+    {
+        self.rooms.at(address)
+    }
+
+    /// Takes one object, its number in the stream from 1, and appends the answers to it; how many refusals it is: 0 or 1.
+    pub(crate) fn take(
+        &mut self,
+        octets: &[u8],
+        number: u64,
+        now: Stamp,
+        answers: &mut Vec<u8>,
+    ) -> Result<u64, ServeFault>
+        ensures answers { IfOk result (λ refused. (more : List ℕ) × (answers.new.items ≡ answers.old.items ++ more)
+            × AnswersKept now number octets.now self.old self.new more refused) }
+        ensures count { IfOk result (λ refused. refused ≤ 1) }
+        ensures addresses { IfOk result (λ _. hosted_rooms self.new ≡ hosted_rooms self.old) }
+        ensures memory { IfErr result (λ fault. fault ≡ ServeFault.Memory) }
+    {
+        match self.answer(octets, now, answers) {
+            Ok(()) => Ok(0),
+            Err(Fault::Refused(refusal)) => {
+                write_refusal(number, refusal, answers)?;
+                Ok(1)
+            }
+            Err(Fault::Memory) => Err(ServeFault::Memory),
+        }
+    }
+
+    /// Hands one object to the rooms or to the organiser, and appends what is answered.
+    /// Refused, and then nothing has changed: as by `read_kept` and `Organisers::take`.
+    fn answer(&mut self, octets: &[u8], now: Stamp, answers: &mut Vec<u8>) -> Result<(), Fault>
+        ensures takes { OnOk result ((more : List ℕ) × (answers.new.items ≡ answers.old.items ++ more)
+            × TakesKept now octets.now self.old self.new more) }
+        ensures stands { IfErr result (RefusesBy (RefusesKept octets.now self.old)) }
+        ensures keeps { IfErr result (IfRefused (KeepAll self.old self.new × (answers.new.items ≡ answers.old.items))) }
+        ensures addresses { hosted_rooms self.new ≡ hosted_rooms self.old }
+    {
+        match read_kept(self.alloc, octets)? {
+            Message::ToRooms(message) => {
+                self.rooms.take(self.alloc, &message, now, answers)?;
+                Ok(())
+            }
+            Message::ToOrganiser(object) => self.organisers.take(object, now, answers),
+        }
+    }
+}
+
+/// The message that an object is, of which at most 1,048,577 octets were kept.
+/// Refused: 6 where so many were, and as by `Message::read`.
+fn read_kept(alloc: Global, octets: &[u8]) -> Result<Message, Fault>
+    ensures spells { IfOk result (λ message. (object : List ℕ) → octets.now ≡ kept_of object → IsSpelled object message) }
+    ensures stands { IfErr result (λ fault. (object : List ℕ) → octets.now ≡ kept_of object → RefusesBy (λ n. ObjectFault n object) fault) }
+{
+    if octets.len() >= KEPT {
+        return Err(Fault::Refused(Refusal::TOO_LONG));
+    }
+    Message::read(alloc, octets)
+}
+
+/// The line that stands for a refused object: `REFUSED;OBJECT=k:n`.
+fn write_refusal(number: u64, refusal: Refusal, answers: &mut Vec<u8>) -> Result<(), AllocError>
+    ensures { OnOk result (answers.new.items ≡ answers.old.items ++ refused_line number refusal.number) }
+{
+    let mut digits = Buffer::new();
+    answers.extend_from_slice(b"REFUSED;OBJECT=")?;
+    answers.extend_from_slice(digits.format(number).as_bytes())?;
+    answers.extend_from_slice(b":")?;
+    answers.extend_from_slice(digits.format(refusal.number).as_bytes())?;
+    answers.extend_from_slice(b"\r\n")?;
+    Ok(())
+}
