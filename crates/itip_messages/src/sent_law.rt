@@ -20,8 +20,8 @@ pub fn stored_texts_can_be_sent()
 
 /// Whatever an organiser takes back: the octets of its CANCEL spell a message of that METHOD, whose meeting is one VEVENT for the whole,
 /// of this organiser, UID and revision, cancelled where it is called off, with the attendees in their order (RFC 5546 3.2.5). So it says to each
-/// of them that the whole meeting is cancelled, and nothing to any other. Owed are texts as a message's are read, and octets
-/// within the limits of a message.
+/// of them that the whole meeting is cancelled, and, where there is one, nothing to any other. Owed are texts as a message's are read, and
+/// octets within the limits of a message.
 pub fn cancels_read_back()
     ensures spells { (organiser uid : List ℕ) (revision : Revision) (called_off : Bool) (to : List (List ℕ)) (octets : List ℕ)
         → IsSentName organiser uid revision → ((address : List ℕ) → Contains to address → IsSentAddress address)
