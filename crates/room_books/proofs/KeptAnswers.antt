@@ -41,16 +41,18 @@ use Rattle.itip_messages.proofs.ZonePlaces.{named_lines}
 use Rattle.cal_events.specs.Meetings.{IsNamed}
 use Rattle.cal_events.proofs.InOneOrder.{of_filtered, of_mapped}
 use Rattle.cal_events.proofs.OneInstance.{event_sound}
-use Rattle.room_books.proofs.KeptOwn.{SpellPart, SpellSlot, slot_lines, own_front, own_back, own_lines, when_lines, zoned_event, zoned_says}
-use Rattle.room_books.proofs.KeptWhen.{EventFacts, IsCleanSlot, duration_clean, duration_of, event_facts, kept_rule, own_content, own_properties, when_of}
-use Rattle.room_books.proofs.ZonedStarts.{local_written}
+use Rattle.itip_messages.proofs.OwnLines.{SpellSlot, slot_lines, own_front, when_lines}
+use Rattle.room_books.proofs.KeptOwn.{SpellPart, own_back, own_lines, zoned_event, zoned_own, zoned_says}
+use Rattle.itip_messages.proofs.OwnWhen.{EventFacts, IsCleanSlot, duration_clean, duration_of, event_facts, when_of, written_rule}
+use Rattle.itip_messages.proofs.ZonedStarts.{local_written}
 use Rattle.room_books.proofs.KeptEvents.{hidden_own, hidden_event, hidden_says, kept_confirmed}
 use Rattle.room_books.proofs.KeptInstances.{kept_asks}
 use Rattle.room_books.proofs.KeptLines.{hidden_content, hidden_properties}
-use Rattle.room_books.proofs.KeptZones.{Lines, IsKeptTree, vevent_lines}
+use Rattle.itip_messages.proofs.ObjectTree.{Lines, vevent_lines}
+use Rattle.itip_messages.proofs.ZonedObjects.{IsZonedTree}
 use Rattle.room_books.proofs.Loops.{zip_from}
-use Rattle.room_books.proofs.KeptRequests.{clean_value, vevent_among}
-use Rattle.room_books.proofs.ZonedStarts.{IsSaid, name_means, name_plain}
+use Rattle.itip_messages.proofs.EventLines.{clean_value, vevent_among}
+use Rattle.itip_messages.proofs.ZonedStarts.{IsSaid, name_means, name_plain}
 
 -- octets ask the room for the part, with this content: it is that of one of the events that they say
 pub record IsAsked (room : List ℕ) (content : Content) (part : Part) : Type 0 where
@@ -73,7 +75,7 @@ pub record ReadsBack (zones : List (List ℕ)) (lines : Lines) (organiser uid : 
   pub are : lines ≡ vevent_lines own
   pub properties : list_all is_property own ≡ true
   pub content : list_all is_content own ≡ true
-  pub says : (owns : List Lines) (k : IsKeptTree zones owns) → SaysEvent k.kept None own said
+  pub says : (owns : List Lines) (k : IsZonedTree None zones owns) → SaysEvent k.whole None own said
   pub meeting : meeting_said said ≡ (organiser, uid)
   pub slot_is : messages.slot_of said ≡ slot
 
@@ -314,7 +316,7 @@ shows_back room zones claim lines f set (name, given_name, k) =
     let plain = name_plain zones claim.content event c name given_name in
     let l = named_lines name claim.content event c in
     let facts = m.says.facts b.stays in
-    let rule = kept_rule event.times (local_written event.times.zone event.times) facts.local m.ready.timely.steady.meaning event.rule c.rule facts.recurs c.recurs in
+    let rule = written_rule event.times (local_written event.times.zone event.times) facts.local m.ready.timely.steady.meaning event.rule c.rule facts.recurs c.recurs in
     let w = when_of name claim.content event c l plain (adds_instances (Some a.given.method)) facts rule event.recurrence (or_from_right (adds_instances (Some a.given.method))) in
     let duration = duration_of event in
     let uid = escaped part.uid in
@@ -325,6 +327,9 @@ shows_back room zones claim lines f set (name, given_name, k) =
     let said = zoned_event event event.recurrence number part.organiser part.revision.stamp room rule.back w.adds.ascending w.takes.ascending in
     let when = when_lines l.start duration c.rule c.additions c.exceptions in
     let own = own_lines told.text uid sequence k.stamp when part.organiser room in
+    let good =
+    zoned_own name event told.text event.recurrence number uid sequence k.stamp l.start duration part.organiser room part.revision.stamp c.rule c.additions c.exceptions rule.back event.additions _ spell_event w told.clean (clean_text part.uid n.uid)
+    (clean_shown sequence (shown_decimal part.revision.sequence (omega arith))) (clean_shown k.stamp (shown_stamp k.stamp part.revision.stamp k.written_stamp)) (duration_clean event) (clean_address part.organiser n.organiser) (clean_address room r.text) in
     record {
       back = record {
         own = own;
@@ -332,11 +337,10 @@ shows_back room zones claim lines f set (name, given_name, k) =
         are = k.is ∙ ap₂ (λ (sl b : Lines). (((codes "BEGIN:VEVENT" ∷ (codes "UID:" ++ uid) ∷ sl) ++ ((codes "SEQUENCE:" ++ sequence) ∷ (codes "DTSTAMP:" ++ k.stamp) ∷ [])) ++ b)
             ++ ((codes "ORGANIZER:" ++ part.organiser) ∷ (codes "ATTENDEE;PARTSTAT=ACCEPTED:" ++ room) ∷ codes "END:VEVENT" ∷ [])) told.are l.are
             ∙ ap (λ (x : Lines). codes "BEGIN:VEVENT" ∷ x) (sym (append_assoc (own_front told.text uid sequence k.stamp ++ when) (own_back part.organiser room) (codes "END:VEVENT" ∷ [])));
-        properties = own_properties name event event.recurrence l.start duration c.rule c.additions c.exceptions rule.back event.additions _ w told.text uid sequence k.stamp part.organiser room;
-        content = own_content name event event.recurrence l.start duration c.rule c.additions c.exceptions rule.back event.additions _ w told.text uid sequence k.stamp part.organiser room told.clean (clean_text part.uid n.uid)
-            (clean_shown sequence (shown_decimal part.revision.sequence (omega arith))) (clean_shown k.stamp (shown_stamp k.stamp part.revision.stamp k.written_stamp)) (duration_clean event) (clean_address part.organiser n.organiser) (clean_address room r.text);
-        says = λ owns t. zoned_says name event told.text event.recurrence number uid sequence k.stamp l.start duration part.organiser room part.revision.stamp c.rule c.additions c.exceptions rule.back event.additions _ spell_event w told.spells t.kept
-            (name_means zones owns t claim.content event c m.says.zone name given_name);
+        properties = good.properties;
+        content = good.content;
+        says = λ owns t. zoned_says name event told.text event.recurrence number uid sequence k.stamp l.start duration part.organiser room part.revision.stamp c.rule c.additions c.exceptions rule.back event.additions _ spell_event w told.spells t.whole
+            (name_means None zones owns t claim.content event c m.says.zone name given_name);
         meeting = ap (λ (u : List ℕ). (part.organiser, u)) (sym a.is_part.uid);
         slot_is = sym a.is_part.slot;
       };
@@ -380,7 +384,7 @@ hides_back room zones content part lines hiding a r h k =
         properties = hidden_properties uid text sequence k.stamp h.text part.organiser room;
         content = hidden_content uid text sequence k.stamp h.text part.organiser room (clean_text part.uid n.uid) (clean_shown text (shown_stamp text h.instant tells.1)) (clean_shown sequence (shown_decimal part.revision.sequence (omega arith)))
             (clean_shown k.stamp (shown_stamp k.stamp part.revision.stamp k.written_stamp)) (clean_shown h.text (shown_stamp h.text h.instant h.written)) (clean_address part.organiser n.organiser) (clean_address room r.text);
-        says = λ owns t. says t.kept;
+        says = λ owns t. says t.whole;
         meeting = refl;
         slot_is = sym h.at;
       };

@@ -24,7 +24,7 @@ use Rattle.cal_events.proofs.OwnSingles.{master_alone}
 use Rattle.itip_order.proofs.Lasting.{view_taken}
 use Rattle.itip_order.proofs.Lists.{in_head, in_tail, any_at, any_from}
 use Rattle.itip_order.proofs.Registers.{same_part_is, same_part_refl}
-use Rattle.itip_messages.proofs.ContentLines.{ReadsLines}
+use Rattle.itip_messages.proofs.ContentLines.{LinesBack, ReadsLines, no_method}
 use Rattle.clash_cert.proofs.MakingLemmas.{stands}
 use Rattle.room_books.specs.BySlot.{Reordered}
 use Rattle.room_books.specs.Standing.{Pairwise}
@@ -35,7 +35,8 @@ use Rattle.room_books.proofs.KeptInstances.{IsHiding, none_left, series_left, si
 use Rattle.room_books.proofs.KeptMeetings.{meeting_trans}
 use Rattle.room_books.proofs.KeptReplaced.{replaced_by}
 use Rattle.room_books.proofs.KeptRuns.{KeepsAll, runs_keep}
-use Rattle.room_books.proofs.KeptZones.{Lines, LinesBack, ZoneBack, IsKeptTree, kept_spelled, vevent_lines}
+use Rattle.itip_messages.proofs.ObjectTree.{Lines, vevent_lines}
+use Rattle.itip_messages.proofs.ZonedObjects.{IsZonedTree, ZoneBack, zoned_spelled}
 use Rattle.room_books.proofs.Loops.{zip_from, zip_to}
 use Rattle.room_books.proofs.Pairs.{pairs_from}
 use Rattle.room_books.proofs.Reordering.{re_back, re_flat, re_in, re_length}
@@ -61,7 +62,7 @@ record AllBack (room : List ℕ) (zones : List (List ℕ)) (entries : List Entry
   are : flat_map (λ lines. lines) each ≡ flat_map vevent_lines owns
   properties : list_all (list_all is_property) owns ≡ true
   content : list_all (list_all is_content) owns ≡ true
-  says : (all : List Lines) (k : IsKeptTree zones all) → AllZip (SaysEvent k.kept None) owns saids
+  says : (all : List Lines) (k : IsZonedTree None zones all) → AllZip (SaysEvent k.whole None) owns saids
   entries_are : AllZip (SaysEntry room) saids entries
 
 record OneBack (room : List ℕ) (zones : List (List ℕ)) (entry : Entry) (lines : Lines) : Type 0 where
@@ -70,7 +71,7 @@ record OneBack (room : List ℕ) (zones : List (List ℕ)) (entry : Entry) (line
   are : lines ≡ vevent_lines own
   properties : list_all is_property own ≡ true
   content : list_all is_content own ≡ true
-  says : (all : List Lines) (k : IsKeptTree zones all) → SaysEvent k.kept None own said
+  says : (all : List Lines) (k : IsZonedTree None zones all) → SaysEvent k.whole None own said
   entry_is : SaysEntry room said entry
 
 module _ (room : List ℕ) (book : Book) (k : KeepsAll room book) where
@@ -378,7 +379,7 @@ module _ (back : LinesBack) (reads : ReadsLines) (zone_back : ZoneBack) where
       let zones = zones_kept c.entries in
       let b = all_back room book keeps zones c.entries c.events (λ e h. let p = entry_placed book c.entries c.kept e h in (p.first, p.is)) c.each in
       let have : HaveZones c.entries = λ claim h. let p = entry_placed book c.entries c.kept (Shown claim) h in zone_asked room book keeps p.first claim p.is in
-      let t = kept_spelled back zone_back zones b.owns (zones_kept_are c.entries have) c.few b.properties b.content in
+      let t = zoned_spelled back zone_back None no_method zones b.owns (zones_kept_are c.entries have) c.few b.properties b.content in
       let whole : octets ≡ written t.lines = c.is ∙ ap (λ l. written (opening_lines None) ++ zone_texts 0 zones ++ written (l ++ codes "END:VCALENDAR" ∷ [])) b.are ∙ t.text in
       let logical : logical_lines octets ≡ t.lines = ap logical_lines whole ∙ back t.lines t.content in
       let differ = pairs_from (λ a b. meeting_said a ≡ meeting_said b → slot_of a ≢ slot_of b) b.saids (saids_differ room b.saids c.entries b.entries_are (entries_differ book c.entries c.kept)) in
@@ -391,11 +392,11 @@ module _ (back : LinesBack) (reads : ReadsLines) (zone_back : ZoneBack) where
         each = series_all room book keeps c.entries c.kept b.saids b.entries_are b.saids c.entries b.entries_are (λ e h. h);
         spells = record {
           lines = ap (reads_as_lines false) whole ∙ reads t.lines t.content;
-          tree = t.kept;
-          object = subst (λ (l : Lines). IsObject tree_name tree_own tree_inside false t.kept l) (sym logical) t.object;
+          tree = t.whole;
+          object = subst (λ (l : Lines). IsObject tree_name tree_own tree_inside false t.whole l) (sym logical) t.object;
           says = record {
             events = b.saids;
-            says = subst (λ (l : List Lines). AllZip (SaysEvent t.kept None) l b.saids) (sym t.events) (b.says b.owns t);
+            says = subst (λ (l : List Lines). AllZip (SaysEvent t.whole None) l b.saids) (sym t.events) (b.says b.owns t);
             masters = λ i j d l w m n same. differ i j d l w same (ap slot_named m ∙ sym (ap slot_named n));
             overrides = λ i j d l w slot m n same. differ i j d l w same (ap slot_named m ∙ sym (ap slot_named n));
             are = are;

@@ -16,12 +16,13 @@ use Rattle.profile.specs.events.Confirmed.{alone, has_series, is_kept, AreApart,
 use Rattle.profile.specs.rooms.Messages.{AreAscending, is_in_dates}
 use Rattle.profile.specs.rooms.Rooms.{Claim}
 use Rattle.profile.specs.streams.Streams.{AsksFor}
-use Rattle.profile.specs.series.Rules.{Parts, is_rule_day}
+use Rattle.profile.specs.series.Rules.{Parts}
 use Rattle.cal_events.proofs.InOneOrder.{in_filtered, of_filtered}
 use Rattle.cal_events.proofs.OwnSingles.{IsAtStart, IsItself, master_alone, alone_master, override_alone, alone_override, of_both}
 use Rattle.cal_events.proofs.SeriesLemmas.{in_its_series, of_its_series}
+use Rattle.itip_messages.specs.SentBack.{IsSameRule}
 use Rattle.room_books.proofs.KeptOwn.{zoned_event}
-use Rattle.room_books.proofs.ZonedStarts.{local_written}
+use Rattle.itip_messages.proofs.ZonedStarts.{local_written}
 
 lesser : (a b : ℤ) → a <ℤ b → lt_z a b ≡ true
 lesser a b h = by (lt_z a b) refl
@@ -39,13 +40,6 @@ no_lesser a b h = by (lt_z a b) refl
 
 in_the_dates : (t : ℤ) → first_second ≤ℤ t → t <ℤ horizon → is_in_dates t ≡ true
 in_the_dates t low high = and_from _ _ (lesser t horizon high) (ap not (no_lesser t first_second low))
-
--- two rules have the same days, or there is none
-abbrev pub IsSameRule : Option Parts → Option Parts → Type 0
-IsSameRule None None = Unit {0}
-IsSameRule (Some rule) (Some back) = (day : ℕ) → is_rule_day back day ≡ is_rule_day rule day
-IsSameRule None (Some back) = ⊥
-IsSameRule (Some rule) None = ⊥
 
 module _ (event : Event) (number : ℕ) (organiser : List ℕ) (stamp : ℤ) (room : List ℕ) (back : Option Parts) (additions exceptions : List ℤ)
     (organised : event.organiser ≡ Some organiser) (local_same : local_written event.times.zone event.times ≡ event.times.local) (same : IsSameRule event.rule back)

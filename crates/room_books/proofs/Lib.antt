@@ -26,13 +26,8 @@ pub mod KeptMeetings
 pub mod KeptCalendars
 pub mod KeptStreams
 pub mod KeptAnswers
-pub mod KeptRequests
-pub mod ZoneNames
-pub mod KeptZones
-pub mod ZonedStarts
 pub mod ZonesIn
 pub mod KeptOwn
-pub mod KeptWhen
 pub mod KeptEvents
 pub mod KeptInstances
 pub mod KeptEntries

@@ -13,9 +13,9 @@ use Rattle.profile.specs.rooms.Messages.{Content, IsContent, IsZoneRest}
 use Rattle.profile.specs.rooms.Kept.{Entry, Shown, Hidden, IsNamed, each_once, zone_kept, zone_name, zones_kept}
 use Rattle.profile.specs.rooms.Rooms.{Claim}
 use Rattle.profile.specs.series.Zones.{Zone}
-use Rattle.room_books.proofs.KeptZones.{IsZone}
+use Rattle.itip_messages.proofs.ZonedObjects.{IsZone}
 use Rattle.itip_messages.proofs.TimeLists.{filter_short}
-use Rattle.room_books.proofs.ZonedStarts.{IsSaid}
+use Rattle.itip_messages.proofs.ZonedStarts.{IsSaid}
 
 -- ---- each is one of them
 
