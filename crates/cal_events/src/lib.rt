@@ -41,4 +41,4 @@ pub use reading::{
 pub use series::Series;
 pub use sweep::{Overlap, Span, first_overlap};
 pub use whole::{all_instances, all_starts, known_by_start, listed_series};
-pub use zoned::{ZonedTime, one_zoned_time};
+pub use zoned::{ZonedTime, judge_time, one_zoned_time};

@@ -1,12 +1,12 @@
 //! A time with its zone, as a start or an end: TZID names a VTIMEZONE of the object that the line stands in
 //! (RFC 5545 3.2.19, 3.3.5, 3.6.5, 3.8.3.1). A VTIMEZONE that no line names isn't read.
-ghost use Rattle.std.specs.Prelude.{◌≡◌, ℕ, List, Option, None, Some, ℤ, pos, IfOk, IfErr};
+ghost use Rattle.std.specs.Prelude.{◌≡◌, ◌⊎◌, ℕ, List, Option, None, Some, ℤ, pos, IfOk, IfErr, OnOk};
 ghost use Rattle.ical_lines.specs.Text.{line_text};
 ghost use Rattle.profile.specs.text.Trees.{Tree};
-ghost use Rattle.profile.specs.text.Values.{SpellsLocal};
+ghost use Rattle.profile.specs.text.Values.{SpellsLocal, SpellsStamp};
 ghost use Rattle.profile.specs.series.Zones as zones;
 ghost use Rattle.profile.specs.series.Zones.{Means, IsNearEpoch};
-ghost use Rattle.profile.specs.events.Properties.{time_kind, DateTime};
+ghost use Rattle.profile.specs.events.Properties.{time_kind, DateTime, IsLocalText};
 ghost use Rattle.profile.specs.events.ZonedTimes.{SpellsZoned, SaysZonedText, SaysZonedTime, clock_of, DateOrMalformed, LocalFault, InZoneFault, ZonedTextFault, ZonedTimeFault};
 ghost use Rattle.cal_zones.specs.Kinds.{zone_of};
 ghost use Rattle.cal_events.specs.Zones.{object_of, AreRead};
@@ -109,6 +109,25 @@ pub fn one_zoned_time()
     one_stamp();
     one_local_time();
     one_zone();
+}
+
+/// Judges a text of a time of a line by itself: but for the VTIMEZONE that TZID names, which only its object has.
+/// Refused without TZID: 10, 11, 55 and 56, as a UTC time is. Refused with TZID: 11, 55 and 56, as a local time is.
+pub fn judge_time(line: Line<'_>, text: &str) -> Result<(), Refusal>
+    ensures kind { OnOk result (time_kind (line_text line.entry) ≡ DateTime) }
+    ensures reads { OnOk result (((instant : ℤ) × SpellsStamp text.now instant) ⊎ IsLocalText text.now) }
+    ensures stands { IfErr result (λ e. (object : Tree) → ZonedTextFault object (line_text line.entry) text.now e.number) }
+{
+    match line.param("TZID") {
+        Some(_) => {
+            read_local(line, text)?;
+            Ok(())
+        }
+        None => {
+            read_time(line, text)?;
+            Ok(())
+        }
+    }
 }
 
 /// A text of a line with TZID.

@@ -12,7 +12,7 @@ use cal_events::one_event;
 use ical_tree::one_tree;
 
 /// Octets say at most one message, to rooms or to an organiser, and none where a fault stands in them. With the contract of `Message::read`: what
-/// is taken is the one message that the octets spell, and what is refused spells none (RFC 5545 3.4, RFC 5546 3.2.2 to 3.2.6, RFC 6638 3.2).
+/// is taken is the one message that the octets spell, and what is refused spells none (RFC 5545 3.4, RFC 5546 3.2.2 to 3.2.6, RFC 4791 4.1).
 pub fn one_message()
     ensures one { (octets : List ℕ) (a b : Said) → Spells octets a → Spells octets b → a ≡ b }
     ensures or_a_fault { (octets : List ℕ) (a : Said) (n : ℕ) → Spells octets a → ObjectFault n octets → ⊥ }

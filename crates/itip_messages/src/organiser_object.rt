@@ -27,7 +27,7 @@ use std::alloc::{AllocError, Global};
 /// What is asked of an organiser.
 #[derive(Clone, Copy, PartialEq, Eq)]
 pub enum Operation {
-    /// That it store a meeting: an object without METHOD (RFC 6638 3.2).
+    /// That it store a meeting: an object without METHOD (RFC 4791 4.1).
     Store,
     /// That it note an attendee's answer (RFC 5546 3.2.3).
     Reply,

@@ -1,5 +1,5 @@
 -- What was read of an object says what its events do.
-use Rattle.std.proofs.Common.{◌≡◌, ◌∙◌, ℕ, ℤ, Bool, true, false, not, is_some, ◌&&◌, ◌||◌, cond, List, [], ◌∷◌, ◌++◌, map, Option, None, Some, refl, sym, ap, subst}
+use Rattle.std.proofs.Common.{◌≡◌, ◌∙◌, ℕ, max, ℤ, Bool, true, false, not, is_some, ◌&&◌, ◌||◌, cond, List, [], ◌∷◌, ◌++◌, map, Option, None, Some, refl, sym, ap, subst}
 use Rattle.std.specs.Prelude.{nat_lt, unwrap_or}
 use Rattle.std.specs.List.{AllZip, flat_map, filter, list_any, Contains}
 use Rattle.std.specs.Str.{bytes_eq}
@@ -13,7 +13,7 @@ use Rattle.profile.specs.rooms.Kept.{each_once}
 use Rattle.profile.specs.organisers.Objects as objects
 use Rattle.profile.specs.organisers.Objects.{AreOfMeeting, counted}
 use Rattle.profile.specs.organisers.Organisers as profile
-use Rattle.profile.specs.organisers.Organisers.{Heard, attendees_of, greater, heard_in, is_attendee, is_called_off, own_sequence, left_to_server, scheduled_in}
+use Rattle.profile.specs.organisers.Organisers.{Heard, attendees_of, heard_in, is_attendee, is_called_off, own_sequence, left_to_server, scheduled_in}
 use Rattle.itip_order.specs.declared.part.Slot.{Slot}
 use Rattle.itip_order.specs.declared.part.Slot.TheVariants.{Whole, At}
 use Rattle.itip_order.specs.Parts.{revision_of, slot_of}
@@ -91,7 +91,7 @@ pub own_are : (events : List Event) (components : List ObjectComponent) → AllZ
 own_are [] [] z = refl
 own_are [] (c ∷ cs) z = absurd z
 own_are (e ∷ es) [] z = absurd z
-own_are (e ∷ es) (c ∷ cs) z = λ i. greater (sequence_is e c z.0 i) (own_are es cs z.1 i)
+own_are (e ∷ es) (c ∷ cs) z = λ i. max (sequence_is e c z.0 i) (own_are es cs z.1 i)
 
 whole_is : (slot : Slot) (recurrence : Option ℤ) → slot_of slot ≡ slot_named recurrence → is_whole slot ≡ not (is_some recurrence)
 whole_is Whole None e = refl

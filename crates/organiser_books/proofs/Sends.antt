@@ -1,9 +1,8 @@
 -- An object that is sent to some, and nothing where there is nobody.
-use Rattle.std.proofs.Common.{◌≡◌, ◌∙◌, ℕ, ◌+◌, ◌<◌, Bool, true, false, cond, List, [], ◌∷◌, ◌++◌, map, length, refl, sym, ap, arith, inl, inr}
-use Rattle.std.specs.Prelude.{nat_lt}
+use Rattle.std.proofs.Common.{◌≡◌, ◌∙◌, ℕ, ◌+◌, max, Bool, true, false, List, [], ◌∷◌, ◌++◌, map, length, refl, sym, ap, arith, inl, inr}
 use Rattle.std.specs.List.{AllZip}
-use Rattle.std.proofs.lemmas.Bool.{cases_lt, lt-ltb, le-ltb, cases_Bool}
-use Rattle.profile.specs.organisers.Organisers.{Sends, greater}
+use Rattle.std.proofs.lemmas.Bool.{cases_Bool}
+use Rattle.profile.specs.organisers.Organisers.{Sends}
 use Rattle.itip_messages.specs.declared.organiser_object.ObjectComponent.{ObjectComponent}
 use Rattle.organiser_books.specs.Storing.{own_in, sent_to}
 
@@ -24,27 +23,6 @@ copied (x ∷ xs) (y ∷ ys) z = λ i. z.0 i ∷ copied xs ys z.1 i
 
 -- ---- the greatest of numbers
 
-greater_at : (a b : ℕ) → (t : Bool) → nat_lt a b ≡ t → greater a b ≡ cond t b a
-greater_at a b t e = ap (λ c. cond c b a) e
-
-pub greater_again : (y r x : ℕ) → greater y (greater r x) ≡ greater (greater y r) x
-greater_again y r x = elim (cases_lt r x) [
-  | inl above ↦ elim (cases_lt y r) [
-    | inl low ↦ ap (greater y) (greater_at r x true (lt-ltb r x above)) ∙ greater_at y x true (lt-ltb y x (omega (arith, above, low))) ∙ sym (ap (λ z. greater z x) (greater_at y r true (lt-ltb y r low)) ∙ greater_at r x true (lt-ltb r x above))
-    | inr high ↦ ap (greater y) (greater_at r x true (lt-ltb r x above)) ∙ sym (ap (λ z. greater z x) (greater_at y r false (le-ltb y r high)))
-  ]
-  | inr below ↦ elim (cases_lt y r) [
-    | inl low ↦ ap (greater y) (greater_at r x false (le-ltb r x below)) ∙ greater_at y r true (lt-ltb y r low) ∙ sym (ap (λ z. greater z x) (greater_at y r true (lt-ltb y r low)) ∙ greater_at r x false (le-ltb r x below))
-    | inr high ↦ ap (greater y) (greater_at r x false (le-ltb r x below)) ∙ greater_at y r false (le-ltb y r high) ∙ sym (ap (λ z. greater z x) (greater_at y r false (le-ltb y r high)) ∙ greater_at y x false (le-ltb y x (omega (arith, high, below))))
-  ]
-]
-
-pub own_push : (xs : List ObjectComponent) (x : ObjectComponent) → own_in (xs ++ x ∷ []) ≡ greater (own_in xs) x.revision.sequence
-own_push [] x = alone x.revision.sequence
-  where
-    alone : (n : ℕ) → greater n 0 ≡ greater 0 n
-    alone n = elim (cases_lt 0 n) [
-      | inl some ↦ greater_at n 0 false (le-ltb n 0 (omega arith)) ∙ sym (greater_at 0 n true (lt-ltb 0 n some))
-      | inr none ↦ greater_at n 0 false (le-ltb n 0 (omega arith)) ∙ omega (arith, none) ∙ sym (greater_at 0 n false (le-ltb 0 n none))
-    ]
-own_push (y ∷ ys) x = ap (greater y.revision.sequence) (own_push ys x) ∙ greater_again y.revision.sequence (own_in ys) x.revision.sequence
+pub own_push : (xs : List ObjectComponent) (x : ObjectComponent) → own_in (xs ++ x ∷ []) ≡ max (own_in xs) x.revision.sequence
+own_push [] x = omega arith
+own_push (y ∷ ys) x = ap (max y.revision.sequence) (own_push ys x) ∙ omega arith

@@ -1,17 +1,16 @@
 -- A meeting that is stored.
-use Rattle.std.proofs.Common.{◌≡◌, ◌∙◌, ℕ, ℤ, ◌+◌, ◌<◌, ◌≤◌, Bool, true, false, cond, List, [], ◌∷◌, ◌++◌, Option, None, Some, refl, sym, ap, subst, inl, inr, arith}
-use Rattle.std.specs.Prelude.{nat_lt}
+use Rattle.std.proofs.Common.{◌≡◌, ◌∙◌, ℕ, ℤ, ◌+◌, ◌<◌, ◌≤◌, max, Bool, true, false, cond, List, [], ◌∷◌, ◌++◌, Option, None, Some, refl, sym, ap, subst, inl, inr, arith}
 use Rattle.std.specs.List.{AllZip, filter, Contains, position}
 use Rattle.std.specs.Map.{keys_of}
 use Rattle.std.specs.Str.{bytes_eq}
-use Rattle.std.proofs.lemmas.Bool.{true≢false, both_ways, cases_lt, lt-ltb, le-ltb}
+use Rattle.std.proofs.lemmas.Bool.{true≢false, both_ways}
 use Rattle.ical_values.specs.Octets.{address_octets, text_octets}
 use Rattle.ical_values.specs.declared.text.Text.{Text}
 use Rattle.profile.specs.events.Events.{Attendee, Event}
 use Rattle.profile.specs.rooms.Revisions.{Revision, Slot}
 use Rattle.profile.specs.organisers.Objects as objects
 use Rattle.profile.specs.organisers.Objects.{is_of_attendee}
-use Rattle.profile.specs.organisers.Organisers.{Heard, OrganiserBook, Sent, Stored, StateFault, SendsStore, IsStore, answers_store, greater, is_called_off, last_events, last_store, most_sequence, own_sequence, scheduled_in, sequence_after, without}
+use Rattle.profile.specs.organisers.Organisers.{Heard, OrganiserBook, Sent, Stored, StateFault, SendsStore, IsStore, answers_store, is_called_off, last_events, last_store, most_sequence, own_sequence, scheduled_in, sequence_after, without}
 use Rattle.profile.specs.organisers.Organisers.StateFault.{unknown, ahead, spent, stranger}
 use Rattle.itip_order.specs.Parts.{revision_of}
 use Rattle.itip_messages.specs.OrganiserObjects.{SaysObjectComponent, StandsForObject}
@@ -28,14 +27,6 @@ use Rattle.organiser_books.specs.Storing.{calls_off, own_in, sequence_then, Last
 use Rattle.organiser_books.proofs.Books.{keeps_stored, none_answer, stored_own, KeepsAll}
 use Rattle.organiser_books.proofs.Said.{lists_are, off_are, own_are, scheduled_are}
 
--- ---- numbers
-
-greater_above : (a b : ℕ) → b ≤ greater a b
-greater_above a b = elim (cases_lt a b) [
-  | inl above ↦ subst (λ n. b ≤ n) (sym (ap (λ t. cond t b a) (lt-ltb a b above))) (omega arith)
-  | inr below ↦ subst (λ n. b ≤ n) (sym (ap (λ t. cond t b a) (le-ltb a b below))) below
-]
-
 -- ---- beside what was there
 
 module _ (book : OrganiserBook) (uid : List ℕ) (events : List Event) (components : List ObjectComponent) (each : AllZip SaysObjectComponent events components) where
@@ -45,7 +36,7 @@ module _ (book : OrganiserBook) (uid : List ℕ) (events : List Event) (componen
   sequence_same (Some m) None h = absurd h
   sequence_same (Some m) (Some s) h =
       let same : m.revision.sequence ≡ s.revision.sequence = ap (λ (x : Revision). x.sequence) h.revision in
-      λ i. greater (own_are events components each i) (same i + 1)
+      λ i. max (own_are events components each i) (same i + 1)
 
   last_attends : (o : Option Meeting) (r : Option Stored) → StandsAt book uid o r → LastAttends (lists_said (last_events r)) o
   last_attends None None h = refl
@@ -60,8 +51,7 @@ module _ (book : OrganiserBook) (uid : List ℕ) (events : List Event) (componen
   all_below (Some m) None own stands h c same = absurd stands
   all_below (Some m) (Some s) own stands h c same =
       let most = stands.sent h c (subst (λ u. bytes_eq h.uid u ≡ true) (sym (own s refl)) same) in
-      let above = greater_above (own_sequence events) (s.revision.sequence + 1) in
-      omega (arith, most, above)
+      omega (arith, most)
 
 sends_store : (b : Bool) (organiser : List ℕ) (stored : Stored) (gone : List (List ℕ)) (sent : List Sent) → SendsTo b organiser stored (scheduled_in organiser stored.events) gone sent → SendsStore b organiser stored gone sent
 sends_store true organiser stored gone sent h = h

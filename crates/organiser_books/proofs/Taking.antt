@@ -11,7 +11,7 @@ use Rattle.profile.specs.events.Events.{Attendee, Event, Participation}
 use Rattle.profile.specs.rooms.Revisions.{Revision, Slot}
 use Rattle.profile.specs.organisers.Objects as objects
 use Rattle.profile.specs.organisers.Objects.{is_of_attendee}
-use Rattle.profile.specs.organisers.Organisers.{Heard, OrganiserBook, Stored, StateFault, heard_in, is_attendee, last_store, most_sequence, own_sequence, greater, sequence_after, scheduled_in, sent_status, participation_word, IsSeen, ShowsSeen}
+use Rattle.profile.specs.organisers.Organisers.{Heard, OrganiserBook, Stored, StateFault, heard_in, is_attendee, last_store, most_sequence, own_sequence, sequence_after, scheduled_in, sent_status, participation_word, IsSeen, ShowsSeen}
 use Rattle.profile.specs.organisers.Organisers.StateFault.{unknown, ahead, spent, stranger}
 use Rattle.profile.specs.organisers.Sent.{IsComponentText, IsMeetingText}
 use Rattle.itip_order.specs.Parts.{revision_of}

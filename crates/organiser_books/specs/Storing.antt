@@ -1,9 +1,9 @@
 -- What a store makes, as what was read of it says.
-use Rattle.std.specs.Prelude.{◌≡◌, ℕ, ◌+◌, Bool, true, false, ◌&&◌, List, [], ◌∷◌, ◌++◌, Option, None, Some}
+use Rattle.std.specs.Prelude.{◌≡◌, ℕ, ◌+◌, Bool, true, false, ◌&&◌, max, List, [], ◌∷◌, ◌++◌, Option, None, Some}
 use Rattle.std.specs.List.{list_any}
 use Rattle.ical_values.specs.Octets.{address_octets, text_octets}
 use Rattle.profile.specs.events.Events.{Attendee, Event}
-use Rattle.profile.specs.organisers.Organisers.{Sent, Sends, Stored, greater, without}
+use Rattle.profile.specs.organisers.Organisers.{Sent, Sends, Stored, without}
 use Rattle.profile.specs.organisers.Sent.{IsCancel, IsRequest}
 use Rattle.itip_order.specs.Parts.{revision_of}
 use Rattle.itip_order.specs.declared.part.Slot.{Slot}
@@ -18,12 +18,12 @@ use Rattle.organiser_books.specs.Attending.{lists_of, sent_among, AreAttending}
 -- the greatest SEQUENCE of these components
 abbrev pub own_in : List ObjectComponent → ℕ
 own_in [] = 0
-own_in (component ∷ components) = greater component.revision.sequence (own_in components)
+own_in (component ∷ components) = max component.revision.sequence (own_in components)
 
 -- the SEQUENCE of what is sent after a last store
 abbrev pub sequence_then : Option Meeting → List ObjectComponent → ℕ
 sequence_then None components = own_in components
-sequence_then (Some last) components = greater (own_in components) (last.revision.sequence + 1)
+sequence_then (Some last) components = max (own_in components) (last.revision.sequence + 1)
 
 -- the component cancels the whole meeting
 abbrev pub is_whole : Slot → Bool

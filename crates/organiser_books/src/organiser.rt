@@ -157,7 +157,7 @@ impl Organiser {
     }
 
     /// What is seen of an attendee's answers to the last store, for a slot of the meeting; None for a meeting that isn't known and for one
-    /// who isn't an attendee of it (RFC 6638 3.2.2).
+    /// who isn't an attendee of it (RFC 6638 4.2).
     pub fn seen(&self, uid: &Text, slot: Slot, attendee: &Address) -> Option<ParticipationStatus>
         ensures { (book : OrganiserBook) → Keeps self.now book
             → IsSeen book (text_octets uid.now) (slot_of slot) (address_octets attendee.now) (option_map participation_of result) }

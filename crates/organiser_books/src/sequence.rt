@@ -1,7 +1,7 @@
 //! The SEQUENCE of what is sent (RFC 6638 3.2.8).
 
-ghost use Rattle.std.specs.Prelude.{◌≡◌, ◌<◌, ◌≤◌, option_copied, IfSome, IfNone};
-ghost use Rattle.profile.specs.organisers.Organisers.{greater, most_sequence};
+ghost use Rattle.std.specs.Prelude.{◌≡◌, ◌<◌, ◌≤◌, ◌^◌, option_copied, IfSome, IfNone};
+ghost use Rattle.profile.specs.organisers.Organisers.{most_sequence};
 ghost use Rattle.organiser_books.specs.Storing.{own_in, sequence_then};
 
 use crate::meeting::Meeting;
@@ -19,28 +19,20 @@ pub(crate) fn sequence_after(
 {
     let own = own_sequence(components);
     let Some(last) = last else {
-        return Some(own);
+        return Sequence::of_number(own);
     };
-    let next = Sequence::of_number(last.revision.sequence.number() + 1)?;
-    Some(greater(own, next))
+    let next = last.revision.sequence.number() + 1;
+    Sequence::of_number(own.max(next))
 }
 
-/// The greatest SEQUENCE of these components.
-fn own_sequence(components: &[ObjectComponent]) -> Sequence
-    ensures { result ≡ own_in components.now }
+/// The greatest SEQUENCE of these components, as a number.
+fn own_sequence(components: &[ObjectComponent]) -> u32
+    ensures value { result ≡ own_in components.now }
+    ensures range { result < 2 ^ 31 }
 {
-    let mut greatest = Sequence::zero();
+    let mut greatest = 0;
     for component in components {
-        greatest = greater(greatest, component.revision.sequence);
+        greatest = greatest.max(component.revision.sequence.number());
     }
     greatest
-}
-
-fn greater(a: Sequence, b: Sequence) -> Sequence
-    ensures { result ≡ greater a b }
-{
-    if a < b {
-        return b;
-    }
-    a
 }

@@ -7,7 +7,9 @@ use std::alloc::{AllocError, Global};
 /// What a command line asks for. ROOM is still a word here; the others are paths.
 #[derive(Clone, Copy)]
 pub enum Invocation<'a> {
-    Serve,
+    Serve {
+        report: bool,
+    },
     Keep {
         room: &'a str,
         kept: Kept,
@@ -21,7 +23,7 @@ pub enum Invocation<'a> {
         limit: &'a str,
     },
     Explain {
-        number: &'a str,
+        number: Option<&'a str>,
     },
 }
 
@@ -50,7 +52,10 @@ const EXPAND: &str =
     Example: roombox expand --limit 5 < examples/every-second-tuesday.ics";
 
 const EXPLAIN: &str =
-    "Prints what the number of a refusal, or of the checker's no, means and what to do about it.\nExample: roombox explain 43";
+    "Prints what the number of a refusal, or of the checker's no, means and what to do about it.\n\
+    Without NUMBER it reads one object from standard input, as serve reads it behind its preamble, and prints why it is refused and where.\n\
+    Example: roombox explain 43\n\
+    Example: roombox explain < examples/every-second-tuesday.ics";
 
 /// How many instances are printed where no limit is given.
 const LIMIT: &str = "100";
@@ -75,11 +80,19 @@ fn program<'a>(alloc: Global) -> Result<Command<'a>, AllocError> {
         .about(ABOUT)
         .version("0.1.0")
         .disable_help_subcommand(true)
-        .subcommand(Command::new(alloc, "serve").about(SERVE))?
+        .subcommand(serve_command(alloc)?)?
         .subcommand(keep_command(alloc)?)?
         .subcommand(check_command(alloc)?)?
         .subcommand(expand_command(alloc)?)?
         .subcommand(explain_command(alloc)?)
+}
+
+fn serve_command<'a>(alloc: Global) -> Result<Command<'a>, AllocError> {
+    let report = Arg::new(alloc, "report")
+        .long("report")
+        .action(ArgAction::SetTrue)
+        .help("At the end, print on standard error how many objects came, and how many were refused with which number");
+    Command::new(alloc, "serve").about(SERVE).arg(report)
 }
 
 fn keep_command<'a>(alloc: Global) -> Result<Command<'a>, AllocError> {
@@ -112,7 +125,7 @@ fn expand_command<'a>(alloc: Global) -> Result<Command<'a>, AllocError> {
 fn explain_command<'a>(alloc: Global) -> Result<Command<'a>, AllocError> {
     Command::new(alloc, "explain")
         .about(EXPLAIN)
-        .arg(required(alloc, "NUMBER", NUMBER_HELP))
+        .arg(Arg::new(alloc, "NUMBER").help(NUMBER_HELP))
 }
 
 fn required<'a>(alloc: Global, name: &'a str, help: &'a str) -> Arg<'a> {
@@ -134,9 +147,12 @@ fn invocation_of<'a>(matches: &ArgMatches<'a>) -> Invocation<'a> {
             limit: words.get_str("limit").unwrap_or(LIMIT),
         },
         Some(("explain", words)) => Invocation::Explain {
-            number: words.get_str("NUMBER").unwrap_or(""),
+            number: words.get_str("NUMBER"),
         },
-        _ => Invocation::Serve,
+        Some(("serve", words)) => Invocation::Serve {
+            report: words.get_flag("report"),
+        },
+        _ => Invocation::Serve { report: false },
     }
 }
 

@@ -1,5 +1,5 @@
 -- Objects for an organiser: a meeting that it stores (RFC 6638 3.2.1), and what comes back from its attendees, a REPLY or a REFRESH (RFC 5546
--- 3.2.3, 3.2.6). Which properties have to stand goes by what is asked for; that a store is an object without METHOD is RFC 6638 3.2.
+-- 3.2.3, 3.2.6). Which properties have to stand goes by what is asked for; that a store is an object without METHOD is RFC 4791 4.1.
 use Rattle.std.specs.Prelude.{◌≡◌, ℕ, ◌<◌, ◌≤◌, Contains, Bool, true, false, not, List, [], ◌∷◌, length, filter, codes, Some}
 use Rattle.std.specs.List.{list_all, AllZip}
 use Rattle.std.specs.Str.{bytes_eq}

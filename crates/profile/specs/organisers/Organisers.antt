@@ -1,5 +1,5 @@
 -- The organiser machine: what an organiser keeps, and one step of it, as the server of RFC 6638 does it (3.2.1, 3.2.5, 3.2.8, 4.2).
-use Rattle.std.specs.Prelude.{◌≡◌, ℕ, ◌+◌, ◌<◌, Bool, true, false, not, ◌&&◌, ◌==◌, if◌then◌else◌, nat_lt, Contains, List, [], ◌∷◌, ◌++◌, map, filter, codes, Option, Some, None, ℤ}
+use Rattle.std.specs.Prelude.{◌≡◌, ℕ, ◌+◌, ◌<◌, Bool, true, false, not, ◌&&◌, ◌==◌, if◌then◌else◌, max, nat_lt, Contains, List, [], ◌∷◌, ◌++◌, map, filter, codes, Option, Some, None, ℤ}
 use Rattle.std.specs.List.{flat_map, list_any, list_all, find}
 use Rattle.std.specs.Str.{bytes_eq}
 use Rattle.std.specs.Ordering.{is_eq, is_le, nat_cmp, int_cmp, ordering_then}
@@ -79,18 +79,15 @@ is_attendee address events = list_any (names_room address) events
 abbrev pub is_called_off : List Event → Bool
 is_called_off events = list_any (λ event. is_master event && event.cancelled) events
 
-abbrev pub greater : ℕ → ℕ → ℕ
-greater a b = if nat_lt a b then b else a
-
 -- the greatest SEQUENCE of these events
 abbrev pub own_sequence : List Event → ℕ
 own_sequence [] = 0
-own_sequence (event ∷ events) = greater event.sequence (own_sequence events)
+own_sequence (event ∷ events) = max event.sequence (own_sequence events)
 
 -- the SEQUENCE of what is sent: the events' own at first, later greater than that of the last store (RFC 5546 2.1.4, RFC 6638 3.2.5)
 abbrev pub sequence_after : Option Stored → List Event → ℕ
 sequence_after None events = own_sequence events
-sequence_after (Some last) events = greater (own_sequence events) (last.revision.sequence + 1)
+sequence_after (Some last) events = max (own_sequence events) (last.revision.sequence + 1)
 
 -- what is sent: the octets of an object, and to whom
 pub record Sent : Type 0 where

@@ -1,5 +1,4 @@
-use Rattle.std.proofs.Common.{◌∙◌, take, sym, ap, arith}
-use Rattle.profile.specs.organisers.Organisers.{greater}
+use Rattle.std.proofs.Common.{◌∙◌, take, sym, ap, max, arith}
 use Rattle.organiser_books.specs.Storing.{own_in}
 use Rattle.organiser_books.proofs.Loops.{one_more}
 use Rattle.organiser_books.proofs.Sends.{own_push}
@@ -10,5 +9,5 @@ loop-component-preserved c =
     let components = c.args.components.now in
     let place = c.loop-component.component-index in
     let component = c.component-item.result in
-    c.greater-greatest.ensures ∙ ap (λ n. greater n component.revision.sequence) c.loop-component.invariant
+    c.max-greatest.ensures ∙ ap (λ n. max n component.revision.sequence) c.loop-component.invariant
     ∙ sym (own_push (take place components) component) ∙ ap own_in (sym (one_more components place component c.loop-component-test.true c.component-item.is))

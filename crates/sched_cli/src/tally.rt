@@ -1,0 +1,107 @@
+//! `serve --report`: counts the REFUSED lines as they are written, by their numbers.
+
+use crate::status::{DONE, report_stream};
+use itoa::Buffer;
+use sched_box::{Input, Output, ServeReport, WriteFault, serve_stream};
+use std::alloc::{AllocError, Global};
+
+/// A writer that counts the REFUSED lines that are written to another, by the numbers of their refusals. Each call is given whole lines.
+#[derive(Drop)]
+pub struct Tally<W: Output> {
+    to: W,
+    counts: [u64; 256],
+}
+
+impl<W: Output> Tally<W> {
+    /// A writer to another one, with nothing counted yet.
+    pub fn new(to: W) -> Tally<W> {
+        Tally {
+            to,
+            counts: [0; 256],
+        }
+    }
+
+    /// Counts the REFUSED lines of some octets.
+    fn count(&mut self, octets: &[u8]) {
+        for line in octets.split(|octet| *octet == b'\n') {
+            if let Some(number) = refusal_of(line) {
+                let count = &mut self.counts[number as usize];
+                *count = count.saturating_add(1);
+            }
+        }
+    }
+}
+
+impl<W: Output> Output for Tally<W> {
+    ghost contents = { λ t. W.contents t.to };
+
+    ghost has_failed = { λ t. W.has_failed t.to };
+
+    ghost may_lose = { λ t. W.may_lose t.to };
+
+    fn put(&mut self, octets: &[u8]) -> Result<(), WriteFault> {
+        self.to.put(octets)?;
+        self.count(octets);
+        Ok(())
+    }
+}
+
+/// The number of a line `REFUSED;OBJECT=k:n`; None of another line.
+fn refusal_of(line: &[u8]) -> Option<u8> {
+    let line = line.strip_suffix(b"\r").unwrap_or(line);
+    let rest = str::from_utf8(line.strip_prefix(b"REFUSED;OBJECT=")?).ok()?;
+    let (_, number) = rest.split_once(':')?;
+    number.parse::<u8>().ok()
+}
+
+/// `serve --report`: serves a stream as `serve` does, and says at its end how many objects it had and how many of them were refused, and for what.
+/// Nothing more is said of a stream that ends early.
+pub fn run_serve_report<R: Input, W: Output, E: Output>(
+    alloc: Global,
+    reader: &mut R,
+    writer: &mut Tally<W>,
+    errors: &mut E,
+) -> u8 {
+    match serve_stream(alloc, reader, writer) {
+        Ok(report) => {
+            say_report(errors, report, &writer.counts);
+            DONE
+        }
+        Err(fault) => report_stream(errors, fault),
+    }
+}
+
+/// Says `roombox: 10 objects, 3 refused (43: 2, 61: 1)`. Where standard error fails too, nobody is left to be told.
+fn say_report<E: Output>(errors: &mut E, report: ServeReport, counts: &[u64; 256]) {
+    let _ = put_report(errors, report, counts);
+}
+
+fn put_report<E: Output>(errors: &mut E, report: ServeReport, counts: &[u64; 256]) -> Result<(), WriteFault> {
+    let mut digits = Buffer::new();
+    errors.put(b"roombox: ")?;
+    errors.put(digits.format(report.objects).as_bytes())?;
+    errors.put(b" objects, ")?;
+    errors.put(digits.format(report.refused).as_bytes())?;
+    errors.put(b" refused")?;
+    put_counts(errors, counts)?;
+    errors.put(b"\n")
+}
+
+/// ` (43: 2, 61: 1)`; nothing where nothing was refused.
+fn put_counts<E: Output>(errors: &mut E, counts: &[u64; 256]) -> Result<(), WriteFault> {
+    let mut digits = Buffer::new();
+    let mut is_first = true;
+    for (number, count) in counts.iter().enumerate() {
+        if *count > 0 {
+            errors.put(if is_first { b" (" } else { b", " })?;
+            errors.put(digits.format(number).as_bytes())?;
+            errors.put(b": ")?;
+            errors.put(digits.format(*count).as_bytes())?;
+            is_first = false;
+        }
+    }
+    if is_first {
+        return Ok(());
+    }
+    errors.put(b")")
+}
