@@ -91,7 +91,9 @@ fn serve_command<'a>(alloc: Global) -> Result<Command<'a>, AllocError> {
     let report = Arg::new(alloc, "report")
         .long("report")
         .action(ArgAction::SetTrue)
-        .help("At the end, print on standard error how many objects came, and how many were refused with which number");
+        .help(
+            "At the end, print on standard error how many objects came, and how many were refused with which number",
+        );
     Command::new(alloc, "serve").about(SERVE).arg(report)
 }
 

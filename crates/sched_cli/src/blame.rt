@@ -17,6 +17,12 @@ pub(crate) enum Blame {
     Certain,
 }
 
+impl Blame {
+    pub(crate) fn certain_if(has: bool) -> Blame {
+        if has { Blame::Certain } else { Blame::None }
+    }
+}
+
 /// Which component a content line belongs to.
 #[derive(Clone, Copy, PartialEq, Eq)]
 pub(crate) enum Within {
@@ -29,7 +35,7 @@ pub(crate) enum Within {
 }
 
 /// What a content line has to do with the fault of this number.
-pub(crate) fn blame(
+pub(crate) fn blame_of(
     alloc: Global,
     number: u8,
     within: Within,

@@ -2,8 +2,8 @@
 //! A place is given only where it is known: the content line has that fault by itself, or is the only one that can have it. What is missing
 //! has no place, and what several lines have together has none.
 
-use crate::blame::{Blame, Within, blame};
-use ical_lines::Line;
+use crate::blame::{Blame, Within, blame_of};
+use ical_lines::{Fault, Limits, Line, Unfolded};
 use std::alloc::{AllocError, Global};
 
 /// A content line of an object.
@@ -85,13 +85,18 @@ impl Search {
         if octets.is_empty() || matches!(self.found, Found::Certain(_)) {
             return Ok(());
         }
-        let Ok(text) = str::from_utf8(octets) else {
-            return self.note(alloc, blame_if(self.number == 5), b"", begun);
+        let unfolded = match Unfolded::read(alloc, octets, Limits::Message) {
+            Ok(unfolded) => unfolded,
+            Err(Fault::Memory) => return Err(AllocError),
+            Err(Fault::Refused(refusal)) => {
+                let blame = Blame::certain_if(refusal.number == self.number);
+                return self.note(alloc, blame, b"", begun);
+            }
         };
-        let Some(line) = Line::read(text) else {
-            return self.note(alloc, blame_if(self.number <= 4), b"", begun);
+        let Some(line) = unfolded.lines().next() else {
+            return Ok(());
         };
-        let blame = blame(alloc, self.number, self.within(), line)?;
+        let blame = blame_of(alloc, self.number, self.within(), line)?;
         self.note(alloc, blame, line.name().as_bytes(), begun)?;
         self.pass(line);
         Ok(())
@@ -167,8 +172,4 @@ impl Place {
             property: octets,
         })
     }
-}
-
-fn blame_if(has: bool) -> Blame {
-    if has { Blame::Certain } else { Blame::None }
 }

@@ -1,9 +1,9 @@
 //! `serve --report`: counts the REFUSED lines as they are written, by their numbers.
 
-use crate::status::{DONE, report_stream};
-use itoa::Buffer;
+use crate::status::{DONE, report_memory, report_stream};
 use sched_box::{Input, Output, ServeReport, WriteFault, serve_stream};
-use std::alloc::{AllocError, Global};
+use std::alloc::Global;
+use std::io::{self, Write};
 
 /// A writer that counts the REFUSED lines that are written to another, by the numbers of their refusals. Each call is given whole lines.
 #[derive(Drop)]
@@ -54,8 +54,8 @@ fn refusal_of(line: &[u8]) -> Option<u8> {
     number.parse::<u8>().ok()
 }
 
-/// `serve --report`: serves a stream as `serve` does, and says at its end how many objects it had and how many of them were refused, and for what.
-/// Nothing more is said of a stream that ends early.
+/// `serve --report`: serves a stream as `serve` does, and says at its end how many objects it had, how many of them were refused, and with
+/// which numbers. Of a stream that ends early only the fault is said. Gives 5 where memory for the line is refused; all was written then.
 pub fn run_serve_report<R: Input, W: Output, E: Output>(
     alloc: Global,
     reader: &mut R,
@@ -63,45 +63,48 @@ pub fn run_serve_report<R: Input, W: Output, E: Output>(
     errors: &mut E,
 ) -> u8 {
     match serve_stream(alloc, reader, writer) {
-        Ok(report) => {
-            say_report(errors, report, &writer.counts);
-            DONE
-        }
+        Ok(report) => say_report(alloc, errors, report, &writer.counts),
         Err(fault) => report_stream(errors, fault),
     }
 }
 
-/// Says `roombox: 10 objects, 3 refused (43: 2, 61: 1)`. Where standard error fails too, nobody is left to be told.
-fn say_report<E: Output>(errors: &mut E, report: ServeReport, counts: &[u64; 256]) {
-    let _ = put_report(errors, report, counts);
+/// Says the line of a report. Where standard error fails too, nobody is left to be told.
+fn say_report<E: Output>(
+    alloc: Global,
+    errors: &mut E,
+    report: ServeReport,
+    counts: &[u64; 256],
+) -> u8 {
+    let mut line = Vec::new(alloc);
+    let Ok(()) = append_report(&mut line, report, counts) else {
+        return report_memory(errors);
+    };
+    let _ = errors.put(line.as_slice());
+    DONE
 }
 
-fn put_report<E: Output>(errors: &mut E, report: ServeReport, counts: &[u64; 256]) -> Result<(), WriteFault> {
-    let mut digits = Buffer::new();
-    errors.put(b"roombox: ")?;
-    errors.put(digits.format(report.objects).as_bytes())?;
-    errors.put(b" objects, ")?;
-    errors.put(digits.format(report.refused).as_bytes())?;
-    errors.put(b" refused")?;
-    put_counts(errors, counts)?;
-    errors.put(b"\n")
+/// `roombox: 10 objects, 3 refused (43: 2, 61: 1)`, as a line.
+fn append_report(line: &mut Vec<u8>, report: ServeReport, counts: &[u64; 256]) -> io::Result<()> {
+    write!(
+        line,
+        "roombox: {} objects, {} refused",
+        report.objects, report.refused
+    )?;
+    append_counts(line, counts)?;
+    writeln!(line)
 }
 
 /// ` (43: 2, 61: 1)`; nothing where nothing was refused.
-fn put_counts<E: Output>(errors: &mut E, counts: &[u64; 256]) -> Result<(), WriteFault> {
-    let mut digits = Buffer::new();
-    let mut is_first = true;
+fn append_counts(line: &mut Vec<u8>, counts: &[u64; 256]) -> io::Result<()> {
+    let mut before = " (";
     for (number, count) in counts.iter().enumerate() {
         if *count > 0 {
-            errors.put(if is_first { b" (" } else { b", " })?;
-            errors.put(digits.format(number).as_bytes())?;
-            errors.put(b": ")?;
-            errors.put(digits.format(*count).as_bytes())?;
-            is_first = false;
+            write!(line, "{before}{number}: {count}")?;
+            before = ", ";
         }
     }
-    if is_first {
+    if before == " (" {
         return Ok(());
     }
-    errors.put(b")")
+    write!(line, ")")
 }
