@@ -1,5 +1,5 @@
-//! A message, read: to rooms, or to an organiser (RFC 5546 1.4, 3.2; RFC 4791 4.1, RFC 6638 3.2). METHOD says which; an object without METHOD is a meeting
-//! that its organiser stores.
+//! A message, read: to rooms, or to an organiser (RFC 5546 1.4, 3.2; RFC 4791 4.1, RFC 6638 3.2). METHOD says which; an object without METHOD
+//! is a meeting that its organiser stores.
 ghost use Rattle.std.specs.Prelude.{◌≡◌, true, codes, IsTrue, IfOk, IfErr};
 ghost use Rattle.ical_lines.specs.Fault.{RefusesOnly, RefusesBy};
 ghost use Rattle.ical_lines.specs.Text.{line_text};
