@@ -1,3 +1,6 @@
 pub mod Commands
+pub mod Diagnosis
 pub mod Explained
 pub mod Expanding
+pub mod Places
+pub mod Reporting
