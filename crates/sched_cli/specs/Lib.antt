@@ -4,3 +4,4 @@ pub mod Explained
 pub mod Expanding
 pub mod Places
 pub mod Reporting
+pub mod Searching

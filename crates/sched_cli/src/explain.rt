@@ -3,6 +3,7 @@
 ghost use Rattle.std.specs.Prelude.{◌≡◌, ◌<◌, ◌⊎◌, ℕ, List, length, is_some, true, false, IfSome};
 ghost use Rattle.std.specs.Io.KnownBytes.{Appends, Keeps};
 ghost use Rattle.sched_cli.specs.Commands.{BlamesDevice, IsSaid, TellsDevice};
+ghost use Rattle.sched_cli.specs.Diagnosis.{IsMeaningOf};
 ghost use Rattle.sched_cli.specs.Explained.{is_explained};
 
 use crate::status::{DONE, USAGE, report_write};
@@ -12,6 +13,7 @@ use sched_box::Output;
 pub fn explanation(number: u8) -> Option<&'static str>
     ensures known { is_some result ≡ is_explained number }
     ensures text { IfSome result (λ line. 0 < length line.now) }
+    ensures own { IfSome result (λ line. IsMeaningOf number line.now) }
 {
     match number {
         1 => Some(
@@ -146,7 +148,7 @@ pub fn explanation(number: u8) -> Option<&'static str>
 /// `explain N`: writes what the number means and what to do about it. Gives 2 where nothing has that number, and writes nothing then.
 pub fn run_explain<W: Output, E: Output>(number: u8, writer: &mut W, errors: &mut E) -> u8
     ensures explained { result ≡ 0 → is_explained number ≡ true }
-    ensures written { result ≡ 0 → (line : List ℕ) × (0 < length line) × Appends (W.contents writer.old) (W.contents writer.new) line }
+    ensures written { result ≡ 0 → (line : List ℕ) × (0 < length line) × IsMeaningOf number line × Appends (W.contents writer.old) (W.contents writer.new) line }
     ensures unknown { result ≡ 2 → is_explained number ≡ false }
     ensures unwritten { (result ≡ 2) ⊎ (result ≡ 5) → Keeps (W.contents writer.old) (W.contents writer.new) }
     ensures device { BlamesDevice false (W.has_failed writer.new) result }

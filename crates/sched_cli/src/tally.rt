@@ -1,6 +1,10 @@
 //! `serve --report`: counts the REFUSED lines as they are written, by their numbers.
 
-use crate::status::{DONE, report_memory, report_stream};
+ghost use Rattle.std.specs.Prelude.{◌≡◌, ◌++◌, ℕ, List, OnOk};
+ghost use Rattle.sched_cli.specs.Commands.{BlamesDevice, TellsDevice};
+ghost use Rattle.sched_cli.specs.Reporting.{IsReportLine, ReportsWith, SaysReport};
+
+use crate::status::{DONE, report_memory, report_stream, say};
 use sched_box::{Input, Output, ServeReport, WriteFault, serve_stream};
 use std::alloc::Global;
 use std::io::{self, Write};
@@ -14,20 +18,12 @@ pub struct Tally<W: Output> {
 
 impl<W: Output> Tally<W> {
     /// A writer to another one, with nothing counted yet.
-    pub fn new(to: W) -> Tally<W> {
+    pub fn new(to: W) -> Tally<W>
+        ensures { result.to ≡ to }
+    {
         Tally {
             to,
             counts: [0; 256],
-        }
-    }
-
-    /// Counts the REFUSED lines of some octets.
-    fn count(&mut self, octets: &[u8]) {
-        for line in octets.split(|octet| *octet == b'\n') {
-            if let Some(number) = refusal_of(line) {
-                let count = &mut self.counts[number as usize];
-                *count = count.saturating_add(1);
-            }
         }
     }
 }
@@ -41,8 +37,18 @@ impl<W: Output> Output for Tally<W> {
 
     fn put(&mut self, octets: &[u8]) -> Result<(), WriteFault> {
         self.to.put(octets)?;
-        self.count(octets);
+        count_refusals(&mut self.counts, octets);
         Ok(())
+    }
+}
+
+/// Counts the REFUSED lines of some octets.
+fn count_refusals(counts: &mut [u64; 256], octets: &[u8]) {
+    for line in octets.split(|octet| *octet == b'\n') {
+        if let Some(number) = refusal_of(line) {
+            let count = &mut counts[number as usize];
+            *count = count.saturating_add(1);
+        }
     }
 }
 
@@ -61,30 +67,39 @@ pub fn run_serve_report<R: Input, W: Output, E: Output>(
     reader: &mut R,
     writer: &mut Tally<W>,
     errors: &mut E,
-) -> u8 {
+) -> u8
+    ensures device { BlamesDevice (R.has_failed reader.new) (W.has_failed writer.new.to) result }
+    ensures told { TellsDevice result (R.has_failed reader.old) (R.has_failed reader.new) (W.has_failed writer.old.to) (W.has_failed writer.new.to) }
+    ensures reports { ReportsWith result (record { input = R.remaining reader.old; left = R.remaining reader.new; output = W.contents writer.old.to; written = W.contents writer.new.to })
+        (E.contents errors.old) (E.contents errors.new) (E.may_lose errors.new) }
+{
     match serve_stream(alloc, reader, writer) {
         Ok(report) => say_report(alloc, errors, report, &writer.counts),
         Err(fault) => report_stream(errors, fault),
     }
 }
 
-/// Says the line of a report. Where standard error fails too, nobody is left to be told.
+/// Says the line of a report, and gives 0; 5 where memory for it is refused.
 fn say_report<E: Output>(
     alloc: Global,
     errors: &mut E,
     report: ServeReport,
     counts: &[u64; 256],
-) -> u8 {
+) -> u8
+    ensures { SaysReport report result (E.contents errors.old) (E.contents errors.new) (E.may_lose errors.new) }
+{
     let mut line = Vec::new(alloc);
     let Ok(()) = append_report(&mut line, report, counts) else {
         return report_memory(errors);
     };
-    let _ = errors.put(line.as_slice());
+    say(errors, line.as_slice());
     DONE
 }
 
 /// `roombox: 10 objects, 3 refused (43: 2, 61: 1)`, as a line.
-fn append_report(line: &mut Vec<u8>, report: ServeReport, counts: &[u64; 256]) -> io::Result<()> {
+fn append_report(line: &mut Vec<u8>, report: ServeReport, counts: &[u64; 256]) -> io::Result<()>
+    ensures { OnOk result ((text : List ℕ) × IsReportLine report text × (line.new.items ≡ line.old.items ++ text)) }
+{
     write!(
         line,
         "roombox: {} objects, {} refused",
@@ -95,7 +110,9 @@ fn append_report(line: &mut Vec<u8>, report: ServeReport, counts: &[u64; 256]) -
 }
 
 /// ` (43: 2, 61: 1)`; nothing where nothing was refused.
-fn append_counts(line: &mut Vec<u8>, counts: &[u64; 256]) -> io::Result<()> {
+fn append_counts(line: &mut Vec<u8>, counts: &[u64; 256]) -> io::Result<()>
+    ensures { OnOk result ((text : List ℕ) × (line.new.items ≡ line.old.items ++ text)) }
+{
     let mut before = " (";
     for (number, count) in counts.iter().enumerate() {
         if *count > 0 {
