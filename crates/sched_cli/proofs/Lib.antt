@@ -1,3 +1,4 @@
 pub mod Keeping
+pub mod PlaceLemmas
 pub mod Printing
 pub mod Saying

@@ -1,10 +1,15 @@
 -- Where content lines begin, while the physical lines are gone through.
-use Rattle.std.proofs.Common.{◌≡◌, ◌⊎◌, ◌∙◌, ap, sym, refl, subst, inl, inr, ℕ, ◌+◌, Bool, true, false, cond, ◌&&◌, List, [], ◌∷◌, ◌++◌, length, drop, append_assoc, append-nil, length-append, arith}
-use Rattle.std.specs.List.{flat_map, list_all}
-use Rattle.profile.specs.text.Lines.{is_continuation, gather, unfolded, physical_lines, without_mark, line_name}
+use Rattle.std.proofs.Common.{◌≡◌, ◌⊎◌, ◌∙◌, ap, sym, refl, subst, inl, inr, ℕ, ◌+◌, Bool, true, false, cond, ◌&&◌, List, [], ◌∷◌, ◌++◌, Bor, length, drop, ◌≤◌, ◌<◌, ◌^◌, ◌==◌, Option, Some, None, IfSome, count_by, append_assoc, append-nil, length-append, arith}
+use Rattle.std.specs.List.{slice_split}
+use Rattle.std.proofs.lemmas.List.{length-map}
+use Rattle.std.proofs.lemmas.List.Sums.{count_by-le-length}
+use Rattle.std.proofs.lemmas.List.Splits.{length-slice_split}
+use Rattle.profile.specs.text.Lines.{is_continuation, gather, unfolded, physical_lines, without_mark, without_return, line_name}
+use Rattle.ical_lines.specs.Unfold.{lines_after}
 use Rattle.sched_cli.specs.Places.{IsPlace}
 use Rattle.sched_cli.specs.Searching.{Finds, FoundIn, IsFoundAt}
 use Rattle.sched_cli.specs.declared.place.Found.{Found}
+use Rattle.sched_cli.specs.declared.place.Place.{Place}
 use Rattle.sched_cli.specs.declared.place.Found.TheVariants.{Nothing, Possible, Several, Certain}
 
 -- ---- unfolding, in two parts
@@ -79,6 +84,24 @@ begins all left line content begun count u e =
       counted = omega (arith, u.counted, many);
     }
 
+-- the first line, and the next
+pub first_of : (all left : List (List ℕ)) (line content : List ℕ) (begun count : ℕ) → all ≡ line ∷ left → content ≡ line → begun ≡ 1 → count ≡ 1 → Unfolds all left content begun count
+first_of all left line content begun count e c b n = rw (c, b, n) (first_line all left line e)
+
+-- their number fits in memory
+pub in_memory : (octets : List ℕ) (left : List (List ℕ)) (line content : List ℕ) (begun count : ℕ) → Unfolds (physical_lines (without_mark octets)) (line ∷ left) content begun count → length (without_mark octets) < 2 ^ 63 → count < 2 ^ 63
+in_memory octets left line content begun count u fits =
+    let text = without_mark octets in
+    let parts : length (physical_lines text) ≡ count_by (λ x. x == 10) text + 1 = length-map (slice_split (λ x. x == 10) text) without_return ∙ length-slice_split (λ x. x == 10) text in
+    let most : count_by (λ x. x == 10) text ≤ length text = count_by-le-length (λ x. x == 10) text in
+    let all : length (physical_lines text) ≡ length u.before + (1 + (length u.continued + (1 + length left))) =
+    omega (arith, ap length u.are, length-append u.before (u.line ∷ (u.continued ++ line ∷ left)), length-append u.continued (line ∷ left)) in
+    omega (arith, fits, parts, most, all, u.counted)
+
+pub none_after : (o : Option (Bor (List ℕ))) → ((x : Bor (List ℕ)) → o ≡ Some x → ⊥) → lines_after o ≡ []
+none_after None never = refl
+none_after (Some x) never = absurd (never x refl)
+
 -- ---- its place
 
 apart_by : (before : List (List ℕ)) (line : List ℕ) (more : List (List ℕ)) → (before ≡ []) ⊎ (is_continuation line ≡ false) → unfolded (before ++ (line ∷ more)) ≡ unfolded before ++ unfolded (line ∷ more)
@@ -122,3 +145,29 @@ pub found_last : (octets : List ℕ) (old new : Found) (content : List ℕ) (beg
     → FoundIn octets old → Finds old new begun content → FoundIn octets new
 found_last octets old new content begun count u before finds =
     found_by octets old new begun content (λ property named. placed octets [] content [] begun count property u refl named) before finds
+
+-- ---- the loop
+
+step_by : (t : Bool) (octets : List ℕ) (left : List (List ℕ)) (line content next : List ℕ) (begun from count many : ℕ) (old new : Found) → is_continuation line ≡ t
+    → Unfolds (physical_lines (without_mark octets)) (line ∷ left) content begun count → FoundIn octets old → many ≡ count + 1
+    → (is_continuation line ≡ true → (new ≡ old) × (next ≡ content ++ drop 1 line) × (from ≡ begun))
+    → (is_continuation line ≡ false → Finds old new begun content × (next ≡ line) × (from ≡ many))
+    → Unfolds (physical_lines (without_mark octets)) left next from many × FoundIn octets new
+step_by true octets left line content next begun from count many old new e u found more goes ends =
+    let (same, is, at) = goes e in
+    (rw (is, at, more) (continues (physical_lines (without_mark octets)) left line content begun count u e), subst (FoundIn octets) (sym same) found)
+step_by false octets left line content next begun from count many old new e u found more goes ends =
+    let (finds, is, at) = ends e in
+    (rw (is, at, more) (begins (physical_lines (without_mark octets)) left line content begun count u e), found_before octets old new left line content begun count u e found finds)
+
+pub step : (octets : List ℕ) (left : List (List ℕ)) (line content next : List ℕ) (begun from count many : ℕ) (old new : Found)
+    → Unfolds (physical_lines (without_mark octets)) (line ∷ left) content begun count → FoundIn octets old → many ≡ count + 1
+    → (is_continuation line ≡ true → (new ≡ old) × (next ≡ content ++ drop 1 line) × (from ≡ begun))
+    → (is_continuation line ≡ false → Finds old new begun content × (next ≡ line) × (from ≡ many))
+    → Unfolds (physical_lines (without_mark octets)) left next from many × FoundIn octets new
+step octets left line content next begun from count many old new = step_by (is_continuation line) octets left line content next begun from count many old new refl
+
+pub place_in : (r : Option Place) (octets : List ℕ) (found : Found) → FoundIn octets found → IfSome r (λ place. (o : List ℕ) → FoundIn o found → IsPlace o place.line place.property.items)
+    → IfSome r (λ place. IsPlace octets place.line place.property.items)
+place_in None octets found is all = tt
+place_in (Some place) octets found is all = all octets is

@@ -1,6 +1,6 @@
 //! The physical lines of an object (RFC 5545 3.1): what is between LFs, without one CR at the end of each.
 
-ghost use Rattle.std.specs.Prelude.{◌≡◌, ◌∷◌};
+ghost use Rattle.std.specs.Prelude.{◌≡◌, ◌<◌, ◌^◌, ◌∷◌, length};
 ghost use Rattle.profile.specs.text.Lines.{physical_lines, without_mark, without_return};
 ghost use Rattle.ical_lines.specs.Unfold.{lines_after};
 
@@ -8,7 +8,8 @@ use memchr::memchr;
 
 /// The first physical line, and what follows its LF where it has one.
 pub(crate) fn split_line(octets: &[u8]) -> (&[u8], Option<&[u8]>)
-    ensures { physical_lines octets.now ≡ result.0.now ∷ lines_after result.1 }
+    ensures lines { physical_lines octets.now ≡ result.0.now ∷ lines_after result.1 }
+    ensures memory { length octets.now < 2 ^ 63 }
 {
     match memchr(b'\n', octets) {
         Some(end) => (without_return(&octets[..end]), Some(&octets[end + 1..])),
