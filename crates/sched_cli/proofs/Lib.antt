@@ -1,4 +1,5 @@
 pub mod Keeping
+pub mod Meanings
 pub mod PlaceLemmas
 pub mod Printing
 pub mod Saying

@@ -113,15 +113,24 @@ fn append_report(line: &mut Vec<u8>, report: ServeReport, counts: &[u64; 256]) -
 fn append_counts(line: &mut Vec<u8>, counts: &[u64; 256]) -> io::Result<()>
     ensures { OnOk result ((text : List ℕ) × (line.new.items ≡ line.old.items ++ text)) }
 {
-    let mut before = " (";
+    let mut some = false;
     for (number, count) in counts.iter().enumerate() {
-        if *count > 0 {
-            write!(line, "{before}{number}: {count}")?;
-            before = ", ";
-        }
+        some = append_count(line, some, number, *count)?;
     }
-    if before == " (" {
-        return Ok(());
+    if some {
+        write!(line, ")")?;
     }
-    write!(line, ")")
+    Ok(())
+}
+
+/// `43: 2`, with what parts it from the number before it, or begins the list; nothing where the count is 0. Gives whether the list has begun.
+fn append_count(line: &mut Vec<u8>, some: bool, number: usize, count: u64) -> io::Result<bool>
+    ensures { OnOk result ((text : List ℕ) × (line.new.items ≡ line.old.items ++ text)) }
+{
+    if count == 0 {
+        return Ok(some);
+    }
+    let before = if some { ", " } else { " (" };
+    write!(line, "{before}{number}: {count}")?;
+    Ok(true)
 }
