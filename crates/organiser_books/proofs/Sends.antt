@@ -1,10 +1,7 @@
 -- An object that is sent to some, and nothing where there is nobody.
-use Rattle.std.proofs.Common.{◌≡◌, ◌∙◌, ℕ, ◌+◌, max, Bool, true, false, cond, List, [], ◌∷◌, ◌++◌, map, length, refl, sym, ap, arith, inl, inr, ◌⊎◌, ◌<◌}
+use Rattle.std.proofs.Common.{◌≡◌, ◌∙◌, ℕ, ◌+◌, max, Bool, true, false, List, [], ◌∷◌, ◌++◌, map, length, refl, sym, ap, arith, inl, inr}
 use Rattle.std.specs.List.{AllZip}
-use Rattle.std.proofs.lemmas.Bool.{cases_Bool, cases_order}
-use Rattle.std.specs.Cmp.{nat_cmp_is}
-use Rattle.std.specs.Ordering.{is_lt, nat_cmp, ord_max}
-use Rattle.std.specs.declared.cmp.Ordering.TheVariants.{Less, Equal, Greater}
+use Rattle.std.proofs.lemmas.Bool.{cases_Bool}
 use Rattle.profile.specs.organisers.Organisers.{Sends}
 use Rattle.itip_messages.specs.declared.organiser_object.ObjectComponent.{ObjectComponent}
 use Rattle.organiser_books.specs.Storing.{own_in, sent_to}
@@ -29,12 +26,3 @@ copied (x ∷ xs) (y ∷ ys) z = λ i. z.0 i ∷ copied xs ys z.1 i
 pub own_push : (xs : List ObjectComponent) (x : ObjectComponent) → own_in (xs ++ x ∷ []) ≡ max (own_in xs) x.revision.sequence
 own_push [] x = omega arith
 own_push (y ∷ ys) x = ap (max y.revision.sequence) (own_push ys x) ∙ omega arith
-
-max_at : (a b : ℕ) → (a ≡ b) ⊎ ((a < b) ⊎ (b < a)) → ord_max nat_cmp a b ≡ max a b
-max_at a b (inl e) = ap (λ o. cond (is_lt o) a b) (sym (nat_cmp_is b a Equal (sym e))) ∙ omega (arith, e)
-max_at a b (inr (inl l)) = ap (λ o. cond (is_lt o) a b) (sym (nat_cmp_is b a Greater l)) ∙ omega (arith, l)
-max_at a b (inr (inr l)) = ap (λ o. cond (is_lt o) a b) (sym (nat_cmp_is b a Less l)) ∙ omega (arith, l)
-
--- what `max` gives of two numbers
-pub max_is : (a b : ℕ) → ord_max nat_cmp a b ≡ max a b
-max_is a b = max_at a b (cases_order a b)

@@ -1,6 +1,6 @@
 //! The SEQUENCE of what is sent (RFC 6638 3.2.8).
 
-ghost use Rattle.std.specs.Prelude.{◌≡◌, ◌<◌, ◌≤◌, ◌^◌, option_copied, IfSome, IfNone};
+ghost use Rattle.std.specs.Prelude.{◌≡◌, ◌<◌, ◌≤◌, option_copied, IfSome, IfNone};
 ghost use Rattle.profile.specs.organisers.Organisers.{most_sequence};
 ghost use Rattle.organiser_books.specs.Storing.{own_in, sequence_then};
 
@@ -27,10 +27,9 @@ pub(crate) fn sequence_after(
 
 /// The greatest SEQUENCE of these components, as a number.
 fn own_sequence(components: &[ObjectComponent]) -> u32
-    ensures value { result ≡ own_in components.now }
-    ensures range { result < 2 ^ 31 }
+    ensures { result ≡ own_in components.now }
 {
-    let mut greatest = 0;
+    let mut greatest: u32 = 0;
     for component in components {
         greatest = greatest.max(component.revision.sequence.number());
     }

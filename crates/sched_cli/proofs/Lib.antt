@@ -3,3 +3,4 @@ pub mod Meanings
 pub mod PlaceLemmas
 pub mod Printing
 pub mod Saying
+pub mod Taken
