@@ -1,6 +1,6 @@
 //! The real reader, writer and files: `run` hands them to the commands.
 
-use crate::command_line::{Invocation, read_words};
+use crate::command_line::{BadWord, Invocation, fault_of, read_words};
 use ical_lines::Fault;
 use ical_values::Address;
 use sched_box::{DeviceReader, DeviceWriter, Output};
@@ -77,6 +77,14 @@ fn print_usage<R: Runtime + AllocGlobal>(rt: &R, error: &clap::Error) -> u8 {
     }
 }
 
+/// Says that a word of the command line can't be read, and gives the status of a usage fault.
+fn refuse_word<R: Runtime + AllocGlobal>(rt: &R, alloc: Global, word: BadWord<'_>) -> u8 {
+    match fault_of(alloc, word) {
+        Ok(error) => print_usage(rt, &error),
+        Err(_) => no_memory(rt),
+    }
+}
+
 fn words_of<R: Runtime + AllocGlobal>(rt: &R, alloc: Global) -> io::Result<Vec<String>> {
     Ok(env::args(rt)?.collect(alloc)?)
 }
@@ -98,16 +106,11 @@ fn invoke<R: Runtime + AllocGlobal>(rt: &R, alloc: Global, invocation: Invocatio
         },
         Invocation::Expand { limit } => match limit_of(limit) {
             Some(limit) => invoke_expand(rt, alloc, limit),
-            None => {
-                let _ = eprintln!(rt;
-                    "roombox: N must be a number from 1 to 100000, got {limit:?}"
-                );
-                USAGE
-            }
+            None => refuse_word(rt, alloc, BadWord::Limit(limit)),
         },
         Invocation::Explain {
             number: Some(number),
-        } => invoke_explain(rt, number),
+        } => invoke_explain(rt, alloc, number),
         Invocation::Explain { number: None } => invoke_explain_object(rt, alloc),
     }
 }
@@ -117,12 +120,7 @@ fn read_room<R: Runtime + AllocGlobal>(rt: &R, alloc: Global, word: &str) -> Res
     match Address::read(alloc, word) {
         Ok(room) => Ok(room),
         Err(Fault::Memory) => Err(no_memory(rt)),
-        Err(Fault::Refused(_)) => {
-            let _ = eprintln!(rt;
-                "roombox: ROOM must be an address with a scheme, such as mailto:room@example.com, got {word:?}"
-            );
-            Err(USAGE)
-        }
+        Err(Fault::Refused(_)) => Err(refuse_word(rt, alloc, BadWord::Room(word))),
     }
 }
 
@@ -222,7 +220,7 @@ fn invoke_explain_object<R: Runtime + AllocGlobal>(rt: &R, alloc: Global) -> u8 
 }
 
 /// Says what the number of a refusal means; a usage fault where nothing has that number.
-fn invoke_explain<R: Runtime + AllocGlobal>(rt: &R, word: &str) -> u8 {
+fn invoke_explain<R: Runtime + AllocGlobal>(rt: &R, alloc: Global, word: &str) -> u8 {
     let mut errors = DeviceWriter::new(ErrorPrinter { to: rt });
     let mut writer = DeviceWriter::new(io::writer(rt));
     let status = match word.parse::<u8>() {
@@ -230,9 +228,7 @@ fn invoke_explain<R: Runtime + AllocGlobal>(rt: &R, word: &str) -> u8 {
         Err(_) => USAGE,
     };
     if status == USAGE {
-        let _ = eprintln!(rt;
-            "roombox: NUMBER must be the number of a refusal, such as 43, got {word:?}"
-        );
+        return refuse_word(rt, alloc, BadWord::Number(word));
     }
     status
 }
