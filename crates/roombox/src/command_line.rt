@@ -5,7 +5,7 @@ use clap::{Arg, ArgAction, ArgMatches, Command, Error};
 use sched_cli::commands::Kept;
 use std::alloc::{AllocError, Global};
 
-/// What a command line asks for. ROOM is still a word here; the others are paths.
+/// What a command line asks for. ROOM, N and NUMBER are still words here; CALENDAR and CERTIFICATE are paths.
 #[derive(Clone, Copy)]
 pub enum Invocation<'a> {
     Serve {
@@ -142,7 +142,7 @@ pub fn read_words<'a>(alloc: Global, words: &'a [String]) -> Result<Invocation<'
     Ok(invocation_of(&matches))
 }
 
-/// A word of the command line that clap takes and that can't be read.
+/// A word that clap accepts for an argument, and that has no meaning there.
 #[derive(Clone, Copy)]
 pub enum BadWord<'a> {
     Room(&'a str),

@@ -61,7 +61,7 @@ pub fn run<R: Runtime + AllocGlobal>(rt: &R) -> u8 {
     }
 }
 
-/// Says that memory ran out.
+/// Says that the program is out of memory.
 fn no_memory<R: Runtime + AllocGlobal>(rt: &R) -> u8 {
     report_memory(&mut DeviceWriter::new(ErrorPrinter { to: rt }))
 }
@@ -172,7 +172,7 @@ fn invoke_check<R: Runtime + AllocGlobal>(
     )
 }
 
-/// The number that the word of `--limit` names: decimal digits, 1 to 100,000.
+/// The number that the word of `--limit` spells: decimal digits, from 1 to 100,000.
 fn limit_of(word: &str) -> Option<usize> {
     if word.starts_with('+') {
         return None;

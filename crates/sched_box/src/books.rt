@@ -113,7 +113,7 @@ fn read_kept(alloc: Global, octets: &[u8]) -> Result<Message, Fault>
     Message::read(alloc, octets)
 }
 
-/// The line that stands for a refused object: `REFUSED;OBJECT=k:n`.
+/// The line that is written for a refused object: `REFUSED;OBJECT=k:n`.
 fn write_refusal(number: u64, refusal: Refusal, answers: &mut Vec<u8>) -> Result<(), AllocError>
     ensures { OnOk result (answers.new.items ≡ answers.old.items ++ refused_line number refusal.number) }
 {

@@ -11,7 +11,7 @@ use std::io::{self, BufRead, BufReader, ErrorKind, Read};
 /// How often an interrupted call is tried again before the device counts as failed.
 pub(crate) const TRIES: u32 = 1_000;
 
-/// A reader that lends its octets, and tells whether it has failed.
+/// A reader that lends its octets, and says whether it has failed.
 pub trait Input {
     // The octets that are still to come, where it tells them.
     ghost remaining: { Self → Option (List ℕ) } = { λ _. None };
@@ -71,7 +71,7 @@ pub struct DeviceReader<R: Read + Drop> {
 }
 
 impl<R: Read + Drop> DeviceReader<R> {
-    /// A reader that hasn't failed, and has taken nothing of the device yet. An error where memory for the buffer is refused.
+    /// A reader that hasn't failed, and has taken nothing of the device yet. An error where there is no memory for the buffer.
     pub fn new(alloc: Global, device: R) -> io::Result<DeviceReader<R>>
         ensures mark { IfOk result (λ reader. reader.failed ≡ false) }
         ensures device { IfOk result (λ reader. reader_inner reader.reader ≡ device) }

@@ -131,7 +131,7 @@ impl LineState {
     }
 }
 
-/// How many octets stand before the end of the empty line, and where they lead.
+/// How many octets come before the end of the empty line, and where they lead.
 #[derive(Clone, Copy)]
 struct Scanned {
     count: usize,

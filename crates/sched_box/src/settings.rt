@@ -34,7 +34,7 @@ pub(crate) struct Settings {
 }
 
 impl Settings {
-    /// Reads the lines up to the empty one, after which nothing may stand.
+    /// Reads the lines up to the empty one, after which nothing may follow.
     /// Refused: 90.
     pub(crate) fn read(alloc: Global, text: &str) -> Result<Settings, Fault>
         ensures reads { IfOk result (λ settings. Reads settings text.now) }
@@ -143,7 +143,7 @@ pub(crate) fn refused() -> Fault
     Fault::Refused(Refusal::BAD_PREAMBLE)
 }
 
-/// The first line without its LF or CRLF, and what follows it; None where no LF stands.
+/// The first line without its LF or CRLF, and what follows it; None where there is no LF.
 fn next_line(text: &str) -> Option<(&str, &str)>
     ensures split { MatchOption result (IsUnbroken text.now) (λ found. Breaks text.now found.0.now found.1.now) }
     ensures shorter { IfSome result (λ found. length found.1.now < length text.now) }
