@@ -5,7 +5,7 @@ use ical_lines::Fault;
 use ical_values::Address;
 use sched_box::{DeviceReader, DeviceWriter, Output};
 use sched_cli::commands::{Kept, run_check, run_keep, run_serve};
-use sched_cli::status::{DEVICE, USAGE, report_device, report_memory, report_too_long};
+use sched_cli::status::{USAGE, report_device, report_memory, report_too_long};
 use sched_cli::{Tally, run_expand, run_explain, run_explain_object, run_serve_report};
 use std::alloc::Global;
 use std::fs::File;
@@ -73,7 +73,7 @@ fn print_usage<R: Runtime + AllocGlobal>(rt: &R, error: &clap::Error) -> u8 {
     }
     match error.print(rt) {
         Ok(()) => u8::try_from(error.exit_code()).unwrap_or(USAGE),
-        Err(_) => DEVICE,
+        Err(_) => report_device(&mut DeviceWriter::new(ErrorPrinter { to: rt })),
     }
 }
 
