@@ -558,7 +558,7 @@ def command_line(cases, program):
             made = f"source '{script}'; COMP_WORDS=({' '.join(repr(word) for word in line)}); COMP_CWORD={len(line) - 1}; _roombox; echo \"${{COMPREPLY[*]}}\""
             cases.holds(f"completed: {line}", subprocess.run(["bash", "-c", made], capture_output=True, text=True).stdout, wanted + "\n")
     if shutil.which("groff"):
-        shown = subprocess.run(["groff", "-man", "-Tutf8", "-ww", str(ROOT / "docs" / "roombox.1")], capture_output=True)
+        shown = subprocess.run(["groff", "-man", "-Tutf8", "-ww", "-P-cbou", str(ROOT / "docs" / "roombox.1")], capture_output=True)
         cases.holds("groff shows the man page without a warning", (shown.returncode, shown.stderr.decode(), b"EXIT STATUS" in shown.stdout), (0, "", True))
 
 

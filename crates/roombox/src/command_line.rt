@@ -73,6 +73,9 @@ const KEEP: &str =
 const KEEP_MORE: &str = "\
 Input: a preamble and objects, as for `roombox serve`.
 
+Output: an iCalendar object, or the lines of a certificate; docs/PROFILE.md has their form, and
+lists the numbers of refusals.
+
 Exit status: 0 done, also where objects were refused; 2 usage; 3 the preamble is refused or
 doesn't name ROOM (90), or the input is too long; 4 a device failed; 5 out of memory.
 
@@ -84,8 +87,8 @@ const CHECK: &str =
 const CHECK_MORE: &str = "\
 Input: the two files that `roombox keep` prints. Standard input isn't read.
 
-Output: `yes`, or `no` and a number from 80 to 84. `roombox explain 82` says what 82 means;
-docs/PROFILE.md lists all.
+Output: `yes`, or `no` and a number from 80 to 84; after 81 the wrong line of the certificate,
+after 83 two series. `roombox explain 82` says what 82 means; docs/PROFILE.md lists all.
 
 Exit status: 0 yes; 1 no; 2 usage; 3 a file is too long; 4 a device failed, as where a file
 isn't there; 5 out of memory.
