@@ -509,6 +509,11 @@ def explained_objects(cases, program):
         cases.holds(f"explain of an object that is {what}", run(program, "explain", given=octets), (1, f"refused {wanted}\n{meaning}", ""))
     # whether a time out of range has its place isn't said
     cases.holds("explain of an object in the year 1960", run(program, "explain", given=changed({9: "DTSTART:19600310T090000Z"}))[1].startswith("refused 52"), True)
+    if shutil.which("awk"):
+        recipe = next(line for line in (ROOT / "docs" / "PROFILE.md").read_text(encoding="utf-8").splitlines() if line.startswith("    awk "))
+        stream = (PREAMBLE + changed({}) + "\r\n" + changed({5: "UID:b"}) + changed({9: "DTSTART;TZID=Z:20250310T090000"}) + changed({5: ""})).encode()
+        cut = subprocess.run(["sh", "-c", recipe.partition(" stream |")[0]], input=stream, capture_output=True).stdout
+        cases.holds("the recipe that cuts out the third object", cut.decode(), changed({9: "DTSTART;TZID=Z:20250310T090000"}))
     for method, wanted in [("REQUEST", "a REQUEST"), ("ADD", "an ADD"), ("CANCEL", "a CANCEL"), ("REPLY", "a REPLY"), ("REFRESH", "a REFRESH"), (None, "a store")]:
         taken = changed({3: f"METHOD:{method}" if method else ""})
         cases.holds(f"explain of {wanted}", run(program, "explain", given=taken), (0, f"not refused: {wanted}\n", ""))
