@@ -507,6 +507,19 @@ def explained_objects(cases, program):
     ]:
         meaning = run(program, "explain", wanted.partition(" ")[0])[1]
         cases.holds(f"explain of an object that is {what}", run(program, "explain", given=octets), (1, f"refused {wanted}\n{meaning}", ""))
+    # a line that has the fault, and isn't the one that the object is refused for, is never named
+    other = "BEGIN:VTIMEZONE|TZID:U|BEGIN:STANDARD|DTSTART:{start}|TZOFFSETFROM:{offset}|TZOFFSETTO:+0100|END:STANDARD|END:VTIMEZONE|"
+    part = "BEGIN:VTIMEZONE|TZID:Z|BEGIN:X-PART|TZOFFSETFROM:+1|END:X-PART|" + zone.split("|", 2)[2]
+    for what, wanted, changes in [
+        ("an offset, and one of a zone that isn't used", "13 at line 16: TZOFFSETFROM", {4: other.format(start="19700101T000000", offset="+1") + zone, 9: "DTSTART;TZID=Z:20250310T090000"}),
+        ("a time, and one of a zone that isn't used", "11 at line 25: DTSTART", {4: other.format(start="19700101", offset="+0100") + zone.replace("+1|", "+0100|"), 9: "DTSTART;TZID=Z:20250310T090000Z"}),
+        ("an offset, and one of another part", "13 at line 11: TZOFFSETFROM", {4: part, 9: "DTSTART;TZID=Z:20250310T090000"}),
+        ("a time, and one of a VTODO", "10 at line 9: DTSTAMP", {4: "BEGIN:VTODO|DTSTAMP:2025|END:VTODO|BEGIN:VEVENT", 6: "DTSTAMP:2025"}),
+        ("an address, and one of an alarm", "15 at line 12: ATTENDEE", {5: "UID:a|BEGIN:VALARM|ATTENDEE:x|END:VALARM", 8: "ATTENDEE:mailto:r1@example.com|ATTENDEE:y"}),
+        ("a first line that continues nothing", "1 at line 1", {1: " Dear room|BEGIN:VCALENDAR"}),
+    ]:
+        said = run(program, "explain", given=changed(changes))[1].partition("\n")[0]
+        cases.holds(f"explain never names a wrong line: {what} ({said})", said in (f"refused {wanted}", f"refused {wanted.partition(' ')[0]}"), True)
     # whether a time out of range has its place isn't said
     cases.holds("explain of an object in the year 1960", run(program, "explain", given=changed({9: "DTSTART:19600310T090000Z"}))[1].startswith("refused 52"), True)
     if shutil.which("awk"):
