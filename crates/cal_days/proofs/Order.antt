@@ -42,7 +42,7 @@ months_apart year month late first h =
 pub year_length : (year : ℕ) → days_of_months year 12 ≡ days_in_year year
 year_length year = sym (months_same year 12) ∙ days_of_months_all (pos year)
 
--- a date lies among the days of its year
+-- a date is among the days of its year
 in_year : (year month day : ℕ) → IsDate year month day → days_of_months year (month - 1) + day ≤ days_in_year year
 in_year year month day h =
     let rest : (12 - month) + month ≡ 12 = omega (arith, h.1) in
@@ -77,7 +77,7 @@ by_years y m d z n e year h k same =
     let rest = by_months z m d n e (rw year at h) k (rw year at same) in
     (year, rest.0, rest.1)
 
--- no two dates have so many days before them
+-- no two dates have the same number of days before them
 pub one_count : (y m d z n e : ℕ) → IsDate y m d → IsDate z n e → days_before y m d ≡ days_before z n e → (y ≡ z) × (m ≡ n) × (d ≡ e)
 one_count y m d z n e h k same = by_years y m d z n e (same_year y m d z n e h k same) h k same
 

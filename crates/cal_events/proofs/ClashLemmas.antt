@@ -81,7 +81,7 @@ clear all apart a b t h =
       in_second = subst (λ (s : Span). IsWithin s.start s.end t) (sym eb) h.in_second;
     })
 
--- what the sweep over the spans of the singles tells of the calendar's instances
+-- what the sweep over the spans of the singles says about the calendar's instances
 pub clash_from_overlap : (all : List Booked) (entries : List Name) (bs : List Single) (spans seen : List Span) (r : Option Overlap) → HaveDifferentKeys (map (booked_in entries) bs) → map (booked_in entries) bs ≡ all
     → spans ≡ map span_of bs → seen ≡ spans → IfSome r (IsOverlap seen) → IfSome r (Names all)
 clash_from_overlap all entries bs spans seen r keys view e f h =

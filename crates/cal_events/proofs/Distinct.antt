@@ -11,7 +11,7 @@ use Rattle.std.proofs.lemmas.Bool.Decides.{nat_tests}
 abbrev pub Distinct : {X : Type 0} → (X → X → Type 0) → List X → Type 0
 Distinct {X} R xs = (i j : ℕ) (d : X) → i < length xs → j < length xs → i ≢ j → R (get_or xs i d) (get_or xs j d)
 
--- where the element at k stood before the exchange of a and b
+-- where the element at k was before the exchange of a and b
 source : ℕ → ℕ → ℕ → ℕ
 source a b k = cond (k == a) b (cond (k == b) a k)
 

@@ -16,7 +16,7 @@ use Rattle.cal_events.specs.Drafts.{master_key, override_key, master_keys, overr
 use Rattle.cal_events.specs.declared.instance.InstanceKey.{InstanceKey}
 use Rattle.cal_events.proofs.InOneOrder.{later, none_in, head_pairs, tail_pairs, cons_pairs}
 
--- ---- one VEVENT more
+-- ---- one more VEVENT
 
 module _ (f : Name → Option Key) (names : List Name) (i : ℕ) (w : i < length names) (keys : List InstanceKey) (so_far : map key_of keys ≡ filter_map f (take i names)) where
   more : filter_map f (take (i + 1) names) ≡ filter_map f (take i names) ++ filter_map f (name_at names i ∷ [])
@@ -144,7 +144,7 @@ module _ (events : List Event) where
       let e = sym x.2 ∙ same ∙ y.2 in
       h i j d l w x.0 x.1 (y.1 ∙ ap Some (sym (ap (λ (k : Key). k.slot) e))) (meeting_same _ _ _ _ e))
 
-  -- an override stands for the instance of a key
+  -- an override replaces the instance of a key
   pub replaced_key : (k : Key) → Contains (filter_map override_key (map name_said events)) k → (o : Event) × Contains events o × ((slot : ℤ) × (o.recurrence ≡ Some slot) × (k ≡ key_in (meeting_said o) slot))
   replaced_key k c = let t = key_there override_key events k c in (t.0, t.1, override_said t.0 k t.2)
 

@@ -41,7 +41,7 @@ use Rattle.cal_events.specs.declared.series.Series.{Series}
 use Rattle.cal_events.proofs.SeriesLemmas.{replaced_at, at_replaced, series_made, zip_mapped}
 use Rattle.cal_events.proofs.OwnSingles.{of_both, master_alone, not_a_master}
 
--- ---- one VEVENT more
+-- ---- one more VEVENT
 
 pub drawn_push : (room : List ℕ) (place : ℕ) (events : List Event) (event : Event) (singles own : List Single) → AreDrawn room place events singles
     → AreOwnAt room (place + length events) event own → AreDrawn room place (events ++ event ∷ []) (singles ++ own)
@@ -76,7 +76,7 @@ none_hidden entries [] (s ∷ ss) h = shown (is_some (recurrence_at entries s.en
     shown true e = ap (λ (l : List Single). s ∷ l) e
     shown false e = ap (λ (l : List Single). s ∷ l) e
 
--- ---- one VEVENT more, with all that it adds
+-- ---- one more VEVENT, with all that it adds
 
 module _ (room : List ℕ) (events : List Event) (event : Event) (old new : Draft) (draft : IsDraft room events old) where
   as_many : length old.entries ≡ length events
@@ -97,7 +97,7 @@ module _ (room : List ℕ) (events : List Event) (event : Event) (old new : Draf
       first_said zero d w = spoken
       first_said (suc k) d w = absurd (omega (arith, w))
 
--- a series more, or none
+-- one more series, or none
 pub more_series : (room : List ℕ) (event : Event) (old new : List Event) (b : Bool) → is_series room event ≡ b → new ≡ old ++ cond b (event ∷ []) [] → new ≡ old ++ cond (is_series room event) (event ∷ []) []
 more_series room event old new b h e = e ∙ ap (λ x. old ++ cond x (event ∷ []) []) (sym h)
 
@@ -122,13 +122,13 @@ module _ (room : List ℕ) (events : List Event) (entries : List Name) (said : e
   abbrev shown : Single → Bool
   shown = is_shown_in entries keys
 
-  -- what stands at a place of the entries
+  -- what is at a place of the entries
   named : (k : ℕ) (event : Event) → k < length events → get_or events k event ≡ event → (recurrence_at entries k ≡ event.recurrence) × (meeting_at entries k ≡ meeting_said event)
   named k event w e =
       let at : name_at entries k ≡ name_said event = ap (λ l. name_at l k) said ∙ get_or-map name_said events k event (([], []), None) w ∙ ap name_said e in
       (ap (λ (n : Name). n.1) at, ap (λ (n : Name). n.0) at)
 
-  -- a single is shown where no override stands for its slot
+  -- a single is shown where no override replaces its slot
   module _ (k : ℕ) (event : Event) (w : k < length events) (e : get_or events k event ≡ event) (s : Single) (at : s.entry ≡ k) where
     abbrev own : Key
     own = key_in (meeting_said event) s.slot

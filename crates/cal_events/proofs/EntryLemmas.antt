@@ -45,7 +45,7 @@ pushed os more us es organiser u e w h is =
     one_more (os ++ more) us es u e h ∙ ap (λ l. l ++ name_of (os ++ more) u e ∷ []) (more_organisers os more us es w)
     ∙ ap (λ (o : List ℕ). names_of os us es ++ ((o, u), e.recurrence) ∷ []) is
 
--- ---- what stands at a place
+-- ---- what is at a place
 
 module _ (os us : List (List ℕ)) (es : List Entry) (names : List Name) (view : names_of os us es ≡ names) (same : length us ≡ length es) (k : ℕ) (w : k < length names) where
   pub entry_in : k < length es

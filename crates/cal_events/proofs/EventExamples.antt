@@ -78,7 +78,7 @@ said = record {
 no_need : {A : Type 0} → false ≡ true → A
 no_need h = absurd (true≢false (sym h))
 
--- the lines of a calendar's VEVENT say this event, in whatever object they stand
+-- the lines of a calendar's VEVENT say this event, in whatever object they are
 say : (object : Tree) → SaysEvent object None lines said
 unfolding lines said unescaped
 say object = record {

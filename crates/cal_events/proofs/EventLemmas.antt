@@ -90,7 +90,7 @@ IsNone text = (days seconds : ℕ) → SpellsDuration text days seconds → ⊥
 
 -- ---- attendees
 
--- a line more
+-- one more line
 pub one_more : (name : List ℕ) (line : List ℕ) (left : List (List ℕ)) → is_of name line ≡ true → lines_named name (line ∷ left) ≡ line ∷ lines_named name left
 one_more name line left h = ap (λ b. cond b (line ∷ lines_named name left) (lines_named name left)) h
 
@@ -131,7 +131,7 @@ attendee_fault object m all left rest done line (Refused r) e s h w =
     subst (EventFault object m all) (sym w.0)
     (bad_attendee (line, in_rest done (lines_named (codes "ATTENDEE") rest) (lines_named (codes "ATTENDEE") all) line (named_next (codes "ATTENDEE") all left rest done line e s h), w.1))
 
--- the first element of a kind, from a place on, where the one that stands there is none
+-- the first element of a kind, from a place on, where the one that is there is none
 pub find_drop : {X Y : Type 0} (p : Y → Bool) (g : X → Y) (xs : List X) (i : ℕ) (x : X) → i < length xs → x ≡ get_or xs i x → p (g x) ≡ false
     → find p (map g (drop i xs)) ≡ find p (map g (drop (i + 1) xs))
 find_drop p g xs i x w e f =
@@ -149,7 +149,7 @@ text_by name (line ∷ lines) = go (is_of name line) (text_by name lines)
     go true rest = refl
     go false rest = rest
 
--- what is the first line of a property, and what stands where there is none
+-- what is the first line of a property, and what is there where there is none
 pub summary_found : (lines : List (List ℕ)) (found : Option (List ℕ)) → found ≡ find (is_of (codes "SUMMARY")) lines
     → summary_of lines ≡ unwrap_or (option_map (λ line. unescaped (line_value line)) found) []
 summary_found lines found e = text_by (codes "SUMMARY") lines ∙ ap (λ (o : Option (List ℕ)). unwrap_or (option_map (λ line. unescaped (line_value line)) o) []) (sym e)

@@ -131,7 +131,7 @@ kept_whole P xs starts sorted k le are same t =
       λ h. Contains-permutation starts sorted t same ((all t).1 h),
     )
 
--- what is so of RDATE's starts of this master is so of those of the master
+-- what holds of RDATE's starts of this master holds of those of the master
 pub starts_of_master : {E : Type 0} (o : Option EventComponent) (master : EventComponent) (hidden : List ℤ) (r : Result (List ℤ) E) → o ≡ Some master
     → IfOk r (AreStartsOf master.additions.items hidden) → IfOk r (λ added. (c : EventComponent) → o ≡ Some c → AreStartsOf c.additions.items hidden added)
 starts_of_master o master hidden (Ok added) is h = λ c e. subst (λ (x : EventComponent). AreStartsOf x.additions.items hidden added) (same_Some master c (sym is ∙ e)) h

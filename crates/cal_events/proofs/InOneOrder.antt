@@ -14,7 +14,7 @@ pub none_in : {X : Type 0} (x : X) → Contains [] x → ⊥
 none_in x (k, w, e) = omega (arith, w)
 
 module _ {X : Type 0} (R : X → X → Type 0) where
-  -- each later one is so to the first
+  -- each later one is so related to the first
   pub head_pairs : (x y : X) (xs : List X) → AllPairs R (x ∷ xs) → Contains xs y → R x y
   head_pairs x y xs p (k, w, e) = subst (R x) e (p 0 (suc k) y (omega arith) (omega (arith, w)))
 

@@ -1,4 +1,4 @@
--- Instants in order, and what a search by halves finds among them.
+-- Instants in order, and what a binary search finds among them.
 use Rattle.std.proofs.Common.{◌≡◌, ◌≢◌, ◌∙◌, ℕ, ◌+◌, ◌-◌, ◌<◌, ◌≤◌, true, false, List, length, get_or, refl, sym, ap, subst, arith, inl, inr, ℤ, ◌<ℤ◌, ◌≤ℤ◌}
 use Rattle.std.specs.Prelude.{AllPairs, Contains, Some, None, int_lt, IsTrue, ◌↔◌, Result, Ok, Err}
 use Rattle.std.specs.declared.cmp.Ordering.{Ordering}

@@ -111,7 +111,7 @@ module _ (master : Event) (overrides : List Event) (bound : Bound) (rule : Parts
   wanted : ℤ → Type 0
   wanted t = IsWanted master overrides bound t
 
-  -- a start that is wanted doesn't lie on an earlier day than the next one
+  -- a start that is wanted isn't on an earlier day than the next one
   pub none_earlier : (found : ℕ) → IsNextDay rule from found → (n : ℕ) → n < found → is_rule_day rule n ≡ true → (t : ℤ) → Means zone (local_time n second) t → IsWanted master overrides bound t → ⊥
   none_earlier found next n lt holds t means w =
       elim (cases_order n from) [

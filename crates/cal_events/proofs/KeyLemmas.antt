@@ -1,4 +1,4 @@
--- Keys of instances in order: equal ones are neighbours, and one is looked for by halves.
+-- Keys of instances in order: equal ones are neighbours, and one is looked for by binary search.
 use Rattle.std.proofs.Common.{◌≡◌, ◌≢◌, ℕ, [], ◌∷◌, ◌+◌, ◌<◌, ◌≤◌, ◌-◌, true, false, List, map, length, get_or, subst, sym, refl, ap, ◌∙◌, inl, inr, ◌⊎◌, arith, Ordering, ℤ}
 use Rattle.std.specs.Prelude.{AllPairs, Result, Ok, Err, Bool, not, ◌&&◌}
 use Rattle.std.specs.declared.cmp.Ordering.TheVariants.{Less, Equal, Greater}
@@ -152,7 +152,7 @@ module _ (ps : List InstanceKey) (next : ℕ) (first : 1 ≤ next) (within : nex
             true≢false (sym (key_same (get_or ps (next - 1) d) (get_or ps next e) (ap key_of (sym a) ∙ same ∙ ap key_of b)) ∙ sym differ)
       ]
 
--- what a search by halves says
+-- what a binary search says
 pub missing : (ps : List InstanceKey) (own : Key) (r : Result ℕ ℕ) → IsSortedByKey key_of key_cmp ps → IsSearchInRange r (length ps) → IsBinarySearchResult (λ p. key_cmp (key_of p) own) ps r
     → is_err r ≡ not (list_any (λ k. is_eq (key_cmp k own)) (map key_of ps))
 missing ps own (Ok i) up within found =

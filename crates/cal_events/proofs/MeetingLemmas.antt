@@ -1,4 +1,4 @@
--- The event with its instances that an object says, or the fault that stands there.
+-- The event with its instances that an object says, or the fault that it has.
 use Rattle.std.proofs.Common.{◌≡◌, ◌∙◌, ℕ, zero, suc, ◌<◌, Bool, true, false, ◌&&◌, cond, List, [], ◌∷◌, ◌++◌, length, map, filter, append-nil, sym, ap, subst, refl, inl, inr, arith, ℤ, ◌||◌}
 use Rattle.std.specs.Option.{option_to_list}
 use Rattle.std.specs.Prelude.{Option, Some, None, Contains, unwrap_or, Result, Ok, Err, IfOk, IfErr}
@@ -138,7 +138,7 @@ module _ (object : Tree) (vs : List (List (List ℕ))) (same : vevents object �
       differ = subst InstancesDiffer overrides differ;
     }
 
--- the numbers of what stands between them
+-- the numbers of what is between them
 pub not_one_number : (events : List Event) (n : ℕ) → IsNotOne events n → is_meeting_fault n ≡ true
 not_one_number events n (inl (is, _)) = ap is_meeting_fault is
 not_one_number events n (inr (is, _)) = ap is_meeting_fault is

@@ -1,4 +1,4 @@
--- Octets that are no object within the limits of a message: which fault stands in them, and that none stands in those that are one.
+-- Octets that aren't an object within the limits of a message: which fault they have, and that those that are one have none.
 use Rattle.std.proofs.Common.{◌≡◌, ◌∙◌, ℕ, ◌<◌, Bool, true, false, not, ◌&&◌, ◌||◌, ◌==◌, nat_lt, List, codes, subst, sym, refl, ap, inl, inr, arith}
 use Rattle.std.proofs.lemmas.Bool.{true≢false, not-true}
 use Rattle.std.proofs.lemmas.Bool.Decides.{nat_tests}
@@ -25,7 +25,7 @@ HasManyEvents octets t =
 
 -- ---- where octets are refused
 
--- 25 is told only where 24 doesn't stand
+-- 25 is reported only where there is no fault 24
 weaker : (k a b d v : Bool) → (k && (a || (b && (d && v)))) ≡ true → (a || (b && d)) ≡ true
 weaker false a b d v h = absurd (cc)
 weaker true true b d v h = refl

@@ -1,4 +1,4 @@
--- The times of RDATE and EXDATE, read one after the other.
+-- The times of RDATE and EXDATE, read one after another.
 use Rattle.std.proofs.Common.{◌≡◌, ◌≢◌, ◌∙◌, ℕ, ◌+◌, ◌<◌, ◌≤◌, true, false, ◌==◌, List, [], ◌∷◌, ◌++◌, length, map, sym, ap, subst, refl, inl, inr, append_assoc, append-nil, length-append, arith}
 use Rattle.std.specs.Prelude.{◌⊎◌}
 use Rattle.std.specs.List.{AllZip, slice_split, flat_map}
@@ -24,7 +24,7 @@ Lines = List (List ℕ)
 
 -- ---- one time
 
--- it was read, and lies in the dates, or doesn't
+-- it was read, and is in the dates, or isn't
 abbrev pub IsKept : SaidInstants → SaidInstant → SaidInstants → Type 0
 IsKept old said new = ((said.in_dates ≡ true) × (new.in_dates ≡ old.in_dates)) ⊎ ((said.in_dates ≡ false) × (new.in_dates ≡ false))
 

@@ -1,4 +1,4 @@
--- The VEVENTs of an object say at most one calendar for a room, and none where a fault stands in them.
+-- The VEVENTs of an object say at most one calendar for a room, and none where they have a fault.
 use Rattle.std.proofs.Common.{◌≡◌, ◌∙◌, ℕ, Bool, false, List, filter, subst, sym, ap, inl, inr, arith, Option, None}
 use Rattle.std.specs.List.{AllZip, flat_map}
 use Rattle.profile.specs.text.Trees.{Tree, vevents}

@@ -1,4 +1,4 @@
--- The lines of a VEVENT of an object say at most one event, and none where a fault stands in them.
+-- The lines of a VEVENT of an object say at most one event, and none where they have a fault.
 use Rattle.std.proofs.Common.{◌≡◌, ℕ, Bool, true, false, List, [], codes, subst, sym, refl, ap, ◌∙◌, inl, inr, arith, ℤ}
 use Rattle.std.specs.Prelude.{Option, Some, None, is_some, unwrap_or, All, ◌⊎◌}
 use Rattle.std.specs.Option.{option_to_list}
@@ -95,7 +95,7 @@ kind_number Other text m n h k = h ∙ sym k
 pub one_number : (line : List ℕ) (m n : ℕ) → TimeFault line m → TimeFault line n → m ≡ n
 one_number line m n h k = kind_number (time_kind line) (line_value line) m n h k
 
--- ---- no fault stands where an event is said
+-- ---- there is no fault where an event is said
 
 stands_some : {V : Type 0} (R : List ℕ → V → Type 0) (name : List ℕ) (m : Bool) (lines : Lines) (v : Option V) → Says name m R lines v → m ≡ true → IsMissing name lines → ⊥
 stands_some R name m lines v s t missing = go s.line (sym s.once ∙ missing) (s.stands t)

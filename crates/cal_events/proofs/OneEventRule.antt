@@ -1,4 +1,4 @@
--- The lines of a VEVENT say at most one rule, and none where a fault stands in it.
+-- The lines of a VEVENT say at most one rule, and none where it has a fault.
 use Rattle.std.proofs.Common.{◌≡◌, ◌∙◌, ℕ, ◌<◌, ◌≤◌, Bool, true, false, List, [], ◌∷◌, codes, subst, sym, ap, refl, inl, inr, arith, ℤ, ◌≤ℤ◌}
 use Rattle.std.specs.Prelude.{Option, Some, None}
 use Rattle.std.proofs.lemmas.Bool.{true≢false, cases_order}
@@ -81,7 +81,7 @@ one_event_rule zoned two rules object lines s t a b h k p q =
     same_beside starts t (clock_by object lines t k) q.text a b
     (subst (λ (x : Option RuleText). GivesBeside starts t x a) text (subst (λ (x : EventTimes). GivesBeside starts x p.text a) (one_times_by zoned two object lines s t h k) p.gives)) q.gives
 
--- ---- no fault stands where a rule is said
+-- ---- there is no fault where a rule is said
 
 -- a rule day is not past the last one
 is_up_to_last : (rule : Parts) (day : ℕ) → is_rule_day rule day ≡ true → day ≤ rule.last
@@ -97,7 +97,7 @@ module _ (zoned : OneZonedTime) (rules : OneRule) (none : NoRuleFault) (object :
   the_clock : IsOneMeaning (clock_of times.zone)
   the_clock = clock_one object s.line (line_value s.line) times.zone times.local s.says
 
-  -- the local times of an event lie in the years from 1969 on
+  -- the local times of an event are in the years from 1969 on
   late : (day second : ℕ) → IsOnDay times.local day second → 366 ≤ day
   late day second on = go (is_in_zone s.line) s.in_dates.0
     where
@@ -120,7 +120,7 @@ module _ (zoned : OneZonedTime) (rules : OneRule) (none : NoRuleFault) (object :
             true≢false (sym starts ∙ false_there)
       ]
 
-  -- the rule that the text gives from the start that stands there
+  -- the rule that the text gives from the start that is there
   given : (text : RuleText) → r.text ≡ Some text → (x : Parts) × GivesRule (clock_of times.zone) times.local text x
   given text e =
       both rule

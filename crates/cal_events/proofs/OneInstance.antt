@@ -196,7 +196,7 @@ module _ (object : Tree) (meeting : Meeting) (s : SaysMeeting object None meetin
   override_sound : (o : Event) → Contains meeting.overrides o → IsSound o
   override_sound o c = All-contains IsSound meeting.overrides o (subst (All IsSound) s.overrides (All-filter is_override IsSound s.events sound)) c
 
-  -- a start of the master is no override's
+  -- a start of the master isn't an override's
   not_both : (a b : Booked) → IsOfMaster meeting a → IsOfOverride meeting b → a.key.slot ≡ b.key.slot → ⊥
   not_both a b h k same =
       let slot : b.key.slot ≡ a.start = sym same ∙ ap (λ (x : Key). x.slot) h.key in

@@ -1,4 +1,4 @@
--- Octets spell at most one event with its instances, and none where a fault stands in them.
+-- Octets spell at most one event with its instances, and none where they have a fault.
 use Rattle.std.proofs.Common.{◌≡◌, ◌∙◌, ℕ, ◌<◌, ◌≤◌, Bool, true, false, List, filter, length, sym, ap, subst, arith}
 use Rattle.std.specs.Prelude.{Option, Some, None, is_some}
 use Rattle.std.specs.Option.{option_to_list}

@@ -1,4 +1,4 @@
--- The lines of a VEVENT say of its occurrences at most one thing, and nothing where a fault stands in them.
+-- The lines of a VEVENT say of its occurrences at most one thing, and nothing where they have a fault.
 use Rattle.std.proofs.Common.{◌≡◌, ◌∙◌, ℕ, ◌<◌, ◌≤◌, Bool, true, false, List, codes, length, sym, ap, inl, inr, arith, ℤ}
 use Rattle.std.specs.Prelude.{Option, option_map, unwrap_or}
 use Rattle.std.proofs.lemmas.Bool.{true≢false}
@@ -37,7 +37,7 @@ one_occurrences one object lines r q a b e f s t = (
   lists_one one object (codes "EXDATE") (entries_named (codes "EXDATE") lines) e f s.takes t.takes,
 )
 
--- ---- no fault stands where they are said
+-- ---- there is no fault where they are said
 
 no_entry_fault : NoTimeFault → (object : Tree) (name : List ℕ) (e : Entry) (t : ℤ) (n : ℕ) → IsListed object name e t → EntryFault object name e n → ⊥
 no_entry_fault none object name (line, text) t n h (inl f) = true≢false (sym f.0 ∙ h.0)

@@ -1,4 +1,4 @@
--- Octets spell at most one calendar for a room, and none where a fault stands in them.
+-- Octets spell at most one calendar for a room, and none where they have a fault.
 use Rattle.std.proofs.Common.{◌≡◌, ℕ, Bool, true, false, List, subst, sym, ap, ◌∙◌}
 use Rattle.std.proofs.lemmas.Bool.{true≢false}
 use Rattle.ical_lines.proofs.ContentLemmas.{read_fine}
@@ -28,7 +28,7 @@ one_spelled tree calendar room octets a b s t =
     let same : s.tree ≡ t.tree = tree 7 7 (logical_lines octets) s.tree t.tree s.object.spelled t.object.spelled in
     calendar room t.tree a b (subst (λ (x : Tree). SaysCalendar room x a) same s.says) t.says
 
--- ---- no fault stands in octets that read
+-- ---- octets that read have no fault
 
 pub no_fault : OneTree → PairsUp → NoFault → (room octets : List ℕ) (all : Confirmed) (n : ℕ) → SpellsCalendar room octets all → CalendarTextFault octets n → ⊥
 no_fault one pairs none room octets all n s (in_lines h) = true≢false (sym h ∙ read_fine false octets n s.lines)

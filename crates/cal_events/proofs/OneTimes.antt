@@ -1,4 +1,4 @@
--- The lines of a VEVENT say its times in at most one way, and not at all where a fault stands in them.
+-- The lines of a VEVENT say its times in at most one way, and not at all where they have a fault.
 use Rattle.std.proofs.Common.{◌≡◌, ℕ, ◌+◌, ◌*◌, ◌≤◌, Bool, true, false, List, length, codes, subst, sym, ap, ◌∙◌, inl, inr, arith, ℤ, pos, ◌+ℤ◌, ◌<ℤ◌}
 use Rattle.std.specs.Prelude.{Option, Some, None, All}
 use Rattle.std.proofs.lemmas.Bool.{true≢false}
@@ -71,7 +71,7 @@ one_instant one object line s t h k = text_instant one object line (line_value l
 pub dated : (object : Tree) (line : List ℕ) (t : ℤ) → SaysInDates object line t → SaysInstant object line t
 dated object line t (zone, local, says, means, dates) = (zone, local, says, means)
 
--- an instant that lies in the dates doesn't lie outside
+-- an instant that is in the dates isn't outside
 pub text_not_out : OneZonedTime → (object : Tree) (line text : List ℕ) (zone : Option Zone) (local t : ℤ) → SaysZonedText object line text zone local → Means (clock_of zone) local t
     → IsInDates (is_in_zone line) local t → IsOutside object (line, text) → ⊥
 text_not_out one object line text zone local t says means dates (other, clock, instant, said, meant, out) =
@@ -135,7 +135,7 @@ one_alone two object lines a b s t =
     subst (λ (d : Option (List ℕ)). LastsAlone object t.end_line d a.length) duration (subst (λ (x : Option (List ℕ)). LastsAlone object x s.duration_line a.length) end s.lasts) in
     times_same a b (s.zone ∙ sym t.zone) (s.local ∙ sym t.local) (s.start ∙ sym t.start) (same_alone two object t.end_line t.duration_line a.length b.length lasts t.lasts)
 
--- a start stands, or is missing
+-- a start is there, or is missing
 there_or_missing : (lines : Lines) (line : List ℕ) → StandsAtMostOnce (codes "DTSTART") lines (Some line) → IsMissing (codes "DTSTART") lines → ⊥
 there_or_missing lines line once missing = let k : 0 ≡ 1 = sym (ap length missing) ∙ ap length once in absurd (omega (arith, k))
 
@@ -150,14 +150,14 @@ pub clock_by : {may : Bool} (object : Tree) (lines : Lines) (t : EventTimes) →
 clock_by object lines t (inl s) = clock_one object s.line (line_value s.line) t.zone t.local s.says
 clock_by object lines t (inr (_, s)) = subst (λ (z : Option Zone). IsOneMeaning (clock_of z)) (sym s.zone) (one_meaning (Constant (pos 0)) tt)
 
--- ---- no fault stands where times are said
+-- ---- there is no fault where times are said
 
 module _ (one : OneZonedTime) (none : NoTimeFault) (two : OneDuration) (apart : NotBoth) (object : Tree) (lines : Lines) (times : EventTimes) (s : SaysEventTimes object lines times) where
-  -- the start that stands
+  -- the start that is there
   start_is : (P : List ℕ → Type 0) (l : SomeLine (codes "DTSTART") P lines) → s.line ≡ l.0
   start_is P l = same_Some s.line l.0 (only_line (codes "DTSTART") lines (Some s.line) l.0 s.once l.1)
 
-  -- the end that stands
+  -- the end that is there
   end_said : (P : List ℕ → Type 0) (l : SomeLine (codes "DTEND") P lines) → LastsUntil object times.start l.0 times.length
   end_said P l = go s.end_line s.duration_line (only_line (codes "DTEND") lines s.end_line l.0 s.end_once l.1) s.lasts
     where
@@ -166,7 +166,7 @@ module _ (one : OneZonedTime) (none : NoTimeFault) (two : OneDuration) (apart : 
       go (Some x) (Some o) h lasts = absurd lasts
       go (Some x) None h lasts = subst (λ (y : List ℕ). LastsUntil object times.start y times.length) (same_Some x l.0 h) lasts
 
-  -- the DURATION that stands
+  -- the DURATION that is there
   duration_said : (P : List ℕ → Type 0) (l : SomeLine (codes "DURATION") P lines) → LastsFor l.0 times.length
   duration_said P l = go s.end_line s.duration_line (only_line (codes "DURATION") lines s.duration_line l.0 s.duration_once l.1) s.lasts
     where
@@ -175,7 +175,7 @@ module _ (one : OneZonedTime) (none : NoTimeFault) (two : OneDuration) (apart : 
       go (Some x) (Some o) h lasts = absurd lasts
       go None (Some o) h lasts = subst (λ (y : List ℕ). LastsFor y times.length) (same_Some o l.0 h) lasts
 
-  -- the start and the end that stand are those of the times
+  -- the start and the end that are there are those of the times
   ends_said : (R : ℤ → ℤ → Type 0) → StartAndEndLie object R lines → R times.start (times.start +ℤ pos times.length.seconds)
   ends_said R (start, end, first, last, r) =
       let here : SaysInstant object first.0 times.start = subst (λ (l : List ℕ). SaysInstant object l times.start) (start_is _ first) (times.zone, times.local, s.says, s.means) in

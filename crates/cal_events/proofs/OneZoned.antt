@@ -1,4 +1,4 @@
--- A line says at most one local time in one zone, and none where a fault stands in it.
+-- A line says at most one local time in one zone, and none where it has a fault.
 use Rattle.std.proofs.Common.{◌≡◌, ap, refl, subst, inl, inr, ℕ, List, ℤ, codes}
 use Rattle.std.specs.Prelude.{Option, Some, None}
 use Rattle.profile.specs.text.Lines.{line_param}

@@ -169,7 +169,7 @@ pub record IsAhead (meeting : Meeting) (from to : ℤ) (next : Option Instance) 
   pub still : StillLeft meeting from to old
   pub given : GivesFirst old next left
 
--- so many steps are left at most
+-- this many steps are left at most
 abbrev pub steps_left : Option Instance → Instances → ℕ
 steps_left None left = 0
 steps_left (Some i) left = suc (places_left left.after)

@@ -134,7 +134,7 @@ module _ (event : Event) (t : IsTimely event) where
     all = λ b h from. a.all b h (no_rule event b once);
   }
 
--- ---- one start more
+-- ---- one more start
 
 pub made_more : (event : Event) (xs : List ℤ) (k : ℕ) (old new : List Single) (s : Single) → k < length xs → AllZip (λ start single. IsMade event start start single) (take k xs) old → new ≡ old ++ s ∷ []
     → IsMade event (get_or xs k (pos 0)) (get_or xs k (pos 0)) s → AllZip (λ start single. IsMade event start start single) (take (k + 1) xs) new

@@ -1,4 +1,4 @@
--- The keys of one meeting among keys in order: two searches by halves find them, and their slots ascend.
+-- The keys of one meeting among keys in order: two binary searches find them, and their slots ascend.
 use Rattle.std.proofs.Common.{◌≡◌, ◌≢◌, ◌∙◌, ℕ, ◌+◌, ◌<◌, ◌≤◌, Bool, true, false, List, [], ◌∷◌, ◌++◌, length, get_or, take, drop, map, sym, ap, refl, subst, arith, zero, suc, ◌<ℤ◌, Ordering, get_or-drop, take-append-drop, length-drop, append-nil}
 use Rattle.std.specs.Prelude.{AllPairs, Contains, filter}
 use Rattle.std.specs.declared.cmp.Ordering.TheVariants.{Less, Equal, Greater}

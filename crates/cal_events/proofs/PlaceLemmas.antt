@@ -1,4 +1,4 @@
--- The places of overrides: in order, and what two searches by halves find among them.
+-- The places of overrides: in order, and what two binary searches find among them.
 use Rattle.std.proofs.Common.{◌≡◌, ◌∙◌, ℕ, zero, suc, ◌+◌, ◌<◌, ◌≤◌, Bool, true, false, not, ◌&&◌, ◌||◌, List, [], ◌∷◌, ◌++◌, length, get_or, subst, sym, refl, ap, inl, inr, ◌⊎◌, arith, ℤ, ◌<ℤ◌, Ordering}
 use Rattle.std.specs.Prelude.{Option, Some, None, All, Contains, IsTrue, int_lt}
 use Rattle.std.specs.List.{list_any}
@@ -215,7 +215,7 @@ module _ (ms : List Moved) (up : IsSorted moved_cmp ms) where
     pub none_at : length ms ≤ at → (m : Moved) → Contains ms m → place_of m ≡ place → ⊥
     none_at le m (k, w, e) is = let l = from_at k m w e is in omega (arith, w, le, l)
 
-    -- the one that the search stops at lies elsewhere, so none lies there
+    -- the one that the search stops at is elsewhere, so none is there
     pub none_there : (m : Moved) → at < length ms → get_or ms at m ≡ m → (place_of m ≡ place → ⊥) → (n : Moved) → Contains ms n → place_of n ≡ place → ⊥
     none_there m w e not n (k, v, f) is =
         let l = from_at k n v f is in

@@ -70,7 +70,7 @@ event_pushed object m vs lines old new event zip says n =
     subst (λ (es : List Event). AllZip (SaysEvent object m) (vs ++ lines ∷ []) es) (sym (ap (map event_of) n ∙ map-append event_of old (event ∷ [])))
     (push_zip (SaysEvent object m) vs (map event_of old) lines (event_of event) zip says)
 
--- a VEVENT that is refused has a fault, which stands in the object
+-- a VEVENT that is refused has a fault, which the object has
 pub event_stands : (object : Tree) (vs : List Lines) (lines : Lines) (f : Fault) → vevents object ≡ vs → Contains vs lines → RefusesBy (EventFault object None lines) f
     → RefusesBy (CalendarFault object) f
 event_stands object vs lines Memory e h s = tt

@@ -12,7 +12,7 @@ use Rattle.cal_events.specs.Occurrences.{IsRecurrenceSo, IsRecurrenceSaid}
 use Rattle.cal_events.specs.declared.occurrences.SaidInstant.{SaidInstant}
 use Rattle.cal_events.proofs.EventLemmas.{some_line}
 
--- it lies outside of the dates
+-- it is outside of the dates
 pub recurrence_out_there : {added : Bool} (object : Tree) (lines : List (List ℕ)) (said : SaidInstant) → IsRecurrenceSaid object lines (Some said) → said.in_dates ≡ false → OccurrenceFault added object lines 52
 recurrence_out_there {added} object lines said s out = go s.line s.once s.is
   where
@@ -22,7 +22,7 @@ recurrence_out_there {added} object lines said s out = go s.line s.once s.is
         recurrence_out (some_line (codes "RECURRENCE-ID") (SaysOutOfDates object) lines line once
         (h.1.0, h.1.1, said.instant, h.1.2, h.1.3, λ d. true≢false (sym (h.1.4.1 d) ∙ out)))
 
--- a parameter that was found stands on the line
+-- a parameter that was found is on the line
 pub shows_range : (line : List ℕ) (found : Option (Bor (List ℕ))) → option_map (λ x. x.now) found ≡ line_param (codes "RANGE") line → is_some found ≡ true → has_range line ≡ true
 shows_range line found e h = sym (ap is_some e) ∙ go found h
   where

@@ -135,7 +135,7 @@ module _ (master : EventComponent) (one : (a b : Booked) → IsInstance (of_mast
   abbrev IsOwn : Booked → Type 0
   IsOwn b = IsInstance (of_master (event_of master)) b
 
-  -- a start lies in the dates and isn't excepted, or it doesn't
+  -- a start is in the dates and isn't excepted, or this doesn't hold
   abbrev IsShown : ℤ → Type 0
   IsShown t = IsNamed t × (Contains master.exceptions.items t → ⊥)
 

@@ -1,4 +1,4 @@
--- A property that stands once says one value.
+-- A property that occurs exactly once says one value.
 use Rattle.std.proofs.Common.{◌≡◌, ℕ, Bool, List, subst, refl, ap}
 use Rattle.std.specs.Prelude.{Option, Some, None}
 use Rattle.profile.specs.events.Properties.{SomeLine, BothOrNeither, Says}

@@ -109,7 +109,7 @@ one_series events master a b s t =
     (λ x c. t.are.all x (All-contains (IsReplaced events master) s.replaced x s.are.each c)) (λ x c. s.are.all x (All-contains (IsReplaced events master) t.replaced x t.are.each c)) in
     s.is ∙ ap (λ l. of_master (by_its_rule master l)) same ∙ sym t.is
 
--- ---- what overrides stand for
+-- ---- what overrides replace
 
 module _ (events : List Event) (entries : List Name) (said : entries ≡ map name_said events) (event : Event) (slot : ℤ) where
   abbrev own : Key
@@ -188,7 +188,7 @@ pub empty_list : {X : Type 0} (xs : List X) → length xs ≡ 0 → xs ≡ []
 empty_list [] h = refl
 empty_list (x ∷ xs) h = absurd (omega (arith, h))
 
--- the event of a master alone stands for it
+-- the event of a master alone represents it
 pub alone_said : (event : declared.Event) → length event.overrides.items ≡ 0 → (m : EventComponent) → event.master ≡ Some m → said_meeting event ≡ of_master (event_of m)
 alone_said event none m is =
     let e = empty_list event.overrides.items none in λ i. record { master = option_map event_of (is i); overrides = map event_of (e i) }

@@ -1,4 +1,4 @@
--- Which slots events are of: how many are masters, and for which instances the others stand.
+-- Which slots events are of: how many are masters, and which instances the others are for.
 use Rattle.std.proofs.Common.{◌≡◌, ◌≢◌, ◌∙◌, ℕ, ◌+◌, ◌<◌, ◌≤◌, not, cond, List, [], ◌∷◌, ◌++◌, length, map, filter, get_or, take, append-nil, sym, ap, subst, refl, inl, inr, arith, ℤ, pos}
 use Rattle.std.specs.Prelude.{Option, Some, None, is_some, AllPairs}
 use Rattle.std.specs.List.Sorted.{IsPermutation}
@@ -29,7 +29,7 @@ differ_some ts h i j d lt w e =
 
 -- ---- components counted
 
--- so many of these components are masters, and the others stand for these instants
+-- this many of these components are masters, and the others are for these instants
 pub record AreCounted (components : List EventComponent) (count : ℕ) (instants : List ℤ) : Type 0 where
   pub within : count ≤ length components
   pub masters : count ≡ length (filter is_master (map event_of components))

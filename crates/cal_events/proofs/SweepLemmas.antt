@@ -178,7 +178,7 @@ named spans i p e h =
       before = known.1;
     }
 
--- neighbours stand at two places
+-- neighbours are at two places
 neighbours_differ : (sorted : List Placed) → Distinct Differ sorted → (k : ℕ) (a b : Placed) → k + 1 < length sorted → get_or sorted k a ≡ a → get_or sorted (k + 1) b ≡ b → a.place ≢ b.place
 neighbours_differ sorted h k a b w ea eb e =
     h k (k + 1) a (omega arith) w (omega arith)

@@ -1,4 +1,4 @@
--- Texts that stand in one, one after another: each is a text, at its place, and one more at the end.
+-- Texts that are in one, one after another: each is a text, at its place, and one more at the end.
 use Rattle.std.proofs.Common.{◌≡◌, ◌∙◌, ℕ, zero, suc, ◌-◌, ◌<◌, ◌≤◌, true, List, [], ◌∷◌, ◌++◌, length, get_or, take, drop, refl, sym, ap, subst, arith}
 use Rattle.std.specs.Prelude.{◌==◌, nat_le, slice_range}
 use Rattle.std.specs.Str.{IsUtf8, IsCharBoundary}

@@ -36,7 +36,7 @@ lasted object start d (Some line) is = is
 abbrev pub judged : SaidTimes → ℤ → Duration → EventTimes
 judged said start length = record { zone = zone_said said.start; local = said.start.local; start = start; length = length_of length }
 
--- the line says that instant, and it lies in the dates
+-- the line says that instant, and it is in the dates
 pub ends_within : (object : Tree) (line : List ℕ) (instant : ℤ) (ends_in : Bool) → EndsSo object line instant ends_in → IsTrue ends_in → SaysInDates object line instant
 ends_within object line instant ends_in (zone, local, says, means, dates) within = (zone, local, says, means, dates.0 within)
 
@@ -94,7 +94,7 @@ extent_fault object lines start ends_in extent n first (is_long d h) (line, none
 pub extent_judged : {may : Bool} (object : Tree) (lines : Lines) (said : SaidTimes) (n : ℕ) → AreSaid object lines said → ExtentFault said.extent n → EventTimesFault may object lines n
 extent_judged object lines said n a h = extent_fault object lines said.instant said.ends_in said.extent n (begins object lines said a) h a.extent
 
--- one of the two lies outside
+-- one of the two is outside
 
 not_true : (b : Bool) → b ≡ false → IsTrue b → ⊥
 not_true b is h = true≢false (sym h ∙ is)
@@ -202,7 +202,7 @@ module _ (may : Bool) (object : Tree) (lines : Lines) (said : SaidTimes) where
   end_judged_by (inl s) outside = end_judged object lines said s outside
   end_judged_by (inr (_, alone)) outside = alone_out object lines said alone outside
 
-  -- what lies in the dates has a stamp
+  -- what is in the dates has a stamp
   pub within_clock : AreSaidBy may object lines said → IsTrue said.starts_in → IsClockSeconds said.instant
   within_clock (inl s) starts = let dates = s.starts.0 starts in (omega (arith, ints, dates.1), omega (arith, ints, dates.2))
   within_clock (inr (_, alone)) starts = subst IsClockSeconds (sym alone.instant) (omega (arith, ints), omega (arith, ints))
@@ -238,7 +238,7 @@ not_long text days seconds one spelled d s (other_days, other_seconds, other, pa
     let same = one days seconds other_days other_seconds spelled other in
     elim past [ inl p ↦ absurd (omega (arith, same.0, d, p)) | inr p ↦ absurd (omega (arith, same.1, s, p)) ]
 
--- a text that is refused is no duration that 32 bits count
+-- a text that is refused isn't a duration that 32 bits count
 pub not_counted : (text : List ℕ) (n days seconds : ℕ) → OneReading text → (SpellsDuration text days seconds → SpellsNegative text → ⊥)
     → (n ≡ 12) ⊎ (n ≡ 51) → (n ≡ 12 → IsNone text) → (n ≡ 51 → SpellsNegative text ⊎ SpellsLong text)
     → SpellsDuration text days seconds → days < 2 ^ 32 → seconds < 2 ^ 32 → ⊥

@@ -16,7 +16,7 @@ use Rattle.profile.specs.events.Properties.{BothOrNeither}
 use Rattle.profile.specs.events.ZonedTimes.{zone_name}
 use Rattle.cal_events.specs.Zones.{name_said, is_zone_called, IsZoneRead, AreZonesAmong}
 
--- ---- a search in a list with one item more
+-- ---- a search in a list with one more item
 
 abbrev or_else : {A : Type 0} → Option A → Option A → Option A
 or_else (Some x) other = Some x
@@ -87,7 +87,7 @@ pub none_from : {A : Type 0} (o : Option A) → is_some o ≡ false → o ≡ No
 none_from None h = refl
 none_from (Some x) h = absurd (true≢false h)
 
--- ---- one component more
+-- ---- one more component
 
 abbrev Entries : Type 0 → Type 0
 Entries Y = List (String Y × Result Zone Refusal)

@@ -1,4 +1,4 @@
--- What the types of instances and calendars stand for.
+-- What the types of instances and calendars represent.
 use Rattle.std.specs.Prelude.{List, ◌<◌, ◌≢◌, length, All, AllPairs, Contains, ℤ}
 use Rattle.cal_events.specs.declared.sweep.Span.{Span}
 use Rattle.profile.specs.checker.Instances.{Key, Booked}

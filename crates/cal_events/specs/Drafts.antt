@@ -81,7 +81,7 @@ abbrev pub master_key : Name → Option Key
 master_key (m, None) = Some (key_in m (pos 0))
 master_key (m, Some slot) = None
 
--- the key of the instance that an override stands for
+-- the key of the instance that an override replaces
 abbrev pub override_key : Name → Option Key
 override_key (m, None) = None
 override_key (m, Some slot) = Some (key_in m slot)
@@ -105,7 +105,7 @@ AreSorted keys sorted = IsPermutation keys (map key_of sorted) × AreInOrder sor
 abbrev pub is_shown_in : List Name → List Key → Single → Bool
 is_shown_in entries keys s = is_some (recurrence_at entries s.entry) || not (list_any (λ key. is_eq (key_cmp key (key_in (meeting_at entries s.entry) s.slot))) keys)
 
--- those are left that are shown, where overrides stand for these instances, in some order
+-- those are left that are shown, where overrides replace these instances, in some order
 pub record AreShown (entries : List Name) (singles left : List Single) : Type 0 where
   pub keys : List Key
   pub same : IsPermutation (override_keys entries) keys

@@ -1,4 +1,4 @@
--- Whose VEVENTs are, and which instances they stand for.
+-- Whose VEVENTs are, and which instances they are for.
 use Rattle.std.specs.Prelude.{ℕ, List, [], ◌∷◌, get_or, Option, ℤ}
 use Rattle.cal_events.specs.declared.entries.Entry.{Entry}
 
@@ -6,7 +6,7 @@ use Rattle.cal_events.specs.declared.entries.Entry.{Entry}
 abbrev pub Meeting : Type 0
 Meeting = List ℕ × List ℕ
 
--- a VEVENT's meeting, and which instance it stands for
+-- a VEVENT's meeting, and which instance it is for
 abbrev pub Name : Type 0
 Name = Meeting × Option ℤ
 

@@ -1,4 +1,4 @@
--- What the types of a VEVENT that was read stand for.
+-- What the types of a VEVENT that was read represent.
 use Rattle.std.specs.Prelude.{ℕ, Bool, List, length, map, filter, option_map, Option, None, Some, is_some, codes, Contains, ◌≡◌, ◌<◌, ℤ, pos, ◌<ℤ◌}
 use Rattle.ical_values.specs.Octets.{address_octets, text_octets}
 use Rattle.ical_values.specs.declared.duration.Duration.{Duration}
@@ -26,7 +26,7 @@ use Rattle.cal_events.specs.declared.component.ParticipationStatus.TheVariants.{
 use Rattle.cal_events.specs.declared.component.Purpose.{Purpose}
 use Rattle.cal_events.specs.declared.component.Purpose.TheVariants.{Request, Add, Cancel, Meeting}
 
--- the method of a message that a VEVENT is read for; METHOD isn't looked at for a calendar
+-- the method of a message that a VEVENT is read for; METHOD is ignored for a calendar
 abbrev pub method_read : Purpose → Option profile.Method
 method_read Request = Some profile.Request
 method_read Add = Some profile.Add

@@ -64,17 +64,17 @@ IsKept master days =
     → (days.from ≡ day_index day)
     × ((first second : ℕ) (instant : ℤ) → IsOnDay master.times.local first second → Means (clock_of master.times.zone) (local_time (day_index day) second) instant → instant ≡ days.start)
 
--- on no day of the rule but those that are to come is a start that is wanted
+-- on no day of the rule other than those that are to come is a start that is wanted
 pub record AreWalked (master : profile.Event) (overrides : List profile.Event) (bound : Bound) (days : RuleDays) : Type 0 where
   pub listed : (rule : Parts) → master.rule ≡ Some rule → AreDaysOf rule days
   pub none : NoneBefore master overrides bound days.from
   pub kept : IsKept master days
 
--- what was so of the one is so of the other
+-- what held of the one holds of the other
 abbrev pub StayWalked : Bound → RuleDays → RuleDays → Type 0
 StayWalked bound old new = (master : profile.Event) (overrides : List profile.Event) → AreWalked master overrides bound old → AreWalked master overrides bound new
 
--- the least instant that is so, if there is one
+-- the least instant for which it holds, if there is one
 abbrev pub IsLeast : (ℤ → Type 0) → Option ℤ → Type 0
 IsLeast P found = MatchOption found ((t : ℤ) → P t → ⊥) (λ t. P t × ((u : ℤ) → P u → t ≤ℤ u))
 
@@ -86,15 +86,15 @@ lesser (Some x) (Some y) = if int_lt y x then Some y else Some x
 
 -- ---- overrides
 
--- the override lies at that place
+-- the override is at that place
 abbrev pub IsAt : EventComponent → Place → Type 0
 IsAt o place = (o.recurrence ≡ Some place.slot) × (o.times.instant ≡ place.start)
 
--- it does, and that place is still to come
+-- it is, and that place is still to come
 abbrev pub IsMovedTo : EventComponent → Bound → Place → Type 0
 IsMovedTo o bound place = IsAt o place × IsAfter bound place.start place.slot
 
--- the place that is so and comes before all others that are, if there is one
+-- the place for which it holds and that comes before all others for which it does, if there is one
 abbrev pub IsSoonest : (Place → Type 0) → Option Place → Type 0
 IsSoonest P found = MatchOption found ((p : Place) → P p → ⊥) (λ p. P p × ((q : Place) → P q → IsBefore q p → ⊥))
 

@@ -21,11 +21,11 @@ pub record IsRuler (master : EventComponent) : Type 0 where
 abbrev pub AreMasters : List EventComponent → Type 0
 AreMasters masters = All IsRuler masters
 
--- these are the series of those, where overrides stand for the instances of these keys
+-- these are the series of those, where overrides replace the instances of these keys
 abbrev pub AreSeriesOf : List Key → List EventComponent → List Series → Type 0
 AreSeriesOf keys masters series = AllZip (λ m s. IsByItsRule keys (event_of m) (series_said s)) masters series
 
--- where overrides stand for these instances, in some order
+-- where overrides replace these instances, in some order
 pub record AreRuled (entries : List Name) (masters : List EventComponent) (series : List Series) : Type 0 where
   pub keys : List Key
   pub same : IsPermutation (override_keys entries) keys

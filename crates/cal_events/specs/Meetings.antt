@@ -1,11 +1,11 @@
--- Which instances events stand for, and whether they are of one meeting.
+-- Which instances events are for, and whether they are of one meeting.
 use Rattle.std.specs.Prelude.{◌≡◌, ◌⊎◌, ℕ, ◌<◌, List, [], length, map, filter, Option, ℤ, ◌≤ℤ◌, ◌<ℤ◌}
 use Rattle.profile.specs.checker.Instances.{horizon}
 use Rattle.profile.specs.events.Properties.{first_second}
 use Rattle.profile.specs.events.Events as profile
 use Rattle.profile.specs.events.Meetings.{AreOfOne, InstancesDiffer, is_master, is_override}
 
--- which instances events stand for
+-- which instances events are for
 abbrev pub instants_said : List profile.Event → List (Option ℤ)
 instants_said events = map (λ event. event.recurrence) events
 
@@ -18,6 +18,6 @@ abbrev pub SharesSlot : List profile.Event → ℕ → Type 0
 SharesSlot events n =
     ((n ≡ 53) × (1 < length (filter is_master events))) ⊎ ((n ≡ 54) × (InstancesDiffer (filter is_override events) → ⊥))
 
--- the instant lies in the dates that an event may name
+-- the instant is in the dates that an event may name
 abbrev pub IsNamed : ℤ → Type 0
 IsNamed instant = (first_second ≤ℤ instant) × (instant <ℤ horizon)

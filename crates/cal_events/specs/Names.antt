@@ -1,4 +1,4 @@
--- Whose VEVENTs are, and what stands at a place of a calendar's VEVENTs.
+-- Whose VEVENTs are, and what is at a place of a calendar's VEVENTs.
 use Rattle.std.specs.Prelude.{◌≡◌, ◌<◌, ℕ, List, [], length, get_or, Option, None, ℤ}
 use Rattle.profile.specs.events.Events.{Event, meeting_said}
 use Rattle.cal_events.specs.Entries.{Meeting, Name}
@@ -13,10 +13,10 @@ name_at names k = get_or names k (([], []), None)
 abbrev pub meeting_at : List Name → ℕ → Meeting
 meeting_at names k = (name_at names k).0
 
--- the instance that it stands for
+-- the instance that it is for
 abbrev pub recurrence_at : List Name → ℕ → Option ℤ
 recurrence_at names k = (name_at names k).1
 
--- a text stands at a place of some
+-- a text is at a place of some
 abbrev pub IsThere : List (List ℕ) → ℕ → List ℕ → Type 0
 IsThere texts k text = (k < length texts) × (get_or texts k [] ≡ text)

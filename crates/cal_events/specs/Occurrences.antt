@@ -16,13 +16,13 @@ abbrev pub name_of : Listing → List ℕ
 name_of Additions = codes "RDATE"
 name_of Exceptions = codes "EXDATE"
 
--- a text of the line says this instant, which lies in the dates that an event may name, or doesn't
+-- a text of the line says this instant, which is in the dates that an event may name, or isn't
 abbrev pub SaysSo : Tree → List ℕ → List ℕ → SaidInstant → Type 0
 SaysSo object line text said =
     (zone : Option Zone) × (local : ℤ) × SaysZonedText object line text zone local × Means (clock_of zone) local said.instant
     × (IsTrue said.in_dates ↔ IsInDates (is_in_zone line) local said.instant)
 
--- RECURRENCE-ID says so, without RANGE, or doesn't stand
+-- RECURRENCE-ID says so, without RANGE, or is absent
 abbrev pub IsRecurrenceSo : Tree → List ℕ → SaidInstant → Type 0
 IsRecurrenceSo object line said = (has_range line ≡ false) × SaysSo object line (line_value line) said
 

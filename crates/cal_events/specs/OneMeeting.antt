@@ -1,4 +1,4 @@
--- What the VEVENTs of one meeting stand for, and the numbers of their refusals.
+-- What the VEVENTs of one meeting represent, and the numbers of their refusals.
 use Rattle.std.specs.Prelude.{ℕ, Bool, ◌||◌, ◌==◌, map, option_map}
 use Rattle.profile.specs.faults.Faults.{is_between, is_meeting_event_fault}
 use Rattle.profile.specs.events.Meetings.{Meeting}

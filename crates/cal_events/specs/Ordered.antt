@@ -16,7 +16,7 @@ IsFirstFrom instants from found =
 abbrev pub HasInstant : List ℤ → ℤ → Type 0
 HasInstant instants t = list_any (λ own. int_eq own t) instants ≡ true
 
--- they are those that EXDATE names, and those that an override stands for
+-- they are those that EXDATE names, and those that an override replaces
 abbrev pub Hides : Event → List Event → List ℤ → Type 0
 Hides master overrides hidden = (t : ℤ) → (Contains hidden t → ⊥) ↔ ((Contains master.exceptions t → ⊥) × (IsOverridden overrides t → ⊥))
 

@@ -1,4 +1,4 @@
--- What the search for the first instance that shares an instant with a span stands on.
+-- What the search for the first instance that shares an instant with a span rests on.
 use Rattle.std.specs.Prelude.{◌≡◌, ℕ, ◌+◌, ◌*◌, Option, Some, None, ℤ, ◌+ℤ◌, ◌-ℤ◌, ◌≤ℤ◌, unsigned_abs}
 use Rattle.profile.specs.checker.Instances.{Booked, horizon}
 use Rattle.profile.specs.events.ZonedTimes.{EventTimes}
@@ -11,7 +11,7 @@ use Rattle.cal_events.specs.declared.instances.Bound.{Bound}
 abbrev pub HaveOneEnd : Meeting → Type 0
 HaveOneEnd meeting = (a b : Booked) → IsInstance meeting a → IsInstance meeting b → a.start ≡ b.start → a.key.slot ≡ b.key.slot → a.end ≡ b.end
 
--- instances lie in the dates that an event may name
+-- instances are in the dates that an event may name
 abbrev pub AreDated : Meeting → Type 0
 AreDated meeting = (a : Booked) → IsInstance meeting a → IsNamed a.key.slot × IsNamed a.start
 

@@ -25,13 +25,13 @@ is_to_come after m = int_lt after.start m.start || (int_eq after.start m.start &
 abbrev pub is_left_of : Place → Moved → Bool
 is_left_of place m = int_lt m.start place.start || (int_eq m.start place.start && int_lt m.slot place.slot)
 
--- it lies there
+-- it is there
 abbrev pub is_there : Place → Moved → Bool
 is_there place m = int_eq m.start place.start && int_eq m.slot place.slot
 
 -- ---- those of an event's overrides
 
--- it is one of the overrides, where that lies
+-- it is one of the overrides, where that is
 abbrev pub IsMovedOf : List EventComponent → Moved → Type 0
 IsMovedOf os m = (m.which < length os) × ((d : EventComponent) → IsAt (get_or os m.which d) (place_of m))
 
@@ -45,7 +45,7 @@ ArePlaces os ms =
 abbrev pub IsPlaceToCome : List Moved → Bound → Place → Type 0
 IsPlaceToCome ms after place = (m : Moved) × Contains ms m × (place_of m ≡ place) × IsAfter after place.start place.slot
 
--- the override of this number lies there, or none does
+-- the override of this number is there, or none is
 abbrev pub IsWhichAt : List Moved → Place → Option ℕ → Type 0
 IsWhichAt ms place found =
     MatchOption found ((m : Moved) → Contains ms m → place_of m ≡ place → ⊥) (λ k. (m : Moved) × Contains ms m × (place_of m ≡ place) × (m.which ≡ k))

@@ -1,4 +1,4 @@
--- A series while it is made: its master by its rule alone, and the instants for which overrides of its meeting stand.
+-- A series while it is made: its master by its rule alone, and the instants that overrides of its meeting replace.
 use Rattle.std.specs.Prelude.{◌≡◌, ◌↔◌, ◌<ℤ◌, Bool, true, AllPairs, Contains, List, [], ◌++◌, Some, is_some, length, ℤ}
 use Rattle.std.specs.Ordering.{ordering_then, nat_cmp, is_lt, is_eq}
 use Rattle.std.specs.Cmp.Lexicographic.{slice_cmp}
@@ -52,14 +52,14 @@ is_before m key = is_lt (cmp_to m key)
 abbrev pub is_of : Meeting → InstanceKey → Bool
 is_of m key = is_eq (cmp_to m key)
 
--- ---- what overrides stand for
+-- ---- what overrides replace
 
 -- the slots of those of these keys that are of a meeting, ascending
 pub record AreSlotsOf (keys : List Key) (m : Meeting) (slots : List ℤ) : Type 0 where
   pub ascending : AllPairs ◌<ℤ◌ slots
   pub are : (t : ℤ) → Contains slots t ↔ Contains keys (key_in m t)
 
--- the meeting is that of a master by its rule alone, where overrides stand for the instances of these keys
+-- the meeting is that of a master by its rule alone, where overrides replace the instances of these keys
 pub record IsByItsRule (keys : List Key) (master : Said) (series : Whole) : Type 0 where
   pub replaced : List ℤ
   pub slots : AreSlotsOf keys (meeting_said master) replaced

@@ -1,4 +1,4 @@
--- What an event with its instances stands for.
+-- What an event with its instances represents.
 use Rattle.std.specs.Prelude.{map, option_map}
 use Rattle.profile.specs.events.Meetings.{Meeting}
 use Rattle.cal_events.specs.Events.{event_of}

@@ -1,4 +1,4 @@
--- What a series stands for.
+-- What a series represents.
 use Rattle.std.specs.Prelude.{◌≡◌, ◌↔◌, ◌≤ℤ◌, ◌<ℤ◌, ℤ, true, Contains, List, [], Some}
 use Rattle.profile.specs.checker.Instances.{Booked, horizon}
 use Rattle.profile.specs.events.Events.{Event as Said}
@@ -18,7 +18,7 @@ series_said s = said_meeting s.event
 abbrev pub IsMasterOf : Meeting → Said → Type 0
 IsMasterOf series master = series.master ≡ Some master
 
--- its instances are known by their starts, which lie in the dates that an event may name: the slot of each is its start
+-- its instances are known by their starts, which are in the dates that an event may name: the slot of each is its start
 pub record AreKnownByStart (series : Meeting) : Type 0 where
   pub slots : (b : Booked) → IsInstance series b → b.key.slot ≡ b.start
   pub dates : (b : Booked) → IsInstance series b → (first_second ≤ℤ b.start) × (b.start <ℤ horizon)

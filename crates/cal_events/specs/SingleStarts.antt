@@ -27,6 +27,6 @@ IsCandidate master instant = ((master.rule ≡ None) × (instant ≡ master.time
 abbrev pub IsLast : List ℤ → ℤ → Type 0
 IsLast starts instant = (0 < length starts) × (get_or starts (length starts - 1) instant ≡ instant)
 
--- of the candidates it is one that lies in the dates, that EXDATE doesn't name, and that no rule gives
+-- of the candidates it is one that is in the dates, that EXDATE doesn't name, and that no rule gives
 abbrev pub IsLeftOver : Event → ℤ → Type 0
 IsLeftOver master instant = IsNamed instant × (Contains master.exceptions instant → ⊥) × (IsOnRule master instant → ⊥)

@@ -1,4 +1,4 @@
--- Many texts that stand in one, one after another, by where each ends.
+-- Many texts that are in one, one after another, by where each ends.
 use Rattle.std.specs.Prelude.{ℕ, List, [], ◌∷◌, Bool, ◌&&◌, ◌==◌, nat_le, length, slice_range}
 use Rattle.std.specs.Str.{is_utf8}
 
@@ -7,7 +7,7 @@ abbrev pub pieces : List ℕ → ℕ → List ℕ → List (List ℕ)
 pieces joined start [] = []
 pieces joined start (end ∷ ends) = slice_range joined start end ∷ pieces joined end ends
 
--- what stands between two places is a text
+-- what is between two places is a text
 abbrev pub is_piece : List ℕ → ℕ → ℕ → Bool
 is_piece joined start end = nat_le start end && (nat_le end (length joined) && is_utf8 (slice_range joined start end))
 

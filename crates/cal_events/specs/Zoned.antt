@@ -11,7 +11,7 @@ use Rattle.cal_events.specs.declared.event_times.Extent.{Extent}
 use Rattle.cal_events.specs.declared.event_times.Extent.TheVariants.{ToEnd, For}
 use Rattle.cal_events.specs.declared.event_times.SaidTimes.{SaidTimes}
 
--- the line says this instant, which lies in the dates that an event may name, or doesn't
+-- the line says this instant, which is in the dates that an event may name, or isn't
 abbrev pub EndsSo : Tree → List ℕ → ℤ → Bool → Type 0
 EndsSo object line instant in_dates =
     (zone : Option Zone) × (local : ℤ) × SaysZonedTime object line zone local × Means (clock_of zone) local instant
@@ -22,7 +22,7 @@ abbrev pub LastsGiven : Option (List ℕ) → Length → Type 0
 LastsGiven None length = length ≡ record { days = 0; seconds = 0 }
 LastsGiven (Some line) length = LastsFor line length
 
--- DTEND lies so many seconds from the start, in the dates or not, or DURATION is so, or neither stands
+-- DTEND is this many seconds from the start, in the dates or not, or DURATION says this, or there is neither
 abbrev pub IsExtentIn : Tree → List (List ℕ) → ℤ → Bool → Extent → Type 0
 IsExtentIn object lines start in_dates (ToEnd seconds) =
     (line : List ℕ) × StandsAtMostOnce (codes "DTEND") lines (Some line) × StandsAtMostOnce (codes "DURATION") lines None

@@ -14,7 +14,7 @@ use Rattle.profile.specs.series.ZoneTexts.{SaysZone, ZoneFault}
 use Rattle.profile.specs.text.Trees.{Tree}
 use Rattle.cal_events.specs.declared.zones.Zones.{Zones}
 
--- the name that a component gives a zone: none where it is no VTIMEZONE
+-- the name that a component gives a zone: none where it isn't a VTIMEZONE
 abbrev pub name_said : Component → Option (List ℕ)
 name_said c = if is_same_name (component_name c) (codes "VTIMEZONE") then zone_name (component_lines c) else None
 

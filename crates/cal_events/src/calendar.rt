@@ -97,7 +97,7 @@ impl Calendar {
         Some(single.lend(&self.entries))
     }
 
-    /// Its key, owned. It fails only for memory.
+    /// Its key, owned. It fails only when out of memory.
     pub fn key(&self, place: usize) -> Result<Option<OwnedKey>, AllocError>
         ensures { IfOk result (λ key. option_map owned_key_of key ≡ option_map (λ b. b.key) (slice_get self.now.singles place)) }
     {
@@ -108,7 +108,7 @@ impl Calendar {
     }
 
     /// The places of two singles that clash, the earlier start first, and the later start; None
-    /// where the singles are clear. Fails only for memory.
+    /// where the singles are clear. Fails only when out of memory.
     pub fn first_overlap(&self, alloc: Global) -> Result<Option<Overlap>, AllocError>
         ensures clash { IfOk result (λ r. IfSome r (Names self.now.singles)) }
         ensures clear { IfOk result (λ r. IfNone r (IsClear self.now.singles)) }

@@ -32,21 +32,21 @@ use ical_values::stamp::{ends_in_z, one_stamp};
 use ical_values::{Address, LocalTime, Sequence, Stamp, Text};
 use std::alloc::{AllocError, Global};
 
-/// What a VEVENT is read for: this says which properties have to stand.
+/// What a VEVENT is read for: this says which properties are required.
 #[derive(Clone, Copy, PartialEq, Eq)]
 pub enum Purpose {
-    /// A message for an event that is to take place: UID, DTSTAMP, DTSTART and ORGANIZER have to stand.
+    /// A message for an event that is to take place: UID, DTSTAMP, DTSTART and ORGANIZER are required.
     Request,
     /// A message that adds instances to one: the same, and none of them recurs.
     Add,
     /// A message that cancels an event: the same, but DTSTART may be missing (RFC 5546 3.2.5).
     Cancel,
-    /// A calendar, or an event with its instances: UID and DTSTART have to stand.
+    /// A calendar, or an event with its instances: UID and DTSTART are required.
     Meeting,
 }
 
 impl Purpose {
-    /// Whether it is a message, in which ORGANIZER and DTSTAMP have to stand.
+    /// Whether it is a message, in which ORGANIZER and DTSTAMP are required.
     fn is_message(self) -> bool
         ensures { result ≡ is_message self }
     {
@@ -114,8 +114,8 @@ pub struct EventComponent {
     pub sequence: Sequence,
     /// Whether STATUS is CANCELLED (RFC 5545 3.8.1.11).
     pub cancelled: bool,
-    /// RECURRENCE-ID: the original start of the instance that it stands for (RFC 5545 3.8.4.4), in seconds from
-    /// 1970-01-01T00:00:00Z. None where it is no single instance of a meeting.
+    /// RECURRENCE-ID: the original start of the instance that it replaces (RFC 5545 3.8.4.4), in seconds from
+    /// 1970-01-01T00:00:00Z. None where it isn't a single instance of a meeting.
     pub recurrence: Option<i64>,
     /// When it starts and how long it lasts.
     pub times: EventTimes,
@@ -123,7 +123,7 @@ pub struct EventComponent {
     pub rule: Option<Rule>,
     /// RDATE: the starts that are added (RFC 5545 3.8.5.2), in the order of the text and in the same seconds. At most 366.
     pub additions: Vec<i64>,
-    /// EXDATE: the starts that are taken away (RFC 5545 3.8.5.1), likewise; they may lie in any year from 1 to 9999.
+    /// EXDATE: the starts that are taken away (RFC 5545 3.8.5.1), likewise; they may be in any year from 1 to 9999.
     pub exceptions: Vec<i64>,
     /// SUMMARY, that of the first line where there are several; empty where it is missing (RFC 5545 3.8.1.12).
     pub summary: Text,
@@ -134,7 +134,7 @@ pub struct EventComponent {
 impl EventComponent {
     /// Reads the properties of a VEVENT, whose times may name these zones.
     /// Refused, in this order: of UID, ORGANIZER, DTSTAMP, SEQUENCE and STATUS 10 and 14 to 16 for a value, 61 and 63 for one that
-    /// is missing or stands twice; as by `SaidInstant::read_recurrence` for RECURRENCE-ID; as by `SaidTimes::read` for DTSTART,
+    /// is missing or occurs twice; as by `SaidInstant::read_recurrence` for RECURRENCE-ID; as by `SaidTimes::read` for DTSTART,
     /// DTEND and DURATION; 61 and 30 to 33 for RRULE; as by `SaidInstants::read` for RDATE and EXDATE; 15 for an ATTENDEE; as by
     /// `SaidTimes::judge` for the times together; 52 for a RECURRENCE-ID or an RDATE outside of the dates that an event may name;
     /// 67 for RRULE or RDATE in a single instance; 34 for a DTSTART that isn't one of the rule's days.
@@ -216,7 +216,7 @@ impl EventComponent {
     }
 }
 
-/// The lines of a VEVENT of an object say at most one event, and none where a fault stands in them. A start or an end
+/// The lines of a VEVENT of an object say at most one event, and none where they have a fault. A start or an end
 /// without TZID has at most one fault.
 pub fn one_event()
     ensures one { (object : Tree) (method : Option Method) (lines : List (List ℕ)) (a b : Event)
@@ -281,7 +281,7 @@ fn read_sequence(properties: &Properties<'_>) -> Result<Sequence, Refusal>
 }
 
 /// Whether STATUS is CANCELLED, caseless.
-/// Refused: 61 where it stands twice.
+/// Refused: 61 where it occurs twice.
 fn read_cancelled(properties: &Properties<'_>) -> Result<bool, Refusal>
     ensures reads { IfOk result (SaysStatus properties.now) }
     ensures refuses { IfErr result (λ e. e.number ≡ 61) }
@@ -293,7 +293,7 @@ fn read_cancelled(properties: &Properties<'_>) -> Result<bool, Refusal>
     }
 }
 
-/// SUMMARY, the first of several; empty where it is missing. It fails only for memory.
+/// SUMMARY, the first of several; empty where it is missing. It fails only when out of memory.
 fn read_summary(alloc: Global, properties: &Properties<'_>) -> Result<Text, AllocError>
     ensures { IfOk result (λ text. text_octets text ≡ summary_of properties.now) }
 {
@@ -324,7 +324,7 @@ pub(crate) fn kind_of(line: Line<'_>) -> TimeKind
 }
 
 /// The UTC time that a text of a line spells (RFC 5545 3.3.5, form 2).
-/// Refused: 10 where the text ends in `Z` and is no UTC date-time, 11 where it is no date-time, 55 where it is a
+/// Refused: 10 where the text ends in `Z` and isn't a UTC date-time, 11 where it isn't a date-time, 55 where it is a
 /// date or a floating time, 56 where VALUE is PERIOD.
 pub(crate) fn read_time(line: Line<'_>, text: &str) -> Result<Stamp, Refusal>
     ensures reads { IfOk result (IsTime (line_text line.entry) text.now) }
@@ -350,7 +350,7 @@ fn read_date_time(text: &str) -> Result<Stamp, Refusal>
     }
 }
 
-/// Why a text that is no UTC date-time is refused: 55 for a date or a floating time, else 10 or 11.
+/// Why a text that isn't a UTC date-time is refused: 55 for a date or a floating time, else 10 or 11.
 fn refusal_of_date_time(text: &str) -> Refusal
     ensures refuses { IsTrue (is_event_fault result.number) }
     ensures stands { UnfixedOrMalformed (IsDateText text.now ⊎ IsLocalText text.now) text.now result.number }
@@ -374,7 +374,7 @@ fn refusal_of_date(text: &str) -> Refusal
     }
 }
 
-/// Why a text is refused that is no date and no time: 10 where it ends in `Z`, else 11.
+/// Why a text is refused that is neither a date nor a time: 10 where it ends in `Z`, else 11.
 fn malformed(text: &str) -> Refusal
     ensures refuses { IsTrue (is_event_fault result.number) }
     ensures number { result.number ≡ malformed_number text.now }

@@ -49,7 +49,7 @@ impl Draft {
         }
     }
 
-    /// That of the calendar that the octets spell. Their text and their tree are given back when it is made.
+    /// That of the calendar that the octets spell. Their text and their tree are freed when it is made.
     /// Refused: 1 to 5 and 20 to 24 for the object, and as by `of_object`.
     pub(crate) fn read(alloc: Global, bytes: &[u8], room: &Address) -> Result<Draft, Fault>
         ensures spells { IfOk result (IsDraftIn (address_octets room.now) bytes.now) }
@@ -155,7 +155,7 @@ fn shown(
     Ok((singles, series))
 }
 
-/// The series of the masters, where overrides stand for these instances, in order. It fails only for memory.
+/// The series of the masters, where overrides replace these instances, in order. It fails only when out of memory.
 fn series_of(
     alloc: Global,
     masters: Vec<EventComponent>,
@@ -173,7 +173,7 @@ fn series_of(
     Ok(series)
 }
 
-/// Those that none of the overrides hides. It fails only for memory.
+/// Those that none of the overrides hides. It fails only when out of memory.
 fn without_hidden(
     alloc: Global,
     entries: &Entries,
@@ -213,7 +213,7 @@ pub(crate) fn is_series(event: &EventComponent) -> bool
     event.recurrence.is_none() && event.rule.is_some()
 }
 
-/// Appends the singles of an event, which stands at that place, by start.
+/// Appends the singles of an event, which is at that place, by start.
 fn add_singles(
     alloc: Global,
     singles: &mut Vec<PlacedSingle>,
@@ -267,7 +267,7 @@ fn keys_of_masters(alloc: Global, entries: &Entries) -> Result<Vec<InstanceKey<'
     Ok(keys)
 }
 
-/// The keys of the instances that overrides stand for, in order.
+/// The keys of the instances that overrides replace, in order.
 fn keys_of_overrides(alloc: Global, entries: &Entries) -> Result<Vec<InstanceKey<'_>>, AllocError>
     ensures { IfOk result (λ keys. AreSorted (override_keys entries.now) keys.items) }
 {
@@ -293,7 +293,7 @@ fn has_equal_neighbours(sorted: &[InstanceKey<'_>]) -> bool
     false
 }
 
-/// Whether a single is an override's, or no override stands for its start.
+/// Whether a single is an override's, or no override replaces its start.
 fn is_shown(entries: &Entries, overrides: &[InstanceKey<'_>], single: PlacedSingle) -> bool
     requires within { single.entry < length entries.now }
     requires sorted { AreInOrder overrides.now }

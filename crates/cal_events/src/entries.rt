@@ -1,4 +1,4 @@
-//! The VEVENTs of a calendar: whose they are, and which instances they stand for.
+//! The VEVENTs of a calendar: whose they are, and which instances they are for.
 
 ghost use Rattle.std.specs.Prelude.{◌≡◌, ◌++◌, ◌∷◌, ◌<◌, ◌-◌, ℕ, List, [], length, map, unwrap_or, IsTrue, IfOk, OnOk};
 ghost use Rattle.ical_values.specs.Octets.{address_octets};
@@ -22,7 +22,7 @@ struct Entry {
     recurrence: Option<i64>,
 }
 
-/// The VEVENTs of a calendar, in the order of the text: of each the organiser, the UID, and which instance it stands for.
+/// The VEVENTs of a calendar, in the order of the text: of each the organiser, the UID, and which instance it is for.
 #[derive(Drop)]
 pub(crate) struct Entries {
     /// The organisers, once for VEVENTs of one that follow each other. The empty address where ORGANIZER is missing.
@@ -106,7 +106,7 @@ impl Entries {
         })
     }
 
-    /// The instance that the VEVENT at a place stands for.
+    /// The instance that the VEVENT at a place is for.
     pub(crate) fn recurrence(&self, place: usize) -> Option<i64>
         requires { place < length self.now }
         ensures { result ≡ recurrence_at self.now place }

@@ -36,11 +36,11 @@ pub struct Event {
     pub master: Option<EventComponent>,
     /// Those with one, each for another instance, in the order of the text.
     pub overrides: Vec<EventComponent>,
-    /// The instants that EXDATE names, and those that an override stands for.
+    /// The instants that EXDATE names, and those that an override replaces.
     pub(crate) hidden: Instants,
     /// The starts that RDATE gives.
     pub(crate) added: Instants,
-    /// Where the overrides lie.
+    /// Where the overrides are.
     pub(crate) places: Places,
     ghost clock: { (component : EventComponent) → master ≡ Some component → HasGoodClock (event_of component) },
     ghost hides: { (component : EventComponent) → master ≡ Some component → Hides (event_of component) (map event_of overrides.items) hidden },
@@ -73,7 +73,7 @@ impl Event {
         first_sharing(self, span)
     }
 
-    /// The event that octets spell: an object of one UID and one ORGANIZER, whose METHOD isn't looked at.
+    /// The event that octets spell: an object of one UID and one ORGANIZER, whose METHOD is ignored.
     /// Refused: 1 to 6 and 20 to 25 for the object, and as by `of_object`.
     pub fn read(alloc: Global, bytes: &[u8]) -> Result<Event, Fault>
         ensures spells { IfOk result (λ event. SpellsMeeting bytes.now (said_meeting event)) }
@@ -96,7 +96,7 @@ impl Event {
         Ok(components.into_event(alloc)?)
     }
 
-    /// The event of a master alone. It fails only for memory.
+    /// The event of a master alone. It fails only when out of memory.
     pub(crate) fn of_master(alloc: Global, master: EventComponent) -> Result<Event, AllocError>
         requires clock { HasGoodClock (event_of master) }
         requires ends { HaveOneEnd (record { master = Some (event_of master); overrides = [] }) }
@@ -113,7 +113,7 @@ impl Event {
 }
 
 impl MeetingComponents {
-    /// The event that they are. It fails only for memory.
+    /// The event that they are. It fails only when out of memory.
     fn into_event(self, alloc: Global) -> Result<Event, AllocError>
         requires said { map Some self.instants.items ≡ instants_said (map event_of self.overrides.items) }
         requires clock { (component : EventComponent) → self.master ≡ Some component → HasGoodClock (event_of component) }
@@ -139,7 +139,7 @@ impl MeetingComponents {
     }
 }
 
-/// Octets spell at most one event with its instances, and none where a fault stands in them.
+/// Octets spell at most one event with its instances, and none where they have a fault.
 pub fn one_meeting()
     ensures one { (octets : List ℕ) (a b : Meeting) → SpellsMeeting octets a → SpellsMeeting octets b → a ≡ b }
     ensures or_a_fault { (octets : List ℕ) (a : Meeting) (n : ℕ) → SpellsMeeting octets a → MeetingTextFault octets n → ⊥ }
@@ -148,7 +148,7 @@ pub fn one_meeting()
     one_event();
 }
 
-/// The instances of an event that octets spell differ in their places, by start and slot, which lie in the dates that an event may name.
+/// The instances of an event that octets spell differ in their places, by start and slot, which are in the dates that an event may name.
 /// None ends before it starts.
 pub fn one_instance()
     ensures one { (octets : List ℕ) (meeting : Meeting) (a b : Booked) → SpellsMeeting octets meeting → IsInstance meeting a → IsInstance meeting b
@@ -157,7 +157,7 @@ pub fn one_instance()
         → IsNamed a.key.slot × IsNamed a.start × (a.start ≤ℤ a.end) }
 {}
 
-/// The instants that EXDATE names and these, for which overrides stand.
+/// The instants that EXDATE names and these, which overrides replace.
 fn hidden_of(master: &Option<EventComponent>, instants: Vec<i64>) -> Result<Instants, AllocError>
     ensures { IfOk result (λ hidden. (c : EventComponent) → master.now ≡ Some c → IsPermutation (instants.items ++ c.exceptions.items) hidden) }
 {

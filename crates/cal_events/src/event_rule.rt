@@ -34,7 +34,7 @@ pub(crate) struct SaidRule {
 
 impl SaidRule {
     /// Reads the RRULE of a VEVENT.
-    /// Refused: 61 where it stands twice, and 30 to 33 as by `RuleText::read`.
+    /// Refused: 61 where it occurs twice, and 30 to 33 as by `RuleText::read`.
     pub(crate) fn read(alloc: Global, properties: &Properties<'_>) -> Result<SaidRule, Fault>
         ensures said { IfOk result (IsRuleSaid properties.now) }
         ensures stands { (object : Tree) → IfErr result (RefusesBy (EventRuleFault object properties.now)) }
@@ -76,7 +76,7 @@ fn rule_from(text: RuleText, start: ZonedTime) -> Result<Rule, Fault>
     }
 }
 
-/// The last day that UNTIL allows, where starts lie at that second of their days on those clocks; None where it allows none from
+/// The last day that UNTIL allows, where starts are at that second of their days on those clocks; None where it allows none from
 /// 0001-01-01 on.
 fn last_day(until: Option<Until>, clock: Zone, second: u32) -> Option<Day>
     requires { second < 86_400 }
@@ -89,7 +89,7 @@ fn last_day(until: Option<Until>, clock: Zone, second: u32) -> Option<Day>
     }
 }
 
-/// The same where UNTIL stands. A date is that day itself, a local time is read on those clocks.
+/// The same where there is an UNTIL. A date is that day itself, a local time is read on those clocks.
 fn day_until(until: &Until, clock: Zone, second: u32) -> Option<Day>
     requires { second < 86_400 }
     ensures { MatchOption result (AllowsNone (zone_of clock) second (Some (until_of until.now)))
@@ -102,7 +102,7 @@ fn day_until(until: &Until, clock: Zone, second: u32) -> Option<Day>
     }
 }
 
-/// The instant up to which an UNTIL that says this one allows starts: none lies before the first second that an event may name, or past the
+/// The instant up to which an UNTIL that says this one allows starts: none is before the first second that an event may name, or past the
 /// last before year 10000.
 pub fn as_end(instant: i64) -> i64
     ensures { result ≡ event_rules.as_end instant }

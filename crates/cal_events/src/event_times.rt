@@ -49,7 +49,7 @@ impl EventTimes {
         seconds_of(self.length) as u64
     }
 
-    /// No instance lasts longer, in exact seconds: its days are 86,400 seconds each, and longer by what the clocks are set by.
+    /// No instance lasts longer, in exact seconds: its days are 86,400 seconds each, plus, if there are days, the difference of the zone's offsets.
     pub fn width(&self) -> i64
         ensures width { IsWidth (times_of self.now) result }
         ensures bound { LastAtMost (times_of self.now) result }
@@ -74,7 +74,7 @@ impl EventTimes {
     }
 }
 
-/// The instant that comes so many days later by the clocks of a zone: at the local time that they show, with the days added to it.
+/// The instant that comes this many days later by the clocks of a zone: the days are added to the local time that they show.
 fn days_later(clock: &Zone, instant: i64, days: u32) -> i64
     requires { IsNearEpoch instant }
     ensures later { IsDaysLater (zone_of clock.now) days instant result }
@@ -99,7 +99,7 @@ fn resolve(clock: &Zone, local: i64) -> i64
         return early;
     }
     let late = local - i64::from(least);
-    // For the proof alone: the clocks show it then or skip it.
+    // Only for the proof: the clocks show it then or skip it.
     let _ = clock.offset(late);
     late
 }
@@ -107,9 +107,9 @@ fn resolve(clock: &Zone, local: i64) -> i64
 /// How long an event is said to last.
 #[derive(Clone, Copy)]
 enum Extent {
-    /// DTEND: seconds from DTSTART, negative where it lies before.
+    /// DTEND: seconds from DTSTART, negative where it is before.
     ToEnd(i64),
-    /// DURATION, or nothing where neither stands.
+    /// DURATION, or nothing where there is neither.
     For(Duration),
 }
 
@@ -134,15 +134,15 @@ pub(crate) struct SaidTimes {
     start: ZonedTime,
     instant: i64,
     extent: Extent,
-    /// Whether DTSTART lies in the dates that an event may name.
+    /// Whether DTSTART is in the dates that an event may name.
     starts_in: bool,
-    /// Whether DTEND does, or doesn't stand.
+    /// Whether DTEND is in them, or is absent.
     ends_in: bool,
 }
 
 impl SaidTimes {
     /// Reads the start of a VEVENT, which may be missing or not, and its end or its length, where they may name these zones.
-    /// Refused: 61 where DTSTART is missing and may not, one of the three stands twice, or DTEND beside DURATION; as by
+    /// Refused: 61 where DTSTART is missing and may not, one of the three occurs twice, or DTEND beside DURATION; as by
     /// `ZonedTime::read` for the two times; 12 and 51 for DURATION.
     pub(crate) fn read(
         zones: &Zones<'_, '_>,
@@ -207,7 +207,7 @@ impl SaidTimes {
     }
 
     /// Judges the times together.
-    /// Refused: 50 where the event ends before it starts, 51 past 366 days, 52 where DTSTART or DTEND lies outside of the
+    /// Refused: 50 where the event ends before it starts, 51 past 366 days, 52 where DTSTART or DTEND is outside of the
     /// local years 1970 to 9999 (in UTC from 1969-12-31 on), or not before 10000-01-01T00:00:00Z.
     pub(crate) fn judge(self) -> Result<EventTimes, Refusal>
         ensures says { (may_lack : Bool) (object : Tree) (lines : List (List ℕ)) → AreSaidBy may_lack object lines self
@@ -230,7 +230,7 @@ impl SaidTimes {
     }
 }
 
-/// Whether TZID stands on a line.
+/// Whether a line has TZID.
 pub(crate) fn is_in_zone(line: Line<'_>) -> bool
     ensures { result ≡ is_in_zone (line_text line.entry) }
 {
@@ -245,7 +245,7 @@ pub(crate) fn is_in_dates(in_zone: bool, local: LocalTime, instant: i64) -> bool
     local.seconds() >= first && instant >= FIRST_SECOND && instant < HORIZON
 }
 
-/// What DTEND or DURATION say of an event that starts at an instant, and whether DTEND lies in the dates that an event may name.
+/// What DTEND or DURATION say of an event that starts at an instant, and whether DTEND is in the dates that an event may name.
 fn read_extent(
     zones: &Zones<'_, '_>,
     properties: &Properties<'_>,
@@ -275,7 +275,7 @@ fn read_extent(
     }
 }
 
-/// The seconds from an instant to the end that a line says, and whether that lies in the dates that an event may name.
+/// The seconds from an instant to the end that a line says, and whether that is in the dates that an event may name.
 fn seconds_to(line: Line<'_>, zones: &Zones<'_, '_>, start: i64) -> Result<(i64, bool), Refusal>
     requires zones { AreRead zones.now }
     requires start { IsNearEpoch start }

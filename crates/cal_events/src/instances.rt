@@ -27,7 +27,7 @@ use cal_rules::Rule;
 use cal_zones::{Clock, Zone};
 use ical_values::LocalTime;
 
-/// Where an instance lies among those of its event.
+/// Where an instance is among those of its event.
 #[derive(Clone, Copy)]
 pub(crate) struct Place {
     pub(crate) start: i64,
@@ -151,7 +151,7 @@ fn is_wanted(event: &Event, after: Bound, instant: i64) -> bool
     is_start(instant, &event.hidden)
 }
 
-/// Whether an instant that is given is a start: it lies in the dates that an event may name, and none hides it.
+/// Whether an instant that is given is a start: it is in the dates that an event may name, and none hides it.
 pub(crate) fn is_start(instant: i64, hidden: &Instants) -> bool
     ensures { IsTrue result ↔ (IsNamed instant × (Contains hidden.now instant → ⊥)) }
 {
@@ -310,7 +310,7 @@ fn sooner(a: Option<Place>, b: Option<Place>) -> Option<Place>
     }
 }
 
-/// The override that lies at a place.
+/// The override that is at a place.
 fn override_at<'a>(event: &'a Event, place: Place) -> Option<&'a EventComponent>
     ensures found { IfSome result (λ o. Contains event.now.overrides.items o.now × IsAt o.now place) }
     ensures none { IfNone result ((o : EventComponent) → Contains event.now.overrides.items o → IsAt o place → ⊥) }

@@ -1,4 +1,4 @@
-//! Instants in order, among which one is looked for by halves.
+//! Instants in order, among which one is looked for by binary search.
 
 ghost use Rattle.std.specs.Prelude.{◌≡◌, ◌≢◌, ◌↔◌, AllPairs, Contains, IsTrue, MatchBool};
 ghost use Rattle.std.specs.List.Sorted.{IsPermutation};
@@ -34,7 +34,7 @@ impl Instants {
         Instants { sorted }
     }
 
-    /// They themselves, in order.
+    /// The instants, in order.
     pub(crate) fn sorted(&self) -> &[i64]
         ensures { result.now ≡ self.now }
     {

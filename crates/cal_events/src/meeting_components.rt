@@ -24,7 +24,7 @@ pub struct MeetingComponents {
     pub master: Option<EventComponent>,
     /// Those with one, each for another instance, in the order of the text.
     pub overrides: Vec<EventComponent>,
-    /// The instances for which they stand, in their order.
+    /// The instances that they are for, in their order.
     pub(crate) instants: Vec<i64>,
 }
 
@@ -33,7 +33,7 @@ impl MeetingComponents {
 
     /// The VEVENTs of an object, read for a purpose. Those of an ADD are taken as the instances of their own starts.
     /// Refused: as by `EventComponent::read` for one of them; 66 where there is none; 62 for two UIDs or two ORGANIZERs; 53 for two without
-    /// RECURRENCE-ID; 54 for two that stand for one instance.
+    /// RECURRENCE-ID; 54 for two of the same instance.
     pub fn read(
         alloc: Global,
         object: &Component,
@@ -73,7 +73,7 @@ impl MeetingComponents {
         Ok(components)
     }
 
-    /// These, divided by RECURRENCE-ID, which one of them at most may lack. It fails only for memory.
+    /// These, divided by RECURRENCE-ID, which one of them at most may lack. It fails only when out of memory.
     fn of(alloc: Global, components: Vec<EventComponent>) -> Result<MeetingComponents, AllocError>
         requires masters { length (filter is_master (map event_of components.items)) ≤ 1 }
         ensures master { IfOk result (λ d. filter is_master (map event_of components.items) ≡ option_to_list (option_map event_of d.master)) }
@@ -99,7 +99,7 @@ impl MeetingComponents {
         })
     }
 
-    /// They, the master first. It fails only for memory.
+    /// All of them, the master first. It fails only when out of memory.
     pub fn into_events(self, alloc: Global) -> Result<Vec<EventComponent>, AllocError>
         ensures { IfOk result (λ events. map event_of events.items ≡ events_of (meeting_of self)) }
     {
@@ -117,7 +117,7 @@ impl MeetingComponents {
     }
 }
 
-/// Components as the method of a message takes them. It fails only for memory.
+/// Components as the method of a message takes them. It fails only when out of memory.
 fn taken_for(
     alloc: Global,
     purpose: Purpose,
@@ -131,7 +131,7 @@ fn taken_for(
     }
 }
 
-/// Components as an ADD takes them. It fails only for memory.
+/// Components as an ADD takes them. It fails only when out of memory.
 fn all_added(
     alloc: Global,
     components: Vec<EventComponent>,
@@ -185,7 +185,7 @@ fn is_same_meeting(a: &EventComponent, b: &EventComponent) -> bool
 }
 
 /// Refuses components of which two are of one slot of their meeting. In time n log n.
-/// Refused: 53 for two without RECURRENCE-ID, 54 for two that stand for one instance.
+/// Refused: 53 for two without RECURRENCE-ID, 54 for two of the same instance.
 fn judge_slots(alloc: Global, components: &[EventComponent]) -> Result<(), Fault>
     ensures masters { OnOk result (length (filter is_master (map event_of components.now)) ≤ 1) }
     ensures differ { OnOk result (InstancesDiffer (filter is_override (map event_of components.now))) }

@@ -1,4 +1,4 @@
-//! Which instance of a meeting a VEVENT stands for (RECURRENCE-ID, RFC 5545 3.8.4.4), and which starts it adds to those of its
+//! Which instance of a meeting a VEVENT is for (RECURRENCE-ID, RFC 5545 3.8.4.4), and which starts it adds to those of its
 //! rule and which it takes away (RDATE 3.8.5.2, EXDATE 3.8.5.1): first as they are said, then judged together with the rest.
 
 ghost use Rattle.std.specs.Prelude.{◌≡◌, ◌⊎◌, ◌<◌, ◌∷◌, ◌++◌, ◌==◌, ◌||◌, [], List, ℕ, Bool, codes, true, false, IfOk, IfErr, OnOk, OnErr};
@@ -42,7 +42,7 @@ impl Listing {
         }
     }
 
-    /// Whether a text is a period: with `/`, where a period may stand (RFC 5545 3.3.9, 3.8.5.2).
+    /// Whether a text is a period: with `/`, where a period is allowed (RFC 5545 3.3.9, 3.8.5.2).
     fn is_period(self, text: &str) -> bool
         ensures { result ≡ is_period (name_of self) text.now }
     {
@@ -64,7 +64,7 @@ fn has_slash(text: &str) -> bool
 pub(crate) struct SaidInstant {
     /// In seconds from 1970-01-01T00:00:00Z.
     instant: i64,
-    /// Whether it lies in the dates that an event may name.
+    /// Whether it is in the dates that an event may name.
     in_dates: bool,
 }
 
@@ -88,8 +88,8 @@ impl SaidInstant {
         })
     }
 
-    /// What RECURRENCE-ID says, None where it doesn't stand.
-    /// Refused: 61 where it stands twice, 65 where it has RANGE, and as by `ZonedTime::read`.
+    /// What RECURRENCE-ID says, None where it is absent.
+    /// Refused: 61 where it occurs twice, 65 where it has RANGE, and as by `ZonedTime::read`.
     pub(crate) fn read_recurrence(
         zones: &Zones<'_, '_>,
         properties: &Properties<'_>,
@@ -109,7 +109,7 @@ impl SaidInstant {
 }
 
 /// The instant of RECURRENCE-ID.
-/// Refused: 52 where it lies outside of the dates that an event may name.
+/// Refused: 52 where it is outside of the dates that an event may name.
 pub(crate) fn judge_recurrence(said: Option<SaidInstant>) -> Result<Option<i64>, Refusal>
     ensures says { (object : Tree) (lines : List (List ℕ)) → IsRecurrenceSaid object lines said
         → IfOk result (Says (codes "RECURRENCE-ID") false (IsRecurrenceLine object) lines) }
@@ -166,7 +166,7 @@ fn recurs(properties: &Properties<'_>) -> bool
 pub(crate) struct SaidInstants {
     /// In seconds from 1970-01-01T00:00:00Z, in the order of the text. At most 366.
     pub(crate) instants: Vec<i64>,
-    /// Whether all lie in the dates that an event may name.
+    /// Whether all are in the dates that an event may name.
     in_dates: bool,
 }
 
@@ -240,7 +240,7 @@ impl SaidInstants {
     }
 
     /// The instants of RDATE.
-    /// Refused: 52 where one lies outside of the dates that an event may name.
+    /// Refused: 52 where one is outside of the dates that an event may name.
     pub(crate) fn judge(self) -> Result<Vec<i64>, Refusal>
         ensures says { (object : Tree) (lines : List (List ℕ)) → AreListed object (codes "RDATE") (entries_named (codes "RDATE") lines) self
             → IfOk result (λ v. Lists object (codes "RDATE") (entries_named (codes "RDATE") lines) v.items

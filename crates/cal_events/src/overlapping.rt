@@ -32,7 +32,7 @@ pub(crate) fn first_sharing<'a>(event: &'a Event, span: Span) -> Option<Instance
     None
 }
 
-/// Whether what lasts from one instant to another shares one before the horizon with a span.
+/// Whether the time from one instant to another shares an instant before the horizon with a span.
 fn shares(start: i64, end: i64, span: Span) -> bool
     ensures { IsTrue result ↔ SharesInstant start end span.start span.end }
 {

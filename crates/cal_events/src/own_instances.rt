@@ -15,9 +15,9 @@ use crate::sweep::Span;
 use std::alloc::{AllocError, Global};
 
 impl EventComponent {
-    /// The instances of an event that its RRULE doesn't give, by start, each once, whichever of them other VEVENTs stand for: of one with
-    /// RECURRENCE-ID its own; of another one those at what RDATE adds, and where there is no RRULE at DTSTART, but for what EXDATE names.
-    /// It fails only for memory.
+    /// The instances of an event that its RRULE doesn't give, by start, each once, whichever of them other VEVENTs are for: of one with
+    /// RECURRENCE-ID its own; of another one those at what RDATE adds, and where there is no RRULE at DTSTART, except for what EXDATE names.
+    /// It fails only when out of memory.
     pub fn singles(&self, alloc: Global) -> Result<Vec<Single>, AllocError>
         // of an event that some VEVENT says
         requires { IsTimely (event_of self.now) }

@@ -1,4 +1,4 @@
-//! Where the overrides of an event lie among its instances, by start and then by slot, so that one is looked for by halves.
+//! Where the overrides of an event are among its instances, by start and then by slot, so that one is looked for by binary search.
 
 ghost use Rattle.std.specs.Prelude.{◌≡◌, None, IfOk, IfSome, IfNone};
 ghost use Rattle.cal_events.specs.Instances.{IsAt, IsSoonest};
@@ -45,7 +45,7 @@ impl Moved {
         after.admits(self.start, self.slot)
     }
 
-    /// Whether it lies at a place.
+    /// Whether it is at a place.
     fn is_at(&self, place: Place) -> bool
         ensures { result ≡ is_there place self.now }
     {
@@ -82,7 +82,7 @@ impl Model for Places {
 impl Places {
     ghost use Rattle.cal_events.specs.Places.{ArePlaces, IsPlaceToCome, IsWhichAt};
 
-    /// Those of these overrides. It fails only for memory.
+    /// Those of these overrides. It fails only when out of memory.
     pub(crate) fn of(alloc: Global, overrides: &[EventComponent]) -> Result<Places, AllocError>
         ensures { IfOk result (ArePlaces overrides.now) }
     {
@@ -109,7 +109,7 @@ impl Places {
         None
     }
 
-    /// Which override lies at a place.
+    /// Which override is at a place.
     pub(crate) fn which(&self, place: Place) -> Option<usize>
         ensures { IsWhichAt self.now place result }
     {

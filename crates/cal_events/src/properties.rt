@@ -7,8 +7,8 @@ ghost use Rattle.profile.specs.events.Properties.{is_of, IsMissing, StandsAtMost
 use ical_lines::{Line, Refusal};
 use ical_tree::Properties;
 
-/// The line of a property that may stand once, None where there is none.
-/// Refused: 61 where it stands twice.
+/// The line of a property that may occur once, None where there is none.
+/// Refused: 61 where it occurs twice.
 pub(crate) fn optional<'a>(
     properties: &Properties<'a>,
     name: &str,
@@ -20,8 +20,8 @@ pub(crate) fn optional<'a>(
     properties.optional(name, Refusal::BAD_PROPERTY)
 }
 
-/// The line of a property that stands once.
-/// Refused: 61 where it is missing or stands twice.
+/// The line of a property that occurs exactly once.
+/// Refused: 61 where it is missing or occurs twice.
 pub(crate) fn required<'a>(properties: &Properties<'a>, name: &str) -> Result<Line<'a>, Refusal>
     ensures found { IfOk result (λ line. StandsAtMostOnce name.now properties.now (Some (line_text line))) }
     ensures refuses { IfErr result (λ e. e.number ≡ 61) }
@@ -42,7 +42,7 @@ pub(crate) fn first_named<'a>(properties: &Properties<'a>, name: &str) -> Option
     None
 }
 
-/// Whether a line of a property stands there.
+/// Whether there is a line of a property.
 pub(crate) fn has(properties: &Properties<'_>, name: &str) -> bool
     ensures { result ≡ list_any (is_of name.now) properties.now }
 {

@@ -1,4 +1,4 @@
-//! A calendar read from its octets (RFC 5545 3.4), for one room: open limits, METHOD not looked at.
+//! A calendar read from its octets (RFC 5545 3.4), for one room: open limits, METHOD ignored.
 ghost use Rattle.std.specs.Prelude.{ℕ, List, ◌≡◌, ◌⊎◌, [], map, Contains, IfOk, IfErr};
 ghost use Rattle.std.specs.List.{AllZip};
 ghost use Rattle.ical_lines.specs.Fault.{RefusesOnly, RefusesBy};
@@ -37,7 +37,7 @@ impl Calendar {
 
     /// The calendar of an object that was read. In time n log n.
     /// Refused: as by `EventComponent::read` for a VEVENT; 53 for two VEVENTs of one meeting without RECURRENCE-ID; 54 for two of one meeting
-    /// that stand for one instance.
+    /// for the same instance.
     pub fn of_object(alloc: Global, object: &Component, room: &Address) -> Result<Calendar, Fault>
         ensures says { IfOk result (SaysCalendar (address_octets room.now) (tree_of object.now)) }
         ensures refuses { IfErr result (RefusesOnly is_calendar_fault) }
@@ -48,7 +48,7 @@ impl Calendar {
     }
 }
 
-/// The VEVENTs of an object say at most one calendar for a room, and none where a fault stands in them.
+/// The VEVENTs of an object say at most one calendar for a room, and none where they have a fault.
 pub fn one_calendar()
     ensures one { (room : List ℕ) (object : Tree) (a b : Confirmed)
         → SaysCalendar room object a → SaysCalendar room object b → a ≡ b }
@@ -58,7 +58,7 @@ pub fn one_calendar()
     one_event();
 }
 
-/// Octets spell at most one calendar for a room, and none where a fault stands in them.
+/// Octets spell at most one calendar for a room, and none where they have a fault.
 pub fn one_calendar_text()
     ensures one { (room octets : List ℕ) (a b : Confirmed)
         → SpellsCalendar room octets a → SpellsCalendar room octets b → a ≡ b }

@@ -32,7 +32,7 @@ use std::alloc::{AllocError, Global};
 use std::cmp::Ordering;
 
 /// A series: a master with RRULE, by its rule alone. In a calendar it is one that the room has accepted, and what overrides of its meeting
-/// stand for is none of its starts.
+/// replace isn't one of its starts.
 #[derive(Drop)]
 pub struct Series {
     pub(crate) event: Event,
@@ -42,7 +42,7 @@ pub struct Series {
 impl Series {
     ghost use Rattle.cal_events.specs.SaidSeries.{series_said, IsMasterOf, IsLeftOf};
 
-    /// The series of a master, where overrides stand for these instances, in order. It fails only for memory.
+    /// The series of a master, where overrides replace these instances, in order. It fails only when out of memory.
     pub(crate) fn of(
         alloc: Global,
         master: EventComponent,
@@ -61,7 +61,7 @@ impl Series {
         Ok(Series { event })
     }
 
-    /// That of a master by itself, without the instances at these starts. It fails only for memory.
+    /// That of a master by itself, without the instances at these starts. It fails only when out of memory.
     fn of_copy(alloc: Global, master: &EventComponent, starts: &[i64]) -> Result<Series, AllocError>
         requires clock { HasGoodClock (event_of master.now) }
         requires ends { HaveOneEnd (record { master = Some (ruled_without (event_of master.now) starts.now); overrides = [] }) }
@@ -73,7 +73,7 @@ impl Series {
         Ok(Series { event })
     }
 
-    /// The series without the instances at these starts, as if EXDATE named them. In time n log n. It fails only for memory.
+    /// The series without the instances at these starts, as if EXDATE named them. In time n log n. It fails only when out of memory.
     pub fn without(&self, alloc: Global, starts: &[i64]) -> Result<Series, AllocError>
         ensures { IfOk result (λ left. IsLeftOf (series_said self.now) starts.now (series_said left)) }
     {
@@ -122,7 +122,7 @@ impl Series {
         self.master().times.width()
     }
 
-    /// The key of its instance at a start, owned. It fails only for memory.
+    /// The key of its instance at a start, owned. It fails only when out of memory.
     pub fn key(&self, alloc: Global, start: i64) -> Result<OwnedKey, AllocError>
         ensures { IfOk result (λ key. (b : Booked) → IsInstance (series_said self.now) b → b.start ≡ start → owned_key_of key ≡ b.key) }
     {
@@ -148,8 +148,8 @@ impl Series {
 impl EventComponent {
     ghost use Rattle.cal_events.specs.SaidSeries.{series_said, IsSeriesOf};
 
-    /// The series of an event by itself: what its RRULE gives, but for what EXDATE names, and whatever other VEVENTs stand for. None where it
-    /// has no RRULE, or stands for one instance. It fails only for memory.
+    /// The series of an event by itself: what its RRULE gives, except for what EXDATE names, and whatever other VEVENTs are for. None where it
+    /// has no RRULE, or is for one instance. It fails only when out of memory.
     pub fn series(&self, alloc: Global) -> Result<Option<Series>, AllocError>
         // of an event that some VEVENT says
         requires { IsTimely (event_of self.now) }
@@ -162,7 +162,7 @@ impl EventComponent {
     }
 }
 
-/// A copy of a master by its rule alone, without these starts. Its SUMMARY and who attends aren't kept. It fails only for memory.
+/// A copy of a master by its rule alone, without these starts. Its SUMMARY and who attends aren't kept. It fails only when out of memory.
 fn ruled_copy(
     alloc: Global,
     master: &EventComponent,
@@ -192,7 +192,7 @@ fn ruled_copy(
     })
 }
 
-/// A master without what RDATE adds, and without what overrides stand for. It fails only for memory.
+/// A master without what RDATE adds, and without what overrides replace. It fails only when out of memory.
 fn by_its_rule(
     alloc: Global,
     master: EventComponent,
@@ -206,7 +206,7 @@ fn by_its_rule(
     Ok(master)
 }
 
-/// The instants for which overrides of a master's meeting stand, ascending. It fails only for memory.
+/// The instants that overrides of a master's meeting replace, ascending. It fails only when out of memory.
 fn replaced(
     alloc: Global,
     master: &EventComponent,
@@ -223,7 +223,7 @@ fn replaced(
     Ok(slots)
 }
 
-/// Those of the keys, in order, that are of one meeting. They are looked for by halves.
+/// Those of the keys, in order, that are of one meeting. They are looked for by binary search.
 fn own_keys<'a>(keys: &'a [InstanceKey<'a>], organiser: &str, uid: &str) -> &'a [InstanceKey<'a>]
     requires sorted { AreInOrder keys.now }
     ensures { result.now ≡ filter (is_of (organiser.now, uid.now)) keys.now }

@@ -12,7 +12,7 @@ use crate::instants::Instants;
 use std::alloc::{AllocError, Global};
 
 /// The starts of a master, by itself, that no rule gives: DTSTART where there is no rule, and RDATEs; ascending, each once. What EXDATE names
-/// is none. It fails only for memory.
+/// isn't one. It fails only when out of memory.
 pub(crate) fn single_starts(alloc: Global, master: &EventComponent) -> Result<Vec<i64>, AllocError>
     requires { is_some master.now.rule ≡ true → HasGoodClock (event_of master.now) }
     ensures { IfOk result (λ starts. AreSingleStarts (event_of master.now) starts.items) }
@@ -64,7 +64,7 @@ fn is_single(master: &EventComponent, hidden: &Instants, instant: i64) -> bool
     is_start(instant, hidden) && !is_on_rule(master, instant)
 }
 
-/// Whether the master's rule gives a start at an instant, which EXDATE doesn't name. Looks at the days near it alone.
+/// Whether the master's rule gives a start at an instant, which EXDATE doesn't name. Looks only at the days near it.
 fn is_on_rule(master: &EventComponent, instant: i64) -> bool
     requires clock { is_some master.now.rule ≡ true → HasGoodClock (event_of master.now) }
     requires named { IsNamed instant }

@@ -1,5 +1,5 @@
 //! The sweep: do two spans of a list share an instant before the horizon? Spans that have no such
-//! instant are dropped, the others sorted by start, and then neighbours alone are compared.
+//! instant are dropped, the others sorted by start, and then only neighbours are compared.
 ghost use Rattle.std.specs.Prelude.{◌≡◌, length, IfOk, IfNone, IfSome};
 ghost use Rattle.std.specs.List.{AllAdjacentBelow};
 ghost use Rattle.cal_events.specs.Sweep.{IsOverlap, AreApart, AreNeighbours, placed_from, EndsBefore};
@@ -32,7 +32,7 @@ struct Placed {
 }
 
 /// Two places whose spans share an instant before the horizon, if there are any. In time
-/// n log n. Fails only for memory.
+/// n log n. Fails only when out of memory.
 pub fn first_overlap(alloc: Global, spans: &[Span]) -> Result<Option<Overlap>, AllocError>
     ensures found { IfOk result (λ r. IfSome r (IsOverlap spans.now)) }
     ensures none { IfOk result (λ r. IfNone r (AreApart spans.now)) }

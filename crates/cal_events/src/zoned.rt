@@ -1,4 +1,4 @@
-//! A time with its zone, as a start or an end: TZID names a VTIMEZONE of the object that the line stands in
+//! A time with its zone, as a start or an end: TZID names a VTIMEZONE of the object that the line is in
 //! (RFC 5545 3.2.19, 3.3.5, 3.6.5, 3.8.3.1). A VTIMEZONE that no line names isn't read.
 ghost use Rattle.std.specs.Prelude.{◌≡◌, ◌⊎◌, ℕ, List, Option, None, Some, ℤ, pos, IfOk, IfErr, OnOk};
 ghost use Rattle.ical_lines.specs.Text.{line_text};
@@ -20,7 +20,7 @@ use ical_values::local_time::one_local_time;
 use ical_values::stamp::one_stamp;
 use ical_values::{LocalTime, Stamp};
 
-/// A time: a local time, and the zone whose clocks show it. A UTC time has none: UTC is no zone of offset 0.
+/// A time: a local time, and the zone whose clocks show it. A UTC time has none: UTC isn't a zone of offset 0.
 #[derive(Clone, Copy)]
 pub struct ZonedTime {
     pub local: LocalTime,
@@ -31,7 +31,7 @@ pub struct ZonedTime {
 impl ZonedTime {
     /// What a DTSTART or a DTEND says, where TZID may name one of these zones. The text is judged before the zone.
     /// Refused without TZID: 10, 11, 55 and 56, as a UTC time is.
-    /// Refused with TZID: 11 for a text that is no local time, also where it ends in `Z`, 55 for a date, 56 where VALUE
+    /// Refused with TZID: 11 for a text that isn't a local time, also where it ends in `Z`, 55 for a date, 56 where VALUE
     /// is PERIOD; 43 where no VTIMEZONE of the object has that name; 11, 13 and 40 to 42 for the first that has it.
     pub(crate) fn read(line: Line<'_>, zones: &Zones<'_, '_>) -> Result<ZonedTime, Refusal>
         requires zones { AreRead zones.now }
@@ -99,7 +99,7 @@ impl ZonedTime {
     }
 }
 
-/// A text of a line says at most one local time in one zone, and none where a fault stands in it.
+/// A text of a line says at most one local time in one zone, and none where it has a fault.
 pub fn one_zoned_time()
     ensures one { (object : Tree) (line text : List ℕ) (a b : Option zones.Zone) (s t : ℤ)
         → SaysZonedText object line text a s → SaysZonedText object line text b t → (a ≡ b) × (s ≡ t) }
@@ -111,7 +111,7 @@ pub fn one_zoned_time()
     one_zone();
 }
 
-/// Judges a text of a time of a line by itself: but for the VTIMEZONE that TZID names, which only its object has.
+/// Judges a text of a time of a line by itself: except for the VTIMEZONE that TZID names, which only its object has.
 /// Refused without TZID: 10, 11, 55 and 56, as a UTC time is. Refused with TZID: 11, 55 and 56, as a local time is.
 pub fn judge_time(line: Line<'_>, text: &str) -> Result<(), Refusal>
     ensures kind { OnOk result (time_kind (line_text line.entry) ≡ DateTime) }
@@ -151,7 +151,7 @@ fn read_in_zone(
 }
 
 /// The local time that a text of a line with TZID spells (RFC 5545 3.3.5, form 3).
-/// Refused: 11 where it is no local time, 55 for a date, 56 where VALUE is PERIOD.
+/// Refused: 11 where it isn't a local time, 55 for a date, 56 where VALUE is PERIOD.
 fn read_local(line: Line<'_>, text: &str) -> Result<LocalTime, Refusal>
     ensures kind { IfOk result (λ _. time_kind (line_text line.entry) ≡ DateTime) }
     ensures reads { IfOk result (SpellsLocal text.now) }
@@ -175,7 +175,7 @@ fn read_local_text(text: &str) -> Result<LocalTime, Refusal>
     }
 }
 
-/// Why a text that is no local time is refused: 55 for a date, else 11.
+/// Why a text that isn't a local time is refused: 55 for a date, else 11.
 fn refusal_of_no_local(text: &str) -> Refusal
     ensures { DateOrMalformed text.now result.number }
 {

@@ -1,5 +1,5 @@
 //! The VTIMEZONEs of an object by their names, each read once for all lines that name it (RFC 5545 3.2.19, 3.6.5, 3.8.3.1).
-//! What is wrong with one is told where a line names it: a VTIMEZONE that no line names refuses nothing.
+//! What is wrong with one is reported where a line names it: a VTIMEZONE that no line names refuses nothing.
 
 ghost use Rattle.std.specs.Prelude.{◌≡◌, ◌∷◌, ◌++◌, [], List, find, option_map, string_bytes, IfOk, IfErr, OnOk};
 ghost use Rattle.ical_lines.specs.Text.{line_text};
@@ -21,7 +21,7 @@ use std::alloc::{AllocError, Global};
 type ByName = IndexMap<String, Result<Zone, Refusal>>;
 
 /// The VTIMEZONEs of an object.
-// What they say stands beside it as a premise and not as an invariant: that a zone is said can hold in several ways.
+// What they say is beside it as a premise and not as an invariant: that a zone is said can hold in several ways.
 #[derive(Drop)]
 pub(crate) struct Zones<'c, 'a> {
     object: &'c Component<'a>,
@@ -29,7 +29,7 @@ pub(crate) struct Zones<'c, 'a> {
 }
 
 impl<'c, 'a> Zones<'c, 'a> {
-    /// The VTIMEZONEs directly inside an object. It fails only where memory runs out.
+    /// The VTIMEZONEs directly inside an object. It fails only when out of memory.
     pub(crate) fn of(alloc: Global, object: &'c Component<'a>) -> Result<Zones<'c, 'a>, AllocError>
         ensures object { IfOk result (λ zones. zones.object.now ≡ object.now) }
         ensures read { IfOk result AreRead }

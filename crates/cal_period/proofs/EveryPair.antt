@@ -128,7 +128,7 @@ rows_found all i s clear f = record {
 
 -- ---- counts
 
--- one more was added, as far as 64 bits go, and so many are left
+-- one more was added, as far as 64 bits go, and this many are left
 pub step_count : (drawn more count left total new : ℕ) → more ≡ min count 18446744073709551615 → new ≡ min (drawn + more) 18446744073709551615
     → min (drawn + (count + left)) 18446744073709551615 ≡ min total 18446744073709551615 → min (new + left) 18446744073709551615 ≡ min total 18446744073709551615
 step_count drawn more count left total new m n h = omega (arith, m, n, h)

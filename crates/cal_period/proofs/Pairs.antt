@@ -22,7 +22,7 @@ pub record AreAbreast (a b : Meeting) (p q : ℤ) : Type 0 where
   pub first : (x : Booked) → IsBehind a p x → x.start ≤ℤ q
   pub second : (y : Booked) → IsBehind b q y → y.start ≤ℤ p
 
--- what is so of two is so of them the other way round
+-- what holds of two holds of them the other way round
 pub abreast_turned : (a b : Meeting) (p q : ℤ) → AreAbreast a b p q → AreAbreast b a q p
 abreast_turned a b p q at = record { clear = λ y x k h s. at.clear x y h k (turned y x s); first = at.second; second = at.first }
 

@@ -21,7 +21,7 @@ use Rattle.cal_period.proofs.Sweeping.{Share, turned, next_is, all_behind}
 pub from_turned : (a b : Meeting) (by : ℤ) → MeetFrom a b by → MeetFrom b a by
 from_turned a b by from = record { before = from.before; begins = elim from.begins [ inl x ↦ inr x | inr y ↦ inl y ] }
 
--- what two share lies then or later
+-- what two share is then or later
 shared_late : (a b : Meeting) (by : ℤ) → MeetFrom a b by → (x y : Booked) → IsInstance a x → IsInstance b y → (s : Share x y) → by ≤ℤ s.instant
 shared_late a b by from x y h k s = elim from.begins [
   | inl none ↦ let l = none x h in omega (arith, ints, l, s.in_first)

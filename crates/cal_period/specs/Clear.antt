@@ -12,7 +12,7 @@ AreClear a b = (x y : Booked) → IsInstance a x → IsInstance b y → SharesIn
 abbrev pub IsClear : Meeting → Type 0
 IsClear a = (x y : Booked) → IsInstance a x → IsInstance a y → x.key ≢ y.key → SharesInstant x.start x.end y.start y.end → ⊥
 
--- the start of one of two instances lies in both, before the horizon; so it is the later start
+-- the start of one of two instances is in both, before the horizon; so it is the later start
 pub record ShareStart (x y : Booked) : Type 0 where
   pub instant : ℤ
   pub starts : (instant ≡ x.start) ⊎ (instant ≡ y.start)

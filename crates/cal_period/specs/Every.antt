@@ -65,16 +65,16 @@ AreAllSwept all swept = MatchOption swept.shared ((p q : ℕ) → p ≤ q → q 
 abbrev pub AreLists : List Meeting → List (List Booked) → Type 0
 AreLists all lists = AllZip (λ a list. AreInstancesFrom a first_second list) all lists
 
--- so many are gone past for a pair, where the series have so many: those of both, once where they are one series
+-- this many are gone past for a pair, where the series have these counts: those of both, once where they are one series
 abbrev pub pair_count : List ℕ → ℕ → ℕ → ℕ
 pair_count counts i j = if i == j then slice_index_or counts i 0 else slice_index_or counts i 0 + slice_index_or counts j 0
 
--- for a series beside so many from a place on
+-- for a series with this many from a place on
 abbrev pub row_count : List ℕ → ℕ → ℕ → ℕ → ℕ
 row_count counts i j zero = 0
 row_count counts i j (suc n) = pair_count counts i j + row_count counts i (suc j) n
 
--- for so many series from a place on, each beside itself and those after it
+-- for this many series from a place on, each with itself and those after it
 abbrev pub pairs_count : List ℕ → ℕ → ℕ → ℕ
 pairs_count counts i zero = 0
 pairs_count counts i (suc n) = row_count counts i i (suc n) + pairs_count counts (suc i) n
@@ -83,7 +83,7 @@ pairs_count counts i (suc n) = row_count counts i i (suc n) + pairs_count counts
 abbrev pub all_count : List (List Booked) → ℕ
 all_count lists = pairs_count (map length lists) 0 (length lists)
 
--- it went past so many, as far as 64 bits go, where nothing was found, and else past no more
+-- it went past this many, as far as 64 bits go, where nothing was found, and else past no more
 abbrev pub IsDrawn : {X : Type 0} → Option X → ℕ → ℕ → Type 0
 IsDrawn found drawn count = MatchOption found (drawn ≡ min count (2 ^ 64 - 1)) (λ _. drawn ≤ count)
 

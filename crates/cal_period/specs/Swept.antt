@@ -8,20 +8,20 @@ use Rattle.cal_events.specs.Calendars.{instance_of}
 use Rattle.cal_period.specs.Clear.{AreClear, IsClear, ArePair, AreTwo}
 use Rattle.cal_period.specs.declared.sweep.Swept.{Swept}
 
--- in the lists of all instances of two series there are so many, as far as 64 bits go
+-- in the lists of all instances of two series there are this many, as far as 64 bits go
 abbrev pub IsCountOfBoth : Meeting → Meeting → ℕ → Type 0
 IsCountOfBoth a b n =
     (xs ys : List Booked) → AreInstancesFrom a first_second xs → AreInstancesFrom b first_second ys → n ≡ min (length xs + length ys) (2 ^ 64 - 1)
 
--- at least so many
+-- at least this many
 abbrev pub IsAtMostBoth : Meeting → Meeting → ℕ → Type 0
 IsAtMostBoth a b n = (xs ys : List Booked) → AreInstancesFrom a first_second xs → AreInstancesFrom b first_second ys → n ≤ length xs + length ys
 
--- in the list of all instances of one series there are so many
+-- in the list of all instances of one series there are this many
 abbrev pub IsCountOf : Meeting → ℕ → Type 0
 IsCountOf a n = (xs : List Booked) → AreInstancesFrom a first_second xs → n ≡ min (length xs) (2 ^ 64 - 1)
 
--- at least so many
+-- at least this many
 abbrev pub IsAtMost : Meeting → ℕ → Type 0
 IsAtMost a n = (xs : List Booked) → AreInstancesFrom a first_second xs → n ≤ length xs
 

@@ -11,7 +11,7 @@ use Rattle.cal_events.specs.declared.instance.Instance.{Instance}
 use Rattle.cal_events.specs.declared.instances.Instances.{Instances}
 use Rattle.cal_period.specs.declared.walk.Walk.{Walk}
 
--- where a walk stands: at the start of its next instance, or at the horizon where there is none
+-- where a walk is: at the start of its next instance, or at the horizon where there is none
 abbrev pub place_of : Option Instance → ℤ
 place_of None = horizon
 place_of (Some i) = i.start
@@ -26,7 +26,7 @@ IsLast series place last =
     MatchOption last ((b : Booked) → IsBehind series place b → ⊥)
     (λ l. IsBehind series place (instance_of l) × ((b : Booked) → IsBehind series place b → b.end ≤ℤ l.end))
 
--- so many are behind, in the list of all, as far as 64 bits go
+-- this many are behind, in the list of all, as far as 64 bits go
 abbrev pub AreCounted : Meeting → ℤ → ℕ → Type 0
 AreCounted series place n =
     (all : List Booked) → AreInstancesFrom series first_second all → n ≡ min (count_by (λ b. int_lt b.start place) all) (2 ^ 64 - 1)
@@ -41,13 +41,13 @@ pub record IsAhead (series : Meeting) (left : Instances) (next : Option Instance
   pub is : IfSome next (λ i. IsInstance series (instance_of i))
   pub rest : (b : Booked) → IsLeft left b ↔ (IsInstance series b × (place_of next <ℤ b.start))
 
--- a walk stands in a series
+-- a walk is in a series
 pub record Stands (series : Meeting) (left : Instances) (walk : Walk) : Type 0 where
   pub ahead : IsAhead series left walk.next
   pub last : IsLast series (place_of walk.next) walk.last
   pub count : AreCounted series (place_of walk.next) walk.count
 
--- it stands at the first instance: none is behind
+-- it is at the first instance: none is behind
 pub record Begins (series : Meeting) (left : Instances) (walk : Walk) : Type 0 where
   pub stands : Stands series left walk
   pub none : (b : Booked) → IsBehind series (place_of walk.next) b → ⊥
@@ -86,12 +86,12 @@ IsLastSince series by place last =
     MatchOption last ((b : Booked) → IsBehind series place b → b.end ≤ℤ by)
     (λ l. IsBehind series place (instance_of l) × ((b : Booked) → IsBehind series place b → (b.end ≤ℤ by) ⊎ (b.end ≤ℤ l.end)))
 
--- a walk stands in a series, as one that begins at its first does, but that it passed over instances that are over by an instant
+-- a walk is in a series, like one that begins at its first, except that it passed over instances that are over by an instant
 pub record Tail (series : Meeting) (by : ℤ) (left : Instances) (walk : Walk) : Type 0 where
   pub ahead : IsAhead series left walk.next
   pub last : IsLastSince series by (place_of walk.next) walk.last
 
--- it stands at the first instance from an entry on: those behind start before that, and are over by the instant
+-- it is at the first instance from an entry on: those behind start before that, and are over by the instant
 pub record Enters (series : Meeting) (by entry : ℤ) (left : Instances) (walk : Walk) : Type 0 where
   pub tail : Tail series by left walk
   pub none : (b : Booked) → IsBehind series (place_of walk.next) b → b.start <ℤ entry

@@ -1,4 +1,4 @@
-//! A sweep through all pairs of series: each beside itself, and beside those after it. No memory is taken.
+//! A sweep through all pairs of series: each with itself, and with those after it. No memory is taken.
 ghost use Rattle.std.specs.Prelude.{◌≤◌, ◌<◌, length, map};
 ghost use Rattle.cal_events.specs.SaidSeries.{series_said};
 ghost use Rattle.cal_period.specs.Every.{IsAtSwept, IsAtDrawn, IsRowSwept, IsRowDrawn, AreAllSwept, AreAllDrawn};

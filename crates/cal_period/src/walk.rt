@@ -20,7 +20,7 @@ pub(crate) struct Walk<'a> {
 }
 
 impl<'a> Walk<'a> {
-    /// A walk that stands at the first instance, of all or of those from an entry on.
+    /// A walk that is at the first instance, of all or of those from an entry on.
     pub(crate) fn to(first: Option<Instance<'a>>) -> Walk<'a>
         ensures begins { (series : Meeting) (old new : Instances) → AreKnownByStart series → AreAllLeft series old
             → GivesFirst old first.entry new → Begins series new result }
@@ -34,7 +34,7 @@ impl<'a> Walk<'a> {
         }
     }
 
-    /// Where it stands: at the start of its next instance, or at the horizon where there is none.
+    /// Where it is: at the start of its next instance, or at the horizon where there is none.
     pub(crate) fn place(&self) -> i64
         ensures { result ≡ place_of self.now.next }
     {

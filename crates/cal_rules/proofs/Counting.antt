@@ -1,4 +1,4 @@
--- Days of a rule but for COUNT, counted.
+-- Days of a rule apart from COUNT, counted.
 use Rattle.std.proofs.Common.{◌≡◌, ◌∙◌, sym, refl, inl, inr, ℕ, zero, suc, ◌+◌, ◌-◌, ◌<◌, ◌≤◌, min, max, Bool, true, false, ◌&&◌, nat_le, Some, None, arith}
 use Rattle.std.proofs.lemmas.Bool.{cases_lt, false≢true, and_cases, and_left, and_right}
 use Rattle.std.proofs.lemmas.Bool.Decides.{nat_tests}

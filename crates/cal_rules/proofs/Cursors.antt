@@ -1,4 +1,4 @@
--- Where a listing of the days of a rule stands, from day to day.
+-- Where a listing of the days of a rule is, from day to day.
 use Rattle.std.proofs.Common.{◌≡◌, ◌∙◌, sym, refl, ℕ, ◌+◌, ◌-◌, ◌<◌, ◌≤◌, min, max, true, false, Option, Some, None, MatchOption, arith}
 use Rattle.std.proofs.lemmas.Bool.{false≢true}
 use Rattle.std.specs.List.{list_any, list_all}
@@ -96,7 +96,7 @@ entered_from_end p day depth span here later s step high deep facts low inside c
 
 -- THE NEXT ONE
 
--- the least rule day but for COUNT
+-- the least rule day apart from COUNT
 pub past_next : (r : Parts) (from : ℕ) (answer : Option Cursor) → 366 ≤ from → MatchOption answer (NoneIn (is_chosen r.pattern) (max from r.pattern.start) (min r.last last_rule_day + 1)) (IsPastFirst r.pattern (max from r.pattern.start) (min r.last last_rule_day + 1)) → MatchOption answer (NoneFrom r from) (IsPastNext r from)
 past_next r from None first h = none_counted r from h
 past_next r from (Some after) first h =

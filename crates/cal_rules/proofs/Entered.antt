@@ -1,4 +1,4 @@
--- Lists of entries, read one after the other.
+-- Lists of entries, read one after another.
 use Rattle.std.proofs.Common.{◌≡◌, ◌≢◌, ◌∙◌, inl, inr, ap, sym, refl, subst, Option, Some, None, Result, Ok, Err, IfOk, IfSome, IfNone, ℕ, zero, suc, ◌+◌, ◌<◌, ◌≤◌, Bool, true, ◌==◌, List, [], ◌∷◌, ◌++◌, length, map, slice_index_or, append_assoc, append-nil, length-append, arith}
 use denote.Ref.{Bor}
 use Rattle.std.specs.Fn.{Shared, FnReturnsAt}
@@ -51,7 +51,7 @@ zip_length Is [] (x ∷ xs) h = absurd h
 zip_length Is (v ∷ vs) [] h = absurd h
 zip_length Is (v ∷ vs) (x ∷ xs) h = ap suc (zip_length Is vs xs h.1)
 
--- one entry more makes them too many
+-- one more entry makes them too many
 pub too_many : {A : Type 0} (Is : List ℕ → A → Type 0) (all left rest : List (List ℕ)) (entry : List ℕ) (old : List A) → EntriesRead Is all left old → left ≡ entry ∷ rest → length old ≡ 366 → 366 < length all
 too_many Is all left rest entry old r s full =
     let parted : all ≡ r.done ++ entry ∷ rest = r.parted ∙ ap (λ l. r.done ++ l) s in
@@ -88,7 +88,7 @@ module _ {F A B : Type 0} (g : Shared F (Bor (List ℕ) × Unit {0}) (Option A))
 pub list_spelled : {F A : Type 0} (g : Shared F (Bor (List ℕ) × Unit {0}) (Option A)) (f : F) (Spells : List ℕ → A → Type 0) (text : List ℕ) (xs : List A) → SpellsList (λ v x. FnReturnsAt g f v (Some x)) text xs → ((v : Bor (List ℕ)) (x : A) → g.post f (v, tt) (Some x) → Spells v.now x) → SpellsList Spells text xs
 list_spelled g f Spells text xs h spell = subst (λ ys. SpellsList Spells text ys) (map-id xs) (list_viewed g f Spells (λ x. x) text xs h spell)
 
--- what stands in an answer
+-- what is in an answer
 pub ok_some : {V E : Type 0} {P Q : V → Type 0} (r : Result (Option V) E) → ((v : V) → P v → Q v) → IfOk r (λ o. IfSome o P) → IfOk r (λ o. IfSome o Q)
 ok_some (Ok (Some v)) f h = f v h
 ok_some (Ok None) f h = tt

@@ -6,7 +6,7 @@ use Rattle.profile.specs.series.RuleTexts.{listed, nth_number}
 joined : (b lead entry rest : List ℕ) → ((b ++ lead) ++ entry) ++ rest ≡ b ++ (lead ++ entry ++ rest)
 joined b lead entry rest = simp append_assoc
 
--- one entry more was appended
+-- one more entry was appended
 pub listed_hit : (b b1 b2 lead entry : List ℕ) (rest : List (List ℕ)) → b1 ≡ b ++ lead → b2 ≡ b1 ++ entry → b2 ++ listed (codes ",") rest ≡ b ++ listed lead (entry ∷ rest)
 listed_hit b b1 b2 lead entry rest e f =
     ap (λ x. x ++ listed (codes ",") rest) (f ∙ ap (λ x. x ++ entry) e) ∙ joined b lead entry (listed (codes ",") rest)

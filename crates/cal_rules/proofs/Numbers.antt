@@ -105,7 +105,7 @@ pub stripped_none : (bs : List ℕ) (r : Option (Bor (List ℕ))) → is_some r 
 stripped_none bs None e h = h
 stripped_none bs (Some x) e h = cc
 
--- what `parse` reads where no `+` stands
+-- what `parse` reads where there is no `+`
 plain_number : (bs : List ℕ) (n : ℕ) → ((rest : List ℕ) → bs ≡ 43 ∷ rest → ⊥) → IsNumeral 10 (without_leading_plus bs) → n ≡ digits_value 10 (without_leading_plus bs) → IsNumber bs n
 plain_number bs n h p e =
     let same = without_leading_plus_none bs (not_plus bs h) in
@@ -130,7 +130,7 @@ between_same low high value m n s t = sym s.0.2 ∙ t.0.2
 
 -- ---- places
 
--- a digit is no sign
+-- a digit isn't a sign
 digit_first : (digits : List ℕ) → 0 < length digits → AllDigits 10 digits → IsInRange 48 57 (get_or digits 0 0)
 digit_first [] h a = absurd (omega arith)
 digit_first (c ∷ cs) h a = digit_from_value c a.0
@@ -218,7 +218,7 @@ front_none value front number e filled none (inl p) =
     let h : true ≡ false = sym empty ∙ filled in cc
 front_none value front number e filled none (inr s) = none number (rw (sym e) at s)
 
--- a front that is no number
+-- a front that isn't a number
 pub entry_no_number : (value front : List ℕ) → front ≡ take (length value - 2) value → nat_eq (length front) 0 ≡ false → SpellsNone (SpellsPlace 53) front → SpellsNone SpellsEntry value
 entry_no_number value front e filled none entry s = front_none value front entry.number e filled none (entry_parts value entry s).front
 

@@ -100,7 +100,7 @@ one_name name other part v w e f =
 
 -- ---- a part that is cut at its first `=`
 
--- what stands before the `=`
+-- what comes before the `=`
 abbrev pub front_word : Option RuleKey → List ℕ
 front_word None = codes "FREQ"
 front_word (Some Interval) = codes "INTERVAL"

@@ -27,7 +27,7 @@ same_places a b rest ks h =
       | false ↦ λ e. ap (λ t. is_missing ks || t) (any_from_last a b rest ks e)
     ] refl
 
--- where all lie among so many last ones, none counts from the first day
+-- where all are among this many last ones, none counts from the first day
 pub none_from_first : (depth : ℕ) (ks : List ℤ) → list_all (is_among_last depth) ks ≡ true → list_any is_from_first ks ≡ false
 none_from_first depth [] h = refl
 none_from_first depth (pos n ∷ ks) h = absurd (false≢true h)
@@ -51,7 +51,7 @@ count_tail test m here end low high =
     let split = rw (whole, place) at (count_split test m (here - m) (end - here)) in
     omega (arith, split)
 
--- before a day from which so many days of its period pass, none has a set position
+-- before a day from which this many days of its period pass, none has a set position
 pub before_last : (p : Pattern) (day here first end depth later : ℕ) → IsSpan p.frequency p.week_start day first end → is_in_step p day ≡ true → end ≤ 3_653_155 → is_missing p.positions ≡ false → list_all (is_among_last depth) p.positions ≡ true → here ≤ end → later ≡ count_days (passes p) here (end - here) → depth ≤ later → NoneIn (is_chosen p) day here
 before_last p day here first end depth later s step high some deep inside count many n from to =
     let low = s.not_before in

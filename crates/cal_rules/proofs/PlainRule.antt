@@ -1,4 +1,4 @@
--- A rule of FREQ, BYMONTH, BYMONTHDAY and BYDAY alone reads back with its lists as they stand.
+-- A rule of FREQ, BYMONTH, BYMONTHDAY and BYDAY alone reads back with its lists as they are.
 use Rattle.std.proofs.Common.{◌≡◌, refl, ℕ, true, ◌&&◌, List, [], ◌∷◌, ◌++◌, map, codes, decimal, None, ℤ, arith}
 use Rattle.std.proofs.lemmas.Bool.{and_parts}
 use Rattle.std.specs.Fmt.{signed_decimal}

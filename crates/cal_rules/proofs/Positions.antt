@@ -24,7 +24,7 @@ count_max test from (suc days) =
       | false ↦ omega arith
     ]
 
--- one day more
+-- one more day
 pub count_step : (test : ℕ → Bool) (from day : ℕ) → from ≤ day → count_days test from (day + 1 - from) ≡ count_days test from (day - from) + (if test day then 1 else 0)
 unfolding count_days
 count_step test from day h =

@@ -58,7 +58,7 @@ entry_back entry e =
 
 -- ---- lists
 
--- no comma stands in the entry
+-- the entry has no comma
 abbrev pub HasNoComma : List ℕ → Type 0
 HasNoComma entry = All (λ c. (c == 44) ≡ false) entry
 

@@ -1,4 +1,4 @@
--- Places that are sorted, each once: they are the candidates that stand in a list, in their order.
+-- Places that are sorted, each once: they are the candidates that are in a list, in their order.
 use Rattle.std.proofs.Common.{◌≡◌, ◌∙◌, ap, sym, refl, ℕ, zero, suc, ◌+◌, ◌<◌, ◌≤◌, Bool, true, false, nat_eq, List, [], ◌∷◌, ◌++◌, length, get_or, drop, drop-cons, map, filter, codes, All, Contains, ℤ, pos, negsuc, arith}
 use Rattle.std.proofs.lemmas.Bool.Decides.{nat_tests}
 use Rattle.std.proofs.lemmas.List.{map-append, drop_all}
@@ -18,7 +18,7 @@ use Rattle.cal_rules.proofs.Judging.{any_map}
 use Rattle.cal_rules.proofs.WholeRule.{ranges}
 use Rattle.cal_rules.proofs.Listed.{listed_hit, listed_end}
 
--- a number stands in a list
+-- a number is in a list
 abbrev pub has : List ℕ → ℕ → Bool
 has ps j = list_any (λ p. nat_eq p j) ps
 

@@ -42,7 +42,7 @@ passed_over p day n ahead ascend last some low high none =
     ne_eqb (period % p.interval) (period_of p.frequency p.week_start p.start % p.interval)
     (λ e. none (period - here) (omega arith) (same ∙ e))
 
--- a period that is no multiple of the interval away
+-- a period that isn't a multiple of the interval away
 pub out_of_step : (p : Pattern) (n ahead : ℕ) → PeriodsAscend → PeriodsLast → 1 ≤ ahead → ((j : ℕ) → j < ahead → (period_of p.frequency p.week_start n % p.interval + j) % p.interval ≡ period_of p.frequency p.week_start p.start % p.interval → ⊥) → is_in_step p n ≡ false
 out_of_step p n ahead ascend last some none =
     passed_over p n n ahead ascend last some (omega arith) (omega arith) none

@@ -1,4 +1,4 @@
--- Parts that are taken one after the other, and the least fault of them.
+-- Parts that are taken one after another, and the least fault of them.
 use Rattle.std.proofs.Common.{◌≡◌, ◌∙◌, ap, sym, refl, subst, ℕ, ◌+◌, ◌<◌, ◌≤◌, true, false, is_some, inl, inr, List, [], ◌∷◌, ◌++◌, length, map, All, Contains, Option, None, Some, Result, Err, option_map, option_to_list, IfSome, IfNone, IfOk, MatchOption, append_assoc, append-nil, length-append, arith}
 use Rattle.std.proofs.lemmas.List.Elements.{All-nil, All-push, Contains-append_left, Contains-append_right, filter_map-append}
 use Rattle.std.specs.Option.{unwrap_or, ok_or}
@@ -18,25 +18,25 @@ use Rattle.cal_rules.proofs.Parted.{one_name, good_part, known_part, known_bad}
 
 -- ---- the values of one name
 
--- those with one part more
+-- those with one more part
 values_more : (name : Option RuleKey) (parts : List (List ℕ)) (part : List ℕ) (given : Option (List ℕ)) → after_key (word name) part ≡ given → values_in name (parts ++ part ∷ []) ≡ values_in name parts ++ option_to_list given
 values_more name parts part None e = filter_map-append (after_key (word name)) parts (part ∷ []) ∙ ap (λ l. values_in name parts ++ l) (rw e refl)
 values_more name parts part (Some value) e = filter_map-append (after_key (word name)) parts (part ∷ []) ∙ ap (λ l. values_in name parts ++ l) (rw e refl)
 
--- an empty field: the name stands nowhere
+-- an empty field: the name occurs nowhere
 pub no_values : {A : Type 0} (Is : List ℕ → A → Type 0) (values : List (List ℕ)) (o : Option A) → SaysOr (IsGiven Is) None values o → o ≡ None → values ≡ []
 no_values Is [] o s e = refl
 no_values Is (v ∷ []) None s e = absurd s
 no_values Is (v ∷ []) (Some x) s e = cc
 no_values Is (v ∷ w ∷ vs) o s e = absurd s
 
--- a filled one: it stands somewhere
+-- a filled one: it occurs somewhere
 some_values : {A : Type 0} (Is : List ℕ → A → Type 0) (values : List (List ℕ)) (o : Option A) → SaysOr (IsGiven Is) None values o → is_some o ≡ true → 0 < length values
 some_values Is [] o s e = let wrong : false ≡ true = ap is_some (sym s) ∙ e in cc
 some_values Is (v ∷ []) o s e = omega arith
 some_values Is (v ∷ w ∷ vs) o s e = omega arith
 
--- ---- one part more
+-- ---- one more part
 
 -- the other fields are as before
 abbrev pub AgreeBut : Option RuleKey → rust.Parts → rust.Parts → Type 0
@@ -83,7 +83,7 @@ module _ (name : Option RuleKey) (part value : List ℕ) (old new : rust.Parts) 
             subst (λ (n : Option RuleKey). SaysOr (IsGiven (Spells n)) None (values_in n (parts ++ part ∷ [])) (field n new)) (sym same) (says_here x parts is before after says)
       ] refl
 
-  -- a filled field: the name stands twice now
+  -- a filled field: the name occurs twice now
   twice_now : (parts : List (List ℕ)) → is_some (field name old) ≡ true → SayParts parts old → HaveOneTwice (parts ++ part ∷ [])
   twice_now parts filled says =
       let one = some_values (Spells name) (values_in name parts) (field name old) (says name) filled in
@@ -226,7 +226,7 @@ says_all text p t says f i c u w m d e s = record {
 pub next_part : (all done left rest : List (List ℕ)) (part : List ℕ) → all ≡ done ++ left → left ≡ part ∷ rest → all ≡ (done ++ part ∷ []) ++ rest
 next_part all done left rest part h s = h ∙ ap (λ l. done ++ l) s ∙ sym (append_assoc done (part ∷ []) rest)
 
--- it stands in the text
+-- it is in the text
 pub next_there : (all done left rest : List (List ℕ)) (part : List ℕ) → all ≡ done ++ left → left ≡ part ∷ rest → Contains all part
 next_there all done left rest part h s =
     let e : all ≡ done ++ part ∷ rest = h ∙ ap (λ l. done ++ l) s in rw e (Contains-append_right done (part ∷ rest) part (0, omega arith, refl))

@@ -5,7 +5,7 @@ use Rattle.cal_days.proofs.Dates.{Named, named, date_counts, in_month, in_year, 
 use Rattle.cal_rules.specs.declared.facts.DayFacts.{DayFacts}
 use Rattle.cal_rules.specs.Known.{AreFacts}
 
--- how far a day can lie in its week, its month and its year
+-- how far a day can be in its week, its month and its year
 pub record Ranges (n : ℕ) : Type 0 where
   pub weekday : weekday_of n < 7
   pub month_before : month_days_before n ≤ 30

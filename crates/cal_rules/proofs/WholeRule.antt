@@ -65,7 +65,7 @@ until_clean text (UntilDay number) s = date_clean text number s
 until_clean text (UntilLocal seconds) s = local_clean text seconds s
 until_clean text (UntilInstant instant) (local, s, e) = rw e (lacks_append 59 local (codes "Z") (local_clean local instant s) refl)
 
--- ---- one part more
+-- ---- one more part
 
 onto_append : (x : ℕ) (parts others : List (List ℕ)) → 0 < length parts → onto_first x (parts ++ others) ≡ onto_first x parts ++ others
 onto_append x [] others h = absurd (omega arith)

@@ -1,4 +1,4 @@
--- The days of a rule but for COUNT, and where COUNT ends.
+-- The days of a rule apart from COUNT, and where COUNT ends.
 use Rattle.std.specs.Prelude.{◌≡◌, ℕ, ◌<◌, ◌≤◌, Bool, true, false, ◌&&◌, nat_le}
 use Rattle.profile.specs.series.Rules.{Pattern, Parts, is_base, is_placed, is_counted, is_rule_day}
 
@@ -17,7 +17,7 @@ pub record IsFirstIn (test : ℕ → Bool) (from end day : ℕ) : Type 0 where
 abbrev pub is_chosen : Pattern → ℕ → Bool
 is_chosen p n = is_base p n && is_placed p n
 
--- no rule day but for COUNT from a day on
+-- no rule day apart from COUNT from a day on
 abbrev pub NoneFrom : Parts → ℕ → Type 0
 NoneFrom r from = (n : ℕ) → from ≤ n → is_counted r n ≡ false
 

@@ -1,4 +1,4 @@
--- Where a listing of the days of a rule stands.
+-- Where a listing of the days of a rule is.
 use Rattle.std.specs.Prelude.{◌≡◌, ℕ, ◌-◌, ◌<◌, ◌≤◌, Bool, true, false, nat_lt, ℤ, pos, negsuc}
 use Rattle.std.specs.List.{list_any}
 use Rattle.profile.specs.series.Rules.{Pattern, Parts, passes, count_days, is_in_step, is_missing}
@@ -12,13 +12,13 @@ abbrev pub is_from_first : ℤ → Bool
 is_from_first (pos _) = true
 is_from_first (negsuc _) = false
 
--- a set position lies among so many last ones
+-- a set position is among this many last ones
 abbrev pub is_among_last : ℕ → ℤ → Bool
 is_among_last depth (pos _) = false
 is_among_last depth (negsuc n) = nat_lt n depth
 
--- the days are those of the period of the day, which is in step; where BYSETPOS is written, so many of them pass each part from
--- the day on, and at least so many before it: exactly so many, where a set position counts from the first day
+-- the days are those of the period of the day, which is in step; where BYSETPOS is written, this many of them pass each part from
+-- the day on, and at least this many before it: exactly this many, where a set position counts from the first day
 pub record IsInside (p : Pattern) (c : Cursor) : Type 0 where
   pub facts : AreFacts c.day
   pub period : IsSpan p.frequency p.week_start c.day.index c.span.first c.span.end
@@ -27,17 +27,17 @@ pub record IsInside (p : Pattern) (c : Cursor) : Type 0 where
   pub exact : list_any is_from_first p.positions ≡ true → c.earlier ≡ count_days (passes p) c.span.first (c.day.index - c.span.first)
   pub later : is_missing p.positions ≡ false → c.later ≡ count_days (passes p) c.day.index (c.span.end - c.day.index)
 
--- it stands in its period, or where that ends
+-- it is in its period, or where that ends
 pub record StandsAt (p : Pattern) (c : Cursor) : Type 0 where
   pub range : (366 ≤ c.day.index) × (c.day.index ≤ c.span.end) × (c.span.end ≤ 3_653_155)
   pub inside : c.day.index < c.span.end → IsInside p c
 
--- it stands after the first base day with a set position from one day on and before another
+-- it is after the first base day with a set position from one day on and before another
 pub record IsPastFirst (p : Pattern) (from end : ℕ) (c : Cursor) : Type 0 where
   pub stands : StandsAt p c
   pub first : IsFirstIn (is_chosen p) from end (c.day.index - 1)
 
--- it stands after the least rule day but for COUNT from a day on
+-- it is after the least rule day apart from COUNT from a day on
 pub record IsPastNext (r : Parts) (from : ℕ) (c : Cursor) : Type 0 where
   pub stands : StandsAt r.pattern c
   pub next : IsNextCounted r from (c.day.index - 1)

@@ -71,11 +71,11 @@ values_in name parts = filter_map (after_key (word name)) parts
 abbrev pub SayParts : List (List ℕ) → rust.Parts → Type 0
 SayParts parts p = (name : Option RuleKey) → SaysOr (IsGiven (Spells name)) None (values_in name parts) (field name p)
 
--- one of them stands twice
+-- one of them occurs twice
 abbrev pub HaveOneTwice : List (List ℕ) → Type 0
 HaveOneTwice parts = (name : Option RuleKey) × (1 < length (values_in name parts))
 
--- the least fault that stands in them, and the fields where there is none
+-- the least fault that they have, and the fields where there is none
 abbrev pub Keeps : List (List ℕ) → rust.Parts → Option Refusal → Type 0
 Keeps parts p None = All HasNoBadValue parts × SayParts parts p
 Keeps parts p (Some fault) =

@@ -1,4 +1,4 @@
--- What the types stand for.
+-- What the types represent.
 use Rattle.std.specs.Prelude.{ℕ, map, option_map}
 use Rattle.cal_days.specs.Views.{frequency_of}
 use Rattle.cal_rules.specs.declared.written.WeekdayNumber as rust_entry

@@ -1,4 +1,4 @@
-//! Where a listing of the days of a rule stands: a day of a period, and what is known of it.
+//! Where a listing of the days of a rule is: a day of a period, and what is known of it.
 
 ghost use Rattle.std.specs.Prelude.{◌≡◌, ◌+◌, ◌<◌, ◌≤◌, ◌↔◌, IsTrue, max};
 ghost use Rattle.profile.specs.series.Rules.{Pattern};
@@ -55,7 +55,7 @@ impl Cursor {
         self
     }
 
-    /// Does the day before it lie after that one?
+    /// Is the day before it after that one?
     pub fn is_past(self, last: u32) -> bool
         requires { last ≤ 3_652_424 }
         ensures { IsTrue result ↔ last + 1 < self.day.index }

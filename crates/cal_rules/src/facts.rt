@@ -52,7 +52,7 @@ impl DayFacts {
         Day::at_index(self.index).unwrap()
     }
 
-    /// Those of the day after it; where that is the end, its index alone.
+    /// Those of the day after it; where that is the end, only its index.
     pub fn tomorrow(self, end: u32) -> DayFacts
         requires facts { AreFacts self }
         requires range { (366 ≤ self.index) × (self.index < end) × (end ≤ 3_653_155) }

@@ -1,4 +1,4 @@
-//! The days of a rule but for COUNT, one after the other, and where COUNT ends (RFC 5545 3.3.10). One period is looked up
+//! The days of a rule apart from COUNT, one after another, and where COUNT ends (RFC 5545 3.3.10). One period is looked up
 //! and counted at a time. Where all set positions count from its end, only so many of its last days can have one: the
 //! listing enters the period there, and looks at no day before (BYSETPOS).
 
@@ -31,8 +31,8 @@ fn shortest(written: &Written) -> u32
     }
 }
 
-/// How many periods after that of a day the next one is that lies a multiple of INTERVAL from that
-/// of DTSTART: 0 where its own does.
+/// How many periods after that of a day is the next one that is a multiple of INTERVAL from that
+/// of DTSTART: 0 where its own is.
 fn periods_to_step(written: &Written, start: DayFacts, day: Day) -> u32
     requires interval { 1 ≤ written.now.interval }
     requires start { AreFacts start }
@@ -51,7 +51,7 @@ fn periods_to_step(written: &Written, start: DayFacts, day: Day) -> u32
     periods_ahead(interval, here, there)
 }
 
-/// From where to look further after that period, where the next one in step is so many periods after
+/// From where to look further after that period, where the next one in step is this many periods after
 /// it. No period is shorter than the shortest.
 fn beyond(written: &Written, span: PeriodDays, ahead: u32) -> u32
     requires span { span.end ≤ 3_652_790 }
@@ -73,7 +73,7 @@ fn first_chosen(written: &Written, start: DayFacts, from: u32, last: u32) -> Opt
     ensures { let p = pattern_of written.now start.index in
         MatchOption result (NoneIn (is_chosen p) from (last + 1)) (IsPastFirst p from (last + 1)) }
 {
-    // For the proof alone: no period is shorter than the shortest, and later days are in no earlier one.
+    // Only for the proof: no period is shorter than the shortest, and later days are in no earlier one.
     cal_days::periods_grow();
     let mut index = from;
     while index <= last {
@@ -110,7 +110,7 @@ fn next_chosen(written: &Written, start: DayFacts, from: Cursor, last: u32) -> O
     Some(after)
 }
 
-/// Is this a rule day but for COUNT?
+/// Is this a rule day apart from COUNT?
 #[tactic(auto, using(std::proofs::lemmas::Bool::Decides::nat_tests), unfolding(profile::specs::series::Rules::is_counted))]
 pub(crate) fn is_counted(written: &Written, start: DayFacts, last: Day, day: Day) -> bool
     requires interval { 1 ≤ written.now.interval }
@@ -134,7 +134,7 @@ fn is_chosen(written: &Written, start: DayFacts, index: u32) -> bool
     first_chosen(written, start, index, index).is_some()
 }
 
-/// The cursor after the least rule day but for COUNT, from that cursor on.
+/// The cursor after the least rule day apart from COUNT, from that cursor on.
 pub(crate) fn next_counted(
     written: &Written,
     start: DayFacts,
@@ -320,7 +320,7 @@ fn first_in_period(
     go_on(written, start, cursor)
 }
 
-/// The cursor at the latest day, from that one on, from which so many days of the period pass each part; at that day
+/// The cursor at the latest day, from that one on, from which this many days of the period pass each part; at that day
 /// itself, where fewer do.
 fn enter_from_end(
     written: &Written,
@@ -357,7 +357,7 @@ fn enter_from_end(
     }
 }
 
-/// Among how many last ones all the positions lie. None where one counts from the first day, and where there is none;
+/// Among how many last ones all the positions are. None where one counts from the first day, and where there is none;
 /// then the whole period is counted, which is always right and takes longer.
 fn depth_from_end(positions: &[i16]) -> Option<u32>
     ensures { IfSome result (λ depth. list_all (is_among_last depth) positions.now ≡ true) }
@@ -373,7 +373,7 @@ fn depth_from_end(positions: &[i16]) -> Option<u32>
     Some(depth)
 }
 
-/// Do all the positions?
+/// Are all the positions among this many last ones?
 fn are_among_last(depth: u32, positions: &[i16]) -> bool
     ensures { result ≡ list_all (is_among_last depth) positions.now }
 {

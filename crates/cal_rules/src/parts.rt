@@ -1,4 +1,4 @@
-//! The parts of a rule's text, taken one after the other (RFC 5545 3.3.10). An unknown part ends the reading at once: no
+//! The parts of a rule's text, taken one after another (RFC 5545 3.3.10). An unknown part ends the reading at once: no
 //! fault is less. Of the other faults the least so far is kept, since a later part may have a lesser one.
 
 ghost use Rattle.std.specs.Prelude.{◌≡◌, ℕ, List, [], ◌∷◌, ◌++◌, None, Some, IfOk, IfErr, OnOk, MatchOption};
@@ -28,7 +28,7 @@ pub(crate) struct Parts {
     month_days: Option<Vec<i16>>,
     weekdays: Option<Vec<WeekdayNumber>>,
     positions: Option<Vec<i16>>,
-    /// The least fault so far: a bad value, or else a part that stands twice.
+    /// The least fault so far: a bad value, or else a part that occurs twice.
     fault: Option<Refusal>,
 }
 
@@ -67,7 +67,7 @@ impl Parts {
         Ok(())
     }
 
-    /// Enters what the part says. Gives its fault: a bad value (31), or a part that stood before (32). Refused: an
+    /// Enters what the part says. Gives its fault: a bad value (31), or a part that occurred before (32). Refused: an
     /// unknown part (30).
     fn enter(&mut self, alloc: Global, part: &str) -> Result<Option<Refusal>, Fault>
         ensures enters { IfOk result

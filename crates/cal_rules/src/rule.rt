@@ -142,7 +142,7 @@ impl Rule {
         self.written.interval
     }
 
-    /// WKST, 0 for Monday, which it is where it isn't written.
+    /// WKST, 0 for Monday, which is the default.
     pub fn week_start(&self) -> u8
         ensures { result ≡ self.now.pattern.week_start }
     {
@@ -206,7 +206,7 @@ impl Rule {
     }
 
     /// Appends the text of the rule in its one form (RFC 5545 3.3.10), as `RuleText::write` does: `until`, a UTC date-time or a date,
-    /// takes the place of an UNTIL that the rule has. Without memory nothing is appended.
+    /// takes the place of an UNTIL that the rule has. Where memory is refused, nothing is appended.
     pub fn write(&self, until: Option<&str>, out: &mut Vec<u8>) -> Result<(), AllocError>
         ensures ok { OnOk result (out.new.items ≡ out.old.items
             ++ texts.rule_text (text_in self.now) (option_map (λ text. text.now) until.entry)) }

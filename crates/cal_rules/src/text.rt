@@ -35,7 +35,7 @@ impl Model for RuleText {
 
 impl RuleText {
     /// Reads the text of an RRULE. Refused are, the least number that applies: a part that is unknown or
-    /// left out (30), a value that is bad or out of range (31), parts that don't go together, a part
+    /// not supported (30), a value that is bad or out of range (31), parts that don't go together, a part
     /// twice or no FREQ (32), COUNT beside UNTIL (33).
     pub fn read(alloc: Global, text: &str) -> Result<RuleText, Fault>
         ensures reads { IfOk result (λ rule. SpellsRule text.now rule) }
@@ -63,7 +63,7 @@ impl RuleText {
         self.written.interval
     }
 
-    /// WKST, 0 for Monday, which it is where it isn't written.
+    /// WKST, 0 for Monday, which is the default.
     pub fn week_start(&self) -> u8
         ensures { result ≡ self.now.week_start }
     {
@@ -113,8 +113,8 @@ impl RuleText {
     }
 
     /// Appends FREQ, COUNT or UNTIL, INTERVAL unless 1, BYMONTH, BYMONTHDAY, BYDAY, BYSETPOS, WKST unless
-    /// MO; lists ascend, with each entry once, and BYDAY goes by its numbers, then from Monday on.
-    /// `until`, a UTC date-time or a date, takes the place of an UNTIL that the rule has. Without memory
+    /// MO; lists ascend, with each entry once, and BYDAY is sorted by its numbers, then from Monday on.
+    /// `until`, a UTC date-time or a date, takes the place of an UNTIL that the rule has. Where memory is refused,
     /// nothing is appended.
     pub fn write(&self, until: Option<&str>, out: &mut Vec<u8>) -> Result<(), AllocError>
         ensures ok { OnOk result
@@ -126,7 +126,7 @@ impl RuleText {
     }
 }
 
-/// A text spells at most one rule, and none where a fault stands in it. With the contract of `RuleText::read`: what
+/// A text spells at most one rule, and none where it has a fault. With the contract of `RuleText::read`: what
 /// is taken is the one rule that the text spells, and what is refused spells none.
 pub fn one_rule()
     ensures reading { (text : List ℕ) (a b : rules.RuleText) → SpellsRule text a → SpellsRule text b → a ≡ b }

@@ -18,7 +18,7 @@ use std::alloc::{AllocError, Global};
 /// The most entries of a list.
 const MOST: usize = 366;
 
-/// The frequency of a word; those of less than a day are left out here.
+/// The frequency of a word; those of less than a day aren't supported.
 pub(crate) fn read_frequency(value: &str) -> Option<Frequency>
     ensures reads { IfSome result (λ f. SpellsFrequency value.now (frequency_of f)) }
     ensures none { IfNone result (SpellsNone SpellsFrequency value.now) }
@@ -148,7 +148,7 @@ pub(crate) fn read_until(value: &str) -> Option<Until>
     Some(Until::Date(day))
 }
 
-/// The values of a list, each as `read` takes it. None where it takes one of them for none, or where they are too many.
+/// The values of a list, each as `read` takes it. None where it refuses one of them, or where they are too many.
 fn read_list<T: Drop, F: Fn(&str) -> Option<T> + Drop>(
     alloc: Global,
     list: &str,

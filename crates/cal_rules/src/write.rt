@@ -52,7 +52,7 @@ fn push_count(text: &mut String, count: Option<u32>) -> Result<(), AllocError>
     Ok(())
 }
 
-/// Appends UNTIL, where it is written, as it was handed in.
+/// Appends UNTIL, where it is written, as it was given.
 fn push_until(text: &mut String, end: Option<Until>, until: Option<&str>) -> Result<(), AllocError>
     ensures { OnOk result
         (string_bytes text.new ≡ string_bytes text.old
@@ -316,7 +316,7 @@ pub fn values_read_back()
 {}
 
 /// What is written of a rule spells that rule, with its lists in order, each entry once, and with the end that was
-/// handed in. With the contracts of `RuleText::write` and `RuleText::read`: what was written is read as that rule.
+/// given. With the contracts of `RuleText::write` and `RuleText::read`: what was written is read as that rule.
 pub fn rule_reads_back()
     ensures { (rule : rules.RuleText) (until : Option (List ℕ)) (end : Option rules.Until)
         → rules.IsAllowed rule

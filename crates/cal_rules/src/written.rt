@@ -215,21 +215,21 @@ impl Written {
     }
 }
 
-/// Has no entry a number?
+/// Are all entries without a number?
 fn all_plain(entries: &[WeekdayNumber]) -> bool
     ensures { result ≡ list_all (λ entry. is_plain (entry_of entry).number) entries.now }
 {
     entries.iter().all(|entry| entry.number == 0)
 }
 
-/// Has no entry a number?
+/// Are all entries without a number?
 fn are_plain(entries: &[WeekdayNumber]) -> bool
     ensures { result ≡ list_all (λ entry. is_plain entry.number) (map entry_of entries.now) }
 {
     all_plain(entries)
 }
 
-/// Is a day with so many before it and so many after it the `k`th, or where `k` is negative the
+/// Is a day with this many before it and this many after it the `k`th, or where `k` is negative the
 /// `-k`th from the end?
 fn is_nth(k: i16, before: u32, after: u32) -> bool
     ensures { result ≡ is_nth k before after }
@@ -240,7 +240,7 @@ fn is_nth(k: i16, before: u32, after: u32) -> bool
     k > 0 && (k - 1) as u32 == before
 }
 
-/// Does one of the numbers name the day with so many before it and so many after it?
+/// Does one of the numbers name the day with this many before it and this many after it?
 fn any_nth(numbers: &[i16], before: u32, after: u32) -> bool
     ensures { result ≡ list_any (λ k. is_nth k before after) numbers.now }
 {
@@ -261,7 +261,7 @@ pub(crate) fn allows_nth(numbers: &[i16], before: u32, after: u32) -> bool
     numbers.is_empty() || any_nth(numbers, before, after)
 }
 
-/// Does the entry of BYDAY name a day of that weekday, with so many of them before it and so many after
+/// Does the entry of BYDAY name a day of that weekday, with this many of them before it and this many after
 /// it?
 fn names_weekday(entry: WeekdayNumber, weekday: u8, before: u32, after: u32) -> bool
     ensures { result ≡ names_weekday weekday before after (entry_of entry) }
@@ -285,7 +285,7 @@ fn allows_weekday(entries: &[WeekdayNumber], weekday: u8, before: u32, after: u3
     entries.is_empty() || any_weekday(entries, weekday, before, after)
 }
 
-/// How many days of its own weekday lie before the day and after it, in its year or in its month.
+/// How many days of its own weekday are before the day and after it, in its year or in its month.
 fn weekday_place(in_year: bool, day: DayFacts) -> (u32, u32)
     requires { AreFacts day }
     ensures before { result.0 ≡ same_weekdays_before in_year day.index }

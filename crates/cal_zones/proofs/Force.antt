@@ -20,7 +20,7 @@ one_offset Is instant p q u (Until x h e) (Until y k f) =
     let same : x.instant ≡ y.instant = omega (arith, signed_arith, k.least x h.listed, h.least y k.listed) in
     e ∙ (u.alike x y h.listed k.listed same).0 ∙ sym f
 
--- where the offset differs at two instants, an onset lies between them and sets it
+-- where the offset differs at two instants, an onset is between them and sets it
 pub record Between (Is : Onset → Type 0) (early late after : ℤ) : Type 0 where
   pub onset : Onset
   pub listed : Is onset

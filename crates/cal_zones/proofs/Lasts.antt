@@ -10,7 +10,7 @@ use Rattle.profile.specs.series.Zones.{Zone, Means, NoneFrom, local_time}
 use Rattle.cal_zones.proofs.Casts.{narrow, wide_offset}
 use Rattle.cal_zones.proofs.Zones.{AreSides, one_meaning}
 
--- no meaning lies before the one with the greatest offset
+-- no meaning is before the one with the greatest offset
 means_low : (z : Zone) (least greatest local t : ℤ) → AreSides z least greatest → Means z local t → local ≤ℤ (t +ℤ greatest)
 means_low z least greatest local t b (inl x) =
     let s = x.shown in

@@ -142,7 +142,7 @@ one_days month xs es (InWeek f v) (InWeek g w) h k y =
 month_most : (month : ℕ) → days_in_month 1 month ≤ 31
 month_most month = grind (arith, nat_tests)
 
--- where BYDAY doesn't stand
+-- where there is no BYDAY
 pub none_on_day : (xs : List ℤ) (es : List WeekdayNumber) → is_missing es ≡ true
     → ((day : ℕ) → 1 ≤ day → day ≤ 28 → are_only (λ x. int_eq x (pos day)) xs ≡ false) → NamesNone xs es
 none_on_day xs es m never month (OnDay d) h y =

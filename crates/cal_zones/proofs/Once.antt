@@ -1,4 +1,4 @@
--- What a zone's invariants say of what it stands for.
+-- What a zone's invariants say of what it represents.
 use Rattle.profile.specs.series.Zones.{IsZoneOnset}
 use Rattle.cal_zones.specs.Onsets.{observance_of}
 use Rattle.cal_zones.specs.Kinds.{kind_of, zone_of}

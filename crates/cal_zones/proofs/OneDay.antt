@@ -1,4 +1,4 @@
--- The one day a year of a rule: where it lies, and how it repeats.
+-- The one day a year of a rule: where it is, and how it repeats.
 use Rattle.std.proofs.Common.{◌≡◌, ◌∙◌, ap, sym, inl, inr, ℕ, zero, suc, ◌+◌, ◌-◌, ◌*◌, ◌/◌, ◌<◌, ◌≤◌, true, arith, ℤ, pos, ◌+ℤ◌, ◌-ℤ◌}
 use Rattle.std.proofs.lemmas.Bool.Decides.{nat_tests}
 use Rattle.std.proofs.lemmas.Bool.{cases_order, cases_lt}
@@ -26,7 +26,7 @@ yearly_month month (FromStart k w) h = (grind (arith, nat_tests), grind (arith, 
 yearly_month month (FromEnd k w) h = (grind (arith, nat_tests), grind (arith, nat_tests))
 yearly_month month (Week d w) h = (grind (arith, nat_tests), grind (arith, nat_tests))
 
--- the day lies in the month
+-- the day is in the month
 place_within : (month : ℕ) (days : MonthDays) (first length before : ℕ) → is_yearly month days ≡ true → 28 ≤ length → days_in_month 1 month ≤ length → IsPlace days first length before → before < length
 place_within month (Day d) first length before h long least place = grind (arith, nat_tests)
 place_within month (FromStart k w) first length before h long least place =
@@ -37,7 +37,7 @@ place_within month (Week d w) first length before h long least place =
     let end : d + 6 ≤ days_in_month 1 month = grind (arith, nat_tests) in
     omega (arith, place)
 
--- the day that lies there in that month of that year
+-- the day that is there in that month of that year
 pub placed_in : (r : Yearly) (year index length before : ℕ) → index ≡ days_before year r.month 1 → length ≡ days_in_month year r.month → IsPlace r.days index length before → IsDayOfYear r year (index + before)
 placed_in r year index length before i l place =
     let month = yearly_month r.month r.days r.yearly in
@@ -206,7 +206,7 @@ first_year_after r n early day l before h = record {
       ];
 }
 
--- a day of this year or of the year before lies near
+-- a day of this year or of the year before is near
 pub day_near : (r : Yearly) (n year day : ℕ) → IsDayOfYear r year day → year_of n ≤ year + 1 → n < day + 732
 day_near r n year day h near =
     let begins : year_start year ≤ day = rw h.in_year at (year_begins day) in
@@ -234,7 +234,7 @@ second_year r n late (inr (day, first, within, on)) l after =
       | inr ge ↦ ge
     ]
 
--- so many cycles of 400 years earlier one of them still lies before
+-- this many cycles of 400 years earlier one of them is still before
 pub earlier_cycles : (r : Yearly) (n cycles : ℕ) → cycles ≡ (n - 366) / 146_097 - 1 → HasEarlier r n → HasEarlier r (n - cycles * 146_097)
 earlier_cycles r n zero e h = let same : n - 0 * 146_097 ≡ n = omega arith in rw same h
 earlier_cycles r n (suc cycles) e h = inl (omega arith)

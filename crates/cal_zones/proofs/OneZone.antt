@@ -1,4 +1,4 @@
--- A VTIMEZONE says at most one zone, and none where a fault stands in it.
+-- A VTIMEZONE says at most one zone, and none where it has a fault.
 use Rattle.std.proofs.Common.{◌≡◌, ◌∙◌, ap, sym, refl, subst, inl, inr, ◌⊎◌, ℕ, zero, suc, ◌+◌, ◌<◌, Bool, true, false, cond, List, [], ◌∷◌, ◌++◌, ◌||◌, ◌%◌, length, map, filter, codes, arith, ℤ}
 use Rattle.std.specs.Prelude.{Option, Some, None, Contains, slice_index}
 use Rattle.std.specs.Str.{str_to_ascii_lowercase}
@@ -40,7 +40,7 @@ said_same : {V : Type 0} (R : List ℕ → V → Type 0) (name : List ℕ) (line
 said_same {V} R name lines v w f s t =
     same_both R f t.line v w (subst (λ (l : Option (List ℕ)). BothOrNeither R l (Some v)) (same_option s.line t.line (sym s.once ∙ t.once)) s.is) t.is
 
--- what the line that stands says
+-- what the line that is there says
 said_by : {V : Type 0} (R : List ℕ → V → Type 0) (name : List ℕ) (lines : Lines) (v : V) (line : List ℕ) → Says name true R lines (Some v) → Contains (lines_named name lines) line → R line v
 said_by {V} R name lines v line s c = subst (λ (o : Option (List ℕ)). BothOrNeither R o (Some v)) (only_line name lines s.line line s.once c) s.is
 

@@ -28,7 +28,7 @@ least_low low a b h k = elim (least_cases a b) [
   | inr e ↦ rw e.0 k
 ]
 
--- the bound itself is the least, where it stands
+-- the bound itself is the least, where it is there
 least_is : (low a b : ℤ) → low ≤ℤ a → low ≤ℤ b → (a ≡ low) ⊎ (b ≡ low) → least a b ≡ low
 least_is low a b h k (inl s) = elim (least_cases a b) [
   | inl e ↦ e.0 ∙ s

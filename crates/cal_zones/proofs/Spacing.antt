@@ -70,7 +70,7 @@ year_close n m h =
       | inr ge ↦ ge
     ]
 
--- onsets on days that lie far from each other, and the same 400 years later
+-- onsets on days that are far from each other, and the same 400 years later
 far_days : (n m s r : ℕ) (x y p q : ℤ) → x +ℤ p ≡ local_time n s → y +ℤ q ≡ local_time m r → s < 86_400 → r < 86_400 → IsOffset p → IsOffset q → (n + 4 < m) ⊎ (m + 4 < n) → 172_800 ≤ unsigned_abs (x -ℤ y)
 far_days n m s r x y p q e f g h i j (inl far) = let size = one_part (x -ℤ y) in omega (arith, signed_arith, i, j)
 far_days n m s r x y p q e f g h i j (inr far) = let size = one_part (x -ℤ y) in omega (arith, signed_arith, i, j)

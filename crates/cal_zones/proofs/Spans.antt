@@ -59,7 +59,7 @@ means_between z least greatest after before local k u b none h from to =
           (λ ge. ge);
     })
 
--- a sum that is cut off at the ends of a width is no greater, where a time past a clock's lies below it
+-- a sum that is cut off at the ends of a width is no greater, where a time past a clock's is below it
 below_sum : (from local sum : ℤ) → IsClockSeconds from → from ≤ℤ local → local <ℤ saturate_signed w64 sum → local <ℤ sum
 below_sum from local (pos n) f h k = omega (arith, signed_arith, f)
 below_sum from local (negsuc n) f h k = omega (arith, signed_arith, f)

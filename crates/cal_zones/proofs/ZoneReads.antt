@@ -77,7 +77,7 @@ record Back (name : List ℕ) (zone : Zone) (parts : Lines) : Type 0 where
   spelled : (depth : ℕ) → BodyT (suc depth) (named name ∷ []) (trees_list inside) (named name ∷ parts)
   says : SaysZone (tree (codes "VTIMEZONE") (named name ∷ []) inside) zone
 
--- what lines read back as that were written one behind another
+-- what lines read back as that were written one after another
 abbrev pub LinesBack : Type 0
 LinesBack = (lines : Lines) → list_all is_content lines ≡ true → logical_lines (flat_map folded lines) ≡ lines
 
@@ -103,7 +103,7 @@ two_back name zone own other parts a b w v r q e s = record {
   says = s;
 }
 
--- the day of a rule that was read stands in each year
+-- the day of a rule that was read is in each year
 each_year : (lines : Lines) (o : Observance) (s : SaysYearly lines o) → is_each_year s.each.month s.each.days ≡ true
 each_year lines o s = go s.rule.line s.rule.is
   where

@@ -207,7 +207,7 @@ means_late z least greatest local early late p q u b e f h differ j =
       | inr x ↦ inr (skipped z least greatest local early late p u b e f h differ (rw x at j))
     ]
 
--- a gap lies between the two offsets, so what it skips is read with the least
+-- a gap is between the two offsets, so what it skips is read with the least
 skipped_low : (z : Zone) (least greatest local t : ℤ) → AreSides z least greatest → IsSkipped z local t → t +ℤ least ≡ local
 skipped_low z least greatest local t b s =
     elim (b.sides s.onset s.listed) [

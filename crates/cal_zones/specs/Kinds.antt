@@ -1,4 +1,4 @@
--- What a zone stands for, and two numbers by their order.
+-- What a zone represents, and two numbers by their order.
 use Rattle.std.specs.Prelude.{◌≡◌, ◌⊎◌, ℤ, ◌≤ℤ◌}
 use Rattle.profile.specs.series.Zones.{Zone, Constant, Single, Pair}
 use Rattle.cal_zones.specs.Onsets.{observance_of}

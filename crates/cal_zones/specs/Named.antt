@@ -3,6 +3,6 @@ use Rattle.std.specs.Prelude.{◌≡◌, ℕ, true, List, ℤ}
 use Rattle.profile.specs.series.Rules.{WeekdayNumber}
 use Rattle.profile.specs.series.ZoneTexts.{MonthDays, names_days, is_each_year}
 
--- no day of a month alone that every year has
+-- no single day of a month that every year has
 abbrev pub NamesNone : List ℤ → List WeekdayNumber → Type 0
 NamesNone numbers entries = (month : ℕ) (days : MonthDays) → names_days days numbers entries ≡ true → is_each_year month days ≡ true → ⊥

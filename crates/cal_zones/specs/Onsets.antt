@@ -12,7 +12,7 @@ abbrev pub rule_of : ℕ → Option Yearly → Option Pattern
 rule_of day None = None
 rule_of day (Some r) = Some (pattern_of r.month r.days day)
 
--- what it stands for
+-- what it represents
 abbrev pub observance_of : rust.Observance → Observance
 observance_of o = record {
   day = o.day;
@@ -27,7 +27,7 @@ pub record IsFirstDayOf (o : Observance) (day : ℕ) : Type 0 where
   pub begins : begins_on o day ≡ true
   pub least : (other : ℕ) → begins_on o other ≡ true → day ≤ other
 
--- of the days of a rule, one onset a day, so many days after the first onset, the latest up to an instant
+-- of the days of a rule, one onset a day, this many days after the first onset, the latest up to an instant
 pub record IsLatestAfter (r : Yearly) (first_day : ℕ) (first instant result : ℤ) : Type 0 where
   pub day : ℕ
   pub on : IsOn r day

@@ -36,7 +36,7 @@ SomeTimesFault parts number = (part : List (List ℕ)) × Contains parts part ×
 abbrev pub StartFault : List ℕ → ℕ → Type 0
 StartFault line number = ((number ≡ 40) × IsFixedLine line) ⊎ ((number ≡ 11) × IsNoLocalLine line)
 
--- the property is missing, or stands twice
+-- the property is missing, or occurs twice
 abbrev pub IsNotOne : List ℕ → List (List ℕ) → Type 0
 IsNotOne name lines = IsMissing name lines ⊎ StandsTwice name lines
 

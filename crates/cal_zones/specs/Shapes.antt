@@ -6,7 +6,7 @@ use Rattle.profile.specs.series.ZoneTexts.{OnDay, InWeek, YearRule, is_each_year
 use Rattle.cal_zones.specs.declared.yearly.MonthDays.{MonthDays}
 use Rattle.cal_zones.specs.declared.yearly.MonthDays.TheVariants.{Day, FromStart, FromEnd, Week}
 
--- what they stand for
+-- what they represent
 abbrev pub days_of : MonthDays → written.MonthDays
 days_of (Day day) = OnDay day
 days_of (FromStart number weekday) = written.FromStart number weekday
@@ -21,7 +21,7 @@ rule_named month days = record { month = month; days = days_of days }
 abbrev pub is_yearly : ℕ → MonthDays → Bool
 is_yearly month days = is_each_year month (days_of days)
 
--- so many days of its month lie before the day, in a month of that length whose first day has that index
+-- this many days of its month are before the day, in a month of that length whose first day has that index
 abbrev pub IsPlace : MonthDays → ℕ → ℕ → ℕ → Type 0
 IsPlace (Day day) first length before = before + 1 ≡ day
 IsPlace (FromStart number weekday) first length before =

@@ -22,7 +22,7 @@ IsYearSpaced a b first second year =
 abbrev pub IsSpaced : Observance → Observance → Yearly → Yearly → ℕ → Type 0
 IsSpaced a b first second end = (year : ℕ) → 401 ≤ year → year < end → IsYearSpaced a b first second year
 
--- the onset of the one on a day and that of the other on a day lie closer
+-- the onset of the one on a day and that of the other on a day are closer
 abbrev pub AreNear : Observance → Observance → ℕ → ℕ → Type 0
 AreNear a b n m =
     (x : ℤ) × (y : ℤ) × (x +ℤ a.offset_from ≡ local_time n a.second) × (y +ℤ b.offset_from ≡ local_time m b.second)

@@ -27,6 +27,6 @@ pub record IsFirstDay (r : Yearly) (n day : ℕ) : Type 0 where
   pub from : n ≤ day
   pub least : (other : ℕ) → IsOn r other → n ≤ other → day ≤ other
 
--- one of them lies in the years from 1 on and not after the day, or the day lies after the year 1
+-- one of them is in the years from 1 on and not after the day, or the day is after the year 1
 abbrev pub HasEarlier : Yearly → ℕ → Type 0
 HasEarlier r n = (731 ≤ n) ⊎ ((day : ℕ) × (366 ≤ day) × (day ≤ n) × IsOn r day)

@@ -10,7 +10,7 @@ use crate::zone::Zone;
 use ical_values::LocalTime;
 
 /// The clocks of a zone. They remember a span of local times up to an onset, in which an instant is the local time less
-/// one offset: the days of a series that follow each other mostly lie in one.
+/// one offset: the days of a series that follow each other are mostly in one.
 #[derive(Clone, Copy)]
 pub struct Clock {
     zone: Zone,

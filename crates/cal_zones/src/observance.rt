@@ -7,7 +7,7 @@ use crate::yearly::Yearly;
 use cal_days::Day;
 use ical_values::{LocalTime, UtcOffset, seconds_at};
 
-/// The seconds by which the offsets of a zone differ at most.
+/// The greatest difference between the offsets of a zone, in seconds.
 const HALF_DAY: u32 = 43_200;
 
 /// STANDARD or DAYLIGHT of a VTIMEZONE.
@@ -153,7 +153,7 @@ impl Observance {
         }
     }
 
-    /// Do its offsets lie at most 12 hours apart?
+    /// Are its offsets at most 12 hours apart?
     pub(crate) fn is_near(&self) -> bool
         ensures { result ≡ true ↔ (unsigned_abs (self.now.offset_from -ℤ self.now.offset_to) ≤ 43_200) }
     {

@@ -19,7 +19,7 @@ fn are_all<T: PartialEq>(values: &[T], one: &T) -> bool
     values.iter().all(|value| value == one)
 }
 
-/// The one value of a list, in which it may stand more than once. None where two values stand there, or
+/// The one value of a list, in which it may occur more than once. None where there are two values, or
 /// none.
 fn only<T: Copy + PartialEq>(values: &[T]) -> Option<T>
     ensures found { IfSome result (λ one. are_only (λ value. T.eq value one) values.now ≡ true) }
@@ -40,7 +40,7 @@ fn is_of_seven(first: u8, number: i16) -> bool
     first <= number && number <= first + 6
 }
 
-/// Does that day of the month stand there?
+/// Is that day of the month in the list?
 fn has_day(numbers: &[i16], day: u8) -> bool
     ensures { result ≡ list_any (λ x. int_eq x (pos day)) numbers.now }
 {

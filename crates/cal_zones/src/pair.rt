@@ -8,7 +8,7 @@ use crate::observance::Observance;
 use crate::yearly::Yearly;
 use ical_lines::Refusal;
 
-/// The seconds that two onsets have between them at least.
+/// The least number of seconds between two onsets.
 const SPACING: u64 = 172_800;
 
 /// Two observances that follow each other.
@@ -31,7 +31,7 @@ impl Pair {
     ghost use Rattle.cal_zones.specs.Spans.{AreNoneBetween};
 
     /// The pair of two observances. Refused with 40 where one has no rule, else with 41 where each TZOFFSETFROM isn't the
-    /// other's TZOFFSETTO or they lie more than 12 hours apart, else with 42 where two onsets of their rules lie less than
+    /// other's TZOFFSETTO or they are more than 12 hours apart, else with 42 where two onsets of their rules are less than
     /// 172,800 seconds apart, in any year.
     pub(crate) fn new(standard: Observance, daylight: Observance) -> Result<Pair, Refusal>
         ensures standard { IfOk result (λ pair. pair.standard ≡ standard) }
@@ -55,7 +55,7 @@ impl Pair {
         Ok(Pair { standard, daylight })
     }
 
-    /// Does each TZOFFSETFROM equal the other's TZOFFSETTO, and do they lie at most 12 hours apart?
+    /// Does each TZOFFSETFROM equal the other's TZOFFSETTO, and are they at most 12 hours apart?
     fn are_matched(a: &Observance, b: &Observance) -> bool
         ensures yes { result ≡ true → AreMatched (pair_of a.now b.now) }
         ensures no { AreMatched (pair_of a.now b.now) → result ≡ true }
@@ -103,7 +103,7 @@ impl Pair {
     }
 }
 
-/// Do they in each year? The years repeat after 400, so these are looked at.
+/// Do their onsets keep apart in each year? The years repeat after 400, so these are looked at.
 pub(crate) fn is_spaced(a: &Observance, b: &Observance, first: Yearly, second: Yearly) -> bool
     ensures apart { result ≡ true → IsSpaced a.now b.now first second 801 }
     ensures near { result ≡ false → HasNear a.now b.now first second }

@@ -30,7 +30,7 @@ pub(crate) fn first_part<'c, 'a>(zone: &'c Component<'a>) -> Option<&'c Componen
     zone.children().iter().find(|child| is_part(child))
 }
 
-/// The one part, where there is one alone.
+/// The one part, where there is exactly one.
 pub(crate) fn only_part<'c, 'a>(zone: &'c Component<'a>) -> Option<&'c Component<'a>>
     ensures found { IfSome result (λ part. parts_of zone.now ≡ component_lines part.now ∷ []) }
     ensures none { IfNone result (length (parts_of zone.now) ≡ 1 → ⊥) }
@@ -47,7 +47,7 @@ pub(crate) fn only_part<'c, 'a>(zone: &'c Component<'a>) -> Option<&'c Component
     only
 }
 
-/// The one component of that name, where there is one alone.
+/// The one component of that name, where there is exactly one.
 pub(crate) fn only_named<'c, 'a>(zone: &'c Component<'a>, name: &str) -> Option<&'c Component<'a>>
     ensures found { IfSome result (λ part.
         parts_in (λ n. is_same_name n name.now) (component_children zone.now) ≡ component_lines part.now ∷ []) }
@@ -66,14 +66,14 @@ pub(crate) fn only_named<'c, 'a>(zone: &'c Component<'a>, name: &str) -> Option<
     found
 }
 
-/// Does a property stand there? Names are compared caseless.
+/// Is there such a property? Names are compared caseless.
 pub(crate) fn has_line(properties: &Properties<'_>, name: &str) -> bool
     ensures missing { result ≡ false → IsMissing name.now properties.now }
     ensures stands { result ≡ true → IsMissing name.now properties.now → ⊥ }
 {
     match properties.optional(name, Refusal::ZONE_SHAPE) {
         Ok(line) => line.is_some(),
-        // It stands there twice.
+        // It occurs twice.
         Err(_) => true,
     }
 }
@@ -88,7 +88,7 @@ fn is_date_time(line: Line<'_>) -> bool
     }
 }
 
-/// The local time of a line. Refused with 40 where it is in UTC or in a zone, with 11 where it is none.
+/// The local time of a line. Refused with 40 where it is in UTC or in a zone, with 11 where it isn't one.
 fn read_local(line: Line<'_>) -> Result<LocalTime, Refusal>
     ensures says { IfOk result (IsLocalLine (line_text line.entry)) }
     ensures stands { IfErr result (λ e. StartFault (line_text line.entry) e.number) }
@@ -106,7 +106,7 @@ fn read_local(line: Line<'_>) -> Result<LocalTime, Refusal>
     LocalTime::read(line.value())
 }
 
-/// The offset of that name. Refused with 40 where it is missing or stands twice, with 13 where it is none.
+/// The offset of that name. Refused with 40 where it is missing or occurs twice, with 13 where it isn't one.
 fn read_offset(properties: &Properties<'_>, name: &str) -> Result<UtcOffset, Refusal>
     ensures says { IfOk result (λ t. Says name.now true IsOffsetLine properties.now (Some t)) }
     ensures stands { IfErr result (λ e. OffsetFault name.now properties.now e.number) }
@@ -115,9 +115,9 @@ fn read_offset(properties: &Properties<'_>, name: &str) -> Result<UtcOffset, Ref
     UtcOffset::read(line.value())
 }
 
-/// The times of a part, as an observance without a rule. Refused with 40 where RDATE stands, where one of
-/// the three is missing or stands twice, or DTSTART is no local time without a zone; with 11 or 13 where a
-/// value is none.
+/// The times of a part, as an observance without a rule. Refused with 40 where there is an RDATE, where one of
+/// the three is missing or occurs twice, or DTSTART isn't a local time without a zone; with 11 or 13 where a
+/// value isn't one.
 pub(crate) fn read_times(properties: &Properties<'_>) -> Result<Observance, Refusal>
     ensures says { IfOk result (λ o. SaysTimes properties.now (observance_of o)) }
     ensures no_rule { IfOk result (λ o. o.rule ≡ None) }

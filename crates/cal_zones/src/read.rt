@@ -1,4 +1,4 @@
-//! Reading a VTIMEZONE (RFC 5545 3.6.5). Read are: parts that all say one offset; one part without a rule;
+//! Reading a VTIMEZONE (RFC 5545 3.6.5). It reads parts that all say one offset; one part without a rule;
 //! one STANDARD and one DAYLIGHT that each name one day of the year.
 
 ghost use Rattle.std.specs.Prelude.{◌≡◌, ℕ, List, true, false, length, Contains, None, Some, IfOk, IfErr};
@@ -25,7 +25,7 @@ use ical_values::local_time::one_local_time;
 use ical_values::offset::one_offset;
 use std::alloc::Global;
 
-/// A VTIMEZONE says at most one zone, and none where a fault stands in it. With the contract of `Zone::read`:
+/// A VTIMEZONE says at most one zone, and none where it has a fault. With the contract of `Zone::read`:
 /// what is read is the one zone that it says, and what is refused says none.
 pub fn one_zone()
     ensures one { (t : Tree) (a b : zones.Zone) → SaysZone t a → SaysZone t b → a ≡ b }
@@ -60,7 +60,7 @@ fn times_of(alloc: Global, part: &Component) -> Result<Observance, Fault>
     Ok(read_times(&properties)?)
 }
 
-/// Does a part say that offset alone? Refused where its times are wrong.
+/// Does a part say only that offset? Refused where its times are wrong.
 fn keeps(alloc: Global, part: &Component, offset: i32) -> Result<bool, Fault>
     ensures yes { IfOk result (λ b. b ≡ true → Keeps offset (component_lines part.now)) }
     ensures no { IfOk result (λ b. b ≡ false → Strays offset (component_lines part.now)) }
@@ -70,7 +70,7 @@ fn keeps(alloc: Global, part: &Component, offset: i32) -> Result<bool, Fault>
     Ok(times.offset_from == offset && times.offset_to == offset)
 }
 
-/// Do all parts say that offset alone? Refused where the times of one are wrong.
+/// Do all parts say only that offset? Refused where the times of one are wrong.
 fn all_keep(alloc: Global, zone: &Component, offset: i32) -> Result<bool, Fault>
     ensures yes { IfOk result (λ b. b ≡ true
         → (part : List (List ℕ)) → Contains (parts_of zone.now) part → Keeps offset part) }
@@ -100,7 +100,7 @@ fn read_changing(alloc: Global, zone: &Component) -> Result<Zone, Fault>
     }
 }
 
-/// The zone of one part. Refused with 40 where it has a rule, with 41 where its offsets lie over 12 hours
+/// The zone of one part. Refused with 40 where it has a rule, with 41 where its offsets are over 12 hours
 /// apart, and where its times are wrong.
 fn read_single(alloc: Global, part: &Component) -> Result<Zone, Fault>
     ensures says { IfOk result (λ z. SaysSingle (component_lines part.now) (zone_of z)) }
@@ -132,7 +132,7 @@ fn read_pair(alloc: Global, zone: &Component) -> Result<Zone, Fault>
     Ok(Zone::pair(first, second)?)
 }
 
-/// A part that begins on one day every year. Refused where its times are wrong, and with 40 where RRULE is missing, stands twice
+/// A part that begins on one day every year. Refused where its times are wrong, and with 40 where RRULE is missing, occurs twice
 /// or names no one day of the year.
 fn read_yearly(alloc: Global, part: &Component) -> Result<Observance, Fault>
     ensures says { IfOk result (λ o. SaysYearly (component_lines part.now) (observance_of o)) }
@@ -159,7 +159,7 @@ fn read_year(alloc: Global, text: &str) -> Result<Yearly, Fault>
     Ok(day_of_year(&rule).ok_or(Refusal::ZONE_SHAPE)?)
 }
 
-/// What is wrong with a rule is a shape that isn't read.
+/// What is wrong with a rule is a shape that isn't supported.
 fn shape_fault(fault: Fault) -> Fault
     ensures { IsShapeFault fault result }
 {

@@ -125,7 +125,7 @@ fn write_offset(out: &mut Vec<u8>, name: &str, seconds: i32) -> Result<(), Alloc
     Ok(())
 }
 
-/// FREQ and BYMONTH, and then BYMONTHDAY and BYDAY where they stand, each list ascending.
+/// FREQ and BYMONTH, and then BYMONTHDAY and BYDAY where the rule has them, each list ascending.
 fn rule_text(alloc: Global, rule: Yearly) -> Result<String, AllocError>
     ensures { IfOk result (λ text. string_bytes text ≡ year_text rule.month rule.days) }
 {
@@ -177,8 +177,8 @@ fn push_day(text: &mut String, day: u8) -> Result<(), AllocError>
 }
 
 /// What is written of a zone that may be read, as some VTIMEZONE says it, reads back: the octets read as lines, and these
-/// spell one VTIMEZONE of that name that says that zone (RFC 5545 3.1, 3.6.5). Owed is a name that a TEXT value can stand
-/// for. With the contracts of `Zone::write` and `Zone::read`: what was written is read as that zone.
+/// spell one VTIMEZONE of that name that says that zone (RFC 5545 3.1, 3.6.5). The name must be one that a TEXT value can
+/// represent. With the contracts of `Zone::write` and `Zone::read`: what was written is read as that zone.
 pub fn zone_reads_back()
     ensures { (t : Tree) (zone : zones.Zone) (name octets : List ℕ)
         → SaysZone t zone → IsTextName name → IsZoneText octets name zone → ReadsAsZone octets name zone }

@@ -47,7 +47,7 @@ impl Yearly {
         Some(Yearly { month, days })
     }
 
-    /// How many days of its month lie before the day, in a month of so many days that begins on the day
+    /// How many days of its month are before the day, in a month of this many days that begins on the day
     /// of index `first`.
     fn place(self, first: u32, length: u32) -> u32
         requires first { first ≤ 4_000_000 }

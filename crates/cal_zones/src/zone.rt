@@ -75,7 +75,7 @@ impl Zone {
     }
 
     /// The zone of one observance without a rule. Refused with 40 where it has one, else with 41 where its
-    /// offsets lie more than 12 hours apart.
+    /// offsets are more than 12 hours apart.
     pub fn single(observance: Observance) -> Result<Zone, Refusal>
         ensures ok { IfOk result (λ z. zone_of z ≡ Single (observance_of observance)) }
         ensures accepted { IfOk result (λ _. (observance.rule ≡ None)
@@ -95,8 +95,8 @@ impl Zone {
     }
 
     /// The zone of two observances. Refused with 40 where one has no rule, else with 41 where each
-    /// TZOFFSETFROM isn't the other's TZOFFSETTO or they lie more than 12 hours apart, else with 42 where two onsets
-    /// of their rules lie less than 172,800 seconds apart, in any year.
+    /// TZOFFSETFROM isn't the other's TZOFFSETTO or they are more than 12 hours apart, else with 42 where two onsets
+    /// of their rules are less than 172,800 seconds apart, in any year.
     pub fn pair(standard: Observance, daylight: Observance) -> Result<Zone, Refusal>
         ensures ok { IfOk result (λ z. zone_of z ≡ pair_of standard daylight) }
         ensures accepted { IfOk result (λ _. AreMatched (pair_of standard daylight) × AreSpaced (pair_of standard daylight)) }
@@ -110,9 +110,9 @@ impl Zone {
     }
 
     /// The zone that a VTIMEZONE says.
-    /// Refused: 40 for a shape that isn't read, as no part, RDATE, a DTSTART, TZOFFSETFROM or TZOFFSETTO that
-    /// is missing, stands twice or isn't local, or other rules; 11 and 13 for a DTSTART and an offset that are
-    /// none; 41 for offsets that don't match or lie over 12 hours apart; 42 for onsets less than two days
+    /// Refused: 40 for a shape that isn't supported, such as no part, RDATE, a DTSTART, TZOFFSETFROM or TZOFFSETTO that
+    /// is missing, occurs twice or isn't local, or other rules; 11 and 13 for a DTSTART and an offset that are
+    /// not valid; 41 for offsets that don't match or are over 12 hours apart; 42 for onsets less than two days
     /// apart.
     pub fn read(alloc: Global, zone: &Component) -> Result<Zone, Fault>
         ensures says { IfOk result (λ z. SaysZone (tree_of zone.now) (zone_of z)) }
@@ -150,7 +150,7 @@ impl Zone {
         ensures bounds { IsBounds (zone_of self.now) result.0 result.1 }
         ensures range { IsOffset result.0 × IsOffset result.1 }
     {
-        // For the proof alone: each is in force at a first onset, or before it.
+        // Only for the proof: each is in force at a first onset, or before it.
         let _ = self.first_onsets();
         self.ends()
     }
@@ -206,7 +206,7 @@ impl Zone {
             return early;
         }
         let late = seconds - least as i64;
-        // For the proof alone: the clocks show it then or skip it. It is read with the least offset in both cases.
+        // Only for the proof: the clocks show it then or skip it. It is read with the least offset in both cases.
         let _ = self.offset(late);
         late
     }
@@ -216,7 +216,7 @@ impl Zone {
         ensures offset { IsOneOffset (zone_of self.now) }
         ensures meaning { IsOneMeaning (zone_of self.now) }
     {
-        // For the proof alone: the two offsets.
+        // Only for the proof: the two offsets.
         let _ = self.ends();
     }
 
@@ -253,7 +253,7 @@ impl Zone {
     }
 
     /// Appends the VTIMEZONE of that name: its TZID, STANDARD, and DAYLIGHT where there are two parts. A part has
-    /// DTSTART, RRULE where it comes every year, TZOFFSETFROM and TZOFFSETTO. Without memory nothing is appended.
+    /// DTSTART, RRULE where it comes every year, TZOFFSETFROM and TZOFFSETTO. Where memory is refused, nothing is appended.
     pub fn write(&self, name: &str, out: &mut Vec<u8>) -> Result<(), AllocError>
         ensures ok { OnOk result (Appends out.old.items out.new.items (λ text. IsZoneText text name.now (zone_of self.now))) }
         ensures err { OnErr result (out.new.items ≡ out.old.items) }

@@ -143,7 +143,7 @@ key_there f all i None e w = absurd (false≢true (ap (λ r. is_some r) (e ∙ a
     some_of [] w = absurd (omega (arith, w))
     some_of (x ∷ xs) w = x
 
--- and that is what stands there
+-- and that is what is there
 pub held : {X : Type 0} (f : X → Booked) (all : List Booked) (i : ℕ) (o : Option X) (x : X) (a : Booked) → option_map f o ≡ slice_get all i → o ≡ Some x → i < length all → get_or all i a ≡ a → f x ≡ a
 held f all i o x a e is w at = same_Some (f x) a (sym (ap (option_map f) is) ∙ e ∙ slice_get-get_or all i a w ∙ ap Some at)
 
@@ -225,7 +225,7 @@ module _ (all : Confirmed) (singles : AreClear (Contains all.singles) (IsOneOf a
   all_clear a b t (inr x) (inl y) c = singles b a t y (inr x) (turned a b t c)
   all_clear a b t (inr x) (inr y) c = series_clear a b t x y c
 
--- where all are clear, a certificate of the counts stands
+-- where all are clear, a certificate of the counts holds
 pub stands : (all : Confirmed) (c : Claims) → IsClaims c → c.singles ≡ length all.singles → c.series ≡ length all.series → AreClear (IsOneOf all) (IsOneOf all)
     → CertificateStands all (text_of c)
 stands all c h singles series clear = record {

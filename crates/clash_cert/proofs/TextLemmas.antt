@@ -97,7 +97,7 @@ one_cut (c ∷ a) (d ∷ b) x y h k e =
 digit_free : (c : ℕ) → is_ascii_digit c ≡ true → not (c == 10) ≡ true
 digit_free c h = grind (arith, nat_tests)
 
--- and before it stands the same line
+-- and the same line comes before it
 pub one_line : (a b x y : List ℕ) → lf_free a ≡ true → lf_free b ≡ true → a ++ 10 ∷ x ≡ b ++ 10 ∷ y → a ≡ b
 one_line [] [] x y h k e = refl
 one_line [] (d ∷ b) x y h k e =
@@ -135,7 +135,7 @@ len_at (c ∷ a) rest h =
     let p = and_parts (not (c == 10)) (lf_free a) h in
     rw (p.0) (omega (arith, len_at a rest p.1))
 
--- the first LF stands after what has none
+-- the first LF comes after what has none
 pub position_at : (a rest : List ℕ) → lf_free a ≡ true → position (λ octet. octet == 10) (a ++ 10 ∷ rest) ≡ Some (length a)
 position_at a rest h =
     let e = len_at a rest h in
@@ -225,7 +225,7 @@ spelled_rest (l ∷ ls) rest = ap (λ t. l ++ 10 ∷ t) (spelled_rest ls rest) �
 
 -- ---- which line it is
 
--- how many LFs stand there
+-- how many LFs are there
 abbrev pub breaks : List ℕ → ℕ
 breaks octets = count_by (λ octet. octet == 10) octets
 
@@ -252,7 +252,7 @@ count_lines (l ∷ ls) h =
     let end : breaks (10 ∷ spelled ls []) ≡ 1 + breaks (spelled ls []) = first_break 10 (spelled ls []) in
     breaks-append l (10 ∷ spelled ls []) ∙ (ap (λ n. breaks l + n) end ∙ omega (arith, none, more))
 
--- behind so many lines the rest begins
+-- after this many lines the rest begins
 pub line_at : (text rest : List ℕ) (ls : List (List ℕ)) → AreLines ls → text ≡ spelled ls rest
     → breaks (take (length text - length rest) text) ≡ length ls
 line_at text rest ls h e =

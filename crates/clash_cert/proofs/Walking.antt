@@ -1,4 +1,4 @@
--- A walk through the lines of a text: those that stood at its front so far, and those that are left.
+-- A walk through the lines of a text: those that were at its front so far, and those that are left.
 use Rattle.std.proofs.Common.{◌≡◌, ◌∙◌, ℕ, zero, suc, ◌+◌, ◌-◌, ◌<◌, ◌≤◌, List, [], ◌∷◌, ◌++◌, length, take, append_assoc, append-nil, Result, Ok, Err, IsErrAnd, subst, sym, refl, ap, arith}
 use Rattle.std.specs.Prelude.{codes, decimal, MatchResult}
 use Rattle.std.proofs.lemmas.List.{length-take, take-append-le}
@@ -7,7 +7,7 @@ use Rattle.profile.specs.checker.Certificates.{Claims, pair_line, row_lines, pai
 use Rattle.clash_cert.specs.Texts.{LacksLine, MissesLine}
 use Rattle.clash_cert.proofs.TextLemmas.{spelled-append, spelled_rest}
 
--- of these lines those are left, and the others stood before the rest of the octets
+-- of these lines those are left, and the others came before the rest of the octets
 pub record IsAlong (lines left : List (List ℕ)) (bytes rest : List ℕ) : Type 0 where
   pub done : List (List ℕ)
   pub whole : lines ≡ done ++ left
@@ -131,7 +131,7 @@ text_put c out a b d e h k f g =
     six_pieces out a b d e (codes "ROOMCERT 1\nSINGLES ") (decimal c.singles) (codes "\nSERIES ") (decimal c.series) (codes "\n") (spelled pairs []) (codes "DONE\n") h k f g
     ∙ ap (λ t. out ++ (codes "ROOMCERT 1\nSINGLES " ++ (decimal c.singles ++ (codes "\nSERIES " ++ (decimal c.series ++ (codes "\n" ++ t)))))) (sym end)
 
--- what stood there stays
+-- what was there stays
 pub keeps_all : (old new more : List ℕ) → new ≡ old ++ more → take (length old) new ≡ old
 keeps_all old new more e = ap (take (length old)) e ∙ take-append_seam old more
 

@@ -27,12 +27,12 @@ unended : BeginsWell (codes "ROOMCERT 1\nSINGLES 1\nSERIES 0\nDONE") 3
 unfolding digits
 unended = record { c = record { singles = 1; series = 0 }; rest = codes "DONE"; claims = (lit< tt, lit< tt); within = lit≤ tt; is = refl }
 
--- what follows the last line is a line more
+-- what follows the last line is one more line
 more : BeginsWell (codes "ROOMCERT 1\nSINGLES 1\nSERIES 0\nDONE\n\n") 4
 unfolding digits
 more = record { c = record { singles = 1; series = 0 }; rest = 10 ∷ []; claims = (lit< tt, lit< tt); within = lit≤ tt; is = refl }
 
--- of two series: each beside itself, and the first beside the second
+-- of two series: each with itself, and the first with the second
 of_two : text_of (record { singles = 0; series = 2 }) ≡ codes "ROOMCERT 1\nSINGLES 0\nSERIES 2\nPAIR 1 1 END\nPAIR 1 2 END\nPAIR 2 2 END\nDONE\n"
 unfolding digits
 of_two = refl

@@ -75,7 +75,7 @@ headed text r s t n m e f g = record {
   is = e ∙ ap (λ l. codes "ROOMCERT 1" ++ 10 ∷ l) (f.1 ∙ ap (λ l. (codes "SINGLES " ++ decimal n) ++ 10 ∷ l) g.1);
 }
 
--- what `is_empty` tells of a text that is not
+-- what `is_empty` says about a text that is not
 pub some_from : (u : List ℕ) (b : Bool) → b ≡ (length u == 0) → b ≡ false → u ≢ []
 some_from u b e h f = true≢false (ap (λ (l : List ℕ). length l == 0) (sym f) ∙ sym e ∙ h)
 

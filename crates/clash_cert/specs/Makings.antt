@@ -36,7 +36,7 @@ pub record IsNamedClash (all : Confirmed) (clash : Clash) : Type 0 where
   pub less : booked_cmp a b ≡ Less
   pub later : clash.instant ≡ b.start
 
--- a certificate that stands for what is confirmed, else a clash of two
+-- a certificate that holds for what is confirmed, else a clash of two
 abbrev pub IsMadeFor : Confirmed → Made → Type 0
 IsMadeFor all (made.Clear c) = CertificateStands all (text_of c)
 IsMadeFor all (made.Clash clash) = IsNamedClash all clash

@@ -24,7 +24,7 @@ LacksLine line bytes = (rest : List ℕ) → bytes ≢ line ++ 10 ∷ rest
 abbrev pub LacksCount : List ℕ → List ℕ → Type 0
 LacksCount word bytes = (n : ℕ) (rest : List ℕ) → n < 2 ^ 64 → bytes ≢ (word ++ decimal n) ++ 10 ∷ rest
 
--- they are no number of 64 bits
+-- they aren't a number of 64 bits
 abbrev pub IsNoNumber : List ℕ → Type 0
 IsNoNumber digits = (n : ℕ) → n < 2 ^ 64 → digits ≢ decimal n
 
@@ -32,12 +32,12 @@ IsNoNumber digits = (n : ℕ) → n < 2 ^ 64 → digits ≢ decimal n
 abbrev pub LacksLf : List ℕ → Type 0
 LacksLf bytes = position (λ octet. octet == 10) bytes ≡ None
 
--- the first LF stands between the two parts
+-- the first LF is between the two parts
 pub record IsCutAtLf (bytes line rest : List ℕ) : Type 0 where
   pub at : position (λ octet. octet == 10) bytes ≡ Some (length line)
   pub parts : bytes ≡ line ++ 10 ∷ rest
 
--- of these lines some stand at the front of the octets, and then not the next one
+-- of these lines some are at the front of the octets, and then not the next one
 pub record MissesLine (lines : List (List ℕ)) (bytes rest : List ℕ) : Type 0 where
   pub front : List (List ℕ)
   pub line : List ℕ
@@ -46,7 +46,7 @@ pub record MissesLine (lines : List (List ℕ)) (bytes rest : List ℕ) : Type 0
   pub is : bytes ≡ spelled front rest
   pub lacks : LacksLine line rest
 
--- so it is, or all of them stand there, and something follows
+-- so it is, or all of them are there, and something follows
 abbrev pub IsBroken : List (List ℕ) → List ℕ → List ℕ → Type 0
 IsBroken lines bytes rest = MissesLine lines bytes rest ⊎ ((bytes ≡ spelled lines rest) × (rest ≢ []))
 

@@ -22,7 +22,7 @@ pub enum CertFault {
     Memory,
 }
 
-/// What a certificate says of two series, or of one beside itself.
+/// What a certificate says of two series, or of one by itself.
 #[derive(Clone, Copy, PartialEq, Eq)]
 pub enum Entry {
     /// No two of their instances share an instant before the horizon.
@@ -30,7 +30,7 @@ pub enum Entry {
 }
 
 /// What a certificate says: how many singles and how many series its calendar has, and an entry for each pair of series. As long as there
-/// is one entry alone, none has to be kept.
+/// is only one kind of entry, none has to be kept.
 #[derive(Clone, Copy)]
 pub struct Certificate {
     singles: u64,
@@ -77,7 +77,7 @@ impl Certificate {
         }
     }
 
-    /// Appends the certificate's text. Fails only for memory, and then `out` is unchanged.
+    /// Appends the certificate's text. Fails only when out of memory, and then `out` is unchanged.
     pub fn write(&self, out: &mut Vec<u8>) -> Result<(), AllocError>
         ensures ok { OnOk result (out.new.items ≡ out.old.items ++ text_of self.now) }
         ensures err { OnErr result (out.new.items ≡ out.old.items) }
@@ -118,7 +118,7 @@ pub fn first_wrong_line_is_one()
     ensures { (text : List ℕ) (m n : ℕ) → FirstWrong text m → FirstWrong text n → m ≡ n }
 {}
 
-/// Reads what follows the counts of a certificate of so many series: else gives what follows the lines that are right.
+/// Reads what follows the counts of a certificate of this many series: else gives what follows the lines that are right.
 fn read_entries(bytes: &[u8], series: u64) -> Result<(), &[u8]>
     ensures { (c : Claims) → c.series ≡ series
         → MatchResult result (λ _. bytes.now ≡ spelled (entry_lines c) []) (λ rest. IsBroken (entry_lines c) bytes.now rest.now) }
@@ -130,7 +130,7 @@ fn read_entries(bytes: &[u8], series: u64) -> Result<(), &[u8]>
     if left.is_empty() { Ok(()) } else { Err(left) }
 }
 
-/// What follows the lines of all pairs of so many series; else what follows those that are right.
+/// What follows the lines of all pairs of this many series; else what follows those that are right.
 fn after_pairs(bytes: &[u8], series: u64) -> Result<&[u8], &[u8]>
     ensures { (c : Claims) → MatchResult result (λ rest. bytes.now ≡ spelled (pair_lines c 1 series) rest.now) (λ rest. MissesLine (pair_lines c 1 series) bytes.now rest.now) }
 {
@@ -141,7 +141,7 @@ fn after_pairs(bytes: &[u8], series: u64) -> Result<&[u8], &[u8]>
     Ok(rest)
 }
 
-/// What follows the lines of series i beside itself and those after it; else what follows those that are right.
+/// What follows the lines of series i with itself and those after it; else what follows those that are right.
 fn after_row(bytes: &[u8], i: u64, series: u64) -> Result<&[u8], &[u8]>
     requires { (0 < i) × (i ≤ series) }
     ensures { (c : Claims) → MatchResult result (λ rest. bytes.now ≡ spelled (row_lines c i i (suc series - i)) rest.now)
@@ -222,7 +222,7 @@ fn cut_line(bytes: &[u8]) -> Option<(&[u8], &[u8])>
     Some((&bytes[..end], &bytes[end + 1..]))
 }
 
-/// Where the first LF stands.
+/// Where the first LF is.
 fn line_end(bytes: &[u8]) -> Option<usize>
     ensures { result ≡ position (λ octet. octet == 10) bytes.now }
 {
@@ -266,7 +266,7 @@ fn write_pairs(out: &mut Vec<u8>, series: u64) -> Result<(), AllocError>
     Ok(())
 }
 
-/// Appends the lines of series i beside itself and those after it. After an error `out` may have grown.
+/// Appends the lines of series i with itself and those after it. After an error `out` may have grown.
 fn write_row(out: &mut Vec<u8>, i: u64, series: u64) -> Result<(), AllocError>
     requires { (0 < i) × (i ≤ series) }
     ensures ok { OnOk result ((c : Claims) → out.new.items ≡ out.old.items ++ spelled (row_lines c i i (suc series - i)) []) }

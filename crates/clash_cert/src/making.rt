@@ -26,7 +26,7 @@ pub struct Clash {
 /// What making gives.
 #[derive(Drop)]
 pub enum Made {
-    /// No two confirmed instances share an instant; the certificate stands.
+    /// No two confirmed instances share an instant; the certificate holds.
     Clear(Certificate),
     /// Two of them do.
     Clash(Clash),
@@ -45,7 +45,7 @@ pub trait Confirmed {
     fn count_of_series(&self) -> u64
         ensures { result ≡ length (Self.confirmed self.now).series };
 
-    /// Two instances that share an instant, None where all are clear. It fails only for memory.
+    /// Two instances that share an instant, None where all are clear. It fails only when out of memory.
     fn clash(&self, alloc: Global) -> Result<Option<Clash>, AllocError>
         ensures clash { IfOk result (λ found. IfSome found (IsNamedClash (Self.confirmed self.now))) }
         ensures clear { IfOk result (λ found. IfNone found (AreClear (IsOneOf (Self.confirmed self.now)) (IsOneOf (Self.confirmed self.now)))) };
@@ -76,7 +76,7 @@ impl Confirmed for Calendar {
     }
 }
 
-/// A certificate that stands where what is confirmed is clear, else a clash. Fails only for memory.
+/// A certificate that holds where what is confirmed is clear, else a clash. Fails only when out of memory.
 pub fn make<C: Confirmed>(alloc: Global, confirmed: &C) -> Result<Made, AllocError>
     ensures made { IfOk result (IsMadeFor (C.confirmed confirmed.now)) }
     ensures clear { IfOk result (λ made. IsCertificate made ↔ AreClear (IsOneOf (C.confirmed confirmed.now)) (IsOneOf (C.confirmed confirmed.now))) }

@@ -47,7 +47,7 @@ module _ (all : List Booked) (key : Key) (place : ℕ) (o : Option Instance) (e 
             not (ap (λ (b : Booked). b.key) (sym (ap (λ n. get_or all n d) here ∙ get_or_from_slice_get all place (instance_of i) d at)) ∙ same)
       ]
 
-  -- no single stands there
+  -- no single is there
   pub none_there : NoneHas all key place → o ≡ None → NoneHas all key (place + 1)
   none_there none is k d w within same =
       elim (cases_lt k place) [

@@ -1,4 +1,4 @@
--- A verdict is yes exactly where the certificate stands.
+-- A verdict is yes exactly where the certificate holds.
 use Rattle.std.proofs.Common.{◌≡◌, ◌≢◌, ℕ, zero, suc, ◌+◌, ◌*◌, ◌-◌, ◌<◌, ◌≤◌, min, Bool, true, false, List, length, get_or, ◌⊎◌, sym, refl, ap, subst, ◌∙◌, inl, inr, arith}
 use Rattle.std.specs.Prelude.{◌↔◌, Result, Ok, Err, IfOk, Option, Some, None, is_some, not, Contains, MatchBool}
 use Rattle.std.specs.List.{slice_get}
@@ -28,7 +28,7 @@ use Rattle.clash_check.specs.Verdicts.{IsVerdict, IsNo, MakesFew, IsRefusedCalen
 no_is_not_yes : (why : Why) → No why ≡ Yes → ⊥
 no_is_not_yes why e = cc
 
--- none of the reasons holds of a certificate that stands
+-- none of the reasons holds of a certificate that holds
 fails : (all : Confirmed) (text : List ℕ) (claims : Claims) (number line second : ℕ) → ((d : Claims) → Spells text d → d ≡ claims)
     → ((second ≡ 0) × (IsWrongText text number line ⊎ IsWrongCount all text number line ⊎ HasClashes all text number line)) ⊎ HasFailingEntry all text number line second
     → CertificateStands all text → ⊥
@@ -73,7 +73,7 @@ OneText = (room octets : List ℕ) (a b : Confirmed) → SpellsCalendar room oct
 abbrev NoFault : Type 0
 NoFault = (room octets : List ℕ) (all : Confirmed) (n : ℕ) → SpellsCalendar room octets all → CalendarTextFault octets n → ⊥
 
--- the octets spell these instances and no others, so a certificate that holds stands for them
+-- the octets spell these instances and no others, so a certificate that holds for the octets holds for them
 pub holds_iff : OneText → (room calendar text : List ℕ) (all : Confirmed) {E : Type 0} (r : Result Checked E) → SpellsCalendar room calendar all
     → IfOk r (λ checked. (checked.verdict ≡ Yes) ↔ CertificateStands all text) → IfOk r (λ checked. (checked.verdict ≡ Yes) ↔ CertificateHolds room calendar text)
 holds_iff one room calendar text all (Ok checked) s h = (
@@ -82,12 +82,12 @@ holds_iff one room calendar text all (Ok checked) s h = (
 )
 holds_iff one room calendar text all (Err e) s h = h
 
--- no certificate holds for a calendar where a fault stands
+-- no certificate holds for a calendar that has a fault
 pub refused_iff : NoFault → (room calendar text : List ℕ) (n : ℕ) (v : Verdict) → CalendarTextFault calendar n → IsNo 80 0 0 v → (v ≡ Yes) ↔ CertificateHolds room calendar text
 refused_iff none room calendar text n Yes f h = absurd h
 refused_iff none room calendar text n (No why) f h = (λ e. absurd (no_is_not_yes why e), λ c. absurd (none room calendar c.confirmed n c.spells f))
 
--- ---- what a certificate that stands means
+-- ---- what a certificate that holds means
 
 pub standing_clear : (all : Confirmed) (text : List ℕ) → CertificateStands all text → AreClear (IsOneOf all) (IsOneOf all)
 standing_clear all text s =
@@ -99,7 +99,7 @@ standing_clear all text s =
 
 -- ---- the judgement of a certificate of the right counts
 
--- the entries stand where all pairs are clear
+-- the entries hold where all pairs are clear
 pub entries_stand : (all : Confirmed) (c : Claims) → HasCounts all c → ((p q : ℕ) → p ≤ q → q < length all.series → IsPairClear all.series p q) → EntriesStand all c
 entries_stand all c counts clear i j pair m n at_m at_n =
     clear (i - 1) (j - 1) (omega (arith, pair.0, pair.1)) (omega (arith, pair.0, pair.1, pair.2, counts.series)) m n at_m at_n

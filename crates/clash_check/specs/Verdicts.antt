@@ -13,7 +13,7 @@ use Rattle.clash_check.specs.declared.verdict.Checked.{Checked}
 use Rattle.clash_check.specs.declared.verdict.Verdict.{Verdict}
 use Rattle.clash_check.specs.declared.verdict.Verdict.TheVariants.{Yes, No}
 
--- yes where the certificate stands; else the first number that applies, with the line of 81 or the pair of 83
+-- yes where the certificate holds; else the first number that applies, with the line of 81 or the pair of 83
 abbrev pub IsVerdict : Confirmed → List ℕ → Verdict → Type 0
 IsVerdict all text Yes = CertificateStands all text
 IsVerdict all text (No why) =
@@ -39,7 +39,7 @@ MakesFewFor all made (No why) =
 abbrev pub MakesFew : Confirmed → Checked → Type 0
 MakesFew all checked = MakesFewFor all checked.made checked.verdict
 
--- the calendar is refused: 80, and a fault stands in its octets
+-- the calendar is refused: 80, and its octets have a fault
 abbrev pub IsRefusedCalendar : List ℕ → Checked → Type 0
 IsRefusedCalendar calendar checked = IsNo 80 0 0 checked.verdict × (checked.made ≡ 0) × ((n : ℕ) × CalendarTextFault calendar n)
 

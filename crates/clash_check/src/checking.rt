@@ -21,9 +21,9 @@ use ical_lines::Fault;
 use ical_values::Address;
 use std::alloc::{AllocError, Global};
 
-/// Does the certificate stand for the room's calendar? No for the first of: the calendar is refused (80), the
-/// certificate's text is wrong (81), a count isn't the calendar's (82), an entry doesn't stand (83), a single clashes with another or with
-/// a series (84). Fails only for memory.
+/// Does the certificate hold for the room's calendar? No for the first of: the calendar is refused (80), the
+/// certificate's text is wrong (81), a count isn't the calendar's (82), an entry doesn't hold (83), a single clashes with another or with
+/// a series (84). Fails only when out of memory.
 pub fn check(
     alloc: Global,
     calendar: &[u8],
@@ -44,7 +44,7 @@ pub fn check(
     }
 }
 
-/// Does the text stand as a certificate for the calendar? Fails only for memory.
+/// Does the text hold as a certificate for the calendar? Fails only when out of memory.
 pub fn judge_read(
     alloc: Global,
     calendar: &Calendar,
@@ -61,7 +61,7 @@ pub fn judge_read(
     }
 }
 
-/// Does a certificate of that content stand?
+/// Does a certificate of that content hold?
 fn judge(
     alloc: Global,
     calendar: &Calendar,
@@ -78,7 +78,7 @@ fn judge(
     judge_counted(alloc, calendar)
 }
 
-/// Does a certificate of the calendar's counts stand? Its entries all say END, so each pair of series is looked through up to the horizon.
+/// Does a certificate of the calendar's counts hold? Its entries all say END, so each pair of series is looked through up to the horizon.
 fn judge_counted(alloc: Global, calendar: &Calendar) -> Result<Checked, AllocError>
     ensures verdict { IfOk result (λ checked. (text : List ℕ) (c : Claims) → Spells text c → HasCounts calendar.now c → IsVerdict calendar.now text checked.verdict) }
     ensures made { IfOk result (MakesFew calendar.now) }
@@ -103,7 +103,7 @@ fn judge_counted(alloc: Global, calendar: &Calendar) -> Result<Checked, AllocErr
 fn are_singles_clear(alloc: Global, calendar: &Calendar) -> Result<bool, AllocError>
     ensures { IfOk result (λ clear. MatchBool clear (AreClear (Contains calendar.now.singles) (IsOneOf calendar.now)) (HasClash (Contains calendar.now.singles) (IsOneOf calendar.now))) }
 {
-    // For the proof alone: the keys of a single and of an instance of a series differ.
+    // Only for the proof: the keys of a single and of an instance of a series differ.
     let _series = calendar.series();
     match calendar.first_overlap(alloc)? {
         Some(_) => Ok(false),
@@ -119,7 +119,7 @@ fn made_of_singles(calendar: &Calendar) -> u64
     each.saturating_mul(calendar.single_count())
 }
 
-/// A certificate that stands is enough: no two of all confirmed instances clash, of singles and of series.
+/// A certificate that holds is enough: no two of all confirmed instances clash, of singles and of series.
 pub fn standing_means_clear()
     ensures { (all : Confirmed) (text : List ℕ) → CertificateStands all text → AreClear (IsOneOf all) (IsOneOf all) }
 {}
@@ -128,7 +128,7 @@ pub fn standing_means_clear()
 pub fn check_clash(calendar: &Calendar, clash: &Clash) -> bool
     ensures { IsTrue result ↔ IsClashIn calendar.now clash.now }
 {
-    // For the proof alone: each key is that of one instance.
+    // Only for the proof: each key is that of one instance.
     let _singles = calendar.singles();
     let _series = calendar.series();
     known_by_start();

@@ -1,4 +1,4 @@
-//! The checker: does a certificate stand for a calendar? It judges the text that it is given and
+//! The checker: does a certificate hold for a calendar? It judges the text that it is given and
 //! makes no certificate of its own.
 #![tactic(auto)]
 

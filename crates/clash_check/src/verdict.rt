@@ -11,7 +11,7 @@ pub struct Checked {
     pub made: u64,
 }
 
-/// Does the certificate stand for the calendar?
+/// Does the certificate hold for the calendar?
 #[derive(Clone, Copy, PartialEq, Eq)]
 pub enum Verdict {
     Yes,
@@ -19,9 +19,9 @@ pub enum Verdict {
     No(Why),
 }
 
-/// Why a certificate doesn't stand: the calendar is refused (80), the certificate's text is wrong
+/// Why a certificate doesn't hold: the calendar is refused (80), the certificate's text is wrong
 /// (81, `first` is its first wrong or missing line), a count isn't the calendar's (82), an entry
-/// doesn't stand (83, `first` and `second` are its pair, counted from 1), a single clashes (84). Elsewhere `first`
+/// doesn't hold (83, `first` and `second` are its pair, counted from 1), a single clashes (84). Elsewhere `first`
 /// and `second` are 0.
 #[derive(Clone, Copy, PartialEq, Eq)]
 pub struct Why {
@@ -40,7 +40,7 @@ impl Why {
     /// A count isn't the calendar's.
     pub const COUNTS: u8 = 82;
 
-    /// An entry doesn't stand.
+    /// An entry doesn't hold.
     pub const ENTRY: u8 = 83;
 
     /// A single clashes with another, or with a series.

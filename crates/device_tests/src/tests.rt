@@ -22,7 +22,7 @@ const ANSWERS: &str =
 /// The answer to the second object.
 const REFUSED: &str = "REFUSED;OBJECT=2:66\r\n";
 
-/// Calls that fail: so many, one after another, from one call on, counted from 1.
+/// Calls that fail: this many, one after another, from one call on, counted from 1.
 #[derive(Clone, Copy)]
 struct Failures {
     from: u32,
@@ -45,7 +45,7 @@ impl Failures {
         Failures::new(u32::MAX, 0, ErrorKind::Other)
     }
 
-    /// One call more.
+    /// One more call.
     fn call(&mut self) -> io::Result<()> {
         self.calls = self.calls.saturating_add(1);
         if self.calls >= self.from && self.calls - self.from < self.count {
@@ -55,7 +55,7 @@ impl Failures {
     }
 }
 
-/// A reader that gives at most so many octets a call.
+/// A reader that gives at most this many octets a call.
 #[derive(Drop)]
 struct SlowReader<'a> {
     left: &'a [u8],
@@ -74,7 +74,7 @@ impl Read for SlowReader<'_> {
     }
 }
 
-/// A writer that takes at most so many octets a call, and sends them on when it is flushed. Of a call that fails with WriteZero it takes
+/// A writer that takes at most this many octets a call, and sends them on when it is flushed. Of a call that fails with WriteZero it takes
 /// none.
 #[derive(Drop)]
 struct SlowWriter {
@@ -353,13 +353,13 @@ fn a_writer_that_fails_has_taken_a_beginning(rt: HostRuntime) -> Result<(), Fail
     Ok(())
 }
 
-/// A text in which one stands in the place of another.
+/// A text in which one is in the place of another.
 fn replaced(alloc: Global, text: &str, from: &str, to: &str) -> Result<String, AllocError> {
     let (before, after) = text.split_once(from).unwrap_or((text, ""));
     format!(in alloc; "{before}{to}{after}")
 }
 
-/// A text and so many octets more that it has that length.
+/// A text, and octets after it up to that length.
 fn filled(alloc: Global, text: &str, length: usize) -> Result<String, AllocError> {
     let mut filled = String::from_str(alloc, text)?;
     for _ in text.len()..length {
@@ -409,7 +409,7 @@ fn long_objects_and_answers_come_through_few_octets(rt: HostRuntime) -> Result<(
     Ok(())
 }
 
-/// `STREAM` with a preamble of so many octets, its empty line included, whose 64 rooms nobody asks.
+/// `STREAM` with a preamble of this many octets, its empty line included, whose 64 rooms nobody asks.
 fn stream_after(alloc: Global, octets: usize) -> Result<String, AllocError> {
     let mut preamble = String::from_str(alloc, "now 20250102T000000Z\n")?;
     for room in 1..64u32 {

@@ -35,7 +35,7 @@ impl<'a> Case<'a> {
         self.line.split('|').nth(place).unwrap_or("").trim()
     }
 
-    /// The columns behind the input: steps or questions.
+    /// The columns after the input: steps or questions.
     pub fn steps(self, alloc: Global) -> Result<Vec<&'a str>, AllocError> {
         self.columns_from(alloc, 3)
     }

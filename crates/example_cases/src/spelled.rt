@@ -82,7 +82,7 @@ fn push(octets: &mut Vec<u8>, octet: u8) -> Result<Escape, AllocError> {
     Ok(Escape::No)
 }
 
-/// What the octet behind a backslash means.
+/// What the octet after a backslash means.
 fn meaning(octet: u8) -> Result<u8, NoAnswer> {
     match octet {
         b'r' => Ok(b'\r'),

@@ -69,7 +69,7 @@ first_filled b rest n r = ap (λ t. lines_filled (cond t ([] ∷ slice_split is_
 second_filled : (b : ℕ) (rest : List ℕ) → eqb b 10 ≡ false → list_any is_filled (unfolded (physical_lines (13 ∷ b ∷ rest))) ≡ true
 second_filled b rest n = ap (λ t. lines_filled (onto_first 13 (cond t ([] ∷ slice_split is_break rest) (onto_first b (slice_split is_break rest))))) n ∙ return_filled b (slice_split is_break rest)
 
--- ---- one octet more, where nothing has begun
+-- ---- one more octet, where nothing has begun
 
 record Begins (rest : List ℕ) : Type 0 where
   in_line : (s : Seen) → SeenOf s [] → begun_after (mk Line s false) rest ≡ list_any is_filled (unfolded (physical_lines rest))

@@ -1,4 +1,4 @@
--- Texts that may stand in a line: no control octet, and UTF-8. Lines that are written from them are content lines.
+-- Texts that may be in a line: no control octet, and UTF-8. Lines that are written from them are content lines.
 use Rattle.std.proofs.Common.{◌≡◌, ◌∙◌, ℕ, ◌^◌, ◌<◌, ◌≤◌, Bool, true, false, not, ◌&&◌, nat_lt, nat_le, List, [], ◌∷◌, ◌++◌, length, codes, decimal, refl, ap, arith, lt-ltb}
 use Rattle.std.specs.List.{list_any, list_all}
 use Rattle.std.specs.Str.{IsAscii, IsUtf8}
@@ -12,7 +12,7 @@ use Rattle.std.proofs.lemmas.Str.Ascii.{IsAscii-cons, IsAscii-nil}
 use Rattle.std.proofs.lemmas.Str.Parse.{digit_from_value}
 use Rattle.profile.specs.text.Lines.{is_control, is_content, lacks_colon, has_bad_name, has_bad_quote, has_stop}
 
--- no control octet but TAB stands in the text, and it is UTF-8
+-- the text has no control octet but TAB, and it is UTF-8
 pub record IsClean (text : List ℕ) : Type 0 where
   pub calm : list_any is_control text ≡ false
   pub utf8 : IsUtf8 text

@@ -1,4 +1,4 @@
--- Content lines that are written one behind another read back as those lines.
+-- Content lines that are written one after another read back as those lines.
 use Rattle.std.proofs.Common.{◌≡◌, filter, ℕ, zero, suc, ◌+◌, ◌≤◌, ◌<◌, Bool, true, false, not, ◌&&◌, ◌||◌, ◌==◌, eqb, ltb, List, [], ◌∷◌, ◌++◌, length, take, get_or, refl, ap, sym, subst, ◌∙◌, arith}
 use Rattle.std.specs.Char.{encode_utf8}
 use Rattle.std.specs.Str.{IsUtf8, is_utf8, chars, encode_utf8_all}
@@ -107,7 +107,7 @@ starter_unmarked [] h = refl
 starter_unmarked (o ∷ os) h =
     let no : eqb o 0xEF ≡ false = grind (arith, nat_tests) in rw no refl
 
--- ---- lines that are written one behind another
+-- ---- lines that are written one after another
 
 first_starts : (lines : List (List ℕ)) → list_all is_content lines ≡ true → is_starter (get_or (flat_map folded lines) 0 0) ≡ true
 first_starts [] h = refl

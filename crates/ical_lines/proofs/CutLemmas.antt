@@ -132,7 +132,7 @@ inside_return b line rest n =
 inside_break : (line rest : List ℕ) → broken line rest ≡ inside line (10 ∷ rest)
 inside_break line rest = ap (λ z. broken z rest) (sym (append-nil line))
 
--- ---- one octet more
+-- ---- one more octet
 
 line_more : (b : ℕ) (rest : List ℕ) (ih : Claims rest) (s : Seen) (g : Bool) (line : List ℕ) → SeenOf s line → rest_after (mk Line s g) (b ∷ rest) ≡ inside line (b ∷ rest)
 line_more b rest ih s g line h =

@@ -11,7 +11,7 @@ use Rattle.ical_lines.specs.Fault.{RefusesOnly}
 use Rattle.ical_lines.specs.declared.fault.Fault.{Fault}
 use Rattle.ical_lines.specs.declared.fault.Fault.TheVariants.{Refused, Memory}
 
--- the lines that are judged, after so many
+-- the lines that are judged, after this many
 abbrev pub judged_after : Bool → ℕ → List (List ℕ) → List (List ℕ)
 judged_after bounded count lines = cond bounded (take (65536 - count) lines) lines
 
@@ -47,7 +47,7 @@ first_found b count n line rest lines all e w f s =
     let found : find is_faulty (judged b all) ≡ Some line = s ∙ found_by b count line rest lines e w (faulty_by line n f) in
     is_itself (lines_fault b all) n (ap (λ o. fault_of o (b && ltb 65536 (length all))) found ∙ f)
 
--- where the line after the last that is judged stands, none before it is faulty
+-- where there is a line after the last that is judged, none before it is faulty
 pub too_many : (b : Bool) (count : ℕ) (line : List ℕ) (rest lines all : List (List ℕ)) → lines ≡ line ∷ rest → (b && ltb 65536 count) ≡ false → (b && ltb 65536 (count + 1)) ≡ true → count + length lines ≡ length all → find is_faulty (judged b all) ≡ find is_faulty (judged_after b count lines) → is_number (lines_fault b all) 6 ≡ true
 too_many false count line rest lines all e w m l s = cc
 too_many true count line rest lines all e w m l s =
@@ -56,7 +56,7 @@ too_many true count line rest lines all e w m l s =
     let found : find is_faulty (judged true all) ≡ None = s ∙ ap (λ k. find is_faulty (take k lines)) none in
     rw (found, more) refl
 
--- and 6 stands in the lines
+-- and the lines have fault 6
 pub bound_stands : (b : Bool) (count : ℕ) (line : List ℕ) (rest lines all : List (List ℕ)) → lines ≡ line ∷ rest → (b && ltb 65536 (count + 1)) ≡ true → count + length lines ≡ length all → (list_any (line_has 6) all || (eqb 6 6 && (b && ltb 65536 (length all)))) ≡ true
 bound_stands false count line rest lines all e m l = cc
 bound_stands true count line rest lines all e m l =

@@ -113,7 +113,7 @@ fits column (c ∷ cs) h =
     let rest = fits (column + n) cs (omega (arith, sizes, h)) in
     (rw short (ap (λ z. encode_utf8 c ++ z) rest.0), rw short (rest.1 ∙ omega (arith, sizes)))
 
--- a part that fits is written as it stands
+-- a part that fits is written as it is
 pub part_written : (old new text : List ℕ) (column : ℕ) → IsUtf8 text → column + length text ≤ 75 → new ≡ old ++ text → new ≡ old ++ fold_from column (chars text)
 part_written old new text column u h n =
     let same = encodes-chars text u in

@@ -1,4 +1,4 @@
--- A line that is cut before its first mark: what stands there is its name.
+-- A line that is cut before its first mark: what comes before the mark is its name.
 use Rattle.std.proofs.Common.{◌≡◌, ℕ, suc, ◌+◌, Bool, true, false, ◌||◌, cond, eqb, ltb, List, [], ◌∷◌, ◌++◌, ◌<◌, ◌≤◌, Option, Some, None, MatchOption, Bor, length, take, drop, get_or, refl, ap, sym, ◌∙◌, arith}
 use Rattle.std.specs.List.{list_any, onto_first, position, position_or_len}
 use Rattle.std.specs.Option.{option_map}
@@ -15,7 +15,7 @@ use Rattle.ical_lines.specs.PiecesOf.{pieces_of}
 use Rattle.ical_lines.proofs.BreakLemmas.{not_any}
 use Rattle.ical_lines.proofs.PieceLemmas.{pieces_step}
 
--- what is no mark is none of the three
+-- what isn't a mark is none of the three
 record Plain (c : ℕ) : Type 0 where
   pub colon : eqb c 58 ≡ false
   pub semicolon : eqb c 59 ≡ false
@@ -27,7 +27,7 @@ plain c h =
     let inner = or_parts (eqb c 58) (eqb c 59) outer.0 in
     record { colon = inner.0; semicolon = inner.1; quote = outer.1 }
 
--- ---- one octet more before the text
+-- ---- one more octet before the text
 
 outside_more : (stop c : ℕ) (cs : List ℕ) → eqb c 34 ≡ false → eqb c stop ≡ false → outside stop (c ∷ cs) ≡ suc (outside stop cs)
 outside_more stop c cs quote other = rw (quote, other) (omega arith)
@@ -120,7 +120,7 @@ pub head_params : (text head name : List ℕ) (r : Option (Bor (List ℕ))) → 
 head_params text head name r e f g =
     sym (ap (drop 1) (pieces_step 59 head name r f g)) ∙ ap (λ z. drop 1 (pieces 59 z)) e
 
--- ---- where the first mark stands
+-- ---- where the first mark is
 
 mark_low : (c : ℕ) → is_mark c ≡ true → c < 128
 mark_low c h = grind (arith, nat_tests, h)

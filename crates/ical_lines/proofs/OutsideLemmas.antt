@@ -1,11 +1,11 @@
--- The first quote or stop of a text: where it is no quote it is the first stop outside quotes.
+-- The first quote or stop of a text: where it isn't a quote it is the first stop outside quotes.
 use Rattle.std.proofs.Common.{◌≡◌, ◌∙◌, ℕ, zero, suc, ◌+◌, ◌<◌, true, false, nat_eq, List, [], ◌∷◌, length, get_or, refl, ap, arith, Some, None}
 use Rattle.std.proofs.lemmas.Bool.{false_from_ne_true}
 use Rattle.std.proofs.lemmas.Bool.Decides.{nat_tests}
 use Rattle.memchr.specs.Find.{IsFirstByte, is_byte2}
 use Rattle.profile.specs.text.Lines.{outside_from, outside}
 
--- an octet that is no quote and no stop stands before
+-- an octet that is neither a quote nor a stop comes before
 passed : (stop : ℕ) (c : ℕ) (cs : List ℕ) → is_byte2 34 stop c ≡ false → outside_from stop false (c ∷ cs) ≡ 1 + outside_from stop false cs
 passed stop c cs h =
     let quote : nat_eq c 34 ≡ false = grind (arith, nat_tests, h) in
@@ -28,11 +28,11 @@ stops_at stop (c ∷ cs) (suc i) l before here plain =
     let more = stops_at stop cs i (omega arith) (λ k m. before (suc k) (omega arith)) here plain in
     passed stop c cs (before 0 (omega arith)) ∙ ap (λ n. 1 + n) more ∙ omega arith
 
--- none of the two stands there
+-- neither of the two is there
 pub no_stop : (stop : ℕ) (text : List ℕ) → IsFirstByte (is_byte2 34 stop) text None → outside stop text ≡ length text
 no_stop stop text h = none_before stop text (λ k l. false_from_ne_true (is_byte2 34 stop (get_or text k 0)) (h k (omega arith) l))
 
--- the first of the two is no quote
+-- the first of the two isn't a quote
 pub plain_stop : (stop : ℕ) (text : List ℕ) (i : ℕ) → IsFirstByte (is_byte2 34 stop) text (Some i) → (get_or text i 0 ≡ 34 → ⊥) → outside stop text ≡ i
 plain_stop stop text i h plain =
     stops_at stop text i h.0.high (λ k l. false_from_ne_true (is_byte2 34 stop (get_or text k 0)) (h.0.before k (omega arith) l)) h.1

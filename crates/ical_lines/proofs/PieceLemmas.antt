@@ -25,7 +25,7 @@ first_by f c cs m n false true =
     ap (λ b. [] ∷ cond b (f cs) []) (sym e)
 first_by f c cs m n false false = onto_more f c cs n
 
--- the first piece stands before the first stop, and the others after it
+-- the first piece comes before the first stop, and the others after it
 pub pieces_first : (stop : ℕ) (q : Bool) (text : List ℕ) → pieces_from stop q text ≡ take (outside_from stop q text) text ∷ cond (ltb (outside_from stop q text) (length text)) (pieces_from stop false (drop (outside_from stop q text + 1) text)) []
 pieces_first stop q [] = refl
 pieces_first stop q (c ∷ cs) =
@@ -53,6 +53,6 @@ boundary_past text bytes rest n stop u b e h at ascii =
 pub shorter : {B : Type 0} (xs ys : List B) (y : B) → xs ≡ y ∷ ys → length ys < length xs
 shorter xs ys y e = omega (arith, ap length e)
 
--- what stands behind a stop that was found
+-- what comes after a stop that was found
 pub cut_past : (text rest after : List ℕ) (n stop : ℕ) → n ≡ outside stop text → rest ≡ drop n text → 0 < length rest → after ≡ drop 1 rest → (outside stop text < length text) × (after ≡ back stop text)
 cut_past text rest after n stop e f l g = (omega (arith, e, ap length f, length-drop n text), g ∙ (ap (drop 1) f ∙ (drop-drop 1 n text ∙ ap (λ k. drop (k + 1) text) e)))

@@ -12,7 +12,7 @@ use Rattle.ical_lines.specs.Plain.{IsPlain, ends_name}
 use Rattle.ical_lines.proofs.BreakLemmas.{not_any}
 use Rattle.ical_lines.proofs.MarkLemmas.{colon_name, colon_params, colon_value}
 
--- an octet of a name is no mark
+-- an octet of a name isn't a mark
 no_mark : (c : ℕ) → ends_name c ≡ false → is_mark c ≡ false
 no_mark c h = grind (arith, nat_tests, h)
 

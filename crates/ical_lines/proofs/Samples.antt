@@ -1,4 +1,4 @@
--- The definitions on worked examples. In `codes` a text stands for its octets; 13 is CR, 10 LF.
+-- The definitions on worked examples. In `codes` a text represents its octets; 13 is CR, 10 LF.
 use Rattle.std.proofs.Common.{◌≡◌, true, false, [], ◌∷◌, ◌++◌, replicate, codes, refl}
 use lib.Utf8.{encode}
 use Rattle.std.specs.Str.{chars}
@@ -54,7 +54,7 @@ two_read_back : logical_lines (flat_map folded (codes "A:x" ∷ codes "B;C=d: y"
 unfolding chars encode
 two_read_back = refl
 
--- an empty line is no content line, nor is one that a blank begins
+-- an empty line isn't a content line, nor is one that a blank begins
 no_content : (is_content [] ≡ false) × (is_content (codes " A:x") ≡ false)
 no_content = (refl, refl)
 
@@ -67,11 +67,11 @@ ended_later = refl
 continued : after_object (codes "END:VCALENDAR" ++ 10 ∷ codes " X" ++ 10 ∷ codes "Y") ≡ []
 continued = refl
 
--- in the middle of a line, behind a bare CR, or at the end of the input nothing ends before it
+-- in the middle of a line, after a bare CR, or at the end of the input nothing ends before it
 no_end : (after_object (codes "X:END:VCALENDAR" ++ 10 ∷ codes "Y") ≡ []) × ((after_object (codes "END:VCALENDAR" ++ 13 ∷ codes "X" ++ 10 ∷ codes "Y") ≡ []) × (after_object (codes "END:VCALENDAR") ≡ []))
 no_end = (refl, (refl, refl))
 
--- empty lines behind the object are the next one's, and so is a byte order mark
+-- empty lines after the object are the next one's, and so is a byte order mark
 next_begins : (after_object (codes "END:VCALENDAR" ++ 10 ∷ 13 ∷ 10 ∷ codes "X") ≡ 13 ∷ 10 ∷ codes "X") × (after_object (codes "END:VCALENDAR" ++ 10 ∷ 0xEF ∷ 0xBB ∷ 0xBF ∷ []) ≡ 0xEF ∷ 0xBB ∷ 0xBF ∷ [])
 next_begins = (refl, refl)
 

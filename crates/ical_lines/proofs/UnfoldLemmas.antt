@@ -1,4 +1,4 @@
--- What the lines of a text are, as it stands and unfolded.
+-- What the lines of a text are, as it is and unfolded.
 use Rattle.std.proofs.Common.{◌≡◌, filter, ℕ, ◌<◌, Bool, true, false, cond, List, [], ◌∷◌, ◌++◌, length, take, drop, refl, ap, sym, ◌∙◌, arith}
 use Rattle.std.specs.List.{list_any, list_all}
 use Rattle.std.proofs.lemmas.List.{append_assoc, append-nil, length-drop, take-append-drop}

@@ -1,4 +1,4 @@
--- An iterator that gives a list: what a step tells of the list that is left.
+-- An iterator that gives a list: what a step says about the list that is left.
 use Rattle.std.proofs.Common.{◌≡◌, refl, sym, ap, List, [], ◌∷◌, Option, None, Some}
 use Rattle.std.specs.Iterator.{AlwaysYields}
 

@@ -48,7 +48,7 @@ after_mark k s b =
     else (if k == 2 && b == 0xBF then at_place Line (at_start s)
     else after_line s b))
 
--- the cutter after one octet more
+-- the cutter after one more octet
 abbrev pub step_from : Place → Cutter → ℕ → Cutter
 step_from (Mark k) s b = after_mark k s b
 step_from Line s b = after_line s b

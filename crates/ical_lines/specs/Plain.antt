@@ -2,7 +2,7 @@
 use Rattle.std.specs.Prelude.{◌≡◌, ℕ, Bool, not, List, [], true, false}
 use Rattle.profile.specs.text.Lines.{lacks_colon, is_name, is_name_octet, line_name, line_params}
 
--- an octet that can't stand in a name
+-- an octet that can't occur in a name
 abbrev pub ends_name : ℕ → Bool
 ends_name c = not (is_name_octet c)
 

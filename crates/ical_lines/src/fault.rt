@@ -31,7 +31,7 @@ impl Refusal {
     pub const BAD_DATE_TIME: Refusal = Refusal { number: 11 };
     /// Not a duration (RFC 5545 3.3.6).
     pub const BAD_DURATION: Refusal = Refusal { number: 12 };
-    /// Not a UTC offset; `-0000` is none (RFC 5545 3.3.14).
+    /// Not a UTC offset; `-0000` isn't one (RFC 5545 3.3.14).
     pub const BAD_OFFSET: Refusal = Refusal { number: 13 };
     /// A UID of no octets or more than 1,024 (RFC 5545 3.8.4.7; the bound is this profile's).
     pub const BAD_UID: Refusal = Refusal { number: 14 };
@@ -51,7 +51,7 @@ impl Refusal {
     pub const BAD_VERSION: Refusal = Refusal { number: 24 };
     /// More than 200 VEVENTs in one message; this profile's choice.
     pub const TOO_MANY_EVENTS: Refusal = Refusal { number: 25 };
-    /// A part of a rule that is unknown or left out here, or a text that isn't parts (RFC 5545 3.3.10).
+    /// A part of a rule that is unknown or not supported, or a text that isn't parts (RFC 5545 3.3.10).
     pub const UNKNOWN_RULE_PART: Refusal = Refusal { number: 30 };
     /// A value of a rule's part that isn't one, is out of its range, or is a list that is too long (RFC 5545 3.3.10).
     pub const BAD_RULE_VALUE: Refusal = Refusal { number: 31 };
@@ -63,7 +63,7 @@ impl Refusal {
     pub const START_OUTSIDE_RULE: Refusal = Refusal { number: 34 };
     /// A VTIMEZONE of a shape that isn't one of those accepted (RFC 5545 3.6.5; the shapes are this profile's choice).
     pub const ZONE_SHAPE: Refusal = Refusal { number: 40 };
-    /// TZOFFSETFROM and TZOFFSETTO that don't match, or lie more than 12 hours apart; this profile's choice.
+    /// TZOFFSETFROM and TZOFFSETTO that don't match, or are more than 12 hours apart; this profile's choice.
     pub const ZONE_OFFSETS: Refusal = Refusal { number: 41 };
     /// Onsets of a VTIMEZONE less than two days apart; this profile's choice.
     pub const ZONE_ONSETS: Refusal = Refusal { number: 42 };
@@ -79,13 +79,13 @@ impl Refusal {
     pub const TWO_MASTERS: Refusal = Refusal { number: 53 };
     /// Two VEVENTs of one meeting with one RECURRENCE-ID (RFC 5545 3.8.4.4).
     pub const TWO_OVERRIDES: Refusal = Refusal { number: 54 };
-    /// A DATE or floating value, which isn't read yet (RFC 5545 3.3.4, 3.3.5).
+    /// A DATE or floating value, which isn't supported yet (RFC 5545 3.3.4, 3.3.5).
     pub const NOT_FIXED: Refusal = Refusal { number: 55 };
     /// An RDATE or EXDATE of more than 366 entries, or a PERIOD (RFC 5545 3.8.5.2; the bound is this profile's).
     pub const LIST_OR_PERIOD: Refusal = Refusal { number: 56 };
-    /// A METHOD that isn't taken here (RFC 5546 1.4).
+    /// A METHOD that isn't supported (RFC 5546 1.4).
     pub const BAD_METHOD: Refusal = Refusal { number: 60 };
-    /// A property that is missing, stands twice or excludes another (RFC 5545 3.6.1).
+    /// A property that is missing, occurs twice or excludes another (RFC 5545 3.6.1).
     pub const BAD_PROPERTY: Refusal = Refusal { number: 61 };
     /// Two UIDs or two ORGANIZERs in one message (RFC 5546 3.2).
     pub const TWO_MEETINGS: Refusal = Refusal { number: 62 };

@@ -27,7 +27,7 @@ pub fn write_line(out: &mut Vec<u8>, text: &str) -> Result<(), AllocError>
     write_joined(out, text, "", "")
 }
 
-/// Writes one content line of two pieces, the second right behind the first, folded and ended by CRLF. Pieces without LF read back
+/// Writes one content line of two pieces, the second right after the first, folded and ended by CRLF. Pieces without LF read back
 /// as one line, whatever line follows it.
 /// Where memory is refused, `out` is unchanged.
 pub fn write_pieces(out: &mut Vec<u8>, first: &str, second: &str) -> Result<(), AllocError>
@@ -56,7 +56,7 @@ pub fn write_property(out: &mut Vec<u8>, name: &str, value: &str) -> Result<(), 
     write_joined(out, name, ":", value)
 }
 
-/// Writes one content line of three pieces, one right behind another, folded and ended by CRLF.
+/// Writes one content line of three pieces, one right after another, folded and ended by CRLF.
 /// Where memory is refused, `out` is unchanged.
 fn write_joined(out: &mut Vec<u8>, first: &str, second: &str, third: &str) -> Result<(), AllocError>
     ensures written { OnOk result (out.new.items ≡ out.old.items ++ folded (first.now ++ (second.now ++ third.now))) }

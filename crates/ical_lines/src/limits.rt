@@ -19,7 +19,7 @@ impl Limits {
     ghost use Rattle.std.specs.Prelude.{◌≡◌, ◌&&◌, nat_lt};
     ghost use Rattle.ical_lines.specs.Limits.{is_bounded};
 
-    /// Whether so many octets are too many.
+    /// Whether this many octets are too many.
     pub fn exceeds_octets(self, count: usize) -> bool
         ensures { result ≡ (is_bounded self && nat_lt 1048576 count) }
     {
@@ -29,7 +29,7 @@ impl Limits {
         }
     }
 
-    /// Whether so many lines are too many.
+    /// Whether this many lines are too many.
     pub fn exceeds_lines(self, count: usize) -> bool
         ensures { result ≡ (is_bounded self && nat_lt 65536 count) }
     {

@@ -15,11 +15,11 @@ use crate::pieces::{Pieces, split_mark, split_outside};
 #[derive(Clone, Copy)]
 pub struct Line<'a> {
     text: &'a str,
-    /// What stands before the parameters and the colon.
+    /// What comes before the parameters and the colon.
     name: &'a str,
-    /// What stands between the name's semicolon and the colon; None where the name has no semicolon.
+    /// What is between the name's semicolon and the colon; None where the name has no semicolon.
     params: Option<&'a str>,
-    /// What stands after the colon; None where there is none.
+    /// What comes after the colon; None where there is none.
     value: Option<&'a str>,
     ghost one_line: { is_one_line text.now ≡ true },
     ghost has_name: { name.now ≡ line_name text.now },
@@ -96,7 +96,7 @@ impl<'a> Line<'a> {
         self.text
     }
 
-    /// The name of the property, in the case that it is written in.
+    /// The name of the property, in the case in which it is written.
     pub fn name(&self) -> &'a str
         ensures { result.now ≡ line_name (line_text self.now) }
     {
@@ -145,7 +145,7 @@ impl<'a> Line<'a> {
         None
     }
 
-    /// The least of the faults 1 to 4 that stand in the line of a text that holds no line break. Nearly every line is a name, a colon and
+    /// The least of the faults 1 to 4 in the line of a text that has no line break. Nearly every line is a name, a colon and
     /// a value: of these the name is gone over once, and no other part is looked for.
     pub(crate) fn fault_in(text: &'a str) -> Option<Refusal>
         requires { is_one_line text.now ≡ true }
@@ -162,7 +162,7 @@ impl<'a> Line<'a> {
         None
     }
 
-    /// The least of the faults 1 to 4 that stand in the line.
+    /// The least of the faults 1 to 4 in the line.
     fn fault(&self) -> Option<Refusal>
         ensures stands { MatchOption result (is_faulty (line_text self.now) ≡ false)
             (λ refusal. IsTrue (line_has refusal.number (line_text self.now))) }
@@ -184,7 +184,7 @@ impl<'a> Line<'a> {
         None
     }
 
-    /// Whether no colon ends the head: there is none, or none but in closed quotes.
+    /// Whether no colon ends the head: there is none, or only in closed quotes.
     fn lacks_colon(&self) -> bool
         ensures { result ≡ lacks_colon (line_text self.now) }
     {
@@ -202,7 +202,7 @@ fn is_plain(line: &[u8]) -> bool
     }
 }
 
-/// Whether a colon stands in a text.
+/// Whether a text has a colon.
 fn has_colon(text: &str) -> bool
     ensures { result ≡ list_any (λ c. c == 58) text.now }
 {
@@ -216,7 +216,7 @@ fn has_open_quote(text: &str) -> bool
     text.bytes().filter(|octet| *octet == b'"').count() % 2 == 1
 }
 
-/// Whether a control octet other than TAB stands in a line.
+/// Whether a line has a control octet other than TAB.
 fn has_control(line: &[u8]) -> bool
     ensures { result ≡ has_control line.now }
 {

@@ -9,7 +9,7 @@ pub fn is_name(text: &str) -> bool
     !text.is_empty() && text.bytes().all(|octet| is_name_octet(octet))
 }
 
-/// Whether an octet may stand in a name.
+/// Whether an octet is allowed in a name.
 pub(crate) fn is_name_octet(octet: u8) -> bool
     ensures { result ≡ is_name_octet octet }
 {

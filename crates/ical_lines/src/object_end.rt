@@ -1,6 +1,6 @@
 //! The cut of a stream into objects (RFC 5545 3.4; where an object ends is this profile's choice).
 //! An object ends with the first unfolded line that is caselessly `END:VCALENDAR`, its line break included, or with
-//! the input. A line may still be continued after its line break, so one octet more has to be seen.
+//! the input. A line may still be continued after its line break, so one more octet has to be seen.
 ghost use Rattle.std.specs.Prelude.{◌≡◌, ◌≤◌, [], length, take, drop, MatchOption, is_some, if◌then◌else◌};
 ghost use Rattle.profile.specs.text.Objects.{after_object, is_begun};
 ghost use Rattle.ical_lines.specs.Cut.{
@@ -31,7 +31,7 @@ const LAST_LENGTH: u8 = 13;
 /// How much of the logical line that has begun is the beginning of `END:VCALENDAR`.
 #[derive(Clone, Copy)]
 enum Seen {
-    /// The line is its first so many octets.
+    /// The line is this many of its first octets.
     First(u8),
     /// The line is something else.
     Other,
@@ -40,7 +40,7 @@ enum Seen {
 /// Where the octets so far have come to.
 #[derive(Clone, Copy)]
 enum Place {
-    /// So many octets of a byte order mark were seen, and nothing else.
+    /// This many octets of a byte order mark were seen, and nothing else.
     Mark(u8),
     /// Inside a physical line.
     Line,
@@ -56,7 +56,7 @@ enum Place {
 /// `idle` counts may be left out.
 /// Where `feed` answers true, the object ended before that octet: the octet is the first of the next object,
 /// so give it to the `feed` of a new `Cutter` (which answers false). Where the input ends instead, `has_begun`
-/// tells whether the octets so far are an object; if not, they are only empty lines, which are no object.
+/// says whether the octets so far are an object; if not, they are only empty lines, which aren't an object.
 #[derive(Clone, Copy)]
 pub struct Cutter {
     place: Place,
@@ -76,7 +76,7 @@ impl Cutter {
         }
     }
 
-    /// Takes the next octet, and tells whether the object ended before it.
+    /// Takes the next octet, and returns whether the object ended before it.
     /// After true the cutter is as it was: a new one is made for the next object.
     pub fn feed(&mut self, octet: u8) -> bool
         ensures ended { result ≡ ends_before self.old octet }
@@ -120,7 +120,7 @@ impl Cutter {
         }
     }
 
-    /// The cutter after one octet more.
+    /// The cutter after one more octet.
     fn step(&self, octet: u8) -> Cutter
         ensures { result ≡ step self.now octet }
     {
@@ -132,7 +132,7 @@ impl Cutter {
         }
     }
 
-    /// After an octet that follows so many of a byte order mark.
+    /// After an octet that follows this many of a byte order mark.
     fn after_mark(&self, count: u8, octet: u8) -> Cutter
         ensures { result ≡ after_mark count self.now octet }
     {
@@ -182,7 +182,7 @@ impl Cutter {
         }
     }
 
-    /// With one octet more in the logical line that has begun.
+    /// With one more octet in the logical line that has begun.
     fn added(&self, octet: u8) -> Cutter
         ensures { result ≡ added self.now octet }
     {
@@ -216,7 +216,7 @@ impl Cutter {
     }
 }
 
-/// How much is seen of `END:VCALENDAR` with one octet more.
+/// How much is seen of `END:VCALENDAR` with one more octet.
 fn next_seen(seen: Seen, octet: u8) -> Seen
     ensures { result ≡ next_seen seen octet }
 {

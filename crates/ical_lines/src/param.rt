@@ -11,7 +11,7 @@ use crate::pieces::{Pieces, split_outside};
 /// One parameter of a line, as it is written.
 #[derive(Clone, Copy)]
 pub struct Param<'a> {
-    /// The name, in the case that it is written in.
+    /// The name, in the case in which it is written.
     pub name: &'a str,
     /// The octets after the `=`, with their quotes and commas.
     pub value: &'a str,
@@ -79,8 +79,8 @@ impl<'a> Iterator for Params<'a> {
     }
 }
 
-/// The lesser of the faults 2 and 3 that stand in some parameters: one that doesn't begin with a name and `=`, one with a quote
-/// where none may stand or that isn't closed.
+/// The lesser of the faults 2 and 3 that some parameters have: one that doesn't begin with a name and `=`, one with a quote
+/// where none is allowed or that isn't closed.
 pub(crate) fn fault_of(params: Pieces<'_>) -> Option<Refusal>
     ensures { option_map (λ refusal. refusal.number) result ≡ (if list_any lacks_name (pieces_left params.entry) then Some 2
         else if list_any is_badly_quoted (pieces_left params.entry) then Some 3 else None) }
@@ -114,7 +114,7 @@ fn has_no_item(values: Pieces<'_>) -> bool
     false
 }
 
-/// A value of a parameter without the quotes that stand round it.
+/// A value of a parameter without the quotes around it.
 fn unquoted(text: &str) -> &str
     ensures { result.now ≡ unquoted text.now }
 {

@@ -1,4 +1,4 @@
-//! A text cut at an octet that stands outside quotes (RFC 5545 3.1, param-value).
+//! A text cut at an octet that is outside quotes (RFC 5545 3.1, param-value).
 //! A quote opens and the next one closes; an octet between them is inside.
 ghost use Rattle.std.specs.Prelude.{◌≡◌, ◌++◌, ◌<◌, ◌≤◌, false, length, MatchOption, slice_index};
 ghost use Rattle.std.specs.List.{list_any};
@@ -7,7 +7,7 @@ ghost use Rattle.ical_lines.specs.Breaks.{is_mark};
 
 use memchr::memchr2;
 
-/// How many octets stand before the first `stop` outside quotes; all of them where there is none.
+/// How many octets come before the first `stop` outside quotes; all of them where there is none.
 fn outside(text: &[u8], stop: u8) -> usize
     ensures value { result ≡ outside stop text.now }
     ensures bound { result ≤ length text.now }
@@ -37,7 +37,7 @@ fn outside_quotes(text: &[u8], stop: u8) -> usize
     text.len()
 }
 
-/// A text cut before its first colon, semicolon or quote; where it has none, all of it stands before.
+/// A text cut before its first colon, semicolon or quote; where it has none, all of it comes before.
 pub fn split_mark(text: &str) -> (&str, &str)
     ensures whole { text.now ≡ result.0.now ++ result.1.now }
     ensures plain { list_any is_mark result.0.now ≡ false }

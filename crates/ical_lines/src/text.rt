@@ -1,5 +1,5 @@
 //! An unfolded text: its logical lines, in order, which it lends.
-//! Its lines are what stands between LFs, one CR at the end of each taken off, and the empty ones left out.
+//! Its lines are what is between LFs, one CR at the end of each taken off, and the empty ones left out.
 ghost use Rattle.std.specs.Prelude.{
   ◌≡◌,
   ◌++◌,

@@ -1,4 +1,4 @@
--- One line more, and what the open components are then.
+-- One more line, and what the open components are then.
 use Rattle.std.proofs.Common.{◌≡◌, ℕ, zero, suc, ◌-◌, ◌<◌, ◌≤◌, Bool, true, false, not, ◌&&◌, Option, None, Some, is_some, List, [], ◌∷◌, ◌++◌, map, length, reverse, refl, ap, sym, subst, ◌∙◌, arith}
 use Rattle.std.proofs.lemmas.List.{append_assoc, append-nil, reverse-append, length-reverse, length-map, nil_from_length}
 use Rattle.std.proofs.lemmas.Bool.{not-true, false≢true}

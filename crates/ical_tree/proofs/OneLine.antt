@@ -1,4 +1,4 @@
--- The one line of a property among others, and what stands at a place of a list.
+-- The one line of a property among others, and what is at a place of a list.
 use Rattle.std.proofs.Common.{◌≡◌, ◌∙◌, ap, sym, refl, subst, ℕ, zero, suc, ◌+◌, ◌<◌, List, [], ◌∷◌, length, get_or, drop, arith, filter, codes, false, ◌⊎◌, inl, inr}
 use Rattle.std.specs.Prelude.{Option, Some, None, Contains}
 use Rattle.std.specs.Option.{option_to_list}
@@ -11,7 +11,7 @@ Lines = List (List ℕ)
 
 -- ---- lists
 
--- what stands at a place begins the rest from there
+-- what is at a place begins the rest from there
 pub at_place : {A : Type 0} (xs : List A) (i : ℕ) (x : A) → i < length xs → x ≡ get_or xs i x → drop i xs ≡ x ∷ drop (i + 1) xs
 at_place xs i x w e = drop_more xs i x w ∙ ap (λ y. y ∷ drop (i + 1) xs) (sym e)
 
@@ -39,7 +39,7 @@ pub only_line : (name : List ℕ) (lines : Lines) (l : Option (List ℕ)) (line 
 only_line name lines None line e c = let h = subst (λ (ls : Lines). Contains ls line) e c in absurd (omega (arith, h.1))
 only_line name lines (Some x) line e c = ap Some (at_one x line (subst (λ (ls : Lines). Contains ls line) e c))
 
--- VERSION doesn't stand once
+-- VERSION doesn't occur exactly once
 pub not_one_version : (lines : Lines) → (IsMissing (codes "VERSION") lines ⊎ StandsTwice (codes "VERSION") lines) → false ≡ is_version_only (filter is_version lines)
 not_one_version lines h = other (filter is_version lines) h
   where

@@ -1,4 +1,4 @@
--- Lines spell at most one tree, and none where a fault stands in how they pair up.
+-- Lines spell at most one tree, and none where there is a fault in how they pair up.
 use Rattle.std.proofs.Common.{◌≡◌, ℕ, Bool, true, false, not, ◌&&◌, ◌||◌, eqb, cond, List, [], ◌∷◌, ◌++◌, refl, ap, sym, ◌∙◌, arith}
 use Rattle.std.proofs.lemmas.Bool.{true≢false, or_from}
 use Rattle.std.proofs.lemmas.List.{append_assoc, append-nil}
@@ -123,7 +123,7 @@ pub one_tree : (d e : ℕ) (lines : Lines) (a b : Tree) → SpellsT d a lines �
 unfolding first_tree found_tree
 one_tree d e lines a b s t = ap (found_tree a) (sym (passed d a lines s) ∙ passed e b lines t)
 
--- ---- no fault stands in how they pair up
+-- ---- there is no fault in how they pair up
 
 nothing_wrong : (n : ℕ) (lines : Lines) → some_misplaced n [] false lines ≡ false → is_none (opened_from [] lines) ≡ true → is_none lines ≡ false → lines_have n lines ≡ false
 nothing_wrong n lines m o l =

@@ -33,7 +33,7 @@ abbrev pub any_misplaced : ℕ → Lines → Bool → Lines → Bool
 any_misplaced n stack started [] = false
 any_misplaced n stack started (line ∷ lines) = misplaced n stack started line || any_misplaced n (now_open stack line) true lines
 
--- whether a line stands before, after these
+-- whether a line comes before, after these
 abbrev pub after : Bool → Lines → Bool
 after started [] = started
 after started (line ∷ lines) = after true lines
@@ -89,7 +89,7 @@ found_later n stack started (line ∷ done) left h k =
     let rest = some_misplaced n next true (done ++ left) in
     or_right (misplaced n stack started line) (f && rest) (and_from f rest (and_parts f g h).0 (found_later n next true done left (and_parts f g h).1 k))
 
--- ---- where a line stands
+-- ---- where a line is
 
 pub now_begin : (stack : Lines) (line name : List ℕ) → Opens line name → now_open stack line ≡ name ∷ stack
 now_begin stack line name o =
@@ -123,7 +123,7 @@ at_property n stack started line h =
 never_two : (a b : Bool) → ((a && false) || (b && false)) ≡ false
 never_two a b = or_from (a && false) (b && false) (and-false a) (and-false b)
 
--- a component that is no VCALENDAR may begin inside another, at most seven components around it
+-- a component that isn't a VCALENDAR may begin inside another, at most seven components around it
 pub fine_begin : (n : ℕ) (x : List ℕ) (stack : Lines) (started : Bool) (line name : List ℕ) → is_calendar_name name ≡ false → Opens line name → length stack < 7 → misplaced n (x ∷ stack) started line ≡ false
 fine_begin n x stack started line name v o h =
     let l : length (x ∷ stack) < 8 = omega arith in

@@ -30,7 +30,7 @@ Lines = List (List ℕ)
 abbrev BodyC : ℕ → Lines → List Component → Lines → Type 0
 BodyC = SpellsBody component_name component_lines component_children
 
--- the lines of components that are written one behind another
+-- the lines of components that are written one after another
 abbrev all_written : List Component → Lines
 all_written cs = flat_map written_lines cs
 

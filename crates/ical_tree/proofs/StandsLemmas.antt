@@ -1,4 +1,4 @@
--- Which faults stand in the lines so far.
+-- Which faults the lines so far have.
 use Rattle.std.proofs.Common.{◌≡◌, inl, inr, ℕ, ◌+◌, ◌-◌, ◌<◌, ◌≤◌, arith, Bool, true, false, not, ◌&&◌, ◌||◌, eqb, Option, None, Some, is_some, List, [], ◌∷◌, ◌++◌, length, reverse, refl, ap, sym, subst, ◌∙◌}
 use Rattle.std.proofs.lemmas.Bool.{lt-leb, or_from, not-true}
 use Rattle.std.proofs.lemmas.List.{append_assoc, append-nil, nil_from_length, length-map, length-reverse}
@@ -22,7 +22,7 @@ is_none-some (name ∷ names) l = refl
 names-length : (items : List Component) (run : List (List ℕ)) → length (names_of (with_lines run (opens items))) ≡ length items
 names-length items run = ap length (names-with (opens items) run) ∙ (length-map (opens items) (λ c. c.name) ∙ (length-map (reverse items) open_of ∙ length-reverse items))
 
--- nothing is open where this test tells that there are no items
+-- nothing is open where this test says that there are no items
 pub outside : (items : List Component) (run : List (List ℕ)) (b : Bool) → (b ≡ true → length items ≡ 0) → (b ≡ false → 0 < length items) → b ≡ is_none (names_of (with_lines run (opens items)))
 outside items run true none some = ap (λ xs. is_none (names_of (with_lines run (opens xs)))) (sym (nil_from_length items (none refl)))
 outside items run false none some =
@@ -35,7 +35,7 @@ stray items run started name l h =
     let room : length stack < 8 = omega (arith, names-length items run) in
     ap (λ b. not b && not (may_begin stack started name)) (lt-leb 8 (length stack) room) ∙ ap not h
 
--- ---- a line more
+-- ---- one more line
 
 opened_from-push : (stack lines : List (List ℕ)) (line : List ℕ) → opened_from stack (lines ++ line ∷ []) ≡ now_open (opened_from stack lines) line
 opened_from-push stack [] line = refl

@@ -1,4 +1,4 @@
--- What stood before a write stands after it.
+-- What was there before a write is there after it.
 use Rattle.std.proofs.Common.{◌≡◌, ℕ, ◌+◌, ◌<◌, ◌≤◌, Result, Ok, Err, OnOk, OnErr, List, [], ◌∷◌, ◌++◌, map, codes, length, take, get_or, refl, ap, sym, ◌∙◌, arith}
 use Rattle.std.specs.List.{flat_map}
 use Rattle.profile.specs.text.Lines.{folded}
@@ -29,7 +29,7 @@ begin_of c = codes "BEGIN" ++ 58 ∷ component_name c
 abbrev pub end_of : Component → List ℕ
 end_of c = codes "END" ++ 58 ∷ component_name c
 
--- what stands before the components inside
+-- what comes before the components inside
 abbrev pub start_of : Component → List ℕ → List ℕ
 start_of c old = (old ++ folded (begin_of c)) ++ flat_map folded (component_lines c)
 

@@ -60,21 +60,21 @@ Built [] (Some c) done = SpellsOf 7 c done × IsCalendar c
 Built (c ∷ around) closed done =
     (before : List (List ℕ)) × OpenLines c (7 - length around) before done × Built around closed before × (length around ≤ 7) × IsTrue (may_begin (names_of around) (is_some closed) c.name)
 
--- the fault of this number stands in a VCALENDAR that the lines spell: 24, or 25 where 24 doesn't
+-- a VCALENDAR that the lines spell has the fault of this number: 24, or 25 where it doesn't have 24
 abbrev pub calendar_has : Bool → ℕ → Component → Bool
 calendar_has bounded number c =
     is_calendar_name (component_name c)
     && ((number == 24 && not (has_version (component_lines c))) || (number == 25 && (bounded && nat_lt 200 (count_inside component_name component_lines component_children (codes "VEVENT") c) && has_version (component_lines c))))
 
--- the fault of this number stands in how the lines pair up, or in the object that they spell
+-- there is a fault of this number in how the lines pair up, or in the object that they spell
 abbrev pub TreeHas : Bool → ℕ → List (List ℕ) → Type 0
 TreeHas bounded number lines =
     IsTrue (lines_have number lines) ⊎ ((c : Component) × (SpellsOf 7 c lines × IsTrue (calendar_has bounded number c)))
 
--- the fault of this number stands in the octets: in the lines, or in what they spell
+-- the octets have the fault of this number: in the lines, or in what they spell
 abbrev pub ObjectHas : Bool → ℕ → List ℕ → Type 0
 ObjectHas bounded number octets = IsTrue (text_has bounded number octets) ⊎ TreeHas bounded number (logical_lines octets)
 
--- out of memory, or a refusal whose fault stands in the octets
+-- out of memory, or a refusal whose fault the octets have
 abbrev pub Stands : Bool → List ℕ → Fault → Type 0
 Stands bounded octets fault = RefusesBy (λ n. ObjectHas bounded n octets) fault

@@ -7,7 +7,7 @@ use Rattle.ical_tree.specs.Reading.{ObjectHas}
 
 -- the octets read as the lines that the component is written with, and these spell it
 pub record ReadsBack (c : Component) (octets : List ℕ) : Type 0 where
-  -- none of the faults of lines or of an object stands in the octets, which may be of any length
+  -- the octets, which may be of any length, have none of the faults of lines or of an object
   pub fine : (number : ℕ) → ObjectHas false number octets → ⊥
   pub reads : reads_as_lines false octets ≡ true
   pub lines : logical_lines octets ≡ written_lines c

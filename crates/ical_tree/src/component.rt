@@ -67,7 +67,7 @@ impl<'a> Component<'a> {
         ensures unchanged { OnErr result (component_lines self.new ≡ component_lines self.old) }
     {
         if self.runs.is_empty() {
-            // nearly every component has one run alone: no room for more
+            // nearly every component has only one run: no room for more
             self.runs.reserve_exact(1)?;
         }
         self.runs.push(run)?;

@@ -3,7 +3,7 @@ ghost use Rattle.std.specs.Prelude.{ℕ, List, Bool, ◌≡◌, true};
 ghost use Rattle.profile.specs.text.Objects.{SpellsTree, IsObject, lines_have};
 ghost use Rattle.profile.specs.text.Trees.{Tree, tree_name, tree_own, tree_inside};
 
-/// Lines spell at most one tree, and no object where a fault stands in how they pair up.
+/// Lines spell at most one tree, and no object where there is a fault in how they pair up.
 pub fn one_tree()
     ensures one { (depth other : ℕ) (lines : List (List ℕ)) (a b : Tree)
         → SpellsTree tree_name tree_own tree_inside depth a lines → SpellsTree tree_name tree_own tree_inside other b lines → a ≡ b }

@@ -1,4 +1,4 @@
-//! The own lines of a component: those of its text that neither begin nor end a component, nor stand in one inside it.
+//! The own lines of a component: those of its text that neither begin nor end a component, nor are in one inside it.
 
 use ical_lines::{Line, Lines};
 

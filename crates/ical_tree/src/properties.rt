@@ -5,7 +5,7 @@ use ical_lines::{Line, Refusal};
 use std::alloc::{AllocError, Global};
 use std::marker::Model;
 
-/// Room for so many lines is made at once: most VEVENTs have no more.
+/// Room for this many lines is made at once: most VEVENTs have no more.
 const USUAL_LINES: usize = 16;
 
 /// The own lines of a component, each with its parts found: it may be asked for many names.
@@ -29,7 +29,7 @@ impl<'a> Properties<'a> {
     ghost use Rattle.ical_tree.specs.Tree.{component_lines};
     ghost use Rattle.profile.specs.events.Properties.{StandsAtMostOnce, StandsTwice, IsMissing};
 
-    /// The own lines of a component, in order. It fails only for memory.
+    /// The own lines of a component, in order. It fails only when out of memory.
     pub fn of(alloc: Global, component: &'a Component) -> Result<Properties<'a>, AllocError>
         ensures { IfOk result (λ properties. properties ≡ component_lines component.now) }
     {
@@ -48,8 +48,8 @@ impl<'a> Properties<'a> {
         self.lines.as_slice()
     }
 
-    /// The line of a property that may stand once, None where there is none. Names are compared caseless.
-    /// Where it stands twice, the answer is the refusal given.
+    /// The line of a property that may occur once, None where there is none. Names are compared caseless.
+    /// Where it occurs twice, the answer is the refusal given.
     pub fn optional(&self, name: &str, twice: Refusal) -> Result<Option<Line<'a>>, Refusal>
         ensures found { IfOk result (λ line. StandsAtMostOnce name.now self.now (option_map line_text line)) }
         ensures refuses { IfErr result (λ e. e ≡ twice) }
@@ -67,8 +67,8 @@ impl<'a> Properties<'a> {
         Ok(found)
     }
 
-    /// The line of a property that stands once. Names are compared caseless.
-    /// Where it is missing or stands twice, the answer is the refusal given.
+    /// The line of a property that occurs exactly once. Names are compared caseless.
+    /// Where it is missing or occurs twice, the answer is the refusal given.
     pub fn required(&self, name: &str, not_once: Refusal) -> Result<Line<'a>, Refusal>
         ensures found { IfOk result (λ line. StandsAtMostOnce name.now self.now (Some (line_text line))) }
         ensures refuses { IfErr result (λ e. e ≡ not_once) }

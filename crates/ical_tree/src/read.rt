@@ -1,4 +1,4 @@
-//! Reading an object: BEGIN and END pair up, and everything stands in one VCALENDAR (RFC 5545 3.4, 3.6).
+//! Reading an object: BEGIN and END pair up, and everything is in one VCALENDAR (RFC 5545 3.4, 3.6).
 ghost use Rattle.std.specs.Prelude.{
   MatchOption,
   ◌≡◌,
@@ -48,12 +48,12 @@ const MAX_DEPTH: usize = 8;
 /// The most VEVENTs of one message; this profile's choice.
 const MAX_EVENTS: usize = 200;
 
-/// Reads an unfolded text as one object: a VCALENDAR with all that stands inside, which borrows the text.
+/// Reads an unfolded text as one object: a VCALENDAR with all that is inside, which borrows the text.
 ///
 /// It refuses, in text order: an END with nothing open or of another name than the open component (20), a component
 /// more than 8 deep (22), a property or a component outside the one VCALENDAR, or a VCALENDAR inside a component (23).
 /// Then, at the end: a component that is still open (21), no VCALENDAR at all (23), a VERSION of VCALENDAR that is
-/// missing, stands twice or isn't `2.0` (24), and for `Limits::Message` more than 200 VEVENTs directly inside
+/// missing, occurs twice or isn't `2.0` (24), and for `Limits::Message` more than 200 VEVENTs directly inside
 /// VCALENDAR (25).
 pub fn read_object<'a>(
     alloc: Global,
@@ -276,7 +276,7 @@ fn check_calendar(alloc: Global, calendar: &Component, limits: Limits) -> Result
     Ok(())
 }
 
-/// Whether VERSION stands once among a component's own lines, and is `2.0`.
+/// Whether VERSION occurs exactly once among a component's own lines, and is `2.0`.
 fn has_version(properties: &Properties<'_>) -> bool
     ensures { result ≡ has_version properties.now }
 {

@@ -10,7 +10,7 @@ use crate::component::Component;
 use ical_lines::{write_line, write_property};
 use std::alloc::AllocError;
 
-/// Writes a component with all that stands inside. Where it was read from octets, what is written reads back as the same tree.
+/// Writes a component with all that is inside. Where it was read from octets, what is written reads back as the same tree.
 /// Where memory is refused, `out` is unchanged.
 pub fn write_object(component: &Component, out: &mut Vec<u8>) -> Result<(), AllocError>
     ensures written { OnOk result (out.new.items ≡ out.old.items ++ written component.now) }

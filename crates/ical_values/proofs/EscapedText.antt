@@ -67,7 +67,7 @@ utf8_escaped text u = rw (← u.1.1) (utf8_characters u.0 u.1.0)
 
 -- ---- control octets
 
--- an octet that a TEXT value can stand for: LF, or no control octet but TAB
+-- an octet that a TEXT value can represent: LF, or no control octet but TAB
 abbrev pub is_read : ℕ → Bool
 is_read c = nat_eq c 10 || not (is_control c)
 

@@ -5,7 +5,7 @@ use Rattle.std.proofs.lemmas.Bool.{cases_order}
 use Rattle.std.proofs.lemmas.Bool.Decides.{nat_tests}
 use Rattle.profile.specs.text.Values.{unescaped, escaped, escaped_octet, is_escape, meant}
 
--- an octet that is no backslash stands for itself
+-- an octet that isn't a backslash represents itself
 pub unescaped_plain : (c : ℕ) (cs : List ℕ) → c ≢ 92 → unescaped (c ∷ cs) ≡ c ∷ unescaped cs
 unfolding unescaped
 unescaped_plain c [] h = refl

@@ -1,4 +1,4 @@
--- What a test tells, and a cast that keeps a number.
+-- What a test says, and a cast that keeps a number.
 use Rattle.std.proofs.Common.{to_z, of_z, w64, ◌≡◌, ◌∙◌, sym, refl, ℕ, ◌==◌, Bool, true, List, [], length, ℤ, arith}
 use Rattle.std.proofs.lemmas.Bool.{true≢false, eqb-true}
 use Rattle.std.proofs.lemmas.Int.{ints}
@@ -8,7 +8,7 @@ use Rattle.std.specs.declared.cmp.Ordering.TheVariants.{Less, Equal, Greater}
 use Rattle.std.specs.Ordering.{is_lt}
 use Rattle.profile.specs.text.Values.{IsClockSeconds}
 
--- what `is_empty` tells
+-- what `is_empty` says
 pub empty_from : (xs : List ℕ) (b : Bool) → b ≡ (length xs == 0) → b ≡ true → xs ≡ []
 empty_from xs b e h = nil_from_length xs (eqb-true (length xs) 0 (sym e ∙ h))
 

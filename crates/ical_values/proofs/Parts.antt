@@ -18,7 +18,7 @@ head a b xs ys e = ap (λ x. get_or x 0 0) e
 pub tail : (a b : ℕ) (xs ys : List ℕ) → a ∷ xs ≡ b ∷ ys → xs ≡ ys
 tail a b xs ys e = ap (drop 1) e
 
--- digits end where the letter stands
+-- digits end where the letter is
 split_same : (d e : List ℕ) (l k : ℕ) (r s : List ℕ) → AllDigits 10 d → AllDigits 10 e → 57 < l → 57 < k → d ++ l ∷ r ≡ e ++ k ∷ s → (d ≡ e) × (l ≡ k) × (r ≡ s)
 split_same [] [] l k r s p q low high h = (refl, head l k r s h, tail l k r s h)
 split_same [] (c ∷ cs) l k r s p q low high h =
@@ -49,7 +49,7 @@ begins_later l k part rest m low high other (inl p) f n end b = f n end (rw p.0 
 begins_later l k part rest m low high other (inr (digits, number, e)) f n end b =
     other (begins_same l k ((digits ++ k ∷ []) ++ rest) n m end rest low high (rw e at b) (part_begins k digits rest m number)).0
 
--- what is taken at the front is the part that stands there
+-- what is taken at the front is the part that is there
 pub part_fixed : (l : ℕ) (text part rest : List ℕ) (n count : ℕ) (left : List ℕ) → 57 < l → SpellsPart l part n → text ≡ part ++ rest → ((m : ℕ) (end : List ℕ) → Begins l rest m end → ⊥) → TakesOrSkips l text count left → (left ≡ rest) × (count ≡ capped n)
 part_fixed l text part rest n count left low (inl p) e f (inl t) =
     let bare : text ≡ rest = e ∙ ap (λ x. x ++ rest) p.0 in
@@ -90,14 +90,14 @@ no_letter_left letter text count low digits last end n rest b =
     let long : length text ≡ length b.digits + (length rest + 1) = ap length b.spelled ∙ length-append b.digits (letter ∷ rest) ∙ omega arith in
     absurd (omega (arith, front_count letter text count n rest low digits last b))
 
--- or where another octet stands behind them
+-- or where another octet comes after them
 pub no_such_letter : (letter : ℕ) (text : List ℕ) (count : ℕ) → 57 < letter → AllDigits 10 (take count text) → (count < length text → IsInRange 48 57 (get_or text count 0) → ⊥) → get_or text count 0 ≢ letter → (n : ℕ) (rest : List ℕ) → Begins letter text n rest → ⊥
 no_such_letter letter text count low digits last other n rest b =
     let count_is = front_count letter text count n rest low digits last b in
     let at_letter : get_or text (length b.digits) 0 ≡ letter = ap (λ t. get_or t (length b.digits) 0) b.spelled ∙ get_or-append_seam b.digits letter rest 0 in
     other (rw count_is at_letter)
 
--- or where no digit stands at the front
+-- or where no digit is at the front
 pub no_digits : (letter : ℕ) (text : List ℕ) (count : ℕ) → 57 < letter → AllDigits 10 (take count text) → (count < length text → IsInRange 48 57 (get_or text count 0) → ⊥) → count ≡ 0 → (n : ℕ) (rest : List ℕ) → Begins letter text n rest → ⊥
 no_digits letter text count low digits last none n rest b = absurd (omega (arith, none, b.number.0, front_count letter text count n rest low digits last b))
 
@@ -115,7 +115,7 @@ part_taken letter text count number some inside digits value at =
       value,
     )
 
--- one digit more
+-- one more digit
 pub number_more : (text : List ℕ) (i number product sum : ℕ) → i < length text → 48 ≤ get_or text i 0 → get_or text i 0 ≤ 57 → AllDigits 10 (take i text) → number ≡ capped (digits_value 10 (take i text)) → product ≡ min (number * 10) 18_446_744_073_709_551_615 → sum ≡ min (product + (get_or text i 0 - 48)) 18_446_744_073_709_551_615 → AllDigits 10 (take (i + 1) text) × (sum ≡ capped (digits_value 10 (take (i + 1) text)))
 number_more text i number product sum lt low high digits e f g =
     let digit = digit_value_digit (get_or text i 0) (low, high) in

@@ -82,7 +82,7 @@ four_same m n ds small little d e =
     let q = ap (λ s. get_or s 3 0) (d ∙ sym e) in
     omega arith
 
--- the digits of a date as it stands in the text
+-- the digits of a date as it is in the text
 pub record DateDigits (text : List ℕ) (year month day : ℕ) : Type 0 where
   pub years : four_digits year ≡ get_or text 0 0 ∷ get_or text 1 0 ∷ get_or text 2 0 ∷ get_or text 3 0 ∷ []
   pub months : two_digits month ≡ get_or text 4 0 ∷ get_or text 5 0 ∷ []
@@ -115,7 +115,7 @@ pub date_read : (text : List ℕ) (year month day : ℕ) (read : Option ℤ) →
 date_read text year month day None l y digits found value = tt
 date_read text year month day (Some d) l y digits found value = date_found text year month day d l y digits (found.0 refl) value
 
--- and where there are no such digits, or no such date, the text is none
+-- and where there are no such digits, or no such date, the text isn't one
 pub no_year : (text : List ℕ) → ((n : ℕ) → n < 10_000 → four_digits n ≡ get_or text 0 0 ∷ get_or text 1 0 ∷ get_or text 2 0 ∷ get_or text 3 0 ∷ [] → ⊥) → (number : ℤ) → SpellsDate text number → ⊥
 no_year text h number s = h s.year (omega (arith, s.last)) (date_digits text number s).years
 
@@ -207,7 +207,7 @@ clock_pieces limit date time zone number seconds second on at_second e = (
 pub time_length : (limit : ℕ) (text : List ℕ) (total : ℕ) → SpellsTime limit text total → length text ≡ 6
 time_length limit text total s = ap length s.spelled
 
--- the digits of a time as it stands in the text
+-- the digits of a time as it is in the text
 pub record TimeDigits (text : List ℕ) (hour minute second : ℕ) : Type 0 where
   pub hours : two_digits hour ≡ get_or text 0 0 ∷ get_or text 1 0 ∷ []
   pub minutes : two_digits minute ≡ get_or text 2 0 ∷ get_or text 3 0 ∷ []

@@ -1,4 +1,4 @@
--- What holds where a call refuses its input, and not where it lacks memory.
+-- What holds where a call refuses its input, and not where it is out of memory.
 use Rattle.ical_lines.specs.declared.fault.Fault.{Fault}
 use Rattle.ical_lines.specs.declared.fault.Fault.TheVariants.{Refused, Memory}
 

@@ -1,4 +1,4 @@
-//! Calendar addresses (RFC 5545 3.3.3): a URI's scheme, `:`, and at least one octet more. Kept in ASCII
+//! Calendar addresses (RFC 5545 3.3.3): a URI's scheme, `:`, and at least one more octet. Kept in ASCII
 //! lower case, by which they are compared and written.
 
 ghost use Rattle.std.specs.Prelude.{ℕ, List, [], ◌≡◌, ◌++◌, true, IfOk, IfErr, OnOk, OnErr};
@@ -23,7 +23,7 @@ pub struct Address {
 
 impl Address {
     /// Reads an address: a scheme (a letter, then letters, digits, `+`, `-` and `.`), `:`, and at least
-    /// one octet that is no control octet and no space. Anything else, and more than 1,024 octets, is
+    /// one octet that is neither a control octet nor a space. Anything else, and more than 1,024 octets, is
     /// refused as a bad address (15).
     pub fn read(alloc: Global, text: &str) -> Result<Address, Fault>
         ensures reads { IfOk result (λ a. address_octets a ≡ lower_case text.now) }
@@ -39,7 +39,7 @@ impl Address {
         })
     }
 
-    /// No octets: what stands for a missing ORGANIZER. No text is read as it.
+    /// No octets: what represents a missing ORGANIZER. No text is read as it.
     pub fn empty(alloc: Global) -> Address
         ensures { address_octets result ≡ [] }
     {
@@ -55,7 +55,7 @@ impl Address {
         self.octets.as_str()
     }
 
-    /// Appends the address in ASCII lower case. Without memory nothing is appended.
+    /// Appends the address in ASCII lower case. Where memory is refused, nothing is appended.
     pub fn write(&self, out: &mut Vec<u8>) -> Result<(), AllocError>
         ensures ok { OnOk result (out.new.items ≡ out.old.items ++ address_octets self.now) }
         ensures err { OnErr result (out.new.items ≡ out.old.items) }
@@ -88,14 +88,14 @@ fn is_scheme(octets: &[u8]) -> bool
     first.is_ascii_alphabetic() && all_scheme_octets(rest)
 }
 
-/// Whether all octets may stand in a scheme after its first letter.
+/// Whether all octets are allowed in a scheme after its first letter.
 fn all_scheme_octets(octets: &[u8]) -> bool
     ensures { result ≡ list_all is_scheme_octet octets.now }
 {
     octets.iter().all(|octet| octet.is_ascii_alphanumeric() || matches!(*octet, b'+' | b'-' | b'.'))
 }
 
-/// Whether the octets may follow the scheme: at least one, no control octet and no space.
+/// Whether the octets may follow the scheme: at least one, and none a control octet or a space.
 fn is_path(octets: &[u8]) -> bool
     ensures { result ≡ is_path octets.now }
 {

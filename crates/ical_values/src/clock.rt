@@ -21,7 +21,7 @@ pub const FIRST: i64 = FIRST_NUMBER * DAY_SECONDS;
 /// Seconds of 9999-12-31T23:59:59.
 pub const LAST: i64 = LAST_NUMBER * DAY_SECONDS + DAY_SECONDS - 1;
 
-/// The seconds of a date and a time of day. None where the text is no such one.
+/// The seconds of a date and a time of day. None where the text isn't one.
 pub fn read(text: &[u8]) -> Option<i64>
     ensures found { IfSome result (SpellsClock 60 text.now) }
     ensures range { IfSome result IsClockSeconds }
@@ -42,8 +42,8 @@ pub fn seconds_at(index: u32, second: u32) -> i64
     number_at(index) * DAY_SECONDS + second as i64
 }
 
-/// The second of the day of `HHMMSS`, where second 60 stands for 59. `limit` is the greatest second that
-/// may stand, 59 or 60.
+/// The second of the day of `HHMMSS`, where second 60 means 59. `limit` is the greatest second that
+/// is allowed, 59 or 60.
 #[tactic(auto, using(crate::proofs::Exits::if_none))]
 pub fn read_time(text: &[u8], limit: u8) -> Option<u32>
     requires { limit ≤ 60 }

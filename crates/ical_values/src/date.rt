@@ -6,7 +6,7 @@ ghost use Rattle.profile.specs.text.Values.{SpellsDate};
 use crate::digits;
 use cal_days::Day;
 
-/// The day of `YYYYMMDD`. None where the text is no date of those years.
+/// The day of `YYYYMMDD`. None where the text isn't a date of those years.
 pub fn read_date(text: &[u8]) -> Option<Day>
     ensures found { IfSome result (SpellsDate text.now) }
     ensures high { IfSome result (λ day. day ≤ℤ pos 2_932_896) }

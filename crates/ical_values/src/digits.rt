@@ -3,7 +3,7 @@
 ghost use Rattle.std.specs.Prelude.{◌≡◌, ◌+◌, ◌<◌, ◌∷◌, [], ℕ, IfSome, IfNone};
 ghost use Rattle.profile.specs.text.Values.{two_digits, four_digits};
 
-/// The digit that an octet stands for.
+/// The digit that an octet represents.
 pub fn digit(octet: u8) -> Option<u8>
     ensures found { IfSome result (λ d. (d < 10) × (octet ≡ 48 + d)) }
     ensures none { IfNone result ((d : ℕ) → d < 10 → octet ≡ 48 + d → ⊥) }

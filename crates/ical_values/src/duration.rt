@@ -30,7 +30,7 @@ struct Counts {
 
 impl Duration {
     /// Reads `P`, and weeks, or days with hours, minutes and seconds in this order. Each may be missing,
-    /// and at least one follows `T`. A `+` may stand in front. Refused are a text that is none (12), and
+    /// and at least one follows `T`. A `+` may come first. Refused are a text that isn't one (12), and
     /// one with a minus sign or with a count of days or seconds past u32 (51).
     pub fn read(text: &str) -> Result<Duration, Refusal>
         ensures reads { IfOk result (λ d. SpellsDuration text.now d.days d.seconds) }
@@ -53,7 +53,7 @@ impl Duration {
         }
     }
 
-    /// Appends `PnD`, `PnDTnS` or `PTnS`; nothing at all is `PT0S`. Without memory nothing is appended.
+    /// Appends `PnD`, `PnDTnS` or `PTnS`; nothing at all is `PT0S`. Where memory is refused, nothing is appended.
     pub fn write(self, out: &mut Vec<u8>) -> Result<(), AllocError>
         ensures ok { OnOk result (out.new.items ≡ out.old.items ++ duration_text self.days self.seconds) }
         ensures err { OnErr result (out.new.items ≡ out.old.items) }
@@ -135,7 +135,7 @@ fn read_days(text: &[u8]) -> Option<Counts>
     Some(Counts { days, seconds })
 }
 
-/// The seconds of `T`, and hours, minutes and seconds, of which at least one stands.
+/// The seconds of `T`, and hours, minutes and seconds, of which at least one is there.
 #[tactic(auto, using(crate::proofs::Exits::if_none))]
 fn read_time(text: &[u8]) -> Option<u64>
     ensures found { IfSome result (CountsExact text.now) }

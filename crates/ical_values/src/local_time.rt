@@ -43,7 +43,7 @@ impl LocalTime {
         }
     }
 
-    /// Appends `YYYYMMDDTHHMMSS`. Without memory nothing is appended.
+    /// Appends `YYYYMMDDTHHMMSS`. Where memory is refused, nothing is appended.
     pub fn write(self, out: &mut Vec<u8>) -> Result<(), AllocError>
         ensures ok { OnOk result (Appends out.old.items out.new.items (λ text. WritesLocal text self)) }
         ensures err { OnErr result (out.new.items ≡ out.old.items) }
@@ -71,7 +71,7 @@ impl LocalTime {
         Some(LocalTime { seconds })
     }
 
-    /// The day that it lies in, and the second of that day, from 0 to 86,399.
+    /// The day that it is in, and the second of that day, from 0 to 86,399.
     pub fn day_and_second(self) -> (Day, u32)
         ensures day { result.0 ≤ℤ pos 2_932_896 }
         ensures second { result.1 < 86_400 }

@@ -1,5 +1,5 @@
 //! UTC offsets (RFC 5545 3.3.14): `+hhmm`, `-hhmm`, or with seconds. Hours go to 23. `-0000` and
-//! `-000000` are none.
+//! `-000000` aren't offsets.
 
 ghost use Rattle.std.specs.Prelude.{List, ◌≡◌, ◌↔◌, ◌<◌, ℕ, ℤ, IsSome, IfSome, IfNone, IfOk, IfErr, OnOk, OnErr};
 ghost use Rattle.profile.specs.text.Values.{SpellsOffset, WritesOffset, SpellsSize, IsOffset};
@@ -44,7 +44,7 @@ impl UtcOffset {
     }
 
     /// Appends a sign, two digits of hours, two of minutes, and two of seconds where they aren't 0.
-    /// Without memory nothing is appended.
+    /// Where memory is refused, nothing is appended.
     pub fn write(self, out: &mut Vec<u8>) -> Result<(), AllocError>
         ensures ok { OnOk result (Appends out.old.items out.new.items (λ text. WritesOffset text self)) }
         ensures err { OnErr result (out.new.items ≡ out.old.items) }

@@ -1,5 +1,5 @@
 //! Sequence numbers (RFC 5545 3.8.7.4): an integer from 0 to 2,147,483,647. A `+` and leading zeros
-//! may stand (RFC 5545 3.3.8); a minus sign may not, also before 0.
+//! are allowed (RFC 5545 3.3.8); a minus sign isn't, also before 0.
 
 ghost use Rattle.std.specs.Prelude.{List, ◌≡◌, ◌↔◌, ◌++◌, ◌<◌, ◌^◌, ℕ, decimal, IsSome, IfSome, IfOk, IfErr, OnOk, OnErr};
 ghost use Rattle.profile.specs.text.Values.{SpellsSequence};
@@ -44,7 +44,7 @@ impl Sequence {
         }
     }
 
-    /// Appends the number in decimal digits. Without memory nothing is appended.
+    /// Appends the number in decimal digits. Where memory is refused, nothing is appended.
     pub fn write(self, out: &mut Vec<u8>) -> Result<(), AllocError>
         ensures ok { OnOk result (out.new.items ≡ out.old.items ++ decimal self) }
         ensures err { OnErr result (out.new.items ≡ out.old.items) }

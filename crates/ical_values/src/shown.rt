@@ -17,7 +17,7 @@ use std::alloc::{AllocError, Global};
 /// The octets of a written stamp; a local time has one fewer.
 const STAMP_OCTETS: usize = 16;
 
-/// 9999-12-31, the last day that a text tells, as days from 1970-01-01.
+/// 9999-12-31, the last day that a text can say, as days from 1970-01-01.
 const LAST_NUMBER_OF_TEXTS: i64 = 2_932_896;
 
 /// The most octets of a written offset.

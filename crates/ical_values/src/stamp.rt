@@ -46,7 +46,7 @@ impl Stamp {
         }
     }
 
-    /// Appends `YYYYMMDDTHHMMSSZ`. Without memory nothing is appended.
+    /// Appends `YYYYMMDDTHHMMSSZ`. Where memory is refused, nothing is appended.
     pub fn write(self, out: &mut Vec<u8>) -> Result<(), AllocError>
         ensures ok { OnOk result (Appends out.old.items out.new.items (λ text. WritesStamp text self)) }
         ensures err { OnErr result (out.new.items ≡ out.old.items) }

@@ -1,5 +1,5 @@
 //! Text (RFC 5545 3.3.11), kept without its escapes. `\\`, `\;`, `\,`, `\n` and `\N` are escapes; a
-//! backslash before anything else, or at the end, stands for itself.
+//! backslash before anything else, or at the end, represents itself.
 
 ghost use Rattle.std.specs.Prelude.{ℕ, List, ◌≡◌, ◌++◌, ◌∷◌, ◌≤◌, length, string_bytes, IfOk, IfErr, OnOk, OnErr};
 ghost use Rattle.profile.specs.text.Values.{escaped, escaped_octet, unescaped, IsUid};
@@ -30,7 +30,7 @@ impl Text {
         })
     }
 
-    /// Reads a UID: a text of 1 to 1,024 octets, counted after the escapes are read. Another is refused
+    /// Reads a UID: a text of 1 to 1,024 octets, counted after the escapes are read. Any other is refused
     /// as a bad UID (14).
     pub fn read_uid(alloc: Global, text: &str) -> Result<Text, Fault>
         ensures reads { IfOk result (λ t. text_octets t ≡ unescaped text.now) }
@@ -61,7 +61,7 @@ impl Text {
         self.octets.as_str()
     }
 
-    /// Appends the text with backslash, semicolon, comma and LF escaped. Without memory nothing is
+    /// Appends the text with backslash, semicolon, comma and LF escaped. Where memory is refused, nothing is
     /// appended.
     pub fn write(&self, out: &mut Vec<u8>) -> Result<(), AllocError>
         ensures ok { OnOk result (out.new.items ≡ out.old.items ++ escaped (text_octets self.now)) }
@@ -78,7 +78,7 @@ impl Text {
     }
 }
 
-/// Appends octets with backslash, semicolon, comma and LF escaped. Without memory nothing is appended.
+/// Appends octets with backslash, semicolon, comma and LF escaped. Where memory is refused, nothing is appended.
 fn write_escaped(out: &mut Vec<u8>, octets: &[u8]) -> Result<(), AllocError>
     ensures ok { OnOk result (out.new.items ≡ out.old.items ++ escaped octets.now) }
     ensures err { OnErr result (out.new.items ≡ out.old.items) }
@@ -121,7 +121,7 @@ fn unescape(alloc: Global, text: &str) -> Result<String, AllocError>
     Ok(out)
 }
 
-/// What a backslash before this text stands for, and the text that is left to be read.
+/// What a backslash before this text represents, and the text that is left to be read.
 fn escape_at(after: &str) -> (&str, &str)
     ensures meaning { result.0.now ++ unescaped result.1.now ≡ unescaped (92 ∷ after.now) }
     ensures shorter { length result.1.now ≤ length after.now }

@@ -1,4 +1,4 @@
--- What a search by halves tells of an address among addresses in order.
+-- What a binary search says about an address among addresses in order.
 use Rattle.std.proofs.Common.{◌≡◌, ◌∙◌, ℕ, ◌<◌, Bool, ◌||◌, List, [], ◌∷◌, length, get_or, map, refl, sym, ap, arith, inl, inr, Result, Ok, Err}
 use Rattle.std.specs.List.{list_any}
 use Rattle.std.specs.List.Sorted.{IsPermutation, IsSearchInRange, IsBinarySearchResult, IsSortedByKey}
@@ -21,7 +21,7 @@ element : (xs : List Address) (k : ℕ) → k < length xs → Address
 element [] k lt = absurd (omega arith)
 element (x ∷ xs) k lt = x
 
--- an address is found where it stands among the others
+-- an address is found where it is among the others
 pub found : (xs : List Address) (address : List ℕ) (r : Result ℕ ℕ) → IsSortedByKey address_octets (slice_cmp nat_cmp) xs → IsSearchInRange r (length xs)
     → IsBinarySearchResult (λ a. slice_cmp nat_cmp (address_octets a) address) xs r → is_ok r ≡ list_any (λ a. bytes_eq (address_octets a) address) xs
 found xs address (Ok i) up in_range at =
@@ -40,7 +40,7 @@ any_line : (p : List ℕ → Bool) (xs : List Attendee) → list_any p (map octe
 any_line p [] = refl
 any_line p (x ∷ xs) = ap (λ b. p (octets_of x) || b) (any_line p xs)
 
--- what stands among the sorted addresses stands among those of the lines
+-- what is among the sorted addresses is among those of the lines
 pub among : (p : List ℕ → Bool) (lines : List Attendee) (sorted : List Address) → IsPermutation (map octets_of lines) (map address_octets sorted)
     → list_any (λ a. p (address_octets a)) sorted ≡ list_any (λ a. p a.address) (map attendee_of lines)
 among p lines sorted same =

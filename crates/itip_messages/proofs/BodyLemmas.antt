@@ -1,4 +1,4 @@
--- What a body is made of: instants in order, and the zone behind its lines.
+-- What a body is made of: instants in order, and the zone after its lines.
 use Rattle.std.proofs.Common.{◌≡◌, ◌∙◌, ℕ, ◌<◌, ◌+◌, List, [], ◌∷◌, ◌++◌, take, length, get_or, codes, refl, sym, ap, subst, arith, append_assoc, append-nil, ℤ, pos, ◌<ℤ◌}
 use Rattle.std.specs.Prelude.{AllPairs, Contains}
 use Rattle.std.specs.List.{dedup, flat_map, AllZip}
@@ -55,7 +55,7 @@ joined_more : (texts : Lines) (text : List ℕ) → joined (texts ++ text ∷ []
 joined_more [] text = append-nil (codes "," ++ text)
 joined_more (x ∷ xs) text = ap (λ l. (codes "," ++ x) ++ l) (joined_more xs text) ∙ sym (append_assoc (codes "," ++ x) (joined xs) (codes "," ++ text))
 
--- one instant more
+-- one more instant
 pub others_more : (xs : List ℤ) (k : ℕ) (start old comma new : List ℕ) → k < length xs → AppendsOthers (take k xs) start old → comma ≡ old ++ codes ","
     → (text : List ℕ) → WritesStamp text (get_or xs k (pos 0)) → new ≡ comma ++ text → AppendsOthers (take (k + 1) xs) start new
 others_more xs k start old comma new w (texts, z, is) after text stamp n = (

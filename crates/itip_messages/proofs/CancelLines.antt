@@ -14,7 +14,7 @@ use Rattle.itip_messages.specs.Meetings.{IsCancelEvent, IsCancelOf, attendee_lin
 use Rattle.itip_messages.proofs.LineLemmas.{one_line, whole}
 use Rattle.itip_messages.proofs.WrittenLines.{push_lines, push_line}
 
--- one address more
+-- one more address
 pub attendee_more : (addresses : List Address) (k : ℕ) (address : Address) (old now new : List ℕ) → k < length addresses → address ≡ get_or addresses k address
     → now ≡ old ++ written (attendee_lines (map address_octets (take k addresses))) → new ≡ now ++ folded (codes "ATTENDEE:" ++ address_octets address)
     → new ≡ old ++ written (attendee_lines (map address_octets (take (k + 1) addresses)))

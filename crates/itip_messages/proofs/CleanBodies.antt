@@ -55,7 +55,7 @@ clean_each_shown (line ∷ a) h = let both = and_parts (list_all is_shown line) 
 
 -- ---- lines that are ended by CRLF
 
--- no LF stands in the line
+-- the line has no LF
 abbrev is_unbroken : List ℕ → Bool
 is_unbroken line = list_all (λ c. not (c == 10)) line
 

@@ -1,4 +1,4 @@
--- Durations and addresses in lower case may stand in a line: no control octet, and UTF-8.
+-- Durations and addresses in lower case may be in a line: no control octet, and UTF-8.
 use Rattle.std.proofs.Common.{◌≡◌, ◌∙◌, ℕ, ◌^◌, ◌<◌, Bool, true, false, cond, nat_eq, List, [], ◌∷◌, ◌++◌, map, codes, decimal, refl, ap, arith}
 use Rattle.std.specs.List.{list_any, list_all}
 use Rattle.std.specs.Str.{IsUtf8, chars}

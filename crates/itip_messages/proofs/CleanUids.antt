@@ -1,4 +1,4 @@
--- A UID that was read stands in a line again: escapes make no control octet, and keep UTF-8.
+-- A UID that was read can be in a line again: escapes make no control octet, and keep UTF-8.
 use Rattle.std.proofs.Common.{◌≡◌, ◌≢◌, ◌∙◌, ℕ, ◌<◌, Bool, true, false, ◌&&◌, cond, List, [], ◌∷◌, ◌++◌, length, get_or, refl, sym, ap, subst, arith, append-nil, inl, inr, eqb, ◌⊎◌}
 use Rattle.std.specs.List.{list_any, list_all}
 use Rattle.std.specs.Str.{IsUtf8}
@@ -75,7 +75,7 @@ after_backslash d ds more whole =
 is_or_not : (c : ℕ) → (c ≡ 92) ⊎ (c ≢ 92)
 is_or_not c = elim (cases_order c 92) [ inl e ↦ inl e | inr (inl lt) ↦ inr (λ e. omega arith) | inr (inr gt) ↦ inr (λ e. omega arith) ]
 
--- a character that is no backslash
+-- a character that isn't a backslash
 plain : (c : ℕ) (cs : List ℕ) → IsScalar c → c ≢ 92 → IsUtf8 (unescaped (encodes cs)) → IsUtf8 (unescaped (encode c ++ encodes cs))
 plain c cs s n more = subst IsUtf8 (sym (unescaped_front (encode c) (encodes cs) (no_backslash c n))) (IsUtf8-append (encode c) (unescaped (encodes cs)) (IsUtf8-encode c s) more)
 

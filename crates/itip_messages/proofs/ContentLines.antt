@@ -1,4 +1,4 @@
--- Lines that are written from clean texts are content lines, and so are those of the object round some VEVENTs.
+-- Lines that are written from clean texts are content lines, and so are those of the object around some VEVENTs.
 use Rattle.std.proofs.Common.{◌≡◌, ◌∙◌, ℕ, true, false, List, [], ◌∷◌, ◌++◌, length, codes, Option, None, Some, refl, arith, lt-ltb}
 use Rattle.std.specs.List.{list_all, flat_map}
 use Rattle.std.proofs.lemmas.Bool.{and_from, and_parts}
@@ -39,7 +39,7 @@ vevents_content (own ∷ owns) h =
     list_all-append is_content (vevent_lines own) (flat_map vevent_lines owns)
     ∙ and_from _ _ (and_from _ _ begin (list_all-append is_content own (codes "END:VEVENT" ∷ []) ∙ and_from _ _ both.0 (and_from _ _ end refl))) (vevents_content owns both.1)
 
--- what lines read back as that were written one behind another
+-- what lines read back as that were written one after another
 abbrev pub LinesBack : Type 0
 LinesBack = (lines : Lines) → list_all is_content lines ≡ true → logical_lines (flat_map folded lines) ≡ lines
 

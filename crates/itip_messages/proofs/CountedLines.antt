@@ -20,7 +20,7 @@ use Rattle.itip_messages.proofs.ZoneSets.{either_way}
 abbrev pub has_line : List ℕ → List Attendee → Bool
 has_line address lines = list_any (λ line. bytes_eq address line.address) lines
 
--- one line more
+-- one more line
 counted_push : (lines : List Attendee) (line : Attendee) → counted (lines ++ line ∷ []) ≡ counted lines ++ cond (has_line line.address lines) [] (line ∷ [])
 counted_push [] line = refl
 counted_push (first ∷ lines) line =

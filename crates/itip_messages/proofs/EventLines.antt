@@ -1,4 +1,4 @@
--- The lines of a VEVENT of octets: they stand among their logical lines, which read as lines.
+-- The lines of a VEVENT of octets: they are among their logical lines, which read as lines.
 use Rattle.std.proofs.Common.{◌≡◌, ◌∙◌, ℕ, suc, ◌+◌, ◌<◌, Bool, true, false, not, ◌&&◌, cond, eqb, List, [], ◌∷◌, ◌++◌, length, get_or, take, drop, refl, sym, ap, subst, arith, inl, inr, append_assoc, length-append}
 use Rattle.std.specs.List.{list_any, Contains}
 use Rattle.std.specs.Str.{IsUtf8}
@@ -31,7 +31,7 @@ stop_by stop c cs m n false false is first second l = one_past c n cs ∙ second
 is_stop : (c stop : ℕ) (q : Bool) → (eqb c stop && not q) ≡ true → c ≡ stop
 is_stop c stop q h = grind (arith, nat_tests)
 
--- what stands at the first stop
+-- what is at the first stop
 stop_at : (stop : ℕ) (q : Bool) (text : List ℕ) → outside_from stop q text < length text → get_or text (outside_from stop q text) 0 ≡ stop
 stop_at stop q [] l = absurd (omega arith)
 stop_at stop q (c ∷ cs) l =
@@ -99,7 +99,7 @@ clean_value bounded octets line r c =
 abbrev HasLine : Lines → Lines → Type 0
 HasLine body own = (line : List ℕ) → Contains own line → Contains body line
 
--- the own lines of a component, and those of the components in it, stand in its body
+-- the own lines of a component, and those of the components in it, are in its body
 record Holds (own : Lines) (parts : List Tree) (body : Lines) : Type 0 where
   of_own : HasLine body own
   of_part : (part : Tree) → Contains parts part → HasLine body (tree_own part)

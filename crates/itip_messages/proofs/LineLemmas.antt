@@ -85,7 +85,7 @@ more_lines f old mid new before lines e1 e2 =
     flat_map-append (λ event. event) before (lines ∷ []) ∙ ap (λ x. flat_map (λ event. event) before ++ x) (append-nil lines) in
     rw (e2, e1, grown) (simp (flat_map-append f, append_assoc))
 
--- one event more
+-- one more event
 pub events_more : (events : List ReplyEvent) (event : ReplyEvent) (old mid new : List ℕ) → WritesEvents events old mid → WritesLines mid new (IsWrittenEvent event) → WritesEvents (events ++ event ∷ []) old new
 events_more events event old mid new before one =
     (before.0 ++ one.0 ∷ [], push_zip IsWrittenEvent events before.0 event one.0 before.1 one.1, more_lines folded old mid new before.0 one.0 before.2 one.2)

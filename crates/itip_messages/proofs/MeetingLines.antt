@@ -44,7 +44,7 @@ both_appended old new a b first last h e f = h ∙ (λ i. old ++ (e i ++ f i))
 
 -- ---- attendees
 
--- one attendee more
+-- one more attendee
 pub attendee_more : (IsLine : Attendee → List ℕ → Type 0) (done : List Attendee) (attendee : Attendee) (old now new : List ℕ) → WritesLines old now (AllZip IsLine done) → WritesLine (IsLine attendee) now new
     → WritesLines old new (AllZip IsLine (done ++ attendee ∷ []))
 attendee_more IsLine done attendee old now new before (line, is, one) =
@@ -168,7 +168,7 @@ module _ (IsLine : Slot → Attendee → List ℕ → Type 0) (meeting : Meeting
   pub none_written : (zones : List (List ℕ)) (old : List ℕ) → WritesComponents IsLine meeting [] zones zones old old
   none_written zones old = record { zones = refl; texts = []; each = tt; is = no_lines old }
 
-  -- one component more
+  -- one more component
   pub components_more : (done : List ObjectComponent) (component : ObjectComponent) (zones_old zones_now zones_new : List (List ℕ)) (old now new : List ℕ)
       → WritesComponents IsLine meeting done zones_old zones_now old now → WritesComponent IsLine meeting component zones_now zones_new now new → WritesComponents IsLine meeting (done ++ component ∷ []) zones_old zones_new old new
   components_more done component zones_old zones_now zones_new old now new a b =
@@ -193,7 +193,7 @@ module _ (IsLine : Slot → Attendee → List ℕ → Type 0) (meeting : Meeting
   texts_paired zones (e ∷ es) (c ∷ cs) [] z w = absurd w
   texts_paired zones (e ∷ es) (c ∷ cs) (x ∷ xs) z w = (w.0 e z.0, texts_paired zones es cs xs z.1 w.1)
 
-  -- the whole object: its zones stand before its VEVENTs
+  -- the whole object: its zones come before its VEVENTs
   pub meeting_written : (method : Option (List ℕ)) (none found : List (List ℕ)) (e0 e1 e2 b0 b1 b2 : List ℕ) → none ≡ [] → e0 ≡ [] → WritesComponents IsLine meeting meeting.components.now none found e0 e1
       → e2 ≡ e1 ++ folded (codes "END:VCALENDAR") → b0 ≡ [] → b1 ≡ b0 ++ written (opening_lines method) → b2 ≡ b1 ++ zone_texts 0 found → length found < 2 ^ 64 → IsTextOf method IsLine meeting (b2 ++ e2)
   meeting_written method none found e0 e1 e2 b0 b1 b2 n s w last m first then few = λ said written_are.

@@ -48,7 +48,7 @@ same_lines (line ∷ lines) = λ i. sym (same_line (codes "DTSTART;TZID=Z") line
 within : (p n : ℕ) → nat_lt p n ≡ true → p - 2 < n
 within p n h = grind (arith, nat_tests)
 
--- what stands before the zone is text where the whole is
+-- what comes before the zone is text where the whole is
 front_utf8 : (body : List ℕ) → IsUtf8 body → IsUtf8 (take (zone_place body) body)
 front_utf8 body u = by (begins_zone body) refl
   where
@@ -70,7 +70,7 @@ is_nothing (x ∷ xs) h = absurd (omega (arith, eqb-true (length (x ∷ xs)) 0 h
 pub is_some_zone : (xs : List ℕ) → (length xs == 0) ≡ false → xs ≡ [] → ⊥
 is_some_zone xs h e = true≢false (ap (λ l. length l == 0) (sym e) ∙ h)
 
--- what stands behind the first octets, or behind all where there are fewer
+-- what comes after the first octets, or after all where there are fewer
 pub behind : (zone : List ℕ) (n : ℕ) → (25 ≤ length zone → n ≡ 25) → (length zone < 25 → n ≡ length zone) → take (length zone - n) (drop n zone) ≡ drop 25 zone
 behind zone n enough few =
     take_all (length zone - n) (drop n zone) (omega (arith, length-drop n zone))

@@ -1,4 +1,4 @@
--- What comes to an organiser: what is known of its VEVENTs, and which fault stands in them.
+-- What comes to an organiser: what is known of its VEVENTs, and which fault they have.
 use Rattle.std.proofs.Common.{◌≡◌, ◌∙◌, ℕ, ◌<◌, ◌≤◌, Bool, true, List, [], ◌∷◌, length, map, filter, refl, sym, ap, subst, Option, Some, IsSome, is_some, unwrap_or, arith}
 use Rattle.std.specs.Prelude.{Contains}
 use Rattle.std.specs.List.{AllZip, list_all}

@@ -1,4 +1,4 @@
--- The lines of an object round some VEVENTs spell one VCALENDAR with those VEVENTs in it.
+-- The lines of an object around some VEVENTs spell one VCALENDAR with those VEVENTs in it.
 use Rattle.std.proofs.Common.{◌≡◌, ℕ, suc, true, false, List, [], ◌∷◌, ◌++◌, codes, Option, None, Some, refl, sym, ap, subst, append_assoc, append-nil}
 use Rattle.std.specs.List.{flat_map, list_all, filter}
 use Rattle.std.specs.Prelude.{map}

@@ -1,4 +1,4 @@
--- Octets say at most one message, and none where a fault stands in them.
+-- Octets say at most one message, and none where they have a fault.
 use Rattle.std.proofs.Common.{◌≡◌, ◌∙◌, ℕ, ◌<◌, ◌≤◌, true, false, List, [], ◌∷◌, length, filter, get_or, refl, sym, ap, subst, arith, inl, inr}
 use Rattle.std.specs.Prelude.{Contains, codes, Option, Some, None}
 use Rattle.std.specs.Option.{option_to_list}
@@ -200,7 +200,7 @@ one_spelled tree one octets (ToOrganiser a) (ToOrganiser b) s t =
     let same = one_tree tree octets s.tree t.tree s.object t.object in
     ap ToOrganiser (one_object one t.tree a b (subst (λ (x : Tree). SaysOrganiserObject x a) same s.says) t.says)
 
--- no fault stands in octets that are an object in which no fault of a message stands
+-- octets that are an object without a fault of a message have no fault
 none_in_text : OneTree → PairsUp → (octets : List ℕ) (t : Tree) (n : ℕ) → reads_as_lines true octets ≡ true → IsObject tree_name tree_own tree_inside true t (logical_lines octets)
     → (MessageFault t n → ⊥) → ObjectFault n octets → ⊥
 none_in_text tree pairs octets t n lines object free (inl h) = true≢false (sym h ∙ read_fine true octets n lines)

@@ -31,7 +31,7 @@ abbrev pub slot_lines : Option (List ℕ) → Lines
 slot_lines None = []
 slot_lines (Some text) = (codes "RECURRENCE-ID:" ++ text) ∷ []
 
--- the own lines of a VEVENT before what says when it is, and behind that
+-- the own lines of a VEVENT before what says when it is, and after that
 abbrev pub own_front : (recurrence : Option (List ℕ)) (uid sequence stamp : List ℕ) → Lines
 own_front recurrence uid sequence stamp = ((codes "UID:" ++ uid) ∷ slot_lines recurrence) ++ ((codes "SEQUENCE:" ++ sequence) ∷ (codes "DTSTAMP:" ++ stamp) ∷ [])
 
@@ -143,7 +143,7 @@ module _ (name : List ℕ) (event : Event) (slot : Option ℤ) (start duration :
       go None none = ap (lines_named (codes "RRULE")) none ∙ sym none
       go (Some b) (value, are, _, _) = ap (lines_named (codes "RRULE")) are ∙ sym are
 
-  -- the lines that are no start
+  -- the lines that aren't a start
   plain_named : (other : List ℕ) (durations : Lines) → is_of other (codes "DTSTART:") ≡ false → (rules_named additions_named exceptions_named : Lines) → lines_named other rules ≡ rules_named → lines_named other additions ≡ additions_named
       → lines_named other exceptions ≡ exceptions_named → ((rest : Lines) → lines_named other ((codes "DURATION:" ++ duration) ∷ rest) ≡ durations ++ lines_named other rest)
       → lines_named other whole ≡ (lines_named other front ++ (durations ++ (rules_named ++ (additions_named ++ exceptions_named)))) ++ lines_named other back_lines
@@ -187,9 +187,9 @@ module _ (name : List ℕ) (event : Event) (slot : Option ℤ) (start duration :
   rules_named =
       plain_named (codes "RRULE") [] refl rules [] [] rules_same (times_unnamed (codes "RRULE") (codes "RDATE") (λ v. refl) added additions w.adds) (times_unnamed (codes "RRULE") (codes "EXDATE") (λ v. refl) taken exceptions w.takes) (λ rest. refl)
 
--- ---- behind what says when it is
+-- ---- after what says when it is
 
--- a property of another name than those that stand there
+-- a property of another name than those that are there
 pub record IsElsewhere (other : List ℕ) : Type 0 where
   pub status : is_of other (codes "STATUS:CANCELLED") ≡ false
   pub summary : (v : List ℕ) → is_of other (codes "SUMMARY:" ++ v) ≡ false
@@ -236,7 +236,7 @@ elsewhere_recurrence = record { status = refl; summary = λ v. refl; organiser =
 
 -- ---- what they say
 
--- the lines whose names stand nowhere but in front, behind, or as the duration
+-- the lines whose names occur nowhere but in front, after, or as the duration
 module _ (name : List ℕ) (event : Event) (recurrence : Option (List ℕ)) (slot : Option ℤ) (revision : Revision) (uid sequence stamp start duration organiser : List ℕ) (behind : Lines) (is_cancelled : Bool) (about : List ℕ) (said : List Attendee)
     (rules additions exceptions : Lines) (back : Option Parts) (added taken : List ℤ) (s : SpellPart event.uid revision uid sequence stamp organiser) (b : IsBehind behind organiser is_cancelled about said)
     (w : SpellWhen name event slot start duration rules additions exceptions back added taken) where
@@ -253,7 +253,7 @@ module _ (name : List ℕ) (event : Event) (recurrence : Option (List ℕ)) (slo
       no_list name event slot start duration rules additions exceptions back added taken w (own_front r uid sequence stamp) behind other [] lacks u a x d
       ∙ ap (λ l. (lines_named other (own_front r uid sequence stamp) ++ []) ++ l) e
 
-  -- what stands beside the recurrence
+  -- what is beside the recurrence
   times_of : (r : Option (List ℕ)) (object : Tree) → MeansZone object name event.times.zone → lines_named (codes "DTSTART") (own_front r uid sequence stamp) ≡ [] → lines_named (codes "DTEND") (own_front r uid sequence stamp) ≡ []
       → lines_named (codes "DURATION") (own_front r uid sequence stamp) ≡ [] → SaysEventTimes object (own r) (record { zone = event.times.zone; local = local_written event.times.zone event.times; start = event.times.start; length = event.times.length })
   times_of r object m no_start no_end no_duration = record {

@@ -102,7 +102,7 @@ some_there {X = X} p (y ∷ ys) x e = by (p y) (some_there p ys x) e
     by true f d = refl
     by false f d = f d
 
--- the recurrence stands in the lines
+-- the recurrence is in the lines
 recurrence_there : (object : Tree) (lines : Lines) (recurrence : Option ℤ) → Says (codes "RECURRENCE-ID") false (IsRecurrenceLine object) lines recurrence → is_some recurrence ≡ true → list_any (is_of (codes "RECURRENCE-ID")) lines ≡ true
 recurrence_there object lines None s h = absurd (false≢true h)
 recurrence_there object lines (Some i) s h = go s.line s.once s.is
@@ -177,7 +177,7 @@ event_facts object method lines event s h = go s.times
     go (inl t) = said_facts (adds_instances (Some method)) object lines event t s.rule s.occurrences
     go (inr lacks) = absurd (true≢false (sym lacks.0 ∙ start_needed method event h))
 
--- and one of a store, where DTSTART has to stand
+-- and one of a store, where DTSTART is required
 pub stored_facts : (object : Tree) (lines : Lines) (event : Event) → SaysEvent object (Some Request) lines event → EventFacts event false
 stored_facts object lines event s = go s.times
   where

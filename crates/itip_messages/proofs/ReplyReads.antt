@@ -11,7 +11,7 @@ use Rattle.itip_messages.proofs.ObjectTree.{Lines, vevent_lines, calendar_tree, 
 use Rattle.itip_messages.proofs.ContentLines.{LinesBack, ReadsLines, IsMethod, object_content, reply_method}
 use Rattle.itip_messages.proofs.ReplyLines.{AllRead, all_read}
 
--- an object of a METHOD round some VEVENTs
+-- an object of a METHOD around some VEVENTs
 pub object_reads : LinesBack → ReadsLines → (word : List ℕ) (events : List Lines) (octets : List ℕ) → IsMethod (Some word) → AllRead events
     → lines_named (codes "METHOD") (tree_own (calendar_tree (Some word) [])) ≡ (codes "METHOD:" ++ word) ∷ []
     → octets ≡ written (object_lines (Some word) (flat_map (λ lines. lines) events)) → ReadsAs word octets events

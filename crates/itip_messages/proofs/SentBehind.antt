@@ -1,4 +1,4 @@
--- The lines behind what says when an event is, of a VEVENT that an organiser writes: STATUS, SUMMARY, ORGANIZER and ATTENDEE.
+-- The lines after what says when an event is, of a VEVENT that an organiser writes: STATUS, SUMMARY, ORGANIZER and ATTENDEE.
 use Rattle.std.proofs.Common.{◌≡◌, ◌∙◌, refl, sym, ap, subst, ℕ, arith, lt-ltb, Bool, true, false, cond, List, [], ◌∷◌, ◌++◌, length, codes, Option, Some, None}
 use Rattle.std.specs.Prelude.{option_map, unwrap_or}
 use Rattle.std.specs.Option.{option_to_list}
@@ -64,7 +64,7 @@ back_none other e cancelled summary organiser attendees said z =
     ∙ asked_none other e.attendee attendees said z in
     back_of other cancelled summary organiser attendees ∙ (λ i. status_none other e.status cancelled i ++ behind i)
 
--- the lines that stand there
+-- the lines that are there
 module _ (cancelled : Bool) (summary organiser : List ℕ) (attendees : Lines) (said : List Attendee) (z : AllZip IsAttendeeText attendees said) where
   back_summary : lines_named (codes "SUMMARY") (own_back cancelled summary organiser attendees) ≡ (codes "SUMMARY:" ++ summary) ∷ []
   back_summary =
@@ -80,7 +80,7 @@ module _ (cancelled : Bool) (summary organiser : List ℕ) (attendees : Lines) (
   back_attendees =
       back_of (codes "ATTENDEE") cancelled summary organiser attendees ∙ (λ i. status_none (codes "ATTENDEE") refl cancelled i ++ asked_all attendees said z i)
 
--- and STATUS, where it stands
+-- and STATUS, where it is there
 abbrev status_line : Bool → Option (List ℕ)
 status_line true = Some (codes "STATUS:CANCELLED")
 status_line false = None
@@ -113,7 +113,7 @@ behind_says cancelled summary organiser attendees said z = record {
 summary_line : (v : List ℕ) → IsClean v → is_content (codes "SUMMARY:" ++ v) ≡ true
 summary_line v c = valued (codes "SUMMARY:") v (lt-ltb 7 (length (codes "SUMMARY:" ++ v)) (omega arith)) refl refl refl c
 
--- what stands behind the content
+-- what comes after the content
 attendees_own : (lines : Lines) (said : List Attendee) → AllZip IsAttendeeText lines said → AreOwn lines
 attendees_own [] said z = own_none
 attendees_own (line ∷ lines) [] z = absurd z

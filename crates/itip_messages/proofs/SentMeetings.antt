@@ -49,7 +49,7 @@ first_in (x ∷ events) e c = elim (in_cons x [] e c) [
   | inr there ↦ absurd (none_in_nil e there)
 ]
 
--- the master is no override
+-- the master isn't an override
 not_both : (r : Option ℤ) → not (is_some r) ≡ true → is_some r ≡ true → ⊥
 not_both None h k = cc
 not_both (Some t) h k = cc

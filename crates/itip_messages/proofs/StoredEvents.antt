@@ -1,4 +1,4 @@
--- What is known of the events of a store that was read: their texts can stand in lines, and they say when they are.
+-- What is known of the events of a store that was read: their texts can be in lines, and they say when they are.
 use Rattle.std.proofs.Common.{◌≡◌, ◌∙◌, refl, sym, ap, subst, inl, inr, ℕ, ℤ, ◌<◌, ◌≤◌, ◌^◌, nat_lt, true, false, List, [], ◌∷◌, length, filter, codes, Option, Some, None, is_some, arith}
 use Rattle.std.specs.Prelude.{Contains, count_by, unwrap_or}
 use Rattle.std.specs.List.{AllZip}

@@ -211,7 +211,7 @@ pub starts_from : (instants : List ℤ) → ((i : ℤ) → Contains instants i �
 starts_from [] f = tt
 starts_from (i ∷ is) f = (f i (zero, omega arith, refl), starts_from is (λ j c. f j (suc c.0, omega (arith, c.1), c.2)))
 
--- of what EXDATE names that counts which lies where a start may
+-- of what EXDATE names that counts which is where a start may be
 pub dates_start : (i : ℤ) → is_in_dates i ≡ true → IsStart i
 dates_start i h =
     let both = and_parts (lt_z i horizon) (not (lt_z i first_second)) h in
@@ -257,14 +257,14 @@ pub list_properties : (name : List ℕ) → IsListName name → (texts : Lines) 
 list_properties name n [] = refl
 list_properties name n (x ∷ xs) = ap (list_all is_property) (lines_are name (x ∷ xs)) ∙ and_from _ _ (n.property (list_value (x ∷ xs))) refl
 
--- no other property stands there
+-- no other property is there
 pub list_unnamed : (other name : List ℕ) → ((v : List ℕ) → is_of other ((name ++ codes ":") ++ v) ≡ false) → (texts : Lines) → lines_named other (list_lines name texts) ≡ []
 list_unnamed other name f [] = refl
 list_unnamed other name f (x ∷ xs) =
     let line = list_line name (x ∷ xs) in
     ap (lines_named other) (lines_are name (x ∷ xs)) ∙ ap (λ b. cond b (line ∷ []) []) (f (list_value (x ∷ xs)))
 
--- and it stands at most once
+-- and it occurs at most once
 pub list_named : (name : List ℕ) → IsListName name → (texts : Lines) → lines_named name (list_lines name texts) ≡ list_lines name texts
 list_named name n [] = refl
 list_named name n (x ∷ xs) =

@@ -24,7 +24,7 @@ message_spelled (Ok (ToOrganiser message)) octets c lines object says =
     (says.0, record { lines = lines; tree = tree_of c; object = object_tree true c (logical_lines octets) object; says = says.1 }, says.2)
 message_spelled (Err e) octets c lines object says = tt
 
--- the fault that stands in them
+-- the fault that they have
 pub faults_there : (r : Result Message Fault) (octets : List ℕ) (c : Component) → IsObjectOf true c (logical_lines octets)
     → IfErr r (RefusesBy (MessageFault (tree_of c))) → IfErr r (ReadFault octets)
 faults_there (Ok message) octets c object h = tt

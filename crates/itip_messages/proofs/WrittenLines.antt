@@ -1,4 +1,4 @@
--- Lines that are written one behind another.
+-- Lines that are written one after another.
 use Rattle.std.proofs.Common.{◌≡◌, ◌∙◌, ℕ, List, [], ◌∷◌, ◌++◌, refl, sym, ap, codes, append_assoc, append-nil}
 use Rattle.std.specs.Prelude.{decimal}
 use Rattle.std.specs.List.{flat_map}
@@ -10,7 +10,7 @@ use Rattle.profile.specs.organisers.Sent.{TellsRevision}
 use Rattle.itip_messages.proofs.LineLemmas.{one_line}
 use Rattle.itip_messages.specs.Replies.{IsStampLine, WritesLines}
 
--- one element more
+-- one more element
 pub flat_push : {X Y : Type 0} (f : X → List Y) (xs : List X) (x : X) → flat_map f (xs ++ x ∷ []) ≡ flat_map f xs ++ f x
 flat_push f xs x = flat_map-append f xs (x ∷ []) ∙ ap (λ l. flat_map f xs ++ l) (append-nil (f x))
 

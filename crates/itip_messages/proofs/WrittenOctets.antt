@@ -222,7 +222,7 @@ rule_text_early clock rule text w =
 
 -- ---- the rule of a zone
 
--- a rule of a zone, behind `RRULE:`
+-- a rule of a zone, after `RRULE:`
 abbrev pub rule_value : Pattern → List ℕ
 rule_value p = codes "FREQ=YEARLY" ++ listed (codes ";BYMONTH=") (map decimal p.months) ++ listed (codes ";BYMONTHDAY=") (map signed_decimal p.month_days) ++ listed (codes ";BYDAY=") (map entry_text p.weekdays)
 

@@ -113,13 +113,13 @@ parts_shown (Pair a b) parts (own, other, w, v, e) =
     ∙ list_all-append (list_all is_shown) (component_lines (codes "STANDARD") own) (component_lines (codes "DAYLIGHT") other)
     ∙ and_from _ _ (component_shown (codes "STANDARD") own refl (part_shown own a w)) (component_shown (codes "DAYLIGHT") other refl (part_shown other b v))
 
--- what stands behind TZID is text
+-- what comes after TZID is text
 pub rest_utf8 : (zone : Zone) (rest : List ℕ) → IsZoneRest zone rest → IsUtf8 rest
 rest_utf8 zone rest (parts, w, e) =
     let shown : list_all (list_all is_shown) (parts ++ codes "END:VTIMEZONE" ∷ []) ≡ true = list_all-append (list_all is_shown) parts (codes "END:VTIMEZONE" ∷ []) ∙ and_from _ _ (parts_shown zone parts w) refl in
     subst IsUtf8 (sym e) (written_utf8 (parts ++ codes "END:VTIMEZONE" ∷ []) (clean_each_shown (parts ++ codes "END:VTIMEZONE" ∷ []) shown))
 
--- what stands before it in a body
+-- what comes before it in a body
 abbrev pub zone_head : List ℕ
 zone_head = codes "BEGIN:VTIMEZONE\r\nTZID:Z\r\n"
 
@@ -181,13 +181,13 @@ within p n m e l = grind (arith, nat_tests)
 not_within : (p n m : ℕ) → p ≡ m → n ≡ m → nat_lt p n ≡ false
 not_within p n m e f = grind (arith, nat_tests)
 
--- the first octet of what follows so many
+-- the first octet of what follows this many
 after_front : (front rest : List ℕ) (n : ℕ) → n ≡ length front → get_or (front ++ rest) n 0 ≡ get_or rest 0 0
 after_front [] rest n e = ap (λ k. get_or rest k 0) e
 after_front (c ∷ front) rest zero e = absurd (omega (arith, e))
 after_front (c ∷ front) rest (suc n) e = after_front front rest n (omega (arith, e))
 
--- the zone begins two octets before the first `G`, and where there is none no zone stands
+-- the zone begins two octets before the first `G`, and where there is no `G` there is no zone
 module _ (content : Content) (event : Event) (c : IsContent content event) where
   abbrev front : List ℕ
   front = crlf_lines content.lines
@@ -223,7 +223,7 @@ cut_at_zone content event c place e =
 first_found : (xs : List ℕ) (third : ℕ) → IsFirstByte (is_byte 71) xs (Some third) → before_g xs ≡ third
 first_found xs third h = position_or_len_is is_g xs third 0 (omega (arith, h.0.high)) (λ k l. false_from_ne_true (is_g (get_or xs k 0)) (h.0.before k (omega arith) l)) (λ _. h.1)
 
--- the octet that is looked at tells whether a zone stands there
+-- the octet that is looked at says whether a zone is there
 pub place_found : (xs : List ℕ) (third octet : ℕ) → IsFirstByte (is_byte 71) xs (Some third) → octet ≡ get_or xs (third - 2) 0 → (b : Bool) → (octet == 66) ≡ b → cond b (third - 2) (length xs) ≡ zone_place xs
 place_found xs third octet h o b e =
     let at : before_g xs ≡ third = first_found xs third h in

@@ -1,4 +1,4 @@
--- Zones that are kept as a set of keys: a key is found where its zone is, and is put behind the others where it is new.
+-- Zones that are kept as a set of keys: a key is found where its zone is, and is put after the others where it is new.
 use Rattle.std.proofs.Common.{◌≡◌, ◌∙◌, ℕ, Bool, true, false, not, ◌||◌, cond, List, [], ◌∷◌, ◌++◌, map, refl, sym, ap, get_or, Some}
 use Rattle.std.specs.Prelude.{slice_get, option_map}
 use Rattle.std.specs.List.{list_any, position}
@@ -30,7 +30,7 @@ module _ {X : Type 0} (test : X → Bool) (text : X → List ℕ) (zone : List �
   pub known_zone : (xs : List X) → list_any test xs ≡ true → map text xs ≡ with_zone (map text xs) zone
   known_zone xs h = sym (ap (λ b. cond (not b) (map text xs ++ zone ∷ []) (map text xs)) (any_text xs ∙ h))
 
-  -- one that isn't is put behind the others
+  -- one that isn't is put after the others
   pub put_zone : (xs : List X) (x : X) → text x ≡ zone → map text (cond (list_any test xs) xs (xs ++ x ∷ [])) ≡ with_zone (map text xs) zone
   put_zone xs x e = by (list_any test xs) ∙ sym (ap (λ b. cond (not b) (map text xs ++ zone ∷ []) (map text xs)) (any_text xs))
     where

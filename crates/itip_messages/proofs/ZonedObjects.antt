@@ -72,7 +72,7 @@ written_content name zone lines clean (parts, w, e) =
 
 -- ---- the tree of one zone
 
--- some VTIMEZONE says a zone whose octets behind its TZID these are
+-- some VTIMEZONE says a zone whose octets after its TZID these are
 abbrev pub IsZone : List ℕ → Type 0
 IsZone rest = (zone : Zone) × (t : Tree) × SaysZone t zone × IsZoneRest zone rest
 
@@ -103,7 +103,7 @@ tail_content : (zone : Zone) (parts : Lines) → WritesParts parts zone → list
 tail_content zone parts w = list_all-append is_content parts (codes "END:VTIMEZONE" ∷ []) ∙ and_from _ _ (parts_content zone parts w) (and_from _ _ (fixed (codes "END:VTIMEZONE") refl refl refl refl) refl)
 
 module _ (lines_back : LinesBack) (zone_back : ZoneBack) where
-  -- the octets behind TZID have one way to be lines
+  -- the octets after TZID have one way to be lines
   one_rest : (rest : List ℕ) (a b : Zone) (p q : Lines) → WritesParts p a → WritesParts q b → rest ≡ written (p ++ codes "END:VTIMEZONE" ∷ []) → rest ≡ written (q ++ codes "END:VTIMEZONE" ∷ []) → p ++ codes "END:VTIMEZONE" ∷ [] ≡ q ++ codes "END:VTIMEZONE" ∷ []
   one_rest rest a b p q v w e d =
       sym (lines_back (p ++ codes "END:VTIMEZONE" ∷ []) (tail_content a p v)) ∙ ap logical_lines (sym e ∙ d) ∙ lines_back (q ++ codes "END:VTIMEZONE" ∷ []) (tail_content b q w)

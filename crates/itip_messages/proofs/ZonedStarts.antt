@@ -100,7 +100,7 @@ before_end a text n e = lt-ltb n (length (a ++ 58 ∷ text)) (omega (arith, e, l
 
 -- ---- the line
 
--- a name that may stand behind `TZID=` as it is
+-- a name that may come after `TZID=` as it is
 abbrev pub is_plain_name : List ℕ → Bool
 is_plain_name name = list_all is_bare name && list_all is_shown name
 

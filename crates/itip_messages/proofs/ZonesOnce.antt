@@ -25,7 +25,7 @@ same_filter : {X : Type 0} (p q : X → Bool) → ((y : X) → p y ≡ q y) → 
 same_filter p q h [] = refl
 same_filter p q h (x ∷ xs) = (λ i. cond (h x i) (x ∷ same_filter p q h xs i) (same_filter p q h xs i))
 
--- ---- one zone more
+-- ---- one more zone
 
 other_than : List ℕ → List ℕ → Bool
 other_than zone other = not (bytes_eq zone other)

@@ -51,15 +51,15 @@ AppendsRule clock rule old new = (lines : List (List ℕ)) × WritesRule clock r
 abbrev pub AppendsZone : EventTimes → List ℕ → List ℕ → Type 0
 AppendsZone times old new = (zone : Option (List ℕ)) × BothOrNeither IsZoneRest times.zone zone × (new ≡ old ++ zone_octets zone)
 
--- how many octets stand before the first `G`
+-- how many octets come before the first `G`
 abbrev pub before_g : List ℕ → ℕ
 before_g octets = position_or_len (λ octet. octet == 71) octets
 
--- the first `G` among these is the third octet behind a `B`
+-- the first `G` among these is the third octet after a `B`
 abbrev pub begins_zone : List ℕ → Bool
 begins_zone octets = nat_lt (before_g octets) (length octets) && (get_or octets (before_g octets - 2) 0 == 66)
 
--- where that `B` stands; their number where there is none
+-- where that `B` is; their number where there is none
 abbrev pub zone_place : List ℕ → ℕ
 zone_place octets = if begins_zone octets then before_g octets - 2 else length octets
 
@@ -73,7 +73,7 @@ IsTold (UntilInstant instant) = Unit {0}
 abbrev pub EndIsTold : Option Parts → Type 0
 EndIsTold rule = (said : Parts) → rule ≡ Some said → (end : Until) → said.until ≡ Some end → IsTold end
 
--- what a message's VEVENT says of when its event is: the end of its rule can be written, and its start and all that is added lie in the
+-- what a message's VEVENT says of when its event is: the end of its rule can be written, and its start and all that is added are in the
 -- dates that an event may name
 pub record IsReady (event : Event) : Type 0 where
   pub ends : EndIsTold event.rule

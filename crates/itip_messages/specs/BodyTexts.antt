@@ -13,7 +13,7 @@ use Rattle.itip_messages.specs.Zoning.{with_zones}
 
 -- ---- a body, read back
 
--- what stands behind `BEGIN:VTIMEZONE`, `TZID:Z` and their line ends; None without a VTIMEZONE
+-- what comes after `BEGIN:VTIMEZONE`, `TZID:Z` and their line ends; None without a VTIMEZONE
 abbrev pub zone_rest : List ℕ → Option (List ℕ)
 zone_rest [] = None
 zone_rest (c ∷ octets) = Some (drop 25 (c ∷ octets))
@@ -33,13 +33,13 @@ abbrev pub name_of : Option ℕ → List ℕ
 name_of None = codes "Z"
 name_of (Some number) = codes "Z" ++ decimal number
 
--- new is old and behind it, written, the lines of the octets, if they are text, in the zone with this number
+-- new is old and after it, written, the lines of the octets, if they are text, in the zone with this number
 pub record WritesText (number : Option ℕ) (octets old new : List ℕ) : Type 0 where
   pub lines : List (List ℕ)
   pub text : IsUtf8 octets → lines ≡ named_lines (name_of number) (text_lines octets)
   pub is : new ≡ old ++ written lines
 
--- the body's zone is behind the zones if it is new; and new is old and behind it, written, the lines of the body, if it is text, in that zone
+-- the body's zone is after the zones if it is new; and new is old and after it, written, the lines of the body, if it is text, in that zone
 pub record WritesBody (body : List ℕ) (zones_old zones_new : List (List ℕ)) (old new : List ℕ) : Type 0 where
   pub zones : zones_new ≡ with_zones zones_old (option_to_list (content_in body).zone)
   pub name : List ℕ
@@ -48,7 +48,7 @@ pub record WritesBody (body : List ℕ) (zones_old zones_new : List (List ℕ)) 
   pub text : IsUtf8 body → lines ≡ named_lines name (content_in body).lines
   pub is : new ≡ old ++ written lines
 
--- new is old and behind it, written, RECURRENCE-ID, if a stamp can write it
+-- new is old and after it, written, RECURRENCE-ID, if a stamp can write it
 pub record WritesSlot (slot : Slot) (old new : List ℕ) : Type 0 where
   pub lines : List (List ℕ)
   pub tells : IsDated slot → TellsSlot slot lines

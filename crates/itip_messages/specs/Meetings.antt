@@ -1,4 +1,4 @@
--- What is written of a meeting, as what was read of it stands for events.
+-- What is written of a meeting, as what was read of it represents events.
 use Rattle.std.specs.Prelude.{◌≡◌, ◌++◌, ◌∷◌, [], ℕ, List, Option, codes, map}
 use Rattle.std.specs.Option.{option_to_list}
 use Rattle.std.specs.List.{flat_map, AllZip}
@@ -17,7 +17,7 @@ use Rattle.itip_messages.specs.declared.organiser_object.ObjectComponent.{Object
 use Rattle.itip_messages.specs.declared.meeting_text.MeetingText.{MeetingText}
 use Rattle.itip_messages.specs.declared.cancel.Cancel.{Cancel}
 
--- the components of a meeting stand for these events
+-- the components of a meeting represent these events
 abbrev pub AreWritten : MeetingText → List Event → Type 0
 AreWritten meeting events = AllZip SaysObjectComponent events meeting.components.now
 
@@ -35,13 +35,13 @@ IsTextOf method IsLine meeting octets =
 abbrev pub zone_in : ObjectComponent → List (List ℕ)
 zone_in component = option_to_list (content_in component.canonical.items).zone
 
--- the lines are the VEVENT of a component of the meeting, whichever event it stands for, where these are the zones
+-- the lines are the VEVENT of a component of the meeting, whichever event it represents, where these are the zones
 abbrev pub IsWrittenComponent : (revisions.Slot → events.Attendee → List ℕ → Type 0) → MeetingText → List (List ℕ) → ObjectComponent → List (List ℕ) → Type 0
 IsWrittenComponent IsLine meeting zones component lines =
     (event : Event) → SaysObjectComponent event component
     → IsComponentText (address_octets meeting.organiser.now) (text_octets meeting.uid.now) (revision_of meeting.revision) zones IsLine (event, content_in component.canonical.items) lines
 
--- the zone of a component is behind the zones if it is new; and new is old and behind it, written, its VEVENT
+-- the zone of a component is after the zones if it is new; and new is old and after it, written, its VEVENT
 pub record WritesComponent (IsLine : revisions.Slot → events.Attendee → List ℕ → Type 0) (meeting : MeetingText) (component : ObjectComponent)
     (zones_old zones_new : List (List ℕ)) (old new : List ℕ) : Type 0 where
   pub zones : zones_new ≡ with_zones zones_old (zone_in component)

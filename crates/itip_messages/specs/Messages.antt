@@ -1,4 +1,4 @@
--- What a message that was read stands for, and the parts of it.
+-- What a message that was read represents, and the parts of it.
 use Rattle.std.specs.Prelude.{◌≡◌, ◌≢◌, ℕ, ◌<◌, ◌||◌, ◌&&◌, ◌==◌, Bool, true, false, List, [], length, map, filter, Contains, All, AllPairs, MatchOption, Option, Some, is_some, option_map, if◌then◌else◌}
 use Rattle.std.specs.List.{list_any, AllZip}
 use Rattle.std.specs.Str.{bytes_eq}
@@ -24,7 +24,7 @@ use Rattle.itip_messages.specs.declared.room_message.Method.{Method}
 use Rattle.itip_messages.specs.declared.room_message.Method.TheVariants.{Request, Add, Cancel}
 use Rattle.itip_messages.specs.declared.room_message.RoomMessage.{RoomMessage}
 
--- what a method stands for
+-- what a method represents
 abbrev pub method_said : Method → events.Method
 method_said Request = events.Request
 method_said Add = events.Add

@@ -1,4 +1,4 @@
--- What an object that comes to an organiser stands for, once it was read.
+-- What an object that comes to an organiser represents, once it was read.
 use Rattle.std.specs.Prelude.{◌≡◌, ℕ, true, false, List}
 use Rattle.std.specs.List.{AllZip, list_all}
 use Rattle.profile.specs.text.Trees.{Tree, tree_own}

@@ -1,4 +1,4 @@
--- What octets of a reply or a refresh read back as, and which texts can stand in them.
+-- What octets of a reply or a refresh read back as, and which texts can be in them.
 use Rattle.std.specs.Prelude.{◌≡◌, ℕ, ◌<◌, ◌^◌, not, ◌||◌, ◌==◌, true, false, List, [], ◌∷◌, ◌++◌, codes, Option, None, Some, ℤ}
 use Rattle.std.specs.List.{flat_map, list_all, AllZip}
 use Rattle.std.specs.Str.{IsUtf8}
@@ -14,7 +14,7 @@ use Rattle.profile.specs.rooms.Messages.{Outcome, Accept, Busy, SeriesLimit, Sin
 
 -- ---- texts
 
--- a text that a TEXT value can stand for: UTF-8, with no control octet but TAB and LF (RFC 5545 3.3.11)
+-- a text that a TEXT value can represent: UTF-8, with no control octet but TAB and LF (RFC 5545 3.3.11)
 pub record IsTextValue (text : List ℕ) : Type 0 where
   pub calm : list_all (λ c. (c == 10) || not (is_control c)) text ≡ true
   pub utf8 : IsUtf8 text
@@ -38,7 +38,7 @@ IsTextOutcome SinglesLimit = Unit {0}
 
 -- ---- what is written
 
--- the texts of an answer to this part can stand in lines
+-- the texts of an answer to this part can be in lines
 pub record IsWritable (part : Part) (outcome : Outcome) : Type 0 where
   pub organiser : IsTextAddress part.organiser
   pub uid : IsTextValue part.uid
@@ -59,7 +59,7 @@ pub record IsAnswer (room : List ℕ) (lines : List (List ℕ)) : Type 0 where
 abbrev pub IsVevent : List (List ℕ) → List (List ℕ) → Type 0
 IsVevent own lines = lines ≡ codes "BEGIN:VEVENT" ∷ (own ++ codes "END:VEVENT" ∷ [])
 
--- the octets read as the lines of one VCALENDAR whose METHOD is this word, round these VEVENTs, each with its own lines
+-- the octets read as the lines of one VCALENDAR whose METHOD is this word, around these VEVENTs, each with its own lines
 -- (RFC 5545 3.4, RFC 5546 3.2.3, 3.2.6)
 pub record ReadsAs (word octets : List ℕ) (events : List (List (List ℕ))) : Type 0 where
   pub reads : reads_as_lines false octets ≡ true

@@ -26,7 +26,7 @@ abbrev pub IsSpelled : List ℕ → Message → Type 0
 IsSpelled octets (ToRooms message) = (said : profile.Message) × SpellsMessage octets said × StandsFor message said
 IsSpelled octets (ToOrganiser message) = (said : objects.OrganiserObject) × SpellsOrganiserObject octets said × StandsForObject message said
 
--- out of memory, or a fault of the object or of what it says stands in the octets
+-- out of memory, or a fault of the octets, of the object or of what it says
 abbrev pub ReadFault : List ℕ → Fault → Type 0
 ReadFault octets fault = Stands true octets fault ⊎ RefusesBy (MessageTextFault octets) fault
 

@@ -1,4 +1,4 @@
--- What the types of a reply stand for, and what is written of them.
+-- What the types of a reply represent, and what is written of them.
 use Rattle.std.specs.Prelude.{◌≡◌, ℕ, List, ◌++◌, codes, Option, Some, None, ℤ}
 use Rattle.std.specs.List.{flat_map, AllZip}
 use denote.Ref.{Bor}

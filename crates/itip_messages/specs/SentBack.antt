@@ -72,7 +72,7 @@ IsSameRule None (Some back) = ⊥
 IsSameRule (Some rule) None = ⊥
 
 -- the event that is said of an event of a store, in this revision: what is added and taken away is ascending, and of what is taken away that
--- counts which lies where a start may; each attendee stands once, as such a one
+-- counts which is where a start may be; each attendee occurs once, as such a one
 pub record IsSaidAgain (IsSuch : Slot → Attendee → Attendee → Type 0) (revision : Revision) (event said : Event) : Type 0 where
   pub uid : said.uid ≡ event.uid
   pub organiser : said.organiser ≡ event.organiser

@@ -7,7 +7,7 @@ use Rattle.std.specs.Str.{bytes_eq}
 abbrev pub is_new : List (List ℕ) → List ℕ → Bool
 is_new zones zone = not (list_any (λ other. bytes_eq other zone) zones)
 
--- these, and the zone behind them if it is none of them
+-- these, and the zone after them if it is none of them
 abbrev pub with_zone : List (List ℕ) → List ℕ → List (List ℕ)
 with_zone zones zone = if is_new zones zone then zones ++ zone ∷ [] else zones
 

@@ -16,7 +16,7 @@ use indexmap::IndexSet;
 use std::alloc::{AllocError, Global};
 use std::marker::Model;
 
-/// So many are looked through one by one: it takes less time to see that two texts differ than which is first.
+/// This many are looked through one by one: it takes less time to see that two texts differ than which is first.
 const FEW: usize = 8;
 
 /// The ATTENDEE lines of a VEVENT, in the order of the text.
@@ -46,7 +46,7 @@ impl Model for Attendees {
 }
 
 impl Attendees {
-    /// These lines. It fails only for memory.
+    /// These lines. It fails only when out of memory.
     pub(crate) fn of(alloc: Global, lines: Vec<Attendee>) -> Result<Attendees, AllocError>
         ensures { IfOk result (λ attendees. attendees ≡ map attendee_of lines.items) }
     {
@@ -111,7 +111,7 @@ fn sort_addresses(addresses: &mut Vec<Address>)
     addresses.sort_unstable_by(|a, b| a.cmp(b));
 }
 
-/// Whether an address is among others, which stand in order.
+/// Whether an address is among others, which are in order.
 fn is_among(sorted: &[Address], address: &Address) -> bool
     requires { IsSortedByKey address_octets (slice_cmp nat_cmp) sorted.now }
     ensures { result ≡ list_any (λ a. bytes_eq (address_octets a) (address_octets address.now)) sorted.now }

@@ -44,7 +44,7 @@ pub fn zone_lines(body: &[u8]) -> usize
     }
 }
 
-/// The body of a VEVENT. It fails only for memory.
+/// The body of a VEVENT. It fails only when out of memory.
 pub(crate) fn canonical_body(alloc: Global, event: &EventComponent) -> Result<Vec<u8>, AllocError>
     requires { IsReady (event_of event.now) }
     ensures { IfOk result (λ body. IsCanonical body.items (event_of event.now)) }
@@ -103,7 +103,7 @@ fn write_rule(body: &mut Vec<u8>, clock: &Zone, rule: Option<&Rule>) -> Result<(
     Ok(())
 }
 
-/// The text of UNTIL; None where it doesn't stand.
+/// The text of UNTIL; None where it is absent.
 fn end_text(alloc: Global, clock: &Zone, until: Option<Until>) -> Result<Option<String>, AllocError>
     requires { (end : rules.Until) → option_map until_of until ≡ Some end → IsTold end }
     ensures { IfOk result (λ text.
@@ -169,7 +169,7 @@ fn ascending(alloc: Global, instants: &[i64]) -> Result<Vec<i64>, AllocError>
     Ok(ascending)
 }
 
-/// A property that lists these instants as they stand.
+/// A property that lists these instants as they are.
 fn write_list(body: &mut Vec<u8>, name: &str, instants: &[i64]) -> Result<(), AllocError>
     requires { (instant : ℤ) → Contains instants.now instant → IsClockSeconds instant }
     ensures { OnOk result ((texts : List (List ℕ)) × AllZip WritesStamp texts instants.now × (body.new.items ≡ body.old.items ++ crlf_lines (list_lines name.now texts))) }
@@ -207,7 +207,7 @@ fn write_stamp(body: &mut Vec<u8>, instant: i64) -> Result<(), AllocError>
     stamp.write(body)
 }
 
-/// Those instants that lie where a start may.
+/// Those instants that are where a start may be.
 fn in_dates(alloc: Global, instants: &[i64]) -> Result<Vec<i64>, AllocError>
     ensures { IfOk result (λ within. within.items ≡ filter is_in_dates instants.now) }
 {

@@ -1,4 +1,4 @@
-//! The lines of a body as they stand in an object: each folded, with DTSTART in the zone under its number in that object (RFC 5545 3.8.2.4).
+//! The lines of a body as they are in an object: each folded, with DTSTART in the zone under its number in that object (RFC 5545 3.8.2.4).
 ghost use Rattle.std.specs.Prelude.{◌≡◌, ◌++◌, ℕ, Some, codes, string_bytes, IfOk, OnOk};
 ghost use Rattle.std.specs.Str.Lines.{lines};
 ghost use Rattle.profile.specs.rooms.Kept.{renamed};
@@ -12,7 +12,7 @@ use itoa::Buffer;
 use std::alloc::{AllocError, Global};
 use std::str;
 
-/// The number of octets of a body's VTIMEZONE up to what stands behind its TZID: `BEGIN:VTIMEZONE`, `TZID:Z` and their line ends.
+/// The number of octets of a body's VTIMEZONE up to what comes after its TZID: `BEGIN:VTIMEZONE`, `TZID:Z` and their line ends.
 const ZONE_HEAD: usize = 25;
 
 /// The lines of a body, each folded as it is written, with DTSTART in the zone under its number. A body that isn't

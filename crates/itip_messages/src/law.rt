@@ -11,7 +11,7 @@ ghost use Rattle.itip_messages.specs.ReadBack.{IsTextAddress, IsTextValue, IsRea
 use cal_events::one_event;
 use ical_tree::one_tree;
 
-/// Octets say at most one message, to rooms or to an organiser, and none where a fault stands in them. With the contract of `Message::read`: what
+/// Octets say at most one message, to rooms or to an organiser, and none where they have a fault. With the contract of `Message::read`: what
 /// is taken is the one message that the octets spell, and what is refused spells none (RFC 5545 3.4, RFC 5546 3.2.2 to 3.2.6, RFC 4791 4.1).
 pub fn one_message()
     ensures one { (octets : List ℕ) (a b : Said) → Spells octets a → Spells octets b → a ≡ b }
@@ -22,8 +22,8 @@ pub fn one_message()
 }
 
 /// Whatever a room answers: the octets of its REPLY read as lines, and these spell one VCALENDAR of METHOD REPLY with
-/// a VEVENT for each answer, each with the very lines that were written (RFC 5545 3.1, 3.4, RFC 5546 3.2.3). Owed are
-/// texts that can stand in a line: addresses in UTF-8, and a UID that a TEXT value can stand for.
+/// a VEVENT for each answer, each with the very lines that were written (RFC 5545 3.1, 3.4, RFC 5546 3.2.3). Required are
+/// texts that can be in a line: addresses in UTF-8, and a UID that a TEXT value can represent.
 pub fn replies_read_back()
     ensures { (room : List ℕ) (events : List (List (List ℕ))) (octets : List ℕ)
         → IsTextAddress room → ((lines : List (List ℕ)) → Contains events lines → IsAnswer room lines)
@@ -33,7 +33,7 @@ pub fn replies_read_back()
 }
 
 /// And each of its VEVENTs says the answer that was given: the UID, the organiser, SEQUENCE, the moment as DTSTAMP, the
-/// instance that is answered, and the room as its one attendee, who has accepted or declined (RFC 5546 3.2.3). Owed are
+/// instance that is answered, and the room as its one attendee, who has accepted or declined (RFC 5546 3.2.3). Required are
 /// a UID and addresses as a message's are read: of the right length, in lower case.
 pub fn answers_read_back()
     ensures { (room : List ℕ) (part : Part) (moment : ℤ) (outcome : Outcome) (lines own : List (List ℕ))
@@ -43,7 +43,7 @@ pub fn answers_read_back()
 
 /// Whatever a room asks for: the octets of its REFRESH read as lines, and these spell one VCALENDAR of METHOD REFRESH with one VEVENT, which
 /// says the UID and the organiser of the meeting, the moment as DTSTAMP, and the room as its one attendee (RFC 5545 3.4, RFC 5546
-/// 3.2.6). Owed is what is owed for a reply.
+/// 3.2.6). Required is what is required for a reply.
 pub fn refreshes_read_back()
     ensures reads { (room organiser uid : List ℕ) (moment : ℤ) (lines : List (List ℕ)) (octets : List ℕ)
         → IsTextAddress room → IsTextAddress organiser → IsTextValue uid → IsRefreshEvent room organiser uid moment lines

@@ -77,7 +77,7 @@ pub fn write_request(meeting: &MeetingText<'_>, out: &mut Vec<u8>) -> Result<(),
 }
 
 /// Writes a meeting with this METHOD, or with none, and with such lines for its attendees: of several ATTENDEE lines of one address in a
-/// component the first alone. Where the memory for it is refused, `out` is as it was.
+/// component only the first. Where the memory for it is refused, `out` is as it was.
 pub fn write_meeting<A: AttendeeLines>(
     method: Option<&str>,
     meeting: &MeetingText<'_>,
@@ -102,7 +102,7 @@ pub fn write_meeting<A: AttendeeLines>(
     Ok(())
 }
 
-/// Appends one behind the other. Where the memory for both is refused, `out` is as it was.
+/// Appends both, one after the other. Where the memory for both is refused, `out` is as it was.
 fn append_both(out: &mut Vec<u8>, first: &[u8], last: &[u8]) -> Result<(), AllocError>
     ensures ok { OnOk result (out.new.items ≡ out.old.items ++ (first.now ++ last.now)) }
     ensures err { OnErr result (out.new.items ≡ out.old.items) }
@@ -154,7 +154,7 @@ fn write_component<A: AttendeeLines>(
     Ok(())
 }
 
-/// The lines of its attendees, of several of one address the first alone.
+/// The lines of its attendees, of several of one address only the first.
 fn write_attendees<A: AttendeeLines>(
     object: &mut ObjectWriter,
     component: &ObjectComponent,

@@ -26,7 +26,7 @@ pub enum Message {
 
 impl Message {
     /// Reads a message.
-    /// Refused: 1 to 6 and 20 to 25 for the object, 60 for a METHOD that isn't taken here or two, 66 without a VEVENT, 10 to 16, 30 to 34, 40
+    /// Refused: 1 to 6 and 20 to 25 for the object, 60 for a METHOD that isn't supported, or for two, 66 without a VEVENT, 10 to 16, 30 to 34, 40
     /// to 43, 50 to 52, 55, 56, 61, 63, 65 and 67 for a VEVENT, 62 for two meetings, 53 for two VEVENTs without RECURRENCE-ID, 54 for two of
     /// one instance, 64 for a VEVENT of a REPLY or a REFRESH without one attendee.
     pub fn read(alloc: Global, bytes: &[u8]) -> Result<Message, Fault>
@@ -40,7 +40,7 @@ impl Message {
     }
 
     /// The message that an object is.
-    /// Refused: as by `read`, but for the object.
+    /// Refused: as by `read`, except for the object.
     pub fn of_object(alloc: Global, object: &Component) -> Result<Message, Fault>
         ensures says { IfOk result (IsMessageOf (tree_of object.now)) }
         ensures refuses { IfErr result (RefusesOnly is_message_fault) }
@@ -67,7 +67,7 @@ enum Kind {
 
 impl Kind {
     /// By the properties of an object; without METHOD it is a store.
-    /// Refused: 60 for a word that names no method taken here, or two lines.
+    /// Refused: 60 for a word that names no supported method, or for two lines.
     fn of(properties: &Properties<'_>) -> Result<Kind, Refusal>
         ensures named { IfOk result (NamesKind properties.now) }
         ensures refuses { IfErr result (λ e. IsTrue (is_message_fault e.number)) }
@@ -80,7 +80,7 @@ impl Kind {
     }
 
     /// By the word of METHOD.
-    /// Refused: 60 for one that isn't taken here.
+    /// Refused: 60 for one that isn't supported.
     fn named(line: Line<'_>) -> Result<Kind, Refusal>
         ensures named { IfOk result (IsKindWord (line_value (line_text line.entry))) }
         ensures refuses { IfErr result (λ e. IsTrue (is_message_fault e.number)) }

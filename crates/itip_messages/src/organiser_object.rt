@@ -36,7 +36,7 @@ pub enum Operation {
 }
 
 impl Operation {
-    /// What a VEVENT of such an object is read for: DTSTART has to stand in a store alone.
+    /// What a VEVENT of such an object is read for: DTSTART is required only in a store.
     fn purpose(self) -> Purpose
         ensures { result ≡ purpose_of self }
     {
@@ -63,7 +63,7 @@ pub struct ObjectComponent {
     pub revision: Revision,
     /// Whether its STATUS is CANCELLED (RFC 5545 3.8.1.11).
     pub cancelled: bool,
-    /// The body in its one form, and its VTIMEZONE behind it.
+    /// The body in its one form, and its VTIMEZONE after it.
     pub canonical: Vec<u8>,
     /// SUMMARY, empty where it is missing.
     pub summary: Text,
@@ -72,7 +72,7 @@ pub struct ObjectComponent {
 }
 
 impl ObjectComponent {
-    /// What a VEVENT says. It fails only for memory.
+    /// What a VEVENT says. It fails only when out of memory.
     fn of(alloc: Global, event: EventComponent) -> Result<ObjectComponent, AllocError>
         requires stamp { IsSome event.stamp }
         requires dated { IsDated (event_slot event) }
@@ -168,7 +168,7 @@ fn are_all(first: &Attendee, others: &[Attendee]) -> bool
     others.iter().all(|other| other.address == first.address)
 }
 
-/// What some VEVENTs say, in their order. It fails only for memory.
+/// What some VEVENTs say, in their order. It fails only when out of memory.
 fn components_of(
     alloc: Global,
     events: Vec<EventComponent>,

@@ -1,4 +1,4 @@
-//! Refreshes of a room (RFC 5546 3.2.6): it asks for a meeting of which it has instances alone.
+//! Refreshes of a room (RFC 5546 3.2.6): it asks for a meeting of which it has only instances.
 ghost use Rattle.std.specs.Prelude.{◌≡◌, OnOk, OnErr};
 ghost use Rattle.ical_values.specs.Written.{Appends};
 ghost use Rattle.itip_messages.specs.Replies.{WritesLines};

@@ -30,7 +30,7 @@ pub struct Conflict<'a> {
 }
 
 impl<'a> Conflict<'a> {
-    /// Two instances and an instant in seconds from 1970-01-01T00:00:00Z; None where the instant or a slot lies
+    /// Two instances and an instant in seconds from 1970-01-01T00:00:00Z; None where the instant or a slot is
     /// outside the years 1 to 9999, which no stamp can write.
     pub fn of(instant: i64, first: InstanceKey<'a>, second: InstanceKey<'a>) -> Option<Conflict<'a>>
         ensures found { IsSome result ↔ (IsClockSeconds instant × IsClockSeconds first.entry.slot × IsClockSeconds second.entry.slot) }

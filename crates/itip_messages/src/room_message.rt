@@ -78,20 +78,20 @@ pub struct MessageComponent {
     pub slot: Slot,
     /// SEQUENCE and DTSTAMP, or those of the whole meeting in the message, if they are later.
     pub revision: Revision,
-    /// Its instances that its RRULE doesn't give, by start, each once, whichever of them other components stand for.
+    /// Its instances that its RRULE doesn't give, by start, each once, whichever of them other components are for.
     pub singles: Vec<Single>,
-    /// Those that it gives, likewise; None where it has no RRULE, or stands for one instance. It is made once for all rooms.
+    /// Those that it gives, likewise; None where it has no RRULE, or is for one instance. It is made once for all rooms.
     pub series: Option<Series>,
     /// Whether it isn't to take place: METHOD is CANCEL, or its STATUS is CANCELLED (RFC 5545 3.8.1.11).
     pub cancelled: bool,
-    /// The body in its one form, and its VTIMEZONE behind it: two bodies are the same where these octets are.
+    /// The body in its one form, and its VTIMEZONE after it: two bodies are the same where these octets are.
     pub canonical: Vec<u8>,
     /// The ATTENDEE lines in the order of the text.
     pub attendees: Attendees,
 }
 
 impl MessageComponent {
-    /// What a VEVENT of such a message says, where the whole meeting in it has this revision. It fails only for memory.
+    /// What a VEVENT of such a message says, where the whole meeting in it has this revision. It fails only when out of memory.
     fn of(
         alloc: Global,
         method: Method,
@@ -162,7 +162,7 @@ impl RoomMessage {
         Ok(RoomMessage::of(alloc, method, meeting)?)
     }
 
-    /// The message of that method that the VEVENTs of a meeting are. In time n log n; it fails only for memory.
+    /// The message of that method that the VEVENTs of a meeting are. In time n log n; it fails only when out of memory.
     fn of(
         alloc: Global,
         method: Method,
@@ -213,7 +213,7 @@ impl RoomMessage {
     }
 }
 
-/// The slot of a VEVENT: the instance that it stands for, else the whole meeting (RFC 5545 3.8.4.4).
+/// The slot of a VEVENT: the instance that it is for, else the whole meeting (RFC 5545 3.8.4.4).
 pub(crate) fn slot_in(event: &EventComponent) -> Slot
     ensures { slot_of result ≡ event_slot event.now }
 {
@@ -276,7 +276,7 @@ fn later(a: Revision, b: Revision) -> Revision
     a
 }
 
-/// The ORGANIZER and the UID of the first of some VEVENTs. It fails only for memory.
+/// The ORGANIZER and the UID of the first of some VEVENTs. It fails only when out of memory.
 pub(crate) fn name_of(events: &[EventComponent]) -> Result<(Address, Text), AllocError>
     requires some { 0 < length events.now }
     requires organised { (event : EventComponent) → Contains events.now event → IsSome event.organiser }
@@ -294,7 +294,7 @@ pub(crate) fn name_of(events: &[EventComponent]) -> Result<(Address, Text), Allo
     Ok((organiser, uid))
 }
 
-/// What some VEVENTs of such a message say, in their order. It fails only for memory.
+/// What some VEVENTs of such a message say, in their order. It fails only when out of memory.
 fn components_of(
     alloc: Global,
     method: Method,

@@ -20,7 +20,7 @@ pub fn stored_texts_can_be_sent()
 
 /// Whatever an organiser takes back: the octets of its CANCEL spell a message of that METHOD, whose meeting is one VEVENT for the whole,
 /// of this organiser, UID and revision, cancelled where it is called off, with the attendees in their order (RFC 5546 3.2.5). So it says to each
-/// of them that the whole meeting is cancelled, and, where there is one, nothing to any other. Owed are texts as a message's are read, and
+/// of them that the whole meeting is cancelled, and, where there is one, nothing to any other. Required are texts as a message's are read, and
 /// octets within the limits of a message.
 pub fn cancels_read_back()
     ensures spells { (organiser uid : List ℕ) (revision : Revision) (called_off : Bool) (to : List (List ℕ)) (octets : List ℕ)
@@ -37,8 +37,8 @@ pub fn cancels_read_back()
 
 /// Whatever meeting an organiser stored: the octets of its REQUEST spell a message of that METHOD (RFC 5546 3.2.2), with a VEVENT for each of
 /// the store, in its order, which says the same event in the revision that was sent: whose it is, which instance, when it is and in which zone, whether it
-/// is cancelled, and what it is about; each attendee stands once, and is asked to answer. So it has for each room the very parts that the
-/// events of the store have in that revision, with the same canonical octets. Owed are a SEQUENCE that can be read, and octets within the limits
+/// is cancelled, and what it is about; each attendee occurs once, and is asked to answer. So it has for each room the very parts that the
+/// events of the store have in that revision, with the same canonical octets. Required are a SEQUENCE that can be read, and octets within the limits
 /// of a message.
 pub fn requests_read_back()
     ensures { (stored : List ℕ) (said : OrganiserObject) (revision : Revision) (octets : List ℕ)
@@ -51,8 +51,8 @@ pub fn requests_read_back()
 }
 
 /// Whatever an organiser shows of a meeting that it stored: its octets spell an event with its instances, as a VCALENDAR without METHOD does. Its
-/// VEVENTs are those of the store, in their order, and say the same in the revision that was sent; each attendee stands once, with the answer
-/// that is seen of it. Owed is what is owed for a REQUEST.
+/// VEVENTs are those of the store, in their order, and say the same in the revision that was sent; each attendee occurs once, with the answer
+/// that is seen of it. Required is what is required for a REQUEST.
 pub fn shown_reads_back()
     ensures { (read : List ℕ) (said : OrganiserObject) (book : OrganiserBook) (stored : Stored) (octets : List ℕ)
         → SpellsOrganiserObject read said → said.operation ≡ Store → stored.events ≡ said.events → stored.revision.sequence < 2 ^ 31

@@ -16,7 +16,7 @@ use std::marker::Model;
 /// The octets of a usual object, for which room is made at once: a reply with one answer has some 350.
 const USUAL: usize = 512;
 
-/// The lines written so far. A call that lacks memory leaves them as they were.
+/// The lines written so far. A call for which memory is refused leaves them as they were.
 #[derive(Drop)]
 pub struct ObjectWriter {
     octets: Vec<u8>,
@@ -99,7 +99,7 @@ impl ObjectWriter {
         self.line("END:VCALENDAR")
     }
 
-    /// One line, as it stands.
+    /// One line, as it is.
     pub fn line(&mut self, text: &str) -> Result<(), AllocError>
         ensures ok { OnOk result (self.new ≡ self.old ++ folded text.now) }
         ensures err { OnErr result (self.new ≡ self.old) }
@@ -107,7 +107,7 @@ impl ObjectWriter {
         write_line(&mut self.octets, text)
     }
 
-    /// Octets, as they stand.
+    /// Octets, as they are.
     pub fn octets(&mut self, octets: &[u8]) -> Result<(), AllocError>
         ensures ok { OnOk result (self.new ≡ self.old ++ octets.now) }
         ensures err { OnErr result (self.new ≡ self.old) }
@@ -115,7 +115,7 @@ impl ObjectWriter {
         self.octets.extend_from_slice(octets)
     }
 
-    /// A line of two pieces: a name with its parameters and colon, and a value that is written as it stands.
+    /// A line of two pieces: a name with its parameters and colon, and a value that is written as it is.
     pub fn named(&mut self, name: &str, value: &str) -> Result<(), AllocError>
         ensures ok { OnOk result (self.new ≡ self.old ++ folded (name.now ++ value.now)) }
         ensures err { OnErr result (self.new ≡ self.old) }

@@ -10,7 +10,7 @@ use itoa::Buffer;
 use std::alloc::{AllocError, Global};
 use std::marker::Model;
 
-/// The zones so far, each as what stands behind the name of its VTIMEZONE.
+/// The zones so far, each as what comes after the name of its VTIMEZONE.
 #[derive(Drop)]
 pub struct Zones {
     alloc: Global,
@@ -34,7 +34,7 @@ impl Zones {
         }
     }
 
-    /// The number of a zone, counted from 1. One that isn't there yet is put behind the others. It takes as many steps as the
+    /// The number of a zone, counted from 1. One that isn't there yet is put after the others. It takes as many steps as the
     /// zone has octets.
     pub fn number_of(&mut self, rest: &[u8]) -> Result<usize, AllocError>
         ensures zones { OnOk result (self.new ≡ with_zone self.old rest.now) }
@@ -73,7 +73,7 @@ impl Zones {
     }
 }
 
-/// The VTIMEZONE with this behind its name, under a number.
+/// The VTIMEZONE with this after its name, under a number.
 fn write_zone(object: &mut ObjectWriter, number: usize, rest: &[u8]) -> Result<(), AllocError>
     ensures { (place : ℕ) → number ≡ place + 1 → OnOk result (object.new ≡ object.old ++ zone_text (zone_name place) rest.now) }
 {

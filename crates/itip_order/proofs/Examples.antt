@@ -39,7 +39,7 @@ lesser_octets : in_view (part Whole 1 900 (Set (1 ∷ 9 ∷ [])) ∷ part Whole 
 unfolding part
 lesser_octets = refl
 
--- an instance without a Whole stands, and so it does beside an older one
+-- an instance without a Whole counts, and so it does beside an older one
 alone : in_view (instance ∷ []) instance ≡ true
 unfolding instance part
 alone = refl
@@ -48,7 +48,7 @@ beside_older : in_view (instance ∷ request ∷ []) instance ≡ true
 unfolding instance request part
 beside_older = refl
 
--- beside a Whole of its own revision it stands where that is Absent, and not where it is Cancelled
+-- beside a Whole of its own revision it counts where that is Absent, and not where it is Cancelled
 beside_absent : in_view (instance ∷ absent ∷ request ∷ []) instance ≡ true
 unfolding instance absent request part
 beside_absent = refl

@@ -1,4 +1,4 @@
--- Registers of two values together: what they stand for, and which of them is that of a place.
+-- Registers of two values together: what they represent, and which of them is that of a place.
 use Rattle.std.proofs.Common.{◌≡◌, ℕ, Bool, true, false, cond, List, [], ◌∷◌, ◌++◌, ◌⊎◌, inl, inr, take, drop, refl, sym, ap, ◌∙◌, subst, append-nil, append_assoc}
 use Rattle.std.specs.declared.cmp.Ordering.{Ordering}
 use Rattle.std.specs.declared.cmp.Ordering.TheVariants.{Less, Equal, Greater}
@@ -18,7 +18,7 @@ use Rattle.itip_order.proofs.Orders.{ascending_same, stands_itself}
 use Rattle.itip_order.proofs.Taking.{puts_between, puts_over, is_gt_true}
 use Rattle.ical_values.proofs.Facts.{is_lt_true}
 
--- ---- one part more
+-- ---- one more part
 
 -- the part went into its place, or its register was no less and all stayed
 abbrev pub PutOrKept : List Part → List Part → Part → Type 0
@@ -131,7 +131,7 @@ together_stands : (R S h : List Part) → StandsFor R h → StandsFor (together 
 together_stands R [] h s = subst (λ (l : List Part). StandsFor R l) (sym (append-nil h)) s
 together_stands R (p ∷ S) h s = subst (λ (l : List Part). StandsFor (together (put_part p R) S) l) (append_assoc h (p ∷ []) S) (together_stands (put_part p R) S (h ++ p ∷ []) (put_stands R h p s))
 
--- registers in place of what they stand for
+-- registers in place of what they represent
 stands_along : (M h S g : List Part) → StandsFor S g → StandsFor M (h ++ S) → StandsFor M (h ++ g)
 stands_along M h S g t s = record {
   ascending = s.ascending;

@@ -117,11 +117,11 @@ less_or_equal Less e = inl refl
 less_or_equal Equal e = inr refl
 less_or_equal Greater e = absurd (true≢false e)
 
--- the three ways that revisions lie: p above v, v not below w
+-- the three cases of how revisions compare: p above v, v not below w
 above_lower : (p v w : Revision) → is_gt (revision_cmp p v) ≡ true → is_gt (revision_cmp w v) ≡ false → is_gt (revision_cmp p w) ≡ true
 above_lower p v w above low = true_from_ne_false _ (λ below. true≢false (sym above ∙ upto revision_total p w v below low))
 
--- a part that stands beside a Whole stands beside a lesser one of the same place
+-- a part that counts beside a Whole counts beside a lesser one of the same place
 stands_lower : (w v p : Part) → is_le (part_cmp w v) ≡ true → stands_beside v p ≡ true → stands_beside w p ≡ true
 stands_lower w v p le stands =
     let low = revision_le _ _ le in

@@ -1,4 +1,4 @@
--- A search by halves among ascending registers.
+-- A binary search among ascending registers.
 use Rattle.std.proofs.Common.{◌≡◌, ℕ, zero, suc, ◌+◌, ◌<◌, ◌≤◌, true, false, List, [], ◌∷◌, length, get_or, take, drop, map, Result, Ok, Err, IfOk, IfErr, refl, sym, ap, ◌∙◌, arith}
 use Rattle.std.specs.declared.cmp.Ordering.{Ordering}
 use Rattle.std.specs.declared.cmp.Ordering.TheVariants.{Less, Equal, Greater}
@@ -48,7 +48,7 @@ module _ {X : Type 0} (f : X → Part) (xs : List X) (a : is_ascending (map f xs
   element [] k lt = absurd (omega arith)
   element (y ∷ ys) k lt = y
 
-  -- what the search by halves answers
+  -- what the binary search answers
   pub searched : (target : Part) (r : Result ℕ ℕ) → IsSearchInRange r (length xs) → IsBinarySearchResult (λ x. place_cmp (f x) target) xs r → IfOk r (IsAt (map f xs) target) × IfErr r (IsGap (map f xs) target)
   searched target (Ok at) in_range equal = (
     record {

@@ -1,4 +1,4 @@
--- What a list of registers, one for each slot, stands for.
+-- What a list of registers, one for each slot, represents.
 use Rattle.std.specs.Prelude.{◌≡◌, ℕ, ◌<◌, ◌≤◌, Bool, true, ◌&&◌, List, [], ◌∷◌, length, take, drop, slice_index_or, IsTrue, if◌then◌else◌, ◌↔◌, Contains, filter}
 use Rattle.std.specs.declared.cmp.Ordering.{Ordering}
 use Rattle.std.specs.declared.cmp.Ordering.TheVariants.{Less, Equal, Greater}
@@ -81,7 +81,7 @@ pub record IsGap (registers : List Part) (part : Part) (at : ℕ) : Type 0 where
   pub below : IsTrue (list_all (λ register. is_lt (place_cmp register part)) (take at registers))
   pub above : IsTrue (list_all (λ register. is_gt (place_cmp register part)) (drop at registers))
 
--- the part is in the view of each history that the registers stand for
+-- the part is in the view of each history that the registers represent
 abbrev pub IsInView : List Part → Part → Type 0
 IsInView registers part = (history : List Part) → StandsFor registers history → IsTrue (in_view history part)
 

@@ -1,7 +1,7 @@
 //! The greatest part of each slot, and the view of all parts ever taken.
 //!
-//! One register for each slot, in the order of organiser, UID, slot, so a slot is found by halves.
-//! A tombstone stays for good, also one of a meeting that was never heard of.
+//! One register for each slot, in the order of organiser, UID, slot, so a slot is found by binary search.
+//! A tombstone stays for good, also one of a meeting of which nothing was ever taken.
 
 ghost use Rattle.std.specs.Prelude.{◌≡◌, ◌<◌, ◌≤◌, ◌+◌, ◌^◌, true, false, Contains, List, [], ◌∷◌, ◌++◌, length, IsTrue, IfOk, OnOk, OnErr};
 ghost use Rattle.std.specs.Prelude.{if◌then◌else◌};
@@ -30,7 +30,7 @@ pub enum Freshness {
     Stale,
 }
 
-/// All parts ever taken, as far as later calls can tell. Seen as its registers: it stands for each
+/// All parts ever taken, as far as later calls can tell. Seen as its registers: it represents each
 /// history whose greatest parts they are.
 #[derive(Drop)]
 pub struct Held {
@@ -64,15 +64,15 @@ impl Held {
 
     /// Takes a part. On an error nothing has changed.
     pub fn take(&mut self, part: Part) -> Result<Freshness, AllocError>
-        // The new value stands for each history that the old one stands for, with the part added.
+        // The new value represents each history that the old one represents, with the part added.
         ensures taken { OnOk result ((history : List revisions.Part) → StandsFor self.old history
             → StandsFor self.new (history ++ part_of part ∷ [])) }
 
-        // The answer tells the part's place in the views before and after.
+        // The answer says the part's place in the views before and after.
         ensures freshness { IfOk result (λ freshness. (history : List revisions.Part)
             → StandsFor self.old history → IsFreshness freshness history (part_of part)) }
 
-        // Memory is wanted only for a slot that no part was taken of.
+        // Memory is needed only for a slot of which no part was taken.
         ensures memory { OnErr result ((history : List revisions.Part) → StandsFor self.old history
             → is_known history (part_of part) ≡ false) }
         ensures err { OnErr result (self.new ≡ self.old) }
@@ -130,7 +130,7 @@ impl Held {
 
     /// The parts in the view, in the order of organiser, UID, slot. Takes no memory.
     pub fn view(&self) -> View<'_>
-        // They are the view of each history that the value stands for.
+        // They are the view of each history that the value represents.
         ensures exact { (history : List revisions.Part) → StandsFor self.now history → IsView result history }
         ensures shown { result ≡ shown self.now }
         ensures few { length result < 2 ^ 64 }
@@ -200,7 +200,7 @@ impl<'a> Iterator for View<'a> {
     }
 }
 
-/// A law, with nothing to do: a value stands for a history, that of its own registers.
+/// A law, with nothing to do: a value represents a history, that of its own registers.
 pub fn stands_for_its_registers(held: &Held)
     ensures { StandsFor held.now held.now }
 {

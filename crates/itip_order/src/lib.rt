@@ -1,8 +1,8 @@
 //! Revisions of the parts of messages, and the view of all parts taken (RFC 5546 2.1.4, 2.1.5).
 //!
 //! A message says something of slots of a meeting: of the whole of it, or of one instance. Each such
-//! part has a revision. `Held` keeps the greatest part of each slot, and shows those that stand
-//! beside the Whole of their meeting. The answer doesn't hang on the order in which parts come.
+//! part has a revision. `Held` keeps the greatest part of each slot, and shows those that count
+//! beside the Whole of their meeting. The answer doesn't depend on the order in which parts come.
 #![tactic(auto)]
 
 mod held;

@@ -115,7 +115,7 @@ impl<'a> Together<'a> {
     }
 }
 
-/// Puts the slots of registers behind others.
+/// Puts the slots of registers after others.
 fn push_slots(slots: &mut Vec<Slot>, registers: &[Part]) -> Result<(), AllocError>
     ensures { OnOk result (map slot_of slots.new.items ≡ map slot_of slots.old.items ++ map (λ part. slot_of part.slot) registers.now) }
 {

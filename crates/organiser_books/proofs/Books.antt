@@ -38,7 +38,7 @@ stored_own uid (s ∷ ss) stored e = by (bytes_eq s.uid uid) refl e (stored_own 
     by true f e h = subst (λ (x : Stored). x.uid ≡ uid) (some_is s stored e) (same_is s.uid uid f)
     by false f e h = h e
 
--- what stands at a UID that is known, and at one that isn't
+-- what is at a UID that is known, and at one that isn't
 pub stands_known : (book : OrganiserBook) (uid : List ℕ) (m : Meeting) (r : Option Stored) → StandsAt book uid (Some m) r → (stored : Stored) × (r ≡ Some stored) × Stands m book stored
 stands_known book uid m None h = absurd h
 stands_known book uid m (Some stored) h = (stored, refl, h)

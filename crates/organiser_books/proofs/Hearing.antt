@@ -1,4 +1,4 @@
--- What was answered to a store, with one answer more.
+-- What was answered to a store, with one more answer.
 use Rattle.std.proofs.Common.{◌≡◌, ◌∙◌, ℕ, ◌<◌, ℤ, Bool, true, false, ◌&&◌, not, is_some, cond, List, [], ◌∷◌, ◌++◌, map, length, get_or, Option, None, Some, refl, sym, ap, subst, inl, inr, append-nil, arith}
 use Rattle.std.specs.Prelude.{◌==◌, nat_lt, slice_get}
 use Rattle.std.specs.List.{filter, position, position_or_len}
@@ -81,7 +81,7 @@ pub no_line : (lines : List Attendee) (said : List events.Attendee) → None ≡
 no_line [] said h e = sym e
 no_line (l ∷ ls) said h e = absurd (none_some l h)
 
--- ---- one answer more
+-- ---- one more answer
 
 module _ (keys : List Address) (stored : Stored) (replies : List Heard) where
   -- to another SEQUENCE
@@ -141,7 +141,7 @@ module _ (keys : List Address) (stored : Stored) (replies : List Heard) where
 
 -- ---- those who speak
 
--- who is an attendee goes by the attendees alone
+-- who is an attendee depends on the attendees alone
 pub unknown_same : (m n : Meeting) → m.attending ≡ n.attending → (lines : List events.Attendee) → is_unknown m lines ≡ is_unknown n lines
 unknown_same m n e [] = refl
 unknown_same m n e (a ∷ rest) = ap (λ k. not (is_some (attendance_of a.address k.entries))) e

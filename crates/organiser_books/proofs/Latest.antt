@@ -1,4 +1,4 @@
--- The latest of what was answered, with one answer more; and in whatever order they stand.
+-- The latest of what was answered, with one more answer; and in whatever order they are.
 use Rattle.std.proofs.Common.{◌≡◌, ◌∙◌, ℕ, ℤ, Bool, true, false, cond, List, [], ◌∷◌, ◌++◌, Option, None, Some, refl, sym, ap, subst, inl, inr}
 use Rattle.std.specs.List.{filter, list_all, Contains}
 use Rattle.std.specs.declared.cmp.Ordering.{Ordering}

@@ -101,7 +101,7 @@ first_is q (x ∷ xs) = by (bytes_eq x.address q) refl (first_is q xs)
     by true e h = ap (λ b. x.scheduled || b) (none_say q x e (counted xs)) ∙ or_false x.scheduled
     by false e h = others_say q x e (counted xs) ∙ h
 
--- ---- one line more
+-- ---- one more line
 
 pub names_push : (q : List ℕ) (own : List Attendee) (a : Attendee) → names q (own ++ a ∷ []) ≡ (names q own || bytes_eq a.address q)
 names_push q own a = any_push (λ x. bytes_eq x.address q) own a

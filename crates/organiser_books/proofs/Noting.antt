@@ -1,4 +1,4 @@
--- The attendees in memory, with one line more.
+-- The attendees in memory, with one more line.
 use Rattle.std.proofs.Common.{◌≡◌, ◌∙◌, ℕ, ◌+◌, ◌≤◌, Bool, true, false, not, ◌&&◌, ◌||◌, cond, List, [], ◌∷◌, ◌++◌, map, Option, None, Some, refl, sym, ap, subst, append-nil, append_assoc, arith, inl, inr}
 use Rattle.std.proofs.lemmas.List.{map-append}
 use Rattle.std.specs.Prelude.{◌==◌}
@@ -42,7 +42,7 @@ set_other a q (x ∷ es) w n = by (is_address a x.0) (is_address q x.0) refl ref
     by true false e f h = ap (λ t. cond t (Some w) (attendance_of q es)) f
     by false s e f h = ap (λ t. cond t (Some x.1) (attendance_of q (set_value (is_address a) es w))) f ∙ ap (cond s (Some x.1)) h
 
--- one more behind them
+-- one more after them
 pub push_own : (a : List ℕ) (k : Address) (v : Attendance) (es : Entries) → bytes_eq a (address_octets k) ≡ true → attendance_of a es ≡ None → attendance_of a (es ++ (k, v) ∷ []) ≡ Some v
 push_own a k v [] e n = ap (λ t. cond t (Some v) None) e
 push_own a k v (x ∷ es) e n = by (is_address a x.0) refl (push_own a k v es e) n
@@ -55,7 +55,7 @@ pub push_other : (q : List ℕ) (k : Address) (v : Attendance) (es : Entries) �
 push_other q k v [] n = ap (λ t. cond t (Some v) None) n
 push_other q k v (x ∷ es) n = ap (cond (is_address q x.0) (Some x.1)) (push_other q k v es n)
 
--- ---- one line more
+-- ---- one more line
 
 -- where nothing changes for an address
 noted_same : (done : List (List Attendee)) (place : ℕ) (own more : List Attendee) (q : List ℕ) (r : Option Attendance)
@@ -190,7 +190,7 @@ next_noted done place own es h = record {
       up_to = let up = n.up_to in omega (arith, up);
     }
 
--- behind the last
+-- after the last
 pub all_noted : (lists : List (List Attendee)) (place : ℕ) (es : Entries) → AreNoted lists place [] es → AreAttending lists es
 all_noted lists place es h = record {
   order = h.order ∙ ap each_once (append-nil _);

@@ -29,7 +29,7 @@ octets e = address_octets e.0
 abbrev pub picked : (Entry → Bool) → Entries → List (List ℕ)
 picked test entries = map (λ entry. address_octets entry.0) (filter test entries)
 
--- ---- one entry more
+-- ---- one more entry
 
 pub picked_yes : (test : Entry → Bool) (done : Entries) (e : Entry) (items more : List Address) (a : Address) → more ≡ items ++ a ∷ [] → address_octets a ≡ address_octets e.0
     → map address_octets items ≡ picked test done → test e ≡ true → map address_octets more ≡ picked test (done ++ e ∷ [])

@@ -93,7 +93,7 @@ module _ (address : List ℕ) (object : OrganiserObject) (said : objects.Organis
     below : (h : Heard) → Contains book.replies h → bytes_eq h.uid said.uid ≡ true → h.revision.sequence < stored.revision.sequence
     below = all_below book said.uid said.events object.components.items is.each (meetings object.uid) last (λ s e. stored_own said.uid book.stores s e) stands
 
-    -- the meeting stands for it
+    -- the meeting represents it
     meeting_stands : meeting.components.items ≡ object.components.items → AreAttending (lists_of object.components.items) meeting.attending.entries → meeting.answers.entries ≡ [] → Stands meeting next stored
     meeting_stands components attending none = record {
       revision = revision_is;

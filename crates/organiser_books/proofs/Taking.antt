@@ -33,7 +33,7 @@ use Rattle.organiser_books.proofs.Said.{ahead_are, attendee_is, heard_are, known
 
 -- ---- what is asked
 
--- two operations that differ are told apart
+-- two operations that differ are distinguished
 pub operations_differ : (a b : Operation) → operations.eq-value.it a b ≡ false → operation_said a ≡ operation_said b → ⊥
 operations_differ Store Store n e = true≢false n
 operations_differ Store Reply n e = absurd (cc)

@@ -1,4 +1,4 @@
--- The attendees of a meeting, as an organiser has them in memory. Components count here as their ATTENDEE lines alone.
+-- The attendees of a meeting, as an organiser has them in memory. Components count here only as their ATTENDEE lines.
 use Rattle.std.specs.Prelude.{◌≡◌, ℕ, ◌≤◌, ◌==◌, Bool, true, false, not, ◌||◌, ◌&&◌, if◌then◌else◌, List, [], ◌∷◌, ◌++◌, map, filter, Option, None, Some}
 use Rattle.std.specs.List.{flat_map, list_any}
 use Rattle.std.specs.Map.{lookup, keys_of}
@@ -94,7 +94,7 @@ is_sent address entries = is_sent_in (attendance_of address entries)
 abbrev pub is_other : List ℕ → Address → Bool
 is_other organiser address = not (bytes_eq (address_octets address) organiser)
 
--- those of them but the organiser
+-- those of them except the organiser
 abbrev pub sent_in : List ℕ → Entries → List (List ℕ)
 sent_in organiser entries = map (λ entry. address_octets entry.0) (filter (λ entry. entry.1.scheduled && is_other organiser entry.0) entries)
 

@@ -16,7 +16,7 @@ pub record MayTake (operation : Operation) (address : List ℕ) (said : Organise
   pub organiser : said.organiser ≡ address
   pub allowed : (n : ℕ) → StateFault said book n → ⊥
 
--- and refuses it by that call: it is of another kind, or to another organiser, or a fault stands in it beside what is kept
+-- and refuses it by that call: it is of another kind, or to another organiser, or it has a fault beside what is kept
 pub data CallFault (operation : Operation) (address : List ℕ) (said : OrganiserObject) (book : OrganiserBook) : ℕ → Type 0 where
   other_kind : said.operation ≢ operation → CallFault operation address said book 60
   other_organiser : said.organiser ≢ address → CallFault operation address said book 70

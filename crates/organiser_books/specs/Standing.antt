@@ -1,4 +1,4 @@
--- What an organiser stands for: the last stores and what was answered to them, of all that was ever stored and answered.
+-- What an organiser represents: the last stores and what was answered to them, of all that was ever stored and answered.
 use Rattle.std.specs.Prelude.{◌≡◌, ◌⊎◌, ℕ, ◌≤◌, nat_lt, Bool, true, false, not, is_some, List, [], ◌∷◌, ◌++◌, filter, position, Contains, Option, None, Some}
 use Rattle.std.specs.List.{AllZip, list_all, list_any}
 use Rattle.std.specs.Map.{lookup, keys_of}

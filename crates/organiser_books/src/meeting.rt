@@ -112,7 +112,7 @@ impl Meeting {
         Ok(())
     }
 
-    /// Takes what these components answer, all of it or, without memory, nothing.
+    /// Takes what these components answer, all of it or, where memory is refused, nothing.
     fn hear_all(&mut self, components: &[ObjectComponent]) -> Result<(), AllocError>
         ensures revision { self.new.revision ≡ self.old.revision }
         ensures components { self.new.components ≡ self.old.components }

@@ -72,7 +72,7 @@ impl Organiser {
 
     /// Stores a meeting at a moment: its attendees are sent a REQUEST, or a CANCEL where it is cancelled, and those of the last store whom
     /// the server no longer sends messages a CANCEL. What they answered to the last store counts no longer (RFC 6638 3.2.1, 3.2.8).
-    /// Refused, and then nothing has changed: 60 for an object that is no store, 70 for one of another organiser, 72 where no greater
+    /// Refused, and then nothing has changed: 60 for an object that isn't a store, 70 for one of another organiser, 72 where no greater
     /// SEQUENCE is left.
     pub fn store(&mut self, object: OrganiserObject, now: Stamp) -> Result<Vec<Outgoing>, Fault>
         // From each book that it keeps it makes a step of the organiser machine.
@@ -117,7 +117,7 @@ impl Organiser {
     }
 
     /// Takes an attendee's REPLY (RFC 5546 3.2.3). One to an older store says nothing of the last.
-    /// Refused, and then nothing has changed: 60 for an object that is no REPLY, 70 for one to another organiser, 71 for a meeting that isn't
+    /// Refused, and then nothing has changed: 60 for an object that isn't a REPLY, 70 for one to another organiser, 71 for a meeting that isn't
     /// known or a SEQUENCE that wasn't sent yet, 73 for one who isn't an attendee of the last store.
     pub fn take_reply(&mut self, object: &OrganiserObject) -> Result<(), Fault>
         ensures steps { IfOk result (λ _. (said : profile.OrganiserObject) → StandsForObject object.now said → (book : OrganiserBook) → Keeps self.old book
@@ -137,7 +137,7 @@ impl Organiser {
     }
 
     /// Answers an attendee's REFRESH (RFC 5546 3.2.6): with the octets that were made of the last store, also where they were sent to nobody.
-    /// Refused: 60 for an object that is no REFRESH, 70 for one to another organiser, 71 for a meeting that isn't known, 73 for one who isn't
+    /// Refused: 60 for an object that isn't a REFRESH, 70 for one to another organiser, 71 for a meeting that isn't known, 73 for one who isn't
     /// an attendee of the last store.
     pub fn take_refresh(&self, object: &OrganiserObject) -> Result<Vec<u8>, Fault>
         ensures steps { IfOk result (λ octets. (said : profile.OrganiserObject) → StandsForObject object.now said → (book : OrganiserBook) → Keeps self.now book

@@ -62,7 +62,7 @@ fn call_off(
     Ok(Sending { object, sent })
 }
 
-/// The REQUEST goes to those of the meeting, and a CANCEL behind it to those who are gone.
+/// The REQUEST goes to those of the meeting, and a CANCEL after it to those who are gone.
 fn request(
     alloc: Global,
     meeting: &MeetingText<'_>,

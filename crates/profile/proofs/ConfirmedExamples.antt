@@ -50,7 +50,7 @@ cancelled_is_not = refl
 without_a_rule_is_no_series : is_series room master ≡ false
 without_a_rule_is_no_series = refl
 
--- the declined override hides the start that it stands for, and is no instance itself
+-- the declined override hides the start that it replaces, and isn't an instance itself
 hidden : IsInstanceAmong events master (record { key = key_at master (pos 100); start = pos 100; end = pos 101 }) → ⊥
 hidden i = i.shown refl (record { override = declined; among = (1, omega arith, refl); of = refl; is = refl })
 
@@ -84,7 +84,7 @@ stays = record {
     other o (suc zero, w, e) is = let h = some (pos 100) (pos 200) (ap (λ (x : Event). x.recurrence) e ∙ is) in omega (arith, ints, h)
     other o (suc (suc k), w, e) is = omega (arith, w)
 
--- a master and an override of one meeting are no two masters; two masters are
+-- a master and an override of one meeting aren't two masters; two masters are
 one_master : MastersDiffer events
 one_master zero zero d l w m n e = omega (arith, l)
 one_master zero (suc zero) d l w m n e = false≢true (sym (ap (λ (r : Option ℤ). is_some r) n))

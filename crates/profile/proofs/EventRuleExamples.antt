@@ -80,7 +80,7 @@ not_in_utc = record {
   last = λ other from to start means. let e = shown_at (pos 3600) _ start means in omega (arith, ints, e, from);
 }
 
--- UNTIL=00010101T083000Z counts as 1969-12-30T23:59:59Z, and no start lies before the next second
+-- UNTIL=00010101T083000Z counts as 1969-12-30T23:59:59Z, and no start is before the next second
 before_the_first_day : IsLastAllowed utc 32_400 (Some (UntilInstant (negsuc 62_135_566_199))) 719_526
 before_the_first_day = record {
   to_9999 = omega arith;

@@ -1,4 +1,4 @@
--- Worked examples of definitions, computed. Those of the other files stand beside the crates that meet them: Lines in ical_lines,
+-- Worked examples of definitions, computed. Those of the other files are beside the crates that meet them: Lines in ical_lines,
 -- Objects in ical_tree, Days and Values in cal_days and ical_values, Instances in cal_events, Certificates in clash_cert,
 -- Revisions in itip_order, Messages in itip_messages, Rooms in room_books.
 use Rattle.std.proofs.Common.{decimal, ◌≡◌, ◌<◌, ◌∙◌, ℕ, ℤ, zero, suc, pos, negsuc, true, false, List, [], ◌∷◌, ◌++◌, Some, None, refl, codes, length, ap, arith, get_or, lit<}

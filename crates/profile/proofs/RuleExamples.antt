@@ -57,7 +57,7 @@ rule frequency interval week_start months month_days weekdays positions start co
   until = None;
 }
 
--- the rule days among so many days from one on
+-- the rule days among this many days from one on
 days_in : Parts → ℕ → ℕ → List ℕ
 days_in r from days = filter (is_rule_day r) (range_with_len from days)
 

@@ -47,11 +47,11 @@ at_dtstart = record {
     only (zero, w, e) = omega (arith, ints, e)
     only (suc k, w, e) = omega (arith, w)
 
--- RDATE at an EXDATE is no start
+-- RDATE at an EXDATE isn't a start
 excepted : IsStart master [] (pos 300) → ⊥
 excepted s = s.not_excepted (0, omega arith, refl)
 
--- an override that stands for DTSTART takes that away, though it is cancelled, and is an instance itself; so is one that no start is for
+-- an override for DTSTART takes that away, though it is cancelled, and is an instance itself; so is one that no start is for
 abbrev override : Event
 override = event (Some (pos 100)) (pos 150) [] []
 

@@ -23,7 +23,7 @@ YesMeansFree =
     → (a b : Booked) → IsConfirmedIn room calendar a → IsConfirmedIn room calendar b
     → (t : ℤ) → IsWithin a.start a.end t → IsWithin b.start b.end t → t <ℤ horizon → a ≡ b
 
--- the book that there would be after a message, were each of its parts that is asked accepted
+-- the book as it would be after a message, if each of its parts that is asked were accepted
 abbrev pub would_be : Book → List Claim → ℤ → Book → Book
 would_be before claims moment after = if_accepted before claims moment after.taken
 

@@ -1,10 +1,10 @@
--- the headline, and below it what it stands on, by what a reader wants to believe
+-- the headline, and below it what it rests on, by what a reader wants to believe
 pub mod Headline
 -- what a yes of the checker means
 pub mod checker
 -- what a room takes, decides and keeps
 pub mod rooms
--- what an organiser keeps, sends and is told
+-- what an organiser keeps, sends and receives
 pub mod organisers
 -- what is written for a stream
 pub mod streams

@@ -1,4 +1,4 @@
--- what an organiser keeps, sends and is told
+-- what an organiser keeps, sends and receives
 pub mod Objects
 pub mod Organisers
 pub mod Sent

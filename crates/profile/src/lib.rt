@@ -1,2 +1,2 @@
-//! What the contracts of roombox mean: definitions alone, in `specs/`, and no code that others call.
+//! What the contracts of roombox mean: only definitions, in `specs/`, and no code that others call.
 #![tactic(auto)]

@@ -43,7 +43,7 @@ slot_itself a = tied_itself slot_total a
 pub slot_from : (a b : revisions.Slot) → a ≡ b → is_eq (slot_cmp a b) ≡ true
 slot_from a b e = ap (λ s. is_eq (slot_cmp s b)) e ∙ ap is_eq (slot_itself b)
 
--- the own order of slots is that of the slots that they stand for
+-- the order of slots itself is that of the slots that they represent
 pub order_is : (a b : Slot) → cmp-value.it a b ≡ slot_cmp (slot_of a) (slot_of b)
 order_is own.Whole own.Whole = refl
 order_is own.Whole (own.At b) = refl
@@ -56,7 +56,7 @@ element : (xs : List Slot) (k : ℕ) → k < length xs → Slot
 element [] k lt = absurd (omega arith)
 element (x ∷ xs) k lt = x
 
--- a slot is found where it stands among the others
+-- a slot is found where it is among the others
 pub found : (xs : List Slot) (slot : revisions.Slot) (r : Result ℕ ℕ) → IsSortedByKey slot_of slot_cmp xs → IsSearchInRange r (length xs)
     → IsBinarySearchResult (λ own. slot_cmp (slot_of own) slot) xs r → is_ok r ≡ has_slot xs slot
 found xs slot (Ok i) up in_range at =
@@ -82,7 +82,7 @@ accepted_at answers slot h =
     let from = filter_at (λ x. is_accept (outcome_of x.outcome)) answers given.0 given.1 in
     (given.0, from.0, ap slot_of given.2 ∙ slot_same (slot_of one.0) slot one.2, from.1)
 
--- ---- one answer more
+-- ---- one more answer
 
 pub slots_push : (answers : List Given) (slots new : List Slot) (i : ℕ) (x : Given) → i < length answers → x ≡ get_or answers i x → new ≡ slots ++ x.slot ∷ [] → slots ≡ accepted_slots (take i answers)
     → is_accept (outcome_of x.outcome) ≡ true → new ≡ accepted_slots (take (i + 1) answers)

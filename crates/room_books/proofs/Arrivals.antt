@@ -39,7 +39,7 @@ meeting_parts a b e =
 pub meeting_congr : (a b c : Part) → same_meeting a b ≡ true → same_meeting a c ≡ same_meeting b c
 meeting_congr a b c e = ap is_eq (meeting_total.congr a b c (is_eq_true _ e))
 
--- ---- one part more
+-- ---- one more part
 
 -- the first parts, where one more is taken
 push_first : List Part → Part → List Part
@@ -82,7 +82,7 @@ first_parts_push (q ∷ qs) p = ap (λ l. q ∷ filter (others q) l) (first_part
     at_test true e = ap (λ l. q ∷ l) (filter_own q p (first_parts qs) e)
     at_test false e = ap (λ l. q ∷ l) (filter_other q p (first_parts qs) e)
 
--- ---- one meeting more
+-- ---- one more meeting
 
 key_tests : (k q : MeetingKey) (f p : Part) → is_of k p ≡ true → is_of q f ≡ true → same_key k q ≡ same_meeting f p
 key_tests k q f p e g =

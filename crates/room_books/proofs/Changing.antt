@@ -16,14 +16,14 @@ use Rattle.room_books.specs.Instants.{AreSeparate, HaveInstant}
 use Rattle.room_books.specs.Timelines.{busy_in, has_busy, has_single, same_single, holds_instants, HoldsInstants, AreAt, IsFreeAmong, IsFreeBut, IsChanged, IsTaken, IsPut}
 use Rattle.room_books.proofs.Timelines.{IsPutting, unchanged, take_held, putting_last, has_at, has_from, single_at, separate_once, take_step, put_step, free_step, later_apart}
 
--- those left are there still, and so many were taken out
+-- those left are there still, and this many were taken out
 pub record IsTaking (place : ℕ) (left : List Single) (count : ℕ) (old new : Timeline) : Type 0 where
   pub changed : IsChanged place left old.busy.items new.busy.items
   pub confirmed : new.confirmed + count ≡ old.confirmed
   pub len : vec_len new.busy ≤ vec_len old.busy
   pub capacity : vec_capacity new.busy ≡ vec_capacity old.busy
 
--- those left are still to be put in, and so many were
+-- those left are still to be put in, and this many were
 pub record ArePut (place : ℕ) (left all : List Single) (count : ℕ) (old new : Timeline) : Type 0 where
   pub putting : (kept : List Single) → AreAt place kept old.busy.items → IsPutting place left (kept ++ all) old.busy.items new.busy.items
   pub free : (s : Single) → Contains left s → IsFreeAmong new.busy.items s.span
@@ -115,7 +115,7 @@ putting_none place kept added old held = record {
     spread true a b = refl
     spread false a b = refl
 
--- behind the last
+-- after the last
 pub put_more : (place : ℕ) (added : List Single) (k : ℕ) (old new : Timeline) → length added ≤ k → ArePut place (drop k added) added k old new
     → (kept : List Single) → AreAt place kept old.busy.items → IsChanged place (kept ++ added) old.busy.items new.busy.items
 put_more place added k old new e before kept held =

@@ -49,7 +49,7 @@ pub if_ok : {T E : Type 0} (r : Result T E) (P Q : T → Type 0) → ((x : T) �
 if_ok (Ok x) P Q f p = f x p
 if_ok (Err e) P Q f p = tt
 
--- one element more of a loop
+-- one more element of a loop
 pub zip_more : {X Y : Type 0} (R : X → Y → Type 0) (items all : List X) (i : ℕ) (x : X) (ys new : List Y) (y : Y) → items ≡ all → i < length items → x ≡ get_or items i x → new ≡ ys ++ y ∷ [] → AllZip R (take i all) ys → R x y → AllZip R (take (i + 1) all) new
 zip_more {X} {Y} R items all i x ys new y same h e is z r =
     let old = subst (λ (l : List X). AllZip R (take i l) ys) (sym same) z in
@@ -69,7 +69,7 @@ pub none_first : (claims : List Claim) → None ≡ slice_get claims 0 → claim
 none_first [] e = refl
 none_first (claim ∷ claims) e = absurd (cc)
 
--- one element more of a loop that leaves some out
+-- one more element of a loop that leaves some out
 pub zip_some : {X Y : Type 0} (R : X → Y → Type 0) (p : X → Bool) (items all : List X) (i : ℕ) (x : X) (ys new : List Y) (y : Y) → items ≡ all → i < length items → x ≡ get_or items i x → p x ≡ true → new ≡ ys ++ y ∷ []
     → AllZip R (filter p (take i all)) ys → R x y → AllZip R (filter p (take (i + 1) all)) new
 zip_some {X} {Y} R p items all i x ys new y same h e passes is z r =

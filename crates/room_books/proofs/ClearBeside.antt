@@ -45,7 +45,7 @@ module _ {X : Type 0} where
   pub at_take : (xs : List X) (p q : ℕ) (x : X) → slice_get xs p ≡ Some x → p < q → q ≤ length xs → Contains (take q xs) x
   at_take xs p q x h l w = (p, (let n = length-take-le q xs w in omega (arith, n, l)), get_or-take q xs p x l ∙ get_or_from_slice_get xs p x x h)
 
-  -- what stands in a place of two lists, by which of them it is in
+  -- what is in a place of two lists, by which of them it is in
   pub at_both : (xs ys : List X) (p : ℕ) (x : X) → slice_get (xs ++ ys) p ≡ Some x → ((p < length xs) × Contains xs x) ⊎ ((length xs ≤ p) × Contains ys x)
   at_both [] ys p x h = inr (omega arith, at_in ys p x h)
   at_both (z ∷ xs) ys zero x h = inl (omega arith, subst (Contains (z ∷ xs)) (same_Some z x h) (in_head z xs))
@@ -138,7 +138,7 @@ module _ (others : Confirmed) (k : MeetingKey) (own singles : List Single) (kept
         (sym (ap (λ (z : MeetingKey × Series). z.0) y.2), subst (Contains wanted) (ap (λ (z : MeetingKey × Series). z.1) y.2) y.1))
   ]
 
-  -- an instance of all series stands for one that recurs: of one before the place, which was clear, or of one that it asks for
+  -- an instance of all series represents one that recurs: of one before the place, which was clear, or of one that it asks for
   data IsWhen (p : ℕ) (r : Recurring) (x : Single) (b : Booked) : Type 0 where
     was : p < from → IsOneOf before b → IsWhen p r x b
     is_asked : from ≤ p → r.key.now ≡ k → RecursIn wanted x → IsWhen p r x b
@@ -235,7 +235,7 @@ module _ (others : Confirmed) (k : MeetingKey) (own singles : List Single) (kept
         by_when (was less one) old = was_clear a b t (inl old) one clash
         by_when (is_asked from_on key recurs) old = new_clear.1 f.single recurs a t old (turned (span_of a) f.single.span t (shared_by a b a (booked_of f.recurring.key.now f.single) t refl f.is clash))
 
-    -- the first stands before the second
+    -- the first comes before the second
     ordered : (a b : Booked) (t : ℤ) (f : Stands a) (g : Stands b) → f.place < g.place → from ≤ g.place → RecursIn wanted g.single → AreClashing a b t → ⊥
     ordered a b t f g less from_on recurs clash =
         let within = slice_get_within all g.place g.recurring g.at in

@@ -25,7 +25,7 @@ module _ {X : Type 0} (f : Answer → List X) (t : List Part) where
   pub standing_gives : (xs : List Answer) → given_by f t (standing t xs) ≡ given_by f t xs
   standing_gives xs = ap (flat_map f) (filter_within (is_confirmed t) (λ a. in_view t a.claim.part) xs (λ a c h. (and_parts (is_accept a.outcome) (in_view t a.claim.part) h).1))
 
-  -- some, and behind them others
+  -- some, and after them others
   pub given_append : (xs ys : List Answer) → given_by f t (xs ++ ys) ≡ given_by f t xs ++ given_by f t ys
   given_append xs ys = ap (flat_map f) (filter-append (is_confirmed t) xs ys) ∙ flat_map-append f (filter (is_confirmed t) xs) (filter (is_confirmed t) ys)
 

@@ -120,7 +120,7 @@ names_more all these first second t within n = record {
   later = n.later;
 }
 
--- ---- the own instances and the others
+-- ---- the meeting's own instances and the others
 
 module _ (all : List Booked) (k : MeetingKey) (kept wanted : List Single) (differ : (s : Single) (b : Booked) → Contains all b → b.key ≢ (booked_of k s).key) where
   abbrev both : List Booked
@@ -160,7 +160,7 @@ module _ (all : List Booked) (k : MeetingKey) (kept wanted : List Single) (diffe
         (λ e. apart (sym key ∙ sym (ap (λ (z : Key). z.slot) e))) overlap later named
   ]
 
-  -- none do: those kept were clear beside the others, those that are asked for are free of them, and the own ones share no instant
+  -- none do: those kept were clear beside the others, those that are asked for are free of them, and its own share no instant
   module _ (clear : IsClear (all ++ booked_list k kept)) (free : (s : Single) → Contains wanted s → IsFree all s.span) (separate : AreSeparate (kept ++ wanted)) where
     beside : (b : Booked) (s : Single) (t : ℤ) → Contains all b → Contains (kept ++ wanted) s → HaveInstant s.span (span_of b) t → ⊥
     beside b s t in_b in_s h = elim (Contains-append_cases kept wanted s in_s) [
@@ -213,7 +213,7 @@ module _ (all : List Booked) (k : MeetingKey) (kept wanted : List Single) (diffe
         key_of_slot : (s r : Single) → s.slot ≡ r.slot → (booked_of k s).key ≡ (booked_of k r).key
         key_of_slot s r e = λ i. record { organiser = (booked_of k s).key.organiser; uid = (booked_of k s).key.uid; slot = e i }
 
--- ---- what the sweep says of the own ones
+-- ---- what the sweep says of the meeting's own
 
 module _ (singles : List Single) (spans : List Span) (spans_are : spans ≡ spans_of singles) where
   long : length spans ≡ length singles

@@ -36,7 +36,7 @@ found_entry q [] m h = absurd (cc)
 found_entry q (x ∷ es) m h = found_step (same_key q x.0) q x es m refl h (found_entry q es m)
 
 module _ (entries : List (MeetingKey × Meeting)) (book : Book) (st : Stands entries book) (distinct : IsDistinct same_key (keys_of entries)) where
-  -- each entry stands for what the book says of its meeting
+  -- each entry represents what the book says of its meeting
   pub meeting_at : (e : MeetingKey × Meeting) → Contains entries e → Meets (book_of e.0 book) e.0 e.1
   meeting_at e c =
       let here : lookup (same_key e.0) entries ≡ Some e.1 = lookup-from_Contains key_laws e.0 e.1 entries distinct c in

@@ -49,7 +49,7 @@ fewer_one series left starts is = record {
 
 -- ---- of answers
 
--- one answer more
+-- one more answer
 pub one_fewer : (done : List Given) (given : Given) (left kept kept' : List Series) → AreFewer (option_to_list given.series) left → kept' ≡ kept ++ left
     → AreFewer (all_series done) kept → AreFewer (all_series (done ++ given ∷ [])) kept'
 one_fewer done given left kept kept' f e all =

@@ -1,4 +1,4 @@
--- The starts of a part's series for which other parts stand, slot by slot.
+-- The starts of a part's series that other parts hide, slot by slot.
 use Rattle.std.proofs.Common.{◌≡◌, ◌∙◌, ℕ, ◌+◌, ◌<◌, ℤ, ◌⊎◌, Bool, true, false, ◌&&◌, ◌||◌, List, [], ◌∷◌, ◌++◌, length, map, take, get_or, inl, inr, Option, None, Some, refl, sym, ap, subst}
 use Rattle.std.specs.List.{Contains, list_any}
 use Rattle.std.specs.Ordering.{is_eq}
@@ -23,7 +23,7 @@ use Rattle.room_books.specs.Touching.{is_touched}
 use Rattle.room_books.proofs.AcceptedSlots.{slot_from}
 use Rattle.room_books.proofs.Pairs.{map_at}
 
--- ---- one slot more
+-- ---- one more slot
 
 or_parts : (a b : Bool) → (a || b) ≡ true → (a ≡ true) ⊎ (b ≡ true)
 or_parts true b e = inl refl
@@ -55,7 +55,7 @@ module _ (history : List Part) (part : Part) where
     still_hidden : (b : Booked) → is_hidden_by slots history part b ≡ true → is_hidden_by (slots ++ slot ∷ []) history part b ≡ true
     still_hidden b e = let both = and_parts _ _ e in and_from _ _ (touched_old slots slot b.key.slot both.0) both.1
 
-    -- a slot of which no part stands for an instance
+    -- a slot of which no part hides an instance
     pass : IsHiddenStart history part (slot_of slot) None → AreHiddenStarts (slots ++ slot ∷ []) history part starts
     pass none b = (
       λ c. still_hidden b ((are b).0 c),
@@ -112,7 +112,7 @@ series_without slots history part series left starts known are is b = (
 pub series_whole : (hides : Booked → Bool) (series : Series) → ((b : Booked) → IsInstance (series_said series) b → hides b ≡ false) → IsSeriesLeft hides (Some series) (Some series)
 series_whole hides series none b = (λ inside. (inside, none b inside), λ both. both.0)
 
--- no slot hides one, and one slot more that doesn't
+-- no slot hides one, and one more slot that doesn't
 pub none_before : (history : List Part) (part : Part) (b : Booked) → is_hidden_by [] history part b ≡ false
 none_before history part b = refl
 

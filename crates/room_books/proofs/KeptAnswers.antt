@@ -81,7 +81,7 @@ pub record ReadsBack (zones : List (List ℕ)) (lines : Lines) (organiser uid : 
 
 -- ---- what the lines of the message say
 
--- the line of a value that stands
+-- the line of a value that is there
 record Given {V : Type 0} (R : List ℕ → V → Type 0) (lines : Lines) (value : V) : Type 0 where
   line : List ℕ
   stands : Contains lines line
@@ -118,7 +118,7 @@ record SaysTaken (object : Tree) (method : Method) (lines : Lines) (event : Even
   -- the zone of its start is one that some VTIMEZONE says
   zone : IsSaid event.times.zone
   facts : cancels method event ≡ false → EventFacts event (adds_instances (Some method))
-  -- the instance that it is of lies in the dates that an event may name
+  -- the instance that it is of is in the dates that an event may name
   dated : (t : ℤ) → event.recurrence ≡ Some t → IsNamed t
 
 zone_there : (object : Tree) (name : Option (List ℕ)) (text : List ℕ) (zone : Option Zone) (local : ℤ) → SpellsZoned object name text zone local → IsSaid zone

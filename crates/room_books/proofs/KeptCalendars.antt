@@ -1,4 +1,4 @@
--- The kept calendar spells the confirmed instances, and the kept certificate stands for them.
+-- The kept calendar spells the confirmed instances, and the kept certificate holds for them.
 use Rattle.std.proofs.Common.{◌≡◌, ◌≢◌, ◌∙◌, ℤ, true, false, not, ◌&&◌, cond, List, [], ◌∷◌, ◌++◌, filter, length, map, codes, Option, Some, None, is_some, ℕ, inl, inr, refl, sym, ap, ap₂, subst, arith, Bool}
 use Rattle.std.specs.Prelude.{◌↔◌, option_map}
 use Rattle.std.specs.Option.{option_to_list}
@@ -254,13 +254,13 @@ module _ (room : List ℕ) (book : Book) (k : KeepsAll room book) (entries : Lis
       and_from _ _ whole (any_from (λ other. in_view book.taken other && same_place other (record claim.part { slot = At booked.key.slot })) book.taken (part_kept entry) (view_taken book.taken (part_kept entry) seen)
       (and_from _ _ seen (place_from (part_kept entry) (record claim.part { slot = At booked.key.slot }) place)))
 
-  -- what hides the instances of a shown claim is what stands for them
+  -- what hides the instances of a shown claim is what replaces them
   module _ (claim : Claim) (c : Contains entries (Shown claim)) (said : Event) (s : SaysEntry room said (Shown claim)) where
     -- an instance of a master is at its slot
     at_slot : (b : Booked) → IsInstance (alone said) b → said.recurrence ≡ None → b.key.slot ≡ b.start
     at_slot b own none = ap (λ (k : Key). k.slot) (master_alone said b none own).key
 
-    -- what stands for an instance of the whole
+    -- what replaces an instance of the whole
     stands_for : (b : Booked) → IsInstance (alone said) b → is_master said ≡ true → IsReplaced saids said b.start → is_hidden book.taken claim.part b ≡ true
     stands_for b own master r =
         let found = zip_to (SaysEntry room) saids entries r.override z r.among in
@@ -278,7 +278,7 @@ module _ (room : List ℕ) (book : Book) (k : KeepsAll room book) (entries : Lis
     whole_said : (b : Booked) → is_hidden book.taken claim.part b ≡ true → said.recurrence ≡ None
     whole_said b h = whole_there said.recurrence (s.slot ∙ slot_same claim.part.slot Whole (and_parts _ _ h).0)
 
-    -- an event that says an entry of that place stands for it
+    -- an event that says an entry of that place replaces it
     replaced_there : (b : Booked) (event : Event) (entry : Entry) (other : Part) → Contains saids event → SaysEntry room event entry → part_kept entry ≡ other → SamePlace other (record claim.part { slot = At b.key.slot }) → b.key.slot ≡ b.start
         → IsReplaced saids said b.start
     replaced_there b event entry other among e same place start = record {
@@ -288,7 +288,7 @@ module _ (room : List ℕ) (book : Book) (k : KeepsAll room book) (entries : Lis
       is = instant_there event.recurrence b.start (e.slot ∙ ap (λ (q : Part). q.slot) same ∙ place.slot ∙ ap At start);
     }
 
-    -- and something stands for it
+    -- and something replaces it
     stood_for : (b : Booked) → IsInstance (alone said) b → is_hidden book.taken claim.part b ≡ true → IsReplaced saids said b.start
     stood_for b own h =
         let both = and_parts _ _ h in
@@ -352,7 +352,7 @@ module _ (room : List ℕ) (book : Book) (k : KeepsAll room book) (entries : Lis
 
 -- ---- the calendar
 
--- the singles behind one another
+-- the singles one after another
 flat_of_map : (taken : List Part) (es : List Entry) → flat_map (λ l. l) (map (singles_of taken) es) ≡ flat_map (singles_of_claim taken) (claims_kept es)
 flat_of_map taken [] = refl
 flat_of_map taken (Shown claim ∷ es) = ap (λ l. singles_of_claim taken claim ++ l) (flat_of_map taken es)

@@ -56,7 +56,7 @@ lines_of method own = codes "BEGIN:VCALENDAR" ∷ (head_lines method ++ (vevent_
 abbrev object_tree : List ℕ → Lines → Tree
 object_tree method own = tree (codes "VCALENDAR") (head_lines method) (more (tree (codes "VEVENT") own none) none)
 
--- what stands in a list of one is that one
+-- what is in a list of one is that one
 only : {X : Type 0} (x y : X) → Contains (x ∷ []) y → y ≡ x
 only x y c = elim (in_cons x [] y c) [ inl e ↦ sym e | inr nowhere ↦ absurd (none_in_nil y nowhere) ]
 

@@ -180,7 +180,7 @@ module _ (event : Event) (number : ℕ) (organiser : List ℕ) (stamp : ℤ) (ro
 
 -- ---- those that nothing hides are confirmed among others
 
--- where what hides an instance of the event is what stands for it
+-- where what hides an instance of the event is what replaces it
 pub record IsHiding (saids : List Event) (said : Event) (hidden : Booked → Bool) : Type 0 where
   pub stands : (b : Booked) → IsInstance (alone said) b → hidden b ≡ true → IsReplaced saids said b.start
   pub hides : (b : Booked) → IsInstance (alone said) b → is_master said ≡ true → IsReplaced saids said b.start → hidden b ≡ true

@@ -15,7 +15,7 @@ use Rattle.itip_messages.proofs.OwnWhen.{IsCleanSlot, are_own}
 use Rattle.itip_messages.proofs.ReplyLines.{AreOwn, own_more, own_none}
 use Rattle.itip_messages.proofs.ZonedStarts.{MeansZone}
 
--- what stands behind what says when it is
+-- what comes after the lines that say when it is
 abbrev pub own_back : (organiser room : List ℕ) → Lines
 own_back organiser room = (codes "ORGANIZER:" ++ organiser) ∷ (codes "ATTENDEE;PARTSTAT=ACCEPTED:" ++ room) ∷ []
 
@@ -39,7 +39,7 @@ pub record SpellPart (uid_is : List ℕ) (number : ℕ) (uid sequence stamp orga
   pub addressed : IsAddress room
   pub room_lower : lower_case room ≡ room
 
--- ---- behind what says when it is
+-- ---- after what says when it is
 
 elsewhere_none : (other organiser room : List ℕ) → IsElsewhere other → lines_named other (own_back organiser room) ≡ []
 elsewhere_none other organiser room e = λ i. cond (e.organiser organiser i) ((codes "ORGANIZER:" ++ organiser) ∷ attendee i) (attendee i)

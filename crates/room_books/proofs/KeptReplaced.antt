@@ -1,4 +1,4 @@
--- For which instants of an event other events stand: there is a list of them, ascending.
+-- Which instants of an event other events replace: there is a list of them, ascending.
 use Rattle.std.proofs.Common.{◌≡◌, ◌∙◌, ℤ, ◌<ℤ◌, ◌≤ℤ◌, T, Bool, true, false, not, ◌&&◌, ◌⊎◌, ℕ, List, [], ◌∷◌, get_or, Option, Some, None, inl, inr, refl, sym, ap, subst, arith}
 use Rattle.std.specs.Prelude.{AllPairs, Contains}
 use Rattle.std.specs.Int.Signed.{lt_z, lt_z_yes, lt_z_no}
@@ -13,7 +13,7 @@ use Rattle.profile.specs.events.Confirmed.{AreReplaced, IsReplaced}
 use Rattle.cal_events.proofs.InOneOrder.{cons_pairs, head_pairs, tail_pairs}
 use Rattle.itip_order.proofs.Lists.{in_cons, in_head, in_tail, none_in_nil}
 
--- an ascending list, and one instant more
+-- an ascending list, and one more instant
 record IsPutIn (t : ℤ) (xs : List ℤ) : Type 0 where
   list : List ℤ
   ascending : AllPairs ◌<ℤ◌ list
@@ -73,7 +73,7 @@ put_in t (x ∷ xs) p = by (put_in t xs (tail_pairs ◌<ℤ◌ x xs p)) (lt_z t 
           adds = λ u c. inr c;
         }
 
--- ---- one event more
+-- ---- one more event
 
 same_meeting : (a b : List ℕ × List ℕ) → (bytes_eq a.0 b.0 && bytes_eq a.1 b.1) ≡ true → a ≡ b
 same_meeting a b h =
@@ -86,11 +86,11 @@ is_same_meeting : (a b : List ℕ × List ℕ) → a ≡ b → (bytes_eq a.0 b.0
 is_same_meeting a b e = and_from _ _ ((bytes_eq-Decides a.0 b.0).1 (ap (λ (m : List ℕ × List ℕ). m.0) e)) ((bytes_eq-Decides a.1 b.1).1 (ap (λ (m : List ℕ × List ℕ). m.1) e))
 
 module _ (event : Event) where
-  -- the event stands for this instant
+  -- the event replaces this instant
   abbrev StandsFor : Event → ℤ → Type 0
   StandsFor other t = (meeting_said other ≡ meeting_said event) × (other.recurrence ≡ Some t)
 
-  -- it stands for one, or for none
+  -- it replaces one, or none
   stands_for : (other : Event) → ((t : ℤ) × StandsFor other t) ⊎ ((t : ℤ) → StandsFor other t → ⊥)
   stands_for other = by other.recurrence refl
     where
@@ -147,7 +147,7 @@ module _ (event : Event) where
         },
       )
 
-  -- the instants for which some of the events stand
+  -- the instants that some of the events replace
   pub replaced_by : (events : List Event) → (xs : List ℤ) × AreReplaced events event xs
   replaced_by [] = (
     [],

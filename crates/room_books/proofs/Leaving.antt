@@ -1,4 +1,4 @@
--- What is gone is found by halves, and is no longer in the way: what the timeline has beside it stays confirmed.
+-- What is gone is found by binary search, and is no longer in the way: what the timeline has beside it stays confirmed.
 use Rattle.std.proofs.Common.{◌≡◌, ◌≢◌, ◌∙◌, ℕ, ◌+◌, ◌<◌, ◌≤◌, ℤ, ◌≤ℤ◌, Bool, true, false, ◌&&◌, List, ◌++◌, length, get_or, inl, inr, Option, None, Some, Result, Ok, Err, refl, sym, ap, subst, arith, length-append}
 use Rattle.std.specs.Prelude.{slice_get, ◌==◌}
 use Rattle.std.specs.declared.cmp.Ordering.TheVariants.{Equal}
@@ -53,7 +53,7 @@ same_tie single own h = false_from_ne_true _ (λ same.
     let e : single ≡ own = single_same single own same in
     both_ways _ h (ap (λ (s : Single). is_eq (single_cmp own s)) e ∙ ap is_eq (tied_itself single_total own)))
 
--- one is found where it stands among the others
+-- one is found where it is among the others
 pub found_single : (xs : List Single) (single : Single) (r : Result ℕ ℕ) → IsSortedByKey the_single single_cmp xs → IsSearchInRange r (length xs)
     → IsBinarySearchResult (λ own. single_cmp own single) xs r → is_ok r ≡ has_single single xs
 found_single xs single (Ok i) up in_range at =

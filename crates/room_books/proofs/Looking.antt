@@ -76,7 +76,7 @@ module _ (slots : List OwnSlot) (before after : List Part) (part : Part) (answer
       → AreLost slots before after part answers looked
   lost_all looked rises others = record { rises = sorted_pairs slot_of looked rises; others = λ given c h. inl (others given c h) }
 
--- one answer more that confirms all that it did
+-- one more answer that confirms all that it did
 pub one_confirms : (slots : List OwnSlot) (history : List Part) (part : Part) (answers : List Given) (i : ℕ) (given : Given) → i < length answers → given ≡ get_or answers i given
     → ((g : Given) → Contains (take i answers) g → LeavesAll slots history part g) → LeavesAll slots history part given → (g : Given) → Contains (take (i + 1) answers) g → LeavesAll slots history part g
 one_confirms slots history part answers i given w is before this g c =

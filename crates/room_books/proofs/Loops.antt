@@ -1,4 +1,4 @@
--- What a loop has done, one element more.
+-- What a loop has done, after one more element.
 use Rattle.std.proofs.Common.{◌≡◌, ◌∙◌, ℕ, ◌+◌, ◌<◌, Bool, true, false, cond, List, [], ◌∷◌, ◌++◌, take, length, get_or, sym, ap, subst, inl, inr, append-nil, append_assoc}
 use Rattle.std.specs.List.{filter, Contains, AllZip}
 use Rattle.std.proofs.lemmas.List.{take_more}
@@ -45,6 +45,6 @@ filter_yes f xs ys x h e = sym (filter_push f xs x ∙ ap (λ b. filter f xs ++ 
 pub filter_no : {X : Type 0} (f : X → Bool) (xs ys : List X) (x : X) → ys ≡ filter f xs → f x ≡ false → ys ≡ filter f (xs ++ x ∷ [])
 filter_no f xs ys x h e = h ∙ sym (filter_push f xs x ∙ ap (λ b. filter f xs ++ cond b (x ∷ []) []) e ∙ append-nil (filter f xs))
 
--- one element more of what is gone through
+-- one more element of what is gone through
 pub walked : {X : Type 0} (done left rest all : List X) (x : X) → left ≡ x ∷ rest → done ++ left ≡ all → (done ++ x ∷ []) ++ rest ≡ all
 walked done left rest all x e h = append_assoc done (x ∷ []) rest ∙ ap (λ l. done ++ l) (sym e) ∙ h

@@ -1,4 +1,4 @@
--- What becomes of a meeting is a step of the book that the room stands for.
+-- What becomes of a meeting is a step of the book that the room represents.
 use Rattle.std.proofs.Common.{◌≡◌, ◌≢◌, ◌∙◌, ℤ, ◌<◌, true, List, [], ◌∷◌, ◌++◌, map, length, Option, None, Some, inl, inr, refl, sym, ap, subst, arith, append-nil}
 use denote.Ref.{Bor}
 use Rattle.std.specs.Prelude.{nat_lt, IfSome}

@@ -1,4 +1,4 @@
--- Parts of one meeting, and what one part more does to the view of them.
+-- Parts of one meeting, and what one more part does to the view of them.
 use Rattle.std.proofs.Common.{◌≡◌, Bool, true, false, not, ◌&&◌, cond, List, [], ◌∷◌, ◌++◌, inl, inr, Option, None, Some, refl, sym, ap, ◌∙◌, subst}
 use Rattle.std.specs.Prelude.{option_map}
 use Rattle.std.specs.Option.{option_to_list}

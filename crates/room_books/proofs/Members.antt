@@ -8,7 +8,7 @@ use Rattle.room_books.specs.Standing.{Pairwise}
 use Rattle.room_books.proofs.Reordering.{re_middle, re_into, re_pairs, re_in}
 
 module _ {X : Type 0} where
-  -- what stands before an element and behind it
+  -- what comes before an element and after it
   record IsAround (x : X) (xs : List X) : Type 0 where
     before : List X
     after : List X

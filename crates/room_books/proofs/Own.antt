@@ -383,7 +383,7 @@ keeps_all part slots meeting after lost left k alone own key more e o m s t =
       each = zip_both (IsGiven key now) vs others (standing now us) left second.1 first;
     }
 
--- of a meeting that was never heard of there are none
+-- of a meeting of which nothing was ever taken there are none
 pub keeps_new : (part : Part) (slots : List Slot) (after : List Part) (kept : List Given) → kept ≡ [] → KeepsAll part slots None after kept
 keeps_new part slots after kept none own key more e o m s t =
     given_zip key (own.taken ++ more) (standing (own.taken ++ more) (standing own.taken own.answers)) kept
@@ -394,7 +394,7 @@ keeps_new part slots after kept none own key more e o m s t =
     none_stood [] h = refl
     none_stood (x ∷ xs) h = absurd (none_in_nil x.claim.part (subst (λ (l : List Part). Contains l x.claim.part) m (h x (in_head x xs))))
 
--- ---- one element more of a loop
+-- ---- one more element of a loop
 
 pub left_push : (t : List Part) (p : Part) (singles left new : List Single) (i : ℕ) (d : Single) → i < length singles → new ≡ left ++ get_or singles i d ∷ [] → left ≡ left_in t p (take i singles)
     → is_hidden t p (booked_in p (get_or singles i d)) ≡ false → new ≡ left_in t p (take (i + 1) singles)

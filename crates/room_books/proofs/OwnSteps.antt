@@ -87,7 +87,7 @@ module _ (k : MeetingKey) (t held : List Part) (s : StandsFor held t) (moment : 
       let first = h a (in_head a rest) in
       (given_one a.now c g first.0 first.1 first.2 z.0 w.0, given_each rest cs gs (λ x k. h x (in_tail a rest x k)) z.1 w.1)
 
--- a candidate is what it would be, were it accepted
+-- a candidate is what it would be, if it were accepted
 pub decided_itself : (held : List Part) (moment : ℤ) (asking : List (Bor Asking)) (candidates : List Given) → AllZip (λ claim given. IsAccepted held claim.now moment given) asking candidates
     → AllZip (λ candidate given. IsDecided candidate Accepted given) candidates candidates
 decided_itself held moment [] [] z = tt
@@ -161,7 +161,7 @@ module _ (k : MeetingKey) (own : Book) (is_own : IsOwn k own) (claims : List Cla
       (new_once moment Accept own.taken t claims fit.differ)
       (λ a b c d e. both_ways _ (new_answer own.taken t moment Accept claims b d).gone (subst (λ (p : Part). in_view own.taken p ≡ true) e (stayed_at a c).1))
 
-  -- what the meeting would confirm, were they accepted
+  -- what the meeting would confirm, if they were accepted
   pub would_confirm : (kept candidates : List Given) → AreGiven k t stayed kept → AllZip (IsGiven k t) candidates_said candidates
       → AreSame (singles_confirmed t (own.answers ++ candidates_said)) (booked_list k (all_singles kept ++ all_singles candidates))
   would_confirm kept candidates z w =

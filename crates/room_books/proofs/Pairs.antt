@@ -1,4 +1,4 @@
--- Lists of which no two elements are related, filters of them, and their parts behind one another.
+-- Lists of which no two elements are related, filters of them, and their parts one after another.
 use Rattle.std.proofs.Common.{◌≡◌, ◌∙◌, zero, suc, ◌≤◌, Bool, true, false, ◌&&◌, cond, List, [], ◌∷◌, ◌++◌, length, get_or, map, refl, sym, ap, subst, arith, inl, inr}
 use Rattle.std.specs.List.{filter, flat_map, Contains, AllPairs}
 use Rattle.std.proofs.lemmas.Bool.{true≢false}
@@ -71,7 +71,7 @@ module _ {X : Type 0} where
   filter_and f g (x ∷ xs) = and_cond (f x) (g x) x (filter (λ y. f y && g y) xs) (filter f (filter g xs)) (filter_and f g xs) f refl ∙ sym (through_cond f (g x) x (filter g xs))
 
 module _ {X Y : Type 0} where
-  -- ---- lists behind one another
+  -- ---- lists one after another
 
   pub flat_at : (f : X → List Y) (xs : List X) (y : Y) → Contains (flat_map f xs) y → (x : X) × Contains xs x × Contains (f x) y
   flat_at f [] y c = absurd (none_in_nil y c)

@@ -1,4 +1,4 @@
--- The lines of the VEVENTs that are kept, one behind another.
+-- The lines of the VEVENTs that are kept, one after another.
 use Rattle.std.proofs.Common.{◌≡◌, ℕ, ℤ, true, false, List, [], ◌∷◌, ◌++◌, codes, decimal, refl, sym, ap, ◌∙◌, subst}
 use Rattle.std.specs.Option.{option_to_list}
 use Rattle.ical_values.specs.Written.{Appends}

@@ -19,7 +19,7 @@ abbrev pub given_by : {X : Type 0} → (Answer → List X) → List Part → Lis
 given_by f t xs = flat_map f (filter (is_confirmed t) xs)
 
 module _ {X : Type 0} (f : Answer → List X) (t : List Part) where
-  -- one answer more, which is confirmed or not, and is of the first kind or of the second
+  -- one more answer, which is confirmed or not, and is of the first kind or of the second
   split_step : (c p : Bool) (own all yes no : List X) → AreSame all (yes ++ no)
       → AreSame (cond c (own ++ all) all) ((cond p (cond c (own ++ yes) yes) yes) ++ (cond (not p) (cond c (own ++ no) no) no))
   split_step true true own all ys ns s = subst (AreSame (own ++ all)) (sym (append_assoc own ys ns)) (same_append own own all (ys ++ ns) (same_itself own) s)

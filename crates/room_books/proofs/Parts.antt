@@ -56,7 +56,7 @@ part_both a b l g p q = record {
       pairs_from Apart (a ++ l) (pairs_append Apart a l first second (λ x y c k. pairs_across Apart b g all x y (p.within x c) (q.within y k)));
 }
 
--- ---- one element more of a loop
+-- ---- one more element of a loop
 
 pub part_push : (xs left new : List Single) (i : ℕ) (d : Single) → i < length xs → new ≡ left ++ get_or xs i d ∷ [] → IsPartOf left (take i xs) → IsPartOf new (take (i + 1) xs)
 part_push xs left new i d h e p =

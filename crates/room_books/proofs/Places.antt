@@ -91,7 +91,7 @@ module _ (k : MeetingKey) (es : List Entry) (distinct : IsDistinct same_key (key
       ap (λ o. is_place o q) own_is ∙ place_is_own k (keys_of es) distinct q e.0 n
       ∙ ap (same_key k) (get_or-map (λ (x : Entry). x.0) es q e e.0 within ∙ ap (λ (x : Entry). x.0) (get_or_from_slice_get es q e e h))
 
-  -- each of them stands in a place that isn't the own one
+  -- each of them is in a place other than the meeting's own
   pub other_place : (b : Booked) → Contains (others k es) b → (q : ℕ) × (s : Single) × Contains (confirmed_at es q) s × (s.span ≡ span_of b) × (is_place own q ≡ false)
   other_place b c =
       let f = in_flat (filter (is_other k) es) b c in
@@ -101,7 +101,7 @@ module _ (k : MeetingKey) (es : List Entry) (distinct : IsDistinct same_key (key
       let at : slice_get es both.0.0 ≡ Some e = slice_get-get_or es both.0.0 e both.0.1 ∙ ap Some both.0.2 in
       (both.0.0, s.0, subst (λ (o : Option Entry). Contains (singles_in o) s.0) (sym at) s.1, ap span_of s.2, key_at both.0.0 e at ∙ not-true _ both.1)
 
-  -- and what stands in another place is one of them
+  -- and what is in another place is one of them
   pub other_from : (q : ℕ) (e : Entry) (s : Single) → slice_get es q ≡ Some e → Contains (meeting_singles e.1) s → is_place own q ≡ false → Contains (others k es) (booked_of e.0 s)
   other_from q e s at h n = flat_from (filter (is_other k) es) e (booked_of e.0 s)
       (filter_from (is_other k) es e (entry_in es q e at) (ap not (sym (key_at q e at) ∙ n)))
@@ -162,9 +162,9 @@ others_count k es distinct = counted_apart confirmed_of singles_by refl singles_
 pub other_series_count : (k : MeetingKey) (es : List Entry) → IsDistinct same_key (keys_of es) → length (other_recurring k es) + length (series_by (lookup (same_key k) es)) ≡ length (all_recurring es)
 other_series_count k es distinct = counted_apart recurring_of series_by refl series_long k es distinct
 
--- ---- one entry more
+-- ---- one more entry
 
--- the place of a meeting: its own, or behind all
+-- the place of a meeting: its own, or after all
 abbrev pub place_of : MeetingKey → List Entry → ℕ
 place_of k es = position_or_len (same_key k) (keys_of es)
 
@@ -180,7 +180,7 @@ module _ (k : MeetingKey) (m : Meeting) where
   own_at e es true h = (e.0, refl)
   own_at e es false h = (h.0, ap (slice_get (e ∷ put k m es)) (suc_is (place_of k es)) ∙ h.1)
 
-  -- it stands in its place
+  -- it is in its place
   pub own_entry : (es : List Entry) → (key : MeetingKey) × (slice_get (put k m es) (place_of k es) ≡ Some (key, m))
   own_entry [] = (k, refl)
   own_entry (e ∷ es) = own_at e es (same_key k e.0) (own_entry es)
@@ -312,6 +312,6 @@ clear_separate k all singles clear differ i j d less within t h =
       in_second = h.in_second;
     }
 
--- none of them stands twice
+-- none of them occurs twice
 pub slots_once : (singles : List Single) → AllPairs ◌≢◌ (slots_of singles) → AllPairs ◌≢◌ singles
 slots_once singles differ i j d less within same = slots_at singles i j d differ less within (ap (λ (z : Single). z.slot) same)

@@ -30,7 +30,7 @@ set_same [] i m e = refl
 set_same (x ∷ es) zero m e = ap (λ v. (x.0, v) ∷ es) (sym (some_is x.1 m e))
 set_same (x ∷ es) (suc i) m e = ap (λ l. x ∷ l) (set_same es i m e)
 
--- a look-up by a key finds what stands in its place
+-- a look-up by a key finds what is in its place
 found_at : (k : MeetingKey) (x : MeetingKey × Meeting) (es : Entries) (t : Bool) → lookup (same_key k) es ≡ slice_get (values_of es) (place_of k es)
     → cond t (Some x.1) (lookup (same_key k) es) ≡ slice_get (x.1 ∷ values_of es) (cond (not t) (1 + place_of k es) 0)
 found_at k x es true h = refl

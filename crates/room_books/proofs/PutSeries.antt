@@ -1,4 +1,4 @@
--- The series of a room once one of its meetings has others: where they stand, how many there are, and that all is clear.
+-- The series of a room once one of its meetings has others: where they are, how many there are, and that all is clear.
 use Rattle.std.proofs.Common.{◌≡◌, ◌≢◌, ◌∙◌, ℕ, ◌<◌, ◌≤◌, ◌+◌, Bool, true, false, not, cond, List, [], ◌∷◌, ◌++◌, ◌⊎◌, inl, inr, refl, sym, ap, subst, length, arith, length-append}
 use Rattle.std.specs.Prelude.{◌==◌}
 use Rattle.std.specs.Option.{option_to_list}

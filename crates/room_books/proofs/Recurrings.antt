@@ -43,7 +43,7 @@ overlap_turned a b o t later =
 pub turned : (a b : Span) (t : ℤ) → HaveInstant a b t → HaveInstant b a t
 turned a b t h = record { in_first = h.in_second; in_second = h.in_first; before = h.before }
 
--- of two instances, where the first of them is as it is told
+-- of two instances, where the span of the first is that of `x`
 pub overlap_at : (a b : Span) (x : Booked) → a ≡ span_of x → SharesInstant x.start x.end b.start b.end → Overlap a b
 overlap_at a b x e s = subst (λ (z : Span). Overlap z b) (sym e) (overlap_of (span_of x) b s)
 

@@ -86,7 +86,7 @@ module _ {X : Type 0} where
       two false false l = re_same l
   re_filter f _ _ (re_then xs ys zs p q) = re_then (filter f xs) (filter f ys) (filter f zs) (re_filter f xs ys p) (re_filter f ys zs q)
 
-  -- those that pass a test, and behind them the others
+  -- those that pass a test, and after them the others
   pub re_parts : (f : X → Bool) (xs : List X) → Reordered xs (filter f xs ++ filter (λ x. not (f x)) xs)
   re_parts f [] = re_none
   re_parts f (x ∷ xs) = one (f x) (filter f xs) (filter (λ y. not (f y)) xs) (re_parts f xs)

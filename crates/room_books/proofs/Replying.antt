@@ -1,4 +1,4 @@
--- The reply tells the answers that the book of the meeting has.
+-- The reply gives the answers that the book of the meeting has.
 use Rattle.std.proofs.Common.{◌≡◌, ◌∙◌, ℕ, ◌+◌, ◌<◌, true, not, ◌&&◌, List, [], ◌∷◌, ◌++◌, take, length, get_or, map, codes, Some, sym, ap, subst, arith}
 use Rattle.std.specs.Prelude.{IsTrue, ◌==◌}
 use Rattle.std.specs.List.{AllZip, Contains, flat_map}
@@ -60,7 +60,7 @@ told_line room answers part event old new e w = (
   w.2,
 )
 
--- one part more
+-- one more part
 pub told_more : (room : List ℕ) (answers : List Given) (all : List (Bor Claim)) (i : ℕ) (claim : Bor Claim) (old mid new : List ℕ) → i < length all → claim ≡ get_or all i claim
     → (AllTell answers all → WritesAnswers room answers (take i all) old mid) → (CanTell answers (part_of claim.now.part) → WritesLines mid new (ShowsGiven room answers (part_of claim.now.part)))
     → AllTell answers all → WritesAnswers room answers (take (i + 1) all) old new

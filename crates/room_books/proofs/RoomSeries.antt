@@ -1,4 +1,4 @@
--- The series of a room's meetings: those of a meeting, those of the others, and where they stand.
+-- The series of a room's meetings: those of a meeting, those of the others, and where they are.
 use Rattle.std.proofs.Common.{◌≡◌, ◌≢◌, ◌∙◌, ◌<◌, ◌+◌, ℕ, true, false, not, cond, List, [], ◌∷◌, ◌++◌, inl, inr, length, get_or, map, take, append_assoc, subst, sym, refl, ap, arith, length-append, Option, None, Some}
 use Rattle.std.specs.Prelude.{slice_get, ◌==◌}
 use Rattle.std.specs.List.{Contains, IsDistinct, filter, position}
@@ -34,7 +34,7 @@ use Rattle.room_books.proofs.Pairs.{flat_at, flat_from, map_at}
 use Rattle.room_books.proofs.Places.{booked_differs, key_at}
 use Rattle.room_books.proofs.Rekeyed.{of_series}
 
--- ---- a whole alone recurs
+-- ---- only a whole recurs
 
 none_apart : (o : Option Series) (slot : Slot) → is_of_whole o slot ≡ true → is_eq (revisions.slot_cmp (slot_of slot) revisions.Whole) ≡ false → option_to_list o ≡ []
 none_apart None slot whole apart = refl
@@ -55,7 +55,7 @@ series_there es place e found at is = ap (λ l. series_list e.0 (all_series l)) 
 
 -- ---- the other meetings
 
--- those of the other meetings in these places, and no more: but for the own place all of each
+-- those of the other meetings in these places, and no more: all of each except for the meeting's own place
 pub record AreThere (k : MeetingKey) (es : List (MeetingKey × Meeting)) (own : Option ℕ) (places : List ℕ) (all : List Whole) : Type 0 where
   pub others : (one : Whole) → Contains all one → Contains (other_recurring k es) one
   pub each : (place : ℕ) (one : Whole) → Contains places place → is_place own place ≡ false → Contains (recurring_at es place) one → Contains all one
@@ -64,7 +64,7 @@ module _ (k : MeetingKey) (es : List (MeetingKey × Meeting)) (distinct : IsDist
   pub there_none : AreThere k es own [] []
   there_none = record { others = λ one c. absurd (none_in_nil one c); each = λ place one c. absurd (none_in_nil place c) }
 
-  -- the own place is passed over
+  -- the meeting's own place is passed over
   pub there_pass : (places : List ℕ) (i place : ℕ) (all : List Whole) → i < length places → place ≡ get_or places i place → is_place own place ≡ true → AreThere k es own (take i places) all → AreThere k es own (take (i + 1) places) all
   there_pass places i place all within at is h = record {
     others = h.others;
@@ -133,7 +133,7 @@ other_series_differ k es x b (one, among, is) =
     let y = of_series f.0.0 s.0 b (subst (λ (w : Whole). IsInstance w b) (sym s.2) is) in
     λ e. booked_differs k f.0.0 x y.0 (not-true _ (filter_at (is_other k) es f.0 f.1).1) (sym (ap (λ (z : Booked). z.key) y.2) ∙ e)
 
--- ---- series of the meeting are put behind those of the others
+-- ---- series of the meeting are put after those of the others
 
 abbrev pub lent_keyed : MeetingKey → Bor Series → MeetingKey × Series
 lent_keyed k one = (k, one.now)

@@ -33,7 +33,7 @@ module _ {X : Type 0} where
     ]
   ]
 
-  -- the first goes behind the second
+  -- the first goes after the second
   pub same_swap : (a b c : List X) → AreSame (a ++ (b ++ c)) (b ++ (a ++ c))
   same_swap a b c = record {
     to = λ x h. swapped a b c x h;

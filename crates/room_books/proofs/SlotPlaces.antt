@@ -1,4 +1,4 @@
--- Places among answers by their slots: what is before them and behind them, what is taken out between two, and one that is put in.
+-- Places among answers by their slots: what is before them and after them, what is taken out between two, and one that is put in.
 use Rattle.std.proofs.Common.{◌≡◌, ◌∙◌, ℕ, ◌+◌, ◌-◌, ◌<◌, ◌≤◌, Bool, true, false, not, ◌||◌, cond, List, [], ◌∷◌, ◌++◌, length, get_or, take, drop, inl, inr, None, Some, refl, sym, ap, subst, arith, append-nil}
 use Rattle.std.specs.Prelude.{slice_get, OnErr, OnOk, Result, Ok, Err}
 use Rattle.std.proofs.lemmas.Option.{slice_get_within, get_or_from_slice_get}
@@ -241,7 +241,7 @@ one_out xs m p h w =
     none_left : m - m ≡ 0
     none_left = omega arith
 
--- one slot more
+-- one more slot
 pub without_more : (slots : List OwnSlot) (slot : OwnSlot) (i : ℕ) (old mid new : List Given) → i < length slots → slot ≡ get_or slots i slot → mid ≡ left_without (take i slots) old
     → new ≡ filter (λ g. not (is_at (slot_of slot) g)) mid → new ≡ left_without (take (i + 1) slots) old
 without_more slots slot i old mid new w is before after =

@@ -1,4 +1,4 @@
--- Some of all go and the others are kept: put together, one element more, and what holds of them where all are apart.
+-- Some of all go and the others are kept: put together, one more element, and what holds of them where all are apart.
 use Rattle.std.proofs.Common.{◌≡◌, ◌∙◌, ℕ, ◌+◌, ◌<◌, List, [], ◌∷◌, ◌++◌, take, length, get_or, sym, ap, subst, append-nil, append_assoc}
 use Rattle.std.proofs.lemmas.List.{take_more}
 use Rattle.cal_events.specs.declared.instance.Single.{Single}
@@ -29,7 +29,7 @@ pub split_gone : (xs : List Single) → IsSplit xs xs []
 split_gone [] = none
 split_gone (x ∷ xs) = goes x xs xs [] (split_gone xs)
 
--- ---- one element more of a loop
+-- ---- one more element of a loop
 
 pub sheds_none : (old : List Single) → Sheds [] [] old old
 sheds_none old = record { gone = []; is = sym (append-nil old); split = none }
@@ -65,7 +65,7 @@ split_parted _ _ _ (stays s a g k r) =
 pub split_none : (all gone : List Single) (kept : List Given) → all ≡ [] → gone ≡ [] → kept ≡ [] → IsSplit all gone (all_singles kept)
 split_none all gone kept a g k = subst (λ (l : List Single). IsSplit l gone (all_singles kept)) (sym a) (subst (λ (l : List Single). IsSplit [] l (all_singles kept)) (sym g) (subst (λ (l : List Given). IsSplit [] [] (all_singles l)) (sym k) none))
 
--- one answer more
+-- one more answer
 pub one_shed : (done : List Given) (given : Given) (left kept kept' gone gone' : List Single) → Sheds given.singles.items left gone gone' → kept' ≡ kept ++ left
     → IsSplit (all_singles done) gone kept → IsSplit (all_singles (done ++ given ∷ [])) gone' kept'
 one_shed done given left kept kept' gone gone' s e split =

@@ -1,4 +1,4 @@
--- The room after the claims of a message stands for the book after the step, and its reply shows what that book has.
+-- The room after the claims of a message represents the book after the step, and its reply shows what that book has.
 use Rattle.std.proofs.Common.{◌≡◌, ◌≢◌, ℕ, ℤ, ◌<◌, Bool, true, false, not, ◌&&◌, cond, List, [], ◌∷◌, ◌++◌, inl, inr, Option, None, Some, refl, sym, ap, ◌∙◌, subst, length, append-nil, append_assoc, arith}
 use Rattle.std.specs.Prelude.{◌==◌, IsTrue}
 use Rattle.std.specs.List.{AllZip, Contains, filter}
@@ -36,7 +36,7 @@ Entries = List (MeetingKey × Meeting)
 
 -- ---- the order of first arrival
 
--- a meeting that is put in twice stands where it did
+-- a meeting that is put in twice is where it was
 insert_twice : (es : Entries) (k : MeetingKey) (m : Meeting) → insert_entry same_key (insert_entry same_key es k m) k m ≡ insert_entry same_key es k m
 insert_twice [] k m = ap (λ b. cond b ((k, m) ∷ []) ((k, m) ∷ (k, m) ∷ [])) (key_from k k refl refl)
 insert_twice (e ∷ es) k m = at_test (same_key k e.0) refl (insert_twice es k m)

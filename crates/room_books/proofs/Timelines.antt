@@ -515,6 +515,6 @@ separate_once xs k d separate l holds = false_from_ne_true _ (λ h.
 
 -- ---- the change of a place
 
--- one after the other
+-- one after another
 pub changed_then : (place : ℕ) (a b : List Single) (old mid new : List Busy) → IsChanged place a old mid → IsChanged place b mid new → IsChanged place b old new
 changed_then place a b old mid new h k = record { own = k.own; others = λ x n. k.others x n ∙ h.others x n }

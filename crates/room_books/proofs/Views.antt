@@ -38,7 +38,7 @@ level p g up down = neither (revision_cmp g p) down (ap is_gt (sym (revision_tot
     neither Equal a b = refl
     neither Greater a b = absurd (true≢false a)
 
--- what stands beside a Whole does so with a greater part
+-- what counts beside a Whole does so with a greater part
 stands_higher : (whole x g : Part) → is_le (part_cmp x g) ≡ true → stands_beside whole x ≡ true → stands_beside whole g ≡ true
 stands_higher whole x g le stands =
     let low : is_gt (revision_cmp x.revision g.revision) ≡ false = revision_le _ _ le in

@@ -1,4 +1,4 @@
--- Answers and slots, both in order, gone through once: each slot is looked for behind what was found.
+-- Answers and slots, both in order, gone through once: each slot is looked for after what was found.
 use Rattle.std.proofs.Common.{◌≡◌, ◌∙◌, ℕ, ◌+◌, ◌<◌, ◌≤◌, Bool, true, false, ◌||◌, List, [], ◌∷◌, ◌++◌, length, get_or, take, drop, inl, inr, refl, sym, ap, subst, append-nil, append_assoc}
 use Rattle.std.specs.declared.cmp.Ordering.{Ordering}
 use Rattle.std.specs.declared.cmp.Ordering.TheVariants.{Less, Equal, Greater}
@@ -23,7 +23,7 @@ use Rattle.room_books.proofs.Meetings.{filter_none, filter_same}
 use Rattle.room_books.proofs.Parts.{pairs_right}
 use Rattle.room_books.proofs.SlotPlaces.{NotAboveBy, by_slot_of, pairs_of, sorted_pairs}
 
--- with so many of the slots done: what was found, and what is left, of which none is of those slots
+-- with this many of the slots done: what was found, and what is left, of which none is of those slots
 pub record IsWalked (slots : List OwnSlot) (i : ℕ) (answers rest are : List Given) : Type 0 where
   pub done : List Given
   pub whole : answers ≡ done ++ rest

@@ -1,4 +1,4 @@
--- Lines that are written one behind another, and the VEVENTs of parts.
+-- Lines that are written one after another, and the VEVENTs of parts.
 use Rattle.std.proofs.Common.{◌≡◌, ℕ, Bool, true, false, List, [], ◌∷◌, ◌++◌, filter, None, codes, refl, sym, ap, ◌∙◌, subst, append-nil}
 use Rattle.std.specs.List.{flat_map, AllZip}
 use Rattle.std.proofs.lemmas.Grind.{flat_map-append}
@@ -12,7 +12,7 @@ use Rattle.itip_messages.proofs.WrittenLines.{flat_push, no_lines, push_line, pu
 use Rattle.itip_messages.proofs.ZonesOnce.{named_still, with_more, with_zones_are}
 use Rattle.room_books.proofs.Loops.{zip_both}
 
--- the octets of a kept calendar: its zones stand before its VEVENTs
+-- the octets of a kept calendar: its zones come before its VEVENTs
 pub calendar_written : (begin zones events opened zoned closed whole : List ℕ) (lines : List (List ℕ)) → begin ≡ [] → opened ≡ begin ++ written (opening_lines None) → zoned ≡ opened ++ zones
     → events ≡ written lines → closed ≡ events ++ folded (codes "END:VCALENDAR") → whole ≡ zoned ++ closed → whole ≡ written (opening_lines None) ++ zones ++ written (lines ++ codes "END:VCALENDAR" ∷ [])
 calendar_written begin zones events opened zoned closed whole lines none first then own last all =
@@ -62,7 +62,7 @@ both_written room first second zones_old zones_now zones_new old now new a b =
       is = push_lines old now new (flat_map (λ l. l) a.events) (flat_map (λ l. l) b.events) a.is b.is ∙ ap (λ l. old ++ written l) (sym (flat_map-append (λ l. l) a.events b.events));
     }
 
--- one part more
+-- one more part
 pub part_written : (f : Part → List (Bool × Part)) (room : List ℕ) (done : List Part) (part : Part) (zones_old zones_now zones_new : List (List ℕ)) (old now new : List ℕ)
     → WritesEntries room (flat_map f done) zones_old zones_now old now → WritesEntries room (f part) zones_now zones_new now new → WritesEntries room (flat_map f (done ++ part ∷ [])) zones_old zones_new old new
 part_written f room done part zones_old zones_now zones_new old now new before w =

@@ -39,7 +39,7 @@ pub once_short : (xs : List (List ℕ)) → length (each_once xs) ≤ length xs
 once_short [] = omega arith
 once_short (x ∷ xs) = omega (arith, once_short xs, filter_short (λ other. not (bytes_eq x other)) (each_once xs))
 
--- ---- and each stands there
+-- ---- and each is there
 
 stays_in : {X : Type 0} (p : X → Bool) (xs : List X) (k : ℕ) (x : X) → slice_get xs k ≡ Some x → p x ≡ true → (place : ℕ) × (slice_get (filter p xs) place ≡ Some x)
 stays_in p [] k x e h = cc
@@ -95,7 +95,7 @@ in_entry : (entry : Entry) → ((claim : Claim) → entry ≡ Shown claim → Ha
 in_entry (Shown claim) f z c = in_one claim.content.zone (f claim refl) z c
 in_entry (Hidden part) f z c = absurd (omega (arith, c.1))
 
--- what stands in two lists stands in one of them
+-- what is in two lists together is in one of them
 in_either : {X : Type 0} (xs ys : List X) (z : X) → Contains (xs ++ ys) z → Contains xs z ⊎ Contains ys z
 in_either [] ys z c = inr c
 in_either (x ∷ xs) ys z (zero, l, is) = inl (zero, omega arith, is)

@@ -52,7 +52,7 @@ pub data Reordered {X : Type 0} : List X → List X → Type 0 where
   re_turn : (x y : X) (xs : List X) → Reordered (x ∷ y ∷ xs) (y ∷ x ∷ xs)
   re_then : (xs ys zs : List X) → Reordered xs ys → Reordered ys zs → Reordered xs zs
 
--- the answers have room for so many more, or the place for them has it for all
+-- the answers have room for this many more, or the place for them has it for all
 abbrev pub HasRoom : {Z : Type 0} → Vec Given Z → ℕ → Option (Vec Given Z) → Type 0
 HasRoom answers more None = vec_len answers + more ≤ vec_capacity answers
 HasRoom answers more (Some larger) = (larger.items ≡ []) × (vec_len larger ≡ 0) × (vec_len answers + more ≤ vec_capacity larger)

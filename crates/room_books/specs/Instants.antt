@@ -50,7 +50,7 @@ pub data IsSplit : List Single → List Single → List Single → Type 0 where
   goes : (s : Single) (all gone kept : List Single) → IsSplit all gone kept → IsSplit (s ∷ all) (s ∷ gone) kept
   stays : (s : Single) (all gone kept : List Single) → IsSplit all gone kept → IsSplit (s ∷ all) gone (s ∷ kept)
 
--- what goes of these, where so many are left, stands behind what went before
+-- what goes of these, where this many are left, comes after what went before
 pub record Sheds (all left old new : List Single) : Type 0 where
   pub gone : List Single
   pub is : new ≡ old ++ gone

@@ -82,7 +82,7 @@ IsEntryEvent room zones (true, part) lines =
     → IsKeptEvent room zones (Shown claim) lines
 IsEntryEvent room zones (false, part) lines = SlotDated part.slot → IsKeptEvent room zones (Hidden part) lines
 
--- new is old and behind it, written, the lines that say which part it is
+-- new is old and after it, written, the lines that say which part it is
 pub record WritesHead (part : Part) (old new : List ℕ) : Type 0 where
   pub slot : List (List ℕ)
   pub stamp : List ℕ
@@ -90,7 +90,7 @@ pub record WritesHead (part : Part) (old new : List ℕ) : Type 0 where
   pub stamped : WritesStamp stamp part.revision.stamp
   pub is : new ≡ old ++ written ((codes "BEGIN:VEVENT" ∷ (codes "UID:" ++ escaped part.uid) ∷ slot) ++ ((codes "SEQUENCE:" ++ decimal part.revision.sequence) ∷ (codes "DTSTAMP:" ++ stamp) ∷ []))
 
--- the zones of these are behind the zones if they are new; and new is old and behind it, written, a VEVENT for each of these
+-- the zones of these are after the zones if they are new; and new is old and after it, written, a VEVENT for each of these
 pub record WritesEntries (room : List ℕ) (entries : List (Bool × Part)) (zones_old zones_new : List (List ℕ)) (old new : List ℕ) : Type 0 where
   pub zones : zones_new ≡ with_zones zones_old (flat_map zone_of_entry entries)
   pub events : List (List (List ℕ))

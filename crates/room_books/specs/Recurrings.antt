@@ -57,7 +57,7 @@ AreClearFrom all from None = (place : ℕ) (r : Recurring) → from ≤ place �
     → AreBeside (Recurs r.series.now) (take place all) None × IsAlone r.series.now None
 AreClearFrom all from (Some x) = (place : ℕ) × (r : Recurring) × (from ≤ place) × IsFoundAt all place r x
 
--- all of these series, of which each may stand there more than once
+-- all of these series, each of which may occur more than once
 abbrev pub AreAllOf : List Whole → List Recurring → Type 0
 AreAllOf series all = (one : Whole) → Contains series one ↔ Contains (map recurring_said all) one
 

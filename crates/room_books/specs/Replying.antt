@@ -1,4 +1,4 @@
--- What a reply tells of the parts of a message, and what a refresh asks for.
+-- What a reply says of the parts of a message, and what a refresh asks for.
 use Rattle.std.specs.Prelude.{◌≡◌, ℕ, ℤ, List, ◌++◌, map, codes, Contains, Some}
 use Rattle.std.specs.List.{flat_map, AllZip}
 use denote.Ref.{Bor}
@@ -31,7 +31,7 @@ pub record CanTell (answers : List Given) (part : Part) : Type 0 where
 abbrev pub AllTell : List Given → List (Bor Claim) → Type 0
 AllTell answers are = (claim : Bor Claim) → Contains are claim → CanTell answers (part_of claim.now.part)
 
--- the event tells for this room the answer to the part
+-- the event gives for this room the answer to the part
 pub record IsEventIn (room : List ℕ) (answers : List Given) (part : Part) (event : ReplyEvent) : Type 0 where
   pub given : Given
   pub kept : Contains answers given
@@ -41,14 +41,14 @@ pub record IsEventIn (room : List ℕ) (answers : List Given) (part : Part) (eve
   pub moment : event.moment ≡ given.moment
   pub outcome : decision_outcome event.decision ≡ outcome_of given.outcome
 
--- the lines of a VEVENT that tells the answer to the part
+-- the lines of a VEVENT that gives the answer to the part
 pub record ShowsGiven (room : List ℕ) (answers : List Given) (part : Part) (lines : List (List ℕ)) : Type 0 where
   pub given : Given
   pub kept : Contains answers given
   pub same : slot_of given.slot ≡ part.slot
   pub shows : IsReplyEvent room part given.moment (outcome_of given.outcome) lines
 
--- the VEVENTs that tell the answers to the parts of these claims
+-- the VEVENTs that give the answers to the parts of these claims
 abbrev pub AreTold : List ℕ → List Given → List (Bor Claim) → List (List (List ℕ)) → Type 0
 AreTold room answers are events = AllZip (λ claim lines. ShowsGiven room answers (part_of claim.now.part) lines) are events
 

@@ -1,4 +1,4 @@
--- What the meetings of a room stand for: the parts that were taken, and the answers to them.
+-- What the meetings of a room represent: the parts that were taken, and the answers to them.
 use Rattle.std.specs.Prelude.{◌≡◌, ◌≢◌, ◌↔◌, ℕ, ℤ, Bool, true, ◌&&◌, List, [], ◌∷◌, ◌++◌, length, filter, Contains, Option, Some, None, IfSome, slice_get}
 use Rattle.std.specs.Option.{option_to_list}
 use Rattle.std.specs.Str.{bytes_eq, IsUtf8}
@@ -167,7 +167,7 @@ pub record Covers (entries : List (MeetingKey × Meeting)) (part : Part) : Type 
 abbrev pub AreKeysOf : List MeetingKey → List Part → Type 0
 AreKeysOf keys parts = AllZip (λ key part. is_of key part ≡ true) keys parts
 
--- the meetings, in order of first arrival, stand for the book, whose confirmed instances are clear and within the limit
+-- the meetings, in order of first arrival, represent the book, whose confirmed instances are clear and within the limit
 pub record Stands (entries : List (MeetingKey × Meeting)) (book : Book) : Type 0 where
   pub order : AreKeysOf (keys_of entries) (first_parts book.taken)
   pub covered : (part : Part) → Contains book.taken part → Covers entries part
@@ -208,7 +208,7 @@ pub record IsRenewed (place : ℕ) (more : List Part) (changes : Changes) (old n
   pub made : IsMade (together before.held more) (answers_then before.answers.items changes) meeting
   pub entries : new ≡ set_value_at old place meeting
 
--- from the book a step with these claims leads to a book that the meetings stand for
+-- from the book a step with these claims leads to a book that the meetings represent
 pub record StepsTo (entries : List (MeetingKey × Meeting)) (book : Book) (claims : List Claim) (moment : ℤ) (kind : Kind) : Type 0 where
   pub outcome : Outcome
   pub after : Book

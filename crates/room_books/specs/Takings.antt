@@ -35,7 +35,7 @@ use Rattle.room_books.specs.Touching.{is_touched, IsUntouched}
 use Rattle.profile.specs.rooms.Messages.{Content, no_content}
 use Rattle.itip_messages.specs.BodyTexts.{content_in}
 
--- ---- what is told
+-- ---- what is reported
 
 -- what a kind says
 abbrev pub kind_view : Kind → rooms.Kind
@@ -91,7 +91,7 @@ parts_said claims = map (λ claim. part_of claim.part) claims
 
 -- ---- what was taken before
 
--- the parts that a meeting stands for; none where it was never heard of
+-- the parts that a meeting represents; none where nothing of it was ever taken
 abbrev pub StandsAt : Option Meeting → List revisions.Part → Type 0
 StandsAt None history = history ≡ []
 StandsAt (Some meeting) history = StandsFor meeting.held history
@@ -124,15 +124,15 @@ AreAsked before after claims asked = map (λ claim. claim_said claim.now) asked 
 
 -- ---- what answers confirm
 
--- those that no part in the view of the history stands for
+-- those that no part in the view of the history hides
 abbrev pub left_in : List revisions.Part → revisions.Part → List Single → List Single
 left_in history part singles = filter (λ single. not (rooms.is_hidden history part (booked_in part single))) singles
 
--- those of them that aren't of one of these slots, or that no part in the view stands for
+-- those of them that aren't of one of these slots, or that no part in the view hides
 abbrev pub left_beside : List Slot → List revisions.Part → revisions.Part → List Single → List Single
 left_beside slots history part singles = filter (λ single. not (is_touched slots (revisions.At single.slot) && rooms.is_hidden history part (booked_in part single))) singles
 
--- a part of one of these slots in the view of the history stands for the instance of a part
+-- a part of one of these slots in the view of the history hides the instance of a part
 abbrev pub is_hidden_by : List Slot → List revisions.Part → revisions.Part → Booked → Bool
 is_hidden_by slots history part booked = is_touched slots (revisions.At booked.key.slot) && rooms.is_hidden history part booked
 
@@ -147,12 +147,12 @@ IsSeriesLeft hides (Some series) (Some left) = (booked : Booked) → IsInstance 
 abbrev pub AreHiddenStarts : List Slot → List revisions.Part → revisions.Part → List ℤ → Type 0
 AreHiddenStarts slots history part starts = (booked : Booked) → Contains starts booked.key.slot ↔ (is_hidden_by slots history part booked ≡ true)
 
--- a part of this slot in the view of the history stands for the instance of this original start, or none does for an instance
+-- a part of this slot in the view of the history hides the instance of this original start, or none hides an instance
 abbrev pub IsHiddenStart : List revisions.Part → revisions.Part → revisions.Slot → Option ℤ → Type 0
 IsHiddenStart history part slot None = (booked : Booked) → slot ≡ revisions.At booked.key.slot → rooms.is_hidden history part booked ≡ false
 IsHiddenStart history part slot (Some start) = (slot ≡ revisions.At start) × ((booked : Booked) → booked.key.slot ≡ start → rooms.is_hidden history part booked ≡ true)
 
--- no part of these slots in the view stands for an instance that the answer to a part confirms
+-- no part of these slots in the view hides an instance that the answer to a part confirms
 pub record LeavesAll (slots : List Slot) (history : List revisions.Part) (part : revisions.Part) (given : Given) : Type 0 where
   pub singles : given.singles.items ≡ left_beside slots history part given.singles.items
   pub series : IsSeriesLeft (is_hidden_by slots history part) given.series given.series
@@ -175,7 +175,7 @@ abbrev pub series_still : Option Given → List Series
 series_still None = []
 series_still (Some left) = option_to_list left.series
 
--- the answer to a claim at a moment, were it accepted
+-- the answer to a claim at a moment, if it were accepted
 pub record IsAccepted (held : List revisions.Part) (claim : Claim) (moment : ℤ) (given : Given) : Type 0 where
   pub slot : given.slot ≡ claim.part.slot
   pub moment_is : given.moment ≡ moment
@@ -256,7 +256,7 @@ IsAnswered others key held moment kept asked answers (Some outcome) =
     × IsWholeDecision others key kept candidates outcome
     × Reordered (kept ++ decided) answers)
 
--- what was decided of a message; nothing hangs on it where nothing was
+-- what was decided of a message; nothing depends on it where nothing was
 abbrev pub outcome_said : Option Outcome → messages.Outcome
 outcome_said None = messages.Accept
 outcome_said (Some outcome) = outcome_of outcome

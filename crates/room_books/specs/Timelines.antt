@@ -43,12 +43,12 @@ pub record IsPlaceAfter (items : List Busy) (instant : ℤ) (place : ℕ) : Type
   pub before : (b : Busy) → Contains (take place items) b → b.single.span.end ≤ℤ instant
   pub after : (b : Busy) → Contains (drop place items) b → instant <ℤ b.single.span.end
 
--- the place is the own one
+-- the place is `own`
 abbrev pub is_place : Option ℕ → ℕ → Bool
 is_place None place = false
 is_place (Some own) place = own == place
 
--- it is of the meeting in the own place, and one of these that are gone
+-- it is of the meeting in the place `own`, and one of these that are gone
 abbrev pub is_leaving : Option ℕ → List Single → Busy → Bool
 is_leaving own gone b = is_place own b.place && has_single b.single gone
 

@@ -1,4 +1,4 @@
--- What the types of a room stand for, and what is decided of an instance.
+-- What the types of a room represent, and what is decided of an instance.
 use Rattle.std.specs.Prelude.{◌≡◌, ◌≢◌, ℕ, ℤ, Bool, true, not, ◌&&◌, ◌==◌, List, [], ◌++◌, ◌≤◌, length, map, filter, Contains, AllPairs, Option, Some, None, option_map, slice_get}
 use Rattle.std.specs.Option.{option_to_list}
 use Rattle.std.specs.List.{flat_map, list_any}

@@ -1,4 +1,4 @@
--- A whole alone recurs.
+-- Only a whole recurs.
 use Rattle.std.specs.Prelude.{Bool, true, Option, None, Some}
 use Rattle.std.specs.Ordering.{is_eq}
 use Rattle.itip_order.specs.Parts.{slot_of}

@@ -13,7 +13,7 @@ use itip_order::{Body, Part};
 pub struct Claim {
     pub part: Part,
     pub singles: Vec<Single>,
-    /// Those that its RRULE gives, if it has one. A whole alone recurs.
+    /// Those that its RRULE gives, if it has one. Only a whole recurs.
     pub series: Option<Series>,
     ghost whole: { is_of_whole series part.slot ≡ true },
 }

@@ -80,7 +80,7 @@ fn claim_for(alloc: Global, part: Part, component: &MessageComponent) -> Result<
     })
 }
 
-/// A copy of the series that a component has, where its part is of the whole; an instance alone has none.
+/// A copy of the series that a component has, where its part is of the whole; a single instance has none.
 fn series_for(
     alloc: Global,
     part: &Part,

@@ -36,7 +36,7 @@ pub(crate) fn series_of<'a>(
     Ok(series)
 }
 
-/// Puts the series that answers confirm behind others.
+/// Puts the series that answers confirm after others.
 fn push_series<'a>(series: &mut Vec<&'a Series>, answers: &'a [Given]) -> Result<(), AllocError>
     ensures { OnOk result (map (λ one. one.now) series.new.items ≡ map (λ one. one.now) series.old.items ++ all_series answers.now) }
 {
@@ -49,7 +49,7 @@ fn push_series<'a>(series: &mut Vec<&'a Series>, answers: &'a [Given]) -> Result
     Ok(())
 }
 
-/// Puts the series of the answers that stay behind others, where those of these slots, in order, are lost.
+/// Puts the series of the answers that stay after others, where those of these slots, in order, are lost.
 fn push_kept<'a>(
     series: &mut Vec<&'a Series>,
     answers: &'a [Given],
@@ -66,7 +66,7 @@ fn push_kept<'a>(
     Ok(())
 }
 
-/// How many series answers confirm: a whole alone recurs.
+/// How many series answers confirm: only a whole recurs.
 pub fn count_series(answers: &[Given]) -> usize
     requires { AreBySlot answers.now }
     ensures { result ≡ length (all_series answers.now) }

@@ -42,7 +42,7 @@ pub(crate) struct Shared<'a> {
 
 /// What is decided where a meeting asks for more instances than it keeps, and some of those that the timeline has of it are gone, beside
 /// all that stay confirmed, whose number is `beside`: the limit is looked at first, then whether any two instances share an instant. It
-/// fails only where memory runs out.
+/// fails only when out of memory.
 pub(crate) fn decide(
     alloc: Global,
     meetings: &Meetings,

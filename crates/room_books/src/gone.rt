@@ -10,7 +10,7 @@ use std::alloc::{AllocError, Global};
 use std::cmp::Ordering;
 use std::marker::Model;
 
-/// The instances that a meeting no longer confirms, in order: one is found by halves.
+/// The instances that a meeting no longer confirms, in order: one is found by binary search.
 #[derive(Drop)]
 pub(crate) struct Gone {
     sorted: Vec<Single>,
@@ -54,7 +54,7 @@ fn sort(singles: &mut Vec<Single>)
     singles.sort_unstable_by(|a, b| compare(a, b));
 }
 
-/// Whether an instance is one of these, which stand in order.
+/// Whether an instance is one of these, which are in order.
 fn is_among(sorted: &[Single], single: Single) -> bool
     requires { IsSortedByKey the_single single_cmp sorted.now }
     ensures { result ≡ has_single single sorted.now }

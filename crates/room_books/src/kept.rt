@@ -77,7 +77,7 @@ impl Meeting {
     }
 }
 
-/// Memory for these answers and the new ones, where there isn't room for the new ones behind them.
+/// Memory for these answers and the new ones, where there isn't room for the new ones after them.
 fn larger(
     alloc: Global,
     answers: &Vec<Given>,

@@ -23,7 +23,7 @@ impl MeetingKey {
     ghost use Rattle.room_books.specs.Views.{booked_of, IsKeyOf};
 
     /// The name of the meeting that has this ORGANIZER's address and this UID, both copied (RFC 5545 3.8.4.7).
-    /// It fails only where memory runs out.
+    /// It fails only when out of memory.
     pub fn of(organiser: &Address, uid: &Text) -> Result<MeetingKey, AllocError>
         ensures { IfOk result (IsKeyOf (address_octets organiser.now) (text_octets uid.now)) }
     {
@@ -79,10 +79,10 @@ pub struct Given {
     /// The moment of the decision.
     pub moment: Stamp,
     pub outcome: Outcome,
-    /// None unless the part was accepted, and none that another part in the view stands for.
+    /// None unless the part was accepted, and none that another part in the view hides.
     pub singles: Vec<Single>,
-    /// The instances that its RRULE gives, without those that another part in the view stands for. None unless the part was accepted. A whole
-    /// alone recurs.
+    /// The instances that its RRULE gives, without those that another part in the view hides. None unless the part was accepted. Only a
+    /// whole recurs.
     pub series: Option<Series>,
     ghost whole: { is_of_whole series slot ≡ true },
 }

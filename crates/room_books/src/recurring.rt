@@ -18,7 +18,7 @@ pub(crate) struct Recurring<'a> {
     pub series: &'a Series,
 }
 
-/// Puts series of a meeting behind others.
+/// Puts series of a meeting after others.
 pub(crate) fn push_all<'a>(
     all: &mut Vec<Recurring<'a>>,
     key: &'a MeetingKey,

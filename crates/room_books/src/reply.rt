@@ -30,7 +30,7 @@ use std::alloc::{AllocError, Global};
 /// The REPLY to a message with these claims, where this is held of the meeting after it, and these are its answers before and what becomes
 /// of them: a VEVENT for each part that is to take place and is in the view, in their order; None where there is none.
 ///
-/// A part is looked up in the view by halves, and so is its answer.
+/// A part is looked up in the view by binary search, and so is its answer.
 pub fn reply_to(
     alloc: Global,
     room: &Address,
@@ -70,7 +70,7 @@ fn shown_in<'a>(
     Ok(shown)
 }
 
-/// The REPLY that tells the answers to the parts of these claims.
+/// The REPLY that gives the answers to the parts of these claims.
 fn reply_of(
     alloc: Global,
     room: &Address,
@@ -105,7 +105,7 @@ fn write_answers(
     Ok(())
 }
 
-/// The VEVENT that tells the answer to a part; nothing where it has none, or one with an instant that no stamp can write.
+/// The VEVENT that gives the answer to a part; nothing where it has none, or one with an instant that no stamp can write.
 fn write_answer(
     object: &mut ObjectWriter,
     room: &Address,

@@ -166,7 +166,7 @@ impl Room {
     /// refresh where an ADD brought something new of a meeting of which nothing of the whole was ever taken (RFC 5546 3.2.6).
     /// Where memory is refused nothing has changed.
     pub fn take(&mut self, message: &RoomMessage, now: Stamp) -> Result<Answer, AllocError>
-        // From each book that the room stands for it makes a step of the room machine, with the claims of the message.
+        // From each book that the room represents, it makes a step of the room machine, with the claims of the message.
         ensures steps { IfOk result (λ answer. (said : profile.Message) → StandsFor message.now said → (book : Book) → Stands self.old.meetings.entries book
             → (claims : List rooms.Claim) × AreClaims (address_octets self.old.address) said claims
             × StepsWith (address_octets self.old.address) self.new.meetings.entries book claims now (kind_view answer.kind) (reply_octets answer) (profile.is_add said.method) (refresh_octets answer)) }
@@ -189,7 +189,7 @@ impl Room {
         calendar_of(self.alloc, &self.meetings, &self.address)
     }
 
-    /// The certificate that stands for the kept calendar.
+    /// The certificate that holds for the kept calendar.
     pub fn certificate_text(&self) -> Result<Vec<u8>, AllocError>
         ensures { IfOk result (λ text. (book : Book) → Stands self.now.meetings.entries book → text.items ≡ kept_certificate book) }
     {
@@ -325,7 +325,7 @@ impl Room {
         Ok(Some(octets))
     }
 
-    /// The answers that a meeting has; none where it was never heard of.
+    /// The answers that a meeting has; none where nothing of it was ever taken.
     fn answers_before(&self, key: &MeetingKey) -> &[Given]
         ensures are { result.now ≡ answers_by (lookup (same_key key.now) self.now.meetings.entries) }
         ensures by_slot { AreBySlot result.now }
@@ -594,7 +594,7 @@ fn series_in(meetings: &Meetings, place: usize) -> usize
     }
 }
 
-/// Puts the series of the meeting in a place behind others.
+/// Puts the series of the meeting in a place after others.
 fn push_at<'a>(
     all: &mut Vec<Recurring<'a>>,
     meetings: &'a Meetings,
@@ -632,7 +632,7 @@ fn mark(places: &mut Vec<usize>, place: usize, is_one: bool)
     }
 }
 
-/// Puts more of a meeting in its place, behind the others where nothing was heard of it, and changes its answers; and tells the place.
+/// Puts more of a meeting in its place, after the others where nothing of it was taken, and changes its answers; and returns the place.
 fn put_in(
     alloc: Global,
     meetings: &mut Meetings,

@@ -1,4 +1,4 @@
-//! What is left of a series where other parts stand for some of its starts.
+//! What is left of a series where other parts hide some of its starts.
 
 ghost use Rattle.std.specs.Prelude.{◌≡◌, ◌≢◌, false, List, Some, IfOk};
 ghost use Rattle.std.specs.Option.{option_to_list};
@@ -17,7 +17,7 @@ use cal_events::Series;
 use itip_order::{Part, Slot, Together};
 use std::alloc::{AllocError, Global};
 
-/// A part's series without the starts that another part in the view stands for.
+/// A part's series without the starts that another part in the view hides.
 pub fn series_left(
     alloc: Global,
     held: &Together<'_>,
@@ -36,7 +36,7 @@ pub fn series_left(
     Ok(Some(left))
 }
 
-/// A part's series without the starts that a part of these slots in the view stands for.
+/// A part's series without the starts that a part of these slots in the view hides.
 pub fn series_beside(
     alloc: Global,
     held: &Together<'_>,
@@ -55,7 +55,7 @@ pub fn series_beside(
     Ok(Some(left))
 }
 
-/// A series without the starts that a part of these slots in the view stands for.
+/// A series without the starts that a part of these slots in the view hides.
 fn without_hidden(
     alloc: Global,
     held: &Together<'_>,
@@ -73,7 +73,7 @@ fn without_hidden(
     Ok(left)
 }
 
-/// The instances of a part for which a part of these slots in the view stands, by their original starts.
+/// The instances of a part that a part of these slots in the view hides, by their original starts.
 fn hidden_starts(
     alloc: Global,
     held: &Together<'_>,
@@ -93,7 +93,7 @@ fn hidden_starts(
     Ok(starts)
 }
 
-/// Whether a part of these slots in the view stands for a start of a part's series.
+/// Whether a part of these slots in the view hides a start of a part's series.
 pub fn hides_start(
     held: &Together<'_>,
     part: &Part,
@@ -114,7 +114,7 @@ pub fn hides_start(
     false
 }
 
-/// Whether a part of this slot in the view stands for a start of a part's series.
+/// Whether a part of this slot in the view hides a start of a part's series.
 fn hides_one(held: &Together<'_>, part: &Part, slot: Slot, series: &Series) -> bool
     ensures { result ≡ false → (history : List revisions.Part) → StandsFor held.now history → (booked : Booked) → IsInstance (series_said series.now) booked
         → slot_of slot ≡ revisions.At booked.key.slot → rooms.is_hidden history (part_of part.now) booked ≡ false }
@@ -126,7 +126,7 @@ fn hides_one(held: &Together<'_>, part: &Part, slot: Slot, series: &Series) -> b
     }
 }
 
-/// The original start of the instance of a part, where a part of this slot in the view stands for it.
+/// The original start of the instance of a part, where a part of this slot in the view hides it.
 fn hidden_start(held: &Together<'_>, part: &Part, slot: Slot) -> Option<i64>
     ensures { (history : List revisions.Part) → StandsFor held.now history → IsHiddenStart history (part_of part.now) (slot_of slot) result }
 {

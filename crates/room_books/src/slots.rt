@@ -36,7 +36,7 @@ fn put_in_order(slots: &mut Vec<Slot>)
     slots.sort_unstable();
 }
 
-/// Whether a slot is one of these, which stand in order.
+/// Whether a slot is one of these, which are in order.
 pub fn is_touched(sorted: &[Slot], slot: Slot) -> bool
     requires { IsSortedByKey slot_of slot_cmp sorted.now }
     ensures { result ≡ touching.is_touched sorted.now (slot_of slot) }
@@ -71,7 +71,7 @@ pub fn answers_of(answers: &[Given], slot: Slot) -> &[Given]
     &rest[..to - from]
 }
 
-/// The answers of these slots, among answers by theirs: each slot is looked for behind what was found before.
+/// The answers of these slots, among answers by theirs: each slot is looked for after what was found before.
 pub fn answers_at<'a>(
     alloc: Global,
     answers: &'a [Given],
@@ -91,7 +91,7 @@ pub fn answers_at<'a>(
     Ok(are)
 }
 
-/// Puts answers behind others.
+/// Puts answers after others.
 fn push_all<'a>(are: &mut Vec<&'a Given>, more: &'a [Given]) -> Result<(), AllocError>
     ensures { OnOk result (givens are.new.items ≡ givens are.old.items ++ more.now) }
 {

@@ -47,7 +47,7 @@ pub struct Kept {
 /// The parts of a meeting before a message and after it.
 #[derive(Clone, Copy)]
 pub struct Views<'a> {
-    /// What is kept of the meeting; None where it was never heard of.
+    /// What is kept of the meeting; None where nothing of it was ever taken.
     pub before: Option<&'a Meeting>,
     pub after: &'a Together<'a>,
 }
@@ -323,7 +323,7 @@ fn stays(
     confirms_all(after, stayed, slots, answers_of(answers, slot))
 }
 
-/// Whether no part of these slots in the view stands for an instance that these answers to a part confirm.
+/// Whether no part of these slots in the view hides an instance that these answers to a part confirm.
 fn confirms_all(held: &Together<'_>, part: &Part, slots: &[Slot], answers: &[Given]) -> bool
     requires { IsSortedByKey slot_of slot_cmp slots.now }
     ensures { IsTrue result → (history : List revisions.Part) → StandsFor held.now history → (given : Given) → Contains answers.now given
@@ -337,7 +337,7 @@ fn confirms_all(held: &Together<'_>, part: &Part, slots: &[Slot], answers: &[Giv
     true
 }
 
-/// Whether a part of these slots in the view stands for one of a part's instances.
+/// Whether a part of these slots in the view hides one of a part's instances.
 fn any_hidden(held: &Together<'_>, part: &Part, slots: &[Slot], singles: &[Single]) -> bool
     requires { IsSortedByKey slot_of slot_cmp slots.now }
     ensures { result ≡ false → (history : List revisions.Part) → StandsFor held.now history
@@ -368,8 +368,8 @@ fn kind_of_outcome(outcome: &Outcome) -> Result<Kind, AllocError>
     }
 }
 
-/// An answer whose part stays in the view, with the instances that it still confirms; those that it doesn't go behind others.
-/// The part that is handed in is one of the meeting.
+/// An answer whose part stays in the view, with the instances that it still confirms; those that it doesn't go after others.
+/// The part that is given is one of the meeting.
 fn still(
     alloc: Global,
     before: &Together<'_>,
@@ -396,7 +396,7 @@ fn still(
 }
 
 impl Given {
-    /// Whether no part of these slots in the view stands for an instance that this answer to a part confirms.
+    /// Whether no part of these slots in the view hides an instance that this answer to a part confirms.
     fn confirms_all(&self, held: &Together<'_>, part: &Part, slots: &[Slot]) -> bool
         requires { IsSortedByKey slot_of slot_cmp slots.now }
         ensures { IsTrue result → (history : List revisions.Part) → StandsFor held.now history → LeavesAll slots.now history (part_of part.now) self.now }
@@ -407,8 +407,8 @@ impl Given {
         !hides_start(held, part, slots, &self.series)
     }
 
-    /// The same answer to a part, with those of its instances that no part of these slots in the view stands for; the others go
-    /// behind those that are gone.
+    /// The same answer to a part, with those of its instances that no part of these slots in the view hides; the others go
+    /// after those that are gone.
     fn left(
         &self,
         alloc: Global,
@@ -434,7 +434,7 @@ impl Given {
         })
     }
 
-    /// The answer to a claim at a moment, were it accepted.
+    /// The answer to a claim at a moment, if it were accepted.
     fn accepted(
         alloc: Global,
         held: &Together<'_>,
@@ -485,7 +485,7 @@ pub fn is_accept(outcome: &Outcome) -> bool
     matches!(outcome, Outcome::Accepted)
 }
 
-/// Those of a part's instances that no other part in the view stands for.
+/// Those of a part's instances that no other part in the view hides.
 fn left_of(
     alloc: Global,
     held: &Together<'_>,
@@ -505,7 +505,7 @@ fn left_of(
     Ok(left)
 }
 
-/// Those of a part's instances that no part of these slots in the view stands for; the others go behind those that are gone.
+/// Those of a part's instances that no part of these slots in the view hides; the others go after those that are gone.
 fn left_beside(
     alloc: Global,
     held: &Together<'_>,
@@ -530,14 +530,14 @@ fn left_beside(
     Ok(left)
 }
 
-/// Whether another part in the view stands for an instance of a part.
+/// Whether another part in the view hides an instance of a part.
 fn is_hidden(held: &Together<'_>, part: &Part, single: Single) -> bool
     ensures { (history : List revisions.Part) → StandsFor held.now history → result ≡ rooms.is_hidden history (part_of part.now) (booked_in (part_of part.now) single) }
 {
     is_start_hidden(held, part, single.slot)
 }
 
-/// Whether another part in the view stands for the instance of a part with this original start.
+/// Whether another part in the view hides the instance of a part with this original start.
 pub fn is_start_hidden(held: &Together<'_>, part: &Part, start: i64) -> bool
     ensures { (history : List revisions.Part) → StandsFor held.now history → (booked : Booked) → booked.key.slot ≡ start
         → result ≡ rooms.is_hidden history (part_of part.now) booked }
@@ -548,7 +548,7 @@ pub fn is_start_hidden(held: &Together<'_>, part: &Part, start: i64) -> bool
     }
 }
 
-/// Whether another part in the view, of one of these slots, stands for an instance of a part.
+/// Whether another part in the view, of one of these slots, hides an instance of a part.
 fn is_hidden_by(slots: &[Slot], held: &Together<'_>, part: &Part, single: Single) -> bool
     requires { IsSortedByKey slot_of slot_cmp slots.now }
     ensures { (history : List revisions.Part) → StandsFor held.now history
@@ -558,7 +558,7 @@ fn is_hidden_by(slots: &[Slot], held: &Together<'_>, part: &Part, single: Single
     is_touched(slots, Slot::At(single.slot)) && is_hidden(held, part, single)
 }
 
-/// The answers to claims at a moment, were they accepted.
+/// The answers to claims at a moment, if they were accepted.
 pub fn candidates(
     alloc: Global,
     held: &Together<'_>,

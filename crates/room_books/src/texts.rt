@@ -141,7 +141,7 @@ fn sort_slots(slots: &mut Vec<Slot>)
     slots.sort_unstable();
 }
 
-/// Whether a slot is among others, which stand in order.
+/// Whether a slot is among others, which are in order.
 fn is_among(sorted: &[Slot], slot: Slot) -> bool
     requires { IsSortedByKey slot_of slot_cmp sorted.now }
     ensures { result ≡ has_slot sorted.now (slot_of slot) }

@@ -53,7 +53,7 @@ impl Timeline {
         self.confirmed
     }
 
-    /// One of these that shares an instant with an instance that isn't leaving the own place, and that instance, None where there is none.
+    /// One of these that shares an instant with an instance that isn't leaving the place `own`, and that instance, None where there is none.
     pub(crate) fn first_taken(
         &self,
         wanted: &[Single],
@@ -70,7 +70,7 @@ impl Timeline {
         None
     }
 
-    /// An instance of a series that shares an instant with one that isn't leaving the own place, and that instance. For each of these it
+    /// An instance of a series that shares an instant with one that isn't leaving the place `own`, and that instance. For each of these it
     /// jumps into the series once.
     pub(crate) fn first_of_series(
         &self,
@@ -91,7 +91,7 @@ impl Timeline {
         None
     }
 
-    /// An instance that shares an instant with a span, those that are gone from the own place aside. It looks at those alone that end
+    /// An instance that shares an instant with a span, those that are gone from the place `own` aside. It looks only at those that end
     /// after the span's start and start before its end, up to the first that stays.
     fn taken_in(&self, span: Span, own: Option<usize>, gone: &Gone) -> Option<Busy>
         ensures { IsSharedIn (is_leaving own gone.now) self.now.busy.items span result }
@@ -103,7 +103,7 @@ impl Timeline {
         first_staying(&self.busy[place..], span.end, own, gone)
     }
 
-    /// Takes memory for so many more.
+    /// Takes memory for this many more.
     pub(crate) fn reserve(&mut self, more: usize) -> Result<(), AllocError>
         ensures busy { self.new.busy.items ≡ self.old.busy.items }
         ensures confirmed { self.new.confirmed ≡ self.old.confirmed }
@@ -199,7 +199,7 @@ impl Timeline {
     }
 }
 
-/// The first of these that isn't leaving the own place, if it starts before the end.
+/// The first of these that isn't leaving the place `own`, if it starts before the end.
 fn first_staying(busy: &[Busy], end: i64, own: Option<usize>, gone: &Gone) -> Option<Busy>
     ensures { result ≡ find (stays (is_leaving own gone.now)) (take_while (starts_before end) busy.now) }
 {
@@ -209,7 +209,7 @@ fn first_staying(busy: &[Busy], end: i64, own: Option<usize>, gone: &Gone) -> Op
         .copied()
 }
 
-/// Whether an instance is of the meeting in the own place, and gone.
+/// Whether an instance is of the meeting in the place `own`, and gone.
 fn is_gone(busy: &Busy, own: Option<usize>, gone: &Gone) -> bool
     ensures { result ≡ is_leaving own gone.now busy.now }
 {

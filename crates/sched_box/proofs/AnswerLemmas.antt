@@ -1,4 +1,4 @@
--- The rooms of a box take a message, and their answers stand one behind another.
+-- The rooms of a box take a message, and their answers follow one another.
 use Rattle.std.proofs.Common.{◌≡◌, false, ℕ, ◌+◌, ◌<◌, ◌≤◌, ℤ, List, [], ◌∷◌, ◌++◌, length, take, drop, get_or, set, Option, Some, None, refl, sym, ap, subst, ◌∙◌, arith, take_all, length-set, codes, decimal, Result, Ok, Err, OnOk}
 use Rattle.std.specs.Option.{option_to_list}
 use Rattle.std.specs.List.{flat_map}

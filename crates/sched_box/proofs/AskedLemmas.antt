@@ -52,7 +52,7 @@ untrue false never = refl
 at_place : (keys : List Address) (d : Address) (place : ℕ) → place < length keys → get_or (map address_octets keys) place [] ≡ address_octets (get_or keys place d)
 at_place keys d place within = get_or-map address_octets keys place d [] within
 
--- where the flag is off behind a look-up that found nothing, another address was looked up
+-- where the flag is off after a look-up that found nothing, another address was looked up
 pub off_none : (keys : List Address) (d : Address) (a : List ℕ) (flags : List Bool) → length flags ≡ length keys → list_any (λ key. bytes_eq a (address_octets key)) keys ≡ false
     → (place : ℕ) → get_or flags place true ≡ false → bytes_eq a (get_or (map address_octets keys) place []) ≡ false
 off_none keys d a flags long none place off =
@@ -60,7 +60,7 @@ off_none keys d a flags long none place off =
     let within : place < length keys = omega (arith, flagged, long) in
     untrue _ (λ here. true≢false (sym (list_any_at (λ key. bytes_eq a (address_octets key)) keys place d within (ap (bytes_eq a) (sym (at_place keys d place within)) ∙ here)) ∙ none))
 
--- where it is off behind one that found a place, whose flag was set, it was off before, and another address was looked up
+-- where it is off after one that found a place, whose flag was set, it was off before, and another address was looked up
 pub off_found : (keys : List Address) (d : Address) (a : List ℕ) (flags : List Bool) (found : ℕ) → AllPairs ◌≢◌ (map address_octets keys) → length flags ≡ length keys
     → position (λ key. bytes_eq a (address_octets key)) keys ≡ Some found → (place : ℕ) → get_or (set flags found true) place true ≡ false
     → (get_or flags place true ≡ false) × (bytes_eq a (get_or (map address_octets keys) place []) ≡ false)
@@ -95,7 +95,7 @@ no_place keys address (Some place) is = tt
 
 -- ---- the directory
 
--- an address that stands for the first time goes last
+-- an address that occurs for the first time goes last
 pub listed_more : (rooms : List Address) (i : ℕ) (keys newer : List Address) (x room : Address) → AllPairs ◌≢◌ (map address_octets rooms) → i < length rooms → room ≡ get_or rooms i room
     → address_octets x ≡ address_octets room → map address_octets keys ≡ map address_octets (take i rooms)
     → newer ≡ cond (list_any (λ key. bytes_eq (address_octets x) (address_octets key)) keys) keys (keys ++ x ∷ []) → map address_octets newer ≡ map address_octets (take (i + 1) rooms)
@@ -117,7 +117,7 @@ listed_more rooms i keys newer x room differ within is same are made =
 
 -- ---- the loop over the attendees
 
--- the flags after so many attendees
+-- the flags after this many attendees
 pub record MarksSofar (addresses : List (List ℕ)) (attendees : List Attendee) (i : ℕ) (before after : List Bool) : Type 0 where
   pub long : length after ≡ length before
   pub marks : (test : List ℕ → Bool) → LeavesOut test addresses before → LeavesOut (λ room. test room || names (take i attendees) room) addresses after
@@ -125,7 +125,7 @@ pub record MarksSofar (addresses : List (List ℕ)) (attendees : List Attendee) 
 pub marks_none : (addresses : List (List ℕ)) (attendees : List Attendee) (flags : List Bool) → MarksSofar addresses attendees 0 flags flags
 marks_none addresses attendees flags = record { long = refl; marks = λ test so place off. ap (λ b. b || false) (so place off) }
 
--- one attendee more
+-- one more attendee
 pub marks_more : (addresses : List (List ℕ)) (attendees : List Attendee) (i : ℕ) (x : Attendee) (before old new : List Bool) → i < length attendees → x ≡ get_or attendees i x → length new ≡ length old
     → ((place : ℕ) → get_or new place true ≡ false → (get_or old place true ≡ false) × (bytes_eq (address_octets x.address) (get_or addresses place []) ≡ false))
     → MarksSofar addresses attendees i before old → MarksSofar addresses attendees (i + 1) before new
@@ -150,7 +150,7 @@ names_said (x ∷ xs) room = ap (λ b. bytes_eq (address_octets x.address) room 
 abbrev pub asks_sofar : RoomMessage → List MessageComponent → List ℕ → Bool
 asks_sofar message components room = list_any (is_for room message) components
 
--- the flags after so many VEVENTs
+-- the flags after this many VEVENTs
 pub record AsksSofar (message : RoomMessage) (addresses : List (List ℕ)) (i : ℕ) (flags : List Bool) : Type 0 where
   pub long : length flags ≡ length addresses
   pub out : LeavesOut (asks_sofar message (take i message.components.items)) addresses flags
@@ -159,7 +159,7 @@ pub record AsksSofar (message : RoomMessage) (addresses : List (List ℕ)) (i : 
 abbrev pub Marking : List (List ℕ) → List Attendee → List Bool → List Bool → Type 0
 Marking addresses lines old new = (test : List ℕ → Bool) → LeavesOut test addresses old → LeavesOut (λ room. test room || names lines room) addresses new
 
--- one VEVENT more, which isn't for all
+-- one more VEVENT, which isn't for all
 pub asks_more : (message : RoomMessage) (addresses : List (List ℕ)) (i : ℕ) (x : MessageComponent) (lines : List Attendee) (old new : List Bool)
     → i < length message.components.items → x ≡ get_or message.components.items i x → map attendee_of lines ≡ x.attendees → cancels_for_all message x ≡ false → length new ≡ length old
     → Marking addresses lines old new → AsksSofar message addresses i old → AsksSofar message addresses (i + 1) new
@@ -193,7 +193,7 @@ not_cancel Request never = refl
 not_cancel Add never = refl
 not_cancel Cancel never = absurd (never refl)
 
--- where the flag is off, whatever stands for those past the end
+-- where the flag is off, whatever is used for those past the end
 pub off_at : (flags : List Bool) (place : ℕ) → place < length flags → get_or flags place false ≡ false → get_or flags place true ≡ false
 off_at [] place within off = absurd (omega arith)
 off_at (f ∷ fs) zero within off = off

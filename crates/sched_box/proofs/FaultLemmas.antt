@@ -1,4 +1,4 @@
--- A fault that stands in what was read of an object stands in the object.
+-- A fault of what was read of an object is a fault of the object.
 use Rattle.std.proofs.Common.{◌≡◌, inl, inr, ℕ, ◌<◌, ◌≤◌, Bool, true, false, not, ◌&&◌, ◌||◌, ◌==◌, nat_lt, List, length, codes, refl, sym, ap, subst, ◌∙◌, arith, take_all, length-take}
 use Rattle.ical_lines.specs.Fault.{RefusesBy}
 use Rattle.std.proofs.lemmas.Bool.{not-true}
@@ -21,7 +21,7 @@ use Rattle.sched_box.specs.Objects.{kept_of}
 abbrev Lines : Type 0
 Lines = List (List ℕ)
 
--- 25 is told only where 24 doesn't stand
+-- 25 is reported only where there is no fault 24
 weaker : (k a b d v : Bool) → (k && (a || (b && (d && v)))) ≡ true → (a || (b && d)) ≡ true
 weaker false a b d v h = absurd (cc)
 weaker true true b d v h = refl

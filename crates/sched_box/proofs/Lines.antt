@@ -1,4 +1,4 @@
--- What stands in the lines of a preamble: no octet below a space; and where the first line of some octets ends.
+-- What is in the lines of a preamble: no octet below a space; and where the first line of some octets ends.
 use Rattle.std.proofs.Common.{◌≡◌, ◌≢◌, ℕ, zero, suc, ◌/◌, ◌%◌, ◌<◌, ◌≤◌, Bool, true, List, [], ◌∷◌, ◌++◌, length, get_or, refl, sym, ap, subst, ◌∙◌, arith, codes, inl, inr, ◌⊎◌, ℤ}
 use Rattle.std.proofs.lemmas.Bool.Decides.{nat_tests}
 use Rattle.std.proofs.lemmas.List.{append_cancel_right, append_assoc}
@@ -110,7 +110,7 @@ pub no_break : (xs ys : List ℕ) → IsUnbroken (xs ++ 10 ∷ ys) → ⊥
 no_break [] ys u = u 0 (omega arith) refl
 no_break (x ∷ xs) ys u = no_break xs ys (tail_unbroken x (xs ++ 10 ∷ ys) u)
 
--- the first LF stands at one place
+-- the first LF is at one place
 cut : (a b x y : List ℕ) → IsUnbroken a → IsUnbroken b → a ++ 10 ∷ x ≡ b ++ 10 ∷ y → (a ≡ b) × (x ≡ y)
 cut [] [] x y u v e = (refl, cc)
 cut [] (d ∷ b) x y u v e = absurd (v 0 (omega arith) (cc))

@@ -43,7 +43,7 @@ cuts_step c x goes = record {
   none = λ e. absurd (cc);
 }
 
--- one octet more, as `feed` tells it
+-- one more octet, as `feed` says it
 pub cuts_more : (a b c : Cutter) (lent : List ℕ) (i : ℕ) → i < length lent → Cuts a (take i lent) b → ends_before b (get_or lent i 0) ≡ false
     → c ≡ cond (ends_before b (get_or lent i 0)) b (step b (get_or lent i 0)) → Cuts a (take (i + 1) lent) c
 cuts_more a b c lent i l cuts goes is =

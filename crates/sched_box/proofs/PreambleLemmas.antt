@@ -193,7 +193,7 @@ too_long (Some xs) (Some ys) octets place c l long =
 
 -- ---- a piece
 
--- what is taken of what a reader lends, of which at most so many octets are looked at
+-- what is taken of what a reader lends, of which at most this many octets are looked at
 pub piece : (a c : Option (List ℕ)) (lent : List ℕ) (most count : ℕ) (from to : LineState) (goes : Bool) → count ≤ length (take most lent) → most ≡ min (length lent) 65_537
     → Consumes a c (take count lent) × (length lent ≡ 0 → OnSome a (IsAtEnd c)) → Leads from (take count (take most lent)) to
     → (is_closed from ≡ false → 0 < length (take most lent) → 0 < count) → goes ≡ (nat_lt 0 count && not (is_closed to))

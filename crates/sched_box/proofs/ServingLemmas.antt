@@ -34,7 +34,7 @@ use Rattle.sched_box.proofs.HostLemmas.{MadeSofar}
 use Rattle.sched_box.proofs.ObjectLemmas.{after_short}
 use Rattle.std.proofs.Common.{get_or}
 
--- ---- one object more
+-- ---- one more object
 
 begins_more : (stream : List ℕ) (objects : List (List ℕ)) (rest object : List ℕ) → BeginsWith stream objects rest → is_begun rest ≡ true → rest ≡ object ++ after_object rest
     → BeginsWith stream (objects ++ object ∷ []) (after_object rest)
@@ -100,13 +100,13 @@ pub record ServedSofar (moment : ℤ) (news : Books) (input left output written 
   pub counted : report.objects ≡ length objects
   pub writes : Appends output written octets
 
--- so many octets may still be read
+-- this many octets may still be read
 abbrev pub HasLeft : Option (List ℕ) → Option (List ℕ) → ℕ → Type 0
 HasLeft None left may_read = Unit {0}
 HasLeft (Some octets) None may_read = ⊥
 HasLeft (Some octets) (Some rest) may_read = length octets + may_read ≡ length rest + 1_073_741_824
 
--- from whatever the books were; the rooms keep their addresses, and so many octets were read
+-- from whatever the books were; the rooms keep their addresses, and this many octets were read
 pub record Sofar (moment : ℤ) (olds news : Books) (input left output written : Option (List ℕ)) (may_read : ℕ) (report : ServeReport) : Type 0 where
   pub served : (before : Box) → AreKept olds before → ServedSofar moment news input left output written before report
   pub addresses : hosted_rooms news ≡ hosted_rooms olds
@@ -255,7 +255,7 @@ unsent moment olds news newer a b c output written now failed before after repor
       read_less a c after.left (read_on a b c taken before.left after.left so.read t.consumed left) rest,
     )
 
--- an object more
+-- one more object
 pub served_more : (moment : ℤ) (olds news newer : Books) (a b c output written new : Option (List ℕ)) (before after : Objects) (report next : ServeReport) (number one : ℕ) (more : List ℕ)
     → Sofar moment olds news a b output written before.left report → ReadsObject b c before after true → number ≡ report.objects + 1
     → AnswersKept moment number after.octets.items news newer more one → one ≤ 1 → hosted_rooms newer ≡ hosted_rooms news → Appends written new more

@@ -124,7 +124,7 @@ organiser_none (Err (Refused x)) old line text is h = cannot
         let same : other ≡ text = cc in
         h (subst IsAddress same says) (subst (CanStand most_organisers (organisers_of old)) (lower ∙ ap lower_case same) can)
 
--- ---- settings one behind another
+-- ---- settings one after another
 
 rooms_append : (xs ys : List Setting) → rooms (xs ++ ys) ≡ rooms xs ++ rooms ys
 rooms_append [] ys = refl
@@ -152,7 +152,7 @@ not_among xs a lacks k d l e = lacks (k, l, same xs k l ∙ e)
     same (y ∷ ys) zero l = refl
     same (y ∷ ys) (suc i) l = same ys i (omega arith)
 
--- hosts that fit do so with one more that can stand
+-- hosts that fit do so with one more that can be added
 fit_more : (most : ℕ) (hosts : List (List ℕ)) (a : List ℕ) → IsFit most hosts → CanStand most hosts a → IsFit most (hosts ++ a ∷ [])
 fit_more most hosts a fit can = record {
   few = omega (arith, can.few, length-append hosts (a ∷ []));
@@ -194,7 +194,7 @@ pairs_no xs ys a pairs (k, l, is) =
     let longer : length xs < length (xs ++ a ∷ ys) = omega (arith, length-append xs (a ∷ ys)) in
     pairs k (length xs) a l longer (get_or_append_left xs (a ∷ ys) a k l ∙ is ∙ sym (get_or-append_seam xs a ys a))
 
--- a host can stand behind those that stand before it among hosts that fit
+-- a host can come after those that come before it among hosts that fit
 can_stand : (most : ℕ) (hosts before after : List (List ℕ)) (a : List ℕ) → before ≡ hosts → IsFit most (before ++ a ∷ after) → CanStand most hosts a
 can_stand most hosts before after a is fit =
     subst (λ (list : List (List ℕ)). CanStand most list a) is
@@ -279,7 +279,7 @@ line_more text rest line after old new so b some a = record {
       (others, list_is ∙ ap (λ z. so.done ++ z) (more_is ∙ ap (λ z. z ∷ others) same) ∙ sym (append_assoc so.done (a.setting ∷ []) others), after_says);
 }
 
--- a line that can't be added stands in no settings
+-- a line that can't be added is in no settings
 pub line_none : (text rest line after : List ℕ) (s : Settings) → Sofar text rest s → Breaks rest line after → 0 < length line
     → ((setting : Setting) → IsSetting line setting → CanAdd s setting → ⊥) → SaysNone text
 line_none text rest line after s so b some cannot closed list says can =

@@ -13,7 +13,7 @@ use Rattle.room_books.specs.declared.room.Room.{Room}
 abbrev pub room_addresses : List Room → List (List ℕ)
 room_addresses rooms = map (λ room. address_octets room.address) rooms
 
--- the room has the address, and stands for the book
+-- the room has the address, and represents the book
 pub record IsHosted (room : Room) (hosted : Hosted) : Type 0 where
   pub at : hosted.address ≡ address_octets room.address
   pub stands : Stands room.meetings.entries hosted.book
@@ -22,13 +22,13 @@ pub record IsHosted (room : Room) (hosted : Hosted) : Type 0 where
 abbrev pub AreHosted : List Room → List Hosted → Type 0
 AreHosted rooms box = AllZip IsHosted rooms box
 
--- a room takes the message and answers these octets, from whatever it stands for
+-- a room takes the message and answers these octets, from whatever it represents
 abbrev pub RoomTakes : ℤ → RoomMessage → Room → Room → List ℕ → Type 0
 RoomTakes moment message old new octets =
     (said : profile.Message) → StandsFor message said → (before : Hosted) → IsHosted old before
     → (after : Hosted) × IsHosted new after × Takes moment said before after octets
 
--- each room takes it in turn; their answers stand one behind another
+-- each room takes it in turn; their answers follow one another
 abbrev pub RoomsTake : ℤ → RoomMessage → List Room → List Room → List ℕ → Type 0
 RoomsTake moment message [] [] octets = octets ≡ []
 RoomsTake moment message (old ∷ olds) (new ∷ news) octets =

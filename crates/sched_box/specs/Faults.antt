@@ -33,7 +33,7 @@ StopsFor reader writer Write = writer ≡ true
 StopsFor reader writer TooLong = Unit {0}
 StopsFor reader writer Memory = Unit {0}
 
--- and a device that failed is told: the reader's mark before and after
+-- and a device that failed is reported: the reader's mark before and after
 abbrev pub KeepsButRead : Bool → Bool → ServeFault → Type 0
 KeepsButRead before after Read = Unit {0}
 KeepsButRead before after Write = after ≡ before

@@ -10,7 +10,7 @@ use Rattle.sched_box.specs.declared.objects.Objects.{Objects}
 use Rattle.sched_box.specs.declared.objects.Piece.{Piece}
 use Rattle.sched_box.specs.declared.objects.Piece.TheVariants.{Ended, Goes, End}
 
--- what is kept of an object: at most one octet more than it may have
+-- what is kept of an object: at most one more octet than it may have
 abbrev pub kept_of : List ℕ → List ℕ
 kept_of object = take 1_048_577 object
 
@@ -66,7 +66,7 @@ pub record TakesObject (old new : Option (List ℕ)) (kept : List ℕ) (found : 
   pub end : found ≡ false → OnSome old (IsAtEnd new)
   pub some : found ≡ true → 0 < length taken
 
--- and so many octets may still be read, at least one
+-- and this many octets may still be read, at least one
 abbrev pub ReadsObject : Option (List ℕ) → Option (List ℕ) → Objects → Objects → Bool → Type 0
 ReadsObject old new before after found =
     (taken : List ℕ) × TakesObject old new after.octets.items found taken × (after.left + length taken ≡ before.left) × (0 < after.left)

@@ -11,7 +11,7 @@ is_closed Return = false
 is_closed Inside = false
 is_closed Closed = true
 
--- the place after one octet more
+-- the place after one more octet
 abbrev pub next_place : LineState → ℕ → LineState
 next_place Start octet = if octet == 10 then Closed else (if octet == 13 then Return else Inside)
 next_place Return octet = if octet == 10 then Closed else Inside
@@ -27,7 +27,7 @@ abbrev pub rest_of : LineState → List ℕ → List ℕ
 rest_of place [] = []
 rest_of place (octet ∷ octets) = if is_closed place then octet ∷ octets else rest_of (next_place place octet) octets
 
--- the octets lead from one place to the other, and all of them stand before the end of the empty line
+-- the octets lead from one place to the other, and all of them come before the end of the empty line
 pub record Leads (old : LineState) (octets : List ℕ) (new : LineState) : Type 0 where
   pub place : place_after old octets ≡ new
   pub rest : (more : List ℕ) → rest_of old (octets ++ more) ≡ rest_of new more
@@ -46,11 +46,11 @@ pub record TakesPreamble (old new : Option (List ℕ)) (octets : List ℕ) : Typ
   pub leads : Leads Start octets place
   pub stops : (place ≡ Closed) ⊎ OnSome old (IsAtEnd new)
 
--- more octets than a preamble may have stand up to the end of the empty line
+-- more octets than a preamble may have come up to the end of the empty line
 abbrev pub IsLong : List ℕ → Type 0
 IsLong octets = length (rest_of Start octets) + 65_536 < length octets
 
--- the reader gave a preamble with this moment and these hosts, and all that it had where no empty line stands
+-- the reader gave a preamble with this moment and these hosts, and all that it had where there is no empty line
 pub record Opens (old new : Option (List ℕ)) (moment : ℤ) (hosts : Hosts) : Type 0 where
   pub preamble : List ℕ
   pub closed : Bool

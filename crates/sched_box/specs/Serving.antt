@@ -14,14 +14,14 @@ use Rattle.sched_box.specs.declared.books.Books.{Books}
 use Rattle.sched_box.specs.Objects.{IsPieceFault}
 use Rattle.sched_box.specs.Preamble.{Opens, OpensNot, StopsInPreamble}
 
--- what a reader and a writer held and have, where they tell it
+-- what a reader and a writer held and have, where it is known
 pub record Ends : Type 0 where
   pub input : Option (List ℕ)
   pub left : Option (List ℕ)
   pub output : Option (List ℕ)
   pub written : Option (List ℕ)
 
--- a reader that tells its octets gave these objects, whole
+-- a reader whose octets are known gave these objects, whole
 abbrev pub Gives : Option (List ℕ) → Option (List ℕ) → List (List ℕ) → Type 0
 Gives None left objects = Unit {0}
 Gives (Some input) None objects = ⊥
@@ -34,11 +34,11 @@ GivesPart (Some input) None objects = ⊥
 GivesPart (Some input) (Some left) objects =
     (rest : List ℕ) × (part : List ℕ) × BeginsWith input objects rest × (rest ≡ part ++ left) × (length (after_object rest) ≤ length left)
 
--- of a reader that tells its octets fewer than 1,073,741,824 were read; this profile's choice
+-- of a reader whose octets are known fewer than 1,073,741,824 were read; this profile's choice
 abbrev pub IsWithinBound : Option (List ℕ) → Option (List ℕ) → Type 0
 IsWithinBound input left = IfSome input (λ octets. IfSome left (λ rest. length octets < length rest + 1_073_741_824))
 
--- so many octets of it were read
+-- this many octets of it were read
 abbrev pub HasRead : ℕ → Option (List ℕ) → Option (List ℕ) → Type 0
 HasRead n input left = IfSome input (λ octets. IfSome left (λ rest. length octets ≡ length rest + n))
 
@@ -110,7 +110,7 @@ ServesStream ends (Err (Serve fault)) =
     ⊎ ((moment : ℤ) × (hosts : Hosts) × (rest : Option (List ℕ)) × Opens ends.input rest moment hosts
     × ServesUntil moment (new_box hosts) (record ends { input = rest }) fault)
 
--- where the reader tells its octets, all that was written answers the stream that they are
+-- where the octets of the reader are known, all that was written answers the stream that they are
 abbrev pub AnswersWhole : Ends → Type 0
 AnswersWhole ends = IfSome ends.input (λ stream. (octets : List ℕ) × AnswersStream stream octets × Appends ends.output ends.written octets)
 

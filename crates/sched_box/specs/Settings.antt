@@ -14,9 +14,9 @@ rooms_of s = map address_octets s.rooms.items
 abbrev pub organisers_of : Settings → List (List ℕ)
 organisers_of s = map address_octets s.organisers.items
 
--- ---- one host more
+-- ---- one more host
 
--- the address can stand behind these hosts, of which there may be so many
+-- the address can be added after these hosts, of which there may be this many
 pub record CanStand (most : ℕ) (hosts : List (List ℕ)) (address : List ℕ) : Type 0 where
   pub fresh : Contains hosts address → ⊥
   pub few : length hosts < most
@@ -26,20 +26,20 @@ pub record AddsHost (most : ℕ) (old new : List Address) (address : List ℕ) :
   pub can : CanStand most (map address_octets old) address
   pub more : map address_octets new ≡ map address_octets old ++ address ∷ []
 
--- there may be so many hosts, and no two are one
+-- there may be this many hosts, and no two are one
 pub record IsFit (most : ℕ) (hosts : List (List ℕ)) : Type 0 where
   pub few : length hosts ≤ most
   pub differ : AllPairs ◌≢◌ hosts
 
--- ---- one line more
+-- ---- one more line
 
--- the setting doesn't stand yet
+-- the setting isn't there yet
 abbrev pub CanAdd : Settings → Setting → Type 0
 CanAdd s (Now t) = s.moment ≡ None
 CanAdd s (Room address) = CanStand most_rooms (rooms_of s) address
 CanAdd s (Organiser address) = CanStand most_organisers (organisers_of s) address
 
--- new is old with the setting, which didn't stand yet
+-- new is old with the setting, which wasn't there yet
 abbrev pub Adds : Settings → Settings → Setting → Type 0
 Adds old new (Now t) =
     (old.moment ≡ None) × (new.moment ≡ Some t) × (new.rooms ≡ old.rooms) × (new.organisers ≡ old.organisers)
@@ -55,7 +55,7 @@ pub record AddsLine (old new : Settings) (line : List ℕ) : Type 0 where
   pub only : (other : Setting) → IsSetting line other → other ≡ setting
   pub adds : Adds old new setting
 
--- no LF stands in the octets
+-- the octets have no LF
 abbrev pub IsUnbroken : List ℕ → Type 0
 IsUnbroken octets = (i : ℕ) → i < length octets → slice_index octets i ≢ 10
 
@@ -82,7 +82,7 @@ pub record Reads (s : Settings) (octets : List ℕ) : Type 0 where
   pub only : (close : Bool) (other : List Setting) → SaysSettings close octets other → other ≡ list
   pub holds : Holds s list
 
--- the settings can stand together: the moment at most once, and hosts that fit
+-- the settings are allowed together: the moment at most once, and hosts that fit
 pub record CanAll (list : List Setting) : Type 0 where
   pub rooms_fit : IsFit most_rooms (rooms list)
   pub organisers_fit : IsFit most_organisers (organisers list)

@@ -102,7 +102,7 @@ impl Books {
 }
 
 /// The message that an object is, of which at most 1,048,577 octets were kept.
-/// Refused: 6 where so many were, and as by `Message::read`.
+/// Refused: 6 where this many were kept, and as by `Message::read`.
 fn read_kept(alloc: Global, octets: &[u8]) -> Result<Message, Fault>
     ensures spells { IfOk result (λ message. (object : List ℕ) → octets.now ≡ kept_of object → IsSpelled object message) }
     ensures stands { IfErr result (λ fault. (object : List ℕ) → octets.now ≡ kept_of object → RefusesBy (λ n. ObjectFault n object) fault) }
@@ -113,7 +113,7 @@ fn read_kept(alloc: Global, octets: &[u8]) -> Result<Message, Fault>
     Message::read(alloc, octets)
 }
 
-/// The line that stands for a refused object: `REFUSED;OBJECT=k:n`.
+/// The line that is written for a refused object: `REFUSED;OBJECT=k:n`.
 fn write_refusal(number: u64, refusal: Refusal, answers: &mut Vec<u8>) -> Result<(), AllocError>
     ensures { OnOk result (answers.new.items ≡ answers.old.items ++ refused_line number refusal.number) }
 {

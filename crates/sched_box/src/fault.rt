@@ -19,7 +19,7 @@ pub enum ServeFault {
     /// 1,073,741,824 octets were read.
     #[error("the input is too long")]
     TooLong,
-    /// The memory that was asked for was refused.
+    /// Out of memory.
     #[error("out of memory")]
     Memory,
 }

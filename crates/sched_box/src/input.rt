@@ -11,9 +11,9 @@ use std::io::{self, BufRead, BufReader, ErrorKind, Read};
 /// How often an interrupted call is tried again before the device counts as failed.
 pub(crate) const TRIES: u32 = 1_000;
 
-/// A reader that lends its octets, and tells whether it has failed.
+/// A reader that lends its octets, and says whether it has failed.
 pub trait Input {
-    // The octets that are still to come, where it tells them.
+    // The octets that are still to come, where they are known.
     ghost remaining: { Self → Option (List ℕ) } = { λ _. None };
 
     // The octets that it lends.
@@ -34,7 +34,7 @@ pub trait Input {
     fn buffer(&self) -> &[u8]
         ensures { result.now ≡ Self.lent self.now };
 
-    /// Takes so many of them.
+    /// Takes this many of them.
     fn consume(&mut self, count: usize)
         ensures takes { count ≤ length (Self.lent self.old) → IfSome (Self.remaining self.old) (λ octets. StartsWith octets (Self.lent self.old))
             → Consumes (Self.remaining self.old) (Self.remaining self.new) (take count (Self.lent self.old)) }
@@ -71,7 +71,7 @@ pub struct DeviceReader<R: Read + Drop> {
 }
 
 impl<R: Read + Drop> DeviceReader<R> {
-    /// A reader that hasn't failed, and has taken nothing of the device yet. An error where memory for the buffer is refused.
+    /// A reader that hasn't failed, and has taken nothing of the device yet. An error where there is no memory for the buffer.
     pub fn new(alloc: Global, device: R) -> io::Result<DeviceReader<R>>
         ensures mark { IfOk result (λ reader. reader.failed ≡ false) }
         ensures device { IfOk result (λ reader. reader_inner reader.reader ≡ device) }
@@ -85,7 +85,7 @@ impl<R: Read + Drop> DeviceReader<R> {
         })
     }
 
-    /// The same, with a buffer of so many octets, at least one: a buffer of none would show nothing of the device.
+    /// The same, with a buffer of this many octets, at least one: a buffer of none would show nothing of the device.
     pub fn with_capacity(alloc: Global, capacity: usize, device: R) -> io::Result<DeviceReader<R>>
         ensures mark { IfOk result (λ reader. reader.failed ≡ false) }
         ensures device { IfOk result (λ reader. reader_inner reader.reader ≡ device) }

@@ -14,7 +14,7 @@ use std::io::{ErrorKind, Write};
 pub enum WriteFault {
     /// The writer failed: a beginning of them may have been written.
     Failed,
-    /// The memory for them was refused, and none was written.
+    /// Out of memory, and none of them was written.
     Memory,
 }
 
@@ -26,9 +26,9 @@ impl From<AllocError> for WriteFault {
     }
 }
 
-/// A writer that holds nothing back, and tells whether it has failed.
+/// A writer that holds nothing back, and says whether it has failed.
 pub trait Output {
-    // The octets that were written, where it tells them.
+    // The octets that were written, where they are known.
     ghost contents: { Self → Option (List ℕ) } = { λ _. None };
 
     // A call of it has failed. Only a call that fails changes it.
@@ -37,7 +37,7 @@ pub trait Output {
     // What it is given may be lost: a call of it has failed, or may be refused memory.
     ghost may_lose: { Self → Bool };
 
-    /// Writes octets whole, and holds none of them back: who waits for an answer gets it now.
+    /// Writes octets whole, and holds none of them back: a program that waits for an answer gets it at once.
     fn put(&mut self, octets: &[u8]) -> Result<(), WriteFault>
         ensures written { OnOk result (Appends (Self.contents self.old) (Self.contents self.new) octets.now) }
         ensures stops { IfErr result (StopsWriting (Self.contents self.old) (Self.contents self.new) (Self.has_failed self.new) octets.now) }
@@ -46,7 +46,7 @@ pub trait Output {
         ensures lost { OnErr result (Self.may_lose self.new ≡ true) };
 }
 
-/// A list of octets never fails; memory may be refused.
+/// A list of octets never fails, but may run out of memory.
 impl Output for Vec<u8> {
     ghost contents = { λ list. Some list.items };
 

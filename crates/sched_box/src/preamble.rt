@@ -16,7 +16,7 @@ use ical_values::Stamp;
 use memchr::memchr;
 use std::alloc::Global;
 
-/// Reads a preamble, and leaves the reader behind its empty line. No octet past that is taken, whatever comes of it.
+/// Reads a preamble, and leaves the reader after its empty line. No octet past that is taken, whatever comes of it.
 /// Refused: 90. A reader that fails gives `Read`.
 pub fn read_preamble<R: Input>(
     alloc: Global,
@@ -104,7 +104,7 @@ enum LineState {
 }
 
 impl LineState {
-    /// The place after one octet more.
+    /// The place after one more octet.
     fn after(self, octet: u8) -> LineState
         ensures { result ≡ next_place self octet }
     {
@@ -131,7 +131,7 @@ impl LineState {
     }
 }
 
-/// How many octets stand before the end of the empty line, and where they lead.
+/// How many octets come before the end of the empty line, and where they lead.
 #[derive(Clone, Copy)]
 struct Scanned {
     count: usize,

@@ -54,7 +54,7 @@ pub fn serve_stream<R: Input, W: Output>(
 
 /// Serves the objects of a stream from empty books, and writes the answers to each object after all that it goes to
 /// have taken it. Read comes only where the reader has failed, Write only where the writer has: then a beginning of the
-/// answers was written; where memory is refused, the answers to the earlier objects.
+/// answers was written; when out of memory, the answers to the earlier objects.
 pub fn serve<R: Input, W: Output>(
     alloc: Global,
     config: &Config,
@@ -141,7 +141,7 @@ fn not_hosted() -> StreamFault
     StreamFault::Refused(Refusal::BAD_PREAMBLE)
 }
 
-/// Serves the objects from whatever the books stand for.
+/// Serves the objects from whatever the books represent.
 fn serve_objects<R: Input, W: Output>(
     alloc: Global,
     books: &mut Books,

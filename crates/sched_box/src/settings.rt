@@ -34,7 +34,7 @@ pub(crate) struct Settings {
 }
 
 impl Settings {
-    /// Reads the lines up to the empty one, after which nothing may stand.
+    /// Reads the lines up to the empty one, after which nothing may follow.
     /// Refused: 90.
     pub(crate) fn read(alloc: Global, text: &str) -> Result<Settings, Fault>
         ensures reads { IfOk result (λ settings. Reads settings text.now) }
@@ -100,8 +100,8 @@ impl Settings {
     }
 }
 
-/// Adds a host to those of its kind, of which there may be so many; one that is there is refused.
-/// At most so many are looked at.
+/// Adds a host to those of its kind, of which there may be this many; one that is there is refused.
+/// At most this many are looked at.
 fn add_host(alloc: Global, hosts: &mut Vec<Address>, most: usize, text: &str) -> Result<(), Fault>
     ensures address { OnOk result (IsAddress text.now) }
     ensures added { OnOk result (AddsHost most hosts.old.items hosts.new.items (lower_case text.now)) }
@@ -143,7 +143,7 @@ pub(crate) fn refused() -> Fault
     Fault::Refused(Refusal::BAD_PREAMBLE)
 }
 
-/// The first line without its LF or CRLF, and what follows it; None where no LF stands.
+/// The first line without its LF or CRLF, and what follows it; None where there is no LF.
 fn next_line(text: &str) -> Option<(&str, &str)>
     ensures split { MatchOption result (IsUnbroken text.now) (λ found. Breaks text.now found.0.now found.1.now) }
     ensures shorter { IfSome result (λ found. length found.1.now < length text.now) }

@@ -137,7 +137,7 @@ fn month_days(input: &str) -> Result<MonthDays, NoAnswer> {
 ///     means LOCAL           the instant that a local time means
 ///     offsets               the least and the greatest offset
 ///     last SECOND UNTIL     the last day whose local time at that second isn't past an instant
-///     write NAME            what is written of the zone, behind an octet that stands there already
+///     write NAME            what is written of the zone, after an octet that is there already
 fn step_answer(alloc: Global, zone: &Zone, step: &str) -> Result<String, NoAnswer> {
     let (call, input) = first_word(step);
     match call {

@@ -15,7 +15,7 @@ use ical_tree::read_object;
 use ical_values::Address;
 use std::alloc::Global;
 
-/// So many starts of a series are listed at most.
+/// This many starts of a series are listed at most.
 const LISTED: u32 = 4;
 
 pub fn kept(alloc: Global, octets: &[u8], room: &Address) -> Result<String, NoAnswer> {

@@ -88,7 +88,7 @@ fn stamp_text(alloc: Global, instant: i64) -> Result<String, NoAnswer> {
 ///     singles                          the singles, from slot to end
 ///     overlap                          the places of two that clash, and the instant
 ///     make                             the certificate that is made, or the clash
-///     judge TEXT                       whether this text stands as a certificate
+///     judge TEXT                       whether this text holds as a certificate
 ///     clash UID SLOT UID SLOT INSTANT  whether this is a clash
 fn step_answer(alloc: Global, calendar: &Calendar, step: &str) -> Result<String, NoAnswer> {
     let (call, input) = first_word(step);

@@ -1,4 +1,4 @@
-//! Cases of the texts of certificates: `certificate | TEXT` reads one, `certificate-of | SINGLES SERIES` writes one, behind an octet that stands
+//! Cases of the texts of certificates: `certificate | TEXT` reads one, `certificate-of | SINGLES SERIES` writes one, after an octet that is
 //! there already.
 
 use clash_cert::{CertFault, Certificate};

@@ -1,5 +1,5 @@
 //! Cases of the commands: `name | command | input | certificate | output | errors | status`. The middle columns are names of files, put one
-//! behind another. A command runs on them with a reader and writers in memory.
+//! after another. A command runs on them with a reader and writers in memory.
 
 use crate::files::read_all;
 use crate::names::ROOM;
@@ -62,7 +62,7 @@ fn run<R: Files + AllocGlobal>(rt: &R, case: Case<'_>) -> io::Result<Outcome> {
     })
 }
 
-/// The number that an input is; 0, which nothing has, where it is none.
+/// The number that an input is; 0, which nothing has, where it isn't one.
 fn number_in(input: &[u8]) -> u8 {
     let text = str::from_utf8(input).unwrap_or("");
     text.trim_end().parse::<u8>().unwrap_or(0)

@@ -6,7 +6,7 @@ use example_cases::answers::append;
 use example_cases::words::first_word;
 use std::alloc::Global;
 
-/// So many instances are listed at most.
+/// This many instances are listed at most.
 const LISTED: u32 = 12;
 
 pub fn event(alloc: Global, octets: &[u8]) -> Result<String, NoAnswer> {

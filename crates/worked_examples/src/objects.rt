@@ -1,4 +1,4 @@
-//! Cases of objects that stand in files: `object | FILE`, and then steps. With `text | TEXT` the object is spelled, and with `lines | TEXT`
+//! Cases of objects that are in files: `object | FILE`, and then steps. With `text | TEXT` the object is spelled, and with `lines | TEXT`
 //! it is a REQUEST with a VEVENT of these lines.
 //!
 //!     kept ROOM               how many singles the calendar has for a room, and their organisers, slots, starts and ends

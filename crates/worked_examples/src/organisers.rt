@@ -1,8 +1,8 @@
-//! Cases of an organiser: Ann, who takes objects one behind another.
+//! Cases of an organiser: Ann, who takes objects one after another.
 //!
 //!     shown | OBJECTS | UID               what she shows of a meeting then; the objects are spelled
 //!     seen | FILES | UID ROOM             what she sees of the room's answer for the whole meeting, after each of the files
-//!     large | VEVENTS ATTENDEES           how many octets she sends where she stores so many VEVENTs with so many attendees each, and what a box
+//!     large | VEVENTS ATTENDEES           how many octets she sends where she stores this many VEVENTs with this many attendees each, and what a box
 //!                                         answers where these are fed back
 
 use crate::files::read_all;
@@ -67,7 +67,7 @@ fn ann(alloc: Global) -> Result<Organiser, NoAnswer> {
     Ok(Organiser::new(alloc, Address::read(alloc, ANN)?))
 }
 
-/// She takes objects that stand one behind another. One that is refused changes nothing.
+/// She takes objects that follow one another. One that is refused changes nothing.
 fn take_all(alloc: Global, organiser: &mut Organiser, octets: &[u8]) -> Result<(), NoAnswer> {
     let mut rest = octets;
     // there are fewer objects than octets

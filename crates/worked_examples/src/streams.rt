@@ -1,5 +1,5 @@
-//! Cases of whole streams: `keep | FILES` has a room take the objects of files one behind another, and `long | COUNT` serves a stream
-//! whose first object has so many octets.
+//! Cases of whole streams: `keep | FILES` has a room take the objects of files one after another, and `long | COUNT` serves a stream
+//! whose first object has this many octets.
 
 use crate::names::ROOM;
 use example_cases::spelled::escaped;

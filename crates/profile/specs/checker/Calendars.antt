@@ -13,11 +13,11 @@ use Rattle.profile.specs.events.Confirmed.{Confirmed, IsConfirmed, AreConfirmed,
 abbrev pub IsCalendarText : Tree → List ℕ → Type 0
 IsCalendarText t octets = IsObject tree_name tree_own tree_inside false t (logical_lines octets)
 
--- the VEVENTs of an object say these events. METHOD isn't looked at
+-- the VEVENTs of an object say these events. METHOD is ignored
 abbrev pub SayEvents : Tree → List Event → Type 0
 SayEvents object events = AllZip (SaysEvent object None) (vevents object) events
 
--- they do, and these are confirmed of them for the room
+-- they do, and of them these are confirmed for the room
 pub record SaysCalendar (room : List ℕ) (object : Tree) (confirmed : Confirmed) : Type 0 where
   pub events : List Event
   pub says : SayEvents object events
@@ -48,20 +48,20 @@ pub record CertificateHolds (room calendar text : List ℕ) : Type 0 where
 
 -- ---- what can be wrong, by the number of its refusal
 
--- the fault of this number stands in the VEVENTs of an object, as a calendar
+-- the VEVENTs of an object have the fault of this number, as a calendar
 pub data CalendarFault (object : Tree) : ℕ → Type 0 where
   -- one of them has this fault
   in_event : {n : ℕ} → (lines : List (List ℕ)) → Contains (vevents object) lines → EventFault object None lines n → CalendarFault object n
   two_masters : (events : List Event) → SayEvents object events → (MastersDiffer events → ⊥) → CalendarFault object 53
   two_overrides : (events : List Event) → SayEvents object events → (OverridesDiffer events → ⊥) → CalendarFault object 54
 
--- the fault of this number stands in the octets
+-- the octets have the fault of this number
 pub data CalendarTextFault (octets : List ℕ) : ℕ → Type 0 where
   -- 1 to 5: in a line
   in_lines : {n : ℕ} → text_has false n octets ≡ true → CalendarTextFault octets n
   -- 20 to 23: in how the lines pair up
   in_tree : {n : ℕ} → lines_have n (logical_lines octets) ≡ true → CalendarTextFault octets n
-  -- VERSION doesn't stand once, or isn't `2.0`
+  -- VERSION doesn't occur exactly once, or isn't `2.0`
   no_version : (t : Tree) → SpellsTree tree_name tree_own tree_inside 7 t (logical_lines octets) → has_version (tree_own t) ≡ false → CalendarTextFault octets 24
-  -- in the VEVENTs of the calendar that stands there
+  -- in the VEVENTs of the calendar that the octets are
   in_vevents : {n : ℕ} → (t : Tree) → IsCalendarText t octets → CalendarFault t n → CalendarTextFault octets n

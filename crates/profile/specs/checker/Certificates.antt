@@ -1,4 +1,4 @@
--- The text of a certificate, and when it stands. The format is this profile's own.
+-- The text of a certificate, and when it holds. The format is this profile's own.
 use Rattle.std.specs.Prelude.{ℕ, zero, suc, List, [], ◌∷◌, ◌++◌, ◌-◌, ◌^◌, ◌<◌, ◌≤◌, ◌≡◌, ◌⊎◌, Contains, Some, length, take, codes, decimal}
 use Rattle.std.specs.List.{slice_get}
 use Rattle.profile.specs.checker.Instances.{HasClash, AreClear}
@@ -8,7 +8,7 @@ use Rattle.profile.specs.events.Confirmed.{Confirmed, IsOneOf}
 
 -- ---- what a certificate says
 
--- what it says of two series, or of one beside itself: that up to the horizon no two of their instances clash. It says nothing else yet
+-- what it says of two series, or of one by itself: that up to the horizon no two of their instances clash. It says nothing else yet
 pub data Entry : Type 0 where
   End : Entry
 
@@ -21,7 +21,7 @@ pub record Claims : Type 0 where
 abbrev pub IsClaims : Claims → Type 0
 IsClaims c = (c.singles < 2 ^ 64) × (c.series < 2 ^ 64)
 
--- the pairs of n series, counted from 1: a series beside itself, or beside a later one
+-- the pairs of n series, counted from 1: a series with itself, or with a later one
 abbrev pub IsPair : ℕ → ℕ → ℕ → Type 0
 IsPair n i j = (0 < i) × (i ≤ j) × (j ≤ n)
 
@@ -38,12 +38,12 @@ entry_text End = codes "END"
 abbrev pub pair_line : Claims → ℕ → ℕ → List ℕ
 pair_line c i j = codes "PAIR " ++ (decimal i ++ (codes " " ++ (decimal j ++ (codes " " ++ entry_text (entry_of c i j)))))
 
--- series i beside so many series from j on
+-- series i with this many series from j on
 abbrev pub row_lines : Claims → ℕ → ℕ → ℕ → List (List ℕ)
 row_lines c i j zero = []
 row_lines c i j (suc count) = pair_line c i j ∷ row_lines c i (suc j) count
 
--- so many series from i on, each beside itself and those after it
+-- this many series from i on, each with itself and those after it
 abbrev pub pair_lines : Claims → ℕ → ℕ → List (List ℕ)
 pair_lines c i zero = []
 pair_lines c i (suc count) = row_lines c i i (suc count) ++ pair_lines c (suc i) count
@@ -78,14 +78,14 @@ pub record BeginsWell (text : List ℕ) (n : ℕ) : Type 0 where
   pub within : n ≤ length (lines_of c)
   pub is : text ≡ spelled (take n (lines_of c)) rest
 
--- line n, counted from 1, is the first that is wrong or missing; what follows the last line is a line more
+-- line n, counted from 1, is the first that is wrong or missing; what follows the last line is one more line
 pub record FirstWrong (text : List ℕ) (n : ℕ) : Type 0 where
   pub counted : 0 < n
   pub none : (c : Claims) → Spells text c → ⊥
   pub before : BeginsWell text (n - 1)
   pub here : BeginsWell text n → ⊥
 
--- ---- when it stands
+-- ---- when it holds
 
 -- the calendar has these counts
 pub record HasCounts (confirmed : Confirmed) (c : Claims) : Type 0 where
@@ -104,11 +104,11 @@ EntryStands confirmed i j End = (a b : Meeting) → IsSeriesAt confirmed i a →
 abbrev pub EntryFails : Confirmed → ℕ → ℕ → Entry → Type 0
 EntryFails confirmed i j End = (a : Meeting) × (b : Meeting) × IsSeriesAt confirmed i a × IsSeriesAt confirmed j b × HasClash (IsInstance a) (IsInstance b)
 
--- the entries of all pairs stand
+-- the entries of all pairs hold
 abbrev pub EntriesStand : Confirmed → Claims → Type 0
 EntriesStand confirmed c = (i j : ℕ) → IsPair c.series i j → EntryStands confirmed i j (entry_of c i j)
 
--- the octets are a certificate for what is confirmed: it has the counts of that, each entry stands, and no single clashes with another
+-- the octets are a certificate for what is confirmed: it has the counts of that, each entry holds, and no single clashes with another
 -- single or with a series. That then no two of all that is confirmed clash is a theorem: `standing_means_clear` of clash_check
 pub record CertificateStands (confirmed : Confirmed) (text : List ℕ) : Type 0 where
   pub c : Claims
@@ -119,12 +119,12 @@ pub record CertificateStands (confirmed : Confirmed) (text : List ℕ) : Type 0 
 
 -- ---- why it doesn't
 
--- the octets are no certificate: 81, with the first wrong line
+-- the octets aren't a certificate: 81, with the first wrong line
 pub record IsWrongText (text : List ℕ) (number line : ℕ) : Type 0 where
   pub is : number ≡ 81
   pub wrong : FirstWrong text line
 
--- they are one, of other counts: 82
+-- they are one, with other counts: 82
 pub record IsWrongCount (confirmed : Confirmed) (text : List ℕ) (number line : ℕ) : Type 0 where
   pub is : number ≡ 82
   pub no_line : line ≡ 0
@@ -136,7 +136,7 @@ pub record IsWrongCount (confirmed : Confirmed) (text : List ℕ) (number line :
 abbrev pub IsPairBefore : ℕ → ℕ → ℕ → ℕ → Type 0
 IsPairBefore i j first second = (i < first) ⊎ ((i ≡ first) × (j < second))
 
--- they are one of the right counts, and the entry of this pair is the first that doesn't stand: 83
+-- they are one with the right counts, and the entry of this pair is the first that doesn't hold: 83
 pub record HasFailingEntry (confirmed : Confirmed) (text : List ℕ) (number first second : ℕ) : Type 0 where
   pub is : number ≡ 83
   pub c : Claims
@@ -146,7 +146,7 @@ pub record HasFailingEntry (confirmed : Confirmed) (text : List ℕ) (number fir
   pub fails : EntryFails confirmed first second (entry_of c first second)
   pub before : (i j : ℕ) → IsPair c.series i j → IsPairBefore i j first second → EntryStands confirmed i j (entry_of c i j)
 
--- each entry stands, and a single clashes with another single or with a series: 84
+-- each entry holds, and a single clashes with another single or with a series: 84
 pub record HasClashes (confirmed : Confirmed) (text : List ℕ) (number line : ℕ) : Type 0 where
   pub is : number ≡ 84
   pub no_line : line ≡ 0

@@ -14,14 +14,14 @@ use Rattle.profile.specs.events.Starts.{IsInstance, IsRuleStart, ComesBefore}
 abbrev pub alone : Event → Meeting
 alone event = if is_override event then record { master = None; overrides = event ∷ [] } else record { master = Some event; overrides = [] }
 
--- an override of its meeting stands for this instant, whatever state it is in
+-- an override of its meeting replaces this instant, whatever state it is in
 pub record IsReplaced (events : List Event) (event : Event) (instant : ℤ) : Type 0 where
   pub override : Event
   pub among : Contains events override
   pub of : meeting_said override ≡ meeting_said event
   pub is : override.recurrence ≡ Some instant
 
--- an instance of one of the events: of a master none that an override stands for. A cancelled master has none, and leaves its overrides
+-- an instance of one of the events: of a master none that an override replaces. A cancelled master has none, and leaves its overrides as they are
 pub record IsInstanceAmong (events : List Event) (event : Event) (instance : Booked) : Type 0 where
   pub is : IsInstance (alone event) instance
   pub shown : is_master event ≡ true → IsReplaced events event instance.start → ⊥
@@ -64,13 +64,13 @@ pub record AreSingles (room : List ℕ) (events : List Event) (event : Event) (s
 abbrev pub is_series : List ℕ → Event → Bool
 is_series room event = is_kept room event && is_master event && is_some event.rule
 
--- overrides of the event's meeting stand for these instants, ascending
+-- overrides of the event's meeting replace these instants, ascending
 pub record AreReplaced (events : List Event) (event : Event) (instants : List ℤ) : Type 0 where
   pub each : All (IsReplaced events event) instants
   pub ascending : AllPairs ◌<ℤ◌ instants
   pub all : (instant : ℤ) → IsReplaced events event instant → Contains instants instant
 
--- a master by its rule alone: without what RDATE adds, and without what overrides stand for, as if EXDATE named it
+-- a master by its rule alone: without what RDATE adds, and without what overrides replace, as if EXDATE named it
 abbrev pub by_its_rule : Event → List ℤ → Event
 by_its_rule master replaced = record {
   uid = master.uid;
@@ -139,7 +139,7 @@ pub record AreConfirmed (room : List ℕ) (events : List Event) (confirmed : Con
 abbrev pub MastersDiffer : List Event → Type 0
 MastersDiffer events = AllPairs (λ a b. a.recurrence ≡ None → b.recurrence ≡ None → meeting_said a ≢ meeting_said b) events
 
--- no two of them stand for one instance of one meeting
+-- no two of them are for the same instance of one meeting
 abbrev pub OverridesDiffer : List Event → Type 0
 OverridesDiffer events =
     AllPairs (λ a b. (slot : ℤ) → a.recurrence ≡ Some slot → b.recurrence ≡ Some slot → meeting_said a ≢ meeting_said b) events

@@ -1,5 +1,5 @@
 -- The rule of a VEVENT: on which days its RRULE lets it start (RFC 5545 3.3.10, 3.8.5.3). The days are those of the start's own clocks,
--- which are those of the zone that DTSTART names, or of UTC. A day goes by its index.
+-- which are those of the zone that DTSTART names, or of UTC. A day is given by its index.
 use Rattle.std.specs.Prelude.{◌≡◌, ℕ, ◌<◌, ◌⊎◌, false, true, if◌then◌else◌, List, [], ◌∷◌, codes, Option, Some, None, ℤ, pos, ◌-ℤ◌}
 use Rattle.std.specs.Int.Signed.{lt_z}
 use Rattle.profile.specs.checker.Instances.{horizon}
@@ -15,7 +15,7 @@ use Rattle.profile.specs.events.ZonedTimes.{SaysZonedTime, clock_of, EventTimes}
 -- ---- the last day that UNTIL allows
 
 -- the instant up to which UNTIL allows starts, where it says this one: at the least the second before the first that an event may name, and
--- at the most the last before year 10000, as no start lies outside of these; this profile's choice
+-- at the most the last before year 10000, as no start is outside of these; this profile's choice
 abbrev pub as_end : ℤ → ℤ
 as_end instant =
     if lt_z instant first_second then first_second -ℤ pos 1
@@ -38,7 +38,7 @@ AllowsNone zone second (Some (UntilInstant instant)) = NoneFrom zone second (as_
 
 -- ---- what RRULE says
 
--- the local time lies on that day, at that second of it
+-- the local time is on that day, at that second of it
 abbrev pub IsOnDay : ℤ → ℕ → ℕ → Type 0
 IsOnDay local day second = (second < 86_400) × (local ≡ local_time day second)
 
@@ -61,7 +61,7 @@ abbrev pub GivesBeside : List (List ℕ) → EventTimes → Option RuleText → 
 GivesBeside [] times text rule = rule ≡ None
 GivesBeside (start ∷ _) times text rule = BothOrNeither (GivesRule (clock_of times.zone) times.local) text rule
 
--- RRULE stands at most once: with its text the event has this rule, or there is none
+-- RRULE occurs at most once: with its text the event has this rule, or there is none
 pub record SaysEventRule (lines : List (List ℕ)) (times : EventTimes) (rule : Option Parts) : Type 0 where
   pub text : Option RuleText
   pub spells : Says (codes "RRULE") false IsRuleText lines text
@@ -77,7 +77,7 @@ pub record IsOutside (zone : Zone) (local : ℤ) (text : RuleText) : Type 0 wher
   pub none : AllowsNone zone second text.until
       ⊎ ((last : ℕ) × IsLastAllowed zone second text.until last × (is_rule_day (rule_of text day last) day ≡ false))
 
--- the start that a line says lies outside of the rule that another line spells
+-- the start that a line says is outside of the rule that another line spells
 pub record StartsOutside (object : Tree) (start line : List ℕ) : Type 0 where
   pub zone : Option Zone
   pub local : ℤ
@@ -86,7 +86,7 @@ pub record StartsOutside (object : Tree) (start line : List ℕ) : Type 0 where
   pub spelled : SpellsRule (line_value line) text
   pub outside : IsOutside (clock_of zone) local text
 
--- the fault of this number stands in the rule of a VEVENT
+-- the rule of a VEVENT has the fault of this number
 pub data EventRuleFault (object : Tree) (lines : List (List ℕ)) : ℕ → Type 0 where
   -- 30 to 33: in the text
   bad_rule : {n : ℕ} → SomeLine (codes "RRULE") (λ line. IsLeastRuleFault (line_value line) n) lines → EventRuleFault object lines n

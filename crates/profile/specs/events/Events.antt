@@ -1,5 +1,5 @@
--- VEVENTs: what their lines say (RFC 5545 3.6.1). A VEVENT is its content lines here, beside the object that it stands in: its times may
--- name a VTIMEZONE of that. What has to stand goes by the METHOD of the object, where it is a message.
+-- VEVENTs: what their lines say (RFC 5545 3.6.1). A VEVENT is its content lines here, beside the object that it is in: its times may
+-- name a VTIMEZONE of that. What is required depends on the METHOD of the object, where it is a message.
 use Rattle.std.specs.Prelude.{◌≡◌, ℕ, Contains, Bool, true, false, if◌then◌else◌, List, [], ◌∷◌, codes, Option, None, Some, is_some, option_map, unwrap_or, ℤ}
 use Rattle.std.specs.List.{find, AllZip}
 use Rattle.std.specs.Str.{bytes_eq}
@@ -20,7 +20,7 @@ pub data Method : Type 0 where
   Add : Method
   Cancel : Method
 
--- METHOD is ADD: each event is an instance of a meeting. None is an object whose METHOD isn't looked at
+-- METHOD is ADD: each event is an instance of a meeting. None is an object whose METHOD is ignored
 abbrev pub adds_instances : Option Method → Bool
 adds_instances None = false
 adds_instances (Some Request) = false
@@ -34,7 +34,7 @@ may_lack_start (Some Request) = false
 may_lack_start (Some Add) = false
 may_lack_start (Some Cancel) = true
 
--- METHOD stands once among the lines of a VCALENDAR, and names this word, caseless (RFC 5545 3.7.2)
+-- METHOD occurs exactly once among the lines of a VCALENDAR, and names this word, caseless (RFC 5545 3.7.2)
 pub record NamesWord (own : List (List ℕ)) (word : List ℕ) : Type 0 where
   pub line : List ℕ
   pub once : lines_named (codes "METHOD") own ≡ line ∷ []
@@ -80,7 +80,7 @@ pub record IsAttendee (line : List ℕ) (attendee : Attendee) : Type 0 where
 -- ---- one event
 
 -- what a VEVENT says; organiser and stamp may be missing in a calendar. Without a rule and additions it happens once. With a recurrence it
--- stands for that instance of its meeting. Instants are in the order of the text
+-- is that instance of its meeting. Instants are in the order of the text
 pub record Event : Type 0 where
   pub uid : List ℕ
   pub organiser : Option (List ℕ)
@@ -107,8 +107,8 @@ first_text (line ∷ lines) = unescaped (line_value line)
 abbrev pub summary_of : List (List ℕ) → List ℕ
 summary_of lines = first_text (lines_named (codes "SUMMARY") lines)
 
--- the lines of a VEVENT of an object of this METHOD, or of none, say this event. UID has to stand, in a message ORGANIZER and DTSTAMP too,
--- and DTSTART but in a CANCEL (RFC 5545 3.6.1, RFC 5546 3.2). That a calendar's VEVENT may lack DTSTAMP and that a REQUEST may lack ATTENDEE
+-- the lines of a VEVENT of an object of this METHOD, or of none, say this event. UID is required, in a message ORGANIZER and DTSTAMP too,
+-- and DTSTART except in a CANCEL (RFC 5545 3.6.1, RFC 5546 3.2). That a calendar's VEVENT may lack DTSTAMP and that a REQUEST may lack ATTENDEE
 -- is this profile's choice
 pub record SaysEvent (object : Tree) (method : Option Method) (lines : List (List ℕ)) (event : Event) : Type 0 where
   pub uid : Says (codes "UID") true IsUidLine lines (Some event.uid)
@@ -145,11 +145,11 @@ meeting_said event = (unwrap_or event.organiser [], event.uid)
 
 -- ---- what can be wrong with a VEVENT, by the number of its refusal
 
--- the properties that stand at most once, beside those of the times, the rule and the occurrences
+-- the properties that occur at most once, beside those of the times, the rule and the occurrences
 abbrev pub single_names : List (List ℕ)
 single_names = codes "UID" ∷ codes "ORGANIZER" ∷ codes "DTSTAMP" ∷ codes "SEQUENCE" ∷ codes "STATUS" ∷ []
 
--- the fault of this number stands in the lines of a VEVENT of an object of this METHOD, or of none
+-- the lines of a VEVENT of an object of this METHOD, or of none, have the fault of this number
 pub data EventFault (object : Tree) (method : Option Method) (lines : List (List ℕ)) : ℕ → Type 0 where
   in_times : {n : ℕ} → EventTimesFault (may_lack_start method) object lines n → EventFault object method lines n
   in_rule : {n : ℕ} → EventRuleFault object lines n → EventFault object method lines n

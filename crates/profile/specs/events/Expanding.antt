@@ -16,7 +16,7 @@ pub record IsInstanceLine (instance : Booked) (line : List ℕ) : Type 0 where
   pub lasts : instance.end ≡ instance.start +ℤ pos seconds
   pub is : line ≡ slot ++ codes " " ++ start ++ codes " " ++ decimal seconds ++ codes "\n"
 
--- the lines of the first instances of the event that octets spell, so many of them, or of all where there are fewer
+-- the lines of the first instances of the event that octets spell, this many of them, or of all where there are fewer
 pub record IsExpansion (octets : List ℕ) (limit : ℕ) (text : List ℕ) : Type 0 where
   pub meeting : Meeting
   pub spelled : SpellsMeeting octets meeting

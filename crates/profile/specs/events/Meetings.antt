@@ -9,7 +9,7 @@ use Rattle.profile.specs.text.Objects.{SpellsTree, IsObject, has_version, lines_
 use Rattle.profile.specs.text.Trees.{Tree, tree_name, tree_own, tree_inside, vevents}
 use Rattle.profile.specs.events.Events.{Method, Request, Add, Cancel, Event, SaysEvent, EventFault, meeting_said}
 
--- the event stands for one instance of a meeting: it has a RECURRENCE-ID
+-- the event is for one instance of a meeting: it has a RECURRENCE-ID
 abbrev pub is_override : Event → Bool
 is_override event = is_some event.recurrence
 
@@ -34,7 +34,7 @@ events_of meeting = option_to_list meeting.master ++ meeting.overrides
 abbrev pub as_added : Event → Event
 as_added event = record event { recurrence = Some event.times.start }
 
--- the events of an object as its METHOD takes them; None where METHOD isn't looked at
+-- the events of an object as its METHOD takes them; None where METHOD is ignored
 abbrev pub taken_by : Option Method → List Event → List Event
 taken_by None events = events
 taken_by (Some Request) events = events
@@ -45,7 +45,7 @@ taken_by (Some Cancel) events = events
 abbrev pub AreOfOne : List Event → Type 0
 AreOfOne events = (a b : Event) → Contains events a → Contains events b → meeting_said a ≡ meeting_said b
 
--- no two stand for one instance
+-- no two are for the same instance
 abbrev pub InstancesDiffer : List Event → Type 0
 InstancesDiffer overrides = AllPairs ◌≢◌ (map (λ event. event.recurrence) overrides)
 
@@ -68,11 +68,11 @@ pub record SpellsMeeting (octets : List ℕ) (meeting : Meeting) : Type 0 where
 
 -- ---- what can be wrong with it, by the number of its refusal
 
--- a fault of an object, of its VEVENTs or between them, or the want of one
+-- a fault of an object, of its VEVENTs or between them, or a missing one
 abbrev pub is_meeting_fault : ℕ → Bool
 is_meeting_fault n = is_object_fault n || is_meeting_event_fault n || is_between 53 54 n || n == 62 || n == 66
 
--- the fault of this number stands in the VEVENTs of an object that is taken so
+-- the VEVENTs of an object that is taken so have the fault of this number
 pub data MeetingFault (object : Tree) (method : Option Method) : ℕ → Type 0 where
   -- one of them has this fault
   in_event : {n : ℕ} → (lines : List (List ℕ)) → Contains (vevents object) lines → EventFault object method lines n → MeetingFault object method n
@@ -84,18 +84,18 @@ pub data MeetingFault (object : Tree) (method : Option Method) : ℕ → Type 0 
   two_meetings : (events : List Event) → AllZip (SaysEvent object method) (vevents object) events → (AreOfOne events → ⊥) → MeetingFault object method 62
   no_event : vevents object ≡ [] → MeetingFault object method 66
 
--- the fault of this number stands in the octets
+-- the octets have the fault of this number
 pub data MeetingTextFault (octets : List ℕ) : ℕ → Type 0 where
   -- 1 to 6: in a line
   in_lines : {n : ℕ} → text_has true n octets ≡ true → MeetingTextFault octets n
   -- 20 to 23: in how the lines pair up
   in_tree : {n : ℕ} → lines_have n (logical_lines octets) ≡ true → MeetingTextFault octets n
-  -- VERSION doesn't stand once, or isn't `2.0`
+  -- VERSION doesn't occur exactly once, or isn't `2.0`
   no_version : (t : Tree) → SpellsTree tree_name tree_own tree_inside 7 t (logical_lines octets) → has_version (tree_own t) ≡ false
       → MeetingTextFault octets 24
   -- more VEVENTs than a message may have
   many_events : (t : Tree) → SpellsTree tree_name tree_own tree_inside 7 t (logical_lines octets)
       → most_events < count_inside tree_name tree_own tree_inside (codes "VEVENT") t → MeetingTextFault octets 25
-  -- in the VEVENTs of the object that stands there
+  -- in the VEVENTs of the object that the octets are
   in_vevents : {n : ℕ} → (t : Tree) → IsObject tree_name tree_own tree_inside true t (logical_lines octets) → MeetingFault t None n
       → MeetingTextFault octets n

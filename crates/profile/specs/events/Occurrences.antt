@@ -1,6 +1,6 @@
--- Which instance of a meeting a VEVENT stands for, which instants it adds to those of its rule and which it takes away, and whether it is
+-- Which instance of a meeting a VEVENT is for, which instants it adds to those of its rule and which it takes away, and whether it is
 -- cancelled (RFC 5545 3.8.4.4, 3.8.5.2, 3.8.5.1, 3.8.1.11). Instants are seconds from 1970-01-01T00:00:00Z. A VEVENT is its lines, beside
--- the object that it stands in.
+-- the object that it is in.
 use Rattle.std.specs.Prelude.{◌≡◌, ℕ, ◌<◌, ◌≤◌, ◌⊎◌, ◌==◌, ◌&&◌, ◌||◌, Bool, true, false, List, length, map, codes, Contains, Option, is_some, option_map, unwrap_or, ℤ}
 use Rattle.std.specs.List.{slice_split, flat_map, list_any, AllZip}
 use Rattle.std.specs.Str.{bytes_eq}
@@ -20,7 +20,7 @@ SaysStatus lines cancelled =
 
 -- ---- RECURRENCE-ID
 
--- RANGE stands on the line; it isn't read
+-- RANGE is on the line; it is ignored
 abbrev pub has_range : List ℕ → Bool
 has_range line = is_some (line_param (codes "RANGE") line)
 
@@ -46,7 +46,7 @@ entries_named name lines = flat_map entries_of (lines_named name lines)
 abbrev pub most_entries : ℕ
 most_entries = 366
 
--- a text of RDATE with `/` is a period, which isn't read
+-- a text of RDATE with `/` is a period, which isn't supported
 abbrev pub is_period : List ℕ → List ℕ → Bool
 is_period name text = bytes_eq name (codes "RDATE") && list_any (λ c. c == 47) text
 
@@ -73,7 +73,7 @@ Lists object name entries instants = AllZip (IsListed object name) entries insta
 
 -- ---- together
 
--- RRULE or RDATE stands in a VEVENT that is a single instance, by its RECURRENCE-ID or as one that is added: an instance doesn't recur
+-- RRULE or RDATE occurs in a VEVENT that is a single instance, by its RECURRENCE-ID or as one that is added: an instance doesn't recur
 abbrev pub recurs_as_instance : Bool → List (List ℕ) → Bool
 recurs_as_instance added lines =
     (added || list_any (is_of (codes "RECURRENCE-ID")) lines) && list_any (λ line. is_of (codes "RRULE") line || is_of (codes "RDATE") line) lines
@@ -98,7 +98,7 @@ pub data EntriesFault (object : Tree) (name : List ℕ) (entries : List Entry) :
   in_entry : {n : ℕ} → (entry : Entry) → Contains entries entry → EntryFault object name entry n → EntriesFault object name entries n
   too_many : most_entries < length entries → EntriesFault object name entries 56
 
--- the fault of this number stands in the lines of a VEVENT
+-- the lines of a VEVENT have the fault of this number
 pub data OccurrenceFault (added : Bool) (object : Tree) (lines : List (List ℕ)) : ℕ → Type 0 where
   bad_recurrence : {n : ℕ} → SomeLine (codes "RECURRENCE-ID") (λ line. ZonedTimeFault object line n) lines → OccurrenceFault added object lines n
   bad_additions : {n : ℕ} → EntriesFault object (codes "RDATE") (entries_named (codes "RDATE") lines) n → OccurrenceFault added object lines n

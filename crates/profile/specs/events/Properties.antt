@@ -14,18 +14,18 @@ is_of name line = is_same_name (line_name line) name
 abbrev pub lines_named : List ℕ → List (List ℕ) → List (List ℕ)
 lines_named name lines = filter (is_of name) lines
 
--- the property stands at most once; this is its line
+-- the property occurs at most once; this is its line
 abbrev pub StandsAtMostOnce : List ℕ → List (List ℕ) → Option (List ℕ) → Type 0
 StandsAtMostOnce name lines line = lines_named name lines ≡ option_to_list line
 
--- the property stands at least twice
+-- the property occurs at least twice
 abbrev pub StandsTwice : List ℕ → List (List ℕ) → Type 0
 StandsTwice name lines = 1 < length (lines_named name lines)
 
 abbrev pub IsMissing : List ℕ → List (List ℕ) → Type 0
 IsMissing name lines = lines_named name lines ≡ []
 
--- a line of this property stands there, and so is it
+-- there is a line of this property for which this holds
 abbrev pub SomeLine : List ℕ → (List ℕ → Type 0) → List (List ℕ) → Type 0
 SomeLine name P lines = (line : List ℕ) × Contains (lines_named name lines) line × P line
 
@@ -38,7 +38,7 @@ BothOrNeither R (Some a) (Some b) = R a b
 BothOrNeither R None (Some b) = ⊥
 BothOrNeither R (Some a) None = ⊥
 
--- the property stands at most once, and its value is so; it has to stand where it is needed
+-- the property occurs at most once, and this is its value; it must occur where it is needed
 pub record Says {V : Type 0} (name : List ℕ) (needed : Bool) (IsValue : List ℕ → V → Type 0) (lines : List (List ℕ)) (value : Option V) : Type 0 where
   pub line : Option (List ℕ)
   pub once : StandsAtMostOnce name lines line
@@ -85,7 +85,7 @@ kind_named word =
 abbrev pub time_kind : List ℕ → TimeKind
 time_kind line = unwrap_or (option_map kind_named (line_param (codes "VALUE") line)) DateTime
 
--- VALUE says that the line's value is a date-time, or doesn't stand
+-- VALUE says that the line's value is a date-time, or is absent
 abbrev pub is_date_time : List ℕ → Bool
 is_date_time line = unwrap_or (option_map (λ word. is_same_name word (codes "DATE-TIME")) (line_param (codes "VALUE") line)) true
 
@@ -104,15 +104,15 @@ IsDateText text = (number : ℤ) × SpellsDate text number
 abbrev pub IsLocalText : List ℕ → Type 0
 IsLocalText text = (t : ℤ) × SpellsLocal text t
 
--- the number of a text that is no date and no time
+-- the number of a text that is neither a date nor a time
 abbrev pub malformed_number : List ℕ → ℕ
 malformed_number text = if ends_in_z text then 10 else 11
 
--- 55 where the text is no fixed time, else the number of a malformed one
+-- 55 where the text isn't a fixed time, else the number of a malformed one
 abbrev pub UnfixedOrMalformed : Type 0 → List ℕ → ℕ → Type 0
 UnfixedOrMalformed IsUnfixed text number = (IsUnfixed × (number ≡ 55)) ⊎ ((IsUnfixed → ⊥) × (number ≡ malformed_number text))
 
--- the number of what is wrong with a text of this kind: there is at most one. Dates, and times without zone, aren't read yet
+-- the number of what is wrong with a text of this kind: there is at most one. Dates, and times without zone, aren't supported yet
 abbrev pub KindFault : TimeKind → List ℕ → ℕ → Type 0
 KindFault DateTime text number = IsNoStamp text × UnfixedOrMalformed (IsDateText text ⊎ IsLocalText text) text number
 KindFault Date text number = UnfixedOrMalformed (IsDateText text) text number

@@ -12,7 +12,7 @@ use Rattle.profile.specs.events.Meetings.{Meeting}
 
 -- ---- when an instance ends
 
--- so many days later by the clocks of a zone: what the local time means that they show, with the days added to it. Without days it is the
+-- this many days later by the clocks of a zone: the days are added to the local time that they show. Without days it is the
 -- instant itself, also where the clocks show its local time twice
 abbrev pub IsDaysLater : Zone → ℕ → ℤ → ℤ → Type 0
 IsDaysLater zone days instant later =
@@ -20,13 +20,13 @@ IsDaysLater zone days instant later =
     ⊎ ((0 < days) × ((offset : ℤ) × IsOffsetAt zone instant offset × Means zone ((instant +ℤ offset) +ℤ pos (86_400 * days)) later))
 
 -- an instance that starts then, of an event with these times, ends then: the days of its length are nominal and come first, in the zone of
--- DTSTART, then its seconds exactly (RFC 5545 3.3.6). DTEND gives seconds alone, so each instance lasts as long
+-- DTSTART, then its seconds exactly (RFC 5545 3.3.6). DTEND gives only seconds, so all instances last equally long
 abbrev pub EndsAt : EventTimes → ℤ → ℤ → Type 0
 EndsAt times start end =
     (later : ℤ) × IsDaysLater (clock_of times.zone) times.length.days start later × (end ≡ later +ℤ pos times.length.seconds)
 
--- no instance of an event with these times lasts longer, in exact seconds: its days are 86,400 seconds each, and longer by what the clocks of
--- DTSTART's zone are set by, where there are days
+-- no instance of an event with these times lasts longer, in exact seconds: its days are 86,400 seconds each, and where there
+-- are days, the difference between the bounds of the offsets of DTSTART's zone is added
 abbrev pub IsWidth : EventTimes → ℤ → Type 0
 IsWidth times width =
     ((times.length.days ≡ 0) × (width ≡ pos (length_seconds times.length)))
@@ -36,7 +36,7 @@ IsWidth times width =
 -- ---- at which instants a master starts
 
 -- on a day of its rule, at DTSTART's second of the day on the clocks of DTSTART's zone. A local time that they skip is read with the offset
--- before, as DTSTART itself is
+-- before the gap, as DTSTART itself is
 pub record IsRuleStart (times : EventTimes) (rule : Parts) (instant : ℤ) : Type 0 where
   pub first : ℕ
   pub second : ℕ
@@ -45,17 +45,17 @@ pub record IsRuleStart (times : EventTimes) (rule : Parts) (instant : ℤ) : Typ
   pub listed : is_rule_day rule day ≡ true
   pub means : Means (clock_of times.zone) (local_time day second) instant
 
--- by its rule; without one at DTSTART alone
+-- by its rule; without one only at DTSTART
 abbrev pub IsGiven : EventTimes → Option Parts → ℤ → Type 0
 IsGiven times None instant = instant ≡ times.start
 IsGiven times (Some rule) instant = IsRuleStart times rule instant
 
--- an override stands for this instant, whatever state it is in
+-- an override replaces this instant, whatever state it is in
 abbrev pub IsOverridden : List Event → ℤ → Type 0
 IsOverridden overrides instant = Contains (map (λ event. event.recurrence) overrides) (Some instant)
 
--- its starts: by its rule or by RDATE, in the dates that an event may name, so before year 10000, but those that EXDATE names, and those
--- that an override stands for
+-- its starts: by its rule or by RDATE, in the dates that an event may name, so before year 10000, except those that EXDATE names, and those
+-- that an override replaces
 pub record IsStart (master : Event) (overrides : List Event) (instant : ℤ) : Type 0 where
   pub given : IsGiven master.times master.rule instant ⊎ Contains master.additions instant
   pub in_dates : (first_second ≤ℤ instant) × (instant <ℤ horizon)
@@ -101,7 +101,7 @@ pub record AreInstancesFrom (meeting : Meeting) (from : ℤ) (instances : List B
   pub ordered : AllPairs ComesBefore instances
   pub all : (instance : Booked) → IsInstance meeting instance → from ≤ℤ instance.start → Contains instances instance
 
--- the first of all, so many of them, or all where there are fewer
+-- the first of all, this many of them, or all where there are fewer
 pub record AreFirst (meeting : Meeting) (limit : ℕ) (instances : List Booked) : Type 0 where
   pub each : All (IsInstance meeting) instances
   pub ordered : AllPairs ComesBefore instances
@@ -111,14 +111,14 @@ pub record AreFirst (meeting : Meeting) (limit : ℕ) (instances : List Booked) 
 
 -- ---- which share an instant with a span
 
--- what lasts from one instant to another shares one with what lasts from and to, before the horizon
+-- what lasts from `start` to `end` shares an instant before the horizon with what lasts from `from` to `to`
 pub record SharesInstant (start end from to : ℤ) : Type 0 where
   pub instant : ℤ
   pub before : instant <ℤ horizon
   pub in_first : IsWithin start end instant
   pub in_second : IsWithin from to instant
 
--- the first of the instances that does, by start and then by slot, if there is one
+-- the first of the instances that does so, by start and then by slot, if there is one
 abbrev pub IsFirstOverlap : Meeting → ℤ → ℤ → Option Booked → Type 0
 IsFirstOverlap meeting from to found =
     MatchOption found ((b : Booked) → IsInstance meeting b → SharesInstant b.start b.end from to → ⊥)

@@ -1,5 +1,5 @@
 -- Times: what a start or an end says, in UTC or where TZID names a VTIMEZONE of its object (RFC 5545 3.2.19, 3.3.5, 3.6.5), and what
--- DTSTART, DTEND and DURATION of a VEVENT say together. A line is its octets here; its object, the VCALENDAR that it stands in, is a tree.
+-- DTSTART, DTEND and DURATION of a VEVENT say together. A line is its octets here; its object, the VCALENDAR that it is in, is a tree.
 use Rattle.std.specs.Prelude.{◌≡◌, ℕ, ◌≤◌, ◌⊎◌, Bool, true, false, if◌then◌else◌, List, [], ◌∷◌, filter, Contains, codes, Option, Some, None, is_some, option_map, unwrap_or, ℤ, pos, ◌+ℤ◌, ◌≤ℤ◌, ◌<ℤ◌}
 use Rattle.std.specs.List.{find}
 use Rattle.std.specs.Str.{bytes_eq}
@@ -31,7 +31,7 @@ zone_named name object = find (λ part. has_zone_name name (tree_own part)) (vti
 
 -- ---- what a line says
 
--- TZID stands on the line
+-- TZID is on the line
 abbrev pub is_in_zone : List ℕ → Bool
 is_in_zone line = is_some (line_param (codes "TZID") line)
 
@@ -68,12 +68,12 @@ SaysInstant object line instant =
 
 -- ---- the dates that an event may name: the local years 1970 to 9999, before 10000-01-01T00:00:00Z
 
--- the first local time of a start or an end. No local time is past the year 9999. Of a UTC time 1969-12-31 counts as of 1970, so that a
+-- the first local time of a start or an end. No local time is past the year 9999. For a UTC time 1969-12-31 counts as part of 1970, so that a
 -- local time of 1970 can be written in UTC; this profile's choice
 abbrev pub first_local : Bool → ℤ
 first_local in_zone = if in_zone then pos 0 else first_second
 
--- a local time, with TZID or without, and the instant that it means. No local time from 1970 on means an earlier one than the second part
+-- a local time, with TZID or without, and the instant that it means. No local time from 1970 on means an earlier instant than the second part
 -- asks for
 abbrev pub IsInDates : Bool → ℤ → ℤ → Type 0
 IsInDates in_zone local instant = (first_local in_zone ≤ℤ local) × (first_second ≤ℤ instant) × (instant <ℤ horizon)
@@ -92,11 +92,11 @@ SaysOutOfDates object line =
 
 -- ---- what can be wrong with a line, by the number of its refusal
 
--- 55 for a date, which isn't read yet; else 11, also where the text ends in `Z`
+-- 55 for a date, which isn't supported yet; else 11, also where the text ends in `Z`
 abbrev pub DateOrMalformed : List ℕ → ℕ → Type 0
 DateOrMalformed text number = (IsDateText text × (number ≡ 55)) ⊎ ((IsDateText text → ⊥) × (number ≡ 11))
 
--- with the text of a line with TZID: it is no local time
+-- with the text of a line with TZID: it isn't a local time
 abbrev pub LocalFault : TimeKind → List ℕ → ℕ → Type 0
 LocalFault DateTime text number = (IsLocalText text → ⊥) × DateOrMalformed text number
 LocalFault Date text number = DateOrMalformed text number
@@ -135,7 +135,7 @@ pub record EventTimes : Type 0 where
   pub start : ℤ
   pub length : Length
 
--- the length that DTEND gives, in exact seconds. RFC 5545 3.8.2.2 wants DTEND later; that it may be DTSTART is this profile's choice
+-- the length that DTEND gives, in exact seconds. RFC 5545 3.8.2.2 requires a later DTEND; that it may equal DTSTART is this profile's choice
 abbrev pub LastsUntil : Tree → ℤ → List ℕ → Length → Type 0
 LastsUntil object start line length = (length.days ≡ 0) × SaysInDates object line (start +ℤ pos length.seconds)
 
@@ -169,7 +169,7 @@ LastsAlone object (Some line) None length = (length ≡ record { days = 0; secon
 LastsAlone object None (Some line) length = LastsFor line length
 LastsAlone object (Some line) (Some other) length = ⊥
 
--- its start is 1970-01-01T00:00:00Z, which nothing looks at
+-- its start is 1970-01-01T00:00:00Z, which is ignored
 pub record SaysNoStart (object : Tree) (lines : List (List ℕ)) (times : EventTimes) : Type 0 where
   pub missing : IsMissing (codes "DTSTART") lines
   pub end_line : Option (List ℕ)
@@ -188,7 +188,7 @@ SaysTimes may_lack object lines times = SaysEventTimes object lines times ⊎ ((
 
 -- ---- what can be wrong with the times of a VEVENT
 
--- the lines hold a start and an end, and so do the instants lie
+-- the lines have a start and an end, whose instants are in this relation
 abbrev pub StartAndEndLie : Tree → (ℤ → ℤ → Type 0) → List (List ℕ) → Type 0
 StartAndEndLie object R lines =
     (start : ℤ) × (end : ℤ) × SomeLine (codes "DTSTART") (λ line. SaysInstant object line start) lines
@@ -197,7 +197,7 @@ StartAndEndLie object R lines =
 abbrev pub names_of_times : List (List ℕ)
 names_of_times = codes "DTSTART" ∷ codes "DTEND" ∷ codes "DURATION" ∷ []
 
--- the fault of this number stands in the times of a VEVENT, whose start may be missing or not
+-- the times of a VEVENT, whose start may be missing or not, have the fault of this number
 pub data EventTimesFault (may_lack : Bool) (object : Tree) (lines : List (List ℕ)) : ℕ → Type 0 where
   bad_start : {n : ℕ} → SomeLine (codes "DTSTART") (λ line. ZonedTimeFault object line n) lines → EventTimesFault may_lack object lines n
   bad_end : {n : ℕ} → SomeLine (codes "DTEND") (λ line. ZonedTimeFault object line n) lines → EventTimesFault may_lack object lines n

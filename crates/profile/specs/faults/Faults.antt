@@ -1,4 +1,4 @@
--- The numbers of refusals, by what they speak of. A number's meaning stands at its constant in
+-- The numbers of refusals, by what they are about. A number's meaning is given at its constant in
 -- `ical_lines/src/fault.rt` and in docs/PROFILE.md.
 use Rattle.std.specs.Prelude.{ℕ, Bool, nat_le, ◌&&◌, ◌||◌, ◌==◌}
 
@@ -30,7 +30,7 @@ is_value_fault = is_between 10 16
 abbrev pub is_event_fault : ℕ → Bool
 is_event_fault n = is_value_fault n || is_between 50 52 n || is_between 55 56 n || n == 61 || n == 63
 
--- a fault of the VTIMEZONE that a TZID names, or the want of one (RFC 5545 3.6.5); what is wrong with its values has a value's number
+-- a fault of the VTIMEZONE that a TZID names, or a missing one (RFC 5545 3.6.5); what is wrong with its values has a value's number
 abbrev pub is_zone_fault : ℕ → Bool
 is_zone_fault = is_between 40 43
 
@@ -46,7 +46,7 @@ is_rule_fault = is_between 30 34
 abbrev pub is_series_event_fault : ℕ → Bool
 is_series_event_fault n = is_zoned_event_fault n || is_rule_fault n
 
--- a fault of one VEVENT, which may name a VTIMEZONE, recur, and stand for an instance of its meeting
+-- a fault of one VEVENT, which may name a VTIMEZONE, recur, and be for one instance of its meeting
 abbrev pub is_meeting_event_fault : ℕ → Bool
 is_meeting_event_fault n = is_series_event_fault n || n == 65 || n == 67
 
@@ -54,7 +54,7 @@ is_meeting_event_fault n = is_series_event_fault n || n == 65 || n == 67
 abbrev pub is_calendar_fault : ℕ → Bool
 is_calendar_fault n = is_object_fault n || is_meeting_event_fault n || is_between 53 54 n
 
--- a fault of a message: an object, its VEVENTs, its method, its meeting, its attendees or the want of a VEVENT (RFC 5546 3.2)
+-- a fault of a message: an object, its VEVENTs, its method, its meeting, its attendees or a missing VEVENT (RFC 5546 3.2)
 abbrev pub is_message_fault : ℕ → Bool
 is_message_fault n = is_object_fault n || is_meeting_event_fault n || is_between 53 54 n || n == 60 || n == 62 || n == 64 || n == 66
 

@@ -1,10 +1,10 @@
--- With which number octets are refused where several faults stand in their lines (RFC 5545 3.1); the order is this profile's choice.
+-- With which number octets are refused where their lines have several faults (RFC 5545 3.1); the order is this profile's choice.
 use Rattle.std.specs.Prelude.{ℕ, Bool, true, false, ◌&&◌, ◌==◌, nat_lt, List, [], ◌∷◌, length, take, Option, None, Some, if◌then◌else◌}
 use Rattle.std.specs.List.{find}
 use Rattle.std.specs.Str.{is_utf8}
 use Rattle.profile.specs.text.Lines.{logical_lines, ended, line_has, is_faulty, most_octets, most_lines}
 
--- the least of the faults 1 to 4 that stand in a line
+-- the least of the faults 1 to 4 that a line has
 abbrev pub least_fault : List ℕ → Option ℕ
 least_fault line = find (λ number. line_has number line) (1 ∷ 2 ∷ 3 ∷ 4 ∷ [])
 

@@ -1,5 +1,5 @@
 -- Objects for an organiser: a meeting that it stores (RFC 6638 3.2.1), and what comes back from its attendees, a REPLY or a REFRESH (RFC 5546
--- 3.2.3, 3.2.6). Which properties have to stand goes by what is asked for; that a store is an object without METHOD is RFC 4791 4.1.
+-- 3.2.3, 3.2.6). Which properties are required depends on what is asked for; that a store is an object without METHOD is RFC 4791 4.1.
 use Rattle.std.specs.Prelude.{◌≡◌, ℕ, ◌<◌, ◌≤◌, Contains, Bool, true, false, not, List, [], ◌∷◌, length, filter, codes, Some}
 use Rattle.std.specs.List.{list_all, AllZip}
 use Rattle.std.specs.Str.{bytes_eq}
@@ -60,7 +60,7 @@ pub record OrganiserObject : Type 0 where
   pub uid : List ℕ
   pub events : List Event
 
--- these are VEVENTs of one meeting: at most one stands for the whole of it, and no two for one instance
+-- these are VEVENTs of one meeting: at most one is for the whole of it, and no two are for the same instance
 pub record AreOfMeeting (organiser uid : List ℕ) (events : List Event) : Type 0 where
   pub some : 0 < length events
   pub of_it : (event : Event) → Contains events event → meeting_said event ≡ (organiser, uid)
@@ -83,7 +83,7 @@ pub record SpellsOrganiserObject (octets : List ℕ) (said : OrganiserObject) : 
 
 -- ---- what can be wrong with it, by the number of its refusal
 
--- the fault of this number stands in the lines of the VCALENDAR's VEVENTs, or between them
+-- the lines of the VCALENDAR's VEVENTs have the fault of this number, in one VEVENT or between them
 pub data OrganiserObjectFault (object : Tree) : ℕ → Type 0 where
   in_meeting : {n : ℕ} → (operation : Operation) → NamesOperation (tree_own object) operation → MeetingFault object (Some (read_as operation)) n
       → OrganiserObjectFault object n

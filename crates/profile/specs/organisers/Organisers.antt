@@ -30,7 +30,7 @@ pub record Heard : Type 0 where
   pub revision : Revision
   pub answer : Participation
 
--- all that was ever stored and all that was ever heard, the latest first
+-- all stores and all replies that ever came, the latest first
 pub record OrganiserBook : Type 0 where
   pub stores : List Stored
   pub replies : List Heard
@@ -57,7 +57,7 @@ attendees_of events = each_once (flat_map (λ event. map (λ attendee. attendee.
 abbrev pub schedules : List ℕ → Event → Bool
 schedules address event = list_any (λ attendee. bytes_eq attendee.address address && attendee.scheduled) (counted event.attendees)
 
--- those of them of whom it is left to the server, by one of the events
+-- those of them for whom one of the events leaves it to the server
 abbrev pub left_to_server : List Event → List (List ℕ)
 left_to_server events = filter (λ address. list_any (schedules address) events) (attendees_of events)
 

@@ -53,7 +53,7 @@ abbrev pub first_parts : List Part → List Part
 first_parts [] = []
 first_parts (p ∷ ps) = p ∷ filter (λ other. not (same_meeting p other)) (first_parts ps)
 
--- what stands in a kept calendar: a part that was accepted, as its message claimed it; or a part of one instance that wasn't accepted, which
+-- what is in a kept calendar: a part that was accepted, as its message claimed it; or a part of one instance that wasn't accepted, which
 -- hides that instance of the whole
 pub data Entry : Type 0 where
   Shown : Claim → Entry

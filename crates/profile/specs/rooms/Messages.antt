@@ -36,7 +36,7 @@ pub record Message : Type 0 where
   pub method : Method
   pub meeting : Meeting
 
--- METHOD stands once among the lines of a VCALENDAR, and names this one
+-- METHOD occurs exactly once among the lines of a VCALENDAR, and names this one
 abbrev pub NamesMethod : List (List ℕ) → Method → Type 0
 NamesMethod own method = NamesWord own (method_word method)
 
@@ -60,18 +60,18 @@ is_method word =
     is_same_name word (codes "REQUEST") || is_same_name word (codes "ADD") || is_same_name word (codes "CANCEL")
     || is_same_name word (codes "REPLY") || is_same_name word (codes "REFRESH")
 
--- the fault of this number stands in the VCALENDAR's lines
+-- the VCALENDAR's lines have the fault of this number
 pub data MethodFault (own : List (List ℕ)) : ℕ → Type 0 where
   two_methods : StandsTwice (codes "METHOD") own → MethodFault own 60
   bad_method : SomeLine (codes "METHOD") (λ line. is_method (line_value line) ≡ false) own → MethodFault own 60
 
--- the fault of this number stands in the lines of a VCALENDAR or of its VEVENTs
+-- the lines of a VCALENDAR or of its VEVENTs have the fault of this number
 pub data MessageFault (object : Tree) : ℕ → Type 0 where
   in_method : {n : ℕ} → MethodFault (tree_own object) n → MessageFault object n
   in_meeting : {n : ℕ} → (method : Method) → NamesMethod (tree_own object) method → MeetingFault object (Some method) n → MessageFault object n
   for_organiser : {n : ℕ} → OrganiserObjectFault object n → MessageFault object n
 
--- the octets are one VCALENDAR, within the limits of a message, and the fault of this number stands in it
+-- the octets are one VCALENDAR, within the limits of a message, and it has the fault of this number
 pub record MessageTextFault (octets : List ℕ) (n : ℕ) : Type 0 where
   pub tree : Tree
   pub object : IsObject tree_name tree_own tree_inside true tree (logical_lines octets)
@@ -102,12 +102,12 @@ pub record WritesTimes (name : List ℕ) (instants : List ℤ) (lines : List (Li
   pub each : AllZip WritesStamp texts ascending
   pub is : lines ≡ list_lines name texts
 
--- the instant lies where a start may
+-- the instant is where a start may be
 abbrev pub is_in_dates : ℤ → Bool
 is_in_dates instant = lt_z instant horizon && not (lt_z instant first_second)
 
 -- the text of UNTIL: a date, or a UTC time, also of a local time, by what that means on these clocks (RFC 5545 3.3.10). That a date may
--- stand beside a DTSTART that is a DATE-TIME is this profile's choice
+-- occur beside a DTSTART that is a DATE-TIME is this profile's choice
 abbrev pub WritesEnd : Zone → Until → List ℕ → Type 0
 WritesEnd clock (UntilDay number) text = SpellsDate text number
 WritesEnd clock (UntilLocal local) text = (instant : ℤ) × Means clock local instant × WritesStamp text (as_end instant)
@@ -120,7 +120,7 @@ WritesRule clock (Some rule) lines =
     (end : Option (List ℕ)) × BothOrNeither (WritesEnd clock) rule.until end × (lines ≡ (codes "RRULE:" ++ rule_text (text_in rule) end) ∷ [])
 
 -- what says when an event is, in its one form: the lines of its VEVENT, unfolded and without line ends, where a zone is named `Z`; and the octets
--- of the VTIMEZONE behind its TZID, where there is a zone
+-- of the VTIMEZONE after its TZID, where there is a zone
 pub record Content : Type 0 where
   pub lines : List (List ℕ)
   pub zone : Option (List ℕ)
@@ -129,15 +129,15 @@ pub record Content : Type 0 where
 abbrev pub no_content : Content
 no_content = record { lines = []; zone = None }
 
--- the octets of a zone's VTIMEZONE behind its TZID
+-- the octets of a zone's VTIMEZONE after its TZID
 abbrev pub IsZoneRest : Zone → List ℕ → Type 0
 IsZoneRest zone rest = (parts : List (List ℕ)) × WritesParts parts zone × (rest ≡ written (parts ++ codes "END:VTIMEZONE" ∷ []))
 
--- the VTIMEZONE with these behind its TZID, under a name that needs no escapes
+-- the VTIMEZONE with these after its TZID, under a name that needs no escapes
 abbrev pub zone_text : List ℕ → List ℕ → List ℕ
 zone_text name rest = written (codes "BEGIN:VTIMEZONE" ∷ (codes "TZID:" ++ name) ∷ []) ++ rest
 
--- the content of an event: DTSTART, DURATION, RRULE, RDATE and EXDATE, and its zone. Of what EXDATE names that counts which lies where a start may
+-- the content of an event: DTSTART, DURATION, RRULE, RDATE and EXDATE, and its zone. EXDATE counts only where a start may be
 pub record IsContent (content : Content) (event : Event) : Type 0 where
   pub start : List ℕ
   pub starts : StartsIn event.times.zone event.times start
@@ -191,7 +191,7 @@ is_part_for room Cancel event = is_for room Cancel event
 abbrev pub parts_for : List ℕ → Message → List Event
 parts_for room message = if is_addressed room message then filter (is_part_for room message.method) (events_of message.meeting) else []
 
--- the instance that an event stands for, else the whole meeting (RFC 5545 3.8.4.4)
+-- the instance that an event is for, else the whole meeting (RFC 5545 3.8.4.4)
 abbrev pub slot_named : Option ℤ → Slot
 slot_named None = Whole
 slot_named (Some instant) = At instant
@@ -199,7 +199,7 @@ slot_named (Some instant) = At instant
 abbrev pub slot_of : Event → Slot
 slot_of event = slot_named event.recurrence
 
--- SEQUENCE and DTSTAMP, which stands in each VEVENT of a message
+-- SEQUENCE and DTSTAMP, which is in each VEVENT of a message
 abbrev pub own_revision : Event → Revision
 own_revision event = record { sequence = event.sequence; stamp = unwrap_or event.stamp (pos 0) }
 
@@ -275,7 +275,7 @@ pub record IsKeyText (text : List ℕ) (key : Key) : Type 0 where
   pub written : WritesStamp slot key.slot
   pub is : text ≡ slot ++ codes " " ++ word key.organiser ++ codes " " ++ word key.uid
 
--- the lines that tell an outcome (RFC 5545 3.8.8.3, RFC 5546 3.6): a status, or for a limit a line of this profile's own. The seven
+-- the lines that report an outcome (RFC 5545 3.8.8.3, RFC 5546 3.6): a status, or for a limit a line of this profile's own. The seven
 -- words after the status 4.1 are this profile's own too
 abbrev pub TellsOutcome : Outcome → List (List ℕ) → Type 0
 TellsOutcome Accept lines = lines ≡ codes "REQUEST-STATUS:2.0;Success" ∷ []
@@ -291,7 +291,7 @@ partstat (Busy a b t) = codes "DECLINED"
 partstat SeriesLimit = codes "DECLINED"
 partstat SinglesLimit = codes "DECLINED"
 
--- RECURRENCE-ID, for one instance alone, in UTC
+-- RECURRENCE-ID, only for one instance, in UTC
 abbrev pub TellsSlot : Slot → List (List ℕ) → Type 0
 TellsSlot Whole lines = lines ≡ []
 TellsSlot (At t) lines = (text : List ℕ) × WritesStamp text t × (lines ≡ (codes "RECURRENCE-ID:" ++ text) ∷ [])
@@ -325,6 +325,6 @@ method_lines (Some method) = (codes "METHOD:" ++ method) ∷ []
 abbrev pub opening_lines : Option (List ℕ) → List (List ℕ)
 opening_lines method = codes "BEGIN:VCALENDAR" ∷ codes "VERSION:2.0" ∷ codes "PRODID:-//iTIP room box//EN" ∷ method_lines method
 
--- the lines of the object, round some components
+-- the lines of the object, around some components
 abbrev pub object_lines : Option (List ℕ) → List (List ℕ) → List (List ℕ)
 object_lines method components = opening_lines method ++ components ++ (codes "END:VCALENDAR" ∷ [])

@@ -105,7 +105,7 @@ stands_beside whole part =
     is_gt (revision_cmp part.revision whole.revision)
     || (is_eq (revision_cmp part.revision whole.revision) && not (is_cancelled whole))
 
--- a Whole of its meeting leaves the part in the view; a Whole stands by itself
+-- a Whole of its meeting leaves the part in the view; a Whole itself always stays
 abbrev pub allows : Part → Part → Bool
 allows whole part =
     is_whole part || implies (is_whole whole && same_meeting whole part) (stands_beside whole part)

@@ -66,7 +66,7 @@ pub record Recurring : Type 0 where
 abbrev pub recurring_in : Answer → List Recurring
 recurring_in answer = option_to_list (option_map (λ meeting. record { part = answer.claim.part; meeting = meeting }) answer.claim.series)
 
--- the confirmed series. One of which other parts hide each instance is one too
+-- the confirmed series. A series of which other parts hide every instance is one too
 abbrev pub series_confirmed : List Part → List Answer → List Recurring
 series_confirmed taken answers = flat_map recurring_in (filter (is_confirmed taken) answers)
 
@@ -158,13 +158,13 @@ Decides book (Busy first second t) = IsWithinLimits book × NamesClash (Confirms
 abbrev pub answered : ℤ → Outcome → List Claim → List Answer
 answered moment outcome claims = map (λ c. record { claim = c; moment = moment; outcome = outcome }) claims
 
--- the book that there would be after these parts, were each that is asked accepted
+-- the book as it would be after these parts, if each that is asked were accepted
 abbrev pub if_accepted : Book → List Claim → ℤ → List Part → Book
 if_accepted before claims moment taken =
     record { taken = taken; answers = before.answers ++ answered moment Accept (asked before.taken taken claims) }
 
 -- A message with these parts is taken at a moment: its parts are taken, the old answers stay, and each part that is asked
--- gets the one outcome, which the book decides that there would be, were each accepted
+-- gets the one outcome, decided by the book as it would be if each were accepted
 pub record IsStep (before : Book) (claims : List Claim) (moment : ℤ) (outcome : Outcome) (after : Book) : Type 0 where
   pub taken : after.taken ≡ before.taken ++ parts_of claims
   pub answers : after.answers ≡ before.answers ++ answered moment outcome (asked before.taken after.taken claims)

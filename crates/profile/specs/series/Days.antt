@@ -10,7 +10,7 @@ is_leap_year year = (year % 4 == 0) && (not (year % 100 == 0) || (year % 400 == 
 abbrev pub days_in_year : ℕ → ℕ
 days_in_year year = if is_leap_year year then 366 else 365
 
--- thirty days have April, June, September and November
+-- April, June, September and November have thirty days
 abbrev pub days_in_month : ℕ → ℕ → ℕ
 days_in_month year month =
     if month == 2 then (if is_leap_year year then 29 else 28)

@@ -111,7 +111,7 @@ SpellsEntries = SpellsList SpellsEntry
 abbrev pub SpellsPositions : List ℕ → List ℤ → Type 0
 SpellsPositions = SpellsList (SpellsPlace 366)
 
--- a value that spells nothing: it is no value of its part, is out of its range, or is a list that is too long
+-- a value that spells nothing: it isn't a value of its part, is out of its range, or is a list that is too long
 abbrev pub SpellsNone : {A : Type 0} → (List ℕ → A → Type 0) → List ℕ → Type 0
 SpellsNone {A} IsValue value = (x : A) → IsValue value x → ⊥
 
@@ -144,11 +144,11 @@ abbrev pub IsGiven : {A : Type 0} → (List ℕ → A → Type 0) → List ℕ �
 IsGiven IsValue value None = ⊥
 IsGiven IsValue value (Some x) = IsValue value x
 
--- FREQ stands once and says this
+-- FREQ occurs exactly once and says this
 abbrev pub SaysFrequency : List (List ℕ) → Frequency → Type 0
 SaysFrequency values frequency = values ≡ frequency_word frequency ∷ []
 
--- FREQ stands once, each other part once or not at all, and they say this
+-- FREQ occurs exactly once, each other part once or not at all, and they say this
 pub record SaysParts (text : List ℕ) (rule : RuleText) : Type 0 where
   pub frequency : SaysFrequency (values_of (codes "FREQ=") text) rule.frequency
   pub interval : SaysOr SpellsInterval 1 (values_of (codes "INTERVAL=") text) rule.interval
@@ -170,9 +170,9 @@ pub record SpellsRule (text : List ℕ) (rule : RuleText) : Type 0 where
 -- WHAT CAN BE WRONG WITH IT, BY THE NUMBER OF ITS REFUSAL
 
 pub data RuleFault (text : List ℕ) : ℕ → Type 0 where
-  -- a part is unknown, or empty, or its frequency is left out here
+  -- a part is unknown, or empty, or its frequency isn't supported
   unknown : (part : List ℕ) → Contains (rule_parts text) part → (IsKnownPart part → ⊥) → RuleFault text 30
-  -- a value spells nothing, also where its part stands twice
+  -- a value spells nothing, also where its part occurs twice
   bad_value : (key : RuleKey) (value : List ℕ) → Contains (values_of (key_word key) text) value → IsBadValue key value → RuleFault text 31
   -- no FREQ, or two
   no_frequency : values_of (codes "FREQ=") text ≡ [] → RuleFault text 32
@@ -184,7 +184,7 @@ pub data RuleFault (text : List ℕ) : ℕ → Type 0 where
   -- both COUNT and UNTIL
   two_ends : (rule : RuleText) → SaysParts text rule → has_one_end rule ≡ false → RuleFault text 33
 
--- the least number of all faults that stand in the text
+-- the least number of all faults that the text has
 pub record IsLeastRuleFault (text : List ℕ) (number : ℕ) : Type 0 where
   pub stands : RuleFault text number
   pub least : (other : ℕ) → RuleFault text other → number ≤ other
@@ -227,7 +227,7 @@ abbrev pub count_text : Option ℕ → List ℕ
 count_text None = []
 count_text (Some count) = codes ";COUNT=" ++ decimal count
 
--- UNTIL where it is written, as the text that is handed in
+-- UNTIL where it is written, as the text that is given
 abbrev pub until_text : Option Until → Option (List ℕ) → List ℕ
 until_text None until = []
 until_text (Some _) None = []
@@ -244,7 +244,7 @@ rule_text rule until =
     ++ listed (codes ";BYSETPOS=") (map signed_decimal (numbers_from 0 rule.positions))
     ++ (if rule.week_start == 0 then [] else codes ";WKST=" ++ weekday_word rule.week_start)
 
--- the rule that is written: its lists in order, each entry once, and the end that was handed in
+-- the rule that is written: its lists in order, each entry once, and the end that was given
 abbrev pub as_written : RuleText → Option Until → RuleText
 as_written rule end = record {
   frequency = rule.frequency;
@@ -258,7 +258,7 @@ as_written rule end = record {
   until = end;
 }
 
--- the text that is handed in for UNTIL spells this end; where the rule has no UNTIL, or nothing is handed in, none is written
+-- the text that is given for UNTIL spells this end; where the rule has no UNTIL, or nothing is given, none is written
 abbrev pub HandsIn : Option Until → Option (List ℕ) → Option Until → Type 0
 HandsIn None text end = end ≡ None
 HandsIn (Some _) None end = end ≡ None

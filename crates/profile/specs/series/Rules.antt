@@ -1,5 +1,5 @@
 -- Recurrence rules: which days a rule means (RFC 5545 3.3.10 and 3.8.5.3).
--- A day goes by its index, the days from 0000-01-01 to it.
+-- A day is given by its index, the days from 0000-01-01 to it.
 use Rattle.std.specs.Prelude.{◌≡◌, ℕ, zero, suc, ◌+◌, ◌-◌, ◌/◌, ◌%◌, ◌<◌, ◌≤◌, Bool, true, false, not, ◌&&◌, ◌||◌, ◌==◌, nat_lt, nat_le, if◌then◌else◌, IsTrue, Option, Some, None, is_none, List, [], ◌∷◌, length, filter, ℤ, pos, negsuc}
 use Rattle.std.specs.List.{list_any, list_all, range_with_len}
 use Rattle.profile.specs.faults.Faults.{is_between}
@@ -185,7 +185,7 @@ IsAllowed t = IsTrue (is_in_range t) × IsTrue (go_together t) × IsTrue (has_on
 
 -- BASE DAYS
 
--- a day with so many before it and so many after it is the nth, or where n is negative the nth from the end
+-- a day with this many before it and this many after it is the nth, or where n is negative the nth from the end
 abbrev pub is_nth : ℤ → ℕ → ℕ → Bool
 is_nth (pos n) before after = n == suc before
 is_nth (negsuc n) before after = n == after
@@ -205,7 +205,7 @@ same_weekdays_before in_year n = (if in_year then year_days_before n else month_
 abbrev pub same_weekdays_after : Bool → ℕ → ℕ
 same_weekdays_after in_year n = (if in_year then year_days_after n else month_days_after n) / 7
 
--- an entry of BYDAY names a day of that weekday with so many of them before it and so many after it
+-- an entry of BYDAY names a day of that weekday with this many of them before it and this many after it
 abbrev pub names_weekday : ℕ → ℕ → ℕ → WeekdayNumber → Bool
 names_weekday weekday before after entry =
     (entry.weekday == weekday) && (is_plain entry.number || is_nth entry.number before after)
@@ -226,23 +226,23 @@ passes_weekday p n =
 unfoldable pub passes : Pattern → ℕ → Bool
 passes p n = passes_month p n && passes_month_day p n && passes_weekday p n
 
--- its period and that of DTSTART lie a multiple of INTERVAL apart
+-- its period and that of DTSTART are a multiple of INTERVAL apart
 unfoldable pub is_in_step : Pattern → ℕ → Bool
 is_in_step p n =
     period_of p.frequency p.week_start n % p.interval == period_of p.frequency p.week_start p.start % p.interval
 
--- a base day: a condition on the one day, which may also lie before DTSTART
+-- a base day: a condition on the one day, which may also be before DTSTART
 unfoldable pub is_base : Pattern → ℕ → Bool
 is_base p n = is_in_step p n && passes p n
 
 -- SET POSITIONS
 
--- how many of so many days, from that one on, pass the test
+-- how many of this number of days, from that one on, pass the test
 unfoldable pub count_days : (ℕ → Bool) → ℕ → ℕ → ℕ
 count_days test from zero = 0
 count_days test from (suc days) = count_days test from days + (if test (from + days) then 1 else 0)
 
--- how far two days of one period can lie apart
+-- how far two days of one period can be apart
 abbrev pub reach : Frequency → ℕ
 reach Daily = 0
 reach Weekly = 6
@@ -275,7 +275,7 @@ is_placed p n = allows (λ k. is_nth k (mates_before p n) (mates_after p n)) p.p
 abbrev pub last_rule_day : ℕ
 last_rule_day = 3_652_424
 
--- a day from DTSTART to the last one of UNTIL and to 9999-12-31 that the pattern has: a rule day but for COUNT
+-- a day from DTSTART to the last one of UNTIL and to 9999-12-31 that the pattern has: a rule day apart from COUNT
 unfoldable pub is_counted : Parts → ℕ → Bool
 is_counted r n =
     nat_le r.pattern.start n && nat_le n r.last && nat_le n last_rule_day && is_base r.pattern n && is_placed r.pattern n

@@ -30,7 +30,7 @@ is_part name = is_standard name || is_daylight name
 
 -- ---- what a part says of its times
 
--- the value of the line is this local time: VALUE is DATE-TIME or doesn't stand, and TZID doesn't (RFC 5545 3.3.5, form 1)
+-- the value of the line is this local time: VALUE is DATE-TIME or absent, and TZID is absent (RFC 5545 3.3.5, form 1)
 abbrev pub IsLocalLine : List ℕ → ℤ → Type 0
 IsLocalLine line local = (is_date_time line ≡ true) × (line_param (codes "TZID") line ≡ None) × SpellsLocal (line_value line) local
 
@@ -97,7 +97,7 @@ year_pattern r start = record {
 
 -- Lists are compared as sets from here on: order doesn't matter, nor do repeats.
 
--- there are entries, and each is so
+-- there are entries, and it holds for each
 abbrev pub are_only : {A : Type 0} → (A → Bool) → List A → Bool
 are_only test xs = not (is_missing xs) && list_all test xs
 
@@ -121,7 +121,7 @@ names_days (FromStart number weekday) numbers entries = is_missing numbers && ar
 names_days (FromEnd number weekday) numbers entries = is_missing numbers && are_only (is_weekday (neg_ℤ (pos number)) weekday) entries
 names_days (InWeek first weekday) numbers entries = are_seven first numbers && are_only (is_weekday (pos 0) weekday) entries
 
--- FREQ=YEARLY without INTERVAL, COUNT, UNTIL and BYSETPOS; WKST may stand
+-- FREQ=YEARLY without INTERVAL, COUNT, UNTIL and BYSETPOS; WKST is allowed
 abbrev pub is_plain_yearly : RuleText → Bool
 is_plain_yearly rule =
     is_yearly rule.frequency && (rule.interval == 1) && is_none rule.count && is_none rule.until && is_missing rule.positions
@@ -154,7 +154,7 @@ pub record SaysYearly (lines : List (List ℕ)) (o : Observance) : Type 0 where
   pub rule : Says (codes "RRULE") true IsYearLine lines (Some each)
   pub is : o.rule ≡ Some (year_pattern each o.day)
 
--- one that changes nothing: both its offsets are this one. RRULE isn't looked at
+-- one that changes nothing: both its offsets are this one. RRULE is ignored
 abbrev pub Keeps : ℤ → List (List ℕ) → Type 0
 Keeps offset lines = (o : Observance) × SaysTimes lines o × (o.offset_from ≡ offset) × (o.offset_to ≡ offset)
 
@@ -186,7 +186,7 @@ pub data HasForm (parts standards daylights : List (List (List ℕ))) : Zone →
   pair : (standard daylight : List (List ℕ)) (a b : Observance) → OffsetsDiffer parts → standards ≡ standard ∷ [] → daylights ≡ daylight ∷ []
       → SaysYearly standard a → SaysYearly daylight b → HasForm parts standards daylights (Pair a b)
 
--- each TZOFFSETFROM is the other part's TZOFFSETTO, and the two lie at most 12 hours apart, which is this profile's choice
+-- each TZOFFSETFROM is the other part's TZOFFSETTO, and the two are at most 12 hours apart, which is this profile's choice
 abbrev pub AreMatched : Zone → Type 0
 AreMatched (Constant _) = Unit {0}
 AreMatched (Single a) = unsigned_abs (a.offset_from -ℤ a.offset_to) ≤ 43_200
@@ -201,13 +201,13 @@ pub record IsRuleOnset (o : Observance) (instant : ℤ) : Type 0 where
   pub on : is_base parts day ≡ true
   pub read : instant +ℤ o.offset_from ≡ local_time day o.second
 
--- an onset of the one rule and one of the other lie always at least two days apart, this profile's choice
+-- an onset of the one rule and one of the other are always at least two days apart, this profile's choice
 abbrev pub AreSpaced : Zone → Type 0
 AreSpaced (Constant _) = Unit {0}
 AreSpaced (Single _) = Unit {0}
 AreSpaced (Pair a b) = (x y : ℤ) → IsRuleOnset a x → IsRuleOnset b y → 172_800 ≤ unsigned_abs (x -ℤ y)
 
--- two of them lie closer
+-- two of them are closer
 abbrev pub AreClose : Zone → Type 0
 AreClose (Constant _) = ⊥
 AreClose (Single _) = ⊥
@@ -219,13 +219,13 @@ pub record PartsSay (parts standards daylights : List (List (List ℕ))) (zone :
   pub matched : AreMatched zone
   pub spaced : AreSpaced zone
 
--- a rule is missing, the offsets don't match, or two onsets of the rules lie too close
+-- a rule is missing, the offsets don't match, or two onsets of the rules are too close
 abbrev pub IsPairFault : ℕ → Observance → Observance → Type 0
 IsPairFault number a b =
     ((number ≡ 40) × ((a.rule ≡ None) ⊎ (b.rule ≡ None))) ⊎ ((number ≡ 41) × (AreMatched (Pair a b) → ⊥))
     ⊎ ((number ≡ 42) × AreClose (Pair a b))
 
--- one observance has a rule, or its offsets lie more than 12 hours apart
+-- one observance has a rule, or its offsets are more than 12 hours apart
 abbrev pub IsSingleFault : ℕ → Observance → Type 0
 IsSingleFault number a =
     ((number ≡ 40) × (a.rule ≡ None → ⊥)) ⊎ ((number ≡ 41) × (43_200 < unsigned_abs (a.offset_from -ℤ a.offset_to)))
@@ -236,18 +236,18 @@ SaysZone t zone = PartsSay (parts_by is_part t) (parts_by is_standard t) (parts_
 
 -- ---- what can be wrong with a VTIMEZONE, by the number of its refusal
 
--- a local time would end otherwise, or have no zone
+-- the value ends in `Z`, or the line has TZID; a local time without a zone has neither
 abbrev pub IsFixedLine : List ℕ → Type 0
 IsFixedLine line = (ends_in_z (line_value line) ≡ true) ⊎ (line_param (codes "TZID") line ≡ None → ⊥)
 
--- VALUE says something else, or the value is no local time
+-- VALUE says something else, or the value isn't a local time
 abbrev pub IsNoLocalLine : List ℕ → Type 0
 IsNoLocalLine line = (is_date_time line ≡ false) ⊎ ((local : ℤ) → SpellsLocal (line_value line) local → ⊥)
 
 abbrev pub IsNoOffsetLine : List ℕ → Type 0
 IsNoOffsetLine line = (offset : ℤ) → SpellsOffset (line_value line) offset → ⊥
 
--- the properties that stand once in a part
+-- the properties that occur exactly once in a part
 abbrev pub time_names : List (List ℕ)
 time_names = codes "DTSTART" ∷ codes "TZOFFSETFROM" ∷ codes "TZOFFSETTO" ∷ []
 
@@ -278,15 +278,15 @@ pub data PartsFault (parts standards daylights : List (List (List ℕ))) : ℕ �
   -- offsets differ, and the one part has a rule
   ruled : (part : List (List ℕ)) → OffsetsDiffer parts → parts ≡ part ∷ [] → (IsMissing (codes "RRULE") part → ⊥)
       → PartsFault parts standards daylights 40
-  -- offsets differ, and neither one part stands nor one of each name
+  -- offsets differ, and there is neither a single part nor one of each name
   other_parts : OffsetsDiffer parts → (length parts ≡ 1 → ⊥) → ((length standards ≡ 1) × (length daylights ≡ 1) → ⊥)
       → PartsFault parts standards daylights 40
-  -- offsets differ, and one of each name stands, of which one has no rule of one day a year
+  -- offsets differ, and there is one of each name, of which one has no rule of one day a year
   unruled : (standard daylight : List (List ℕ)) → OffsetsDiffer parts → standards ≡ standard ∷ [] → daylights ≡ daylight ∷ []
       → HasNoYearRule standard ⊎ HasNoYearRule daylight → PartsFault parts standards daylights 40
   unmatched : (zone : Zone) → HasForm parts standards daylights zone → (AreMatched zone → ⊥) → PartsFault parts standards daylights 41
   close : (zone : Zone) → HasForm parts standards daylights zone → AreClose zone → PartsFault parts standards daylights 42
 
--- the fault of this number stands in the VTIMEZONE
+-- the VTIMEZONE has the fault of this number
 abbrev pub ZoneFault : Tree → ℕ → Type 0
 ZoneFault t number = PartsFault (parts_by is_part t) (parts_by is_standard t) (parts_by is_daylight t) number

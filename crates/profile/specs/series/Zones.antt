@@ -28,7 +28,7 @@ pub data Zone : Type 0 where
 abbrev pub local_time : ℕ → ℕ → ℤ
 local_time day second = pos (86_400 * day + second) -ℤ pos 62_167_219_200
 
--- the observance begins on this day: on DTSTART's alone where it has no rule, else on each that the rule's parts give, in every year, but none
+-- the observance begins on this day: only on DTSTART's where it has no rule, else on each that the rule's parts give, in every year, but none
 -- before DTSTART. A DTSTART that its rule doesn't give sets the time of day and the first possible date; this profile's choice
 abbrev pub begins_on : Observance → ℕ → Bool
 begins_on o day =
@@ -86,7 +86,7 @@ pub record IsLatest (Is : Onset → Type 0) (instant : ℤ) (onset : Onset) : Ty
   pub begun : onset.instant ≤ℤ instant
   pub latest : (other : Onset) → Is other → other.instant ≤ℤ instant → other.instant ≤ℤ onset.instant
 
--- the least onset of all, where the instant lies before it
+-- the least onset of all, where the instant is before it
 pub record IsFirstAfter (Is : Onset → Type 0) (instant : ℤ) (onset : Onset) : Type 0 where
   pub listed : Is onset
   pub ahead : instant <ℤ onset.instant
@@ -143,7 +143,7 @@ Means zone local instant = IsShownFirst zone local instant ⊎ IsSkipped zone lo
 abbrev pub IsOneMeaning : Zone → Type 0
 IsOneMeaning z = (local t u : ℤ) → Means z local t → Means z local u → t ≡ u
 
--- what local times mean lies in this range
+-- what local times mean is in this range
 abbrev pub IsNearEpoch : ℤ → Type 0
 IsNearEpoch t = (negsuc 100_000_000_000 ≤ℤ t) × (t ≤ℤ pos 1_000_000_000_000)
 

@@ -105,13 +105,13 @@ pub record IsConfiguration (closed : Bool) (octets : List ℕ) (hosts : Hosts) :
 
 -- ---- the objects of a stream
 
--- the stream begins with these objects, in order, and this rest follows them: each object is what stands before the rest after it
+-- the stream begins with these objects, in order, and this rest follows them: each object is what comes before the rest after it
 abbrev pub BeginsWith : List ℕ → List (List ℕ) → List ℕ → Type 0
 BeginsWith stream [] rest = rest ≡ stream
 BeginsWith stream (object ∷ objects) rest =
     (is_begun stream ≡ true) × (stream ≡ object ++ after_object stream) × BeginsWith (after_object stream) objects rest
 
--- the objects of a stream, in order; a rest of empty lines is none
+-- the objects of a stream, in order; a rest of empty lines isn't one
 abbrev pub AreObjects : List ℕ → List (List ℕ) → Type 0
 AreObjects stream objects = (rest : List ℕ) × BeginsWith stream objects rest × (is_begun rest ≡ false)
 
@@ -127,14 +127,14 @@ pub record IsStream (stream : List ℕ) (moment : ℤ) (hosts : Hosts) (objects 
 
 -- ---- what can be wrong with an object, by the number of its refusal
 
--- the fault of this number, 24 or 25, stands in the tree that the lines spell
+-- the tree that the lines spell has the fault of this number, 24 or 25
 abbrev pub TreeFault : ℕ → List (List ℕ) → Type 0
 TreeFault n lines =
     (t : Tree) × SpellsTree tree_name tree_own tree_inside 7 t lines
     × (((n ≡ 24) × (has_version (tree_own t) ≡ false))
     ⊎ ((n ≡ 25) × (most_events < count_inside tree_name tree_own tree_inside (codes "VEVENT") t)))
 
--- the fault of this number stands in the octets: in a line, in how the lines pair up, in the tree, or in the message
+-- the octets have the fault of this number: in a line, in how the lines pair up, in the tree, or in the message
 abbrev pub ObjectFault : ℕ → List ℕ → Type 0
 ObjectFault n octets =
     IsTrue (text_has true n octets)
@@ -144,7 +144,7 @@ ObjectFault n octets =
 
 -- ---- the answers
 
--- what is asked for where an event is to take place: all its instances, whichever of them other events stand for: those that its RRULE gives,
+-- what is asked for where an event is to take place: all its instances, whichever of them other events are for: those that its RRULE gives,
 -- if it has one, and all others; else nothing
 abbrev pub AsksFor : Bool → Event → Claim → Type 0
 AsksFor true event claim = AreApart event claim.singles × AreOfRule event claim.series
@@ -173,7 +173,7 @@ pub record Hosted : Type 0 where
   pub address : List ℕ
   pub book : Book
 
--- a room takes the message, and answers these octets: its reply, and a refresh behind it
+-- a room takes the message, and answers these octets: its reply, and a refresh after it
 pub record Takes (moment : ℤ) (message : Message) (before after : Hosted) (octets : List ℕ) : Type 0 where
   pub same : after.address ≡ before.address
   pub claims : List Claim
@@ -186,7 +186,7 @@ pub record Takes (moment : ℤ) (message : Message) (before after : Hosted) (oct
   pub refreshes : Refreshes before.address (is_add message.method) before.book.taken after.book.taken claims moment refresh
   pub is : octets ≡ flat_map (λ x. x) (option_to_list reply ++ option_to_list refresh)
 
--- all rooms take it, one after another; their answers stand in the same order
+-- all rooms take it, one after another; their answers are in the same order
 abbrev pub AllTake : ℤ → Message → List Hosted → List Hosted → List ℕ → Type 0
 AllTake moment message [] [] octets = octets ≡ []
 AllTake moment message (before ∷ befores) (after ∷ afters) octets =
@@ -206,7 +206,7 @@ ServesOperation Reply moment said before after octets = (after ≡ after_reply s
 ServesOperation Refresh moment said before after octets =
     (stored : Stored) × (last_store said.uid before ≡ Some stored) × (after ≡ before) × (octets ≡ stored.object)
 
--- an organiser takes what comes to it, in which no fault stands beside what it keeps
+-- an organiser takes what comes to it, which has no fault beside what it keeps
 pub record TakesObject (moment : ℤ) (said : OrganiserObject) (before after : OrganiserBook) (octets : List ℕ) : Type 0 where
   pub allowed : (n : ℕ) → StateFault said before n → ⊥
   pub serves : ServesOperation said.operation moment said before after octets
@@ -264,14 +264,14 @@ IsRefusedWith box n octets =
 abbrev pub refused_line : ℕ → ℕ → List ℕ
 refused_line k n = codes "REFUSED;OBJECT=" ++ decimal k ++ codes ":" ++ decimal n ++ codes "\r\n"
 
--- the octets answer object k: with what a step of the box answers to it, or with the line for a refusal, which changes nothing; so many
--- refusals it is
+-- the octets answer object k: with what a step of the box answers to it, or with the line for a refusal, which changes nothing; and how
+-- many refusals that is
 abbrev pub Answers : ℤ → ℕ → List ℕ → Box → Box → List ℕ → ℕ → Type 0
 Answers moment k object before after octets refused =
     ((said : Said) × Spells object said × Steps moment said before after octets × (refused ≡ 0))
     ⊎ ((n : ℕ) × IsRefusedWith before n object × (after ≡ before) × (octets ≡ refused_line k n) × (refused ≡ 1))
 
--- step by step the answers to objects from number k on, one behind another, and how many objects are refused
+-- step by step the answers to objects from number k on, one after another, and how many objects are refused
 abbrev pub AllAnswers : ℤ → ℕ → List (List ℕ) → Box → Box → List ℕ → ℕ → Type 0
 AllAnswers moment k [] before after octets refused = (after ≡ before) × (octets ≡ []) × (refused ≡ 0)
 AllAnswers moment k (object ∷ objects) before after octets refused =

@@ -15,7 +15,7 @@ without_mark octets = if bytes_eq (take 3 octets) (0xEF ∷ 0xBB ∷ 0xBF ∷ []
 abbrev pub without_return : List ℕ → List ℕ
 without_return line = if slice_index line (length line - 1) == 13 then take (length line - 1) line else line
 
--- the physical lines: what stands between LFs; that an LF without CR ends one, and the end of the input, is this profile's choice
+-- the physical lines: what is between LFs; that an LF without CR ends one, and the end of the input, is this profile's choice
 abbrev pub physical_lines : List ℕ → List (List ℕ)
 physical_lines octets = map without_return (slice_split (λ x. x == 10) octets)
 
@@ -37,7 +37,7 @@ unfolded (line ∷ rest) = gather line rest
 abbrev pub is_filled : List ℕ → Bool
 is_filled line = nat_lt 0 (length line)
 
--- the logical lines of some octets; empty ones are no lines, which is this profile's choice
+-- the logical lines of some octets; empty ones aren't lines, which is this profile's choice
 abbrev pub logical_lines : List ℕ → List (List ℕ)
 logical_lines octets = filter is_filled (unfolded (physical_lines (without_mark octets)))
 
@@ -47,7 +47,7 @@ ended lines = flat_map (λ line. line ++ 10 ∷ []) lines
 
 -- ---- what a line is made of: name *(";" param) ":" value
 
--- how many octets stand before the first `stop` outside quotes; a quote opens, the next one closes
+-- how many octets come before the first `stop` outside quotes; a quote opens, the next one closes
 abbrev pub outside_from : ℕ → Bool → List ℕ → ℕ
 outside_from stop quoted [] = 0
 outside_from stop quoted (c ∷ cs) =
@@ -57,7 +57,7 @@ outside_from stop quoted (c ∷ cs) =
 abbrev pub outside : ℕ → List ℕ → ℕ
 outside stop text = outside_from stop false text
 
--- what stands before the first `stop` outside quotes, and what stands after it
+-- what comes before the first `stop` outside quotes, and what comes after it
 abbrev pub front : ℕ → List ℕ → List ℕ
 front stop text = take (outside stop text) text
 
@@ -78,7 +78,7 @@ pieces_from stop quoted (c ∷ cs) =
 abbrev pub pieces : ℕ → List ℕ → List (List ℕ)
 pieces stop text = pieces_from stop false text
 
--- the head of a line is what stands before its colon
+-- the head of a line is what comes before its colon
 abbrev pub line_head : List ℕ → List ℕ
 line_head line = front 58 line
 
@@ -110,7 +110,7 @@ abbrev pub is_quoted : List ℕ → Bool
 is_quoted text =
     nat_le 2 (length text) && (is_quote (slice_index text 0) && is_quote (slice_index text (length text - 1)))
 
--- a value of a parameter without the quotes that stand round it
+-- a value of a parameter without the quotes that are around it
 abbrev pub unquoted : List ℕ → List ℕ
 unquoted text = if is_quoted text then take (length text - 2) (drop 1 text) else text
 
@@ -139,7 +139,7 @@ is_item text = not (list_any is_quote (unquoted text))
 abbrev pub is_control : ℕ → Bool
 is_control c = (nat_lt c 32 && not (c == 9)) || c == 127
 
--- 1: no colon outside quotes. Where a quote stays open and a colon stands in the line, it is 2 or 3 instead
+-- 1: no colon outside quotes. Where a quote stays open and a colon is in the line, it is 2 or 3 instead
 abbrev pub lacks_colon : List ℕ → Bool
 lacks_colon line =
     not (has_stop 58 line) && (not (count_by is_quote line % 2 == 1) || not (list_any (λ c. c == 58) line))
@@ -147,7 +147,7 @@ lacks_colon line =
 abbrev pub lacks_name : List ℕ → Bool
 lacks_name param = not (has_stop 61 param && is_name (param_name param))
 
--- 2: the name of the line or of a parameter is no name, or a parameter has no `=`
+-- 2: the name of the line or of a parameter isn't a name, or a parameter has no `=`
 abbrev pub has_bad_name : List ℕ → Bool
 has_bad_name line = not (is_name (line_name line)) || list_any lacks_name (line_params line)
 
@@ -158,20 +158,20 @@ is_badly_quoted param = list_any (λ item. not (is_item item)) (pieces 44 (param
 abbrev pub has_bad_quote : List ℕ → Bool
 has_bad_quote line = list_any is_badly_quoted (line_params line)
 
--- 4: a control octet stands in the line
+-- 4: a control octet is in the line
 abbrev pub has_control : List ℕ → Bool
 has_control line = list_any is_control line
 
--- the fault of this number, 1 to 4, stands in the line
+-- the line has the fault of this number, 1 to 4
 abbrev pub line_has : ℕ → List ℕ → Bool
 line_has number line =
     (number == 1 && lacks_colon line) || (number == 2 && has_bad_name line) || (number == 3 && has_bad_quote line) || (number == 4 && has_control line)
 
--- a fault of 1 to 4 stands in the line
+-- the line has a fault of 1 to 4
 abbrev pub is_faulty : List ℕ → Bool
 is_faulty line = lacks_colon line || has_bad_name line || has_bad_quote line || has_control line
 
--- a content line: none of those faults stands in it, and it is UTF-8
+-- a content line: it has none of those faults, and it is UTF-8
 abbrev pub is_content : List ℕ → Bool
 is_content line = not (is_faulty line) && is_utf8 line
 
@@ -186,19 +186,19 @@ most_lines = 65_536
 abbrev pub is_too_long : List ℕ → Bool
 is_too_long octets = nat_lt most_octets (length octets) || nat_lt most_lines (length (logical_lines octets))
 
--- the fault of this number, 1 to 6, stands in the octets; with `bounded` they are a message
+-- the octets have the fault of this number, 1 to 6; with `bounded` they are a message
 abbrev pub text_has : Bool → ℕ → List ℕ → Bool
 text_has bounded number octets =
     list_any (line_has number) (logical_lines octets) || (number == 5 && not (is_utf8 (ended (logical_lines octets)))) || (number == 6 && (bounded && is_too_long octets))
 
--- none of the faults 1 to 6 stands in the octets
+-- the octets have none of the faults 1 to 6
 abbrev pub reads_as_lines : Bool → List ℕ → Bool
 reads_as_lines bounded octets =
     not (list_any is_faulty (logical_lines octets)) && is_utf8 (ended (logical_lines octets)) && not (bounded && is_too_long octets)
 
 -- ---- folding: no physical line has more than 75 octets, and no character is split
 
--- the octets that stand before a character at this column: a line break and one space where it would pass octet 75
+-- the octets that come before a character at this column: a line break and one space where it would pass octet 75
 abbrev pub fold_break : ℕ → ℕ → List ℕ
 fold_break column c = if nat_lt 75 (column + length (encode_utf8 c)) then 13 ∷ 10 ∷ 32 ∷ [] else []
 
@@ -220,7 +220,7 @@ column_after column (c ∷ cs) = column_after (next_column column c) cs
 abbrev pub folded : List ℕ → List ℕ
 folded text = fold_from 0 (chars text) ++ 13 ∷ 10 ∷ []
 
--- lines as they are written: each folded and ended by CRLF, one behind another
+-- lines as they are written: each folded and ended by CRLF, one after another
 abbrev pub written : List (List ℕ) → List ℕ
 written lines = flat_map folded lines
 

@@ -32,7 +32,7 @@ abbrev pub is_version_only : List (List ℕ) → Bool
 is_version_only (line ∷ []) = bytes_eq (line_value line) (codes "2.0")
 is_version_only _ = false
 
--- VERSION stands once, and is `2.0`
+-- VERSION occurs exactly once, and is `2.0`
 abbrev pub has_version : List (List ℕ) → Bool
 has_version lines = is_version_only (filter is_version lines)
 
@@ -84,17 +84,17 @@ misplaced_end number stack name = number == 20 && not (closes_innermost stack na
 abbrev pub misplaced_property : ℕ → List (List ℕ) → Bool
 misplaced_property number stack = number == 23 && is_none stack
 
--- the fault of this number, 20, 22 or 23, stands at this line, where these components are open; `started` where lines stand before it
+-- this line has the fault of this number, 20, 22 or 23, where these components are open; `started` where lines come before it
 abbrev pub misplaced : ℕ → List (List ℕ) → Bool → List ℕ → Bool
 misplaced number stack started line =
     if is_begin line then misplaced_begin number stack started (line_value line)
     else (if is_end line then misplaced_end number stack (line_value line) else misplaced_property number stack)
 
--- none of these faults stands at this line
+-- this line has none of these faults
 abbrev pub fits : List (List ℕ) → Bool → List ℕ → Bool
 fits stack started line = not (misplaced 20 stack started line || misplaced 22 stack started line || misplaced 23 stack started line)
 
--- the fault of this number stands at the first line that doesn't fit
+-- the first line that doesn't fit has the fault of this number
 abbrev pub some_misplaced : ℕ → List (List ℕ) → Bool → List (List ℕ) → Bool
 some_misplaced number stack started [] = false
 some_misplaced number stack started (line ∷ lines) =
@@ -104,7 +104,7 @@ abbrev pub all_fit : List (List ℕ) → Bool → List (List ℕ) → Bool
 all_fit stack started [] = true
 all_fit stack started (line ∷ lines) = fits stack started line && all_fit (now_open stack line) true lines
 
--- the fault of this number, 20 to 23, stands in the lines: at the first that doesn't fit; or all fit and a component is open at
+-- the lines have the fault of this number, 20 to 23: at the first that doesn't fit; or all fit and a component is open at
 -- the end (21); or there is no line (23)
 abbrev pub lines_have : ℕ → List (List ℕ) → Bool
 lines_have number lines =
@@ -127,7 +127,7 @@ module _ {T : Type 0} (name : T → List ℕ) (own : T → List (List ℕ)) (ins
     pub closes : Closes end (name whole)
     pub holds : SpellsBody depth (own whole) (inside whole) body
 
-  -- how many components of this name stand directly inside
+  -- how many components of this name are directly inside
   abbrev pub count_inside : List ℕ → T → ℕ
   count_inside kind whole = count_by (λ part. is_same_name (name part) kind) (inside whole)
 
@@ -161,7 +161,7 @@ octets_after begun (part ∷ rest) = join_with_byte 10 (parts_after (begun ++ wi
 abbrev pub after_object : List ℕ → List ℕ
 after_object octets = octets_after [] (slice_split (λ x. x == 10) (without_mark octets))
 
--- more than empty lines stand there; a byte order mark is more
+-- there is more than empty lines; a byte order mark is more
 abbrev pub is_begun : List ℕ → Bool
 is_begun octets =
     bytes_eq (take 3 octets) (0xEF ∷ 0xBB ∷ 0xBF ∷ []) || list_any is_filled (unfolded (physical_lines (without_mark octets)))

@@ -17,7 +17,7 @@ two_digits n = (48 + n / 10) ∷ (48 + n % 10) ∷ []
 abbrev pub four_digits : ℕ → List ℕ
 four_digits n = two_digits (n / 100) ++ two_digits (n % 100)
 
--- one digit or more, with this value; leading zeros may stand
+-- one digit or more, with this value; leading zeros are allowed
 abbrev pub IsNumber : List ℕ → ℕ → Type 0
 IsNumber digits n = (0 < length digits) × AllDigits 10 digits × (digits_value 10 digits ≡ n)
 
@@ -34,7 +34,7 @@ pub record SpellsDate (text : List ℕ) (number : ℤ) : Type 0 where
   pub spelled : text ≡ four_digits year ++ two_digits month ++ two_digits day
   pub counted : number ≡ number_of_date year month day
 
--- `HHMMSS` is this second of the day (RFC 5545 3.3.12). Second 60 may stand where `limit` is 60, and means 59: this profile's choice
+-- `HHMMSS` is this second of the day (RFC 5545 3.3.12). Second 60 is allowed where `limit` is 60, and means 59: this profile's choice
 pub record SpellsTime (limit : ℕ) (text : List ℕ) (total : ℕ) : Type 0 where
   pub hour : ℕ
   pub minute : ℕ
@@ -97,11 +97,11 @@ escaped = flat_map escaped_octet
 abbrev pub is_escape : ℕ → Bool
 is_escape c = (c == 92) || (c == 59) || (c == 44) || (c == 110) || (c == 78)
 
--- what such an escape stands for
+-- what such an escape represents
 abbrev pub meant : ℕ → ℕ
 meant c = if (c == 110) || (c == 78) then 10 else c
 
--- what a written text stands for; a backslash that makes no escape stands for itself, this profile's choice
+-- what a written text represents; a backslash that makes no escape stands for itself, this profile's choice
 unfoldable pub unescaped : List ℕ → List ℕ
 unescaped [] = []
 unescaped (c ∷ []) = c ∷ []
@@ -118,7 +118,7 @@ abbrev pub is_scheme : List ℕ → Bool
 is_scheme [] = false
 is_scheme (c ∷ cs) = is_ascii_alphabetic c && list_all is_scheme_octet cs
 
--- no control octet and no space; octets past ASCII may stand
+-- no control octet and no space; octets past ASCII are allowed
 abbrev pub is_path_octet : ℕ → Bool
 is_path_octet c = nat_lt 32 c && not (c == 127)
 

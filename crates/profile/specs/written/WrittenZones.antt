@@ -1,4 +1,4 @@
--- VTIMEZONEs as they are written (RFC 5545 3.6.5), and what they read back as. The order of the lines, and which date stands where a
+-- VTIMEZONEs as they are written (RFC 5545 3.6.5), and what they read back as. The order of the lines, and which date is used where a
 -- zone needs none, are this profile's choice.
 use Rattle.std.specs.Prelude.{◌≡◌, ℕ, suc, true, false, not, ◌||◌, ◌==◌, List, [], ◌∷◌, ◌++◌, map, codes, decimal, Option, Some, None, ℤ}
 use Rattle.std.specs.List.{list_all}
@@ -14,7 +14,7 @@ use Rattle.profile.specs.series.RuleTexts.{listed, entry_text}
 use Rattle.profile.specs.series.Zones.{Observance, Zone, Constant, Single, Pair, local_time}
 use Rattle.profile.specs.series.ZoneTexts.{SaysZone}
 
--- the RRULE of an observance, where it has one: FREQ=YEARLY, BYMONTH, BYMONTHDAY and BYDAY, as their lists stand
+-- the RRULE of an observance, where it has one: FREQ=YEARLY, BYMONTH, BYMONTHDAY and BYDAY, as their lists are
 abbrev pub rule_lines : Option Pattern → List (List ℕ)
 rule_lines None = []
 rule_lines (Some p) =
@@ -61,16 +61,16 @@ IsZoneText octets name zone = (lines : List (List ℕ)) × WritesZone lines name
 
 -- ---- what they read back as
 
--- a text that a TEXT value can stand for: UTF-8, with no control octet but TAB and LF (RFC 5545 3.3.11)
+-- a text that a TEXT value can represent: UTF-8, with no control octet but TAB and LF (RFC 5545 3.3.11)
 pub record IsTextName (name : List ℕ) : Type 0 where
   pub calm : list_all (λ c. (c == 10) || not (is_control c)) name ≡ true
   pub utf8 : IsUtf8 name
 
--- the value of the line stands for this name
+-- the value of the line represents this name
 abbrev pub IsNameLine : List ℕ → List ℕ → Type 0
 IsNameLine line name = unescaped (line_value line) ≡ name
 
--- the octets read as the lines of one VTIMEZONE of this name that says this zone, however deep others may stand in it
+-- the octets read as the lines of one VTIMEZONE of this name that says this zone, however deep others may be in it
 pub record ReadsAsZone (octets name : List ℕ) (zone : Zone) : Type 0 where
   pub reads : reads_as_lines false octets ≡ true
   pub tree : Tree

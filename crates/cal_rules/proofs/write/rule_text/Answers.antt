@@ -5,7 +5,7 @@ use Rattle.cal_rules.specs.Views.{entry_of, text_of}
 use Rattle.cal_rules.proofs.Sorting.{months_ready, days_ready, entries_ready, positions_ready}
 use Rattle.cal_rules.proofs.write.rule_text.Goals as goal
 
--- a piece more
+-- one more piece
 more : {before so_far now : List ℕ} (piece : List ℕ) → now ≡ so_far ++ piece → so_far ≡ before → now ≡ before ++ piece
 more piece e f = e ∙ ap (λ t. t ++ piece) f
 

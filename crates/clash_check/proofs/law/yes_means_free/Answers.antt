@@ -1,4 +1,4 @@
--- The calendar is the one that the certificate stands for, and each key is that of one instance.
+-- The calendar is the one that the certificate holds for, and each key is that of one instance.
 use Rattle.clash_check.proofs.FreeLemmas.{free}
 use Rattle.clash_check.proofs.law.yes_means_free.Goals as goal
 

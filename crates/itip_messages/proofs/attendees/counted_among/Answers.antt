@@ -1,4 +1,4 @@
--- One line more: it counts where its address is new.
+-- One more line: it counts where its address is new.
 use Rattle.std.proofs.Common.{◌∙◌, List, map, sym, ap, subst, arith, take_all, refl}
 use Rattle.cal_events.specs.Events.{attendee_of}
 use Rattle.profile.specs.events.Events.{Attendee}

@@ -1,4 +1,4 @@
--- One line more.
+-- One more line.
 use Rattle.std.proofs.Common.{◌++◌, sym, ap, ◌∙◌, subst, refl, append-nil}
 use Rattle.std.specs.Iterator.{AlwaysYields}
 use Rattle.std.specs.Str.Iter.{lines_steps}

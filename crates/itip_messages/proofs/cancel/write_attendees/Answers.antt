@@ -1,4 +1,4 @@
--- One address more.
+-- One more address.
 use Rattle.std.proofs.Common.{◌∙◌, ◌++◌, codes, ap, arith}
 use Rattle.profile.specs.text.Lines.{folded}
 use Rattle.itip_messages.proofs.CancelLines.{attendee_more}

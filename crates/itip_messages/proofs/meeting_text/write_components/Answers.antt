@@ -1,4 +1,4 @@
--- One component more.
+-- One more component.
 use Rattle.std.proofs.Common.{◌≡◌, ◌∙◌, ◌∷◌, ◌++◌, ◌+◌, [], List, take, take_all, sym, ap, subst}
 use Rattle.std.proofs.lemmas.List.{take_more}
 use Rattle.itip_messages.specs.declared.organiser_object.ObjectComponent.{ObjectComponent}

@@ -1,4 +1,4 @@
--- The zones that came up stand before the VEVENTs.
+-- The zones that came up come before the VEVENTs.
 use Rattle.std.proofs.Common.{◌∙◌, ◌++◌}
 use Rattle.std.specs.Prelude.{option_map}
 use Rattle.itip_messages.specs.Replies.{text_now}

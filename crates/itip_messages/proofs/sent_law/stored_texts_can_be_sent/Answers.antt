@@ -1,4 +1,4 @@
--- The texts of a store that was read can stand in lines.
+-- The texts of a store that was read can be in lines.
 use Rattle.itip_messages.proofs.StoredEvents.{stored_attendee, stored_name}
 use Rattle.itip_messages.proofs.sent_law.stored_texts_can_be_sent.Goals as goal
 

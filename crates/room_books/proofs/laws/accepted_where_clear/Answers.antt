@@ -4,7 +4,7 @@ use Rattle.profile.specs.rooms.Messages.{Outcome, Accept, Busy, SeriesLimit, Sin
 use Rattle.profile.specs.rooms.Rooms.{Book, Decides, IsClear, IsWithinLimits}
 use Rattle.room_books.proofs.laws.accepted_where_clear.Goals as goal
 
--- what is decided where nothing stands against it
+-- what is decided where nothing is against it
 accepted : (book : Book) (outcome : Outcome) → Decides book outcome → IsWithinLimits book → IsClear book → outcome ≡ Accept
 accepted book Accept h few clear = refl
 accepted book (Busy first second t) h few clear = absurd (clear h.1.a h.1.b t h.1.of_first h.1.of_second h.1.clash)

@@ -1,4 +1,4 @@
--- One meeting more.
+-- One more meeting.
 use Rattle.std.proofs.Common.{◌++◌, ◌∷◌, [], List, Bool, sym, subst}
 use Rattle.indexmap.specs.IndexMap.{values}
 use Rattle.ical_values.specs.Octets.{address_octets}

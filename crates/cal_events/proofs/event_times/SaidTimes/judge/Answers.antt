@@ -18,7 +18,7 @@ returns-then-not-self-clause-stands c may object lines a =
       | then-not-self-via-else-not-self+then-not-self-2 x ↦ end_judged_by may object lines c.args.self a (search rules)
     ]
 
--- what lies in the dates has a stamp
+-- what is in the dates has a stamp
 pub returns-in_default-clause-stands : goal.returns-in_default-clause-stands
 returns-in_default-clause-stands c may object lines a =
     let instant = c.args.self.instant in

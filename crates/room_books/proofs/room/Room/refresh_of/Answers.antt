@@ -1,4 +1,4 @@
--- A refresh comes exactly where the message adds instances, and one of its parts is the first that was heard of its meeting.
+-- A refresh comes exactly where the message adds instances, and one of its parts is the first that was taken of its meeting.
 use Rattle.std.proofs.Common.{sym, subst, Option}
 use Rattle.ical_values.specs.Octets.{address_octets}
 use Rattle.room_books.specs.declared.kept.Meeting.{Meeting}

@@ -1,4 +1,4 @@
--- What becomes of the meeting is a step of the book that the room stands for.
+-- What becomes of the meeting is a step of the book that the room represents.
 use Rattle.std.proofs.Common.{◌≡◌, List, ◌++◌, Option, sym, subst}
 use Rattle.std.specs.Prelude.{option_copied}
 use Rattle.std.specs.Map.{lookup}

@@ -1,4 +1,4 @@
--- What a meeting had confirmed stands in the place after its start.
+-- What a meeting had confirmed is in the place after its start.
 use Rattle.std.proofs.Common.{ℤ, List, sym, ◌∙◌, subst, rules, w64, FitsSigned}
 use Rattle.std.proofs.lemmas.Bool.{true≢false}
 use Rattle.std.proofs.lemmas.Int.{to_z-of_z}
