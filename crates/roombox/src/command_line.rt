@@ -1,13 +1,16 @@
 //! The words of the command line (clap reads them).
 
+use clap::error::ErrorKind;
 use clap::{Arg, ArgAction, ArgMatches, Command, Error};
 use sched_cli::commands::Kept;
 use std::alloc::{AllocError, Global};
 
-/// What a command line asks for. ROOM is still a word here; the others are paths.
+/// What a command line asks for. ROOM, N and NUMBER are still words here; CALENDAR and CERTIFICATE are paths.
 #[derive(Clone, Copy)]
 pub enum Invocation<'a> {
-    Serve,
+    Serve {
+        report: bool,
+    },
     Keep {
         room: &'a str,
         kept: Kept,
@@ -21,48 +24,120 @@ pub enum Invocation<'a> {
         limit: &'a str,
     },
     Explain {
-        number: &'a str,
+        number: Option<&'a str>,
     },
 }
 
-const ABOUT: &str =
-    "Keeps rooms free of clashes: answers iCalendar meeting requests, and proves its answers; keeps organisers' meetings too";
+const ROOMBOX: &str =
+    "Answers meeting requests for rooms without double-booking, and keeps organisers' meetings.";
+
+const ROOMBOX_MORE: &str = "\
+Without a command it serves, as `roombox serve` does.
+
+Exit status:
+  0  done, also where objects of a stream were refused
+  1  the checker's no; the object that explain reads is refused
+  2  the words of the command line can't be read
+  3  the input is refused, or too long
+  4  a device failed
+  5  out of memory
+
+`roombox explain NUMBER` says what the number of a refusal means; docs/PROFILE.md lists all.";
 
 const SERVE: &str =
-    "Reads a preamble and objects, and writes the answers: the replies of rooms, and what organisers send (also with no command).\n\
-    The preamble has lines of three kinds, in any order, and ends with an empty line:\n\
-    now 20250102T000000Z\n\
-    room mailto:r1@example.com\n\
-    organiser mailto:ann@example.com\n\
-    The objects follow: for rooms with METHOD REQUEST, ADD or CANCEL; to organisers a REPLY, a REFRESH, or without METHOD a meeting to store.\n\
-    Example: roombox serve < examples/first-request.ics-stream";
+    "Reads a preamble and objects, and writes the replies of rooms and what organisers send.";
+
+const SERVE_MORE: &str = "\
+Input: a preamble, an empty line, and iCalendar objects, one after another:
+  now 20250102T000000Z
+  room mailto:r1@example.com
+  organiser mailto:ann@example.com
+
+  BEGIN:VCALENDAR
+  ..
+One `now` line, and a line for each room and each organiser, in any order. Objects for rooms
+have METHOD REQUEST, ADD or CANCEL; for organisers REPLY, REFRESH, or none: a meeting to store.
+
+Output: the objects that are sent, and for the k-th object, where it is refused, a line
+  REFUSED;OBJECT=k:n
+`roombox explain n` says what the number n means; docs/PROFILE.md lists all.
+
+Exit status: 0 done, also where objects were refused; 2 usage; 3 the preamble is refused (90)
+or the input is too long; 4 a device failed; 5 out of memory.
+
+Example: roombox serve < examples/first-request.ics-stream";
 
 const KEEP: &str =
-    "Reads the same input, and prints what a room keeps after it: its calendar, or its certificate.\n\
-    Example: roombox keep mailto:r1@example.com < examples/first-request.ics-stream";
+    "Reads what serve reads, and prints what a room keeps after it: its calendar, or its certificate.";
+
+const KEEP_MORE: &str = "\
+Input: a preamble and objects, as for `roombox serve`.
+
+Output: an iCalendar object, or the lines of a certificate; docs/PROFILE.md has their form, and
+lists the numbers of refusals.
+
+Exit status: 0 done, also where objects were refused; 2 usage; 3 the preamble is refused or
+doesn't name ROOM (90), or the input is too long; 4 a device failed; 5 out of memory.
+
+Example: roombox keep mailto:r1@example.com < examples/first-request.ics-stream";
 
 const CHECK: &str =
-    "Prints yes where the certificate shows that no two confirmed instances of the room share an \
-    instant, else no and why.\nExample: roombox check kept.ics kept.cert mailto:r1@example.com";
+    "Prints yes where a certificate shows that no two confirmed instances of a room share an instant.";
 
-const EXPAND: &str =
-    "Reads one iCalendar object of one event, and prints its first instances: a line with original start, start and seconds each.\n\
-    Example: roombox expand --limit 5 < examples/every-second-tuesday.ics";
+const CHECK_MORE: &str = "\
+Input: the two files that `roombox keep` prints. Standard input isn't read.
+
+Output: `yes`, or `no` and a number from 80 to 84; after 81 the wrong line of the certificate,
+after 83 two series. `roombox explain 82` says what 82 means; docs/PROFILE.md lists all.
+
+Exit status: 0 yes; 1 no; 2 usage; 3 a file is too long; 4 a device failed, as where a file
+isn't there; 5 out of memory.
+
+Example: roombox check kept.ics kept.cert mailto:r1@example.com";
+
+const EXPAND: &str = "Reads one iCalendar object of one event, and prints its first instances.";
+
+const EXPAND_MORE: &str = "\
+Input: one object without preamble; METHOD has no effect.
+
+Output: a line for each instance: original start, start, both in UTC, and length in seconds.
+  20250107T090000Z 20250107T090000Z 3600
+
+Exit status: 0 done; 2 usage; 3 the object is refused: standard error has the number, which
+`roombox explain` explains and docs/PROFILE.md lists; 4 a device failed; 5 out of memory.
+
+Example: roombox expand --limit 5 < examples/every-second-tuesday.ics";
 
 const EXPLAIN: &str =
-    "Prints what the number of a refusal, or of the checker's no, means and what to do about it.\nExample: roombox explain 43";
+    "Prints what the number of a refusal or of the checker's no means; or why an object is refused.";
+
+const EXPLAIN_MORE: &str = "\
+Without NUMBER it reads one object from standard input, as serve reads it behind its preamble,
+and prints the number, the place where one line has the fault, and what the number means:
+  refused 43 at line 12: DTSTART
+  43: no VTIMEZONE has the name that TZID gives. What to do: ..
+or what the object is:
+  not refused: a REQUEST
+70 to 73 depend on what an organiser has, and 90 on the preamble: an object isn't judged by
+them. docs/PROFILE.md lists all numbers.
+
+Exit status: 0 explained, or not refused; 1 the object is refused; 2 usage, also where nothing
+has that number; 4 a device failed; 5 out of memory.
+
+Example: roombox explain 43
+Example: roombox explain < invitation.ics";
 
 /// How many instances are printed where no limit is given.
 const LIMIT: &str = "100";
 
 const ROOM_HELP: &str = "The room's address, as mailto:r1@example.com";
 
-const NUMBER_HELP: &str = "The number behind REFUSED;OBJECT=..:, `refused` or `no`";
+const NUMBER_HELP: &str = "The number behind REFUSED;OBJECT=k:, `refused` or `no`";
 
-const CALENDAR_HELP: &str = "A file: an iCalendar object, as `roombox keep` prints it";
+const CALENDAR_HELP: &str = "The file of the calendar, as `roombox keep` prints it";
 
 const CERTIFICATE_HELP: &str =
-    "A file: the certificate for it, as `roombox keep --certificate` prints it";
+    "The file of its certificate, as `roombox keep --certificate` prints it";
 
 /// Reads the words; the first is the program's name.
 pub fn read_words<'a>(alloc: Global, words: &'a [String]) -> Result<Invocation<'a>, Error> {
@@ -70,16 +145,52 @@ pub fn read_words<'a>(alloc: Global, words: &'a [String]) -> Result<Invocation<'
     Ok(invocation_of(&matches))
 }
 
+/// A word that clap accepts for an argument, and that has no meaning there.
+#[derive(Clone, Copy)]
+pub enum BadWord<'a> {
+    Room(&'a str),
+    Limit(&'a str),
+    Number(&'a str),
+}
+
+/// The usage fault for such a word, in the form of clap's own.
+pub fn fault_of(alloc: Global, bad: BadWord<'_>) -> Result<Error, AllocError> {
+    let message = match bad {
+        BadWord::Room(word) => format!(in alloc;
+            "invalid value '{word}' for '<ROOM>': it isn't an address such as mailto:r1@example.com"
+        )?,
+        BadWord::Limit(word) => format!(in alloc;
+            "invalid value '{word}' for '--limit <N>': it isn't a number from 1 to 100000"
+        )?,
+        BadWord::Number(word) => format!(in alloc;
+            "invalid value '{word}' for '[NUMBER]': it isn't the number of a refusal, such as 43"
+        )?,
+    };
+    program(alloc)?.error(ErrorKind::ValueValidation, message.as_str())
+}
+
 fn program<'a>(alloc: Global) -> Result<Command<'a>, AllocError> {
     Command::new(alloc, "roombox")
-        .about(ABOUT)
+        .about(ROOMBOX)
+        .after_help(ROOMBOX_MORE)
         .version("0.1.0")
         .disable_help_subcommand(true)
-        .subcommand(Command::new(alloc, "serve").about(SERVE))?
+        .subcommand(serve_command(alloc)?)?
         .subcommand(keep_command(alloc)?)?
         .subcommand(check_command(alloc)?)?
         .subcommand(expand_command(alloc)?)?
         .subcommand(explain_command(alloc)?)
+}
+
+fn serve_command<'a>(alloc: Global) -> Result<Command<'a>, AllocError> {
+    let report = Arg::new(alloc, "report")
+        .long("report")
+        .action(ArgAction::SetTrue)
+        .help("At the end, say on standard error how many objects were refused, by number");
+    Command::new(alloc, "serve")
+        .about(SERVE)
+        .after_help(SERVE_MORE)
+        .arg(report)
 }
 
 fn keep_command<'a>(alloc: Global) -> Result<Command<'a>, AllocError> {
@@ -89,6 +200,7 @@ fn keep_command<'a>(alloc: Global) -> Result<Command<'a>, AllocError> {
         .help("Print the certificate in place of the calendar");
     Command::new(alloc, "keep")
         .about(KEEP)
+        .after_help(KEEP_MORE)
         .arg(certificate)?
         .arg(required(alloc, "ROOM", ROOM_HELP))
 }
@@ -96,23 +208,27 @@ fn keep_command<'a>(alloc: Global) -> Result<Command<'a>, AllocError> {
 fn check_command<'a>(alloc: Global) -> Result<Command<'a>, AllocError> {
     Command::new(alloc, "check")
         .about(CHECK)
+        .after_help(CHECK_MORE)
         .arg(required(alloc, "CALENDAR", CALENDAR_HELP))?
         .arg(required(alloc, "CERTIFICATE", CERTIFICATE_HELP))?
         .arg(required(alloc, "ROOM", ROOM_HELP))
 }
 
 fn expand_command<'a>(alloc: Global) -> Result<Command<'a>, AllocError> {
-    let limit = Arg::new(alloc, "limit")
-        .long("limit")
-        .value_name("N")
-        .help("How many instances at most, from 1 to 100000 (else 100)");
-    Command::new(alloc, "expand").about(EXPAND).arg(limit)
+    let limit = Arg::new(alloc, "limit").long("limit").value_name("N").help(
+        "How many instances at most, from 1 to 100000; 100 where it isn't given",
+    );
+    Command::new(alloc, "expand")
+        .about(EXPAND)
+        .after_help(EXPAND_MORE)
+        .arg(limit)
 }
 
 fn explain_command<'a>(alloc: Global) -> Result<Command<'a>, AllocError> {
     Command::new(alloc, "explain")
         .about(EXPLAIN)
-        .arg(required(alloc, "NUMBER", NUMBER_HELP))
+        .after_help(EXPLAIN_MORE)
+        .arg(Arg::new(alloc, "NUMBER").help(NUMBER_HELP))
 }
 
 fn required<'a>(alloc: Global, name: &'a str, help: &'a str) -> Arg<'a> {
@@ -134,9 +250,12 @@ fn invocation_of<'a>(matches: &ArgMatches<'a>) -> Invocation<'a> {
             limit: words.get_str("limit").unwrap_or(LIMIT),
         },
         Some(("explain", words)) => Invocation::Explain {
-            number: words.get_str("NUMBER").unwrap_or(""),
+            number: words.get_str("NUMBER"),
         },
-        _ => Invocation::Serve,
+        Some(("serve", words)) => Invocation::Serve {
+            report: words.get_flag("report"),
+        },
+        _ => Invocation::Serve { report: false },
     }
 }
 

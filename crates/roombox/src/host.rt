@@ -1,12 +1,12 @@
 //! The real reader, writer and files: `run` hands them to the commands.
 
-use crate::command_line::{Invocation, read_words};
+use crate::command_line::{BadWord, Invocation, fault_of, read_words};
 use ical_lines::Fault;
 use ical_values::Address;
 use sched_box::{DeviceReader, DeviceWriter, Output};
 use sched_cli::commands::{Kept, run_check, run_keep, run_serve};
-use sched_cli::status::{DEVICE, USAGE, report_device, report_memory, report_too_long};
-use sched_cli::{run_expand, run_explain};
+use sched_cli::status::{USAGE, report_device, report_memory, report_too_long};
+use sched_cli::{Tally, run_expand, run_explain, run_explain_object, run_serve_report};
 use std::alloc::Global;
 use std::fs::File;
 use std::io::{self, ErrorKind, Read, Write};
@@ -19,7 +19,7 @@ const MOST_OCTETS: u64 = 1_073_741_824;
 /// How many instances `expand` prints at most; this profile's choice.
 const MOST_INSTANCES: usize = 100_000;
 
-/// The octets that `expand` reads: one more than an object may have.
+/// The octets that `expand` and `explain` read: one more than an object may have.
 const OBJECT_OCTETS: u64 = 1_048_577;
 
 /// Standard error, as a writer of text.
@@ -61,7 +61,7 @@ pub fn run<R: Runtime + AllocGlobal>(rt: &R) -> u8 {
     }
 }
 
-/// Says that memory ran out.
+/// Says that the program is out of memory.
 fn no_memory<R: Runtime + AllocGlobal>(rt: &R) -> u8 {
     report_memory(&mut DeviceWriter::new(ErrorPrinter { to: rt }))
 }
@@ -73,7 +73,15 @@ fn print_usage<R: Runtime + AllocGlobal>(rt: &R, error: &clap::Error) -> u8 {
     }
     match error.print(rt) {
         Ok(()) => u8::try_from(error.exit_code()).unwrap_or(USAGE),
-        Err(_) => DEVICE,
+        Err(_) => report_device(&mut DeviceWriter::new(ErrorPrinter { to: rt })),
+    }
+}
+
+/// Says that a word of the command line can't be read, and gives the status of a usage fault.
+fn refuse_word<R: Runtime + AllocGlobal>(rt: &R, alloc: Global, word: BadWord<'_>) -> u8 {
+    match fault_of(alloc, word) {
+        Ok(error) => print_usage(rt, &error),
+        Err(_) => no_memory(rt),
     }
 }
 
@@ -83,7 +91,7 @@ fn words_of<R: Runtime + AllocGlobal>(rt: &R, alloc: Global) -> io::Result<Vec<S
 
 fn invoke<R: Runtime + AllocGlobal>(rt: &R, alloc: Global, invocation: Invocation<'_>) -> u8 {
     match invocation {
-        Invocation::Serve => invoke_serve(rt, alloc),
+        Invocation::Serve { report } => invoke_serve(rt, alloc, report),
         Invocation::Keep { room, kept } => match read_room(rt, alloc, room) {
             Ok(room) => invoke_keep(rt, alloc, &room, kept),
             Err(status) => status,
@@ -98,14 +106,12 @@ fn invoke<R: Runtime + AllocGlobal>(rt: &R, alloc: Global, invocation: Invocatio
         },
         Invocation::Expand { limit } => match limit_of(limit) {
             Some(limit) => invoke_expand(rt, alloc, limit),
-            None => {
-                let _ = eprintln!(rt;
-                    "roombox: N must be a number from 1 to 100000, got {limit:?}"
-                );
-                USAGE
-            }
+            None => refuse_word(rt, alloc, BadWord::Limit(limit)),
         },
-        Invocation::Explain { number } => invoke_explain(rt, number),
+        Invocation::Explain {
+            number: Some(number),
+        } => invoke_explain(rt, alloc, number),
+        Invocation::Explain { number: None } => invoke_explain_object(rt, alloc),
     }
 }
 
@@ -114,21 +120,19 @@ fn read_room<R: Runtime + AllocGlobal>(rt: &R, alloc: Global, word: &str) -> Res
     match Address::read(alloc, word) {
         Ok(room) => Ok(room),
         Err(Fault::Memory) => Err(no_memory(rt)),
-        Err(Fault::Refused(_)) => {
-            let _ = eprintln!(rt;
-                "roombox: ROOM must be an address with a scheme, such as mailto:room@example.com, got {word:?}"
-            );
-            Err(USAGE)
-        }
+        Err(Fault::Refused(_)) => Err(refuse_word(rt, alloc, BadWord::Room(word))),
     }
 }
 
-fn invoke_serve<R: Runtime + AllocGlobal>(rt: &R, alloc: Global) -> u8 {
+fn invoke_serve<R: Runtime + AllocGlobal>(rt: &R, alloc: Global, report: bool) -> u8 {
     let mut errors = DeviceWriter::new(ErrorPrinter { to: rt });
     let Ok(mut reader) = DeviceReader::new(alloc, rt.reader()) else {
         return no_memory(rt);
     };
     let mut writer = DeviceWriter::new(io::writer(rt));
+    if report {
+        return run_serve_report(alloc, &mut reader, &mut Tally::new(writer), &mut errors);
+    }
     run_serve(alloc, &mut reader, &mut writer, &mut errors)
 }
 
@@ -168,7 +172,7 @@ fn invoke_check<R: Runtime + AllocGlobal>(
     )
 }
 
-/// The number that the word of `--limit` names: decimal digits, 1 to 100,000.
+/// The number that the word of `--limit` spells: decimal digits, from 1 to 100,000.
 fn limit_of(word: &str) -> Option<usize> {
     if word.starts_with('+') {
         return None;
@@ -179,21 +183,44 @@ fn limit_of(word: &str) -> Option<usize> {
     }
 }
 
+/// The octets of one object from standard input, one more than it may have at most; else the status of what was said.
+fn read_object<R: Runtime + AllocGlobal, E: Output>(
+    rt: &R,
+    alloc: Global,
+    errors: &mut E,
+) -> Result<Vec<u8>, u8> {
+    let mut octets = Vec::new(alloc);
+    match rt.reader().take(OBJECT_OCTETS).read_to_end(&mut octets) {
+        Ok(_) => Ok(octets),
+        Err(error) if error.kind() == ErrorKind::OutOfMemory => Err(report_memory(errors)),
+        Err(_) => Err(report_device(errors)),
+    }
+}
+
 fn invoke_expand<R: Runtime + AllocGlobal>(rt: &R, alloc: Global, limit: usize) -> u8 {
     let mut errors = DeviceWriter::new(ErrorPrinter { to: rt });
-    let mut octets = Vec::new(alloc);
-    if let Err(error) = rt.reader().take(OBJECT_OCTETS).read_to_end(&mut octets) {
-        return match error.kind() {
-            ErrorKind::OutOfMemory => report_memory(&mut errors),
-            _ => report_device(&mut errors),
-        };
+    match read_object(rt, alloc, &mut errors) {
+        Ok(octets) => {
+            let mut writer = DeviceWriter::new(io::writer(rt));
+            run_expand(alloc, octets.as_slice(), limit, &mut writer, &mut errors)
+        }
+        Err(status) => status,
     }
-    let mut writer = DeviceWriter::new(io::writer(rt));
-    run_expand(alloc, octets.as_slice(), limit, &mut writer, &mut errors)
+}
+
+fn invoke_explain_object<R: Runtime + AllocGlobal>(rt: &R, alloc: Global) -> u8 {
+    let mut errors = DeviceWriter::new(ErrorPrinter { to: rt });
+    match read_object(rt, alloc, &mut errors) {
+        Ok(octets) => {
+            let mut writer = DeviceWriter::new(io::writer(rt));
+            run_explain_object(alloc, octets.as_slice(), &mut writer, &mut errors)
+        }
+        Err(status) => status,
+    }
 }
 
 /// Says what the number of a refusal means; a usage fault where nothing has that number.
-fn invoke_explain<R: Runtime + AllocGlobal>(rt: &R, word: &str) -> u8 {
+fn invoke_explain<R: Runtime + AllocGlobal>(rt: &R, alloc: Global, word: &str) -> u8 {
     let mut errors = DeviceWriter::new(ErrorPrinter { to: rt });
     let mut writer = DeviceWriter::new(io::writer(rt));
     let status = match word.parse::<u8>() {
@@ -201,9 +228,7 @@ fn invoke_explain<R: Runtime + AllocGlobal>(rt: &R, word: &str) -> u8 {
         Err(_) => USAGE,
     };
     if status == USAGE {
-        let _ = eprintln!(rt;
-            "roombox: NUMBER must be the number of a refusal, such as 43, got {word:?}"
-        );
+        return refuse_word(rt, alloc, BadWord::Number(word));
     }
     status
 }

@@ -1,3 +1,6 @@
 pub mod Keeping
+pub mod Meanings
+pub mod PlaceLemmas
 pub mod Printing
 pub mod Saying
+pub mod Taken

@@ -3,6 +3,7 @@
 ghost use Rattle.std.specs.Prelude.{◌≡◌, ◌<◌, ◌⊎◌, ℕ, List, length, is_some, true, false, IfSome};
 ghost use Rattle.std.specs.Io.KnownBytes.{Appends, Keeps};
 ghost use Rattle.sched_cli.specs.Commands.{BlamesDevice, IsSaid, TellsDevice};
+ghost use Rattle.sched_cli.specs.Diagnosis.{IsMeaningOf};
 ghost use Rattle.sched_cli.specs.Explained.{is_explained};
 
 use crate::status::{DONE, USAGE, report_write};
@@ -12,16 +13,17 @@ use sched_box::Output;
 pub fn explanation(number: u8) -> Option<&'static str>
     ensures known { is_some result ≡ is_explained number }
     ensures text { IfSome result (λ line. 0 < length line.now) }
+    ensures own { IfSome result (λ line. IsMeaningOf number line.now) }
 {
     match number {
         1 => Some(
-            "1: a line without a colon, as a mail's text before BEGIN:VCALENDAR. What to do: fix the line; a long line's continuation begins with a space.\n",
+            "1: a line without a colon, as of a preamble or a mail's text before BEGIN:VCALENDAR. What to do: fix the line; a long line's continuation begins with a space.\n",
         ),
         2 => Some(
             "2: a name that isn't letters, digits and `-`, or a parameter without `=`. What to do: fix the name; write `NAME=value`.\n",
         ),
         3 => Some(
-            "3: a quoted parameter value that isn't closed, or a stray quote. What to do: close it; quotes can't stand in bare values.\n",
+            "3: a quoted parameter value that isn't closed, or a stray quote. What to do: close it; bare values can't have quotes.\n",
         ),
         4 => Some("4: a control octet, or a CR that ends no line. What to do: remove it.\n"),
         5 => Some("5: not UTF-8. What to do: convert the object to UTF-8.\n"),
@@ -29,16 +31,18 @@ pub fn explanation(number: u8) -> Option<&'static str>
             "6: more than 1048576 octets or 65536 lines. What to do: send less in one object.\n",
         ),
         10 => Some(
-            "10: not a UTC date-time, such as 20250310T090000Z. What to do: fix the value.\n",
+            "10: not a UTC date-time (expected something like 20250310T090000Z). What to do: fix the value.\n",
         ),
         11 => Some(
             "11: not a date-time, or with TZID a UTC time. What to do: fix the value or its VALUE parameter; leave out `Z` or TZID.\n",
         ),
-        12 => Some("12: not a duration, such as PT1H30M. What to do: fix the value.\n"),
+        12 => Some(
+            "12: not a duration (expected something like PT1H30M). What to do: fix the value.\n",
+        ),
         13 => Some("13: not a UTC offset, in a VTIMEZONE. What to do: fix the value.\n"),
         14 => Some("14: UID empty or past 1024 octets. What to do: give another UID.\n"),
         15 => Some(
-            "15: not an address, such as mailto:ann@example.com. What to do: fix the address.\n",
+            "15: not an address (expected something like mailto:ann@example.com). What to do: fix the address.\n",
         ),
         16 => Some("16: SEQUENCE not from 0 to 2147483647. What to do: fix the number.\n"),
         20 => Some("20: END without its BEGIN. What to do: fix the nesting.\n"),
@@ -79,11 +83,11 @@ pub fn explanation(number: u8) -> Option<&'static str>
             "51: more than 366 days, or a negative duration. What to do: send a shorter event.\n",
         ),
         52 => Some(
-            "52: a time outside of the local years 1970 to 9999. What to do: roombox books from 1970 to 9999.\n",
+            "52: a time outside of the local years 1970 to 9999, or not before 10000-01-01T00:00:00Z. What to do: roombox books from 1970 to 9999.\n",
         ),
         53 => Some("53: two VEVENTs of one meeting without RECURRENCE-ID. What to do: send one.\n"),
         54 => Some(
-            "54: two VEVENTs of one meeting for one instance. What to do: send one for each instance.\n",
+            "54: two VEVENTs of one meeting for one instance, or two of an ADD that start together. What to do: send one for each instance.\n",
         ),
         55 => Some(
             "55: a date, or a time without zone. What to do: write the time in UTC or with TZID.\n",
@@ -107,7 +111,7 @@ pub fn explanation(number: u8) -> Option<&'static str>
         65 => Some("65: RANGE on RECURRENCE-ID. What to do: send an override for each instance.\n"),
         66 => Some("66: no VEVENT. What to do: send a VEVENT.\n"),
         67 => Some(
-            "67: RRULE or RDATE beside RECURRENCE-ID, or in an ADD. What to do: leave them to the VEVENT without RECURRENCE-ID.\n",
+            "67: RRULE or RDATE beside RECURRENCE-ID, or in an ADD. What to do: leave them to the VEVENT without RECURRENCE-ID; in an ADD send one VEVENT for each instance.\n",
         ),
         70 => Some(
             "70: a store, a REPLY or a REFRESH whose ORGANIZER isn't hosted. What to do: name the organiser in the preamble; give a meeting for rooms its METHOD.\n",
@@ -146,7 +150,7 @@ pub fn explanation(number: u8) -> Option<&'static str>
 /// `explain N`: writes what the number means and what to do about it. Gives 2 where nothing has that number, and writes nothing then.
 pub fn run_explain<W: Output, E: Output>(number: u8, writer: &mut W, errors: &mut E) -> u8
     ensures explained { result ≡ 0 → is_explained number ≡ true }
-    ensures written { result ≡ 0 → (line : List ℕ) × (0 < length line) × Appends (W.contents writer.old) (W.contents writer.new) line }
+    ensures written { result ≡ 0 → (line : List ℕ) × (0 < length line) × IsMeaningOf number line × Appends (W.contents writer.old) (W.contents writer.new) line }
     ensures unknown { result ≡ 2 → is_explained number ≡ false }
     ensures unwritten { (result ≡ 2) ⊎ (result ≡ 5) → Keeps (W.contents writer.old) (W.contents writer.new) }
     ensures device { BlamesDevice false (W.has_failed writer.new) result }

@@ -1,11 +1,18 @@
 //! The commands of `roombox`, over readers, octets and writers that are handed in.
 #![tactic(auto)]
 
+mod blame;
 pub mod commands;
+pub mod diagnosis;
 pub mod expand;
 pub mod explain;
+mod lines;
+pub mod place;
 pub mod status;
+pub mod tally;
 
 pub use commands::{run_check, run_keep, run_serve};
+pub use diagnosis::run_explain_object;
 pub use expand::run_expand;
 pub use explain::run_explain;
+pub use tally::{Tally, run_serve_report};

@@ -103,7 +103,7 @@ pub fn report_memory<E: Output>(errors: &mut E) -> u8
 }
 
 /// Writes a line. Where standard error fails too, nobody is left to be told.
-fn say<E: Output>(errors: &mut E, line: &[u8])
+pub(crate) fn say<E: Output>(errors: &mut E, line: &[u8])
     ensures { Says line.now (E.contents errors.old) (E.contents errors.new) (E.may_lose errors.new) }
 {
     let _ = errors.put(line);
