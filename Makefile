@@ -2,7 +2,7 @@
 RT ?= rt
 EXAMPLE := examples/first-request.ics-stream
 
-.PHONY: try run test attack bench layout clean
+.PHONY: try run test attack bench man layout clean
 
 # Answers the first request within about a minute. Nothing is proved this way.
 try:
@@ -48,6 +48,10 @@ bin/worked_examples: bin/roombox FORCE
 # One table: serving, reading, rules and checking, with sizes, times, peak memory and growth. It takes about half a minute.
 bench: bin/roombox bin/text_examples bin/worked_examples
 	python3 bench/bench.py bin/roombox bin/text_examples bin/worked_examples
+
+# The man page and the bash completion, docs/roombox.1 and docs/roombox.bash, from the program's help.
+man: bin/roombox
+	python3 bench/man_page.py bin/roombox docs
 
 clean:
 	rm -rf bin out crates/*/out

@@ -4,10 +4,10 @@
 
 With no crate: all that have a folder planted/. --since takes the crates that changed since a commit, and those above them.
 
-The edits stand in crates/NAME/planted/*.edit, in the form of must-fail/: a line `file: src/lib.rt`, then pairs of lines `old: TEXT` and
-`new: TEXT`, where the old text stands once in the file. `rt ci` tries those of must-fail/ one by one; these are tried in rounds, for a
+The edits are in crates/NAME/planted/*.edit, in the form of must-fail/: a line `file: src/lib.rt`, then pairs of lines `old: TEXT` and
+`new: TEXT`, where the old text occurs once in the file. `rt ci` tries those of must-fail/ one by one; these are tried in rounds, for a
 fifth of the time or less. A round is one `rt check --jobs 1` of a fresh copy of the proved crate with edits of different functions in it. Each
-edit is judged by the goals of its own function: a function that fails only because it calls another one doesn't count. What lies outside
+edit is judged by the goals of its own function: a function that fails only because it calls another one doesn't count. What is outside
 src/, or in no function's body, is tried alone, and so is each edit that its round didn't refuse. An edit is let through where the crate is
 still proved with it alone; one that can't be applied or read shows nothing, and counts as let through.
 The last line is `N refused, M let through`. The status is 0 where none was let through, 1 where one was, 2 where nothing could be tried.
@@ -69,7 +69,7 @@ def read_edit(crate, path):
             source = ROOT / "crates" / crate / file
             text = texts.get(file) or (source.read_text(encoding="utf-8") if source.is_file() else "")
             if text.count(old) != 1:
-                wrong = wrong or f"an old text stands in {file} {text.count(old)} times"
+                wrong = wrong or f"an old text occurs in {file} {text.count(old)} times"
             functions.add(function_at(crate, file, text, text.find(old)) if file.startswith("src/") else None)
             # a further pair applies to what the earlier ones made
             texts[file] = text.replace(old, new)
@@ -96,7 +96,7 @@ def checked(crate, below, edits):
             for file, old, new in edit.pairs:
                 text = (folder / file).read_text(encoding="utf-8")
                 if text.count(old) != 1:
-                    return "beside another edit an old text doesn't stand once", False
+                    return "beside another edit an old text doesn't occur once", False
                 (folder / file).write_text(text.replace(old, new), encoding="utf-8")
         how = {"stdin": subprocess.DEVNULL, "stdout": subprocess.PIPE, "stderr": subprocess.STDOUT, "errors": "replace"}
         ran = subprocess.run([RT, "check", "--jobs", "1"], cwd=folder, **how)
@@ -118,7 +118,7 @@ def refusal(said, functions):
     for name, verdict in VERDICT.findall(said):
         if (not functions or is_in(name, functions)) and verdict != "proved" and not BY_A_CALL.match(verdict):
             at = re.escape("proofs/" + "/".join(name.split("::")[1:]) + "/")
-            # what is wrong may stand on the indented lines below
+            # what is wrong may be on the indented lines below
             errors = re.findall(rf"^(?:\./)?{at}\S+: error: (.*(?:\n[ \t].*)*)$", said, re.MULTILINE)
             is_named = errors and all(BY_A_NAME.search(it) for it in errors) and "did not prove" not in verdict
             return "by a name alone" if is_named else "by its goals"

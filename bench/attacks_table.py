@@ -4,7 +4,7 @@
     python3 bench/attacks_table.py --check    changes nothing; ends with 1 where the table isn't that of the edits
 
 The edits are crates/NAME/must-fail/*.edit and crates/NAME/planted/*.edit. What one changes is told by its old and its new texts: the
-statement of a law or of another contract, where the old text stands in one; else by the words that differ: numbers and quoted texts (with a
+statement of a law or of another contract, where the old text is in one; else by the words that differ: numbers and quoted texts (with a
 sign before them or not), operators and other signs alone, names alone, words that are only added or only left out, or another text in
 their place. An edit of several pairs that differ is of the last kind.
 """

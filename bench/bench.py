@@ -147,7 +147,7 @@ MEETINGS = 9_000
 REVISIONS = 1_000
 # Endless series of a room beside which another one is revised.
 ENDLESS_ONES = 60
-# How often a hostile object or line stands in a run, so that the program's own start counts for little.
+# How often a hostile object or line occurs in a run, so that the program's own start counts for little.
 HOSTILE = 20
 
 
@@ -185,7 +185,7 @@ def revisions(count):
     yield from requests(MEETINGS)
     for number in range(count):
         turn, meeting = divmod(number, MEETINGS)
-        # a meeting moves behind all others, and back
+        # a meeting moves after all others, and back
         hour = meeting - meeting % 2 + (MEETINGS if turn % 2 == 0 else 0)
         request = REQUEST.replace("SEQUENCE:0", f"SEQUENCE:{turn + 1}")
         yield crlf(request.format(number=meeting, room=ROOM.format(0), start=stamp(hour), extra=""))
@@ -226,7 +226,7 @@ def large_objects(count):
 
 
 def attendees(count):
-    """Requests to 64 rooms which others stand before, so many lines in all. Four digits fit the octets of an object."""
+    """Requests to 64 rooms which others come before, so many lines in all. Four digits fit the octets of an object."""
     lines = [f"ATTENDEE:m:{number:04x}\n" for number in range(count - 64)]
     lines += [f"ATTENDEE:{ROOM.format(room)}\n" for room in range(63)]
     yield preamble(64)
@@ -243,7 +243,7 @@ def folds(count):
 
 
 def parameters(count):
-    """A calendar in which so many parameters stand on the line of the room, before the one that is looked for."""
+    """A calendar in which so many parameters are on the line of the room, before the one that is looked for."""
     event = EVENT.replace("ATTENDEE", "ATTENDEE" + ";A=1" * (count - 1))
     yield crlf("BEGIN:VCALENDAR\nVERSION:2.0\nPRODID:-//bench//EN\n")
     for number in range(HOSTILE):

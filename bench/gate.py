@@ -1,4 +1,4 @@
-"""Runs the gate (rt ci) and tells how its processor time is divided: proofs, tests, what the edits begin with, edits, programs, compilers.
+"""Runs the gate (rt ci) and reports how its processor time is divided: proofs, tests, what the edits begin with, edits, programs, compilers.
 
     python3 bench/gate.py > out/gate.tsv                       # what rt says goes to out/gate.log
     python3 bench/gate.py must-fail ical_tree > out/edits.tsv  # of another command of rt: here the edits of one crate
@@ -29,7 +29,7 @@ class Process:
         self.crate = words[words.index("--crate-name") + 1] if "--crate-name" in words else ""
         self.used, self.edit = 0.0, ""
         if os.path.basename(folder).startswith("rt-edit-"):
-            # the crate as it stands is checked over a folder `seed`, before its edits and after them; each edit over a copy, named by its number
+            # the crate as it is now is checked over a folder `seed`, before its edits and after them; each edit over a copy, named by its number
             kept = os.path.basename(words[words.index("--incremental") + 1]) if "--incremental" in words else "from nothing"
             self.kind = "proofs for edits" if kept == "seed" else "edits"
             self.edit = "" if kept == "seed" else self.name_of(kept)

@@ -1,4 +1,4 @@
-"""Proves the libraries that a program stands on, side by side where they don't stand on each other, and tells on standard error how far it is.
+"""Proves the libraries that a program uses, side by side where they don't use each other, and says on standard error how far it is.
 
     python3 bench/prove.py [CRATE]
 
@@ -57,6 +57,7 @@ def main():
     left = [it for it in below if it in below[crate] - {crate} and not is_built(it)]
     count, room, running = len(left), lanes(), {}
     if not left:
+        print(f"now {crate} itself is checked and built", file=sys.stderr)
         return 0
     LOGS.mkdir(parents=True, exist_ok=True)
     print(f"proving {count} libraries with {room} jobs side by side; {LOGS.relative_to(ROOT)}/ has the details", file=sys.stderr)
@@ -78,6 +79,7 @@ def main():
                     print(f"{name} isn't proved: see {LOGS.relative_to(ROOT)}/{name}.log", file=sys.stderr)
                     return 1
                 print(f"{count - len(left) - len(running)} of {count}: {name}, {spent(start)}", file=sys.stderr)
+    print(f"now {crate} itself is proved and built", file=sys.stderr)
     return 0
 
 

@@ -1,11 +1,11 @@
-"""Counts what has to be read of the definitions: for each path, the definitions of profile that its names stand on, file by file.
+"""Counts what has to be read of the definitions: for each path, the definitions of profile that its names use, file by file.
 
     python3 bench/reading_paths.py [FILE.name ..]
 
 where FILE is as in `streams/Streams`.
 
-Without names: the three paths of docs/DEFINITIONS.md, a line a file, in the order in which the files stand on each other. A definition is a block
-between empty lines, its comment with it; it stands on the names of profile that its text has. Lines that are empty, and imports, aren't counted.
+Without names: the three paths of docs/DEFINITIONS.md, a line a file, in the order in which the files use each other. A definition is a block
+between empty lines, its comment with it; it uses the names of profile that its text has. Lines that are empty, and imports, aren't counted.
 """
 
 import re
@@ -48,7 +48,7 @@ class File:
 
 
 def read(files, wanted):
-    """The blocks that names stand on, as (module, number of the block)."""
+    """The blocks that names use, as (module, number of the block)."""
     found, left = set(), [tuple(name.split(".")) for name in wanted]
     while left:
         module, name = left.pop()
@@ -67,7 +67,7 @@ def read(files, wanted):
 
 
 def below(files, module):
-    """The files that a file stands on, each after those that it stands on itself, and the file."""
+    """The files that a file uses, each after those that it uses itself, and the file."""
     for name in dict.fromkeys(files[module].imports.values()):
         yield from below(files, name)
     yield module

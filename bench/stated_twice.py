@@ -1,4 +1,4 @@
-"""Lists lemmas that stand twice: proofs' statements that are the same but for the names of what they bind.
+"""Lists lemmas that are stated twice: proofs' statements that are the same but for the names of what they bind.
 
     python3 bench/stated_twice.py
 

@@ -6,7 +6,7 @@ nothing of roombox, and nothing that the maker of the text knows, is in the answ
     python3 tests/calendars_by_icalendar.py --events
 
 The first writes rows for the crate worked_examples, `data/calendars.txt`, and on standard output the lines of its `stdout`: of 20 calendars 9
-are clear, 9 have a clash, one has a series and one a wrong count in its certificate. With 300 and no SEED they are the rows that stand there.
+are clear, 9 have a clash, one has a series and one a wrong count in its certificate. With 300 and no SEED they are the rows that are there.
 
 The second has icalendar parse the events of `data/events.txt`, expands what it says with dateutil's rruleset, and compares that with their
 lines in `stdout`.
@@ -106,7 +106,7 @@ def is_kept(event):
 
 
 def replaced_slots(events):
-    """The starts that an override stands for, whatever its state, each with its meeting."""
+    """The starts that an override is for, whatever its state, each with its meeting."""
     return [(meeting_of(event), instant(event, "RECURRENCE-ID")) for event in events if is_override(event)]
 
 
@@ -273,7 +273,7 @@ def vevent(meeting, lines):
     if one_in(6):
         lines.append(random.choice(["TRANSP:TRANSPARENT", "SEQUENCE:2", "DTSTAMP:20250101T000000Z", "SUMMARY:Plan\\, and talk"]))
     random.shuffle(lines)
-    # attendees stand in their order: of two lines of one address the first counts
+    # attendees are in their order: of two lines of one address the first counts
     place = random.randint(0, len(lines))
     alarm = ["BEGIN:VALARM", "TRIGGER:-PT5M", "DURATION:P1D", "ATTENDEE;PARTSTAT=ACCEPTED:" + ROOM, "END:VALARM"] if one_in(40) else []
     return ["BEGIN:VEVENT", *lines[:place], *attendees(), *lines[place:], *alarm, "END:VEVENT"]
@@ -343,7 +343,7 @@ def meetings(count):
 
 
 def folded(line):
-    """A line of at most 75 octets, and its continuations, each behind a space."""
+    """A line of at most 75 octets, and its continuations, each after a space."""
     return line[:75] + "".join("\r\n " + line[place:place + 74] for place in range(75, len(line), 74))
 
 

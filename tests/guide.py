@@ -6,10 +6,15 @@ Each case says what the guide says, what goes in, and what has to come out; what
 the program's output. It prints each case that fails, and ends with 1 where one did.
 """
 
+import shutil
 import subprocess
 import sys
 import tempfile
 from pathlib import Path
+
+ROOT = Path(__file__).resolve().parent.parent
+sys.path.insert(0, str(ROOT / "bench"))
+import man_page  # noqa: E402
 
 NOW = "now 20250102T000000Z\n"
 ANN = "organiser mailto:ann@example.com\n"
@@ -407,14 +412,11 @@ def kept_series(cases, program):
     moved = message("REQUEST", vevent("s", 1, "20250311T150000Z", slot="20250311T090000Z"))
     certified("so is an instance with a VEVENT of its own", one.replace("SINGLES 0", "SINGLES 1"), recurring(), moved)
     certified("a series all of whose starts are excepted", one, recurring(lines=("EXDATE:20250310T090000Z,20250311T090000Z,20250312T090000Z",)))
-    examples = Path(__file__).resolve().parent.parent / "examples"
-    found = run(program, given=(examples / "series-across-summer-time.ics-stream").read_bytes())
-    cases.holds("the example of a series", found, (0, (examples / "series-across-summer-time.replies").read_bytes().decode(), ""))
 
 
 def numbers_of_guide():
     """The numbers in the tables of docs/PROFILE.md, of refusals and of the checker's no."""
-    text = (Path(__file__).resolve().parent.parent / "docs" / "PROFILE.md").read_text(encoding="utf-8")
+    text = (ROOT / "docs" / "PROFILE.md").read_text(encoding="utf-8")
     rows = [line.split("|")[1] for line in text.splitlines() if line.startswith("| ") and line.count("|") == 4]
     return {int(word) for row in rows for word in row.replace(" and a number", "").replace(" and two numbers", "").replace(",", " ").split() if word.isdigit()}
 
@@ -425,6 +427,170 @@ def explained(cases, program):
     cases.holds("a line for each begins with its number", [n for n in sorted(known) if not run(program, "explain", str(n))[1].startswith(f"{n}: ")], [])
     cases.holds("another number is a usage fault", run(program, "explain", "44")[:2], (2, ""))
     cases.holds("so is a word", run(program, "explain", "no")[:2], (2, ""))
+
+
+# An object that isn't refused, a content line each; the line of number n is OBJECT[n - 1].
+OBJECT = ["BEGIN:VCALENDAR", "VERSION:2.0", "METHOD:REQUEST", "BEGIN:VEVENT", "UID:a", "DTSTAMP:20250101T000000Z", "ORGANIZER:mailto:ann@example.com",
+          "ATTENDEE:mailto:r1@example.com", "DTSTART:20250310T090000Z", "DURATION:PT1H", "END:VEVENT", "END:VCALENDAR"]
+
+
+def changed(changes):
+    """OBJECT with other lines: of each number the text that takes its place, "" for none, several lines divided by `|`."""
+    lines = []
+    for number, line in enumerate(OBJECT, 1):
+        text = changes.get(number, line)
+        lines += text.split("|") if text else []
+    return "\r\n".join(lines) + "\r\n"
+
+
+def explained_objects(cases, program):
+    """`explain` without a number: the number, and the place where one line has the fault. The lines were counted by hand, from 1."""
+    zone = "BEGIN:VTIMEZONE|TZID:Z|BEGIN:STANDARD|DTSTART:19700101T000000|TZOFFSETFROM:+1|TZOFFSETTO:+0100|END:STANDARD|END:VTIMEZONE|BEGIN:VEVENT"
+    folded = "ORGANIZER;CN=Ann:| mailto:ann@example.com"
+    alarm = "UID:a|BEGIN:VALARM|DURATION:x|END:VALARM"
+    slot = "DURATION:PT1H|RECURRENCE-ID:20250310T090000Z"
+    for what, wanted, changes in [
+        ("a mail's text before it", "1 at line 1", {1: "Dear room|BEGIN:VCALENDAR"}),
+        ("a mail's text behind its head", "1 at line 2", {1: "From: ann|Dear room|BEGIN:VCALENDAR"}),
+        ("a name with a space", "2 at line 10", {10: "DURA TION:PT1H"}),
+        ("a parameter without =", "2 at line 8", {8: "ATTENDEE;RSVP:mailto:r1@example.com"}),
+        ("a quote that isn't closed", "3 at line 7", {7: 'ORGANIZER;CN="Ann:mailto:ann@example.com'}),
+        ("a control octet", "4 at line 10", {10: "DURATION:PT1H\x07"}),
+        ("DTSTAMP that is no time", "10 at line 6: DTSTAMP", {6: "DTSTAMP:2025"}),
+        ("month 13", "10 at line 9: DTSTART", {9: "DTSTART:20251310T090000Z"}),
+        ("a name in lower case", "10 at line 6: dtstamp", {6: "dtstamp:2025"}),
+        ("a UTC time with TZID", "11 at line 9: DTSTART", {9: "DTSTART;TZID=Europe/Berlin:20250310T090000Z"}),
+        ("no duration", "12 at line 10: DURATION", {10: "DURATION:1H"}),
+        ("no duration, behind an alarm with none", "12 at line 13: DURATION", {5: alarm, 10: "DURATION:1H"}),
+        ("no offset in a zone", "13 at line 8: TZOFFSETFROM", {4: zone, 9: "DTSTART;TZID=Z:20250310T090000"}),
+        ("an empty UID", "14 at line 5: UID", {5: "UID:"}),
+        ("no address", "15 at line 8: ATTENDEE", {8: "ATTENDEE:r1"}),
+        ("no address, on a folded line", "15 at line 7: ORGANIZER", {7: "ORGANIZER;CN=Ann Example:a|  nn@example.com"}),
+        ("no address, behind a folded line", "15 at line 9: ATTENDEE", {7: folded, 8: "ATTENDEE:r1"}),
+        ("the second attendee", "15 at line 9: ATTENDEE", {8: "ATTENDEE:mailto:r1@example.com|ATTENDEE:r2"}),
+        ("a negative SEQUENCE", "16 at line 11: SEQUENCE", {10: "DURATION:PT1H|SEQUENCE:-1"}),
+        ("BEGIN without END", "21", {12: ""}),
+        ("another VERSION", "24 at line 2: VERSION", {2: "VERSION:1.0"}),
+        ("no VERSION", "24", {2: ""}),
+        ("an hourly rule", "30 at line 11: RRULE", {10: "DURATION:PT1H|RRULE:FREQ=HOURLY"}),
+        ("month 13 in a rule", "31 at line 11: RRULE", {10: "DURATION:PT1H|RRULE:FREQ=YEARLY;BYMONTH=13"}),
+        ("a rule without FREQ", "32 at line 11: RRULE", {10: "DURATION:PT1H|RRULE:COUNT=3"}),
+        ("COUNT beside UNTIL", "33 at line 11: RRULE", {10: "DURATION:PT1H|RRULE:FREQ=DAILY;COUNT=3;UNTIL=20250320T000000Z"}),
+        ("a Monday isn't a Tuesday", "34 at line 11: RRULE", {10: "DURATION:PT1H|RRULE:FREQ=WEEKLY;BYDAY=TU"}),
+        ("a zone without a part", "40", {4: "BEGIN:VTIMEZONE|TZID:Z|END:VTIMEZONE|BEGIN:VEVENT", 9: "DTSTART;TZID=Z:20250310T090000"}),
+        ("a zone that isn't there", "43 at line 9: DTSTART", {9: "DTSTART;TZID=Europe/Berlin:20250310T090000"}),
+        ("two times in a zone that isn't there", "43", {9: "DTSTART;TZID=Europe/Berlin:20250310T090000", 10: "DTEND;TZID=Europe/Berlin:20250310T100000"}),
+        ("DTEND before DTSTART", "50 at line 10: DTEND", {10: "DTEND:20250309T090000Z"}),
+        ("a negative duration", "51 at line 10: DURATION", {10: "DURATION:-PT1H"}),
+        ("367 days", "51 at line 10: DURATION", {10: "DURATION:P367D"}),
+        ("a start in 1960", "52 at line 9: DTSTART", {9: "DTSTART:19600310T090000Z"}),
+        ("a start and an end in 1960", "52", {9: "DTSTART:19600310T090000Z", 10: "DTEND:19600310T100000Z"}),
+        ("two VEVENTs without RECURRENCE-ID", "53", {11: "|".join(["END:VEVENT", *OBJECT[3:11]])}),
+        ("a whole day", "55 at line 9: DTSTART", {9: "DTSTART;VALUE=DATE:20250310"}),
+        ("a time without zone", "55 at line 9: DTSTART", {9: "DTSTART:20250310T090000"}),
+        ("a period", "56 at line 11: RDATE", {10: "DURATION:PT1H|RDATE;VALUE=PERIOD:20250311T090000Z/PT1H"}),
+        ("PUBLISH", "60 at line 3: METHOD", {3: "METHOD:PUBLISH"}),
+        ("no UID", "61", {5: ""}),
+        ("UID twice", "61", {5: "UID:a|UID:a"}),
+        ("no ORGANIZER", "63", {7: ""}),
+        ("RANGE", "65 at line 11: RECURRENCE-ID", {10: "DURATION:PT1H|RECURRENCE-ID;RANGE=THISANDFUTURE:20250310T090000Z"}),
+        ("no VEVENT", "66", dict.fromkeys(range(4, 12), "")),
+        ("RRULE beside RECURRENCE-ID", "67 at line 12: RRULE", {10: slot + "|RRULE:FREQ=DAILY"}),
+    ]:
+        number = wanted.partition(" ")[0]
+        meaning = run(program, "explain", number)[1]
+        cases.holds(f"explain of an object with {what}", run(program, "explain", given=changed(changes)), (1, f"refused {wanted}\n{meaning}", ""))
+        cases.holds(f"serve refuses {what} with the same number", answers(program, changed(changes)), [f"REFUSED;OBJECT=1:{number}"])
+    for what, wanted, octets in [
+        ("not UTF-8", "5 at line 10", changed({10: "SUMMARY:?|DURATION:PT1H"}).encode().replace(b"?", b"\xff")),
+        ("too long", "6", changed({10: "|".join(["DURATION:PT1H"] + ["X-PAD:" + "x" * 1000] * 1100)}).encode()),
+        ("a stream, whose first line has no colon", "1 at line 1", (PREAMBLE + changed({})).encode()),
+        ("lines that end with LF", "43 at line 9: DTSTART", changed({9: "DTSTART;TZID=Z:20250310T090000"}).replace("\r\n", "\n").encode()),
+    ]:
+        meaning = run(program, "explain", wanted.partition(" ")[0])[1]
+        cases.holds(f"explain of an object that is {what}", run(program, "explain", given=octets), (1, f"refused {wanted}\n{meaning}", ""))
+    # a line that has the fault, and isn't the one that the object is refused for, is never named
+    other = "BEGIN:VTIMEZONE|TZID:U|BEGIN:STANDARD|DTSTART:{start}|TZOFFSETFROM:{offset}|TZOFFSETTO:+0100|END:STANDARD|END:VTIMEZONE|"
+    part = "BEGIN:VTIMEZONE|TZID:Z|BEGIN:X-PART|TZOFFSETFROM:+1|END:X-PART|" + zone.split("|", 2)[2]
+    for what, wanted, changes in [
+        ("an offset, and one of a zone that isn't used", "13 at line 16: TZOFFSETFROM", {4: other.format(start="19700101T000000", offset="+1") + zone, 9: "DTSTART;TZID=Z:20250310T090000"}),
+        ("a time, and one of a zone that isn't used", "11 at line 25: DTSTART", {4: other.format(start="19700101", offset="+0100") + zone.replace("+1|", "+0100|"), 9: "DTSTART;TZID=Z:20250310T090000Z"}),
+        ("an offset, and one of another part", "13 at line 11: TZOFFSETFROM", {4: part, 9: "DTSTART;TZID=Z:20250310T090000"}),
+        ("a time, and one of a VTODO", "10 at line 9: DTSTAMP", {4: "BEGIN:VTODO|DTSTAMP:2025|END:VTODO|BEGIN:VEVENT", 6: "DTSTAMP:2025"}),
+        ("an address, and one of an alarm", "15 at line 12: ATTENDEE", {5: "UID:a|BEGIN:VALARM|ATTENDEE:x|END:VALARM", 8: "ATTENDEE:mailto:r1@example.com|ATTENDEE:y"}),
+        ("a first line that continues nothing", "1 at line 1", {1: " Dear room|BEGIN:VCALENDAR"}),
+    ]:
+        said = run(program, "explain", given=changed(changes))[1].partition("\n")[0]
+        cases.holds(f"explain never names a wrong line: {what} ({said})", said in (f"refused {wanted}", f"refused {wanted.partition(' ')[0]}"), True)
+    if shutil.which("awk"):
+        recipe = next(line for line in (ROOT / "docs" / "PROFILE.md").read_text(encoding="utf-8").splitlines() if line.startswith("    awk "))
+        stream = (PREAMBLE + changed({}) + "\r\n" + changed({5: "UID:b"}) + changed({9: "DTSTART;TZID=Z:20250310T090000"}) + changed({5: ""})).encode()
+        cut = subprocess.run(["sh", "-c", recipe.partition(" stream |")[0]], input=stream, capture_output=True).stdout
+        cases.holds("the recipe that cuts out the third object", cut.decode(), changed({9: "DTSTART;TZID=Z:20250310T090000"}))
+    for method, wanted in [("REQUEST", "a REQUEST"), ("ADD", "an ADD"), ("CANCEL", "a CANCEL"), ("REPLY", "a REPLY"), ("REFRESH", "a REFRESH"), (None, "a store")]:
+        taken = changed({3: f"METHOD:{method}" if method else ""})
+        cases.holds(f"explain of {wanted}", run(program, "explain", given=taken), (0, f"not refused: {wanted}\n", ""))
+
+
+def reported(cases, program):
+    """`serve --report`: a line on standard error at the end, and standard output as without it."""
+    good, zone, twice = changed({}), changed({9: "DTSTART;TZID=Z:20250310T090000"}), changed({5: "UID:a|UID:a"})
+    for what, objects, wanted in [
+        ("no object", [], "0 objects, 0 refused"),
+        ("none refused", [good, good], "2 objects, 0 refused"),
+        ("three refused", [zone, good, twice, zone, good], "5 objects, 3 refused (43: 2, 61: 1)"),
+        ("one object", [zone], "1 object, 1 refused (43: 1)"),
+        ("all refused", [twice, twice], "2 objects, 2 refused (61: 2)"),
+        ("the numbers in their order", [changed({7: ""}), twice, zone, changed({10: "DURATION:1H"})], "4 objects, 4 refused (12: 1, 43: 1, 61: 1, 63: 1)"),
+        ("a refusal by an organiser's state", [changed({3: "METHOD:REPLY"}), good], "2 objects, 1 refused (70: 1)"),
+        ("a decline isn't a refusal", [good, changed({5: "UID:b"})], "2 objects, 0 refused"),
+    ]:
+        stream = PREAMBLE + "".join(objects)
+        without = run(program, "serve", given=stream)
+        cases.holds(f"without a report, {what}", (without[0], without[2]), (0, ""))
+        cases.holds(f"a report of {what}", run(program, "serve", "--report", given=stream), (0, without[1], f"roombox: {wanted}\n"))
+    cases.holds("no report of a stream that ends early", run(program, "serve", "--report", given="now\n\n" + good), (3, "", "roombox: refused 90\n"))
+    cases.holds("no report of nothing", run(program, "serve", "--report"), (3, "", "roombox: refused 90\n"))
+
+
+def command_line(cases, program):
+    """Help, usage faults, the man page and the completion."""
+    for given, argument in [(("expand", "--limit", "0"), "--limit <N>"), (("expand", "--limit", "100001"), "--limit <N>"), (("expand", "--limit", "100,000"), "--limit <N>"),
+                            (("keep", "r1"), "<ROOM>"), (("check", "a", "b", "r1"), "<ROOM>"), (("explain", "44"), "[NUMBER]"), (("explain", "no"), "[NUMBER]")]:
+        status, out, said = run(program, *given)
+        cases.holds(f"a bad word: {given}", (status, out, said.startswith(f"error: invalid value '{given[-1]}' for '{argument}': "), said.endswith("\n\nFor more information, try '--help'.\n")), (2, "", True, True))
+    for given in [("what",), ("keep",), ("expand", "--limt", "1"), ("explain", "43", "44"), ("serve", "--report", "x")]:
+        status, out, said = run(program, *given)
+        cases.holds(f"a bad word: {given}", (status, out, said.startswith("error: "), said.endswith("\n\nFor more information, try '--help'.\n")), (2, "", True, True))
+    cases.holds("the greatest limit", run(program, "expand", "--limit", "100000", given="\r\n".join(OBJECT[:2] + OBJECT[3:]))[:2], (0, "20250310T090000Z 20250310T090000Z 3600\n"))
+    top, commands = man_page.all_help(program)
+    cases.holds("the statuses of the help", [int(number) for number, _ in top.statuses()], [0, 1, 2, 3, 4, 5])
+    for name, help in commands.items():
+        text = "\n".join(line for lines in help.paragraphs for line in lines)
+        cases.holds(f"the help of {name} says its statuses, where the numbers are, and an example", [part in text for part in ("Exit status: 0 ", "docs/PROFILE.md", "Example: roombox ")], [True] * 3)
+    cases.holds("the man page is made from the help (make man)", (ROOT / "docs" / "roombox.1").read_text(encoding="utf-8"), man_page.man_page(program))
+    script = ROOT / "docs" / "roombox.bash"
+    cases.holds("so is the completion", script.read_text(encoding="utf-8"), man_page.completion(program))
+    if shutil.which("bash"):
+        for line, wanted in [("roombox ex", "expand explain"), ("roombox serve --", "--report --help"), ("roombox keep --c", "--certificate"), ("roombox keep ", ""), ("roombox --v", "--version")]:
+            line = line.split(" ")
+            made = f"source '{script}'; COMP_WORDS=({' '.join(repr(word) for word in line)}); COMP_CWORD={len(line) - 1}; _roombox; echo \"${{COMPREPLY[*]}}\""
+            cases.holds(f"completed: {line}", subprocess.run(["bash", "-c", made], capture_output=True, text=True).stdout, wanted + "\n")
+    if shutil.which("groff"):
+        shown = subprocess.run(["groff", "-man", "-Tutf8", "-ww", "-P-cbou", str(ROOT / "docs" / "roombox.1")], capture_output=True)
+        cases.holds("groff shows the man page without a warning", (shown.returncode, shown.stderr.decode(), b"EXIT STATUS" in shown.stdout), (0, "", True))
+
+
+def examples(cases, program):
+    """Each NAME.ics-stream of examples/ has what is written for it beside it, as NAME.replies."""
+    folder = ROOT / "examples"
+    streams, written = ({path.stem for path in folder.glob(f"*.{kind}")} for kind in ("ics-stream", "replies"))
+    cases.holds("each example of a stream has its replies", streams, written)
+    for name in sorted(streams & written):
+        found = run(program, "serve", given=(folder / f"{name}.ics-stream").read_bytes())
+        cases.holds(f"the example {name}", found, (0, (folder / f"{name}.replies").read_bytes().decode(), ""))
+    found = run(program, "expand", "--limit", "3", given=(folder / "every-second-tuesday.ics").read_bytes())
+    cases.holds("the example of expand", found, (0, "".join(f"{day}T090000Z {day}T090000Z 3600\n" for day in ("20250107", "20250121", "20250204")), ""))
 
 
 def organisers(cases, program):
@@ -478,14 +644,11 @@ def organisers(cases, program):
     cases.holds("a REQUEST as it is shown", lines[4:], [
         "BEGIN:VEVENT", "UID:s", "SEQUENCE:0", "DTSTAMP:20250102T000000Z", "DTSTART:20250401T090000Z", "DURATION:PT3600S", "SUMMARY:Plan", "ORGANIZER:mailto:ann@example.com",
         "ATTENDEE;PARTSTAT=NEEDS-ACTION;RSVP=TRUE:mailto:r1@example.com", "END:VEVENT", "END:VCALENDAR", ""])
-    folder = Path(__file__).parent.parent / "examples"
-    written = run(program, given=(folder / "organiser-conversation.ics-stream").read_bytes())[1]
-    cases.holds("the example of a conversation", written, (folder / "organiser-conversation.answers").read_bytes().decode())
 
 
 def main():
     program, cases = str(Path(sys.argv[1]).resolve()), Cases()
-    for part in (preambles, decisions, instances, added, replies, refusals, kept, zones, times_in_zones, series, kept_series, organisers, explained):
+    for part in (preambles, decisions, instances, added, replies, refusals, kept, zones, times_in_zones, series, kept_series, organisers, explained, explained_objects, reported, command_line, examples):
         part(cases, program)
     print(f"{cases.count} cases, {cases.failed} failed")
     return 1 if cases.failed else 0

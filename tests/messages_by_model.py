@@ -242,7 +242,7 @@ class Room:
         return whole is None or revision > whole[0] or (revision == whole[0] and whole[1] != "cancelled")
 
     def confirmed(self, accepted):
-        """The instances of accepted parts in the view, without those that another part in the view stands for."""
+        """The instances of accepted parts in the view, without those that another part in the view is for."""
         found = []
         for key in accepted:
             uid, slot = key

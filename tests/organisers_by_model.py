@@ -4,7 +4,7 @@
     python3 tests/organisers_by_model.py --table N      # prints N cases of what organisers show, for crates/worked_examples/data/organisers.txt
 
 Each stream has two organisers and stores, replies and refreshes of a few meetings: instances by RECURRENCE-ID before and behind the whole meeting, RDATE
-and EXDATE, times in UTC and in two zones, SUMMARY with escapes, attendees that stand twice, agents of each kind, statuses, a SEQUENCE near the last one;
+and EXDATE, times in UTC and in two zones, SUMMARY with escapes, attendees that occur twice, agents of each kind, statuses, a SEQUENCE near the last one;
 replies to older and newer stores, of strangers, of two attendees; objects of organisers that aren't hosted, with METHODs that aren't taken, with two
 VEVENTs for the whole or for one instance. Compared is all that is written, octet by octet. It ends with 1 where any differed.
 """

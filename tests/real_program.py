@@ -41,10 +41,15 @@ def full_disk(program, calendar, certificate):
     """Each command that writes onto a full disk ends with 4, and says that a device failed."""
     commands = {
         "serve": (["serve"], PREAMBLE + REQUEST),
+        "serve --report": (["serve", "--report"], PREAMBLE + REQUEST),
         "keep": (["keep", ROOM], PREAMBLE + REQUEST),
         "keep --certificate": (["keep", "--certificate", ROOM], PREAMBLE + REQUEST),
         "check": (["check", calendar, certificate, ROOM], ""),
         "expand": (["expand"], SERIES),
+        "explain": (["explain"], REQUEST),
+        "explain of a refused object": (["explain"], SERIES.replace("DTSTART", "DTSTARX")),
+        "explain 43": (["explain", "43"], ""),
+        "help": (["--help"], ""),
     }
     for name, (words, stdin) in commands.items():
         with open("/dev/full", "wb") as full:

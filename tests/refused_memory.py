@@ -57,6 +57,14 @@ void *aligned_alloc(size_t align, size_t size) {
 """
 
 
+# An object whose METHOD isn't read, and that has no VEVENT.
+REFUSED = b"BEGIN:VCALENDAR\r\nVERSION:2.0\r\nMETHOD:PUBLISH\r\nEND:VCALENDAR\r\n"
+
+
+def meaning_of(program, number):
+    return subprocess.run([program, "explain", str(number)], capture_output=True, check=True).stdout
+
+
 def read(*names):
     folder = os.path.join(os.path.dirname(__file__), "..", "crates", "worked_examples", "data")
     return b"".join(open(os.path.join(folder, name), "rb").read() for name in names)
@@ -67,12 +75,12 @@ def run(words, stream, shim, number):
     return subprocess.run(words, input=stream, capture_output=True, env=environment, check=False)
 
 
-def sweep(name, words, stream, wholes, shim):
-    """Refuses allocation 1, 2, .. until none is left to refuse; `wholes` are the outputs that an early end may leave."""
+def sweep(name, words, stream, wholes, shim, status=0):
+    """Refuses allocation 1, 2, .. until none is left to refuse; `wholes` are the outputs that an early end may leave, `status` is that of the whole run."""
     refused, unmoved = 0, 0
     for number in range(1, 100_000):
         result = run(words, stream, shim, number)
-        if result.returncode == 0 and result.stdout == wholes[-1]:
+        if result.returncode == status and result.stdout == wholes[-1]:
             # the program did without it, or made fewer allocations than that
             unmoved += 1
             if unmoved > 100:
@@ -111,9 +119,14 @@ def main():
             ("a meeting that is called off", [program, "serve"], read("preamble-organiser", "store-s-cancelled"), [b"", read("called-off-s-0")]),
             ("a series in a zone that is stored", [program, "serve"], read("preamble-organiser", "store-s-series"), [b"", read("sent-s-series-3")]),
             ("a check", [program, "check", kept, certificate, room], b"", [b"", b"yes\n"]),
+            ("a report", [program, "serve", "--report"], read("preamble", "request-a"), [b"", accepted]),
+            ("an object that isn't refused", [program, "explain"], read("request-a"), [b"", b"not refused: a REQUEST\n"]),
+            ("an object that is refused", [program, "explain"], REFUSED, [b"", b"refused 60 at line 3: METHOD\n" + meaning_of(program, 60)], 1),
+            ("an object that is refused for what it lacks", [program, "explain"], REFUSED.replace(b"PUBLISH", b"REQUEST"), [b"", b"refused 66\n" + meaning_of(program, 66)], 1),
+            ("a bad word", [program, "expand", "--limit", "0"], b"", [b""], 2),
         ]
-        for name, words, stream, wholes in rows:
-            print(f"{name}: {sweep(name, words, stream, wholes, shim)} allocations, each refused in turn")
+        for name, words, stream, wholes, *status in rows:
+            print(f"{name}: {sweep(name, words, stream, wholes, shim, *status)} allocations, each refused in turn")
 
 
 main()

@@ -129,7 +129,7 @@ def rows(zone):
 
 
 def replace_outcome(before, outcome):
-    """Puts new lines into stdout where those of the names before stand."""
+    """Puts new lines into stdout where those of the names before are."""
     lines = (CRATE / "stdout").read_text().splitlines()
     old = [place for place, line in enumerate(lines) if re.fullmatch(r"ok (%s) \d+" % "|".join(before), line)]
     assert old == list(range(old[0], old[0] + len(before))), old

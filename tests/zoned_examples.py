@@ -1,7 +1,7 @@
 #!/usr/bin/env python3
 """Makes the cases of crates/worked_examples of times with TZID, nominal days, RDATE, EXDATE and RECURRENCE-ID: files `zone-*` and
 `zoned-*` of its `data` (those without an ending), the lines of `commands.txt` after the line `# times in zones`, and the lines of `stdout`
-for all of `commands.txt`, which stand there one after another. It is run by hand, in the top folder: `python3 tests/zoned_examples.py`.
+for all of `commands.txt`, which are there one after another. It is run by hand, in the top folder: `python3 tests/zoned_examples.py`.
 
 What must come out is written here by hand, or is what Python's zoneinfo says of the local times (with fold=0: the first of
 two, and in a gap the offset before it).

@@ -27,7 +27,8 @@ YesMeansFree =
 abbrev pub would_be : Book → List Claim → ℤ → Book → Book
 would_be before claims moment after = if_accepted before claims moment after.taken
 
--- and a new revision is accepted exactly where that stays true, within the limits, each decline naming two instances and an instant in both.
+-- and a new revision is accepted exactly where that stays true, within the limits, each decline for a clash naming two instances and an
+-- instant in both.
 abbrev pub AcceptedWhereClear : Type 0
 AcceptedWhereClear =
     (before : Book) (claims : List Claim) (moment : ℤ) (outcome : Outcome) (after : Book) → IsStep before claims moment outcome after
