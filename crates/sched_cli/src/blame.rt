@@ -44,7 +44,7 @@ pub(crate) fn blame_of(
     match judge(alloc, within, line) {
         Err(Fault::Memory) => Err(AllocError),
         Err(Fault::Refused(refusal)) if refusal.number == number => Ok(blame_within(within)),
-        _ if within == Within::Event && can_have(number, line) => Ok(Blame::Possible),
+        _ if can_have(number, within, line) => Ok(Blame::Possible),
         _ => Ok(Blame::None),
     }
 }
@@ -60,31 +60,10 @@ fn blame_within(within: Within) -> Blame {
 /// Reads the value of a content line by itself. Refused as it is where the object is read.
 fn judge(alloc: Global, within: Within, line: Line<'_>) -> Result<(), Fault> {
     match within {
-        Within::Calendar => Ok(judge_of_calendar(line)?),
         Within::Event => judge_of_event(alloc, line),
         Within::ZonePart => Ok(judge_of_zone(line)?),
-        Within::Other => Ok(()),
+        Within::Calendar | Within::Other => Ok(()),
     }
-}
-
-/// Of VCALENDAR: 24 for a VERSION that isn't 2.0, 60 for a METHOD that isn't taken (RFC 5545 3.7).
-fn judge_of_calendar(line: Line<'_>) -> Result<(), Refusal> {
-    if line.is_named("VERSION") && line.value() != "2.0" {
-        return Err(Refusal::BAD_VERSION);
-    }
-    if line.is_named("METHOD") && !is_method(line.value()) {
-        return Err(Refusal::BAD_METHOD);
-    }
-    Ok(())
-}
-
-fn is_method(word: &str) -> bool {
-    for method in ["REQUEST", "ADD", "CANCEL", "REPLY", "REFRESH"] {
-        if word.eq_ignore_ascii_case(method) {
-            return true;
-        }
-    }
-    false
 }
 
 /// Of STANDARD and DAYLIGHT (RFC 5545 3.6.5).
@@ -140,8 +119,24 @@ fn is_time(line: Line<'_>) -> bool {
     line.is_named("DTSTART") || line.is_named("DTEND") || line.is_named("RECURRENCE-ID")
 }
 
-/// Whether the fault of this number lies with a property of a VEVENT together with others.
-fn can_have(number: u8, line: Line<'_>) -> bool {
+/// Whether a line can have the fault of this number, together with others or because another one is missing.
+fn can_have(number: u8, within: Within, line: Line<'_>) -> bool {
+    match within {
+        Within::Calendar => can_have_in_calendar(number, line),
+        Within::Event => can_have_in_event(number, line),
+        Within::ZonePart | Within::Other => false,
+    }
+}
+
+fn can_have_in_calendar(number: u8, line: Line<'_>) -> bool {
+    match number {
+        24 => line.is_named("VERSION"),
+        60 => line.is_named("METHOD"),
+        _ => false,
+    }
+}
+
+fn can_have_in_event(number: u8, line: Line<'_>) -> bool {
     match number {
         34 => line.is_named("RRULE"),
         43 => line.param("TZID").is_some(),
