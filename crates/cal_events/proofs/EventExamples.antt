@@ -82,10 +82,10 @@ no_need h = absurd (true≢false (sym h))
 say : (object : Tree) → SaysEvent object None lines said
 unfolding lines said unescaped
 say object = record {
-  uid = record { line = Some (codes "uid:a"); once = refl; stands = λ _. refl; is = (refl, (omega arith, omega arith)) };
-  organiser = record { line = None; once = refl; stands = no_need; is = tt };
-  stamp = record { line = None; once = refl; stands = no_need; is = tt };
-  sequence = (None, record { line = None; once = refl; stands = no_need; is = tt }, refl);
+  uid = record { line = Some (codes "uid:a"); once = refl; present = λ _. refl; is = (refl, (omega arith, omega arith)) };
+  organiser = record { line = None; once = refl; present = no_need; is = tt };
+  stamp = record { line = None; once = refl; present = no_need; is = tt };
+  sequence = (None, record { line = None; once = refl; present = no_need; is = tt }, refl);
   status = (None, refl, refl);
   times = inl (record {
     line = codes "DTSTART;VALUE=date-time:20250310T090000Z";
@@ -100,9 +100,9 @@ say object = record {
     most = omega arith;
     in_dates = (omega (arith, ints), omega (arith, ints), omega (arith, ints));
   });
-  rule = record { text = None; spells = record { line = None; once = refl; stands = no_need; is = tt }; gives = tt };
+  rule = record { text = None; spells = record { line = None; once = refl; present = no_need; is = tt }; gives = tt };
   occurrences = record {
-    is = record { line = None; once = refl; stands = no_need; is = tt };
+    is = record { line = None; once = refl; present = no_need; is = tt };
     adds = (tt, omega arith);
     inside = tt;
     takes = (tt, omega arith);

@@ -18,7 +18,7 @@ use Rattle.profile.specs.text.Lines.{line_value}
 use Rattle.profile.specs.text.Values.{SpellsDate, SpellsLocal, SpellsStamp, SpellsSequence, SpellsDuration, SpellsLong, IsUid, unescaped}
 use Rattle.profile.specs.text.Trees.{Tree}
 use Rattle.profile.specs.events.Events.{SaysSequence, EventFault, IsAttendee, bad_attendee, Method, first_text, summary_of}
-use Rattle.profile.specs.events.Properties.{is_of, lines_named, StandsAtMostOnce, SomeLine, Says, IsUidLine, TimeKind, DateTime, time_kind, IsDateText, IsLocalText, KindFault, IsNegativeOrLong, IsNoAddress}
+use Rattle.profile.specs.events.Properties.{is_of, lines_named, OccursAtMostOnce, SomeLine, Says, IsUidLine, TimeKind, DateTime, time_kind, IsDateText, IsLocalText, KindFault, IsNegativeOrLong, IsNoAddress}
 use Rattle.cal_events.specs.Events.{attendee_of, IsTime}
 use Rattle.ical_tree.proofs.OneLine.{the_line}
 
@@ -35,26 +35,26 @@ by_number (Refused r) P Q k g t q = subst P (sym (is_number r.number k t)) (g q)
 
 -- ---- lines
 
-pub some_line : (name : List ℕ) (P : List ℕ → Type 0) (lines : List (List ℕ)) (line : List ℕ) → StandsAtMostOnce name lines (Some line) → P line → SomeLine name P lines
+pub some_line : (name : List ℕ) (P : List ℕ → Type 0) (lines : List (List ℕ)) (line : List ℕ) → OccursAtMostOnce name lines (Some line) → P line → SomeLine name P lines
 some_line name P lines line e p = (line, the_line name lines line e, p)
 
 -- ---- values
 
-pub uid_said : (r : Result Text Fault) (lines : List (List ℕ)) (line value : List ℕ) → StandsAtMostOnce (codes "UID") lines (Some line) → value ≡ line_value line
+pub uid_said : (r : Result Text Fault) (lines : List (List ℕ)) (line value : List ℕ) → OccursAtMostOnce (codes "UID") lines (Some line) → value ≡ line_value line
     → IfOk r (λ t. text_octets t ≡ unescaped value) → OnOk r (IsUid (unescaped value)) → IfOk r (λ t. Says (codes "UID") true IsUidLine lines (Some (text_octets t)))
 uid_said (Ok t) lines line value once v h u = record {
   line = Some line;
   once = once;
-  stands = λ _. refl;
+  present = λ _. refl;
   is = (h ∙ ap unescaped v, subst IsUid (sym h) u);
 }
 uid_said (Err e) lines line value once v h u = tt
 
-pub sequence_said : (r : Result ℕ Refusal) (lines : List (List ℕ)) (line value : List ℕ) → StandsAtMostOnce (codes "SEQUENCE") lines (Some line) → value ≡ line_value line
+pub sequence_said : (r : Result ℕ Refusal) (lines : List (List ℕ)) (line value : List ℕ) → OccursAtMostOnce (codes "SEQUENCE") lines (Some line) → value ≡ line_value line
     → IfOk r (SpellsSequence value) → IfOk r (SaysSequence lines)
 sequence_said (Ok n) lines line value once v h = (
   Some n,
-  record { line = Some line; once = once; stands = λ _. refl; is = subst (λ (t : List ℕ). SpellsSequence t n) v h },
+  record { line = Some line; once = once; present = λ _. refl; is = subst (λ (t : List ℕ). SpellsSequence t n) v h },
   refl,
 )
 sequence_said (Err e) lines line value once v h = tt

@@ -15,7 +15,7 @@ use Rattle.profile.specs.faults.Faults.{is_object_fault, is_meeting_event_fault}
 use Rattle.ical_lines.specs.declared.fault.Fault.{Fault}
 use Rattle.ical_lines.specs.declared.fault.Fault.TheVariants.{Refused, Memory}
 use Rattle.ical_tree.specs.Tree.{IsObjectOf, tree_of}
-use Rattle.ical_tree.specs.Reading.{Stands}
+use Rattle.ical_tree.specs.Reading.{IsRefusalOf}
 use Rattle.ical_tree.specs.declared.component.Component.{Component}
 use Rattle.ical_tree.proofs.TreeOfLemmas.{object_tree}
 use Rattle.ical_values.proofs.Exits.{err_exit}
@@ -163,7 +163,7 @@ pub fault_there : (octets : List ℕ) (c : Component) → IsObjectOf true c (log
 fault_there octets c object Memory h = tt
 fault_there octets c object (Refused r) h = in_vevents (tree_of c) (object_tree true c (logical_lines octets) object) h
 
-pub object_refused : (r : Result declared.Event Fault) (octets : List ℕ) (f : Fault) → IsErrAnd r (λ e. e ≡ f) → Stands true octets f → IfErr r (RefusesBy (MeetingTextFault octets))
+pub object_refused : (r : Result declared.Event Fault) (octets : List ℕ) (f : Fault) → IsErrAnd r (λ e. e ≡ f) → IsRefusalOf true octets f → IfErr r (RefusesBy (MeetingTextFault octets))
 object_refused r octets f e h =
     err_exit r (RefusesBy (MeetingTextFault octets)) f e
     (no_object octets (MeetingTextFault octets) (λ t x. no_version t x.0 x.1) (λ t x. many_events t x.0 x.1) (λ n x. in_lines x) (λ n x. in_tree x) f h)

@@ -111,7 +111,7 @@ rule_text_number text n (apart rule s h) = refl
 rule_text_number text n (two_ends rule s h) = refl
 
 rule_number : (object : Tree) (lines : Lines) (n : ℕ) → EventRuleFault object lines n → is_series_event_fault n ≡ true
-rule_number object lines n (bad_rule l) = rule_text_number (line_value l.0) n l.2.stands
+rule_number object lines n (bad_rule l) = rule_text_number (line_value l.0) n l.2.fault
 rule_number object lines n (starts_outside l) = refl
 rule_number object lines n (two_rules x) = refl
 

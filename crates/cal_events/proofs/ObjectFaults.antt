@@ -6,7 +6,7 @@ use Rattle.ical_lines.specs.Fault.{RefusesBy}
 use Rattle.ical_lines.specs.declared.fault.Fault.{Fault}
 use Rattle.ical_lines.specs.declared.fault.Fault.TheVariants.{Refused, Memory}
 use Rattle.ical_tree.specs.Tree.{component_name, component_lines, component_children, tree_of}
-use Rattle.ical_tree.specs.Reading.{SpellsOf, Stands, calendar_has}
+use Rattle.ical_tree.specs.Reading.{SpellsOf, IsRefusalOf, calendar_has}
 use Rattle.ical_tree.specs.declared.component.Component.{Component}
 use Rattle.ical_tree.proofs.TreeOfLemmas.{tree_of-own, spells_tree, count_tree}
 use Rattle.profile.specs.text.Lines.{logical_lines, text_has}
@@ -53,7 +53,7 @@ module _ (octets : List ℕ) (P : ℕ → Type 0) (version : (t : Tree) → HasN
           subst P (sym is) (many (tree_of c) (spells_tree 7 c (logical_lines octets) s, subst (λ k. 200 < k) (sym (count_tree (codes "VEVENT") c)) more))
       at false false e f g = absurd (cc)
 
-  pub no_object : ((n : ℕ) → text_has true n octets ≡ true → P n) → ((n : ℕ) → lines_have n (logical_lines octets) ≡ true → P n) → (f : Fault) → Stands true octets f → RefusesBy P f
+  pub no_object : ((n : ℕ) → text_has true n octets ≡ true → P n) → ((n : ℕ) → lines_have n (logical_lines octets) ≡ true → P n) → (f : Fault) → IsRefusalOf true octets f → RefusesBy P f
   no_object line tree Memory h = tt
   no_object line tree (Refused x) (inl h) = line x.number h
   no_object line tree (Refused x) (inr (inl h)) = tree x.number h

@@ -97,8 +97,8 @@ one_number line m n h k = kind_number (time_kind line) (line_value line) m n h k
 
 -- ---- there is no fault where an event is said
 
-stands_some : {V : Type 0} (R : List ℕ → V → Type 0) (name : List ℕ) (m : Bool) (lines : Lines) (v : Option V) → Says name m R lines v → m ≡ true → IsMissing name lines → ⊥
-stands_some R name m lines v s t missing = go s.line (sym s.once ∙ missing) (s.stands t)
+present_some : {V : Type 0} (R : List ℕ → V → Type 0) (name : List ℕ) (m : Bool) (lines : Lines) (v : Option V) → Says name m R lines v → m ≡ true → IsMissing name lines → ⊥
+present_some R name m lines v s t missing = go s.line (sym s.once ∙ missing) (s.present t)
   where
     go : (l : Option (List ℕ)) → option_to_list l ≡ [] → is_some l ≡ true → ⊥
     go None h k = true≢false (sym k)
@@ -131,7 +131,7 @@ module _ (two : OneDuration) (apart : NotBoth) (zoned : OneZonedTime) (sound : N
   no_fault n (bad_organiser l) = let f = said_by IsAddressLine IsNoAddress (codes "ORGANIZER") (is_some m) lines event.organiser s.organiser l in l.2 f.1.0
   no_fault n (bad_attendee l) = let f = zip_at IsAttendee (lines_named (codes "ATTENDEE") lines) event.attendees l.0 s.attendees l.1 in l.2 f.1.address.0
   no_fault n (bad_sequence l) = let f = said_by IsSequenceLine IsNoSequence (codes "SEQUENCE") false lines s.sequence.0 s.sequence.1 l in l.2 f.0 f.1
-  no_fault n (no_uid h) = stands_some IsUidLine (codes "UID") true lines (Some event.uid) s.uid refl h
-  no_fault n (no_stamp_given t h) = stands_some IsStampLine (codes "DTSTAMP") (is_some m) lines event.stamp s.stamp t h
+  no_fault n (no_uid h) = present_some IsUidLine (codes "UID") true lines (Some event.uid) s.uid refl h
+  no_fault n (no_stamp_given t h) = present_some IsStampLine (codes "DTSTAMP") (is_some m) lines event.stamp s.stamp t h
   no_fault n (twice name c h) = let l = All-contains (IsLone lines) single_names name (all_lone object m lines event s) c in absurd (omega arith)
-  no_fault n (no_organiser t h) = stands_some IsAddressLine (codes "ORGANIZER") (is_some m) lines event.organiser s.organiser t h
+  no_fault n (no_organiser t h) = present_some IsAddressLine (codes "ORGANIZER") (is_some m) lines event.organiser s.organiser t h

@@ -91,7 +91,7 @@ is_up_to_last rule day h = grind (arith, nat_tests)
 no_text_fault : OneRule → NoRuleFault → (lines : Lines) (times : EventTimes) (rule : Option Parts) → SaysEventRule lines times rule → (n : ℕ)
     → SomeLine (codes "RRULE") (λ line. IsLeastRuleFault (line_value line) n) lines → ⊥
 no_text_fault rules none lines times rule r n l =
-    let f = said_by IsRuleText _ (codes "RRULE") false lines r.text r.spells l in none (line_value l.0) n f.0 l.2.stands f.1
+    let f = said_by IsRuleText _ (codes "RRULE") false lines r.text r.spells l in none (line_value l.0) n f.0 l.2.fault f.1
 
 module _ (zoned : OneZonedTime) (rules : OneRule) (none : NoRuleFault) (object : Tree) (lines : Lines) (times : EventTimes) (rule : Option Parts) (s : SaysEventTimes object lines times) (r : SaysEventRule lines times rule) where
   the_clock : IsOneMeaning (clock_of times.zone)

@@ -9,7 +9,7 @@ use Rattle.profile.specs.text.Lines.{line_value, line_param}
 use Rattle.profile.specs.text.Trees.{Tree}
 use Rattle.profile.specs.text.Values.{SpellsDuration, SpellsNegative}
 use Rattle.profile.specs.series.Zones.{Zone, Constant, IsOneMeaning, Means}
-use Rattle.profile.specs.events.Properties.{lines_named, IsMissing, StandsAtMostOnce, SomeLine, Length, length_seconds, LastsFor, IsNegativeOrLong}
+use Rattle.profile.specs.events.Properties.{lines_named, IsMissing, OccursAtMostOnce, SomeLine, Length, length_seconds, LastsFor, IsNegativeOrLong}
 use Rattle.profile.specs.events.ZonedTimes.{zone_named, is_in_zone, SaysZoneOf, SpellsZoned, SaysZonedText, SaysZonedTime, clock_of, SaysInstant, IsInDates, SaysInDates, SaysOutOfDates, ZonedTextFault, EventTimes, LastsUntil, LastsSo, LastsAlone, SaysEventTimes, SaysNoStart, SaysTimes, StartAndEndLie, names_of_times, EventTimesFault, bad_start, bad_end, bad_duration, ends_early, ends_late, lasts_long, starts_out, ends_out, no_start, twice, end_and_duration}
 use Rattle.profile.specs.events.Occurrences.{IsOutside}
 use Rattle.ical_tree.proofs.OneLine.{IsFunctional, same_option, only_line}
@@ -30,10 +30,10 @@ OneDuration = (text : List ℕ) (d s e t : ℕ) → SpellsDuration text d s → 
 abbrev pub NotBoth : Type 0
 NotBoth = (text : List ℕ) (d s : ℕ) → SpellsDuration text d s → SpellsNegative text → ⊥
 
-pub same_line : (name : List ℕ) (lines : Lines) (a b : Option (List ℕ)) → StandsAtMostOnce name lines a → StandsAtMostOnce name lines b → a ≡ b
+pub same_line : (name : List ℕ) (lines : Lines) (a b : Option (List ℕ)) → OccursAtMostOnce name lines a → OccursAtMostOnce name lines b → a ≡ b
 same_line name lines a b h k = same_option a b (sym h ∙ k)
 
-pub at_most_one : (name : List ℕ) (lines : Lines) (l : Option (List ℕ)) → StandsAtMostOnce name lines l → length (lines_named name lines) ≤ 1
+pub at_most_one : (name : List ℕ) (lines : Lines) (l : Option (List ℕ)) → OccursAtMostOnce name lines l → length (lines_named name lines) ≤ 1
 at_most_one name lines None h = let e : length (lines_named name lines) ≡ 0 = ap length h in omega arith
 at_most_one name lines (Some x) h = let e : length (lines_named name lines) ≡ 1 = ap length h in omega arith
 
@@ -136,7 +136,7 @@ one_alone two object lines a b s t =
     times_same a b (s.zone ∙ sym t.zone) (s.local ∙ sym t.local) (s.start ∙ sym t.start) (same_alone two object t.end_line t.duration_line a.length b.length lasts t.lasts)
 
 -- a start is there, or is missing
-there_or_missing : (lines : Lines) (line : List ℕ) → StandsAtMostOnce (codes "DTSTART") lines (Some line) → IsMissing (codes "DTSTART") lines → ⊥
+there_or_missing : (lines : Lines) (line : List ℕ) → OccursAtMostOnce (codes "DTSTART") lines (Some line) → IsMissing (codes "DTSTART") lines → ⊥
 there_or_missing lines line once missing = let k : 0 ≡ 1 = sym (ap length missing) ∙ ap length once in absurd (omega (arith, k))
 
 pub one_times_by : OneZonedTime → OneDuration → {may : Bool} (object : Tree) (lines : Lines) (a b : EventTimes) → SaysTimes may object lines a → SaysTimes may object lines b → a ≡ b

@@ -71,7 +71,7 @@ event_pushed object m vs lines old new event zip says n =
     (push_zip (SaysEvent object m) vs (map event_of old) lines (event_of event) zip says)
 
 -- a VEVENT that is refused has a fault, which the object has
-pub event_stands : (object : Tree) (vs : List Lines) (lines : Lines) (f : Fault) → vevents object ≡ vs → Contains vs lines → RefusesBy (EventFault object None lines) f
+pub event_refuses : (object : Tree) (vs : List Lines) (lines : Lines) (f : Fault) → vevents object ≡ vs → Contains vs lines → RefusesBy (EventFault object None lines) f
     → RefusesBy (CalendarFault object) f
-event_stands object vs lines Memory e h s = tt
-event_stands object vs lines (Refused r) e h s = in_event lines (subst (λ (xs : List Lines). Contains xs lines) (sym e) h) s
+event_refuses object vs lines Memory e h s = tt
+event_refuses object vs lines (Refused r) e h s = in_event lines (subst (λ (xs : List Lines). Contains xs lines) (sym e) h) s

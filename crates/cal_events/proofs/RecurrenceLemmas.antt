@@ -5,7 +5,7 @@ use Rattle.std.proofs.lemmas.Bool.{true≢false}
 use denote.Ref.{Bor}
 use Rattle.profile.specs.text.Lines.{line_param}
 use Rattle.profile.specs.text.Trees.{Tree}
-use Rattle.profile.specs.events.Properties.{StandsAtMostOnce, BothOrNeither}
+use Rattle.profile.specs.events.Properties.{OccursAtMostOnce, BothOrNeither}
 use Rattle.profile.specs.events.ZonedTimes.{SaysOutOfDates}
 use Rattle.profile.specs.events.Occurrences.{has_range, OccurrenceFault, recurrence_out}
 use Rattle.cal_events.specs.Occurrences.{IsRecurrenceSo, IsRecurrenceSaid}
@@ -16,7 +16,7 @@ use Rattle.cal_events.proofs.EventLemmas.{some_line}
 pub recurrence_out_there : {added : Bool} (object : Tree) (lines : List (List ℕ)) (said : SaidInstant) → IsRecurrenceSaid object lines (Some said) → said.in_dates ≡ false → OccurrenceFault added object lines 52
 recurrence_out_there {added} object lines said s out = go s.line s.once s.is
   where
-    go : (l : Option (List ℕ)) → StandsAtMostOnce (codes "RECURRENCE-ID") lines l → BothOrNeither (IsRecurrenceSo object) l (Some said) → OccurrenceFault added object lines 52
+    go : (l : Option (List ℕ)) → OccursAtMostOnce (codes "RECURRENCE-ID") lines l → BothOrNeither (IsRecurrenceSo object) l (Some said) → OccurrenceFault added object lines 52
     go None once h = absurd h
     go (Some line) once h =
         recurrence_out (some_line (codes "RECURRENCE-ID") (SaysOutOfDates object) lines line once

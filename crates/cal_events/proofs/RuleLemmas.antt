@@ -16,7 +16,7 @@ use Rattle.std.specs.Int.Signed.{lt_z}
 use Rattle.std.proofs.lemmas.Int.{ints}
 use Rattle.profile.specs.checker.Instances.{horizon}
 use Rattle.profile.specs.series.Zones.{Zone, Means, NoneFrom, IsLastDay, IsNearEpoch}
-use Rattle.profile.specs.events.Properties.{first_second, StandsAtMostOnce, Says, BothOrNeither, is_of, lines_named}
+use Rattle.profile.specs.events.Properties.{first_second, OccursAtMostOnce, Says, BothOrNeither, is_of, lines_named}
 use Rattle.profile.specs.events.ZonedTimes.{clock_of, EventTimes, SaysEventTimes}
 use Rattle.profile.specs.events.EventRules.{as_end, IsLastAllowed, AllowsNone, IsOnDay, GivesRule, IsRuleText, GivesBeside, SaysEventRule, IsOutside, StartsOutside, EventRuleFault, starts_outside}
 use Rattle.cal_events.proofs.EventLemmas.{some_line}
@@ -128,12 +128,12 @@ module _ (lines : List (List ℕ)) (times : EventTimes) (text : Option RuleText)
     gives = subst (λ (starts : List (List ℕ)). GivesBeside starts times text None) (sym (none_named (is_of (codes "DTSTART")) lines none)) refl;
   }
 
-pub outside_stands : (object : Tree) (lines : List (List ℕ)) (times : EventTimes) (said : Option RuleText) (text : RuleText) (n : ℕ) → said ≡ Some text
+pub outside_refuses : (object : Tree) (lines : List (List ℕ)) (times : EventTimes) (said : Option RuleText) (text : RuleText) (n : ℕ) → said ≡ Some text
     → Says (codes "RRULE") false IsRuleText lines said → SaysEventTimes object lines times → (n ≡ 34) × IsOutside (clock_of times.zone) times.local text
     → EventRuleFault object lines n
-outside_stands object lines times said text n e s t (is, out) =
+outside_refuses object lines times said text n e s t (is, out) =
     let l = spelled_by s.line text (subst (λ (o : Option RuleText). BothOrNeither IsRuleText s.line o) e s.is) in
-    let once = subst (λ (o : Option (List ℕ)). StandsAtMostOnce (codes "RRULE") lines o) l.1 s.once in
+    let once = subst (λ (o : Option (List ℕ)). OccursAtMostOnce (codes "RRULE") lines o) l.1 s.once in
     subst (EventRuleFault object lines) (sym is)
     (starts_outside (some_line (codes "DTSTART") _ lines t.line t.once (some_line (codes "RRULE") (StartsOutside object t.line) lines l.0 once
     (record { zone = times.zone; local = times.local; says = t.says; text = text; spelled = l.2; outside = out }))))

@@ -6,7 +6,7 @@ use Rattle.std.proofs.lemmas.Option.{same_Some}
 use Rattle.profile.specs.text.Lines.{line_value}
 use Rattle.profile.specs.series.Rules.{Parts, RuleText}
 use Rattle.profile.specs.series.RuleTexts.{SpellsRule}
-use Rattle.profile.specs.events.Properties.{BothOrNeither, StandsAtMostOnce, lines_named}
+use Rattle.profile.specs.events.Properties.{BothOrNeither, OccursAtMostOnce, lines_named}
 use Rattle.profile.specs.events.ZonedTimes.{clock_of, EventTimes}
 use Rattle.profile.specs.events.EventRules.{GivesRule, IsRuleText, GivesBeside, SaysEventRule}
 
@@ -16,7 +16,7 @@ Lines = List (List ℕ)
 -- the rule is what the text of the one RRULE gives
 pub record IsFound (lines : Lines) (times : EventTimes) (rule : Parts) : Type 0 where
   pub line : List ℕ
-  pub once : StandsAtMostOnce (codes "RRULE") lines (Some line)
+  pub once : OccursAtMostOnce (codes "RRULE") lines (Some line)
   pub text : RuleText
   pub spelled : SpellsRule (line_value line) text
   pub gives : GivesRule (clock_of times.zone) times.local text rule

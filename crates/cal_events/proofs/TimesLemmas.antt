@@ -5,7 +5,7 @@ use Rattle.std.proofs.lemmas.Int.{ints}
 use Rattle.profile.specs.text.Trees.{Tree}
 use Rattle.profile.specs.text.Lines.{line_value}
 use Rattle.profile.specs.text.Values.{IsClockSeconds, SpellsDuration, SpellsNegative, SpellsLong}
-use Rattle.profile.specs.events.Properties.{Length, StandsAtMostOnce, SomeLine, length_seconds, IsNoDuration, IsNegativeOrLong}
+use Rattle.profile.specs.events.Properties.{Length, OccursAtMostOnce, SomeLine, length_seconds, IsNoDuration, IsNegativeOrLong}
 use Rattle.profile.specs.events.ZonedTimes.{EventTimes, LastsSo, LastsAlone, SaysNoStart, SaysInstant, SaysInDates, SaysOutOfDates, SaysEventTimes, SaysTimes, EventTimesFault, bad_duration, ends_early, ends_late, ends_out, lasts_long, starts_out}
 use Rattle.cal_events.specs.declared.event_times.Extent.{Extent}
 use Rattle.cal_events.specs.declared.event_times.Extent.TheVariants.{ToEnd, For}
@@ -19,7 +19,7 @@ abbrev Lines : Type 0
 Lines = List (List ℕ)
 
 -- DURATION, or nothing
-long_given : {may : Bool} (object : Tree) (lines : Lines) (start : ℤ) (d : Duration) (line : Option (List ℕ)) → StandsAtMostOnce (codes "DURATION") lines line
+long_given : {may : Bool} (object : Tree) (lines : Lines) (start : ℤ) (d : Duration) (line : Option (List ℕ)) → OccursAtMostOnce (codes "DURATION") lines line
     → LastsGiven line (length_of d) → 31_622_400 < length_seconds (length_of d) → EventTimesFault may object lines 51
 long_given object lines start d None once is h =
     let zero' : length_seconds (length_of d) ≡ 0 = ap length_seconds is in
@@ -158,7 +158,7 @@ module _ (object : Tree) (lines : Lines) (said : SaidTimes) (a : AreSaidAlone ob
   pub alone_judged : {may : Bool} (n : ℕ) → ExtentFault said.extent n → EventTimesFault may object lines n
   alone_judged {may} number h = go a.read a.extent a.alone
     where
-      too_long : (d : Duration) (line : Option (List ℕ)) → StandsAtMostOnce (codes "DURATION") lines line → LastsGiven line (length_of d) → (x : Extent) (n : ℕ) → x ≡ For d → ExtentFault x n → EventTimesFault may object lines n
+      too_long : (d : Duration) (line : Option (List ℕ)) → OccursAtMostOnce (codes "DURATION") lines line → LastsGiven line (length_of d) → (x : Extent) (n : ℕ) → x ≡ For d → ExtentFault x n → EventTimesFault may object lines n
       too_long d line once given (ToEnd s) n is f = cc
       too_long d line once given (For o) n is (is_long x l) = long_given object lines (pos 0) o line once (subst (λ (x : Duration). LastsGiven line (length_of x)) (sym (same_For o d is)) given) l
         where
@@ -215,7 +215,7 @@ module _ (may : Bool) (object : Tree) (lines : Lines) (said : SaidTimes) where
 
 -- ---- DURATION alone
 
-pub duration_fault : {may : Bool} (object : Tree) (lines : Lines) (line text : List ℕ) (n : ℕ) → StandsAtMostOnce (codes "DURATION") lines (Some line) → text ≡ line_value line
+pub duration_fault : {may : Bool} (object : Tree) (lines : Lines) (line text : List ℕ) (n : ℕ) → OccursAtMostOnce (codes "DURATION") lines (Some line) → text ≡ line_value line
     → (n ≡ 12) ⊎ (n ≡ 51) → (n ≡ 12 → IsNone text) → (n ≡ 12 → SpellsNegative text → ⊥) → (n ≡ 51 → SpellsNegative text ⊎ SpellsLong text)
     → EventTimesFault may object lines n
 duration_fault {may} object lines line text n once e (inl k) none positive long =

@@ -8,7 +8,7 @@ use Rattle.ical_lines.specs.declared.fault.Fault.{Fault}
 use Rattle.ical_lines.specs.declared.fault.Fault.TheVariants.{Refused, Memory}
 use Rattle.ical_tree.specs.Tree.{component_name, component_lines, component_children, IsObjectOf, tree_of}
 use Rattle.ical_tree.proofs.TreeOfLemmas.{tree_of-name, tree_of-own, tree_of-inside, spells_tree, object_tree}
-use Rattle.ical_tree.specs.Reading.{Stands, calendar_has}
+use Rattle.ical_tree.specs.Reading.{IsRefusalOf, calendar_has}
 use Rattle.ical_tree.specs.declared.component.Component.{Component}
 use Rattle.profile.specs.text.Lines.{is_same_name, logical_lines, reads_as_lines}
 use Rattle.profile.specs.text.Objects.{SpellsTree, has_version}
@@ -57,13 +57,13 @@ version_wrong octets n c s h =
     let v : has_version (component_lines c) ≡ false = grind (arith, nat_tests) in
     subst (CalendarTextFault octets) (sym e) (no_version (tree_of c) (spells_tree 7 c (logical_lines octets) s) (ap has_version (tree_of-own c) ∙ v))
 
-no_object : (octets : List ℕ) (f : Fault) → Stands false octets f → RefusesBy (CalendarTextFault octets) f
+no_object : (octets : List ℕ) (f : Fault) → IsRefusalOf false octets f → RefusesBy (CalendarTextFault octets) f
 no_object octets Memory h = tt
 no_object octets (Refused x) (inl h) = in_lines h
 no_object octets (Refused x) (inr (inl h)) = in_tree h
 no_object octets (Refused x) (inr (inr (c, (s, h)))) = version_wrong octets x.number c s h
 
-pub object_refused : (r : Result Draft Fault) (octets : List ℕ) (f : Fault) → IsErrAnd r (λ e. e ≡ f) → Stands false octets f
+pub object_refused : (r : Result Draft Fault) (octets : List ℕ) (f : Fault) → IsErrAnd r (λ e. e ≡ f) → IsRefusalOf false octets f
     → IfErr r (RefusesBy (CalendarTextFault octets))
 object_refused r octets f e h = err_exit r (RefusesBy (CalendarTextFault octets)) f e (no_object octets f h)
 

@@ -3,7 +3,7 @@ use Rattle.std.specs.Prelude.{◌≡◌, ◌↔◌, ◌⊎◌, ℕ, Bool, true, 
 use Rattle.profile.specs.text.Trees.{Tree}
 use Rattle.profile.specs.series.Zones.{Zone, Means}
 use Rattle.profile.specs.events.EventRules.{IsRuleText}
-use Rattle.profile.specs.events.Properties.{Length, LastsFor, StandsAtMostOnce, IsMissing, Says}
+use Rattle.profile.specs.events.Properties.{Length, LastsFor, OccursAtMostOnce, IsMissing, Says}
 use Rattle.profile.specs.events.ZonedTimes.{is_in_zone, IsInDates, SaysZonedTime, clock_of}
 use Rattle.cal_events.specs.Events.{length_of, zone_said}
 use Rattle.cal_events.specs.declared.event_rule.SaidRule.{SaidRule}
@@ -25,16 +25,16 @@ LastsGiven (Some line) length = LastsFor line length
 -- DTEND is this many seconds from the start, in the dates or not, or DURATION says this, or there is neither
 abbrev pub IsExtentIn : Tree → List (List ℕ) → ℤ → Bool → Extent → Type 0
 IsExtentIn object lines start in_dates (ToEnd seconds) =
-    (line : List ℕ) × StandsAtMostOnce (codes "DTEND") lines (Some line) × StandsAtMostOnce (codes "DURATION") lines None
+    (line : List ℕ) × OccursAtMostOnce (codes "DTEND") lines (Some line) × OccursAtMostOnce (codes "DURATION") lines None
     × EndsSo object line (start +ℤ seconds) in_dates
 IsExtentIn object lines start in_dates (For duration) =
-    (line : Option (List ℕ)) × StandsAtMostOnce (codes "DTEND") lines None × StandsAtMostOnce (codes "DURATION") lines line
+    (line : Option (List ℕ)) × OccursAtMostOnce (codes "DTEND") lines None × OccursAtMostOnce (codes "DURATION") lines line
     × LastsGiven line (length_of duration) × (in_dates ≡ true)
 
 -- what DTSTART, DTEND and DURATION say
 pub record AreSaid (object : Tree) (lines : List (List ℕ)) (said : SaidTimes) : Type 0 where
   pub line : List ℕ
-  pub once : StandsAtMostOnce (codes "DTSTART") lines (Some line)
+  pub once : OccursAtMostOnce (codes "DTSTART") lines (Some line)
   pub says : SaysZonedTime object line (zone_said said.start) said.start.local
   pub means : Means (clock_of (zone_said said.start)) said.start.local said.instant
   pub starts : IsTrue said.starts_in ↔ IsInDates (is_in_zone line) said.start.local said.instant

@@ -10,7 +10,7 @@ ghost use Rattle.profile.specs.faults.Faults.{is_event_fault};
 ghost use Rattle.profile.specs.text.Values.{SpellsStamp};
 ghost use Rattle.profile.specs.events.Events.{Event, Method, adds_instances, may_lack_start, answer_named, answer_of, is_by_server, summary_of, SaysSequence, SaysEvent, IsAttendee, EventFault};
 ghost use Rattle.profile.specs.events.Occurrences.{SaysStatus};
-ghost use Rattle.profile.specs.events.Properties.{StandsTwice, length_seconds, lines_named, malformed_number, Says, IsUidLine, IsAddressLine, IsStampLine, IsDateText, IsLocalText, IsNoAddress, UnfixedOrMalformed, time_kind, DateTime, KindFault, TimeFault};
+ghost use Rattle.profile.specs.events.Properties.{OccursMoreThanOnce, length_seconds, lines_named, malformed_number, Says, IsUidLine, IsAddressLine, IsStampLine, IsDateText, IsLocalText, IsNoAddress, UnfixedOrMalformed, time_kind, DateTime, KindFault, TimeFault};
 ghost use Rattle.cal_events.specs.Zones.{object_of, AreRead};
 ghost use Rattle.cal_events.specs.Events.{is_message, method_read, participation_of, attendee_of, length_of, event_of, said_kind, IsTime};
 
@@ -146,7 +146,7 @@ impl EventComponent {
     ) -> Result<EventComponent, Fault>
         requires zones { AreRead zones.now }
         ensures says { IfOk result (λ event. SaysEvent (object_of zones.now) (method_read purpose) properties.now (event_of event)) }
-        ensures stands { IfErr result (RefusesBy (EventFault (object_of zones.now) (method_read purpose) properties.now)) }
+        ensures fault { IfErr result (RefusesBy (EventFault (object_of zones.now) (method_read purpose) properties.now)) }
     {
         let uid = read_uid(alloc, properties)?;
         let organiser = read_organiser(alloc, properties, purpose)?;
@@ -235,7 +235,7 @@ pub fn one_event()
 fn read_uid(alloc: Global, properties: &Properties<'_>) -> Result<Text, Fault>
     ensures reads { IfOk result (λ uid. Says (codes "UID") true IsUidLine properties.now (Some (text_octets uid))) }
     ensures refuses { IfErr result (RefusesOnly is_event_fault) }
-    ensures stands { (object : Tree) (method : Option Method) → IfErr result (RefusesBy (EventFault object method properties.now)) }
+    ensures fault { (object : Tree) (method : Option Method) → IfErr result (RefusesBy (EventFault object method properties.now)) }
 {
     let line = required(properties, "UID")?;
     Text::read_uid(alloc, line.value())
@@ -248,7 +248,7 @@ fn read_organiser(
 ) -> Result<Option<Address>, Fault>
     ensures reads { IfOk result (λ found. Says (codes "ORGANIZER") (is_message purpose) IsAddressLine properties.now (option_map address_octets found)) }
     ensures refuses { IfErr result (RefusesOnly is_event_fault) }
-    ensures stands { (object : Tree) → IfErr result (RefusesBy (EventFault object (method_read purpose) properties.now)) }
+    ensures fault { (object : Tree) → IfErr result (RefusesBy (EventFault object (method_read purpose) properties.now)) }
 {
     match optional(properties, "ORGANIZER")? {
         Some(line) => Ok(Some(Address::read(alloc, line.value())?)),
@@ -260,7 +260,7 @@ fn read_organiser(
 fn read_stamp(properties: &Properties<'_>, purpose: Purpose) -> Result<Option<Stamp>, Refusal>
     ensures reads { IfOk result (λ found. Says (codes "DTSTAMP") (is_message purpose) IsStampLine properties.now found) }
     ensures refuses { IfErr result (λ e. IsTrue (is_event_fault e.number)) }
-    ensures stands { (object : Tree) → IfErr result (λ e. EventFault object (method_read purpose) properties.now e.number) }
+    ensures fault { (object : Tree) → IfErr result (λ e. EventFault object (method_read purpose) properties.now e.number) }
 {
     match optional(properties, "DTSTAMP")? {
         Some(line) => Ok(Some(Stamp::read(line.value())?)),
@@ -272,7 +272,7 @@ fn read_stamp(properties: &Properties<'_>, purpose: Purpose) -> Result<Option<St
 fn read_sequence(properties: &Properties<'_>) -> Result<Sequence, Refusal>
     ensures reads { IfOk result (SaysSequence properties.now) }
     ensures refuses { IfErr result (λ e. IsTrue (is_event_fault e.number)) }
-    ensures stands { (object : Tree) (method : Option Method) → IfErr result (λ e. EventFault object method properties.now e.number) }
+    ensures fault { (object : Tree) (method : Option Method) → IfErr result (λ e. EventFault object method properties.now e.number) }
 {
     match optional(properties, "SEQUENCE")? {
         Some(line) => Sequence::read(line.value()),
@@ -285,7 +285,7 @@ fn read_sequence(properties: &Properties<'_>) -> Result<Sequence, Refusal>
 fn read_cancelled(properties: &Properties<'_>) -> Result<bool, Refusal>
     ensures reads { IfOk result (SaysStatus properties.now) }
     ensures refuses { IfErr result (λ e. e.number ≡ 61) }
-    ensures twice { IfErr result (λ _. StandsTwice (codes "STATUS") properties.now) }
+    ensures twice { IfErr result (λ _. OccursMoreThanOnce (codes "STATUS") properties.now) }
 {
     match optional(properties, "STATUS")? {
         Some(line) => Ok(line.value().eq_ignore_ascii_case("CANCELLED")),
@@ -329,7 +329,7 @@ pub(crate) fn kind_of(line: Line<'_>) -> TimeKind
 pub(crate) fn read_time(line: Line<'_>, text: &str) -> Result<Stamp, Refusal>
     ensures reads { IfOk result (IsTime (line_text line.entry) text.now) }
     ensures refuses { IfErr result (λ e. IsTrue (is_event_fault e.number)) }
-    ensures stands { IfErr result (λ e. KindFault (time_kind (line_text line.entry)) text.now e.number) }
+    ensures fault { IfErr result (λ e. KindFault (time_kind (line_text line.entry)) text.now e.number) }
 {
     match kind_of(line) {
         TimeKind::DateTime => read_date_time(text),
@@ -342,7 +342,7 @@ pub(crate) fn read_time(line: Line<'_>, text: &str) -> Result<Stamp, Refusal>
 fn read_date_time(text: &str) -> Result<Stamp, Refusal>
     ensures reads { IfOk result (SpellsStamp text.now) }
     ensures refuses { IfErr result (λ e. IsTrue (is_event_fault e.number)) }
-    ensures stands { IfErr result (λ e. KindFault DateTime text.now e.number) }
+    ensures fault { IfErr result (λ e. KindFault DateTime text.now e.number) }
 {
     match Stamp::read(text) {
         Ok(stamp) => Ok(stamp),
@@ -353,7 +353,7 @@ fn read_date_time(text: &str) -> Result<Stamp, Refusal>
 /// Why a text that isn't a UTC date-time is refused: 55 for a date or a floating time, else 10 or 11.
 fn refusal_of_date_time(text: &str) -> Refusal
     ensures refuses { IsTrue (is_event_fault result.number) }
-    ensures stands { UnfixedOrMalformed (IsDateText text.now ⊎ IsLocalText text.now) text.now result.number }
+    ensures fault { UnfixedOrMalformed (IsDateText text.now ⊎ IsLocalText text.now) text.now result.number }
 {
     if LocalTime::read(text).is_ok() {
         Refusal::NOT_FIXED
@@ -365,7 +365,7 @@ fn refusal_of_date_time(text: &str) -> Refusal
 /// Why a text is refused that VALUE says is a date: 55 where it is one, else 10 or 11.
 fn refusal_of_date(text: &str) -> Refusal
     ensures refuses { IsTrue (is_event_fault result.number) }
-    ensures stands { UnfixedOrMalformed (IsDateText text.now) text.now result.number }
+    ensures fault { UnfixedOrMalformed (IsDateText text.now) text.now result.number }
 {
     if is_date(text) {
         Refusal::NOT_FIXED
@@ -396,7 +396,7 @@ pub(crate) fn is_date(text: &str) -> bool
 fn read_attendees(alloc: Global, properties: &Properties<'_>) -> Result<Vec<Attendee>, Fault>
     ensures reads { IfOk result (λ v. AllZip IsAttendee (lines_named (codes "ATTENDEE") properties.now) (map attendee_of v.items)) }
     ensures refuses { IfErr result (RefusesOnly is_event_fault) }
-    ensures stands { (object : Tree) (method : Option Method) → IfErr result (RefusesBy (EventFault object method properties.now)) }
+    ensures fault { (object : Tree) (method : Option Method) → IfErr result (RefusesBy (EventFault object method properties.now)) }
 {
     let mut attendees = Vec::new(alloc);
     for line in properties.lines() {
@@ -410,7 +410,7 @@ fn read_attendees(alloc: Global, properties: &Properties<'_>) -> Result<Vec<Atte
 fn read_attendee(alloc: Global, line: Line<'_>) -> Result<Attendee, Fault>
     ensures reads { IfOk result (λ attendee. IsAttendee (line_text line.entry) (attendee_of attendee)) }
     ensures refuses { IfErr result (RefusesOnly is_event_fault) }
-    ensures stands { IfErr result (RefusesBy (λ n. (n ≡ 15) × IsNoAddress (line_text line.entry))) }
+    ensures fault { IfErr result (RefusesBy (λ n. (n ≡ 15) × IsNoAddress (line_text line.entry))) }
 {
     let address = Address::read(alloc, line.value())?;
     let status = ParticipationStatus::of(line.param("PARTSTAT"));

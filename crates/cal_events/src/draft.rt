@@ -54,7 +54,7 @@ impl Draft {
     pub(crate) fn read(alloc: Global, bytes: &[u8], room: &Address) -> Result<Draft, Fault>
         ensures spells { IfOk result (IsDraftIn (address_octets room.now) bytes.now) }
         ensures refuses { IfErr result (RefusesOnly is_calendar_fault) }
-        ensures stands { IfErr result (RefusesBy (CalendarTextFault bytes.now)) }
+        ensures fault { IfErr result (RefusesBy (CalendarTextFault bytes.now)) }
     {
         let text = Unfolded::read(alloc, bytes, Limits::Open)?;
         let object = read_object(alloc, &text, Limits::Open)?;
@@ -70,7 +70,7 @@ impl Draft {
     ) -> Result<Draft, Fault>
         ensures says { IfOk result (IsDraftOf (address_octets room.now) (tree_of object.now)) }
         ensures refuses { IfErr result (RefusesOnly is_calendar_fault) }
-        ensures stands { IfErr result (RefusesBy (CalendarFault (tree_of object.now))) }
+        ensures fault { IfErr result (RefusesBy (CalendarFault (tree_of object.now))) }
     {
         let zones = Zones::of(alloc, object)?;
         let mut draft = Draft::new(alloc);
@@ -112,7 +112,7 @@ impl Draft {
         ensures masters { (room : List ℕ) (events : List Event) → IsDraft room events self → IfOk result (λ _. MastersDiffer events × OverridesDiffer events) }
         ensures are { (room : List ℕ) (events : List Event) → IsDraft room events self → IfOk result (AreConfirmed room events) }
         ensures refuses { IfErr result (RefusesOnly (is_between 53 54)) }
-        ensures stands { (room : List ℕ) (events : List Event) → IsDraft room events self → IfErr result (RefusesBy (IsTwoOf events)) }
+        ensures fault { (room : List ℕ) (events : List Event) → IsDraft room events self → IfErr result (RefusesBy (IsTwoOf events)) }
     {
         let Draft {
             entries,
@@ -144,7 +144,7 @@ fn shown(
     ensures differ { IfOk result (λ _. AllPairs ◌≢◌ (override_keys entries.now)) }
     ensures shown { IfOk result (λ left. AreShown entries.now singles.items left.0.items) }
     ensures ruled { IfOk result (λ left. AreRuled entries.now masters.items left.1.items) }
-    ensures stands { IfErr result (RefusesBy (λ n. (n ≡ 54) × (AllPairs ◌≢◌ (override_keys entries.now) → ⊥))) }
+    ensures fault { IfErr result (RefusesBy (λ n. (n ≡ 54) × (AllPairs ◌≢◌ (override_keys entries.now) → ⊥))) }
 {
     let overrides = keys_of_overrides(alloc, entries)?;
     if has_equal_neighbours(&overrides) {

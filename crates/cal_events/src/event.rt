@@ -78,7 +78,7 @@ impl Event {
     pub fn read(alloc: Global, bytes: &[u8]) -> Result<Event, Fault>
         ensures spells { IfOk result (λ event. SpellsMeeting bytes.now (said_meeting event)) }
         ensures refuses { IfErr result (RefusesOnly is_meeting_fault) }
-        ensures stands { IfErr result (RefusesBy (MeetingTextFault bytes.now)) }
+        ensures fault { IfErr result (RefusesBy (MeetingTextFault bytes.now)) }
     {
         let text = Unfolded::read(alloc, bytes, Limits::Message)?;
         let object = read_object(alloc, &text, Limits::Message)?;
@@ -90,7 +90,7 @@ impl Event {
     pub fn of_object(alloc: Global, object: &Component) -> Result<Event, Fault>
         ensures says { IfOk result (λ event. SaysMeeting (tree_of object.now) None (said_meeting event)) }
         ensures refuses { IfErr result (RefusesOnly is_meeting_fault) }
-        ensures stands { IfErr result (RefusesBy (MeetingFault (tree_of object.now) None)) }
+        ensures fault { IfErr result (RefusesBy (MeetingFault (tree_of object.now) None)) }
     {
         let components = MeetingComponents::read(alloc, object, Purpose::Meeting)?;
         Ok(components.into_event(alloc)?)

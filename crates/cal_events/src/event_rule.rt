@@ -37,7 +37,7 @@ impl SaidRule {
     /// Refused: 61 where it occurs twice, and 30 to 33 as by `RuleText::read`.
     pub(crate) fn read(alloc: Global, properties: &Properties<'_>) -> Result<SaidRule, Fault>
         ensures said { IfOk result (IsRuleSaid properties.now) }
-        ensures stands { (object : Tree) → IfErr result (RefusesBy (EventRuleFault object properties.now)) }
+        ensures fault { (object : Tree) → IfErr result (RefusesBy (EventRuleFault object properties.now)) }
     {
         let text = match optional(properties, "RRULE")? {
             Some(line) => Some(RuleText::read(alloc, line.value())?),
@@ -52,7 +52,7 @@ impl SaidRule {
     pub(crate) fn judge(self, times: &EventTimes, has_start: bool) -> Result<Option<Rule>, Fault>
         ensures says { (lines : List (List ℕ)) → IsRuleSaid lines self → has_start ≡ list_any (is_of (codes "DTSTART")) lines
             → IfOk result (SaysEventRule lines (times_of times.now)) }
-        ensures stands { (may_lack : Bool) (object : Tree) (lines : List (List ℕ)) → IsRuleSaid lines self → has_start ≡ list_any (is_of (codes "DTSTART")) lines
+        ensures fault { (may_lack : Bool) (object : Tree) (lines : List (List ℕ)) → IsRuleSaid lines self → has_start ≡ list_any (is_of (codes "DTSTART")) lines
             → SaysTimes may_lack object lines (times_of times.now) → IfErr result (RefusesBy (EventRuleFault object lines)) }
     {
         match self.text {

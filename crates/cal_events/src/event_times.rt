@@ -8,7 +8,7 @@ ghost use Rattle.profile.specs.series.Zones.{IsNearEpoch, Means};
 ghost use Rattle.profile.specs.events.Starts.{IsDaysLater, EndsAt, IsWidth};
 ghost use Rattle.cal_zones.specs.Kinds.{zone_of};
 ghost use Rattle.profile.specs.faults.Faults.{is_event_fault};
-ghost use Rattle.profile.specs.events.Properties.{length_seconds, StandsAtMostOnce, IsMissing};
+ghost use Rattle.profile.specs.events.Properties.{length_seconds, OccursAtMostOnce, IsMissing};
 ghost use Rattle.profile.specs.events.ZonedTimes.{is_in_zone, IsInDates, ZonedTimeFault, SaysTimes, EventTimesFault};
 ghost use Rattle.cal_events.specs.Events.{times_of, length_of, GivesLength, ExtentFault};
 ghost use Rattle.cal_events.specs.Zones.{object_of, AreRead};
@@ -151,7 +151,7 @@ impl SaidTimes {
     ) -> Result<SaidTimes, Refusal>
         requires zones { AreRead zones.now }
         ensures said { IfOk result (AreSaidBy may_lack (object_of zones.now) properties.now) }
-        ensures stands { IfErr result (λ e. EventTimesFault may_lack (object_of zones.now) properties.now e.number) }
+        ensures fault { IfErr result (λ e. EventTimesFault may_lack (object_of zones.now) properties.now e.number) }
     {
         let line = optional(properties, "DTSTART")?;
         match line {
@@ -168,9 +168,9 @@ impl SaidTimes {
         properties: &Properties<'_>,
     ) -> Result<SaidTimes, Refusal>
         requires zones { AreRead zones.now }
-        requires once { StandsAtMostOnce (codes "DTSTART") properties.now (Some (line_text line)) }
+        requires once { OccursAtMostOnce (codes "DTSTART") properties.now (Some (line_text line)) }
         ensures said { IfOk result (AreSaid (object_of zones.now) properties.now) }
-        ensures stands { (may_lack : Bool) → IfErr result (λ e. EventTimesFault may_lack (object_of zones.now) properties.now e.number) }
+        ensures fault { (may_lack : Bool) → IfErr result (λ e. EventTimesFault may_lack (object_of zones.now) properties.now e.number) }
     {
         let start = ZonedTime::read(line, zones)?;
         let instant = start.instant();
@@ -194,7 +194,7 @@ impl SaidTimes {
         requires zones { AreRead zones.now }
         requires missing { IsMissing (codes "DTSTART") properties.now }
         ensures said { IfOk result (AreSaidAlone (object_of zones.now) properties.now) }
-        ensures stands { (may_lack : Bool) → IfErr result (λ e. EventTimesFault may_lack (object_of zones.now) properties.now e.number) }
+        ensures fault { (may_lack : Bool) → IfErr result (λ e. EventTimesFault may_lack (object_of zones.now) properties.now e.number) }
     {
         let (extent, ends_in) = read_extent(zones, properties, 0)?;
         Ok(SaidTimes {
@@ -212,7 +212,7 @@ impl SaidTimes {
     pub(crate) fn judge(self) -> Result<EventTimes, Refusal>
         ensures says { (may_lack : Bool) (object : Tree) (lines : List (List ℕ)) → AreSaidBy may_lack object lines self
             → IfOk result (λ times. SaysTimes may_lack object lines (times_of times)) }
-        ensures stands { (may_lack : Bool) (object : Tree) (lines : List (List ℕ)) → AreSaidBy may_lack object lines self
+        ensures fault { (may_lack : Bool) (object : Tree) (lines : List (List ℕ)) → AreSaidBy may_lack object lines self
             → IfErr result (λ e. EventTimesFault may_lack object lines e.number) }
     {
         let length = judge_extent(self.extent)?;
@@ -254,7 +254,7 @@ fn read_extent(
     requires zones { AreRead zones.now }
     requires start { IsNearEpoch start }
     ensures reads { IfOk result (λ read. IsExtentIn (object_of zones.now) properties.now start read.1 read.0) }
-    ensures stands { (may_lack : Bool) → IfErr result (λ e. EventTimesFault may_lack (object_of zones.now) properties.now e.number) }
+    ensures fault { (may_lack : Bool) → IfErr result (λ e. EventTimesFault may_lack (object_of zones.now) properties.now e.number) }
 {
     let end = optional(properties, "DTEND")?;
     let duration = optional(properties, "DURATION")?;
@@ -280,7 +280,7 @@ fn seconds_to(line: Line<'_>, zones: &Zones<'_, '_>, start: i64) -> Result<(i64,
     requires zones { AreRead zones.now }
     requires start { IsNearEpoch start }
     ensures says { IfOk result (λ end. EndsSo (object_of zones.now) (line_text line.entry) (start +ℤ end.0) end.1) }
-    ensures stands { IfErr result (λ e. ZonedTimeFault (object_of zones.now) (line_text line.entry) e.number) }
+    ensures fault { IfErr result (λ e. ZonedTimeFault (object_of zones.now) (line_text line.entry) e.number) }
 {
     let end = ZonedTime::read(line, zones)?;
     let instant = end.instant();
@@ -296,7 +296,7 @@ fn judge_extent(extent: Extent) -> Result<Duration, Refusal>
     ensures length { IfOk result (GivesLength extent) }
     ensures most { IfOk result (λ length. length_seconds (length_of length) ≤ 31_622_400) }
     ensures refuses { IfErr result (λ e. IsTrue (is_event_fault e.number)) }
-    ensures stands { IfErr result (λ e. ExtentFault extent e.number) }
+    ensures fault { IfErr result (λ e. ExtentFault extent e.number) }
 {
     match extent {
         Extent::ToEnd(seconds) if seconds < 0 => Err(Refusal::END_BEFORE_START),

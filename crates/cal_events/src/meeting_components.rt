@@ -42,7 +42,7 @@ impl MeetingComponents {
         ensures says { IfOk result (λ meeting. SaysMeeting (tree_of object.now) (method_read purpose) (meeting_of meeting)) }
         ensures instants { IfOk result (λ meeting. map Some meeting.instants.items ≡ instants_said (map event_of meeting.overrides.items)) }
         ensures refuses { IfErr result (RefusesOnly is_components_fault) }
-        ensures stands { IfErr result (RefusesBy (MeetingFault (tree_of object.now) (method_read purpose))) }
+        ensures fault { IfErr result (RefusesBy (MeetingFault (tree_of object.now) (method_read purpose))) }
     {
         let components = read_events(alloc, object, purpose)?;
         judge_meeting(&components)?;
@@ -65,7 +65,7 @@ impl MeetingComponents {
         ensures masters { IfOk result (λ events. length (filter is_master (map event_of events.items)) ≤ 1) }
         ensures differ { IfOk result (λ events. InstancesDiffer (filter is_override (map event_of events.items))) }
         ensures refuses { IfErr result (RefusesOnly is_components_fault) }
-        ensures stands { ((events : List Event) → taken_by (method_read purpose) events ≡ events) → IfErr result (RefusesBy (MeetingFault (tree_of object.now) (method_read purpose))) }
+        ensures fault { ((events : List Event) → taken_by (method_read purpose) events ≡ events) → IfErr result (RefusesBy (MeetingFault (tree_of object.now) (method_read purpose))) }
     {
         let components = read_events(alloc, object, purpose)?;
         judge_meeting(&components)?;
@@ -160,7 +160,7 @@ fn add(component: &mut EventComponent)
 fn judge_meeting(components: &[EventComponent]) -> Result<(), Refusal>
     ensures some { OnOk result (0 < length (map event_of components.now)) }
     ensures one { OnOk result (AreOfOne (map event_of components.now)) }
-    ensures stands { IfErr result (λ e. IsNotOne (map event_of components.now) e.number) }
+    ensures fault { IfErr result (λ e. IsNotOne (map event_of components.now) e.number) }
 {
     let Some((first, others)) = components.split_first() else {
         return Err(Refusal::NO_EVENT);
@@ -189,7 +189,7 @@ fn is_same_meeting(a: &EventComponent, b: &EventComponent) -> bool
 fn judge_slots(alloc: Global, components: &[EventComponent]) -> Result<(), Fault>
     ensures masters { OnOk result (length (filter is_master (map event_of components.now)) ≤ 1) }
     ensures differ { OnOk result (InstancesDiffer (filter is_override (map event_of components.now))) }
-    ensures stands { IfErr result (RefusesBy (SharesSlot (map event_of components.now))) }
+    ensures fault { IfErr result (RefusesBy (SharesSlot (map event_of components.now))) }
 {
     let mut masters: usize = 0;
     let mut instants = Vec::new(alloc);

@@ -78,7 +78,7 @@ impl SaidInstant {
     ) -> Result<SaidInstant, Refusal>
         requires zones { AreRead zones.now }
         ensures says { IfOk result (SaysSo (object_of zones.now) (line_text line.entry) text.now) }
-        ensures stands { IfErr result (λ e. ZonedTextFault (object_of zones.now) (line_text line.entry) text.now e.number) }
+        ensures fault { IfErr result (λ e. ZonedTextFault (object_of zones.now) (line_text line.entry) text.now e.number) }
     {
         let time = ZonedTime::read_text(line, text, zones)?;
         let instant = time.instant();
@@ -96,7 +96,7 @@ impl SaidInstant {
     ) -> Result<Option<SaidInstant>, Refusal>
         requires zones { AreRead zones.now }
         ensures said { IfOk result (IsRecurrenceSaid (object_of zones.now) properties.now) }
-        ensures stands { (added : Bool) → IfErr result (λ e. OccurrenceFault added (object_of zones.now) properties.now e.number) }
+        ensures fault { (added : Bool) → IfErr result (λ e. OccurrenceFault added (object_of zones.now) properties.now e.number) }
     {
         let Some(line) = optional(properties, "RECURRENCE-ID")? else {
             return Ok(None);
@@ -113,7 +113,7 @@ impl SaidInstant {
 pub(crate) fn judge_recurrence(said: Option<SaidInstant>) -> Result<Option<i64>, Refusal>
     ensures says { (object : Tree) (lines : List (List ℕ)) → IsRecurrenceSaid object lines said
         → IfOk result (Says (codes "RECURRENCE-ID") false (IsRecurrenceLine object) lines) }
-    ensures stands { (object : Tree) (lines : List (List ℕ)) → IsRecurrenceSaid object lines said
+    ensures fault { (object : Tree) (lines : List (List ℕ)) → IsRecurrenceSaid object lines said
         → (added : Bool) → IfErr result (λ e. OccurrenceFault added object lines e.number) }
 {
     match said {
@@ -181,7 +181,7 @@ impl SaidInstants {
     ) -> Result<SaidInstants, Fault>
         requires zones { AreRead zones.now }
         ensures listed { IfOk result (AreListed (object_of zones.now) (name_of listing) (entries_named (name_of listing) properties.now)) }
-        ensures stands { IfErr result (RefusesBy (EntriesFault (object_of zones.now) (name_of listing) (entries_named (name_of listing) properties.now))) }
+        ensures fault { IfErr result (RefusesBy (EntriesFault (object_of zones.now) (name_of listing) (entries_named (name_of listing) properties.now))) }
     {
         let mut said = SaidInstants {
             instants: Vec::new(alloc),
@@ -205,7 +205,7 @@ impl SaidInstants {
         requires zones { AreRead zones.now }
         ensures adds { (done : List Entry) → AreListed (object_of zones.now) (name_of listing) done self.old
             → OnOk result (AreListed (object_of zones.now) (name_of listing) (done ++ entries_of (line_text line.entry)) self.new) }
-        ensures stands { (done : List Entry) → AreListed (object_of zones.now) (name_of listing) done self.old
+        ensures fault { (done : List Entry) → AreListed (object_of zones.now) (name_of listing) done self.old
             → IfErr result (RefusesBy (EntriesFault (object_of zones.now) (name_of listing) (done ++ entries_of (line_text line.entry)))) }
     {
         for text in line.value().split(',') {
@@ -225,7 +225,7 @@ impl SaidInstants {
         requires zones { AreRead zones.now }
         ensures adds { (done : List Entry) → AreListed (object_of zones.now) (name_of listing) done self.old
             → OnOk result (AreListed (object_of zones.now) (name_of listing) (done ++ (line_text line.entry, text.now) ∷ []) self.new) }
-        ensures stands { (done : List Entry) → AreListed (object_of zones.now) (name_of listing) done self.old
+        ensures fault { (done : List Entry) → AreListed (object_of zones.now) (name_of listing) done self.old
             → IfErr result (RefusesBy (EntriesFault (object_of zones.now) (name_of listing) (done ++ (line_text line.entry, text.now) ∷ []))) }
     {
         if self.instants.len() == MOST || listing.is_period(text) {
@@ -245,7 +245,7 @@ impl SaidInstants {
         ensures says { (object : Tree) (lines : List (List ℕ)) → AreListed object (codes "RDATE") (entries_named (codes "RDATE") lines) self
             → IfOk result (λ v. Lists object (codes "RDATE") (entries_named (codes "RDATE") lines) v.items
             × AllZip (IsInside object) (entries_named (codes "RDATE") lines) v.items) }
-        ensures stands { (object : Tree) (lines : List (List ℕ)) → AreListed object (codes "RDATE") (entries_named (codes "RDATE") lines) self
+        ensures fault { (object : Tree) (lines : List (List ℕ)) → AreListed object (codes "RDATE") (entries_named (codes "RDATE") lines) self
             → (added : Bool) → IfErr result (λ e. OccurrenceFault added object lines e.number) }
     {
         if !self.in_dates {

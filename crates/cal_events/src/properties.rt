@@ -2,7 +2,7 @@
 ghost use Rattle.std.specs.Prelude.{◌≡◌, ◌⊎◌, Some, option_map, IfOk, IfErr};
 ghost use Rattle.std.specs.List.{find, list_any};
 ghost use Rattle.ical_lines.specs.Text.{line_text};
-ghost use Rattle.profile.specs.events.Properties.{is_of, IsMissing, StandsAtMostOnce, StandsTwice};
+ghost use Rattle.profile.specs.events.Properties.{is_of, IsMissing, OccursAtMostOnce, OccursMoreThanOnce};
 
 use ical_lines::{Line, Refusal};
 use ical_tree::Properties;
@@ -13,9 +13,9 @@ pub(crate) fn optional<'a>(
     properties: &Properties<'a>,
     name: &str,
 ) -> Result<Option<Line<'a>>, Refusal>
-    ensures found { IfOk result (λ line. StandsAtMostOnce name.now properties.now (option_map line_text line)) }
+    ensures found { IfOk result (λ line. OccursAtMostOnce name.now properties.now (option_map line_text line)) }
     ensures refuses { IfErr result (λ e. e.number ≡ 61) }
-    ensures twice { IfErr result (λ _. StandsTwice name.now properties.now) }
+    ensures twice { IfErr result (λ _. OccursMoreThanOnce name.now properties.now) }
 {
     properties.optional(name, Refusal::BAD_PROPERTY)
 }
@@ -23,9 +23,9 @@ pub(crate) fn optional<'a>(
 /// The line of a property that occurs exactly once.
 /// Refused: 61 where it is missing or occurs twice.
 pub(crate) fn required<'a>(properties: &Properties<'a>, name: &str) -> Result<Line<'a>, Refusal>
-    ensures found { IfOk result (λ line. StandsAtMostOnce name.now properties.now (Some (line_text line))) }
+    ensures found { IfOk result (λ line. OccursAtMostOnce name.now properties.now (Some (line_text line))) }
     ensures refuses { IfErr result (λ e. e.number ≡ 61) }
-    ensures faulty { IfErr result (λ _. IsMissing name.now properties.now ⊎ StandsTwice name.now properties.now) }
+    ensures faulty { IfErr result (λ _. IsMissing name.now properties.now ⊎ OccursMoreThanOnce name.now properties.now) }
 {
     properties.required(name, Refusal::BAD_PROPERTY)
 }

@@ -29,7 +29,7 @@ impl Calendar {
     pub fn read(alloc: Global, bytes: &[u8], room: &Address) -> Result<Calendar, Fault>
         ensures spells { IfOk result (SpellsCalendar (address_octets room.now) bytes.now) }
         ensures refuses { IfErr result (RefusesOnly is_calendar_fault) }
-        ensures stands { IfErr result (RefusesBy (CalendarTextFault bytes.now)) }
+        ensures fault { IfErr result (RefusesBy (CalendarTextFault bytes.now)) }
     {
         let draft = Draft::read(alloc, bytes, room)?;
         draft.into_calendar(alloc)
@@ -41,7 +41,7 @@ impl Calendar {
     pub fn of_object(alloc: Global, object: &Component, room: &Address) -> Result<Calendar, Fault>
         ensures says { IfOk result (SaysCalendar (address_octets room.now) (tree_of object.now)) }
         ensures refuses { IfErr result (RefusesOnly is_calendar_fault) }
-        ensures stands { IfErr result (RefusesBy (CalendarFault (tree_of object.now))) }
+        ensures fault { IfErr result (RefusesBy (CalendarFault (tree_of object.now))) }
     {
         let draft = Draft::of_object(alloc, object, room)?;
         draft.into_calendar(alloc)
@@ -108,7 +108,7 @@ pub(crate) fn read_event(
     requires zones { AreRead zones.now }
     ensures says { IfOk result (λ event. SaysEvent (object_of zones.now) (method_read purpose) (component_lines component.now) (event_of event)) }
     ensures refuses { IfErr result (RefusesOnly is_meeting_event_fault) }
-    ensures stands { IfErr result (RefusesBy (EventFault (object_of zones.now) (method_read purpose) (component_lines component.now))) }
+    ensures fault { IfErr result (RefusesBy (EventFault (object_of zones.now) (method_read purpose) (component_lines component.now))) }
 {
     let properties = Properties::of(alloc, component)?;
     EventComponent::read(alloc, zones, &properties, purpose)
@@ -123,7 +123,7 @@ pub fn read_events(
 ) -> Result<Vec<EventComponent>, Fault>
     ensures says { IfOk result (λ events. AllZip (SaysEvent (tree_of object.now) (method_read purpose)) (vevents_of object.now) (map event_of events.items)) }
     ensures refuses { IfErr result (RefusesOnly is_meeting_event_fault) }
-    ensures stands { IfErr result (RefusesBy (IsFaultAmong (tree_of object.now) (method_read purpose) (vevents_of object.now))) }
+    ensures fault { IfErr result (RefusesBy (IsFaultAmong (tree_of object.now) (method_read purpose) (vevents_of object.now))) }
 {
     let zones = Zones::of(alloc, object)?;
     let mut events = Vec::new(alloc);

@@ -36,7 +36,7 @@ impl ZonedTime {
     pub(crate) fn read(line: Line<'_>, zones: &Zones<'_, '_>) -> Result<ZonedTime, Refusal>
         requires zones { AreRead zones.now }
         ensures says { IfOk result (λ t. SaysZonedTime (object_of zones.now) (line_text line.entry) (zone_said t) t.local) }
-        ensures stands { IfErr result (λ e. ZonedTimeFault (object_of zones.now) (line_text line.entry) e.number) }
+        ensures fault { IfErr result (λ e. ZonedTimeFault (object_of zones.now) (line_text line.entry) e.number) }
     {
         ZonedTime::read_text(line, line.value(), zones)
     }
@@ -49,7 +49,7 @@ impl ZonedTime {
     ) -> Result<ZonedTime, Refusal>
         requires zones { AreRead zones.now }
         ensures says { IfOk result (λ t. SaysZonedText (object_of zones.now) (line_text line.entry) text.now (zone_said t) t.local) }
-        ensures stands { IfErr result (λ e. ZonedTextFault (object_of zones.now) (line_text line.entry) text.now e.number) }
+        ensures fault { IfErr result (λ e. ZonedTextFault (object_of zones.now) (line_text line.entry) text.now e.number) }
     {
         match line.param("TZID") {
             Some(name) => read_in_zone(line, text, name, zones),
@@ -116,7 +116,7 @@ pub fn one_zoned_time()
 pub fn judge_time(line: Line<'_>, text: &str) -> Result<(), Refusal>
     ensures kind { OnOk result (time_kind (line_text line.entry) ≡ DateTime) }
     ensures reads { OnOk result (((instant : ℤ) × SpellsStamp text.now instant) ⊎ IsLocalText text.now) }
-    ensures stands { IfErr result (λ e. (object : Tree) → ZonedTextFault object (line_text line.entry) text.now e.number) }
+    ensures fault { IfErr result (λ e. (object : Tree) → ZonedTextFault object (line_text line.entry) text.now e.number) }
 {
     match line.param("TZID") {
         Some(_) => {
@@ -140,7 +140,7 @@ fn read_in_zone(
     requires zones { AreRead zones.now }
     ensures says { IfOk result (λ t. (time_kind (line_text line.entry) ≡ DateTime)
         × SpellsZoned (object_of zones.now) (Some name.now) text.now (zone_said t) t.local) }
-    ensures stands { IfErr result (λ e. InZoneFault (object_of zones.now) name.now (time_kind (line_text line.entry)) text.now e.number) }
+    ensures fault { IfErr result (λ e. InZoneFault (object_of zones.now) name.now (time_kind (line_text line.entry)) text.now e.number) }
 {
     let local = read_local(line, text)?;
     let zone = zones.named(name)?;
@@ -155,7 +155,7 @@ fn read_in_zone(
 fn read_local(line: Line<'_>, text: &str) -> Result<LocalTime, Refusal>
     ensures kind { IfOk result (λ _. time_kind (line_text line.entry) ≡ DateTime) }
     ensures reads { IfOk result (SpellsLocal text.now) }
-    ensures stands { IfErr result (λ e. LocalFault (time_kind (line_text line.entry)) text.now e.number) }
+    ensures fault { IfErr result (λ e. LocalFault (time_kind (line_text line.entry)) text.now e.number) }
 {
     match kind_of(line) {
         TimeKind::DateTime => read_local_text(text),
@@ -167,7 +167,7 @@ fn read_local(line: Line<'_>, text: &str) -> Result<LocalTime, Refusal>
 
 fn read_local_text(text: &str) -> Result<LocalTime, Refusal>
     ensures reads { IfOk result (SpellsLocal text.now) }
-    ensures stands { IfErr result (λ e. LocalFault DateTime text.now e.number) }
+    ensures fault { IfErr result (λ e. LocalFault DateTime text.now e.number) }
 {
     match LocalTime::read(text) {
         Ok(local) => Ok(local),

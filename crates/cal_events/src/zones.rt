@@ -46,7 +46,7 @@ impl<'c, 'a> Zones<'c, 'a> {
     pub(crate) fn named(&self, name: &str) -> Result<Zone, Refusal>
         requires { AreRead self.now }
         ensures says { IfOk result (λ zone. SaysZoneOf (zone_named name.now (object_of self.now)) (zone_of zone)) }
-        ensures stands { IfErr result (λ e. NamedFault (zone_named name.now (object_of self.now)) e.number) }
+        ensures fault { IfErr result (λ e. NamedFault (zone_named name.now (object_of self.now)) e.number) }
     {
         match self.by_name.get(name) {
             Some(zone) => *zone,

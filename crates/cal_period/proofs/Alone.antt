@@ -8,28 +8,28 @@ use Rattle.cal_events.specs.Calendars.{instance_of}
 use Rattle.cal_events.specs.declared.instance.Instance.{Instance}
 use Rattle.cal_events.specs.declared.instances.Instances.{Instances}
 use Rattle.cal_period.specs.Clear.{IsClear, AreTwo}
-use Rattle.cal_period.specs.Walks.{place_of, IsBehind, Stands, Begins, GoesPast, Meets, MeetsNone}
+use Rattle.cal_period.specs.Walks.{place_of, IsBehind, IsWalkOf, Begins, GoesPast, Meets, MeetsNone}
 use Rattle.cal_period.specs.declared.walk.Walk.{Walk}
 use Rattle.cal_period.proofs.Sweeping.{Share, turned, meets_none, met_behind, met_start, next_is, all_behind}
 
 -- those behind are clear of each other
 pub record IsAloneAt (series : Meeting) (left : Instances) (walk : Walk) : Type 0 where
-  pub stands : Stands series left walk
+  pub is_walk : IsWalkOf series left walk
   pub clear : (x y : Booked) → IsBehind series (place_of walk.next) x → IsBehind series (place_of walk.next) y → x.key ≢ y.key → Share x y → ⊥
 
 pub alone_first : (series : Meeting) (left : Instances) (walk : Walk) → Begins series left walk → IsAloneAt series left walk
-alone_first series left walk b = record { stands = b.stands; clear = λ x y h k differ s. b.none x h }
+alone_first series left walk b = record { is_walk = b.is_walk; clear = λ x y h k differ s. b.none x h }
 
 module _ (series : Meeting) (left : Instances) (walk : Walk) (at : IsAloneAt series left walk) where
   pub alone_end : horizon ≤ℤ place_of walk.next → IsClear series
-  alone_end far = λ x y h k differ s. at.clear x y (all_behind series left walk.next at.stands.ahead far x h) (all_behind series left walk.next at.stands.ahead far y k) differ s
+  alone_end far = λ x y h k differ s. at.clear x y (all_behind series left walk.next at.is_walk.ahead far x h) (all_behind series left walk.next at.is_walk.ahead far y k) differ s
 
   module _ (next : Instance) (is : walk.next ≡ Some next) where
     pub alone_found : (last : Instance) → Meets walk.last next last → AreTwo series (instance_of last) (instance_of next)
     alone_found last m =
-        let known = at.stands.ahead.known in
-        let own = next_is series left walk.next next at.stands.ahead is in
-        let behind = met_behind series (place_of walk.next) walk.last last at.stands.last m.0 in
+        let known = at.is_walk.ahead.known in
+        let own = next_is series left walk.next next at.is_walk.ahead is in
+        let behind = met_behind series (place_of walk.next) walk.last last at.is_walk.last m.0 in
         let before : last.start <ℤ next.start = subst (λ (t : ℤ). last.start <ℤ t) (ap place_of is) behind.1 in
         record {
           first = behind.0;
@@ -40,7 +40,7 @@ module _ (series : Meeting) (left : Instances) (walk : Walk) (at : IsAloneAt ser
 
     pub alone_past : (rest : Instances) (new : Walk) → MeetsNone walk.last next → GoesPast series next walk rest new → IsAloneAt series rest new
     alone_past rest new none g = record {
-      stands = g.stands;
+      is_walk = g.is_walk;
       clear = λ x y h k differ s. elim (g.one x h) [
         | inl was ↦ elim (g.one y k) [
           | inl were ↦ at.clear x y was were differ s
@@ -54,4 +54,4 @@ module _ (series : Meeting) (left : Instances) (walk : Walk) (at : IsAloneAt ser
     }
       where
         never : (x : Booked) → IsBehind series (place_of walk.next) x → Share x (instance_of next) → ⊥
-        never = meets_none series (place_of walk.next) walk.last next at.stands.last none
+        never = meets_none series (place_of walk.next) walk.last next at.is_walk.last none

@@ -80,7 +80,7 @@ entered series by entry left before is others = record { early = omega (arith, i
 pub first_at : (series : Meeting) (old new : Instances) (first : Instance) → AreKnownByStart series → AreAllLeft series old → GivesFirst old (Some first) new → IsFirstStart series (Some first.start)
 first_at series old new first known all given =
     let at = at_first series old new (Some first) known all given in
-    ((λ b is. not_less first.start b.start (λ less. at.none b (is, less))), (instance_of first, at.stands.ahead.is, refl))
+    ((λ b is. not_less first.start b.start (λ less. at.none b (is, less))), (instance_of first, at.is_walk.ahead.is, refl))
 
 pub none_at : (series : Meeting) (old new : Instances) → AreKnownByStart series → AreAllLeft series old → GivesFirst old None new → IsFirstStart series None
 none_at series old new known all given b is = given.1.0 b ((all b).1 is)

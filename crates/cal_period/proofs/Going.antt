@@ -88,7 +88,7 @@ at_first series old new first known all given =
     let a = advance series known first_second (omega (arith, ints)) old new (λ b. ((λ l. let is = (all b).0 l in (is, (known.dates b is).0)), λ h. (all b).1 h.0)) first given in
     let none = λ (b : Booked) (h : IsBehind series (place_of first) b). absurd (omega (arith, ints, h.1, a.none b h.0 (known.dates b h.0).0)) in
     record {
-      stands = record {
+      is_walk = record {
         ahead = a.ahead;
         last = none;
         count = λ xs are.
@@ -152,7 +152,7 @@ module _ (series : Meeting) (old new : Instances) (walk : Walk) (ahead : IsAhead
   pub gone_past : IsLast series here walk.last → AreCounted series here walk.count → (later : Instance) (count : ℕ) → EndsLater walk.last next later → count ≡ min (walk.count + 1) 18446744073709551615
       → GoesPast series next walk new (record { next = after; last = Some later; count = count })
   gone_past last so_far later count ends counted = record {
-    stands = record {
+    is_walk = record {
       ahead = there.ahead;
       last = (
         later_behind walk.last later (λ e. (subst (IsLast series here) e last).0) ends.one,

@@ -10,7 +10,7 @@ use Rattle.cal_events.specs.declared.instance.Instance.{Instance}
 use Rattle.cal_events.specs.declared.instances.Instances.{Instances}
 use Rattle.cal_period.specs.Clear.{AreClear, ArePair}
 use Rattle.cal_period.specs.Swept.{IsCountOfBoth, IsAtMostBoth}
-use Rattle.cal_period.specs.Walks.{place_of, IsBehind, Stands, Begins, GoesPast, Meets, MeetsNone}
+use Rattle.cal_period.specs.Walks.{place_of, IsBehind, IsWalkOf, Begins, GoesPast, Meets, MeetsNone}
 use Rattle.cal_period.specs.declared.walk.Walk.{Walk}
 use Rattle.cal_period.proofs.Sweeping.{Share, turned, start_turned, meets_none, met_behind, met_start, next_is, all_behind, all_counted, some_counted}
 
@@ -55,14 +55,14 @@ module _ (a b : Meeting) (p q : ℤ) (at : AreAbreast a b p q) (next : Instance)
 -- ---- two walks from the first instances on
 
 pub record IsPairAt (a b : Meeting) (of_a of_b : Instances) (first second : Walk) : Type 0 where
-  pub in_first : Stands a of_a first
-  pub in_second : Stands b of_b second
+  pub in_first : IsWalkOf a of_a first
+  pub in_second : IsWalkOf b of_b second
   pub abreast : AreAbreast a b (place_of first.next) (place_of second.next)
 
 pub pair_first : (a b : Meeting) (of_a of_b : Instances) (first second : Walk) → Begins a of_a first → Begins b of_b second → IsPairAt a b of_a of_b first second
 pair_first a b of_a of_b first second m n = record {
-  in_first = m.stands;
-  in_second = n.stands;
+  in_first = m.is_walk;
+  in_second = n.is_walk;
   abreast = record {
     clear = λ x y h k s. m.none x h;
     first = λ x h. absurd (m.none x h);
@@ -102,7 +102,7 @@ module _ (a b : Meeting) (of_a of_b : Instances) (first second : Walk) (at : IsP
 
     pub pair_past : (rest : Instances) (new : Walk) → place_of first.next ≤ℤ place_of second.next → MeetsNone second.last next → GoesPast a next first rest new → IsPairAt a b rest of_b new second
     pair_past rest new before none g = record {
-      in_first = g.stands;
+      in_first = g.is_walk;
       in_second = at.in_second;
       abreast = abreast_past a b (place_of first.next) (place_of second.next) at.abreast next (ap place_of is) (place_of new.next) before g.further g.one (meets_none b (place_of second.next) second.last next at.in_second.last none);
     }

@@ -15,7 +15,7 @@ use Rattle.cal_events.specs.declared.instance.Instance.{Instance}
 use Rattle.cal_events.specs.declared.instances.Instances.{Instances}
 use Rattle.cal_period.specs.Clear.{ShareStart}
 use Rattle.cal_period.specs.Swept.{IsCountOf, IsAtMost}
-use Rattle.cal_period.specs.Walks.{place_of, AreAllLeft, IsAhead, IsBehind, IsLast, Stands, MeetsNone}
+use Rattle.cal_period.specs.Walks.{place_of, AreAllLeft, IsAhead, IsBehind, IsLast, IsWalkOf, MeetsNone}
 use Rattle.cal_period.specs.declared.walk.Walk.{Walk}
 use Rattle.cal_period.proofs.Counts.{count_all}
 
@@ -81,14 +81,14 @@ pub all_behind : (series : Meeting) (left : Instances) (next : Option Instance) 
 all_behind series left next a far x is = (is, let d = (a.known.dates x is).1 in omega (arith, ints, d, far))
 
 -- and all are counted
-pub all_counted : (series : Meeting) (left : Instances) (walk : Walk) → Stands series left walk → horizon ≤ℤ place_of walk.next → IsCountOf series walk.count
+pub all_counted : (series : Meeting) (left : Instances) (walk : Walk) → IsWalkOf series left walk → horizon ≤ℤ place_of walk.next → IsCountOf series walk.count
 all_counted series left walk s far xs are =
     let n = s.count xs are in
     let all = count_all (place_of walk.next) xs (λ y c. (all_behind series left walk.next s.ahead far y (All-contains (λ (b : Booked). IsInstance series b × (first_second ≤ℤ b.start)) xs y are.each c).0).1) in
     omega (arith, n, all)
 
 -- never more
-pub some_counted : (series : Meeting) (left : Instances) (walk : Walk) → Stands series left walk → IsAtMost series walk.count
+pub some_counted : (series : Meeting) (left : Instances) (walk : Walk) → IsWalkOf series left walk → IsAtMost series walk.count
 some_counted series left walk s xs are =
     let n = s.count xs are in
     let most = count_by-le-length (λ (b : Booked). int_lt b.start (place_of walk.next)) xs in

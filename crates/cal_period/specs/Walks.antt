@@ -42,19 +42,19 @@ pub record IsAhead (series : Meeting) (left : Instances) (next : Option Instance
   pub rest : (b : Booked) → IsLeft left b ↔ (IsInstance series b × (place_of next <ℤ b.start))
 
 -- a walk is in a series
-pub record Stands (series : Meeting) (left : Instances) (walk : Walk) : Type 0 where
+pub record IsWalkOf (series : Meeting) (left : Instances) (walk : Walk) : Type 0 where
   pub ahead : IsAhead series left walk.next
   pub last : IsLast series (place_of walk.next) walk.last
   pub count : AreCounted series (place_of walk.next) walk.count
 
 -- it is at the first instance: none is behind
 pub record Begins (series : Meeting) (left : Instances) (walk : Walk) : Type 0 where
-  pub stands : Stands series left walk
+  pub is_walk : IsWalkOf series left walk
   pub none : (b : Booked) → IsBehind series (place_of walk.next) b → ⊥
 
 -- it went past one instance
 pub record GoesPast (series : Meeting) (i : Instance) (old : Walk) (left : Instances) (new : Walk) : Type 0 where
-  pub stands : Stands series left new
+  pub is_walk : IsWalkOf series left new
   pub further : place_of old.next <ℤ place_of new.next
   pub one : (b : Booked) → IsBehind series (place_of new.next) b → IsBehind series (place_of old.next) b ⊎ (b ≡ instance_of i)
 

@@ -4,7 +4,7 @@ ghost use Rattle.profile.specs.events.Meetings.{Meeting};
 ghost use Rattle.cal_events.specs.Left.{GivesFirst};
 ghost use Rattle.cal_events.specs.SaidSeries.{AreKnownByStart};
 ghost use Rattle.cal_events.specs.declared.instances.Instances.{Instances};
-ghost use Rattle.cal_period.specs.Walks.{place_of, AreAllLeft, AreLeftFrom, Begins, Enters, Stands, Tail, GoesPast, GoesOn, MeetsNone, Meets, EndsLater};
+ghost use Rattle.cal_period.specs.Walks.{place_of, AreAllLeft, AreLeftFrom, Begins, Enters, IsWalkOf, Tail, GoesPast, GoesOn, MeetsNone, Meets, EndsLater};
 
 use cal_events::{HORIZON, Instance};
 
@@ -69,7 +69,7 @@ impl<'a> Walk<'a> {
     /// Past its next instance, where another comes after that.
     pub(crate) fn past(&self, next: Instance<'a>, after: Option<Instance<'a>>) -> Walk<'a>
         requires { self.now.next ≡ Some next }
-        ensures stands { (series : Meeting) (old new : Instances) → Stands series old self.now → GivesFirst old after.entry new
+        ensures is_walk { (series : Meeting) (old new : Instances) → IsWalkOf series old self.now → GivesFirst old after.entry new
             → GoesPast series next.entry self.now new result }
         ensures tail { (series : Meeting) (by : ℤ) (old new : Instances) → Tail series by old self.now → GivesFirst old after.entry new
             → GoesOn series by next.entry self.now new result }

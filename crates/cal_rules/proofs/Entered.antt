@@ -33,8 +33,8 @@ one_more Is all left rest entry old new x r s some n is = record {
 }
 
 -- the entry that comes is one of all
-pub stands_there : {A : Type 0} (Is : List ℕ → A → Type 0) (all left rest : List (List ℕ)) (entry : List ℕ) (old : List A) → EntriesRead Is all left old → left ≡ entry ∷ rest → Contains all entry
-stands_there Is all left rest entry old r s =
+pub is_there_in : {A : Type 0} (Is : List ℕ → A → Type 0) (all left rest : List (List ℕ)) (entry : List ℕ) (old : List A) → EntriesRead Is all left old → left ≡ entry ∷ rest → Contains all entry
+is_there_in Is all left rest entry old r s =
     rw (r.parted ∙ ap (λ l. r.done ++ l) s) (Contains-append_right r.done (entry ∷ rest) entry (0, omega arith, refl))
 
 all_done : {A : Type 0} (Is : List ℕ → A → Type 0) (all left : List (List ℕ)) (xs : List A) → EntriesRead Is all left xs → left ≡ [] → AllZip Is all xs

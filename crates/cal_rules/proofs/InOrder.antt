@@ -93,8 +93,8 @@ at_most_once same nth one apart a (suc n) z =
       | false ↦ λ e. rest
     ] refl
 
-pub stands_at : {A : Type 0} (nth : ℕ → A) (n k : ℕ) (z : A) → k < n → nth k ≡ z → Contains (map nth (range_with_len 0 n)) z
-stands_at nth n k z h e = (k, omega (arith, length-map-range_with_len nth 0 n), get_or-map-range_with_len nth 0 n k k z h (zero-add k) ∙ e)
+pub is_nth : {A : Type 0} (nth : ℕ → A) (n k : ℕ) (z : A) → k < n → nth k ≡ z → Contains (map nth (range_with_len 0 n)) z
+is_nth nth n k z h e = (k, omega (arith, length-map-range_with_len nth 0 n), get_or-map-range_with_len nth 0 n k k z h (zero-add k) ∙ e)
 
 -- ---- numbers
 
@@ -109,9 +109,9 @@ number_apart a b e = omega (arith, ints)
 
 pub number_there : (most : ℕ) → most ≤ 366 → (z : ℤ) → is_place most z ≡ true → Contains (map nth_number (range_with_len 0 733)) z
 number_there most h (pos n) e =
-    let u = up_to most n e in stands_at nth_number 733 (n + 366) (pos n) (omega arith) (omega (arith, ints))
+    let u = up_to most n e in is_nth nth_number 733 (n + 366) (pos n) (omega arith) (omega (arith, ints))
 number_there most h (negsuc n) e =
-    let u = below most n e in stands_at nth_number 733 (365 - n) (negsuc n) (omega arith) (omega (arith, ints))
+    let u = below most n e in is_nth nth_number 733 (365 - n) (negsuc n) (omega arith) (omega (arith, ints))
 
 pub numbers_test : (test : ℤ → Bool) (zs : List ℤ) → list_all test zs ≡ true → list_all test (numbers_from 0 zs) ≡ true
 unfolding numbers_from
@@ -163,10 +163,10 @@ same_entry k w number e f =
 entry_at : (number : ℤ) (w : ℕ) → w < 7 → (is_plain number || is_place 53 number) ≡ true → Contains (map nth_entry (range_with_len 0 749)) (record { number = number; weekday = w })
 entry_at (pos n) w h e =
     let u = near n e in
-    stands_at nth_entry 749 (7 * (n + 53) + w) (record { number = pos n; weekday = w }) (omega arith) (same_entry (7 * (n + 53) + w) w (pos n) (omega (arith, ints)) (omega arith))
+    is_nth nth_entry 749 (7 * (n + 53) + w) (record { number = pos n; weekday = w }) (omega arith) (same_entry (7 * (n + 53) + w) w (pos n) (omega (arith, ints)) (omega arith))
 entry_at (negsuc n) w h e =
     let u = below 53 n e in
-    stands_at nth_entry 749 (7 * (52 - n) + w) (record { number = negsuc n; weekday = w }) (omega arith) (same_entry (7 * (52 - n) + w) w (negsuc n) (omega (arith, ints)) (omega arith))
+    is_nth nth_entry 749 (7 * (52 - n) + w) (record { number = negsuc n; weekday = w }) (omega arith) (same_entry (7 * (52 - n) + w) w (negsuc n) (omega (arith, ints)) (omega arith))
 
 pub entry_there : (z : WeekdayNumber) → is_entry z ≡ true → Contains (map nth_entry (range_with_len 0 749)) z
 entry_there z e =

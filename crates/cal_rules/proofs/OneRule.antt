@@ -222,19 +222,19 @@ from_33 text t known says together other (apart rule s h) = absurd (opposite (go
 from_33 text t known says together other (two_ends rule s h) = omega arith
 
 pub least_30 : (text : List ℕ) (n : ℕ) → n ≡ 30 → RuleFault text 30 → IsLeastRuleFault text n
-least_30 text n e h = rw e (record { stands = h; least = from_30 text })
+least_30 text n e h = rw e (record { fault = h; least = from_30 text })
 
 pub least_31 : (text : List ℕ) (n : ℕ) → All IsKnownPart (rule_parts text) → n ≡ 31 → RuleFault text 31 → IsLeastRuleFault text n
-least_31 text n known e h = rw e (record { stands = h; least = from_31 text known })
+least_31 text n known e h = rw e (record { fault = h; least = from_31 text known })
 
 pub least_no_frequency : (text : List ℕ) → All IsKnownPart (rule_parts text) → AllGood text → values_of (codes "FREQ=") text ≡ [] → IsLeastRuleFault text 32
-least_no_frequency text known good none = record { stands = no_frequency none; least = from_32 text known good }
+least_no_frequency text known good none = record { fault = no_frequency none; least = from_32 text known good }
 
 pub least_32 : (text : List ℕ) (t : RuleText) → All IsKnownPart (rule_parts text) → AllGood text → SaysParts text t → go_together t ≡ false → IsLeastRuleFault text 32
-least_32 text t known good says h = record { stands = apart t says h; least = from_32 text known good }
+least_32 text t known good says h = record { fault = apart t says h; least = from_32 text known good }
 
 pub least_33 : (text : List ℕ) (t : RuleText) → All IsKnownPart (rule_parts text) → SaysParts text t → go_together t ≡ true → has_one_end t ≡ false → IsLeastRuleFault text 33
-least_33 text t known says together h = record { stands = two_ends t says h; least = from_33 text t known says together }
+least_33 text t known says together h = record { fault = two_ends t says h; least = from_33 text t known says together }
 
 -- an unknown part
 pub least_unknown : (text part : List ℕ) (e : Fault) → Contains (rule_parts text) part → RefusesBy (λ n. (n ≡ 30) × (IsKnownPart part → ⊥)) e → RefusesBy (IsLeastRuleFault text) e
@@ -246,7 +246,7 @@ pub least_kept : (text : List ℕ) (p : rust.Parts) (f : Refusal) → AreTaken (
 least_kept text p f taken e =
     elim (subst (Keeps (rule_parts text) p) e taken.kept) [
       | inl (n, part, there, bad) ↦ least_31 text f.number taken.known n (bad_there text part there bad)
-      | inr (n, again, good) ↦ rw n (record { stands = twice_there text again; least = from_32 text taken.known (all_good text good) })
+      | inr (n, again, good) ↦ rw n (record { fault = twice_there text again; least = from_32 text taken.known (all_good text good) })
     ]
 
 -- ---- the law

@@ -6,7 +6,7 @@ use Rattle.std.specs.List.{list_any, list_all}
 use Rattle.profile.specs.series.Rules.{Pattern, allows, is_nth, is_missing, passes, is_in_step, count_days}
 use Rattle.cal_rules.specs.Spans.{IsSpan}
 use Rattle.cal_rules.specs.Counted.{NoneIn, is_chosen}
-use Rattle.cal_rules.specs.Standing.{is_from_first, is_among_last}
+use Rattle.cal_rules.specs.Cursors.{is_from_first, is_among_last}
 use Rattle.cal_rules.proofs.Periods.{span_of}
 use Rattle.cal_rules.proofs.Positions.{count_split, step_same, chosen_passes, chosen_by_place}
 

@@ -24,13 +24,13 @@ pub(crate) struct Cursor {
 
 impl Cursor {
     ghost use Rattle.cal_rules.specs.Known.{AreFacts};
-    ghost use Rattle.cal_rules.specs.Standing.{StandsAt};
+    ghost use Rattle.cal_rules.specs.Cursors.{IsCursorOf};
 
     /// At a day, with no period: it is looked up where the listing goes on.
     pub fn at(day: DayFacts) -> Cursor
         requires { AreFacts day }
         ensures index { result.day.index ≡ day.index }
-        ensures stands { (p : Pattern) → StandsAt p result }
+        ensures is_cursor { (p : Pattern) → IsCursorOf p result }
     {
         Cursor {
             day,
@@ -47,7 +47,7 @@ impl Cursor {
     pub fn not_before(self, day: DayFacts) -> Cursor
         requires { AreFacts day }
         ensures index { result.day.index ≡ max self.day.index day.index }
-        ensures stands { (p : Pattern) → StandsAt p self → StandsAt p result }
+        ensures is_cursor { (p : Pattern) → IsCursorOf p self → IsCursorOf p result }
     {
         if self.day.index < day.index {
             return Cursor::at(day);

@@ -9,7 +9,7 @@ ghost use Rattle.profile.specs.series.Rules.{is_counted, is_in_step, count_days,
 ghost use Rattle.cal_rules.specs.Views.{pattern_of, parts_of};
 ghost use Rattle.cal_rules.specs.Known.{AreFacts};
 ghost use Rattle.cal_rules.specs.Counted.{NoneIn, NoneFrom, EndsAt, is_chosen};
-ghost use Rattle.cal_rules.specs.Standing.{StandsAt, IsPastFirst, IsPastNext, is_among_last};
+ghost use Rattle.cal_rules.specs.Cursors.{IsCursorOf, IsPastFirst, IsPastNext, is_among_last};
 ghost use Rattle.cal_rules.specs.Spans.{IsSpan};
 ghost use Rattle.std.specs.List.{list_all};
 
@@ -96,7 +96,7 @@ fn first_chosen(written: &Written, start: DayFacts, from: u32, last: u32) -> Opt
 fn next_chosen(written: &Written, start: DayFacts, from: Cursor, last: u32) -> Option<Cursor>
     requires interval { 1 ≤ written.now.interval }
     requires start { AreFacts start }
-    requires stands { StandsAt (pattern_of written.now start.index) from }
+    requires is_cursor { IsCursorOf (pattern_of written.now start.index) from }
     requires last { last ≤ 3_652_424 }
     ensures { let p = pattern_of written.now start.index in MatchOption result
         (NoneIn (is_chosen p) from.day.index (last + 1)) (IsPastFirst p from.day.index (last + 1)) }
@@ -143,7 +143,7 @@ pub(crate) fn next_counted(
 ) -> Option<Cursor>
     requires interval { 1 ≤ written.now.interval }
     requires start { AreFacts start }
-    requires stands { StandsAt (pattern_of written.now start.index) from }
+    requires is_cursor { IsCursorOf (pattern_of written.now start.index) from }
     ensures { let parts = parts_of written.now start.index (day_index last) in
         MatchOption result (NoneFrom parts from.day.index) (IsPastNext parts from.day.index) }
 {
@@ -228,7 +228,7 @@ fn enter(written: &Written, start: DayFacts, day: DayFacts, span: PeriodDays) ->
     ensures not_before { day.index ≤ result.day.index }
     ensures span { result.span ≡ span }
     ensures none { NoneIn (is_chosen (pattern_of written.now start.index)) day.index result.day.index }
-    ensures stands { StandsAt (pattern_of written.now start.index) result }
+    ensures is_cursor { IsCursorOf (pattern_of written.now start.index) result }
 {
     if written.positions.is_empty() {
         return Cursor {
@@ -252,12 +252,12 @@ fn enter(written: &Written, start: DayFacts, day: DayFacts, span: PeriodDays) ->
 /// Is the cursor's day a base day with a set position? And the cursor at the day after it.
 fn pass(written: &Written, start: DayFacts, cursor: Cursor) -> (bool, Cursor)
     requires start { AreFacts start }
-    requires stands { StandsAt (pattern_of written.now start.index) cursor }
+    requires is_cursor { IsCursorOf (pattern_of written.now start.index) cursor }
     requires inside { cursor.day.index < cursor.span.end }
     ensures chosen { result.0 ≡ is_chosen (pattern_of written.now start.index) cursor.day.index }
     ensures index { result.1.day.index ≡ cursor.day.index + 1 }
     ensures span { result.1.span ≡ cursor.span }
-    ensures stands { StandsAt (pattern_of written.now start.index) result.1 }
+    ensures is_cursor { IsCursorOf (pattern_of written.now start.index) result.1 }
 {
     let day = cursor.day.tomorrow(cursor.span.end);
     if !written.passes(start, cursor.day) {
@@ -280,7 +280,7 @@ fn pass(written: &Written, start: DayFacts, cursor: Cursor) -> (bool, Cursor)
 /// The cursor after the first base day with a set position from that cursor to the end of its period.
 fn go_on(written: &Written, start: DayFacts, from: Cursor) -> Option<Cursor>
     requires start { AreFacts start }
-    requires stands { StandsAt (pattern_of written.now start.index) from }
+    requires is_cursor { IsCursorOf (pattern_of written.now start.index) from }
     ensures { let p = pattern_of written.now start.index in MatchOption result
         (NoneIn (is_chosen p) from.day.index from.span.end) (IsPastFirst p from.day.index from.span.end) }
 {
@@ -339,7 +339,7 @@ fn enter_from_end(
     ensures not_before { day.index ≤ result.day.index }
     ensures span { result.span ≡ span }
     ensures none { NoneIn (is_chosen (pattern_of written.now start.index)) day.index result.day.index }
-    ensures stands { StandsAt (pattern_of written.now start.index) result }
+    ensures is_cursor { IsCursorOf (pattern_of written.now start.index) result }
 {
     let mut here = looked_up(span.end);
     let mut later = 0;

@@ -1,7 +1,7 @@
 //! A rule from a day on: its days, tested, jumped to and listed.
 
 ghost use Rattle.std.specs.Prelude.{◌≡◌};
-ghost use Rattle.cal_rules.specs.Standing.{StandsAt};
+ghost use Rattle.cal_rules.specs.Cursors.{IsCursorOf};
 
 use crate::cursor::Cursor;
 use crate::facts::DayFacts;
@@ -62,7 +62,7 @@ impl Rule {
     ghost use Rattle.profile.specs.series.Rules.{rule_of, text_in, is_rule_day, rule_days_from, NoDayFrom, IsNextDay};
     ghost use Rattle.profile.specs.series.RuleTexts as texts;
     ghost use Rattle.cal_rules.specs.Left.{days_left};
-    ghost use Rattle.cal_rules.specs.Standing.{StandsAt};
+    ghost use Rattle.cal_rules.specs.Cursors.{IsCursorOf};
     ghost use Rattle.ical_lines.specs.declared.fault.Fault.TheVariants.{Refused};
 
     /// The rule of that text, from the day of DTSTART to `last`, the last day that UNTIL allows. Refused
@@ -116,9 +116,9 @@ impl Rule {
 
     /// The first day of the rule from that cursor on, and the cursor after it.
     pub(crate) fn next_day(&self, from: Cursor) -> Option<(Day, Cursor)>
-        requires { StandsAt self.now.pattern from }
+        requires { IsCursorOf self.now.pattern from }
         ensures { MatchOption result (NoDayFrom self.now from.day.index) (λ found. IsNextDay self.now from.day.index (day_index found.0)
-            × (found.1.day.index ≡ day_index found.0 + 1) × StandsAt self.now.pattern found.1) }
+            × (found.1.day.index ≡ day_index found.0 + 1) × IsCursorOf self.now.pattern found.1) }
     {
         let after = next_counted(&self.written, self.start, self.last, from)?;
         let found = after.day.index - 1;
@@ -224,7 +224,7 @@ impl Rule {
 pub struct Days<'a> {
     rule: &'a Rule,
     cursor: Cursor,
-    ghost stands: { StandsAt rule.now.pattern cursor },
+    ghost is_cursor: { IsCursorOf rule.now.pattern cursor },
 }
 
 impl<'a> Days<'a> {
@@ -233,7 +233,7 @@ impl<'a> Days<'a> {
 
     /// From that cursor on.
     pub(crate) fn of(rule: &'a Rule, cursor: Cursor) -> Days<'a>
-        requires { StandsAt rule.now.pattern cursor }
+        requires { IsCursorOf rule.now.pattern cursor }
         ensures { days_left result ≡ rule_days_from rule.now cursor.day.index }
     {
         Days { rule, cursor }

@@ -11,7 +11,7 @@ use Rattle.profile.specs.text.Trees.{Tree, tree_name, tree_own, tree_inside}
 use Rattle.profile.specs.text.Values.{SpellsLocal, SpellsOffset, two_digits, four_digits}
 use Rattle.profile.specs.series.Rules.{RuleText}
 use Rattle.profile.specs.series.RuleTexts.{SpellsRule, RuleFault}
-use Rattle.profile.specs.events.Properties.{lines_named, StandsTwice, IsMissing, BothOrNeither, Says, ends_in_z}
+use Rattle.profile.specs.events.Properties.{lines_named, OccursMoreThanOnce, IsMissing, BothOrNeither, Says, ends_in_z}
 use Rattle.profile.specs.series.Zones.{Zone, Constant, Single, Pair, Observance, local_time}
 use Rattle.profile.specs.series.ZoneTexts.{parts_by, is_part, is_standard, is_daylight, IsLocalLine, IsOffsetLine, SaysTimes, SaysOnce, SaysYearly, IsYearLine, YearRule, HasNoYearRule, TimesFault, PartsSay, PartsFault, OffsetsDiffer, HasForm, SaysZone, ZoneFault, Keeps, AreMatched, AreSpaced, AreClose, year_pattern, is_one_day, time_names, dates, missing, twice, fixed, bad_start, bad_from, bad_to, constant, single, pair, no_part, in_part, ruled, other_parts, unruled, unmatched, close}
 use Rattle.cal_zones.proofs.Named.{one_named, one_day_parts}
@@ -44,15 +44,15 @@ said_same {V} R name lines v w f s t =
 said_by : {V : Type 0} (R : List ℕ → V → Type 0) (name : List ℕ) (lines : Lines) (v : V) (line : List ℕ) → Says name true R lines (Some v) → Contains (lines_named name lines) line → R line v
 said_by {V} R name lines v line s c = subst (λ (o : Option (List ℕ)). BothOrNeither R o (Some v)) (only_line name lines s.line line s.once c) s.is
 
-stands : {V : Type 0} (R : List ℕ → V → Type 0) (name : List ℕ) (lines : Lines) (v : V) → Says name true R lines (Some v) → IsMissing name lines → ⊥
-stands {V} R name lines v s h = go s.line (sym s.once ∙ h) s.is
+present : {V : Type 0} (R : List ℕ → V → Type 0) (name : List ℕ) (lines : Lines) (v : V) → Says name true R lines (Some v) → IsMissing name lines → ⊥
+present {V} R name lines v s h = go s.line (sym s.once ∙ h) s.is
   where
     go : (l : Option (List ℕ)) → option_to_list l ≡ [] → BothOrNeither R l (Some v) → ⊥
     go None e is = is
     go (Some x) e is = cc
 
-stands_once : {V : Type 0} (R : List ℕ → V → Type 0) (name : List ℕ) (lines : Lines) (v : V) → Says name true R lines (Some v) → StandsTwice name lines → ⊥
-stands_once {V} R name lines v s h = go s.line (ap length s.once)
+occurs_once : {V : Type 0} (R : List ℕ → V → Type 0) (name : List ℕ) (lines : Lines) (v : V) → Says name true R lines (Some v) → OccursMoreThanOnce name lines → ⊥
+occurs_once {V} R name lines v s h = go s.line (ap length s.once)
   where
     go : (l : Option (List ℕ)) → length (lines_named name lines) ≡ length (option_to_list l) → ⊥
     go None e = absurd (omega arith)
@@ -254,11 +254,11 @@ module _ (local : OneLocal) (offset : OneOffset) (rules : OneRule) (sound : (tex
   times_sound : (lines : Lines) (o : Observance) (n : ℕ) → SaysTimes lines o → TimesFault lines n → ⊥
   times_sound lines o n s (dates f) = f s.no_dates
   times_sound lines o n s (missing name c h) =
-      each_name (λ x. IsMissing x lines → ⊥) name c (stands IsLocalLine (codes "DTSTART") lines (local_time o.day o.second) s.start)
-      (stands IsOffsetLine (codes "TZOFFSETFROM") lines o.offset_from s.from) (stands IsOffsetLine (codes "TZOFFSETTO") lines o.offset_to s.to) h
+      each_name (λ x. IsMissing x lines → ⊥) name c (present IsLocalLine (codes "DTSTART") lines (local_time o.day o.second) s.start)
+      (present IsOffsetLine (codes "TZOFFSETFROM") lines o.offset_from s.from) (present IsOffsetLine (codes "TZOFFSETTO") lines o.offset_to s.to) h
   times_sound lines o n s (twice name c h) =
-      each_name (λ x. StandsTwice x lines → ⊥) name c (stands_once IsLocalLine (codes "DTSTART") lines (local_time o.day o.second) s.start)
-      (stands_once IsOffsetLine (codes "TZOFFSETFROM") lines o.offset_from s.from) (stands_once IsOffsetLine (codes "TZOFFSETTO") lines o.offset_to s.to) h
+      each_name (λ x. OccursMoreThanOnce x lines → ⊥) name c (occurs_once IsLocalLine (codes "DTSTART") lines (local_time o.day o.second) s.start)
+      (occurs_once IsOffsetLine (codes "TZOFFSETFROM") lines o.offset_from s.from) (occurs_once IsOffsetLine (codes "TZOFFSETTO") lines o.offset_to s.to) h
   times_sound lines o n s (fixed (line, c, inl z)) =
       let said = said_by IsLocalLine (codes "DTSTART") lines (local_time o.day o.second) line s.start c in no_z (line_value line) (local_time o.day o.second) said.2 z
   times_sound lines o n s (fixed (line, c, inr zone)) =
@@ -271,8 +271,8 @@ module _ (local : OneLocal) (offset : OneOffset) (rules : OneRule) (sound : (tex
   times_sound lines o n s (bad_to (line, c, none)) = none o.offset_to (said_by IsOffsetLine (codes "TZOFFSETTO") lines o.offset_to line s.to c)
 
   year_sound : (lines : Lines) (o : Observance) → SaysYearly lines o → HasNoYearRule lines → ⊥
-  year_sound lines o s (inl h) = stands IsYearLine (codes "RRULE") lines s.each s.rule h
-  year_sound lines o s (inr (inl h)) = stands_once IsYearLine (codes "RRULE") lines s.each s.rule h
+  year_sound lines o s (inl h) = present IsYearLine (codes "RRULE") lines s.each s.rule h
+  year_sound lines o s (inr (inl h)) = occurs_once IsYearLine (codes "RRULE") lines s.each s.rule h
   year_sound lines o s (inr (inr (line, c, inl (n, fault)))) =
       let said = said_by IsYearLine (codes "RRULE") lines s.each line s.rule c in sound (line_value line) n said.0 fault said.1
   year_sound lines o s (inr (inr (line, c, inr (rule, spelled, none)))) =

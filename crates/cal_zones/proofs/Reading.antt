@@ -8,7 +8,7 @@ use Rattle.ical_lines.specs.declared.fault.Fault.TheVariants.{Refused, Memory}
 use Rattle.ical_tree.specs.Tree.{tree_of}
 use Rattle.ical_tree.specs.declared.component.Component.{Component}
 use Rattle.profile.specs.series.Zones.{Zone, Single, Pair, Observance}
-use Rattle.profile.specs.events.Properties.{lines_named, StandsAtMostOnce, Says}
+use Rattle.profile.specs.events.Properties.{lines_named, OccursAtMostOnce, Says}
 use Rattle.profile.specs.series.ZoneTexts.{parts_by, is_part, is_standard, is_daylight, SaysTimes, SaysOnce, SaysYearly, TimesFault, PartsSay, PartsFault, OffsetsDiffer, SaysZone, ZoneFault, missing, twice, fixed, bad_start, bad_from, bad_to, time_names, single, pair, in_part, ruled, unruled, unmatched, close, HasNoYearRule, IsPairFault, IsSingleFault}
 use Rattle.cal_zones.specs.Read as read
 use Rattle.cal_zones.specs.Read.{parts_in, parts_of, standards_of, daylights_of, HasFault, SomeTimesFault, StartFault, IsNotOne, OffsetFault, YearlyFault, SaysSingle, SingleFault, SaysBoth, BothFault, in_times, has_rule, far, in_standard, in_daylight, no_match, no_space}
@@ -34,8 +34,8 @@ weaker_fault (Err (Refused e)) P Q f p = f e.number p
 
 -- ---- lines
 
-pub said : {V : Type 0} (R : List ℕ → V → Type 0) (name : List ℕ) (lines : Lines) (line : List ℕ) (v : V) → StandsAtMostOnce name lines (Some line) → R line v → Says name true R lines (Some v)
-said R name lines line v once is = record { line = Some line; once = once; stands = λ _. refl; is = is }
+pub said : {V : Type 0} (R : List ℕ → V → Type 0) (name : List ℕ) (lines : Lines) (line : List ℕ) (v : V) → OccursAtMostOnce name lines (Some line) → R line v → Says name true R lines (Some v)
+said R name lines line v once is = record { line = Some line; once = once; present = λ _. refl; is = is }
 
 -- ---- faults of times
 

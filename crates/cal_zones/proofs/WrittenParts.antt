@@ -35,17 +35,17 @@ own_of start rule from to = (codes "DTSTART:" ++ start) ∷ (rule_lines rule ++ 
 times_back : (day second : ℕ) (rule : Option Pattern) (a b : ℤ) (start from to : List ℕ) → SpellsLocal start (local_time day second) → second < 86_400 → SpellsOffset from a → SpellsOffset to b
     → SaysTimes (own_of start rule from to) (record { day = day; second = second; rule = rule; offset_from = a; offset_to = b })
 times_back day second None a b start from to s h f t = record {
-  start = record { line = Some (codes "DTSTART:" ++ start); once = refl; stands = λ _. refl; is = (refl, refl, s) };
+  start = record { line = Some (codes "DTSTART:" ++ start); once = refl; present = λ _. refl; is = (refl, refl, s) };
   second = h;
-  from = record { line = Some (codes "TZOFFSETFROM:" ++ from); once = refl; stands = λ _. refl; is = f };
-  to = record { line = Some (codes "TZOFFSETTO:" ++ to); once = refl; stands = λ _. refl; is = t };
+  from = record { line = Some (codes "TZOFFSETFROM:" ++ from); once = refl; present = λ _. refl; is = f };
+  to = record { line = Some (codes "TZOFFSETTO:" ++ to); once = refl; present = λ _. refl; is = t };
   no_dates = refl;
 }
 times_back day second (Some p) a b start from to s h f t = record {
-  start = record { line = Some (codes "DTSTART:" ++ start); once = refl; stands = λ _. refl; is = (refl, refl, s) };
+  start = record { line = Some (codes "DTSTART:" ++ start); once = refl; present = λ _. refl; is = (refl, refl, s) };
   second = h;
-  from = record { line = Some (codes "TZOFFSETFROM:" ++ from); once = refl; stands = λ _. refl; is = f };
-  to = record { line = Some (codes "TZOFFSETTO:" ++ to); once = refl; stands = λ _. refl; is = t };
+  from = record { line = Some (codes "TZOFFSETFROM:" ++ from); once = refl; present = λ _. refl; is = f };
+  to = record { line = Some (codes "TZOFFSETTO:" ++ to); once = refl; present = λ _. refl; is = t };
   no_dates = refl;
 }
 
@@ -68,7 +68,7 @@ part_yearly local offset own o r w h rule each = record {
   rule = record {
     line = Some (codes "RRULE:" ++ year_rule_text r);
     once = ap (lines_named (codes "RRULE")) (w.is ∙ ap (λ p. own_of w.start p w.from w.to) rule);
-    stands = λ _. refl;
+    present = λ _. refl;
     is = year_back r each;
   };
   is = rule;

@@ -122,26 +122,26 @@ all_seven n =
 from_none : (n : ℕ) → int_eq (pos n) (pos (n + 0)) ≡ true
 from_none n = let e : n + 0 ≡ n = omega arith in rw e (int_itself (pos n))
 
-abbrev stands : ℕ → ℕ → Bool
-stands n more = list_any (λ x. int_eq x (pos (n + more))) (month_days_of (InWeek n 0))
+abbrev has_seventh : ℕ → ℕ → Bool
+has_seventh n more = list_any (λ x. int_eq x (pos (n + more))) (month_days_of (InWeek n 0))
 
 one_of : (z : ℤ) (before after : List ℤ) → list_any (λ x. int_eq x z) (before ++ z ∷ after) ≡ true
 one_of z [] after = or_left (int_eq z z) (list_any (λ x. int_eq x z) after) (int_itself z)
 one_of z (x ∷ before) after = or_right (int_eq x z) (list_any (λ y. int_eq y z) (before ++ z ∷ after)) (one_of z before after)
 
-stands_0 : (n : ℕ) → stands n 0 ≡ true
-stands_0 n = or_left _ _ (from_none n)
+has_day_0 : (n : ℕ) → has_seventh n 0 ≡ true
+has_day_0 n = or_left _ _ (from_none n)
 
-abbrev stands_among : ℕ → ℕ → Type 0
-stands_among n k = list_any (λ x. int_eq x (pos (n + k))) (take k (month_days_of (InWeek n 0)) ++ pos (n + k) ∷ drop (suc k) (month_days_of (InWeek n 0))) ≡ true
+abbrev is_among_days : ℕ → ℕ → Type 0
+is_among_days n k = list_any (λ x. int_eq x (pos (n + k))) (take k (month_days_of (InWeek n 0)) ++ pos (n + k) ∷ drop (suc k) (month_days_of (InWeek n 0))) ≡ true
 
-stands_at : (n k : ℕ) → stands_among n k
-stands_at n k = one_of (pos (n + k)) (take k (month_days_of (InWeek n 0))) (drop (suc k) (month_days_of (InWeek n 0)))
+has_day : (n k : ℕ) → is_among_days n k
+has_day n k = one_of (pos (n + k)) (take k (month_days_of (InWeek n 0))) (drop (suc k) (month_days_of (InWeek n 0)))
 
-has_seven : (n : ℕ) → list_all (stands n) (range_with_len 0 7) ≡ true
+has_seven : (n : ℕ) → list_all (has_seventh n) (range_with_len 0 7) ≡ true
 has_seven n =
-    and_from (stands n 0) _ (stands_0 n) (and_from (stands n 1) _ (stands_at n 1) (and_from (stands n 2) _ (stands_at n 2) (and_from (stands n 3) _ (stands_at n 3)
-    (and_from (stands n 4) _ (stands_at n 4) (and_from (stands n 5) _ (stands_at n 5) (and_from (stands n 6) true (stands_at n 6) refl))))))
+    and_from (has_seventh n 0) _ (has_day_0 n) (and_from (has_seventh n 1) _ (has_day n 1) (and_from (has_seventh n 2) _ (has_day n 2) (and_from (has_seventh n 3) _ (has_day n 3)
+    (and_from (has_seventh n 4) _ (has_day n 4) (and_from (has_seventh n 5) _ (has_day n 5) (and_from (has_seventh n 6) true (has_day n 6) refl))))))
 
 minus : (n : ℕ) → 1 ≤ n → negsuc (n - 1) ≡ neg_ℤ (pos n)
 minus zero h = absurd (omega arith)

@@ -168,6 +168,6 @@ module _ (local : OneLocal) (offset : OneOffset) (rules : OneRule) (sound : (tex
           closes = record { ends = refl; names = refl };
           holds = back.spelled depth;
         };
-        named = record { line = Some (named name); once = refl; stands = λ _. refl; is = text_back name };
+        named = record { line = Some (named name); once = refl; present = λ _. refl; is = text_back name };
         says = back.says;
       }

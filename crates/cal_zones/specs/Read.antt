@@ -6,7 +6,7 @@ use Rattle.ical_lines.specs.declared.fault.Fault.TheVariants.{Refused, Memory}
 use Rattle.ical_tree.specs.Tree.{component_name, component_lines, component_children}
 use Rattle.ical_tree.specs.declared.component.Component.{Component}
 use Rattle.profile.specs.series.Zones.{Zone, Single, Pair, Observance}
-use Rattle.profile.specs.events.Properties.{IsMissing, StandsTwice, SomeLine}
+use Rattle.profile.specs.events.Properties.{IsMissing, OccursMoreThanOnce, SomeLine}
 use Rattle.profile.specs.series.ZoneTexts.{is_part, is_standard, is_daylight, PartsSay, PartsFault, TimesFault, SaysOnce, SaysYearly, AreMatched, AreSpaced, AreClose, HasNoYearRule, IsFixedLine, IsNoLocalLine, IsNoOffsetLine}
 
 -- those of some components whose name passes the test, each as its own lines
@@ -38,7 +38,7 @@ StartFault line number = ((number ≡ 40) × IsFixedLine line) ⊎ ((number ≡ 
 
 -- the property is missing, or occurs twice
 abbrev pub IsNotOne : List ℕ → List (List ℕ) → Type 0
-IsNotOne name lines = IsMissing name lines ⊎ StandsTwice name lines
+IsNotOne name lines = IsMissing name lines ⊎ OccursMoreThanOnce name lines
 
 -- an offset of that name is wrong
 abbrev pub OffsetFault : List ℕ → List (List ℕ) → ℕ → Type 0

@@ -69,7 +69,7 @@ pub(crate) fn only_named<'c, 'a>(zone: &'c Component<'a>, name: &str) -> Option<
 /// Is there such a property? Names are compared caseless.
 pub(crate) fn has_line(properties: &Properties<'_>, name: &str) -> bool
     ensures missing { result ≡ false → IsMissing name.now properties.now }
-    ensures stands { result ≡ true → IsMissing name.now properties.now → ⊥ }
+    ensures present { result ≡ true → IsMissing name.now properties.now → ⊥ }
 {
     match properties.optional(name, Refusal::ZONE_SHAPE) {
         Ok(line) => line.is_some(),
@@ -91,7 +91,7 @@ fn is_date_time(line: Line<'_>) -> bool
 /// The local time of a line. Refused with 40 where it is in UTC or in a zone, with 11 where it isn't one.
 fn read_local(line: Line<'_>) -> Result<LocalTime, Refusal>
     ensures says { IfOk result (IsLocalLine (line_text line.entry)) }
-    ensures stands { IfErr result (λ e. StartFault (line_text line.entry) e.number) }
+    ensures fault { IfErr result (λ e. StartFault (line_text line.entry) e.number) }
     ensures fixed { IfErr result (λ e. IsFixedLine (line_text line.entry) → e.number ≡ 40) }
 {
     if line.param("TZID").is_some() {
@@ -109,7 +109,7 @@ fn read_local(line: Line<'_>) -> Result<LocalTime, Refusal>
 /// The offset of that name. Refused with 40 where it is missing or occurs twice, with 13 where it isn't one.
 fn read_offset(properties: &Properties<'_>, name: &str) -> Result<UtcOffset, Refusal>
     ensures says { IfOk result (λ t. Says name.now true IsOffsetLine properties.now (Some t)) }
-    ensures stands { IfErr result (λ e. OffsetFault name.now properties.now e.number) }
+    ensures fault { IfErr result (λ e. OffsetFault name.now properties.now e.number) }
 {
     let line = properties.required(name, Refusal::ZONE_SHAPE)?;
     UtcOffset::read(line.value())
@@ -121,7 +121,7 @@ fn read_offset(properties: &Properties<'_>, name: &str) -> Result<UtcOffset, Ref
 pub(crate) fn read_times(properties: &Properties<'_>) -> Result<Observance, Refusal>
     ensures says { IfOk result (λ o. SaysTimes properties.now (observance_of o)) }
     ensures no_rule { IfOk result (λ o. o.rule ≡ None) }
-    ensures stands { IfErr result (λ e. TimesFault properties.now e.number) }
+    ensures fault { IfErr result (λ e. TimesFault properties.now e.number) }
 {
     if has_line(properties, "RDATE") {
         return Err(Refusal::ZONE_SHAPE);

@@ -39,7 +39,7 @@ pub fn one_zone()
 /// The zone that a VTIMEZONE says.
 pub(crate) fn read_zone(alloc: Global, zone: &Component) -> Result<Zone, Fault>
     ensures says { IfOk result (λ z. Says zone.now (zone_of z)) }
-    ensures stands { IfErr result (RefusesBy (HasFault zone.now)) }
+    ensures fault { IfErr result (RefusesBy (HasFault zone.now)) }
 {
     let Some(part) = first_part(zone) else {
         return Err(Fault::Refused(Refusal::ZONE_SHAPE));
@@ -54,7 +54,7 @@ pub(crate) fn read_zone(alloc: Global, zone: &Component) -> Result<Zone, Fault>
 /// The times of a part. Refused where they are wrong.
 fn times_of(alloc: Global, part: &Component) -> Result<Observance, Fault>
     ensures says { IfOk result (λ o. SaysTimes (component_lines part.now) (observance_of o)) }
-    ensures stands { IfErr result (RefusesBy (TimesFault (component_lines part.now))) }
+    ensures fault { IfErr result (RefusesBy (TimesFault (component_lines part.now))) }
 {
     let properties = Properties::of(alloc, part)?;
     Ok(read_times(&properties)?)
@@ -64,7 +64,7 @@ fn times_of(alloc: Global, part: &Component) -> Result<Observance, Fault>
 fn keeps(alloc: Global, part: &Component, offset: i32) -> Result<bool, Fault>
     ensures yes { IfOk result (λ b. b ≡ true → Keeps offset (component_lines part.now)) }
     ensures no { IfOk result (λ b. b ≡ false → Strays offset (component_lines part.now)) }
-    ensures stands { IfErr result (RefusesBy (TimesFault (component_lines part.now))) }
+    ensures fault { IfErr result (RefusesBy (TimesFault (component_lines part.now))) }
 {
     let times = times_of(alloc, part)?;
     Ok(times.offset_from == offset && times.offset_to == offset)
@@ -76,7 +76,7 @@ fn all_keep(alloc: Global, zone: &Component, offset: i32) -> Result<bool, Fault>
         → (part : List (List ℕ)) → Contains (parts_of zone.now) part → Keeps offset part) }
     ensures no { IfOk result (λ b. b ≡ false
         → (part : List (List ℕ)) × Contains (parts_of zone.now) part × Strays offset part) }
-    ensures stands { IfErr result (RefusesBy (SomeTimesFault (parts_of zone.now))) }
+    ensures fault { IfErr result (RefusesBy (SomeTimesFault (parts_of zone.now))) }
 {
     for child in zone.children() {
         if is_part(child) {
@@ -92,7 +92,7 @@ fn all_keep(alloc: Global, zone: &Component, offset: i32) -> Result<bool, Fault>
 fn read_changing(alloc: Global, zone: &Component) -> Result<Zone, Fault>
     requires { OffsetsDiffer (parts_of zone.now) }
     ensures says { IfOk result (λ z. Says zone.now (zone_of z)) }
-    ensures stands { IfErr result (RefusesBy (HasFault zone.now)) }
+    ensures fault { IfErr result (RefusesBy (HasFault zone.now)) }
 {
     match only_part(zone) {
         Some(part) => read_single(alloc, part),
@@ -104,7 +104,7 @@ fn read_changing(alloc: Global, zone: &Component) -> Result<Zone, Fault>
 /// apart, and where its times are wrong.
 fn read_single(alloc: Global, part: &Component) -> Result<Zone, Fault>
     ensures says { IfOk result (λ z. SaysSingle (component_lines part.now) (zone_of z)) }
-    ensures stands { IfErr result (RefusesBy (SingleFault (component_lines part.now))) }
+    ensures fault { IfErr result (RefusesBy (SingleFault (component_lines part.now))) }
 {
     let properties = Properties::of(alloc, part)?;
     let observance = read_times(&properties)?;
@@ -119,7 +119,7 @@ fn read_pair(alloc: Global, zone: &Component) -> Result<Zone, Fault>
     requires differ { OffsetsDiffer (parts_of zone.now) }
     requires several { length (parts_of zone.now) ≡ 1 → ⊥ }
     ensures says { IfOk result (λ z. Says zone.now (zone_of z)) }
-    ensures stands { IfErr result (RefusesBy (HasFault zone.now)) }
+    ensures fault { IfErr result (RefusesBy (HasFault zone.now)) }
 {
     let Some(standard) = only_named(zone, "STANDARD") else {
         return Err(Fault::Refused(Refusal::ZONE_SHAPE));
@@ -137,7 +137,7 @@ fn read_pair(alloc: Global, zone: &Component) -> Result<Zone, Fault>
 fn read_yearly(alloc: Global, part: &Component) -> Result<Observance, Fault>
     ensures says { IfOk result (λ o. SaysYearly (component_lines part.now) (observance_of o)) }
     ensures has_rule { IfOk result (λ o. o.rule ≡ None → ⊥) }
-    ensures stands { IfErr result (RefusesBy (YearlyFault (component_lines part.now))) }
+    ensures fault { IfErr result (RefusesBy (YearlyFault (component_lines part.now))) }
 {
     let properties = Properties::of(alloc, part)?;
     let mut observance = read_times(&properties)?;
@@ -150,7 +150,7 @@ fn read_yearly(alloc: Global, part: &Component) -> Result<Observance, Fault>
 /// The one day of the year that the text of a rule names. Refused with 40 where it names none.
 fn read_year(alloc: Global, text: &str) -> Result<Yearly, Fault>
     ensures says { IfOk result (λ r. SpellsYear text.now (rule_named r.month r.days)) }
-    ensures stands { IfErr result (RefusesBy (λ n. (n ≡ 40) × SpellsNoYear text.now)) }
+    ensures fault { IfErr result (RefusesBy (λ n. (n ≡ 40) × SpellsNoYear text.now)) }
 {
     let rule = match RuleText::read(alloc, text) {
         Ok(rule) => rule,

@@ -116,7 +116,7 @@ impl Zone {
     /// apart.
     pub fn read(alloc: Global, zone: &Component) -> Result<Zone, Fault>
         ensures says { IfOk result (λ z. SaysZone (tree_of zone.now) (zone_of z)) }
-        ensures stands { IfErr result (RefusesBy (ZoneFault (tree_of zone.now))) }
+        ensures fault { IfErr result (RefusesBy (ZoneFault (tree_of zone.now))) }
     {
         read_zone(alloc, zone)
     }

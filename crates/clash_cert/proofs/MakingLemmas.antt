@@ -12,7 +12,7 @@ use Rattle.std.specs.List.{slice_get}
 use Rattle.std.proofs.lemmas.Bool.{false≢true, cases_lt}
 use Rattle.std.proofs.lemmas.Option.{same_Some, slice_get-get_or, slice_get_within, get_or_from_slice_get}
 use Rattle.profile.specs.checker.Instances.{Key, Booked, IsClash, IsClear, AreClashing, AreClear, booked_cmp, key_cmp}
-use Rattle.profile.specs.checker.Certificates.{Claims, IsClaims, text_of, CertificateStands}
+use Rattle.profile.specs.checker.Certificates.{Claims, IsClaims, text_of, CertificateHoldsFor}
 use Rattle.profile.specs.events.Meetings.{Meeting}
 use Rattle.profile.specs.events.Starts.{IsInstance, SharesInstant}
 use Rattle.profile.specs.events.Confirmed.{Confirmed, IsInSeries, IsOneOf}
@@ -226,9 +226,9 @@ module _ (all : Confirmed) (singles : AreClear (Contains all.singles) (IsOneOf a
   all_clear a b t (inr x) (inr y) c = series_clear a b t x y c
 
 -- where all are clear, a certificate of the counts holds
-pub stands : (all : Confirmed) (c : Claims) → IsClaims c → c.singles ≡ length all.singles → c.series ≡ length all.series → AreClear (IsOneOf all) (IsOneOf all)
-    → CertificateStands all (text_of c)
-stands all c h singles series clear = record {
+pub certificate_holds : (all : Confirmed) (c : Claims) → IsClaims c → c.singles ≡ length all.singles → c.series ≡ length all.series → AreClear (IsOneOf all) (IsOneOf all)
+    → CertificateHoldsFor all (text_of c)
+certificate_holds all c h singles series clear = record {
   c = c;
   spells = record { claims = h; is = refl };
   counts = record { singles = singles; series = series };

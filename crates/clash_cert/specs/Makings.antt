@@ -3,7 +3,7 @@ use Rattle.std.specs.Prelude.{ℕ, ℤ, MatchBool, ◌≡◌, ◌⊎◌, ◌≤�
 use Rattle.std.specs.Ordering.{is_lt}
 use Rattle.std.specs.declared.cmp.Ordering.TheVariants.{Less}
 use Rattle.profile.specs.checker.Instances.{Booked, AreClashing, booked_cmp}
-use Rattle.profile.specs.checker.Certificates.{text_of, CertificateStands}
+use Rattle.profile.specs.checker.Certificates.{text_of, CertificateHoldsFor}
 use Rattle.profile.specs.events.Confirmed.{Confirmed, IsOneOf}
 use Rattle.cal_events.specs.Calendars.{owned_key_of}
 use Rattle.clash_cert.specs.declared.making.Clash.{Clash}
@@ -38,7 +38,7 @@ pub record IsNamedClash (all : Confirmed) (clash : Clash) : Type 0 where
 
 -- a certificate that holds for what is confirmed, else a clash of two
 abbrev pub IsMadeFor : Confirmed → Made → Type 0
-IsMadeFor all (made.Clear c) = CertificateStands all (text_of c)
+IsMadeFor all (made.Clear c) = CertificateHoldsFor all (text_of c)
 IsMadeFor all (made.Clash clash) = IsNamedClash all clash
 
 -- a certificate was made, and no clash found

@@ -2,7 +2,7 @@
 use Rattle.std.proofs.Common.{◌≡◌, ℕ, ℤ, List, inl, inr}
 use Rattle.std.specs.Prelude.{Contains, ◌<ℤ◌}
 use Rattle.profile.specs.checker.Calendars.{CertificateHolds, SpellsCalendar, IsConfirmedIn}
-use Rattle.profile.specs.checker.Certificates.{CertificateStands}
+use Rattle.profile.specs.checker.Certificates.{CertificateHoldsFor}
 use Rattle.profile.specs.events.Confirmed.{Confirmed, IsInSeries, IsOneOf}
 use Rattle.profile.specs.checker.Instances.{Booked, AreClear, IsWithin, horizon}
 use Rattle.cal_events.proofs.KeyLemmas.{same_or_other}
@@ -11,7 +11,7 @@ use Rattle.cal_events.proofs.KeyLemmas.{same_or_other}
 one_of : (all : Confirmed) (instance : Booked) → ((IsInSeries all.series instance → ⊥) → Contains all.singles instance) → (IsOneOf all instance → ⊥) → ⊥
 one_of all instance single neither = neither (inl (single (λ series. neither (inr series))))
 
-pub free : ((all : Confirmed) (text : List ℕ) → CertificateStands all text → AreClear (IsOneOf all) (IsOneOf all))
+pub free : ((all : Confirmed) (text : List ℕ) → CertificateHoldsFor all text → AreClear (IsOneOf all) (IsOneOf all))
     → ((room octets : List ℕ) (all : Confirmed) (instance : Booked) → SpellsCalendar room octets all → IsConfirmedIn room octets instance → (IsInSeries all.series instance → ⊥)
     → Contains all.singles instance)
     → ((room octets : List ℕ) (all : Confirmed) (a b : Booked) → SpellsCalendar room octets all → IsConfirmedIn room octets a → IsConfirmedIn room octets b → a.key ≡ b.key → a ≡ b)
@@ -22,5 +22,5 @@ free clear single one room calendar certificate holds a b in_a in_b t at_a at_b 
       | inl same ↦ one room calendar holds.confirmed a b holds.spells in_a in_b same
       | inr differ ↦ absurd (one_of holds.confirmed a (single room calendar holds.confirmed a holds.spells in_a)
           (λ is_a. one_of holds.confirmed b (single room calendar holds.confirmed b holds.spells in_b)
-          (λ is_b. clear holds.confirmed certificate holds.stands a b t is_a is_b (record { differ = differ; before = before; in_first = at_a; in_second = at_b }))))
+          (λ is_b. clear holds.confirmed certificate holds.holds a b t is_a is_b (record { differ = differ; before = before; in_first = at_a; in_second = at_b }))))
     ]

@@ -9,7 +9,7 @@ use Rattle.profile.specs.checker.Instances.{Booked, AreClear, HasClash, IsClear}
 use Rattle.profile.specs.events.Meetings.{Meeting}
 use Rattle.profile.specs.events.Starts.{IsInstance}
 use Rattle.profile.specs.events.Confirmed.{Confirmed, IsInSeries, IsOneOf}
-use Rattle.profile.specs.checker.Certificates.{Claims, End, IsPair, IsPairBefore, Spells, FirstWrong, HasCounts, EntryFails, EntriesStand, CertificateStands, IsWrongText, IsWrongCount, HasFailingEntry, HasClashes}
+use Rattle.profile.specs.checker.Certificates.{Claims, End, IsPair, IsPairBefore, Spells, FirstWrong, HasCounts, EntryFails, EntriesHold, CertificateHoldsFor, IsWrongText, IsWrongCount, HasFailingEntry, HasClashes}
 use Rattle.profile.specs.checker.Calendars.{SpellsCalendar, CalendarTextFault, CertificateHolds}
 use Rattle.cal_events.specs.Calendars.{instance_of, HaveDifferentKeys, HaveOwnKeys}
 use Rattle.cal_events.specs.Clashes.{Names}
@@ -31,7 +31,7 @@ no_is_not_yes why e = cc
 -- none of the reasons holds of a certificate that holds
 fails : (all : Confirmed) (text : List ℕ) (claims : Claims) (number line second : ℕ) → ((d : Claims) → Spells text d → d ≡ claims)
     → ((second ≡ 0) × (IsWrongText text number line ⊎ IsWrongCount all text number line ⊎ HasClashes all text number line)) ⊎ HasFailingEntry all text number line second
-    → CertificateStands all text → ⊥
+    → CertificateHoldsFor all text → ⊥
 fails all text claims number line second only (inr f) s =
     let same : f.c ≡ s.c = only f.c f.spells ∙ sym (only s.c s.spells) in
     let e = f.fails in
@@ -46,12 +46,12 @@ fails all text claims number line second only (inl h) s =
     ]
 
 pub yes_iff : (all : Confirmed) (text : List ℕ) (claims : Claims) (v : Verdict) → ((d : Claims) → Spells text d → d ≡ claims)
-    → IsVerdict all text v → (v ≡ Yes) ↔ CertificateStands all text
+    → IsVerdict all text v → (v ≡ Yes) ↔ CertificateHoldsFor all text
 yes_iff all text claims Yes only h = (λ e. h, λ s. refl)
 yes_iff all text claims (No why) only h = (λ e. absurd (no_is_not_yes why e), λ s. absurd (fails all text claims why.number why.first why.second only h s))
 
 -- where the text has a wrong line the answer is no
-pub no_iff : (all : Confirmed) (text : List ℕ) (line : ℕ) (v : Verdict) → IsNo 81 line 0 v → FirstWrong text line → (v ≡ Yes) ↔ CertificateStands all text
+pub no_iff : (all : Confirmed) (text : List ℕ) (line : ℕ) (v : Verdict) → IsNo 81 line 0 v → FirstWrong text line → (v ≡ Yes) ↔ CertificateHoldsFor all text
 no_iff all text line Yes h w = absurd h
 no_iff all text line (No why) h w = (λ e. absurd (no_is_not_yes why e), λ s. absurd (w.none s.c s.spells))
 
@@ -61,7 +61,7 @@ verdict_of all text claims (Ok checked) s h = h text s
 verdict_of all text claims (Err e) s h = h
 
 pub yes_of : (all : Confirmed) (text : List ℕ) (claims : Claims) {E : Type 0} (r : Result Checked E) → ((d : Claims) → Spells text d → d ≡ claims)
-    → IfOk r (λ checked. IsVerdict all text checked.verdict) → IfOk r (λ checked. (checked.verdict ≡ Yes) ↔ CertificateStands all text)
+    → IfOk r (λ checked. IsVerdict all text checked.verdict) → IfOk r (λ checked. (checked.verdict ≡ Yes) ↔ CertificateHoldsFor all text)
 yes_of all text claims (Ok checked) only h = yes_iff all text claims checked.verdict only h
 yes_of all text claims (Err e) only h = h
 
@@ -75,10 +75,10 @@ NoFault = (room octets : List ℕ) (all : Confirmed) (n : ℕ) → SpellsCalenda
 
 -- the octets spell these instances and no others, so a certificate that holds for the octets holds for them
 pub holds_iff : OneText → (room calendar text : List ℕ) (all : Confirmed) {E : Type 0} (r : Result Checked E) → SpellsCalendar room calendar all
-    → IfOk r (λ checked. (checked.verdict ≡ Yes) ↔ CertificateStands all text) → IfOk r (λ checked. (checked.verdict ≡ Yes) ↔ CertificateHolds room calendar text)
+    → IfOk r (λ checked. (checked.verdict ≡ Yes) ↔ CertificateHoldsFor all text) → IfOk r (λ checked. (checked.verdict ≡ Yes) ↔ CertificateHolds room calendar text)
 holds_iff one room calendar text all (Ok checked) s h = (
-  λ e. record { confirmed = all; spells = s; stands = h.0 e },
-  λ c. h.1 (subst (λ (l : Confirmed). CertificateStands l text) (one room calendar c.confirmed all c.spells s) c.stands),
+  λ e. record { confirmed = all; spells = s; holds = h.0 e },
+  λ c. h.1 (subst (λ (l : Confirmed). CertificateHoldsFor l text) (one room calendar c.confirmed all c.spells s) c.holds),
 )
 holds_iff one room calendar text all (Err e) s h = h
 
@@ -89,8 +89,8 @@ refused_iff none room calendar text n (No why) f h = (λ e. absurd (no_is_not_ye
 
 -- ---- what a certificate that holds means
 
-pub standing_clear : (all : Confirmed) (text : List ℕ) → CertificateStands all text → AreClear (IsOneOf all) (IsOneOf all)
-standing_clear all text s =
+pub certificate_clear : (all : Confirmed) (text : List ℕ) → CertificateHoldsFor all text → AreClear (IsOneOf all) (IsOneOf all)
+certificate_clear all text s =
     all_clear all s.singles
     (λ p q l w m n at_m at_n.
     let first : suc p - 1 ≡ p = omega arith in
@@ -100,8 +100,8 @@ standing_clear all text s =
 -- ---- the judgement of a certificate of the right counts
 
 -- the entries hold where all pairs are clear
-pub entries_stand : (all : Confirmed) (c : Claims) → HasCounts all c → ((p q : ℕ) → p ≤ q → q < length all.series → IsPairClear all.series p q) → EntriesStand all c
-entries_stand all c counts clear i j pair m n at_m at_n =
+pub entries_hold : (all : Confirmed) (c : Claims) → HasCounts all c → ((p q : ℕ) → p ≤ q → q < length all.series → IsPairClear all.series p q) → EntriesHold all c
+entries_hold all c counts clear i j pair m n at_m at_n =
     clear (i - 1) (j - 1) (omega (arith, pair.0, pair.1)) (omega (arith, pair.0, pair.1, pair.2, counts.series)) m n at_m at_n
 
 -- an instance of each of two series that share an instant clash

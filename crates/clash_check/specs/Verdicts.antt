@@ -3,7 +3,7 @@ use Rattle.std.specs.Prelude.{ℕ, ℤ, List, ◌≡◌, ◌+◌, ◌*◌, ◌-�
 use Rattle.profile.specs.checker.Instances.{Booked, horizon, IsWithin}
 use Rattle.profile.specs.faults.Faults.{is_calendar_fault, is_object_fault}
 use Rattle.profile.specs.checker.Calendars.{SpellsCalendar, CalendarTextFault}
-use Rattle.profile.specs.checker.Certificates.{CertificateStands, IsWrongText, IsWrongCount, HasFailingEntry, HasClashes}
+use Rattle.profile.specs.checker.Certificates.{CertificateHoldsFor, IsWrongText, IsWrongCount, HasFailingEntry, HasClashes}
 use Rattle.profile.specs.events.Confirmed.{Confirmed}
 use Rattle.cal_events.specs.declared.instance.Instance.{Instance}
 use Rattle.cal_events.specs.declared.instance.OwnedKey.{OwnedKey}
@@ -15,7 +15,7 @@ use Rattle.clash_check.specs.declared.verdict.Verdict.TheVariants.{Yes, No}
 
 -- yes where the certificate holds; else the first number that applies, with the line of 81 or the pair of 83
 abbrev pub IsVerdict : Confirmed → List ℕ → Verdict → Type 0
-IsVerdict all text Yes = CertificateStands all text
+IsVerdict all text Yes = CertificateHoldsFor all text
 IsVerdict all text (No why) =
     ((why.second ≡ 0) × (IsWrongText text why.number why.first ⊎ IsWrongCount all text why.number why.first ⊎ HasClashes all text why.number why.first))
     ⊎ HasFailingEntry all text why.number why.first why.second

@@ -4,7 +4,7 @@ ghost use Rattle.profile.specs.checker.Instances.{Booked, AreClear, HasClash, Is
 ghost use Rattle.profile.specs.events.Starts.{IsInstance};
 ghost use Rattle.profile.specs.events.Confirmed.{Confirmed, IsInSeries, IsOneOf};
 ghost use Rattle.profile.specs.checker.Calendars.{CertificateHolds};
-ghost use Rattle.profile.specs.checker.Certificates.{Claims, CertificateStands, HasCounts, Spells};
+ghost use Rattle.profile.specs.checker.Certificates.{Claims, CertificateHoldsFor, HasCounts, Spells};
 ghost use Rattle.ical_values.specs.Octets.{address_octets};
 ghost use Rattle.cal_events.specs.Calendars.{instance_of, owned_key_of};
 ghost use Rattle.cal_events.specs.SaidSeries.{series_said};
@@ -51,7 +51,7 @@ pub fn judge_read(
     certificate: &[u8],
 ) -> Result<Checked, AllocError>
     ensures verdict { IfOk result (λ checked. IsVerdict calendar.now certificate.now checked.verdict) }
-    ensures yes { IfOk result (λ checked. (checked.verdict ≡ Verdict.Yes) ↔ CertificateStands calendar.now certificate.now) }
+    ensures yes { IfOk result (λ checked. (checked.verdict ≡ Verdict.Yes) ↔ CertificateHoldsFor calendar.now certificate.now) }
     ensures made { IfOk result (MakesFew calendar.now) }
 {
     match Certificate::read(alloc, certificate) {
@@ -120,8 +120,8 @@ fn made_of_singles(calendar: &Calendar) -> u64
 }
 
 /// A certificate that holds is enough: no two of all confirmed instances clash, of singles and of series.
-pub fn standing_means_clear()
-    ensures { (all : Confirmed) (text : List ℕ) → CertificateStands all text → AreClear (IsOneOf all) (IsOneOf all) }
+pub fn certificate_means_clear()
+    ensures { (all : Confirmed) (text : List ℕ) → CertificateHoldsFor all text → AreClear (IsOneOf all) (IsOneOf all) }
 {}
 
 /// Is this a clash of two confirmed instances of the calendar?

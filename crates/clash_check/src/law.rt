@@ -2,7 +2,7 @@
 
 ghost use Rattle.profile.specs.Headline.{YesMeansFree};
 
-use crate::checking::standing_means_clear;
+use crate::checking::certificate_means_clear;
 use cal_events::{series_and_singles_divide, singles_are_confirmed};
 
 /// Where the certificate holds for the room's calendar, no two of the instances that the calendar's octets confirm for the room share an
@@ -10,7 +10,7 @@ use cal_events::{series_and_singles_divide, singles_are_confirmed};
 pub fn yes_means_free()
     ensures { YesMeansFree }
 {
-    standing_means_clear();
+    certificate_means_clear();
     series_and_singles_divide();
     singles_are_confirmed();
 }

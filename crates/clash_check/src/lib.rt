@@ -6,6 +6,6 @@ pub mod checking;
 pub mod law;
 pub mod verdict;
 
-pub use checking::{check, check_clash, judge_read, standing_means_clear};
+pub use checking::{certificate_means_clear, check, check_clash, judge_read};
 pub use law::yes_means_free;
 pub use verdict::{Checked, Verdict, Why};

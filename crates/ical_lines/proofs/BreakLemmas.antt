@@ -190,8 +190,8 @@ neither_bound true true y h k = h
 neither_bound true false y h k = k
 neither_bound false x y h k = refl
 
-pub lines_stand : (b : Bool) (n : ℕ) (octets : List ℕ) (lines : List (List ℕ)) → lines ≡ logical_lines octets → (list_any (line_has n) lines || (eqb n 6 && (b && ltb 65536 (length lines)))) ≡ true → text_has b n octets ≡ true
-lines_stand b n octets lines e h =
+pub lines_refuse : (b : Bool) (n : ℕ) (octets : List ℕ) (lines : List (List ℕ)) → lines ≡ logical_lines octets → (list_any (line_has n) lines || (eqb n 6 && (b && ltb 65536 (length lines)))) ≡ true → text_has b n octets ≡ true
+lines_refuse b n octets lines e h =
     let k : (list_any (line_has n) (logical_lines octets) || (eqb n 6 && (b && ltb 65536 (length (logical_lines octets))))) ≡ true = (let P : List (List ℕ) → Type 0 = λ ls. (list_any (line_has n) ls || (eqb n 6 && (b && ltb 65536 (length ls)))) ≡ true in subst P e h) in
     bound_or (list_any (line_has n) (logical_lines octets)) (eqb n 5 && not (is_utf8 (ended (logical_lines octets)))) (eqb n 6) b (ltb 1048576 (length octets)) (ltb 65536 (length (logical_lines octets))) k
 
@@ -199,8 +199,8 @@ or_second : (a c : Bool) → (a || true || c) ≡ true
 or_second true c = refl
 or_second false c = refl
 
-pub utf8_stands : (b : Bool) (octets : List ℕ) → is_utf8 (ended (logical_lines octets)) ≡ false → text_has b 5 octets ≡ true
-utf8_stands b octets u =
+pub utf8_refuses : (b : Bool) (octets : List ℕ) → is_utf8 (ended (logical_lines octets)) ≡ false → text_has b 5 octets ≡ true
+utf8_refuses b octets u =
     rw u (or_second (list_any (line_has 5) (logical_lines octets)) (false && (b && (ltb 1048576 (length octets) || ltb 65536 (length (logical_lines octets))))))
 
 pub all_read : (b : Bool) (octets : List ℕ) (lines : List (List ℕ)) → lines ≡ logical_lines octets → is_utf8 (ended (logical_lines octets)) ≡ true → list_any is_faulty lines ≡ false → (b && ltb 65536 (length lines)) ≡ false → (b && ltb 1048576 (length octets)) ≡ false → reads_as_lines b octets ≡ true

@@ -57,9 +57,9 @@ too_many true count line rest lines all e w m l s =
     rw (found, more) refl
 
 -- and the lines have fault 6
-pub bound_stands : (b : Bool) (count : ℕ) (line : List ℕ) (rest lines all : List (List ℕ)) → lines ≡ line ∷ rest → (b && ltb 65536 (count + 1)) ≡ true → count + length lines ≡ length all → (list_any (line_has 6) all || (eqb 6 6 && (b && ltb 65536 (length all)))) ≡ true
-bound_stands false count line rest lines all e m l = cc
-bound_stands true count line rest lines all e m l =
+pub bound_refuses : (b : Bool) (count : ℕ) (line : List ℕ) (rest lines all : List (List ℕ)) → lines ≡ line ∷ rest → (b && ltb 65536 (count + 1)) ≡ true → count + length lines ≡ length all → (list_any (line_has 6) all || (eqb 6 6 && (b && ltb 65536 (length all)))) ≡ true
+bound_refuses false count line rest lines all e m l = cc
+bound_refuses true count line rest lines all e m l =
     let more : ltb 65536 (length all) ≡ true = lt-ltb 65536 (length all) (omega (arith, ltb-true 65536 (count + 1) m, ap length e, l)) in
     rw more (or-true (list_any (line_has 6) all))
 

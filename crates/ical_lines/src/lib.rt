@@ -12,7 +12,7 @@ pub mod object_end;
 pub mod param;
 mod pieces;
 pub mod text;
-mod unfold;
+pub mod unfold;
 
 pub use fault::{Fault, Refusal};
 pub use fold::{write_line, write_property};
@@ -22,3 +22,4 @@ pub use line::Line;
 pub use object_end::{Cutter, cut};
 pub use param::{Param, Params};
 pub use text::{Lines, Unfolded};
+pub use unfold::{split_line, without_mark};

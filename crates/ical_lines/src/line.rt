@@ -149,7 +149,7 @@ impl<'a> Line<'a> {
     /// a value: of these the name is gone over once, and no other part is looked for.
     pub(crate) fn fault_in(text: &'a str) -> Option<Refusal>
         requires { is_one_line text.now ≡ true }
-        ensures stands { MatchOption result (is_faulty text.now ≡ false) (λ refusal. IsTrue (line_has refusal.number text.now)) }
+        ensures fault { MatchOption result (is_faulty text.now ≡ false) (λ refusal. IsTrue (line_has refusal.number text.now)) }
         ensures least { option_map (λ refusal. refusal.number) result ≡ least_fault text.now }
         ensures refuses { IfSome result (λ refusal. IsTrue (is_line_fault refusal.number)) }
     {
@@ -164,7 +164,7 @@ impl<'a> Line<'a> {
 
     /// The least of the faults 1 to 4 in the line.
     fn fault(&self) -> Option<Refusal>
-        ensures stands { MatchOption result (is_faulty (line_text self.now) ≡ false)
+        ensures fault { MatchOption result (is_faulty (line_text self.now) ≡ false)
             (λ refusal. IsTrue (line_has refusal.number (line_text self.now))) }
         ensures least { option_map (λ refusal. refusal.number) result ≡ least_fault (line_text self.now) }
         ensures refuses { IfSome result (λ refusal. IsTrue (is_line_fault refusal.number)) }

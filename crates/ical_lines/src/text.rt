@@ -68,7 +68,7 @@ impl<'a> Unfolded<'a> {
         ensures lines { IfOk result (λ read. read ≡ logical_lines bytes.now) }
         ensures reads { OnOk result (reads_as_lines (is_bounded limits) bytes.now ≡ true) }
         ensures refuses { IfErr result (RefusesOnly is_line_fault) }
-        ensures stands { IfErr result (RefusesOnly (λ n. text_has (is_bounded limits) n bytes.now)) }
+        ensures fault { IfErr result (RefusesOnly (λ n. text_has (is_bounded limits) n bytes.now)) }
         ensures first { IfErr result (RefusesOnly (is_number (text_fault (is_bounded limits) bytes.now))) }
     {
         if limits.exceeds_octets(bytes.len()) {
@@ -93,7 +93,7 @@ impl<'a> Unfolded<'a> {
 fn check_lines(text: &str, limits: Limits) -> Result<(), Refusal>
     ensures refuses { IfErr result (λ r. IsTrue (is_line_fault r.number)) }
     ensures first { IfErr result (λ r. IsTrue (is_number (lines_fault (is_bounded limits) (lines_of text.now)) r.number)) }
-    ensures stands { MatchResult result
+    ensures fault { MatchResult result
         (λ _. (list_any is_faulty (lines_of text.now) ≡ false)
         × ((is_bounded limits && nat_lt 65536 (length (lines_of text.now))) ≡ false))
         (λ r. IsTrue (list_any (line_has r.number) (lines_of text.now)

@@ -1,7 +1,7 @@
 //! Unfolding (RFC 5545 3.1): octets to a text whose lines are the logical lines.
 //! Physical lines end at LF, and one CR before it isn't part of them; the end of the input ends one too.
 //! A physical line that begins with a space or a tab continues the line before it.
-ghost use Rattle.std.specs.Prelude.{◌≡◌, ◌++◌, ◌<◌, ◌≤◌, ◌∷◌, drop, take, filter, false, if◌then◌else◌, IfOk, IfErr};
+ghost use Rattle.std.specs.Prelude.{◌≡◌, ◌++◌, ◌<◌, ◌≤◌, ◌^◌, ◌∷◌, drop, take, filter, length, false, if◌then◌else◌, IfOk, IfErr};
 ghost use Rattle.std.specs.Vec.{vec_len};
 ghost use Rattle.std.specs.List.{list_any};
 ghost use Rattle.std.specs.Str.{is_utf8};
@@ -134,9 +134,10 @@ fn end_line(text: &mut Vec<u8>, begun: usize) -> Result<(), AllocError>
     Ok(())
 }
 
-/// The first physical line, and what follows its LF where it has one.
-fn split_line(octets: &[u8]) -> (&[u8], Option<&[u8]>)
-    ensures { physical_lines octets.now ≡ result.0.now ∷ lines_after result.1 }
+/// The first physical line (RFC 5545 3.1), without one CR at its end, and what follows its LF where it has one.
+pub fn split_line(octets: &[u8]) -> (&[u8], Option<&[u8]>)
+    ensures lines { physical_lines octets.now ≡ result.0.now ∷ lines_after result.1 }
+    ensures memory { length octets.now < 2 ^ 63 }
 {
     match memchr(b'\n', octets) {
         Some(end) => (without_return(&octets[..end]), Some(&octets[end + 1..])),
@@ -155,7 +156,7 @@ fn without_return(line: &[u8]) -> &[u8]
 }
 
 /// The octets without a byte order mark at their start.
-fn without_mark(octets: &[u8]) -> &[u8]
+pub fn without_mark(octets: &[u8]) -> &[u8]
     ensures { result.now ≡ without_mark octets.now }
 {
     match octets {

@@ -1,6 +1,6 @@
 mod Samples
 pub mod BuiltLemmas
-pub mod StandsLemmas
+pub mod RefusalLemmas
 pub mod WriteLemmas
 pub mod PairLemmas
 pub mod OneTree

@@ -4,7 +4,7 @@ use Rattle.std.specs.Prelude.{Option, Some, None, Contains}
 use Rattle.std.specs.Option.{option_to_list}
 use Rattle.std.proofs.lemmas.List.{drop_more}
 use Rattle.profile.specs.text.Objects.{is_version, is_version_only}
-use Rattle.profile.specs.events.Properties.{lines_named, StandsAtMostOnce, StandsTwice, IsMissing}
+use Rattle.profile.specs.events.Properties.{lines_named, OccursAtMostOnce, OccursMoreThanOnce, IsMissing}
 
 abbrev Lines : Type 0
 Lines = List (List ℕ)
@@ -32,15 +32,15 @@ abbrev pub IsFunctional : {V : Type 0} → (List ℕ → V → Type 0) → Type 
 IsFunctional {V} R = (line : List ℕ) (a b : V) → R line a → R line b → a ≡ b
 
 -- the one line of a name is one of that name, and there is no other
-pub the_line : (name : List ℕ) (lines : Lines) (line : List ℕ) → StandsAtMostOnce name lines (Some line) → Contains (lines_named name lines) line
+pub the_line : (name : List ℕ) (lines : Lines) (line : List ℕ) → OccursAtMostOnce name lines (Some line) → Contains (lines_named name lines) line
 the_line name lines line e = subst (λ (ls : Lines). Contains ls line) (sym e) (zero, omega arith, refl)
 
-pub only_line : (name : List ℕ) (lines : Lines) (l : Option (List ℕ)) (line : List ℕ) → StandsAtMostOnce name lines l → Contains (lines_named name lines) line → l ≡ Some line
+pub only_line : (name : List ℕ) (lines : Lines) (l : Option (List ℕ)) (line : List ℕ) → OccursAtMostOnce name lines l → Contains (lines_named name lines) line → l ≡ Some line
 only_line name lines None line e c = let h = subst (λ (ls : Lines). Contains ls line) e c in absurd (omega (arith, h.1))
 only_line name lines (Some x) line e c = ap Some (at_one x line (subst (λ (ls : Lines). Contains ls line) e c))
 
 -- VERSION doesn't occur exactly once
-pub not_one_version : (lines : Lines) → (IsMissing (codes "VERSION") lines ⊎ StandsTwice (codes "VERSION") lines) → false ≡ is_version_only (filter is_version lines)
+pub not_one_version : (lines : Lines) → (IsMissing (codes "VERSION") lines ⊎ OccursMoreThanOnce (codes "VERSION") lines) → false ≡ is_version_only (filter is_version lines)
 not_one_version lines h = other (filter is_version lines) h
   where
     other : (ls : Lines) → ((ls ≡ []) ⊎ (1 < length ls)) → false ≡ is_version_only ls

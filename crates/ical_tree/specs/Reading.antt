@@ -76,5 +76,5 @@ abbrev pub ObjectHas : Bool → ℕ → List ℕ → Type 0
 ObjectHas bounded number octets = IsTrue (text_has bounded number octets) ⊎ TreeHas bounded number (logical_lines octets)
 
 -- out of memory, or a refusal whose fault the octets have
-abbrev pub Stands : Bool → List ℕ → Fault → Type 0
-Stands bounded octets fault = RefusesBy (λ n. ObjectHas bounded n octets) fault
+abbrev pub IsRefusalOf : Bool → List ℕ → Fault → Type 0
+IsRefusalOf bounded octets fault = RefusesBy (λ n. ObjectHas bounded n octets) fault

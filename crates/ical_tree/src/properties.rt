@@ -27,7 +27,7 @@ impl<'a> Properties<'a> {
     ghost use Rattle.std.specs.Prelude.{◌≡◌, ◌⊎◌, map, Some, option_map, IfOk, IfErr};
     ghost use Rattle.ical_lines.specs.Text.{line_text};
     ghost use Rattle.ical_tree.specs.Tree.{component_lines};
-    ghost use Rattle.profile.specs.events.Properties.{StandsAtMostOnce, StandsTwice, IsMissing};
+    ghost use Rattle.profile.specs.events.Properties.{OccursAtMostOnce, OccursMoreThanOnce, IsMissing};
 
     /// The own lines of a component, in order. It fails only when out of memory.
     pub fn of(alloc: Global, component: &'a Component) -> Result<Properties<'a>, AllocError>
@@ -51,9 +51,9 @@ impl<'a> Properties<'a> {
     /// The line of a property that may occur once, None where there is none. Names are compared caseless.
     /// Where it occurs twice, the answer is the refusal given.
     pub fn optional(&self, name: &str, twice: Refusal) -> Result<Option<Line<'a>>, Refusal>
-        ensures found { IfOk result (λ line. StandsAtMostOnce name.now self.now (option_map line_text line)) }
+        ensures found { IfOk result (λ line. OccursAtMostOnce name.now self.now (option_map line_text line)) }
         ensures refuses { IfErr result (λ e. e ≡ twice) }
-        ensures twice { IfErr result (λ _. StandsTwice name.now self.now) }
+        ensures twice { IfErr result (λ _. OccursMoreThanOnce name.now self.now) }
     {
         let mut found = None;
         for line in &self.lines {
@@ -70,9 +70,9 @@ impl<'a> Properties<'a> {
     /// The line of a property that occurs exactly once. Names are compared caseless.
     /// Where it is missing or occurs twice, the answer is the refusal given.
     pub fn required(&self, name: &str, not_once: Refusal) -> Result<Line<'a>, Refusal>
-        ensures found { IfOk result (λ line. StandsAtMostOnce name.now self.now (Some (line_text line))) }
+        ensures found { IfOk result (λ line. OccursAtMostOnce name.now self.now (Some (line_text line))) }
         ensures refuses { IfErr result (λ e. e ≡ not_once) }
-        ensures faulty { IfErr result (λ _. IsMissing name.now self.now ⊎ StandsTwice name.now self.now) }
+        ensures faulty { IfErr result (λ _. IsMissing name.now self.now ⊎ OccursMoreThanOnce name.now self.now) }
     {
         self.optional(name, not_once)?.ok_or(not_once)
     }

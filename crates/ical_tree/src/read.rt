@@ -61,7 +61,7 @@ pub fn read_object<'a>(
     limits: Limits,
 ) -> Result<Component<'a>, Fault>
     ensures spelled { IfOk result (λ c. IsObjectOf (is_bounded limits) c text.now) }
-    ensures stands { IfErr result (RefusesBy (λ n. TreeHas (is_bounded limits) n text.now)) }
+    ensures fault { IfErr result (RefusesBy (λ n. TreeHas (is_bounded limits) n text.now)) }
     ensures refuses { IfErr result (RefusesOnly is_object_fault) }
 {
     let mut lines = text.lines();
@@ -108,7 +108,7 @@ impl<'a> Reader<'a> {
             → Built (open_view self.old) self.old.closed done
             → Built (open_view self.new) self.new.closed (done ++ text.now ∷ [])) }
         ensures names { OnOk result (names_of (open_view self.new) ≡ now_open (names_of (open_view self.old)) text.now) }
-        ensures stands { IfErr result (RefusesOnly (λ n. misplaced n (names_of (open_view self.old)) (is_some self.old.closed) text.now)) }
+        ensures fault { IfErr result (RefusesOnly (λ n. misplaced n (names_of (open_view self.old)) (is_some self.old.closed) text.now)) }
         ensures refuses { IfErr result (RefusesOnly is_object_fault) }
     {
         match paired_line(text) {
@@ -126,7 +126,7 @@ impl<'a> Reader<'a> {
             → Built (open_view self.old) self.old.closed done
             → Built (open_view self.new) self.new.closed (done ++ line ∷ [])) }
         ensures names { OnOk result (names_of (open_view self.new) ≡ name.now ∷ names_of (open_view self.old)) }
-        ensures stands { IfErr result (RefusesOnly (λ n. misplaced_begin n (names_of (open_view self.old)) (is_some self.old.closed) name.now)) }
+        ensures fault { IfErr result (RefusesOnly (λ n. misplaced_begin n (names_of (open_view self.old)) (is_some self.old.closed) name.now)) }
         ensures refuses { IfErr result (RefusesOnly is_object_fault) }
     {
         if self.open.len() >= MAX_DEPTH {
@@ -167,7 +167,7 @@ impl<'a> Reader<'a> {
             → Built (open_view self.old) self.old.closed done
             → Built (open_view self.new) self.new.closed (done ++ line ∷ [])) }
         ensures names { OnOk result (names_of (open_view self.new) ≡ drop 1 (names_of (open_view self.old))) }
-        ensures stands { IfErr result (RefusesOnly (λ n. misplaced_end n (names_of (open_view self.old)) name.now)) }
+        ensures fault { IfErr result (RefusesOnly (λ n. misplaced_end n (names_of (open_view self.old)) name.now)) }
         ensures refuses { IfErr result (RefusesOnly is_object_fault) }
     {
         self.end_run(rest)?;
@@ -214,7 +214,7 @@ impl<'a> Reader<'a> {
             → Built (open_view self.old) self.old.closed done
             → Built (open_view self.new) self.new.closed (done ++ line ∷ [])) }
         ensures names { OnOk result (names_of (open_view self.new) ≡ names_of (open_view self.old)) }
-        ensures stands { IfErr result (λ e. IsTrue (misplaced_property e.number (names_of (open_view self.old)))) }
+        ensures fault { IfErr result (λ e. IsTrue (misplaced_property e.number (names_of (open_view self.old)))) }
         ensures refuses { IfErr result (λ e. IsTrue (is_object_fault e.number)) }
     {
         if self.is_outside() {
@@ -229,7 +229,7 @@ impl<'a> Reader<'a> {
         ensures spelled { IfOk result (λ c. (done : List (List ℕ))
             → Built (open_view self.entry) self.entry.closed done
             → SpellsOf 7 c done × IsCalendar c) }
-        ensures stands { IfErr result (λ r. IsTrue ((r.number == 21 && not (is_none (names_of (open_view self.entry))))
+        ensures fault { IfErr result (λ r. IsTrue ((r.number == 21 && not (is_none (names_of (open_view self.entry))))
             || (r.number == 23 && (is_none (names_of (open_view self.entry)) && not (is_some self.entry.closed))))) }
         ensures refuses { IfErr result (λ r. IsTrue (is_object_fault r.number)) }
     {
@@ -263,7 +263,7 @@ fn check_calendar(alloc: Global, calendar: &Component, limits: Limits) -> Result
     requires { IsCalendar calendar.now }
     ensures version { OnOk result (has_version (component_lines calendar.now) ≡ true) }
     ensures events { OnOk result ((is_bounded limits && nat_lt 200 (count_inside component_name component_lines component_children (codes "VEVENT") calendar.now)) ≡ false) }
-    ensures stands { IfErr result (RefusesOnly (λ n. calendar_has (is_bounded limits) n calendar.now)) }
+    ensures fault { IfErr result (RefusesOnly (λ n. calendar_has (is_bounded limits) n calendar.now)) }
     ensures refuses { IfErr result (RefusesOnly is_object_fault) }
 {
     let properties = Properties::of(alloc, calendar)?;

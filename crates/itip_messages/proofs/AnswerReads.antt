@@ -32,7 +32,7 @@ slot_named Whole lines e = subst (SlotNamed Whole) (sym e) (record {
   sequence = refl;
   stamp = refl;
   attendee = refl;
-  instance = record { line = None; once = refl; stands = λ h. h; is = tt };
+  instance = record { line = None; once = refl; present = λ h. h; is = tt };
 })
 slot_named (At t) lines (text, w, e) = subst (SlotNamed (At t)) (sym e) (record {
   uid = refl;
@@ -40,7 +40,7 @@ slot_named (At t) lines (text, w, e) = subst (SlotNamed (At t)) (sym e) (record 
   sequence = refl;
   stamp = refl;
   attendee = refl;
-  instance = record { line = Some (codes "RECURRENCE-ID:" ++ text); once = refl; stands = λ _. refl; is = stamp_written text t w };
+  instance = record { line = Some (codes "RECURRENCE-ID:" ++ text); once = refl; present = λ _. refl; is = stamp_written text t w };
 })
 
 -- ---- the room's line, and the lines of the outcome
@@ -89,7 +89,7 @@ module _ (room : List ℕ) (part : Part) (moment : ℤ) (outcome : Outcome) (slo
   instance_said = record {
     line = s.instance.line;
     once = both_named (codes "RECURRENCE-ID") slot after (option_to_list s.instance.line) [] s.instance.once r.instance ∙ none_after s.instance.line;
-    stands = s.instance.stands;
+    present = s.instance.present;
     is = s.instance.is;
   }
     where
@@ -102,25 +102,25 @@ module _ (room : List ℕ) (part : Part) (moment : ℤ) (outcome : Outcome) (slo
     uid = record {
       line = Some (codes "UID:" ++ escaped part.uid);
       once = ap (λ (l : Lines). (codes "UID:" ++ escaped part.uid) ∷ l) (both_named (codes "UID") slot after [] [] s.uid r.uid);
-      stands = λ _. refl;
+      present = λ _. refl;
       is = (sym (read_back part.uid), is_uid);
     };
     organiser = record {
       line = Some (codes "ORGANIZER:" ++ part.organiser);
       once = both_named (codes "ORGANIZER") slot after [] _ s.organiser (ap (λ (l : Lines). (codes "ORGANIZER:" ++ part.organiser) ∷ l) r.organiser);
-      stands = λ _. refl;
+      present = λ _. refl;
       is = (organiser.address, sym organiser.lower);
     };
     sequence = record {
       line = Some (codes "SEQUENCE:" ++ decimal part.revision.sequence);
       once = both_named (codes "SEQUENCE") slot after [] _ s.sequence (ap (λ (l : Lines). (codes "SEQUENCE:" ++ decimal part.revision.sequence) ∷ l) r.sequence);
-      stands = λ _. refl;
+      present = λ _. refl;
       is = sequence_written part.revision.sequence small;
     };
     stamp = record {
       line = Some (codes "DTSTAMP:" ++ stamp);
       once = both_named (codes "DTSTAMP") slot after [] _ s.stamp (ap (λ (l : Lines). (codes "DTSTAMP:" ++ stamp) ∷ l) r.stamp);
-      stands = λ _. refl;
+      present = λ _. refl;
       is = at;
     };
     instance = instance_said;

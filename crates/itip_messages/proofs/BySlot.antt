@@ -51,7 +51,7 @@ organised object m [] (e ∷ es) z = absurd z
 organised object m (v ∷ vs) [] z = absurd z
 organised object m (v ∷ vs) (e ∷ es) z =
     let s = z.0.organiser in
-    All-cons (λ (e : Event). is_some e.organiser ≡ true) e es (given _ s.line e.organiser (s.stands refl) s.is) (organised object m vs es z.1)
+    All-cons (λ (e : Event). is_some e.organiser ≡ true) e es (given _ s.line e.organiser (s.present refl) s.is) (organised object m vs es z.1)
 
 pub stamped : (object : Tree) (m : Method) (vs : List Lines) (es : List Event) → AllZip (SaysEvent object (Some m)) vs es → All (λ e. is_some e.stamp ≡ true) es
 stamped object m [] [] z = All-nil (λ e. is_some e.stamp ≡ true)
@@ -59,7 +59,7 @@ stamped object m [] (e ∷ es) z = absurd z
 stamped object m (v ∷ vs) [] z = absurd z
 stamped object m (v ∷ vs) (e ∷ es) z =
     let s = z.0.stamp in
-    All-cons (λ (e : Event). is_some e.stamp ≡ true) e es (given _ s.line e.stamp (s.stands refl) s.is) (stamped object m vs es z.1)
+    All-cons (λ (e : Event). is_some e.stamp ≡ true) e es (given _ s.line e.stamp (s.present refl) s.is) (stamped object m vs es z.1)
 
 -- and RECURRENCE-ID names an instant that a stamp writes
 in_stamps : (r : Option ℤ) → ((t : ℤ) → r ≡ Some t → IsNamed t) → IsDated (slot_named r)

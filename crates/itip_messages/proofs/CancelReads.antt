@@ -152,10 +152,10 @@ module _ (organiser uid : List ℕ) (revision : Revision) (to : List (List ℕ))
       let l = lacks called_off in
       let h = has called_off in
       record {
-        uid = record { line = Some (codes "UID:" ++ escaped uid); once = h.uid_line; stands = λ _. refl; is = (sym (read_back uid), n.is_uid) };
-        organiser = record { line = Some (codes "ORGANIZER:" ++ organiser); once = h.organiser_line; stands = λ _. refl; is = (n.address.read.address, sym n.address.read.lower) };
-        stamp = record { line = Some (codes "DTSTAMP:" ++ stamp); once = h.stamp_line; stands = λ _. refl; is = at };
-        sequence = (Some revision.sequence, record { line = Some (codes "SEQUENCE:" ++ decimal revision.sequence); once = h.sequence_line; stands = λ _. refl; is = sequence_written revision.sequence n.small }, refl);
+        uid = record { line = Some (codes "UID:" ++ escaped uid); once = h.uid_line; present = λ _. refl; is = (sym (read_back uid), n.is_uid) };
+        organiser = record { line = Some (codes "ORGANIZER:" ++ organiser); once = h.organiser_line; present = λ _. refl; is = (n.address.read.address, sym n.address.read.lower) };
+        stamp = record { line = Some (codes "DTSTAMP:" ++ stamp); once = h.stamp_line; present = λ _. refl; is = at };
+        sequence = (Some revision.sequence, record { line = Some (codes "SEQUENCE:" ++ decimal revision.sequence); once = h.sequence_line; present = λ _. refl; is = sequence_written revision.sequence n.small }, refl);
         status = h.status;
         times = inr (
           refl,
@@ -174,11 +174,11 @@ module _ (organiser uid : List ℕ) (revision : Revision) (to : List (List ℕ))
         );
         rule = record {
           text = None;
-          spells = record { line = None; once = l.rule; stands = λ e. absurd (false≢true e); is = tt };
+          spells = record { line = None; once = l.rule; present = λ e. absurd (false≢true e); is = tt };
           gives = subst (λ (lines : Lines). GivesBeside lines (said called_off).times None None) (sym l.start) refl;
         };
         occurrences = record {
-          is = record { line = None; once = l.recurrence; stands = λ e. absurd (false≢true e); is = tt };
+          is = record { line = None; once = l.recurrence; present = λ e. absurd (false≢true e); is = tt };
           adds = subst (λ (lines : Lines). Lists object (codes "RDATE") (flat_map entries_of lines) []) (sym l.additions) (tt, omega arith);
           inside = subst (λ (lines : Lines). AllZip (IsInside object) (flat_map entries_of lines) []) (sym l.additions) tt;
           takes = subst (λ (lines : Lines). Lists object (codes "EXDATE") (flat_map entries_of lines) []) (sym l.exceptions) (tt, omega arith);

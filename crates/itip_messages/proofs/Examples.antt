@@ -6,8 +6,8 @@ use Rattle.profile.specs.rooms.Messages.{word, object_lines, is_method, names_ro
 
 -- ---- words of a status
 
-an_address_stands_for_itself : word (codes "mailto:ann@example.com") ≡ codes "mailto:ann@example.com"
-an_address_stands_for_itself = refl
+an_address_is_written_as_itself : word (codes "mailto:ann@example.com") ≡ codes "mailto:ann@example.com"
+an_address_is_written_as_itself = refl
 
 a_space_is_written : word (codes "a b") ≡ codes "a%20b"
 a_space_is_written = refl

@@ -22,7 +22,7 @@ use Rattle.profile.specs.rooms.Messages.{NamesMethod, MethodFault, bad_method, M
 use Rattle.profile.specs.organisers.Objects.{Operation, NamesOperation}
 use Rattle.profile.specs.rooms.Messages.{AreParts, AreBySlot, Content, no_content, IsPart, IsBody, IsContent, names_room, is_addressed, is_part_for, parts_for, own_revision, cancels, is_cancel, canonical}
 use Rattle.profile.specs.rooms.Revisions as revisions
-use Rattle.profile.specs.events.Properties.{StandsAtMostOnce}
+use Rattle.profile.specs.events.Properties.{OccursAtMostOnce}
 use Rattle.cal_events.specs.declared.component.EventComponent.{EventComponent}
 use Rattle.cal_events.specs.declared.component.Purpose.{Purpose}
 use Rattle.cal_events.specs.declared.meeting_components.MeetingComponents.{MeetingComponents}
@@ -39,7 +39,7 @@ use Rattle.itip_messages.specs.declared.room_message.MessageComponent.{MessageCo
 use Rattle.itip_messages.specs.declared.room_message.Method.{Method}
 use Rattle.itip_messages.specs.declared.room_message.Method.TheVariants.{Request, Add, Cancel}
 use Rattle.itip_messages.specs.Bodies.{IsReady}
-use Rattle.itip_messages.specs.Messages.{method_said, purpose_of, IsDated, IsOfMessage, SaysComponent, event_slot, StandsFor, component_names, is_for, is_part_of, has_part, part_for}
+use Rattle.itip_messages.specs.Messages.{method_said, purpose_of, IsDated, IsOfMessage, SaysComponent, event_slot, RepresentsMessage, component_names, is_for, is_part_of, has_part, part_for}
 use Rattle.itip_messages.specs.OrganiserObjects.{IsOrganiserFault}
 use Rattle.itip_messages.specs.Readings.{WordFault}
 use Rattle.itip_messages.proofs.BySlot.{kept_by_slot}
@@ -49,12 +49,12 @@ Lines = List (List ℕ)
 
 -- ---- METHOD
 
-word_stands_at : (own : Lines) (line : List ℕ) (n : ℕ) → StandsAtMostOnce (codes "METHOD") own (Some line) → WordFault (line_value line) n → MethodFault own n
-word_stands_at own line n once w = subst (MethodFault own) (sym w.0) (bad_method (some_line (codes "METHOD") (λ l. is_method (line_value l) ≡ false) own line once w.1))
+word_refuses_at : (own : Lines) (line : List ℕ) (n : ℕ) → OccursAtMostOnce (codes "METHOD") own (Some line) → WordFault (line_value line) n → MethodFault own n
+word_refuses_at own line n once w = subst (MethodFault own) (sym w.0) (bad_method (some_line (codes "METHOD") (λ l. is_method (line_value l) ≡ false) own line once w.1))
 
-pub word_stands : {T : Type 0} (r : Result T Refusal) (own : Lines) (line : List ℕ) → StandsAtMostOnce (codes "METHOD") own (Some line) → IfErr r (λ e. WordFault (line_value line) e.number) → IfErr r (λ e. MethodFault own e.number)
-word_stands (Ok x) own line once h = tt
-word_stands (Err e) own line once h = word_stands_at own line e.number once h
+pub word_refuses : {T : Type 0} (r : Result T Refusal) (own : Lines) (line : List ℕ) → OccursAtMostOnce (codes "METHOD") own (Some line) → IfErr r (λ e. WordFault (line_value line) e.number) → IfErr r (λ e. MethodFault own e.number)
+word_refuses (Ok x) own line once h = tt
+word_refuses (Err e) own line once h = word_refuses_at own line e.number once h
 
 -- ---- VEVENTs
 
@@ -69,13 +69,13 @@ pub in_message : (object : Tree) (method : Method) (purpose : Purpose) (meeting 
 in_message object method purpose meeting e says = subst (λ (m : Option events.Method). SaysMeeting object m meeting) (ap method_read e ∙ read_for method) says
 
 -- what the VEVENTs of a message are refused for
-pub meeting_stands : (object : Tree) (method : events.Method) (f : Fault) → NamesMethod (tree_own object) method → RefusesBy (MeetingFault object (Some method)) f → RefusesBy (MessageFault object) f
-meeting_stands object method Memory named s = tt
-meeting_stands object method (Refused r) named s = in_meeting method named s
+pub meeting_refuses : (object : Tree) (method : events.Method) (f : Fault) → NamesMethod (tree_own object) method → RefusesBy (MeetingFault object (Some method)) f → RefusesBy (MessageFault object) f
+meeting_refuses object method Memory named s = tt
+meeting_refuses object method (Refused r) named s = in_meeting method named s
 
-pub object_stands : (object : Tree) (operation : Operation) (f : Fault) → NamesOperation (tree_own object) operation → RefusesBy (IsOrganiserFault object operation) f → RefusesBy (MessageFault object) f
-object_stands object operation Memory named s = tt
-object_stands object operation (Refused r) named s = for_organiser (s named)
+pub object_refuses : (object : Tree) (operation : Operation) (f : Fault) → NamesOperation (tree_own object) operation → RefusesBy (IsOrganiserFault object operation) f → RefusesBy (MessageFault object) f
+object_refuses object operation Memory named s = tt
+object_refuses object operation (Refused r) named s = for_organiser (s named)
 
 -- ---- what is known of the VEVENTs of a meeting
 
@@ -200,7 +200,7 @@ body_said room method event content octets true n h k when is = (h, refl)
 body_said room method event content octets false true h k when is = (h, k, when, is)
 body_said room method event content octets false false h k when is = (h, k, refl)
 
-module _ (room : List ℕ) (message : RoomMessage) (said : profile.Message) (s : StandsFor message said) where
+module _ (room : List ℕ) (message : RoomMessage) (said : profile.Message) (s : RepresentsMessage message said) where
   abbrev whole_of : Option revisions.Revision
   whole_of = option_map own_revision said.meeting.master
 

@@ -60,8 +60,8 @@ module _ (operation : Operation) (purpose : Purpose) (e : purpose ≡ purpose_of
   method_is : method_read purpose ≡ Some (read_as (operation_said operation))
   method_is = ap method_read e ∙ read_for operation
 
-  pub as_they_stand : (es : List Event) → taken_by (method_read purpose) es ≡ es
-  as_they_stand es = subst (λ (m : Option events.Method). taken_by m es ≡ es) (sym method_is) (none_added (operation_said operation) es)
+  pub as_they_are : (es : List Event) → taken_by (method_read purpose) es ≡ es
+  as_they_are es = subst (λ (m : Option events.Method). taken_by m es ≡ es) (sym method_is) (none_added (operation_said operation) es)
 
   -- what is wrong between them
   pub meeting_wrong : (object : Tree) (f : Fault) → RefusesBy (MeetingFault object (method_read purpose)) f → RefusesBy (IsOrganiserFault object (operation_said operation)) f

@@ -308,12 +308,12 @@ module _ (name : List ℕ) (event : Event) (recurrence : Option (List ℕ)) (slo
       go : (o : Option Parts) → SpellRule (clock_of event.times.zone) (local_written event.times.zone event.times) rules o → SaysEventRule (own r) times o
       go None none = record {
         text = None;
-        spells = record { line = None; once = rules_of r lacks ∙ none; stands = λ h. absurd (false≢true h); is = tt };
+        spells = record { line = None; once = rules_of r lacks ∙ none; present = λ h. absurd (false≢true h); is = tt };
         gives = subst (λ (l : Lines). GivesBeside l times None None) starts tt;
       }
       go (Some o) (value, are, shown, (text, spelled, gives)) = record {
         text = Some text;
-        spells = record { line = Some (codes "RRULE:" ++ value); once = rules_of r lacks ∙ are; stands = λ h. absurd (false≢true h); is = spelled };
+        spells = record { line = Some (codes "RRULE:" ++ value); once = rules_of r lacks ∙ are; present = λ h. absurd (false≢true h); is = spelled };
         gives = subst (λ (l : Lines). GivesBeside l times (Some text) (Some o)) starts gives;
       }
 
@@ -325,15 +325,15 @@ module _ (name : List ℕ) (event : Event) (recurrence : Option (List ℕ)) (slo
       go None (Some i) q a = absurd q
       go (Some text) None q a = absurd q
       go None None q a = record {
-        uid = record { line = Some (codes "UID:" ++ uid); once = named_of None (codes "UID") refl (λ v. refl) (λ v. refl) (λ v. refl) (λ rest. refl) [] (none_behind (codes "UID") elsewhere_uid); stands = λ _. refl; is = (s.uid_there, s.is_uid) };
-        organiser = record { line = Some (codes "ORGANIZER:" ++ organiser); once = named_of None (codes "ORGANIZER") refl (λ v. refl) (λ v. refl) (λ v. refl) (λ rest. refl) _ b.organised; stands = λ _. refl; is = (s.organised, sym s.lower) };
-        stamp = record { line = Some (codes "DTSTAMP:" ++ stamp); once = named_of None (codes "DTSTAMP") refl (λ v. refl) (λ v. refl) (λ v. refl) (λ rest. refl) [] (none_behind (codes "DTSTAMP") elsewhere_stamp); stands = λ _. refl; is = s.stamped_is };
-        sequence = (Some revision.sequence, record { line = Some (codes "SEQUENCE:" ++ sequence); once = named_of None (codes "SEQUENCE") refl (λ v. refl) (λ v. refl) (λ v. refl) (λ rest. refl) [] (none_behind (codes "SEQUENCE") elsewhere_sequence); stands = λ _. refl; is = s.numbered }, refl);
+        uid = record { line = Some (codes "UID:" ++ uid); once = named_of None (codes "UID") refl (λ v. refl) (λ v. refl) (λ v. refl) (λ rest. refl) [] (none_behind (codes "UID") elsewhere_uid); present = λ _. refl; is = (s.uid_there, s.is_uid) };
+        organiser = record { line = Some (codes "ORGANIZER:" ++ organiser); once = named_of None (codes "ORGANIZER") refl (λ v. refl) (λ v. refl) (λ v. refl) (λ rest. refl) _ b.organised; present = λ _. refl; is = (s.organised, sym s.lower) };
+        stamp = record { line = Some (codes "DTSTAMP:" ++ stamp); once = named_of None (codes "DTSTAMP") refl (λ v. refl) (λ v. refl) (λ v. refl) (λ rest. refl) [] (none_behind (codes "DTSTAMP") elsewhere_stamp); present = λ _. refl; is = s.stamped_is };
+        sequence = (Some revision.sequence, record { line = Some (codes "SEQUENCE:" ++ sequence); once = named_of None (codes "SEQUENCE") refl (λ v. refl) (λ v. refl) (λ v. refl) (λ rest. refl) [] (none_behind (codes "SEQUENCE") elsewhere_sequence); present = λ _. refl; is = s.numbered }, refl);
         status = (b.status.0, named_of None (codes "STATUS") refl (λ v. refl) (λ v. refl) (λ v. refl) (λ rest. refl) _ b.status.1, b.status.2);
         times = inl (times_of None object m refl refl refl);
         rule = rule_of_lines None refl refl;
         occurrences = record {
-          is = record { line = None; once = named_of None (codes "RECURRENCE-ID") refl (λ v. refl) (λ v. refl) (λ v. refl) (λ rest. refl) [] (none_behind (codes "RECURRENCE-ID") elsewhere_recurrence); stands = λ h. absurd (false≢true h); is = tt };
+          is = record { line = None; once = named_of None (codes "RECURRENCE-ID") refl (λ v. refl) (λ v. refl) (λ v. refl) (λ rest. refl) [] (none_behind (codes "RECURRENCE-ID") elsewhere_recurrence); present = λ h. absurd (false≢true h); is = tt };
           adds = (entries_added None object refl, w.few_added);
           inside = entries_inside None object refl;
           takes = (entries_taken None object refl, w.few_taken);
@@ -343,15 +343,15 @@ module _ (name : List ℕ) (event : Event) (recurrence : Option (List ℕ)) (slo
         attendees = subst (λ (l : Lines). AllZip IsAttendee l said) (sym (named_of None (codes "ATTENDEE") refl (λ v. refl) (λ v. refl) (λ v. refl) (λ rest. refl) _ refl)) b.attendees;
       }
       go (Some text) (Some i) q a = record {
-        uid = record { line = Some (codes "UID:" ++ uid); once = named_of (Some text) (codes "UID") refl (λ v. refl) (λ v. refl) (λ v. refl) (λ rest. refl) [] (none_behind (codes "UID") elsewhere_uid); stands = λ _. refl; is = (s.uid_there, s.is_uid) };
-        organiser = record { line = Some (codes "ORGANIZER:" ++ organiser); once = named_of (Some text) (codes "ORGANIZER") refl (λ v. refl) (λ v. refl) (λ v. refl) (λ rest. refl) _ b.organised; stands = λ _. refl; is = (s.organised, sym s.lower) };
-        stamp = record { line = Some (codes "DTSTAMP:" ++ stamp); once = named_of (Some text) (codes "DTSTAMP") refl (λ v. refl) (λ v. refl) (λ v. refl) (λ rest. refl) [] (none_behind (codes "DTSTAMP") elsewhere_stamp); stands = λ _. refl; is = s.stamped_is };
-        sequence = (Some revision.sequence, record { line = Some (codes "SEQUENCE:" ++ sequence); once = named_of (Some text) (codes "SEQUENCE") refl (λ v. refl) (λ v. refl) (λ v. refl) (λ rest. refl) [] (none_behind (codes "SEQUENCE") elsewhere_sequence); stands = λ _. refl; is = s.numbered }, refl);
+        uid = record { line = Some (codes "UID:" ++ uid); once = named_of (Some text) (codes "UID") refl (λ v. refl) (λ v. refl) (λ v. refl) (λ rest. refl) [] (none_behind (codes "UID") elsewhere_uid); present = λ _. refl; is = (s.uid_there, s.is_uid) };
+        organiser = record { line = Some (codes "ORGANIZER:" ++ organiser); once = named_of (Some text) (codes "ORGANIZER") refl (λ v. refl) (λ v. refl) (λ v. refl) (λ rest. refl) _ b.organised; present = λ _. refl; is = (s.organised, sym s.lower) };
+        stamp = record { line = Some (codes "DTSTAMP:" ++ stamp); once = named_of (Some text) (codes "DTSTAMP") refl (λ v. refl) (λ v. refl) (λ v. refl) (λ rest. refl) [] (none_behind (codes "DTSTAMP") elsewhere_stamp); present = λ _. refl; is = s.stamped_is };
+        sequence = (Some revision.sequence, record { line = Some (codes "SEQUENCE:" ++ sequence); once = named_of (Some text) (codes "SEQUENCE") refl (λ v. refl) (λ v. refl) (λ v. refl) (λ rest. refl) [] (none_behind (codes "SEQUENCE") elsewhere_sequence); present = λ _. refl; is = s.numbered }, refl);
         status = (b.status.0, named_of (Some text) (codes "STATUS") refl (λ v. refl) (λ v. refl) (λ v. refl) (λ rest. refl) _ b.status.1, b.status.2);
         times = inl (times_of (Some text) object m refl refl refl);
         rule = rule_of_lines (Some text) refl refl;
         occurrences = record {
-          is = record { line = Some (codes "RECURRENCE-ID:" ++ text); once = named_of (Some text) (codes "RECURRENCE-ID") refl (λ v. refl) (λ v. refl) (λ v. refl) (λ rest. refl) [] (none_behind (codes "RECURRENCE-ID") elsewhere_recurrence); stands = λ h. absurd (false≢true h); is = (refl, (None, i, (refl, q.0), utc_means i, (q.1.0, q.1.0, q.1.1))) };
+          is = record { line = Some (codes "RECURRENCE-ID:" ++ text); once = named_of (Some text) (codes "RECURRENCE-ID") refl (λ v. refl) (λ v. refl) (λ v. refl) (λ rest. refl) [] (none_behind (codes "RECURRENCE-ID") elsewhere_recurrence); present = λ h. absurd (false≢true h); is = (refl, (None, i, (refl, q.0), utc_means i, (q.1.0, q.1.0, q.1.1))) };
           adds = (entries_added (Some text) object refl, w.few_added);
           inside = entries_inside (Some text) object refl;
           takes = (entries_taken (Some text) object refl, w.few_taken);
@@ -368,8 +368,8 @@ module _ (name : List ℕ) (event : Event) (recurrence : Option (List ℕ)) (slo
 pub as_event : (object : Tree) (lines : Lines) (event : Event) → SaysEvent object (Some Request) lines event → SaysEvent object None lines event
 as_event object lines event s = record {
   uid = s.uid;
-  organiser = record { line = s.organiser.line; once = s.organiser.once; stands = λ h. s.organiser.stands refl; is = s.organiser.is };
-  stamp = record { line = s.stamp.line; once = s.stamp.once; stands = λ h. s.stamp.stands refl; is = s.stamp.is };
+  organiser = record { line = s.organiser.line; once = s.organiser.once; present = λ h. s.organiser.present refl; is = s.organiser.is };
+  stamp = record { line = s.stamp.line; once = s.stamp.once; present = λ h. s.stamp.present refl; is = s.stamp.is };
   sequence = s.sequence;
   status = s.status;
   times = s.times;

@@ -40,9 +40,9 @@ refresh_reads back reads room organiser uid moment lines octets r o u e is =
 own_says : (room organiser uid stamp : List ℕ) (moment : ℤ) → IsReadAddress room → IsReadAddress organiser → IsUid uid → SpellsStamp stamp moment
     → SaysRefresh room organiser uid moment (asked room organiser uid stamp)
 own_says room organiser uid stamp moment home of_it is_uid at = record {
-  uid_line = record { line = Some (codes "UID:" ++ escaped uid); once = refl; stands = λ _. refl; is = (sym (read_back uid), is_uid) };
-  organiser_line = record { line = Some (codes "ORGANIZER:" ++ organiser); once = refl; stands = λ _. refl; is = (of_it.address, sym of_it.lower) };
-  stamp = record { line = Some (codes "DTSTAMP:" ++ stamp); once = refl; stands = λ _. refl; is = at };
+  uid_line = record { line = Some (codes "UID:" ++ escaped uid); once = refl; present = λ _. refl; is = (sym (read_back uid), is_uid) };
+  organiser_line = record { line = Some (codes "ORGANIZER:" ++ organiser); once = refl; present = λ _. refl; is = (of_it.address, sym of_it.lower) };
+  stamp = record { line = Some (codes "DTSTAMP:" ++ stamp); once = refl; present = λ _. refl; is = at };
   attendees = (record { address = (home.address, sym home.lower); participation = refl; scheduled = refl }, tt);
 }
 

@@ -16,7 +16,7 @@ use Rattle.profile.specs.series.Zones.{IsOneMeaning, Zone}
 use Rattle.profile.specs.series.ZoneTexts.{SaysZone}
 use Rattle.profile.specs.events.Events.{Attendee, Event, IsAttendee, Request, SaysEvent, first_text, meeting_said}
 use Rattle.profile.specs.events.Meetings.{InstancesDiffer, is_master, is_override}
-use Rattle.profile.specs.events.Properties.{BothOrNeither, IsAddressLine, IsUidLine, Says, StandsAtMostOnce, is_of, lines_named}
+use Rattle.profile.specs.events.Properties.{BothOrNeither, IsAddressLine, IsUidLine, Says, OccursAtMostOnce, is_of, lines_named}
 use Rattle.profile.specs.events.ZonedTimes.{EventTimes, SaysTimes, SaysZoneOf, SpellsZoned, clock_of, zone_named}
 use Rattle.profile.specs.organisers.Objects.{Operation, OrganiserObject, SpellsOrganiserObject, Store, read_as}
 use Rattle.cal_events.specs.Meetings.{IsNamed}
@@ -86,12 +86,12 @@ named_in : (name : List ℕ) (lines : Lines) (line : List ℕ) → Contains (lin
 named_in name lines line c = (filter_at (is_of name) lines line c).0
 
 organiser_there : (lines : Lines) → AreCleanIn lines → (given : Option (List ℕ)) → Says (codes "ORGANIZER") true IsAddressLine lines given → (organiser : List ℕ) → unwrap_or given [] ≡ organiser → (given ≡ Some organiser) × IsSentAddress organiser
-organiser_there lines clean given s organiser e = go s.line given s.once (s.stands refl) s.is e
+organiser_there lines clean given s organiser e = go s.line given s.once (s.present refl) s.is e
   where
-    go : (line given : Option (List ℕ)) → StandsAtMostOnce (codes "ORGANIZER") lines line → is_some line ≡ true → BothOrNeither IsAddressLine line given → unwrap_or given [] ≡ organiser → (given ≡ Some organiser) × IsSentAddress organiser
-    go None given once stands is e = absurd (false≢true stands)
-    go (Some l) None once stands is e = absurd is
-    go (Some l) (Some g) once stands is e = (
+    go : (line given : Option (List ℕ)) → OccursAtMostOnce (codes "ORGANIZER") lines line → is_some line ≡ true → BothOrNeither IsAddressLine line given → unwrap_or given [] ≡ organiser → (given ≡ Some organiser) × IsSentAddress organiser
+    go None given once present is e = absurd (false≢true present)
+    go (Some l) None once present is e = absurd is
+    go (Some l) (Some g) once present is e = (
       ap Some e,
       subst IsSentAddress e (sent_address g l is (clean l (named_in (codes "ORGANIZER") lines l (subst (λ (x : Lines). Contains x l) (sym once) (in_head l []))))),
     )
@@ -99,7 +99,7 @@ organiser_there lines clean given s organiser e = go s.line given s.once (s.stan
 uid_there : (lines : Lines) → AreCleanIn lines → (uid : List ℕ) → Says (codes "UID") true IsUidLine lines (Some uid) → IsUid uid × IsTextValue uid
 uid_there lines clean uid s = go s.line s.once s.is
   where
-    go : (line : Option (List ℕ)) → StandsAtMostOnce (codes "UID") lines line → BothOrNeither IsUidLine line (Some uid) → IsUid uid × IsTextValue uid
+    go : (line : Option (List ℕ)) → OccursAtMostOnce (codes "UID") lines line → BothOrNeither IsUidLine line (Some uid) → IsUid uid × IsTextValue uid
     go None once is = absurd is
     go (Some l) once is = (
       is.1,

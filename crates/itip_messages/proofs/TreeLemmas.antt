@@ -13,7 +13,7 @@ use Rattle.profile.specs.rooms.Messages.{MessageFault}
 use Rattle.itip_messages.specs.declared.message.Message.{Message}
 use Rattle.itip_messages.specs.declared.message.Message.TheVariants.{ToRooms, ToOrganiser}
 use Rattle.itip_messages.specs.Readings.{IsMessageOf, IsSpelled, ReadFault}
-use Rattle.ical_tree.specs.Reading.{Stands}
+use Rattle.ical_tree.specs.Reading.{IsRefusalOf}
 
 -- the message that the octets spell
 pub message_spelled : (r : Result Message Fault) (octets : List ℕ) (c : Component) → reads_as_lines true octets ≡ true
@@ -32,6 +32,6 @@ faults_there (Err Memory) octets c object h = inr tt
 faults_there (Err (Refused x)) octets c object h =
     inr (record { tree = tree_of c; object = object_tree true c (logical_lines octets) object; fault = h })
 
-pub object_refused : (r : Result Message Fault) (octets : List ℕ) (f : Fault) → IsErrAnd r (λ e. e ≡ f) → Stands true octets f → IfErr r (ReadFault octets)
+pub object_refused : (r : Result Message Fault) (octets : List ℕ) (f : Fault) → IsErrAnd r (λ e. e ≡ f) → IsRefusalOf true octets f → IfErr r (ReadFault octets)
 object_refused (Ok message) octets f e h = tt
 object_refused (Err g) octets f e h = subst (ReadFault octets) (sym e) (inl h)

@@ -58,7 +58,7 @@ pub record SaysComponent (method : events.Method) (whole : Option revisions.Revi
   pub attendees : component.attendees ≡ event.attendees
 
 -- it is that message: its components are the events by their slots
-pub record StandsFor (message : RoomMessage) (said : profile.Message) : Type 0 where
+pub record RepresentsMessage (message : RoomMessage) (said : profile.Message) : Type 0 where
   pub method : method_said message.method ≡ said.method
   pub organiser : (event : Event) → Contains (events_of said.meeting) event → event.organiser ≡ Some (address_octets message.organiser)
   pub uid : (event : Event) → Contains (events_of said.meeting) event → text_octets message.uid ≡ event.uid

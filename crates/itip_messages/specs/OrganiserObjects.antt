@@ -41,7 +41,7 @@ pub record SaysObjectComponent (event : Event) (component : ObjectComponent) : T
   pub attendees : component.attendees ≡ event.attendees
 
 -- it is what was said
-pub record StandsForObject (object : OrganiserObject) (said : profile.OrganiserObject) : Type 0 where
+pub record RepresentsObject (object : OrganiserObject) (said : profile.OrganiserObject) : Type 0 where
   pub operation : operation_said object.operation ≡ said.operation
   pub organiser : address_octets object.organiser ≡ said.organiser
   pub uid : text_octets object.uid ≡ said.uid
@@ -51,7 +51,7 @@ pub record StandsForObject (object : OrganiserObject) (said : profile.OrganiserO
 -- the object, where it asks for this, says something to an organiser, and it is that
 abbrev pub IsObjectOf : Tree → profile.Operation → OrganiserObject → Type 0
 IsObjectOf object operation message =
-    (said : profile.OrganiserObject) × (said.operation ≡ operation) × StandsForObject message said
+    (said : profile.OrganiserObject) × (said.operation ≡ operation) × RepresentsObject message said
     × (profile.NamesOperation (tree_own object) operation → profile.SaysOrganiserObject object said)
 
 -- an attendee speaks, and one of the events doesn't have one attendee

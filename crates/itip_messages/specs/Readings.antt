@@ -2,15 +2,15 @@
 use Rattle.std.specs.Prelude.{◌≡◌, ◌⊎◌, ℕ, true, false, List, codes}
 use Rattle.ical_lines.specs.Fault.{RefusesBy}
 use Rattle.ical_lines.specs.declared.fault.Fault.{Fault}
-use Rattle.ical_tree.specs.Reading.{Stands}
+use Rattle.ical_tree.specs.Reading.{IsRefusalOf}
 use Rattle.profile.specs.text.Lines.{is_same_name}
 use Rattle.profile.specs.text.Trees.{Tree}
 use Rattle.profile.specs.rooms.Messages as profile
 use Rattle.profile.specs.rooms.Messages.{SaysMessage, SpellsMessage, MessageTextFault, NamesMethod, is_method, method_word}
 use Rattle.profile.specs.organisers.Objects as objects
 use Rattle.profile.specs.organisers.Objects.{NamesOperation, SaysOrganiserObject, SpellsOrganiserObject}
-use Rattle.itip_messages.specs.Messages.{StandsFor, method_said}
-use Rattle.itip_messages.specs.OrganiserObjects.{StandsForObject, operation_said}
+use Rattle.itip_messages.specs.Messages.{RepresentsMessage, method_said}
+use Rattle.itip_messages.specs.OrganiserObjects.{RepresentsObject, operation_said}
 use Rattle.itip_messages.specs.declared.message.Message.{Message}
 use Rattle.itip_messages.specs.declared.message.Message.TheVariants.{ToRooms, ToOrganiser}
 use Rattle.itip_messages.specs.declared.message.Kind.{Kind}
@@ -18,17 +18,17 @@ use Rattle.itip_messages.specs.declared.message.Kind.TheVariants as kinds
 
 -- the object says a message, and it is that
 abbrev pub IsMessageOf : Tree → Message → Type 0
-IsMessageOf object (ToRooms message) = (said : profile.Message) × SaysMessage object said × StandsFor message said
-IsMessageOf object (ToOrganiser message) = (said : objects.OrganiserObject) × SaysOrganiserObject object said × StandsForObject message said
+IsMessageOf object (ToRooms message) = (said : profile.Message) × SaysMessage object said × RepresentsMessage message said
+IsMessageOf object (ToOrganiser message) = (said : objects.OrganiserObject) × SaysOrganiserObject object said × RepresentsObject message said
 
 -- the octets spell a message, and it is that
 abbrev pub IsSpelled : List ℕ → Message → Type 0
-IsSpelled octets (ToRooms message) = (said : profile.Message) × SpellsMessage octets said × StandsFor message said
-IsSpelled octets (ToOrganiser message) = (said : objects.OrganiserObject) × SpellsOrganiserObject octets said × StandsForObject message said
+IsSpelled octets (ToRooms message) = (said : profile.Message) × SpellsMessage octets said × RepresentsMessage message said
+IsSpelled octets (ToOrganiser message) = (said : objects.OrganiserObject) × SpellsOrganiserObject octets said × RepresentsObject message said
 
 -- out of memory, or a fault of the octets, of the object or of what it says
 abbrev pub ReadFault : List ℕ → Fault → Type 0
-ReadFault octets fault = Stands true octets fault ⊎ RefusesBy (MessageTextFault octets) fault
+ReadFault octets fault = IsRefusalOf true octets fault ⊎ RefusesBy (MessageTextFault octets) fault
 
 -- METHOD among the properties of a VCALENDAR says that it is of this kind
 abbrev pub NamesKind : List (List ℕ) → Kind → Type 0

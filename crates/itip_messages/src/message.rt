@@ -32,7 +32,7 @@ impl Message {
     pub fn read(alloc: Global, bytes: &[u8]) -> Result<Message, Fault>
         ensures spells { IfOk result (IsSpelled bytes.now) }
         ensures refuses { IfErr result (RefusesOnly is_message_fault) }
-        ensures stands { IfErr result (ReadFault bytes.now) }
+        ensures fault { IfErr result (ReadFault bytes.now) }
     {
         let text = Unfolded::read(alloc, bytes, Limits::Message)?;
         let object = read_object(alloc, &text, Limits::Message)?;
@@ -44,7 +44,7 @@ impl Message {
     pub fn of_object(alloc: Global, object: &Component) -> Result<Message, Fault>
         ensures says { IfOk result (IsMessageOf (tree_of object.now)) }
         ensures refuses { IfErr result (RefusesOnly is_message_fault) }
-        ensures stands { IfErr result (RefusesBy (MessageFault (tree_of object.now))) }
+        ensures fault { IfErr result (RefusesBy (MessageFault (tree_of object.now))) }
     {
         let properties = Properties::of(alloc, object)?;
         match Kind::of(&properties)? {
@@ -71,7 +71,7 @@ impl Kind {
     fn of(properties: &Properties<'_>) -> Result<Kind, Refusal>
         ensures named { IfOk result (NamesKind properties.now) }
         ensures refuses { IfErr result (λ e. IsTrue (is_message_fault e.number)) }
-        ensures stands { IfErr result (λ e. MethodFault properties.now e.number) }
+        ensures fault { IfErr result (λ e. MethodFault properties.now e.number) }
     {
         match properties.optional("METHOD", Refusal::BAD_METHOD)? {
             Some(line) => Kind::named(line),
@@ -84,7 +84,7 @@ impl Kind {
     fn named(line: Line<'_>) -> Result<Kind, Refusal>
         ensures named { IfOk result (IsKindWord (line_value (line_text line.entry))) }
         ensures refuses { IfErr result (λ e. IsTrue (is_message_fault e.number)) }
-        ensures stands { IfErr result (λ e. WordFault (line_value (line_text line.entry)) e.number) }
+        ensures fault { IfErr result (λ e. WordFault (line_value (line_text line.entry)) e.number) }
     {
         let word = line.value();
         if word.eq_ignore_ascii_case("REQUEST") {

@@ -117,7 +117,7 @@ impl OrganiserObject {
     ) -> Result<OrganiserObject, Fault>
         ensures says { IfOk result (IsObjectOf (tree_of object.now) (operation_said operation)) }
         ensures refuses { IfErr result (RefusesOnly is_message_fault) }
-        ensures stands { IfErr result (RefusesBy (IsOrganiserFault (tree_of object.now) (operation_said operation))) }
+        ensures fault { IfErr result (RefusesBy (IsOrganiserFault (tree_of object.now) (operation_said operation))) }
     {
         let events = MeetingComponents::read_in_order(alloc, object, operation.purpose())?;
         judge_attendees(operation, &events)?;
@@ -136,7 +136,7 @@ impl OrganiserObject {
 /// Refused: 64 for such a VEVENT.
 fn judge_attendees(operation: Operation, events: &[EventComponent]) -> Result<(), Refusal>
     ensures each { OnOk result (is_of_attendee (operation_said operation) ≡ true → list_all has_one_attendee (map event_of events.now) ≡ true) }
-    ensures stands { IfErr result (λ e. IsNotOneEach (operation_said operation) (map event_of events.now) e.number) }
+    ensures fault { IfErr result (λ e. IsNotOneEach (operation_said operation) (map event_of events.now) e.number) }
 {
     if operation.is_of_attendee() && !all_have_one(events) {
         return Err(Refusal::NOT_ONE_ATTENDEE);

@@ -6,7 +6,7 @@ ghost use Rattle.ical_values.specs.Octets.{address_octets};
 ghost use Rattle.itip_order.specs.Parts.{part_of, parts_of};
 ghost use Rattle.profile.specs.rooms.Messages as profile;
 ghost use Rattle.profile.specs.rooms.Messages.{AreParts};
-ghost use Rattle.itip_messages.specs.Messages.{StandsFor, component_names, has_part, is_for, part_for, parts_for};
+ghost use Rattle.itip_messages.specs.Messages.{RepresentsMessage, component_names, has_part, is_for, part_for, parts_for};
 
 use crate::room_message::{MessageComponent, Method, RoomMessage};
 use ical_values::Address;
@@ -19,7 +19,7 @@ impl RoomMessage {
     /// for this room it isn't on.
     pub fn parts(&self, alloc: Global, room: &Address) -> Result<Vec<Part>, AllocError>
         ensures parts { IfOk result (λ parts. parts_of parts.items ≡ parts_for (address_octets room.now) self.now) }
-        ensures message { IfOk result (λ parts. (said : profile.Message) → StandsFor self.now said
+        ensures message { IfOk result (λ parts. (said : profile.Message) → RepresentsMessage self.now said
             → AreParts (address_octets room.now) said (parts_of parts.items)) }
     {
         if !self.is_addressed_to(room) {

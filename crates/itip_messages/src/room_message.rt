@@ -15,7 +15,7 @@ ghost use Rattle.cal_events.specs.OneMeeting.{meeting_of};
 ghost use Rattle.cal_events.specs.declared.component.EventComponent.{EventComponent};
 ghost use Rattle.itip_order.specs.Parts.{slot_of, revision_of};
 ghost use Rattle.itip_messages.specs.Bodies.{IsReady};
-ghost use Rattle.itip_messages.specs.Messages.{IsDated, IsOfMessage, SaysComponent, StandsFor, component_names, event_slot, method_said, purpose_of};
+ghost use Rattle.itip_messages.specs.Messages.{IsDated, IsOfMessage, SaysComponent, RepresentsMessage, component_names, event_slot, method_said, purpose_of};
 
 use crate::attendees::Attendees;
 use crate::body::canonical_body;
@@ -154,9 +154,9 @@ impl RoomMessage {
         method: Method,
     ) -> Result<RoomMessage, Fault>
         ensures says { IfOk result (λ message. (meeting : Meeting) × SaysMeeting (tree_of object.now) (Some (method_said method)) meeting
-            × StandsFor message (record { method = method_said method; meeting = meeting })) }
+            × RepresentsMessage message (record { method = method_said method; meeting = meeting })) }
         ensures refuses { IfErr result (RefusesOnly is_message_fault) }
-        ensures stands { IfErr result (RefusesBy (MeetingFault (tree_of object.now) (Some (method_said method)))) }
+        ensures fault { IfErr result (RefusesBy (MeetingFault (tree_of object.now) (Some (method_said method)))) }
     {
         let meeting = MeetingComponents::read(alloc, object, method.purpose())?;
         Ok(RoomMessage::of(alloc, method, meeting)?)
@@ -169,7 +169,7 @@ impl RoomMessage {
         meeting: MeetingComponents,
     ) -> Result<RoomMessage, AllocError>
         requires { IsOfMessage (meeting_of meeting) }
-        ensures { IfOk result (λ message. StandsFor message (record { method = method_said method; meeting = meeting_of meeting })) }
+        ensures { IfOk result (λ message. RepresentsMessage message (record { method = method_said method; meeting = meeting_of meeting })) }
     {
         let whole = whole_revision(&meeting.master);
         let mut events = meeting.into_events(alloc)?;

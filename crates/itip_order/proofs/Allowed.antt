@@ -6,7 +6,7 @@ use Rattle.std.specs.Ordering.{ordering_then, is_eq, is_lt, is_gt}
 use Rattle.std.specs.Cmp.{both_ways}
 use Rattle.std.specs.List.{Contains}
 use Rattle.std.proofs.lemmas.Bool.{and_parts, true≢false, or_left, or_right, and_from}
-use Rattle.profile.specs.rooms.Revisions.{Whole, Part, place_cmp, same_meeting, same_place, is_whole, stands_beside, allows}
+use Rattle.profile.specs.rooms.Revisions.{Whole, Part, place_cmp, same_meeting, same_place, is_whole, stays_beside, allows}
 use Rattle.itip_order.specs.Registers.{is_ascending, is_allowed_by, at_slot, IsRegister, HasNoRegister}
 use Rattle.itip_order.proofs.Lists.{all_at, all_from, in_cons, none_in_nil}
 use Rattle.itip_order.proofs.Order.{then_equal, is_eq_true}
@@ -58,11 +58,11 @@ pub allowed_absent : (R : List Part) (p : Part) → HasNoRegister R (at_slot p W
 allowed_absent R p none = sym (all_from (λ w. allows w p) R (λ x c.
     or_right (is_whole p) _ (implies_from _ _ (λ whole. absurd (none x c (is_eq_true _ (at_whole x p whole)))))))
 
-pub allowed_found : (R : List Part) (p w : Part) → is_ascending R ≡ true → is_whole p ≡ false → IsRegister R (at_slot p Whole) w → stands_beside w p ≡ is_allowed_by R p
+pub allowed_found : (R : List Part) (p w : Part) → is_ascending R ≡ true → is_whole p ≡ false → IsRegister R (at_slot p Whole) w → stays_beside w p ≡ is_allowed_by R p
 allowed_found R p w a other found =
     let both = then_equal _ _ found.1 in
-    both_ways (stands_beside w p) (is_allowed_by R p)
-    (λ stands. all_from (λ v. allows v p) R (λ x c. or_right (is_whole p) _ (implies_from _ _ (λ whole.
+    both_ways (stays_beside w p) (is_allowed_by R p)
+    (λ stays. all_from (λ v. allows v p) R (λ x c. or_right (is_whole p) _ (implies_from _ _ (λ whole.
     let same = ascending_unique R x w a c found.0 (place_trans x (at_slot p Whole) w (at_whole x p whole) (place_sym w (at_slot p Whole) (ap is_eq found.1))) in
-    subst (λ (z : Part). stands_beside z p ≡ true) (sym same) stands))))
+    subst (λ (z : Part). stays_beside z p ≡ true) (sym same) stays))))
     (λ allowed. implies_at _ _ (or_right_of (is_whole p) _ other (all_at (λ v. allows v p) R w allowed found.0)) (and_from _ _ (ap is_eq both.1) (ap is_eq both.0)))

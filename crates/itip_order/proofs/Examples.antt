@@ -1,7 +1,7 @@
 -- Worked examples of the view.
 use Rattle.std.proofs.Common.{◌≡◌, ℕ, pos, true, false, [], ◌∷◌, refl}
 use Rattle.profile.specs.rooms.Revisions.{Slot, Whole, At, Body, Set, Absent, Cancelled, Part, in_view}
-use Rattle.itip_order.specs.Registers.{StandsFor, shown}
+use Rattle.itip_order.specs.Registers.{RepresentsHistory, shown}
 
 part : Slot → ℕ → ℕ → Body → Part
 part slot sequence stamp body = record { organiser = 97 ∷ []; uid = 117 ∷ []; slot = slot; revision = record { sequence = sequence; stamp = pos stamp }; body = body }
@@ -68,7 +68,7 @@ unfolding cancel request part
 never_taken = refl
 
 -- the registers after a REQUEST, an instance and a CANCEL: the greatest of each of the two slots
-three_parts : StandsFor (cancel ∷ instance ∷ []) (request ∷ instance ∷ cancel ∷ [])
+three_parts : RepresentsHistory (cancel ∷ instance ∷ []) (request ∷ instance ∷ cancel ∷ [])
 unfolding cancel request instance part
 three_parts = record { ascending = refl; greatest = refl; covered = refl }
 

@@ -9,12 +9,12 @@ use Rattle.std.proofs.lemmas.List.{take-append-drop}
 use Rattle.std.proofs.lemmas.Cmp.{tied_back, tied_itself}
 use Rattle.std.proofs.lemmas.List.Elements.{Contains-append_left, Contains-append_right, Contains-append_cases}
 use Rattle.profile.specs.rooms.Revisions.{Part, place_cmp, part_cmp, same_place, is_greatest, in_view}
-use Rattle.itip_order.specs.Registers.{is_ascending, put_by, put_part, together, StandsFor, IsGap, IsRegister, HasNoRegister}
+use Rattle.itip_order.specs.Registers.{is_ascending, put_by, put_part, together, RepresentsHistory, IsGap, IsRegister, HasNoRegister}
 use Rattle.itip_order.proofs.Lists.{all_at, all_from, any_from, in_head, in_tail, in_cons, none_in_nil}
 use Rattle.itip_order.proofs.Order.{place_total, part_total, is_eq_true}
-use Rattle.itip_order.proofs.Registers.{Puts, stands_kept, stands_put, in_view_at, register_greatest, register_of, greatest_register, greatest_from, place_sym, place_trans, part_le_trans, part_le_refl, le_not_gt}
+use Rattle.itip_order.proofs.Registers.{Puts, represents_kept, represents_put, in_view_at, register_greatest, register_of, greatest_register, greatest_from, place_sym, place_trans, part_le_trans, part_le_refl, le_not_gt}
 use Rattle.itip_order.proofs.Allowed.{ascending_unique}
-use Rattle.itip_order.proofs.Orders.{ascending_same, stands_itself}
+use Rattle.itip_order.proofs.Orders.{ascending_same, represents_itself}
 use Rattle.itip_order.proofs.Taking.{puts_between, puts_over, is_gt_true}
 use Rattle.ical_values.proofs.Facts.{is_lt_true}
 
@@ -76,14 +76,14 @@ put_cases p (r ∷ R) a = step (put_cases p R (and_parts _ _ a).1) (place_cmp p 
     step rest Equal e = here (is_gt (part_cmp p r)) refl (tied_back place_total p r e)
     step rest Greater e = behind r R (put_part p R) p a (place_total.antisymm r p ∙ ap ordering_reverse e) rest
 
-pub put_stands : (R h : List Part) (p : Part) → StandsFor R h → StandsFor (put_part p R) (h ++ p ∷ [])
-put_stands R h p s = elim (put_cases p R s.ascending) [
-  | inl u ↦ stands_put R (put_part p R) h p s u
-  | inr k ↦ subst (λ (l : List Part). StandsFor l (h ++ p ∷ [])) (sym k.0) (stands_kept R h p k.1.0 s k.1.1 k.1.2 k.1.3)
+pub represents_one : (R h : List Part) (p : Part) → RepresentsHistory R h → RepresentsHistory (put_part p R) (h ++ p ∷ [])
+represents_one R h p s = elim (put_cases p R s.ascending) [
+  | inl u ↦ represents_put R (put_part p R) h p s u
+  | inr k ↦ subst (λ (l : List Part). RepresentsHistory l (h ++ p ∷ [])) (sym k.0) (represents_kept R h p k.1.0 s k.1.1 k.1.2 k.1.3)
 ]
 
 pub put_ascending : (R : List Part) (p : Part) → is_ascending R ≡ true → is_ascending (put_part p R) ≡ true
-put_ascending R p a = (put_stands R R p (stands_itself R a)).ascending
+put_ascending R p a = (represents_one R R p (represents_itself R a)).ascending
 
 -- two ways to put a part are one
 one_way : (R A B : List Part) (p : Part) → Puts R A p → Puts R B p → A ≡ B
@@ -127,13 +127,13 @@ pub together_ascending : (R S : List Part) → is_ascending R ≡ true → is_as
 together_ascending R [] a = a
 together_ascending R (p ∷ S) a = together_ascending (put_part p R) S (put_ascending R p a)
 
-together_stands : (R S h : List Part) → StandsFor R h → StandsFor (together R S) (h ++ S)
-together_stands R [] h s = subst (λ (l : List Part). StandsFor R l) (sym (append-nil h)) s
-together_stands R (p ∷ S) h s = subst (λ (l : List Part). StandsFor (together (put_part p R) S) l) (append_assoc h (p ∷ []) S) (together_stands (put_part p R) S (h ++ p ∷ []) (put_stands R h p s))
+represents_more : (R S h : List Part) → RepresentsHistory R h → RepresentsHistory (together R S) (h ++ S)
+represents_more R [] h s = subst (λ (l : List Part). RepresentsHistory R l) (sym (append-nil h)) s
+represents_more R (p ∷ S) h s = subst (λ (l : List Part). RepresentsHistory (together (put_part p R) S) l) (append_assoc h (p ∷ []) S) (represents_more (put_part p R) S (h ++ p ∷ []) (represents_one R h p s))
 
 -- registers in place of what they represent
-stands_along : (M h S g : List Part) → StandsFor S g → StandsFor M (h ++ S) → StandsFor M (h ++ g)
-stands_along M h S g t s = record {
+represents_along : (M h S g : List Part) → RepresentsHistory S g → RepresentsHistory M (h ++ S) → RepresentsHistory M (h ++ g)
+represents_along M h S g t s = record {
   ascending = s.ascending;
   greatest = all_from (is_greatest (h ++ g)) M (λ x c.
       let top = register_greatest M (h ++ S) s x c in
@@ -159,19 +159,19 @@ stands_along M h S g t s = record {
   ]);
 }
 
-pub stands_together : (R S h g : List Part) → StandsFor R h → StandsFor S g → StandsFor (together R S) (h ++ g)
-stands_together R S h g s t = stands_along (together R S) h S g t (together_stands R S h s)
+pub represents_both : (R S h g : List Part) → RepresentsHistory R h → RepresentsHistory S g → RepresentsHistory (together R S) (h ++ g)
+represents_both R S h g s t = represents_along (together R S) h S g t (represents_more R S h s)
 
 -- ---- the register of a place
 
 module _ (R S : List Part) (a : is_ascending R ≡ true) (b : is_ascending S ≡ true) where
-  stands : StandsFor (together R S) (R ++ S)
-  stands = together_stands R S R (stands_itself R a)
+  represented : RepresentsHistory (together R S) (R ++ S)
+  represented = represents_more R S R (represents_itself R a)
 
   -- no less than those of its place in both
   top_in : (x : Part) → Contains (R ++ S) x → ((y : Part) → Contains R y → same_place y x ≡ true → is_le (part_cmp y x) ≡ true)
       → ((y : Part) → Contains S y → same_place y x ≡ true → is_le (part_cmp y x) ≡ true) → Contains (together R S) x
-  top_in x c f g = greatest_register (together R S) (R ++ S) stands x (record {
+  top_in x c f g = greatest_register (together R S) (R ++ S) represented x (record {
     taken = c;
     top = λ y inside same. elim (Contains-append_cases R S y inside) [ inl left ↦ f y left same | inr right ↦ g y right same ];
   })
@@ -196,7 +196,7 @@ module _ (R S : List Part) (a : is_ascending R ≡ true) (b : is_ascending S ≡
   )
 
   pub none_of_both : (place : Part) → HasNoRegister R place → HasNoRegister S place → HasNoRegister (together R S) place
-  none_of_both place n m x c e = elim (Contains-append_cases R S x (register_greatest (together R S) (R ++ S) stands x c).taken) [
+  none_of_both place n m x c e = elim (Contains-append_cases R S x (register_greatest (together R S) (R ++ S) represented x c).taken) [
     | inl left ↦ n x left e
     | inr right ↦ m x right e
   ]
@@ -223,10 +223,10 @@ module _ (R S : List Part) (a : is_ascending R ≡ true) (b : is_ascending S ≡
   )
 
 -- a place without a register has nothing in the view
-pub nothing_shown : (M h : List Part) (p : Part) → StandsFor M h → HasNoRegister M p → false ≡ in_view h p
+pub nothing_shown : (M h : List Part) (p : Part) → RepresentsHistory M h → HasNoRegister M p → false ≡ in_view h p
 nothing_shown M h p s n = sym (false_from_ne_true _ (λ v. n p (in_view_at M h s p v).0 (tied_itself place_total p)))
 
-pub nothing_seen : (M h : List Part) (place : Part) → StandsFor M h → HasNoRegister M place → (x : Part) → in_view h x ≡ true → same_place x place ≡ true → ⊥
+pub nothing_seen : (M h : List Part) (place : Part) → RepresentsHistory M h → HasNoRegister M place → (x : Part) → in_view h x ≡ true → same_place x place ≡ true → ⊥
 nothing_seen M h place s n x v here = n x (in_view_at M h s x v).0 (is_eq_true _ here)
 
 -- a gap has no register

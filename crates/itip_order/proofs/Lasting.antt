@@ -7,7 +7,7 @@ use Rattle.std.specs.List.{Contains}
 use Rattle.std.proofs.lemmas.Bool.{and_parts, and_from, true≢false, or_cases, or_left, or_right, not_from_false, not-true, cases_Bool, false_from_ne_true, true_from_ne_false}
 use Rattle.std.proofs.lemmas.Cmp.{upto, tied_back}
 use Rattle.std.proofs.lemmas.List.Elements.{Contains-append_left}
-use Rattle.profile.specs.rooms.Revisions.{Whole, Revision, Body, Set, Absent, Cancelled, Part, revision_cmp, body_cmp, part_cmp, same_place, implies, is_greatest, stands_beside, allows, in_view}
+use Rattle.profile.specs.rooms.Revisions.{Whole, Revision, Body, Set, Absent, Cancelled, Part, revision_cmp, body_cmp, part_cmp, same_place, implies, is_greatest, stays_beside, allows, in_view}
 use Rattle.itip_order.proofs.Lists.{all_at, all_from, in_cons, in_head, in_tail, none_in_nil}
 use Rattle.itip_order.proofs.Order.{slot_total, meeting_total, revision_total, part_total, is_eq_true, then_equal}
 use Rattle.itip_order.proofs.Registers.{Greatest, greatest_at, greatest_from, greatest_unique, implies_at, implies_from, eq_refl, place_sym, place_trans, part_le_refl, part_le_trans}
@@ -122,10 +122,10 @@ above_lower : (p v w : Revision) → is_gt (revision_cmp p v) ≡ true → is_gt
 above_lower p v w above low = true_from_ne_false _ (λ below. true≢false (sym above ∙ upto revision_total p w v below low))
 
 -- a part that counts beside a Whole counts beside a lesser one of the same place
-stands_lower : (w v p : Part) → is_le (part_cmp w v) ≡ true → stands_beside v p ≡ true → stands_beside w p ≡ true
-stands_lower w v p le stands =
+stays_lower : (w v p : Part) → is_le (part_cmp w v) ≡ true → stays_beside v p ≡ true → stays_beside w p ≡ true
+stays_lower w v p le stays =
     let low = revision_le _ _ le in
-    elim (or_cases _ _ stands) [
+    elim (or_cases _ _ stays) [
       | inl above ↦ or_left _ _ (above_lower p.revision v.revision w.revision above low)
       | inr level ↦
           let both = and_parts _ _ level in
@@ -149,7 +149,7 @@ allows_lower w v p place le allowed =
           let both = and_parts _ _ whole in
           let v_whole = ap is_eq (slot_total.congr v.slot w.slot Whole places.1) ∙ both.0 in
           let v_meeting = ap is_eq (meeting_total.congr v w p places.0) ∙ both.1 in
-          stands_lower w v p le (implies_at _ _ hides (and_from _ _ v_whole v_meeting))))
+          stays_lower w v p le (implies_at _ _ hides (and_from _ _ v_whole v_meeting))))
     ]
 
 -- what left the view stays out of it

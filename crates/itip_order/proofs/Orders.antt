@@ -6,7 +6,7 @@ use Rattle.std.specs.List.{list_any, Contains}
 use Rattle.std.proofs.lemmas.Bool.{and_parts, and_from, true≢false}
 use Rattle.std.proofs.lemmas.Cmp.{tied_itself}
 use Rattle.profile.specs.rooms.Revisions.{Part, place_cmp, part_cmp, same_place, is_greatest, implies, allows, in_view}
-use Rattle.itip_order.specs.Registers.{is_ascending, StandsFor, SameParts}
+use Rattle.itip_order.specs.Registers.{is_ascending, RepresentsHistory, SameParts}
 use Rattle.itip_order.proofs.Lists.{all_at, all_from, any_from, in_cons, in_head, in_tail, none_in_nil}
 use Rattle.itip_order.proofs.Order.{place_total}
 use Rattle.itip_order.proofs.Allowed.{ascending_unique}
@@ -57,7 +57,7 @@ greatest_along xs ys x same g = record { taken = (same x).0 g.taken; top = λ y 
 same_back : (xs ys : List Part) → SameParts xs ys → SameParts ys xs
 same_back xs ys same = λ x. ((same x).1, (same x).0)
 
-pub same_registers : (R S xs ys : List Part) → StandsFor R xs → StandsFor S ys → SameParts xs ys → R ≡ S
+pub same_registers : (R S xs ys : List Part) → RepresentsHistory R xs → RepresentsHistory S ys → SameParts xs ys → R ≡ S
 same_registers R S xs ys s t same =
     ascending_same R S s.ascending t.ascending
     (λ x c. greatest_register S ys t x (greatest_along xs ys x same (register_greatest R xs s x c)))
@@ -75,8 +75,8 @@ pub same_view : (xs ys : List Part) → SameParts xs ys → (x : Part) → in_vi
 same_view xs ys same x = both_ways _ _ (view_along xs ys x same) (view_along ys xs x (same_back xs ys same))
 
 -- ascending parts are the greatest of themselves
-pub stands_itself : (R : List Part) → is_ascending R ≡ true → StandsFor R R
-stands_itself R a = record {
+pub represents_itself : (R : List Part) → is_ascending R ≡ true → RepresentsHistory R R
+represents_itself R a = record {
   ascending = a;
   greatest = all_from (is_greatest R) R (λ x c. greatest_from R x record {
     taken = c;

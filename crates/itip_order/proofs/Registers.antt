@@ -8,7 +8,7 @@ use Rattle.std.proofs.lemmas.Bool.{and_parts, and_from, true≢false, both_ways,
 use Rattle.std.proofs.lemmas.Cmp.{upto, tied_itself, tied_back}
 use Rattle.std.proofs.lemmas.List.Elements.{Contains-append_left, Contains-push, Contains-push_cases}
 use Rattle.profile.specs.rooms.Revisions.{Whole, Part, place_cmp, part_cmp, same_place, same_part, is_whole, implies, is_greatest, allows, in_view}
-use Rattle.itip_order.specs.Registers.{is_ascending, StandsFor, IsView, shown}
+use Rattle.itip_order.specs.Registers.{is_ascending, RepresentsHistory, IsView, shown}
 use Rattle.itip_order.proofs.Lists.{all_at, all_from, any_at, any_from, filter_at, filter_from}
 use Rattle.itip_order.proofs.Order.{slot_total, place_total, part_total, part_same, is_eq_true, then_equal}
 
@@ -97,7 +97,7 @@ allows_same_place w x e =
     allows_cases (is_whole x) (is_whole w) _ _ (λ whole. ap is_eq (sym (slot_total.congr w.slot x.slot Whole slots)) ∙ whole)
 
 -- what the registers say of the parts of the history
-module _ (R h : List Part) (s : StandsFor R h) where
+module _ (R h : List Part) (s : RepresentsHistory R h) where
   pub register_greatest : (x : Part) → Contains R x → Greatest h x
   register_greatest x c = greatest_at h x (all_at (is_greatest h) R x s.greatest c)
 
@@ -145,7 +145,7 @@ ascending_filter f (x ∷ xs) a =
     ascending_cond (f x) x (filter f xs) (all_filter (λ y. is_lt (place_cmp x y)) f xs both.0) (ascending_filter f xs both.1)
 
 -- the registers that are allowed are the view
-pub view_of_registers : (R h : List Part) → StandsFor R h → IsView (shown R) h
+pub view_of_registers : (R h : List Part) → RepresentsHistory R h → IsView (shown R) h
 view_of_registers R h s = record {
   ascending = ascending_filter _ R s.ascending;
   exact = λ x. (
@@ -155,8 +155,8 @@ view_of_registers R h s = record {
 }
 
 -- taking a part that isn't above its register changes nothing
-pub stands_kept : (R h : List Part) (p r : Part) → StandsFor R h → Contains R r → same_place r p ≡ true → is_le (part_cmp p r) ≡ true → StandsFor R (h ++ p ∷ [])
-stands_kept R h p r s in_r place le = record {
+pub represents_kept : (R h : List Part) (p r : Part) → RepresentsHistory R h → Contains R r → same_place r p ≡ true → is_le (part_cmp p r) ≡ true → RepresentsHistory R (h ++ p ∷ [])
+represents_kept R h p r s in_r place le = record {
   ascending = s.ascending;
   greatest = all_from (is_greatest (h ++ p ∷ [])) R (λ x c.
       let g = register_greatest R h s x c in
@@ -189,8 +189,8 @@ pub record Puts (old new : List Part) (part : Part) : Type 0 where
 less_le : (o : Ordering) → o ≡ Less → is_le o ≡ true
 less_le o e = ap is_le e
 
-pub stands_put : (R R' h : List Part) (p : Part) → StandsFor R h → Puts R R' p → StandsFor R' (h ++ p ∷ [])
-stands_put R R' h p s u = record {
+pub represents_put : (R R' h : List Part) (p : Part) → RepresentsHistory R h → Puts R R' p → RepresentsHistory R' (h ++ p ∷ [])
+represents_put R R' h p s u = record {
   ascending = u.ascending;
   greatest = all_from (is_greatest (h ++ p ∷ [])) R' (λ x c. greatest_from _ x (elim (u.others x c) [
     | inl new ↦ subst (λ (z : Part). Greatest (h ++ p ∷ []) z) new (record {

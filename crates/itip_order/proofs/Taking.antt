@@ -13,10 +13,10 @@ use Rattle.std.proofs.lemmas.List.Elements.{Contains-append_left, Contains-appen
 use Rattle.profile.specs.rooms.Revisions.{Part, place_cmp, part_cmp, same_place, allows, in_view}
 use Rattle.itip_order.specs.declared.held.Freshness.TheVariants.{Fresh, Same, Stale}
 use Rattle.itip_order.specs.Freshness.{IsFreshness}
-use Rattle.itip_order.specs.Registers.{is_ascending, is_allowed_by, is_known, StandsFor, IsAt, IsGap}
+use Rattle.itip_order.specs.Registers.{is_ascending, is_allowed_by, is_known, RepresentsHistory, IsAt, IsGap}
 use Rattle.itip_order.proofs.Lists.{all_at, all_from, any_at, in_head, in_tail, in_cons, none_in_nil}
 use Rattle.itip_order.proofs.Order.{place_total, part_total}
-use Rattle.itip_order.proofs.Registers.{Puts, stands_kept, stands_put, in_view_from, in_view_at, register_greatest, register_of, place_sym, place_trans, greatest_unique, allows_same_place, eq_refl}
+use Rattle.itip_order.proofs.Registers.{Puts, represents_kept, represents_put, in_view_from, in_view_at, register_greatest, register_of, place_sym, place_trans, greatest_unique, allows_same_place, eq_refl}
 use Rattle.ical_values.proofs.Facts.{is_lt_true}
 
 pub is_gt_true : (o : Ordering) → is_gt o ≡ true → o ≡ Greater
@@ -169,24 +169,24 @@ not_before : (R R' : List Part) (p : Part) → Puts R R' p → Contains R p → 
 not_before R R' p u c = true≢false (sym (ap is_lt (u.beaten p c (eq_refl p))) ∙ ap is_lt (tied_itself part_total p))
 
 -- the part was put in the registers
-pub entered_is : (R R' h : List Part) (p : Part) (b : Bool) → StandsFor R h → Puts R R' p → b ≡ is_allowed_by R p → IsFreshness (cond b Fresh Stale) h p
-entered_is R R' h p true s u e = (in_view_from R' (h ++ p ∷ []) (stands_put R R' h p s u) p u.put (allowed_after R R' p u (sym e)), λ v. not_before R R' p u (in_view_at R h s p v).0)
-entered_is R R' h p false s u e = λ v. true≢false (sym (allowed_before R R' p u (in_view_at R' (h ++ p ∷ []) (stands_put R R' h p s u) p v).1) ∙ sym e)
+pub entered_is : (R R' h : List Part) (p : Part) (b : Bool) → RepresentsHistory R h → Puts R R' p → b ≡ is_allowed_by R p → IsFreshness (cond b Fresh Stale) h p
+entered_is R R' h p true s u e = (in_view_from R' (h ++ p ∷ []) (represents_put R R' h p s u) p u.put (allowed_after R R' p u (sym e)), λ v. not_before R R' p u (in_view_at R h s p v).0)
+entered_is R R' h p false s u e = λ v. true≢false (sym (allowed_before R R' p u (in_view_at R' (h ++ p ∷ []) (represents_put R R' h p s u) p v).1) ∙ sym e)
 
 -- the part is its register
-pub repeated_is : (R h : List Part) (p : Part) (b : Bool) → StandsFor R h → Contains R p → b ≡ is_allowed_by R p → IsFreshness (cond b Same Stale) h p
-repeated_is R h p true s c e = (in_view_from R (h ++ p ∷ []) (stands_kept R h p p s c (eq_refl p) (ap is_le (tied_itself part_total p))) p c (sym e), in_view_from R h s p c (sym e))
-repeated_is R h p false s c e = λ v. true≢false (sym (in_view_at R (h ++ p ∷ []) (stands_kept R h p p s c (eq_refl p) (ap is_le (tied_itself part_total p))) p v).1 ∙ sym e)
+pub repeated_is : (R h : List Part) (p : Part) (b : Bool) → RepresentsHistory R h → Contains R p → b ≡ is_allowed_by R p → IsFreshness (cond b Same Stale) h p
+repeated_is R h p true s c e = (in_view_from R (h ++ p ∷ []) (represents_kept R h p p s c (eq_refl p) (ap is_le (tied_itself part_total p))) p c (sym e), in_view_from R h s p c (sym e))
+repeated_is R h p false s c e = λ v. true≢false (sym (in_view_at R (h ++ p ∷ []) (represents_kept R h p p s c (eq_refl p) (ap is_le (tied_itself part_total p))) p v).1 ∙ sym e)
 
 -- the part is below its register
-pub stale_is : (R h : List Part) (p r : Part) → StandsFor R h → Contains R r → same_place r p ≡ true → part_cmp p r ≡ Less → IsFreshness Stale h p
+pub stale_is : (R h : List Part) (p r : Part) → RepresentsHistory R h → Contains R r → same_place r p ≡ true → part_cmp p r ≡ Less → IsFreshness Stale h p
 stale_is R h p r s c place less v =
-    let in_R = (in_view_at R (h ++ p ∷ []) (stands_kept R h p r s c place (ap is_le less)) p v).0 in
+    let in_R = (in_view_at R (h ++ p ∷ []) (represents_kept R h p r s c place (ap is_le less)) p v).0 in
     let same = greatest_unique h r p (register_greatest R h s r c) (register_greatest R h s p in_R) place in
     true≢false (sym (ap is_lt (subst (λ (z : Part). part_cmp p z ≡ Less) same less)) ∙ ap is_lt (tied_itself part_total p))
 
 -- without a register of its slot no part of it was taken
-pub unknown_is : (R h : List Part) (p : Part) (at : ℕ) → StandsFor R h → IsGap R p at → is_known h p ≡ false
+pub unknown_is : (R h : List Part) (p : Part) (at : ℕ) → RepresentsHistory R h → IsGap R p at → is_known h p ≡ false
 unknown_is R h p at s gap = false_from_ne_true _ (λ known.
     let found = any_at (λ taken. same_place taken p) h known in
     let r = register_of R h s found.0 found.1 in
@@ -197,17 +197,17 @@ unknown_is R h p at s gap = false_from_ne_true _ (λ known.
     ])
 
 -- a register is in the view where it is allowed
-pub shown_is : (R h : List Part) (p : Part) → StandsFor R h → Contains R p → is_allowed_by R p ≡ in_view h p
+pub shown_is : (R h : List Part) (p : Part) → RepresentsHistory R h → Contains R p → is_allowed_by R p ≡ in_view h p
 shown_is R h p s c = same_tests _ _ (in_view_from R h s p c) (λ v. (in_view_at R h s p v).1)
 
 -- a part that doesn't tie with the register of its slot isn't in the view
-pub hidden_is : (R h : List Part) (p r : Part) → StandsFor R h → Contains R r → same_place r p ≡ true → is_eq (part_cmp p r) ≡ false → false ≡ in_view h p
+pub hidden_is : (R h : List Part) (p r : Part) → RepresentsHistory R h → Contains R r → same_place r p ≡ true → is_eq (part_cmp p r) ≡ false → false ≡ in_view h p
 hidden_is R h p r s c place other = sym (false_from_ne_true _ (λ v.
     let same = greatest_unique h r p (register_greatest R h s r c) (register_greatest R h s p (in_view_at R h s p v).0) place in
     true≢false (sym (ap is_eq (tied_itself part_total p)) ∙ subst (λ (z : Part). is_eq (part_cmp p z) ≡ false) same other)))
 
 -- a register that isn't allowed is of a place of which nothing is in the view
-pub none_is : (R h : List Part) (p r : Part) → StandsFor R h → Contains R r → same_place r p ≡ true → is_allowed_by R r ≡ false → (x : Part) → in_view h x ≡ true → same_place x p ≡ true → ⊥
+pub none_is : (R h : List Part) (p r : Part) → RepresentsHistory R h → Contains R r → same_place r p ≡ true → is_allowed_by R r ≡ false → (x : Part) → in_view h x ≡ true → same_place x p ≡ true → ⊥
 none_is R h p r s c place out x v here =
     let at = in_view_at R h s x v in
     let same = greatest_unique h x r (register_greatest R h s x at.0) (register_greatest R h s r c) (place_trans x p r here (place_sym r p place)) in

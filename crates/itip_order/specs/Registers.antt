@@ -28,7 +28,7 @@ together parts [] = parts
 together parts (more ∷ others) = together (put_part more parts) others
 
 -- the registers hold the greatest part of each slot ever taken, one for each slot, by their places
-pub record StandsFor (registers history : List Part) : Type 0 where
+pub record RepresentsHistory (registers history : List Part) : Type 0 where
   pub ascending : IsTrue (is_ascending registers)
   pub greatest : IsTrue (list_all (is_greatest history) registers)
   pub covered : IsTrue (list_all (λ part. list_any (λ register. same_place register part) registers) history)
@@ -83,9 +83,9 @@ pub record IsGap (registers : List Part) (part : Part) (at : ℕ) : Type 0 where
 
 -- the part is in the view of each history that the registers represent
 abbrev pub IsInView : List Part → Part → Type 0
-IsInView registers part = (history : List Part) → StandsFor registers history → IsTrue (in_view history part)
+IsInView registers part = (history : List Part) → RepresentsHistory registers history → IsTrue (in_view history part)
 
 -- no part of its place is in the view of one
 abbrev pub HasNone : List Part → Part → Type 0
 HasNone registers place =
-    (history : List Part) → StandsFor registers history → (part : Part) → IsTrue (in_view history part) → IsTrue (same_place part place) → ⊥
+    (history : List Part) → RepresentsHistory registers history → (part : Part) → IsTrue (in_view history part) → IsTrue (same_place part place) → ⊥

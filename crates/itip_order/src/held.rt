@@ -9,7 +9,7 @@ ghost use Rattle.std.specs.Iterator.{YieldsFirstBy, item_count};
 ghost use Rattle.std.specs.List.{insert};
 ghost use Rattle.std.specs.Vec.{vec_len, vec_capacity};
 ghost use Rattle.itip_order.specs.Parts.{part_of, parts_of};
-ghost use Rattle.itip_order.specs.Registers.{is_ascending, is_allowed_by, shown, is_known, put_part, together, StandsFor, IsView};
+ghost use Rattle.itip_order.specs.Registers.{is_ascending, is_allowed_by, shown, is_known, put_part, together, RepresentsHistory, IsView};
 ghost use Rattle.itip_order.specs.Registers.{SameParts, IsGap};
 ghost use Rattle.profile.specs.rooms.Revisions as revisions;
 
@@ -55,7 +55,7 @@ impl Held {
 
     /// No part was taken. Takes no memory yet.
     pub fn new(alloc: Global) -> Held
-        ensures { StandsFor result [] }
+        ensures { RepresentsHistory result [] }
     {
         Held {
             registers: Vec::new(alloc),
@@ -65,15 +65,15 @@ impl Held {
     /// Takes a part. On an error nothing has changed.
     pub fn take(&mut self, part: Part) -> Result<Freshness, AllocError>
         // The new value represents each history that the old one represents, with the part added.
-        ensures taken { OnOk result ((history : List revisions.Part) → StandsFor self.old history
-            → StandsFor self.new (history ++ part_of part ∷ [])) }
+        ensures taken { OnOk result ((history : List revisions.Part) → RepresentsHistory self.old history
+            → RepresentsHistory self.new (history ++ part_of part ∷ [])) }
 
         // The answer says the part's place in the views before and after.
         ensures freshness { IfOk result (λ freshness. (history : List revisions.Part)
-            → StandsFor self.old history → IsFreshness freshness history (part_of part)) }
+            → RepresentsHistory self.old history → IsFreshness freshness history (part_of part)) }
 
         // Memory is needed only for a slot of which no part was taken.
-        ensures memory { OnErr result ((history : List revisions.Part) → StandsFor self.old history
+        ensures memory { OnErr result ((history : List revisions.Part) → RepresentsHistory self.old history
             → is_known history (part_of part) ≡ false) }
         ensures err { OnErr result (self.new ≡ self.old) }
     {
@@ -106,7 +106,7 @@ impl Held {
 
     /// Whether the part is in the view. Takes no memory.
     pub fn shows(&self, part: &Part) -> bool
-        ensures { (history : List revisions.Part) → StandsFor self.now history
+        ensures { (history : List revisions.Part) → RepresentsHistory self.now history
             → result ≡ revisions.in_view history (part_of part.now) }
     {
         self.alone().shows(part)
@@ -122,8 +122,8 @@ impl Held {
     /// Its parts and those that another took. Takes no memory.
     pub fn with<'a>(&'a self, more: &'a Held) -> Together<'a>
         ensures together { result ≡ together self.now more.now }
-        ensures taken { (history others : List revisions.Part) → StandsFor self.now history → StandsFor more.now others
-            → StandsFor result (history ++ others) }
+        ensures taken { (history others : List revisions.Part) → RepresentsHistory self.now history → RepresentsHistory more.now others
+            → RepresentsHistory result (history ++ others) }
     {
         Together::new(&self.registers, &more.registers)
     }
@@ -131,7 +131,7 @@ impl Held {
     /// The parts in the view, in the order of organiser, UID, slot. Takes no memory.
     pub fn view(&self) -> View<'_>
         // They are the view of each history that the value represents.
-        ensures exact { (history : List revisions.Part) → StandsFor self.now history → IsView result history }
+        ensures exact { (history : List revisions.Part) → RepresentsHistory self.now history → IsView result history }
         ensures shown { result ≡ shown self.now }
         ensures few { length result < 2 ^ 64 }
     {
@@ -145,8 +145,8 @@ impl Held {
     /// has changed.
     pub fn take_all(&mut self, more: Held) -> Result<(), AllocError>
         ensures together { OnOk result (self.new ≡ together self.old more) }
-        ensures taken { OnOk result ((history others : List revisions.Part) → StandsFor self.old history → StandsFor more others
-            → StandsFor self.new (history ++ others)) }
+        ensures taken { OnOk result ((history others : List revisions.Part) → RepresentsHistory self.old history → RepresentsHistory more others
+            → RepresentsHistory self.new (history ++ others)) }
         ensures err { OnErr result (self.new ≡ self.old) }
     {
         put_all(&mut self.registers, more.registers)?;
@@ -201,8 +201,8 @@ impl<'a> Iterator for View<'a> {
 }
 
 /// A law, with nothing to do: a value represents a history, that of its own registers.
-pub fn stands_for_its_registers(held: &Held)
-    ensures { StandsFor held.now held.now }
+pub fn represents_its_registers(held: &Held)
+    ensures { RepresentsHistory held.now held.now }
 {
     let _ = &held.registers;
 }
@@ -210,7 +210,7 @@ pub fn stands_for_its_registers(held: &Held)
 /// A law, with nothing to do: two that took the same parts, in any order and each any number of times,
 /// are equal, and so are their views.
 pub fn same_parts_same_view(one: &Held, other: &Held)
-    ensures held { (xs ys : List revisions.Part) → StandsFor one.now xs → StandsFor other.now ys
+    ensures held { (xs ys : List revisions.Part) → RepresentsHistory one.now xs → RepresentsHistory other.now ys
         → SameParts xs ys → one.now ≡ other.now }
     ensures view { (xs ys : List revisions.Part) → SameParts xs ys
         → (part : revisions.Part) → revisions.in_view xs part ≡ revisions.in_view ys part }

@@ -10,7 +10,7 @@ mod part;
 mod together;
 
 pub use held::{
-    Freshness, Held, View, same_parts_same_view, stands_for_its_registers, view_is_lasting,
+    Freshness, Held, View, represents_its_registers, same_parts_same_view, view_is_lasting,
 };
 pub use part::{Body, Part, Revision, Slot};
 pub use together::Together;

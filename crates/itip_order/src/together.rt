@@ -3,7 +3,7 @@
 ghost use Rattle.std.specs.Prelude.{◌≡◌, ◌++◌, Contains, List, map, IsTrue, IfOk, IfErr, IfSome, IfNone, OnOk};
 ghost use Rattle.std.specs.declared.cmp.Ordering.TheVariants.{Equal};
 ghost use Rattle.itip_order.specs.Parts.{part_of, parts_of, slot_of};
-ghost use Rattle.itip_order.specs.Registers.{is_ascending, is_allowed_by, at_slot, StandsFor, IsAt, IsGap, IsInView, HasNone, IsRegister};
+ghost use Rattle.itip_order.specs.Registers.{is_ascending, is_allowed_by, at_slot, RepresentsHistory, IsAt, IsGap, IsInView, HasNone, IsRegister};
 ghost use Rattle.itip_order.specs.Registers.{HasNoRegister};
 ghost use Rattle.profile.specs.rooms.Revisions as revisions;
 
@@ -46,7 +46,7 @@ impl<'a> Together<'a> {
 
     /// Whether the part is in the view. Takes no memory.
     pub fn shows(&self, part: &Part) -> bool
-        ensures { (history : List revisions.Part) → StandsFor self.now history
+        ensures { (history : List revisions.Part) → RepresentsHistory self.now history
             → result ≡ revisions.in_view history (part_of part.now) }
     {
         let _ = &self.first;
@@ -91,7 +91,7 @@ impl<'a> Together<'a> {
         match part.slot {
             Slot::Whole => true,
             Slot::At(_) => match self.register(part, Slot::Whole) {
-                Some(whole) => stands_with(whole, part),
+                Some(whole) => stays_with(whole, part),
                 None => true,
             },
         }
@@ -148,8 +148,8 @@ pub(crate) fn place_of(registers: &[Part], part: &Part, slot: Slot) -> Result<us
 }
 
 /// The part's revision isn't below the Whole's, and is above it where the Whole is cancelled.
-fn stands_with(whole: &Part, part: &Part) -> bool
-    ensures { result ≡ revisions.stands_beside (part_of whole.now) (part_of part.now) }
+fn stays_with(whole: &Part, part: &Part) -> bool
+    ensures { result ≡ revisions.stays_beside (part_of whole.now) (part_of part.now) }
 {
     match part.revision.cmp(&whole.revision) {
         Ordering::Less => false,

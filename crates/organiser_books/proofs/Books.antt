@@ -12,7 +12,7 @@ use Rattle.ical_values.specs.declared.text.Text.{Text}
 use Rattle.profile.specs.rooms.Revisions.{Slot, slot_cmp}
 use Rattle.profile.specs.organisers.Organisers.{Heard, OrganiserBook, Stored, answers_store, last_store}
 use Rattle.organiser_books.specs.declared.meeting.Meeting.{Meeting}
-use Rattle.organiser_books.specs.Standing.{answer_in, same_text, AreSeen, LatestOf, Stands, StandsAt}
+use Rattle.organiser_books.specs.Representation.{answer_in, same_text, AreSeen, LatestOf, Represents, RepresentsAt}
 use Rattle.itip_order.specs.Parts.{revision_of}
 use Rattle.itip_messages.specs.OrganiserObjects.{SaysObjectComponent}
 use Rattle.organiser_books.specs.Attending.{lists_said, AreAttending}
@@ -21,7 +21,7 @@ use Rattle.organiser_books.proofs.Lines.{same_back, same_is, same_itself}
 
 -- an organiser's meetings, by their UIDs, keep a book
 abbrev pub KeepsAll : (Text → Option Meeting) → OrganiserBook → Type 0
-KeepsAll meetings book = (uid : Text) → StandsAt book (text_octets uid) (meetings uid) (last_store (text_octets uid) book)
+KeepsAll meetings book = (uid : Text) → RepresentsAt book (text_octets uid) (meetings uid) (last_store (text_octets uid) book)
 
 some_is : {X : Type 0} (a b : X) → Some a ≡ Some b → a ≡ b
 some_is a b e = cc
@@ -39,13 +39,13 @@ stored_own uid (s ∷ ss) stored e = by (bytes_eq s.uid uid) refl e (stored_own 
     by false f e h = h e
 
 -- what is at a UID that is known, and at one that isn't
-pub stands_known : (book : OrganiserBook) (uid : List ℕ) (m : Meeting) (r : Option Stored) → StandsAt book uid (Some m) r → (stored : Stored) × (r ≡ Some stored) × Stands m book stored
-stands_known book uid m None h = absurd h
-stands_known book uid m (Some stored) h = (stored, refl, h)
+pub represented_known : (book : OrganiserBook) (uid : List ℕ) (m : Meeting) (r : Option Stored) → RepresentsAt book uid (Some m) r → (stored : Stored) × (r ≡ Some stored) × Represents m book stored
+represented_known book uid m None h = absurd h
+represented_known book uid m (Some stored) h = (stored, refl, h)
 
-pub stands_unknown : (book : OrganiserBook) (uid : List ℕ) (r : Option Stored) → StandsAt book uid None r → r ≡ None
-stands_unknown book uid None h = refl
-stands_unknown book uid (Some stored) h = absurd h
+pub represented_unknown : (book : OrganiserBook) (uid : List ℕ) (r : Option Stored) → RepresentsAt book uid None r → r ≡ None
+represented_unknown book uid None h = refl
+represented_unknown book uid (Some stored) h = absurd h
 
 -- ---- a store
 
@@ -69,32 +69,32 @@ none_answer stored slot q (h ∷ hs) old =
         absurd (omega (arith, below, same))
 
 module _ (meetings after : Text → Option Meeting) (book : OrganiserBook) (uid : Text) (meeting : Meeting) (stored : Stored) (own : stored.uid ≡ text_octets uid)
-    (stands : Stands meeting (record book { stores = stored ∷ book.stores }) stored)
+    (represents : Represents meeting (record book { stores = stored ∷ book.stores }) stored)
     (put : (q : Text) → after q ≡ cond (same_text uid q) (Some meeting) (meetings q)) (keeps : KeepsAll meetings book) where
   abbrev next : OrganiserBook
   next = record book { stores = stored ∷ book.stores }
 
-  other_stands : (q : List ℕ) (m : Option Meeting) (r : Option Stored) → StandsAt book q m r → StandsAt next q m r
-  other_stands q None None h = h
-  other_stands q None (Some s) h = h
-  other_stands q (Some m) None h = h
-  other_stands q (Some m) (Some s) h = record { revision = h.revision; components = h.components; attending = h.attending; object = h.object; seen = h.seen; sent = h.sent }
+  other_represented : (q : List ℕ) (m : Option Meeting) (r : Option Stored) → RepresentsAt book q m r → RepresentsAt next q m r
+  other_represented q None None h = h
+  other_represented q None (Some s) h = h
+  other_represented q (Some m) None h = h
+  other_represented q (Some m) (Some s) h = record { revision = h.revision; components = h.components; attending = h.attending; object = h.object; seen = h.seen; sent = h.sent }
 
   pub keeps_stored : KeepsAll after next
   keeps_stored q = by (same_text uid q) refl
     where
-      by : (b : Bool) → same_text uid q ≡ b → StandsAt next (text_octets q) (after q) (last_store (text_octets q) next)
+      by : (b : Bool) → same_text uid q ≡ b → RepresentsAt next (text_octets q) (after q) (last_store (text_octets q) next)
       by true e =
           let is : last_store (text_octets q) next ≡ Some stored =
           ap (λ b. cond b (Some stored) (last_store (text_octets q) book)) (ap (λ u. bytes_eq u (text_octets q)) own ∙ e) in
           let found : after q ≡ Some meeting = put q ∙ ap (λ b. cond b (Some meeting) (meetings q)) e in
-          subst (λ m. StandsAt next (text_octets q) m (last_store (text_octets q) next)) (sym found) (subst (StandsAt next (text_octets q) (Some meeting)) (sym is) stands)
+          subst (λ m. RepresentsAt next (text_octets q) m (last_store (text_octets q) next)) (sym found) (subst (RepresentsAt next (text_octets q) (Some meeting)) (sym is) represents)
       by false e =
           let is : last_store (text_octets q) next ≡ last_store (text_octets q) book =
           ap (λ b. cond b (Some stored) (last_store (text_octets q) book)) (ap (λ u. bytes_eq u (text_octets q)) own ∙ e) in
           let found : after q ≡ meetings q = put q ∙ ap (λ b. cond b (Some meeting) (meetings q)) e in
-          subst (λ m. StandsAt next (text_octets q) m (last_store (text_octets q) next)) (sym found)
-          (subst (StandsAt next (text_octets q) (meetings q)) (sym is) (other_stands (text_octets q) (meetings q) (last_store (text_octets q) book) (keeps q)))
+          subst (λ m. RepresentsAt next (text_octets q) m (last_store (text_octets q) next)) (sym found)
+          (subst (RepresentsAt next (text_octets q) (meetings q)) (sym is) (other_represented (text_octets q) (meetings q) (last_store (text_octets q) book) (keeps q)))
 
 -- ---- a reply
 
@@ -116,7 +116,7 @@ module _ (book : OrganiserBook) (heard : List Heard) (uid : List ℕ) (of_it : (
           let same = (and_parts u a (and_parts (u && a) t (and_parts (u && a && t) (h.revision.sequence == stored.revision.sequence) e).0).0).0 in
           both_ways _ n (subst (λ u. bytes_eq u stored.uid ≡ true) (own h (in_head h hs)) same)
 
-  other_heard : (q : List ℕ) → bytes_eq uid q ≡ false → (m : Option Meeting) (r : Option Stored) → ((s : Stored) → r ≡ Some s → s.uid ≡ q) → StandsAt book q m r → StandsAt heard_too q m r
+  other_heard : (q : List ℕ) → bytes_eq uid q ≡ false → (m : Option Meeting) (r : Option Stored) → ((s : Stored) → r ≡ Some s → s.uid ≡ q) → RepresentsAt book q m r → RepresentsAt heard_too q m r
   other_heard q n None None own h = λ x c. elim (Contains-append_cases heard book.replies x c) [
     | inl new ↦ subst (λ u. bytes_eq u q ≡ false) (sym (of_it x new)) n
     | inr old ↦ h x old
@@ -140,7 +140,7 @@ module _ (book : OrganiserBook) (heard : List Heard) (uid : List ℕ) (of_it : (
 
   -- the meeting that they answer, with all of them heard
   pub own_heard : (m n : Meeting) (stored : Stored) → n.revision ≡ m.revision → n.components ≡ m.components → n.attending ≡ m.attending → n.object ≡ m.object
-      → ((h : Heard) → Contains heard h → h.revision.sequence ≤ stored.revision.sequence) → AreSeen n stored (book.replies ++ heard) → Stands m book stored → Stands n heard_too stored
+      → ((h : Heard) → Contains heard h → h.revision.sequence ≤ stored.revision.sequence) → AreSeen n stored (book.replies ++ heard) → Represents m book stored → Represents n heard_too stored
   own_heard m n stored r c a o sent seen h = record {
     revision = ap revision_of r ∙ h.revision;
     components = subst (λ l. AllZip SaysObjectComponent stored.events l.items) (sym c) h.components;
@@ -151,17 +151,17 @@ module _ (book : OrganiserBook) (heard : List Heard) (uid : List ℕ) (of_it : (
   }
 
   module _ (meetings after : Text → Option Meeting) (own : Text) (is_own : uid ≡ text_octets own) (m : Meeting) (put : (q : Text) → after q ≡ cond (same_text own q) (Some m) (meetings q))
-      (stored : Stored) (last : last_store uid book ≡ Some stored) (stands : Stands m heard_too stored) (keeps : KeepsAll meetings book) where
+      (stored : Stored) (last : last_store uid book ≡ Some stored) (represents : Represents m heard_too stored) (keeps : KeepsAll meetings book) where
     pub keeps_heard : KeepsAll after heard_too
     keeps_heard q = by (same_text own q) refl
       where
-        by : (b : Bool) → same_text own q ≡ b → StandsAt heard_too (text_octets q) (after q) (last_store (text_octets q) book)
+        by : (b : Bool) → same_text own q ≡ b → RepresentsAt heard_too (text_octets q) (after q) (last_store (text_octets q) book)
         by true e =
             let same : uid ≡ text_octets q = is_own ∙ same_is (text_octets own) (text_octets q) e in
             let found : after q ≡ Some m = put q ∙ ap (λ b. cond b (Some m) (meetings q)) e in
-            subst (λ x. StandsAt heard_too (text_octets q) x (last_store (text_octets q) book)) (sym found)
-            (subst (StandsAt heard_too (text_octets q) (Some m)) (sym last ∙ ap (λ u. last_store u book) same) stands)
+            subst (λ x. RepresentsAt heard_too (text_octets q) x (last_store (text_octets q) book)) (sym found)
+            (subst (RepresentsAt heard_too (text_octets q) (Some m)) (sym last ∙ ap (λ u. last_store u book) same) represents)
         by false e =
             let found : after q ≡ meetings q = put q ∙ ap (λ b. cond b (Some m) (meetings q)) e in
-            subst (λ x. StandsAt heard_too (text_octets q) x (last_store (text_octets q) book)) (sym found)
+            subst (λ x. RepresentsAt heard_too (text_octets q) x (last_store (text_octets q) book)) (sym found)
             (other_heard (text_octets q) (ap (λ u. bytes_eq u (text_octets q)) is_own ∙ e) (meetings q) (last_store (text_octets q) book) (λ s f. stored_own (text_octets q) book.stores s f) (keeps q))

@@ -21,13 +21,13 @@ use Rattle.organiser_books.specs.declared.answers.Answer.{Answer}
 use Rattle.organiser_books.specs.declared.answers.AnswerKey.{AnswerKey}
 use Rattle.organiser_books.specs.Answers.{key_at, later_answer, same_key}
 use Rattle.organiser_books.specs.Attending.{is_address}
-use Rattle.organiser_books.specs.Standing.{answer_at, IsAnswer, LatestOf}
+use Rattle.organiser_books.specs.Representation.{answer_at, IsAnswer, LatestOf}
 use Rattle.std.specs.List.{list_any, Contains}
 use Rattle.std.proofs.lemmas.List.Elements.{Contains-get_or}
 use Rattle.itip_order.proofs.Lists.{any_from}
 use Rattle.organiser_books.specs.declared.meeting.Meeting.{Meeting}
 use Rattle.organiser_books.specs.Attending.{attendance_of}
-use Rattle.organiser_books.specs.Standing.{is_unknown}
+use Rattle.organiser_books.specs.Representation.{is_unknown}
 use Rattle.organiser_books.proofs.Latest.{latest_more}
 use Rattle.organiser_books.proofs.Lines.{same_is, same_itself}
 use Rattle.organiser_books.proofs.Loops.{filter_no, filter_yes}

@@ -14,7 +14,7 @@ use Rattle.profile.specs.organisers.Organisers.{Heard, IsLatestOf, heard_cmp, ra
 use Rattle.cal_events.specs.Events.{participation_of}
 use Rattle.organiser_books.specs.declared.answers.Answer.{Answer}
 use Rattle.organiser_books.specs.Answers.{answer_cmp, later_answer}
-use Rattle.organiser_books.specs.Standing.{answered, IsAnswer, IsLatest, LatestOf}
+use Rattle.organiser_books.specs.Representation.{answered, IsAnswer, IsLatest, LatestOf}
 
 heard_total : IsTotalOrder heard_cmp
 heard_total = then_total (on_total (λ (h : Heard). h.revision.stamp) int_cmp_total) (on_total (λ (h : Heard). rank h.answer) nat_cmp_total)

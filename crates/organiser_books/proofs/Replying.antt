@@ -19,13 +19,13 @@ use Rattle.profile.specs.organisers.Objects as objects
 use Rattle.profile.specs.organisers.Organisers as profile
 use Rattle.profile.specs.organisers.Organisers.{Heard, OrganiserBook, Stored, after_reply, heard_in, last_store}
 use Rattle.itip_order.specs.Parts.{revision_of}
-use Rattle.itip_messages.specs.OrganiserObjects.{SaysObjectComponent, StandsForObject}
+use Rattle.itip_messages.specs.OrganiserObjects.{SaysObjectComponent, RepresentsObject}
 use Rattle.itip_messages.specs.declared.organiser_object.OrganiserObject.{OrganiserObject}
 use Rattle.organiser_books.specs.declared.meeting.Meeting.{Meeting}
 use Rattle.organiser_books.specs.Attending.{is_address, lists_said, AreAttending}
 use Rattle.organiser_books.specs.Calls.{MayTake}
-use Rattle.organiser_books.specs.Standing.{answer_at, answer_in, heard_of, is_ahead, is_strange, same_text, AreSeen, LatestOf, Stands, StandsAt}
-use Rattle.organiser_books.proofs.Books.{keeps_heard, own_heard, stands_known, stored_own, KeepsAll}
+use Rattle.organiser_books.specs.Representation.{answer_at, answer_in, heard_of, is_ahead, is_strange, same_text, AreSeen, LatestOf, Represents, RepresentsAt}
+use Rattle.organiser_books.proofs.Books.{keeps_heard, own_heard, represented_known, stored_own, KeepsAll}
 use Rattle.organiser_books.proofs.Lines.{same_is}
 use Rattle.organiser_books.proofs.Said.{heard_are, uids_are}
 use Rattle.organiser_books.proofs.Taking.{ahead_is, heard_is, may_take}
@@ -54,17 +54,17 @@ of_event (e ∷ es) h c = elim (Contains-append_cases (profile.heard_of e e.atte
 
 -- ---- a REPLY that is taken
 
-module _ (address : List ℕ) (object : OrganiserObject) (said : objects.OrganiserObject) (is : StandsForObject object said) (book : OrganiserBook) (meetings after : Text → Option Meeting) (keeps : KeepsAll meetings book)
+module _ (address : List ℕ) (object : OrganiserObject) (said : objects.OrganiserObject) (is : RepresentsObject object said) (book : OrganiserBook) (meetings after : Text → Option Meeting) (keeps : KeepsAll meetings book)
     (m n : Meeting) (found : Some m ≡ meetings object.uid) (put : (q : Text) → after q ≡ cond (same_text object.uid q) (Some n) (meetings q))
     (revision : n.revision ≡ m.revision) (components : n.components ≡ m.components) (attending : n.attending ≡ m.attending) (octets : n.object ≡ m.object) where
   abbrev uid : List ℕ
   uid = text_octets object.uid
 
-  stands : StandsAt book uid (Some m) (last_store uid book)
-  stands = subst (λ (o : Option Meeting). StandsAt book uid o (last_store uid book)) (sym found) (keeps object.uid)
+  represents : RepresentsAt book uid (Some m) (last_store uid book)
+  represents = subst (λ (o : Option Meeting). RepresentsAt book uid o (last_store uid book)) (sym found) (keeps object.uid)
 
-  abbrev known : (stored : Stored) × (last_store uid book ≡ Some stored) × Stands m book stored
-  known = stands_known book uid m (last_store uid book) stands
+  abbrev known : (stored : Stored) × (last_store uid book ≡ Some stored) × Represents m book stored
+  known = represented_known book uid m (last_store uid book) represents
 
   abbrev stored : Stored
   stored = known.0
@@ -80,7 +80,7 @@ module _ (address : List ℕ) (object : OrganiserObject) (said : objects.Organis
       let e = of_event said.events h c in
       let same : h.revision.sequence ≡ e.0.sequence = ap (λ (r : Revision). r.sequence) e.3 in
       elim (cases_lt stored.revision.sequence e.0.sequence) [
-        | inl above ↦ absurd (both_ways _ (sym (ahead_is address object said is book m stands) ∙ none) (any_from (λ (x : Event). nat_lt stored.revision.sequence x.sequence) said.events e.0 e.1 (lt-ltb _ _ above)))
+        | inl above ↦ absurd (both_ways _ (sym (ahead_is address object said is book m represents) ∙ none) (any_from (λ (x : Event). nat_lt stored.revision.sequence x.sequence) said.events e.0 e.1 (lt-ltb _ _ above)))
         | inr below ↦ omega (arith, same, below)
       ]
 
@@ -90,7 +90,7 @@ module _ (address : List ℕ) (object : OrganiserObject) (said : objects.Organis
   replied kind organiser sent names seen =
       let heard : flat_map (heard_of stored.uid) object.components.items ≡ heard_in said.events =
       ap (λ u. flat_map (heard_of u) object.components.items) (stored_own said.uid book.stores stored last) ∙ heard_is address object said is book in (
-        may_take address object said is book m stands objects.Reply kind refl (λ e. sent) names organiser,
+        may_take address object said is book m represents objects.Reply kind refl (λ e. sent) names organiser,
         keeps_heard book (heard_in said.events) said.uid heard_own meetings after object.uid (sym is.uid) n put stored last
             (own_heard book (heard_in said.events) said.uid heard_own m n stored revision components attending octets (heard_sent sent)
             (subst (λ l. AreSeen n stored (book.replies ++ l)) heard (seen stored book.replies known.2.revision known.2.seen)) known.2)
@@ -107,7 +107,7 @@ pub keeps_same : (book : OrganiserBook) (uid : Text) (meetings after : Text → 
     → n.revision ≡ m.revision → n.components ≡ m.components → n.attending ≡ m.attending → n.object ≡ m.object → n.answers.entries ≡ m.answers.entries → KeepsAll meetings book → KeepsAll after book
 keeps_same book uid meetings after m n found put r c a o e keeps q = by (same_text uid q) refl
   where
-    same : (last : Option Stored) → StandsAt book (text_octets uid) (Some m) last → StandsAt book (text_octets uid) (Some n) last
+    same : (last : Option Stored) → RepresentsAt book (text_octets uid) (Some m) last → RepresentsAt book (text_octets uid) (Some n) last
     same None h = absurd h
     same (Some s) h = record {
       revision = ap revision_of r ∙ h.revision;
@@ -118,9 +118,9 @@ keeps_same book uid meetings after m n found put r c a o e keeps q = by (same_te
       sent = h.sent;
     }
 
-    by : (b : Bool) → same_text uid q ≡ b → StandsAt book (text_octets q) (after q) (last_store (text_octets q) book)
+    by : (b : Bool) → same_text uid q ≡ b → RepresentsAt book (text_octets q) (after q) (last_store (text_octets q) book)
     by true t =
-        subst (λ x. StandsAt book (text_octets q) x (last_store (text_octets q) book)) (sym (put q ∙ ap (λ b. cond b (Some n) (meetings q)) t))
-        (subst (λ u. StandsAt book u (Some n) (last_store u book)) (same_is (text_octets uid) (text_octets q) t)
-        (same (last_store (text_octets uid) book) (subst (λ x. StandsAt book (text_octets uid) x (last_store (text_octets uid) book)) (sym found) (keeps uid))))
-    by false t = subst (λ x. StandsAt book (text_octets q) x (last_store (text_octets q) book)) (sym (put q ∙ ap (λ b. cond b (Some n) (meetings q)) t)) (keeps q)
+        subst (λ x. RepresentsAt book (text_octets q) x (last_store (text_octets q) book)) (sym (put q ∙ ap (λ b. cond b (Some n) (meetings q)) t))
+        (subst (λ u. RepresentsAt book u (Some n) (last_store u book)) (same_is (text_octets uid) (text_octets q) t)
+        (same (last_store (text_octets uid) book) (subst (λ x. RepresentsAt book (text_octets uid) x (last_store (text_octets uid) book)) (sym found) (keeps uid))))
+    by false t = subst (λ x. RepresentsAt book (text_octets q) x (last_store (text_octets q) book)) (sym (put q ∙ ap (λ b. cond b (Some n) (meetings q)) t)) (keeps q)

@@ -22,7 +22,7 @@ use Rattle.itip_messages.specs.declared.organiser_object.ObjectComponent.{Object
 use Rattle.organiser_books.specs.Attending.{addresses_in, attendance_of, lists_of, lists_said, names, scheduled_among, schedules, sent_among, Attends, AreAttending, Entries}
 use Rattle.organiser_books.specs.declared.attending.Attendance.{Attendance}
 use Rattle.organiser_books.specs.declared.meeting.Meeting.{Meeting}
-use Rattle.organiser_books.specs.Standing.{heard_by, heard_of, is_unknown}
+use Rattle.organiser_books.specs.Representation.{heard_by, heard_of, is_unknown}
 use Rattle.organiser_books.specs.Storing.{cancels_whole, calls_off, is_whole, own_in}
 use Rattle.organiser_books.proofs.Loops.{any_flat, any_map, flat_of_map}
 

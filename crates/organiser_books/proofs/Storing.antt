@@ -13,7 +13,7 @@ use Rattle.profile.specs.organisers.Objects.{is_of_attendee}
 use Rattle.profile.specs.organisers.Organisers.{Heard, OrganiserBook, Sent, Stored, StateFault, SendsStore, IsStore, answers_store, is_called_off, last_events, last_store, most_sequence, own_sequence, scheduled_in, sequence_after, without}
 use Rattle.profile.specs.organisers.Organisers.StateFault.{unknown, ahead, spent, stranger}
 use Rattle.itip_order.specs.Parts.{revision_of}
-use Rattle.itip_messages.specs.OrganiserObjects.{SaysObjectComponent, StandsForObject}
+use Rattle.itip_messages.specs.OrganiserObjects.{SaysObjectComponent, RepresentsObject}
 use Rattle.itip_messages.specs.declared.organiser_object.ObjectComponent.{ObjectComponent}
 use Rattle.itip_messages.specs.declared.organiser_object.OrganiserObject.{OrganiserObject}
 use Rattle.organiser_books.specs.declared.answers.Answer.{Answer}
@@ -22,7 +22,7 @@ use Rattle.organiser_books.specs.declared.meeting.Meeting.{Meeting}
 use Rattle.organiser_books.specs.Attending.{is_address, lists_of, lists_said, sent_among, AreAttending}
 use Rattle.organiser_books.specs.Calls.{CallFault, MayTake}
 use Rattle.organiser_books.specs.Calls.CallFault.{in_state}
-use Rattle.organiser_books.specs.Standing.{answer_at, answer_in, same_text, LatestOf, Stands, StandsAt}
+use Rattle.organiser_books.specs.Representation.{answer_at, answer_in, same_text, LatestOf, Represents, RepresentsAt}
 use Rattle.organiser_books.specs.Storing.{calls_off, own_in, sequence_then, LastAttends, SendsObject, SendsTo}
 use Rattle.organiser_books.proofs.Books.{keeps_stored, none_answer, stored_own, KeepsAll}
 use Rattle.organiser_books.proofs.Said.{lists_are, off_are, own_are, scheduled_are}
@@ -30,7 +30,7 @@ use Rattle.organiser_books.proofs.Said.{lists_are, off_are, own_are, scheduled_a
 -- ---- beside what was there
 
 module _ (book : OrganiserBook) (uid : List ℕ) (events : List Event) (components : List ObjectComponent) (each : AllZip SaysObjectComponent events components) where
-  sequence_same : (o : Option Meeting) (r : Option Stored) → StandsAt book uid o r → sequence_then o components ≡ sequence_after r events
+  sequence_same : (o : Option Meeting) (r : Option Stored) → RepresentsAt book uid o r → sequence_then o components ≡ sequence_after r events
   sequence_same None None h = own_are events components each
   sequence_same None (Some s) h = absurd h
   sequence_same (Some m) None h = absurd h
@@ -38,19 +38,19 @@ module _ (book : OrganiserBook) (uid : List ℕ) (events : List Event) (componen
       let same : m.revision.sequence ≡ s.revision.sequence = ap (λ (x : Revision). x.sequence) h.revision in
       λ i. max (own_are events components each i) (same i + 1)
 
-  last_attends : (o : Option Meeting) (r : Option Stored) → StandsAt book uid o r → LastAttends (lists_said (last_events r)) o
+  last_attends : (o : Option Meeting) (r : Option Stored) → RepresentsAt book uid o r → LastAttends (lists_said (last_events r)) o
   last_attends None None h = refl
   last_attends None (Some s) h = absurd h
   last_attends (Some m) None h = absurd h
   last_attends (Some m) (Some s) h = h.attending
 
-  all_below : (o : Option Meeting) (r : Option Stored) → ((s : Stored) → r ≡ Some s → s.uid ≡ uid) → StandsAt book uid o r
+  all_below : (o : Option Meeting) (r : Option Stored) → ((s : Stored) → r ≡ Some s → s.uid ≡ uid) → RepresentsAt book uid o r
       → (h : Heard) → Contains book.replies h → bytes_eq h.uid uid ≡ true → h.revision.sequence < sequence_after r events
-  all_below None None own stands h c same = absurd (both_ways _ (stands h c) same)
-  all_below None (Some s) own stands h c same = absurd stands
-  all_below (Some m) None own stands h c same = absurd stands
-  all_below (Some m) (Some s) own stands h c same =
-      let most = stands.sent h c (subst (λ u. bytes_eq h.uid u ≡ true) (sym (own s refl)) same) in
+  all_below None None own represents h c same = absurd (both_ways _ (represents h c) same)
+  all_below None (Some s) own represents h c same = absurd represents
+  all_below (Some m) None own represents h c same = absurd represents
+  all_below (Some m) (Some s) own represents h c same =
+      let most = represents.sent h c (subst (λ u. bytes_eq h.uid u ≡ true) (sym (own s refl)) same) in
       omega (arith, most)
 
 sends_store : (b : Bool) (organiser : List ℕ) (stored : Stored) (gone : List (List ℕ)) (sent : List Sent) → SendsTo b organiser stored (scheduled_in organiser stored.events) gone sent → SendsStore b organiser stored gone sent
@@ -66,15 +66,15 @@ store_reply e = absurd (cc)
 
 -- ---- a store
 
-module _ (address : List ℕ) (object : OrganiserObject) (said : objects.OrganiserObject) (is : StandsForObject object said) (book : OrganiserBook) (meetings : Text → Option Meeting) (keeps : KeepsAll meetings book) where
+module _ (address : List ℕ) (object : OrganiserObject) (said : objects.OrganiserObject) (is : RepresentsObject object said) (book : OrganiserBook) (meetings : Text → Option Meeting) (keeps : KeepsAll meetings book) where
   abbrev last : Option Stored
   last = last_store said.uid book
 
-  stands : StandsAt book said.uid (meetings object.uid) last
-  stands = subst (λ u. StandsAt book u (meetings object.uid) (last_store u book)) is.uid (keeps object.uid)
+  represents : RepresentsAt book said.uid (meetings object.uid) last
+  represents = subst (λ u. RepresentsAt book u (meetings object.uid) (last_store u book)) is.uid (keeps object.uid)
 
   sequence_is : sequence_then (meetings object.uid) object.components.items ≡ sequence_after last said.events
-  sequence_is = sequence_same book said.uid said.events object.components.items is.each (meetings object.uid) last stands
+  sequence_is = sequence_same book said.uid said.events object.components.items is.each (meetings object.uid) last represents
 
   -- where no greater SEQUENCE is left
   pub spent_fault : said.operation ≡ objects.Store → said.organiser ≡ address → most_sequence < sequence_then (meetings object.uid) object.components.items → CallFault objects.Store address said book 72
@@ -91,11 +91,11 @@ module _ (address : List ℕ) (object : OrganiserObject) (said : objects.Organis
     revision_is = let n = sequence ∙ sequence_is in λ i. record { sequence = n i; stamp = stamp i }
 
     below : (h : Heard) → Contains book.replies h → bytes_eq h.uid said.uid ≡ true → h.revision.sequence < stored.revision.sequence
-    below = all_below book said.uid said.events object.components.items is.each (meetings object.uid) last (λ s e. stored_own said.uid book.stores s e) stands
+    below = all_below book said.uid said.events object.components.items is.each (meetings object.uid) last (λ s e. stored_own said.uid book.stores s e) represents
 
     -- the meeting represents it
-    meeting_stands : meeting.components.items ≡ object.components.items → AreAttending (lists_of object.components.items) meeting.attending.entries → meeting.answers.entries ≡ [] → Stands meeting next stored
-    meeting_stands components attending none = record {
+    meeting_represented : meeting.components.items ≡ object.components.items → AreAttending (lists_of object.components.items) meeting.attending.entries → meeting.answers.entries ≡ [] → Represents meeting next stored
+    meeting_represented components attending none = record {
       revision = revision_is;
       components = subst (AllZip SaysObjectComponent said.events) (sym components) is.each;
       attending = subst (λ l. AreAttending l meeting.attending.entries) (lists_are said.events object.components.items is.each) attending;
@@ -113,7 +113,7 @@ module _ (address : List ℕ) (object : OrganiserObject) (said : objects.Organis
         → SendsStore (is_called_off said.events) said.organiser stored (without (scheduled_in said.organiser (last_events last)) (scheduled_in said.organiser said.events)) sent
     is_sent sent sends =
         let before = lists_said (last_events last) in
-        let s = sends said.events before is.each (last_attends book said.uid said.events object.components.items is.each (meetings object.uid) last stands) in
+        let s = sends said.events before is.each (last_attends book said.uid said.events object.components.items is.each (meetings object.uid) last represents) in
         let to = scheduled_in said.organiser said.events in
         let gone = without (scheduled_in said.organiser (last_events last)) (scheduled_in said.organiser said.events) in
         let gone_same : without (sent_among said.organiser before) (sent_among said.organiser (lists_of object.components.items)) ≡ gone = λ i. without (sym (scheduled_are said.organiser (last_events last)) i) (scheduled_is i) in
@@ -144,6 +144,6 @@ module _ (address : List ℕ) (object : OrganiserObject) (said : objects.Organis
       (
         next,
         record { stored = stored; of_meeting = refl; events = refl; revision = refl; sends = is_sent sent (λ given before each last_is. subst (λ o. SendsObject o object meeting.revision given before meeting.object.items sent) (sym organiser) (sends given before each last_is)); kept = refl },
-        keeps_stored meetings after book object.uid meeting stored (sym is.uid) (meeting_stands components attending none) put keeps,
+        keeps_stored meetings after book object.uid meeting stored (sym is.uid) (meeting_represented components attending none) put keeps,
       ),
     )

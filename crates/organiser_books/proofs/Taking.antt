@@ -15,7 +15,7 @@ use Rattle.profile.specs.organisers.Organisers.{Heard, OrganiserBook, Stored, St
 use Rattle.profile.specs.organisers.Organisers.StateFault.{unknown, ahead, spent, stranger}
 use Rattle.profile.specs.organisers.Sent.{IsComponentText, IsMeetingText}
 use Rattle.itip_order.specs.Parts.{revision_of}
-use Rattle.itip_messages.specs.OrganiserObjects.{operation_said, SaysObjectComponent, StandsForObject}
+use Rattle.itip_messages.specs.OrganiserObjects.{operation_said, SaysObjectComponent, RepresentsObject}
 use Rattle.itip_messages.specs.declared.organiser_object.Operation.{Operation}
 use Rattle.itip_messages.specs.declared.organiser_object.Operation.TheVariants.{Store, Reply, Refresh}
 use Rattle.itip_messages.specs.declared.organiser_object.OrganiserObject.{OrganiserObject}
@@ -25,8 +25,8 @@ use Rattle.organiser_books.specs.Attending.{attendance_of, is_sent, lists_said}
 use Rattle.organiser_books.specs.Calls.{CallFault, MayTake}
 use Rattle.organiser_books.specs.Calls.CallFault.{in_state}
 use Rattle.organiser_books.specs.Shown.{ShowsAnswered}
-use Rattle.organiser_books.specs.Standing.{answer_in, answered, heard_of, is_ahead, is_strange, AreSeen, IsReplyFault, Stands, StandsAt}
-use Rattle.organiser_books.proofs.Books.{stands_known, stands_unknown}
+use Rattle.organiser_books.specs.Representation.{answer_in, answered, heard_of, is_ahead, is_strange, AreSeen, IsReplyFault, Represents, RepresentsAt}
+use Rattle.organiser_books.proofs.Books.{represented_known, represented_unknown}
 use Rattle.organiser_books.proofs.Latest.{latest_is}
 use Rattle.organiser_books.proofs.Picking.{among_sent}
 use Rattle.organiser_books.proofs.Said.{ahead_are, attendee_is, heard_are, known_is, scheduled_are, strangers_are, uids_are}
@@ -56,7 +56,7 @@ store_reply e = absurd (cc)
 
 -- ---- objects
 
-module _ (address : List ℕ) (object : OrganiserObject) (said : objects.OrganiserObject) (is : StandsForObject object said) (book : OrganiserBook) where
+module _ (address : List ℕ) (object : OrganiserObject) (said : objects.OrganiserObject) (is : RepresentsObject object said) (book : OrganiserBook) where
   abbrev uid : List ℕ
   uid = text_octets object.uid
 
@@ -64,15 +64,15 @@ module _ (address : List ℕ) (object : OrganiserObject) (said : objects.Organis
   last_is = ap (λ u. last_store u book) (sym is.uid)
 
   -- of a meeting that isn't known
-  pub unknown_fault : (op : objects.Operation) → said.operation ≡ op → said.organiser ≡ address → is_of_attendee op ≡ true → StandsAt book uid None (last_store uid book) → CallFault op address said book 71
-  unknown_fault op kind own speaks found = in_state kind own (unknown (ap is_of_attendee kind ∙ speaks) (last_is ∙ stands_unknown book uid (last_store uid book) found))
+  pub unknown_fault : (op : objects.Operation) → said.operation ≡ op → said.organiser ≡ address → is_of_attendee op ≡ true → RepresentsAt book uid None (last_store uid book) → CallFault op address said book 71
+  unknown_fault op kind own speaks found = in_state kind own (unknown (ap is_of_attendee kind ∙ speaks) (last_is ∙ represented_unknown book uid (last_store uid book) found))
 
   pub heard_is : flat_map (heard_of said.uid) object.components.items ≡ heard_in said.events
   heard_is = heard_are said.uid said.events object.components.items is.each (uids_are said.organiser said.uid said.events is.are)
 
-  module _ (m : Meeting) (found : StandsAt book uid (Some m) (last_store uid book)) where
-    abbrev known : (stored : Stored) × (last_store uid book ≡ Some stored) × Stands m book stored
-    known = stands_known book uid m (last_store uid book) found
+  module _ (m : Meeting) (found : RepresentsAt book uid (Some m) (last_store uid book)) where
+    abbrev known : (stored : Stored) × (last_store uid book ≡ Some stored) × Represents m book stored
+    known = represented_known book uid m (last_store uid book) found
 
     sequence_is : m.revision.sequence ≡ known.0.revision.sequence
     sequence_is = ap (λ (r : Revision). r.sequence) known.2.revision
@@ -113,9 +113,9 @@ module _ (address : List ℕ) (object : OrganiserObject) (said : objects.Organis
 
 -- ---- what is seen
 
-module _ (book : OrganiserBook) (uid : List ℕ) (m : Meeting) (found : StandsAt book uid (Some m) (last_store uid book)) (slot : Slot) (q : List ℕ) where
-  abbrev last : (stored : Stored) × (last_store uid book ≡ Some stored) × Stands m book stored
-  last = stands_known book uid m (last_store uid book) found
+module _ (book : OrganiserBook) (uid : List ℕ) (m : Meeting) (found : RepresentsAt book uid (Some m) (last_store uid book)) (slot : Slot) (q : List ℕ) where
+  abbrev last : (stored : Stored) × (last_store uid book ≡ Some stored) × Represents m book stored
+  last = represented_known book uid m (last_store uid book) found
 
   attends : is_attendee q last.0.events ≡ is_some (attendance_of q m.attending.entries)
   attends = attendee_is q last.0.events ∙ sym (known_is (lists_said last.0.events) m.attending.entries q last.2.attending)
@@ -161,7 +161,7 @@ text_lift method organiser uid revision R S f events octets t = record {
 abbrev shown : List ℕ → Participation → Bool → List ℕ
 shown address p b = codes "ATTENDEE;PARTSTAT=" ++ participation_word p ++ sent_status b ++ codes ":" ++ address
 
-pub shows_seen : (organiser : List ℕ) (m : Meeting) (book : OrganiserBook) (stored : Stored) → Stands m book stored → (slot : Slot) (a : Attendee) (line : List ℕ) → ShowsAnswered organiser m slot a line → ShowsSeen organiser book stored slot a line
+pub shows_seen : (organiser : List ℕ) (m : Meeting) (book : OrganiserBook) (stored : Stored) → Represents m book stored → (slot : Slot) (a : Attendee) (line : List ℕ) → ShowsAnswered organiser m slot a line → ShowsSeen organiser book stored slot a line
 shows_seen organiser m book stored h slot a line is = (
   answered (answer_in m slot a.address),
   latest_is _ (answer_in m slot a.address) (h.seen slot a.address),

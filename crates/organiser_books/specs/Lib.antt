@@ -1,6 +1,6 @@
 pub mod Answers
 pub mod Attending
-pub mod Standing
+pub mod Representation
 pub mod Storing
 pub mod Shown
 pub mod Calls

@@ -8,7 +8,7 @@ use Rattle.ical_values.specs.Octets.{address_octets}
 use Rattle.organiser_books.specs.declared.meeting.Meeting.{Meeting}
 use Rattle.organiser_books.specs.declared.shown.Shown.{Shown}
 use Rattle.organiser_books.specs.Attending.{is_sent}
-use Rattle.organiser_books.specs.Standing.{answer_in, answered}
+use Rattle.organiser_books.specs.Representation.{answer_in, answered}
 
 -- the line shows what an organiser's meeting has in memory of an attendee of this slot
 abbrev pub ShowsAnswered : List ℕ → Meeting → Slot → Attendee → List ℕ → Type 0

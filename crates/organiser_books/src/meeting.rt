@@ -9,7 +9,7 @@ ghost use Rattle.profile.specs.organisers.Organisers.{Heard, Stored};
 ghost use Rattle.cal_events.specs.Events.{participation_of};
 ghost use Rattle.itip_order.specs.Parts.{revision_of, slot_of};
 ghost use Rattle.organiser_books.specs.Attending.{attendance_of, is_sent};
-ghost use Rattle.organiser_books.specs.Standing.{answer_in, answered, heard_of, is_ahead, is_strange, is_unknown, AreSeen, IsReplyFault};
+ghost use Rattle.organiser_books.specs.Representation.{answer_in, answered, heard_of, is_ahead, is_strange, is_unknown, AreSeen, IsReplyFault};
 
 use crate::answers::{Answer, AnswerKey, Answers, put};
 use crate::attending::{Attending, is_sent};

@@ -10,8 +10,8 @@ ghost use Rattle.profile.specs.organisers.Objects as profile;
 ghost use Rattle.profile.specs.organisers.Organisers.{OrganiserBook, empty_organiser, after_reply, without, IsSeen, IsShown, IsStore};
 ghost use Rattle.cal_events.specs.Events.{participation_of};
 ghost use Rattle.itip_order.specs.Parts.{slot_of};
-ghost use Rattle.itip_messages.specs.OrganiserObjects.{operation_said, SaysObjectComponent, StandsForObject};
-ghost use Rattle.organiser_books.specs.Standing.{Keeps, address_of, same_text};
+ghost use Rattle.itip_messages.specs.OrganiserObjects.{operation_said, SaysObjectComponent, RepresentsObject};
+ghost use Rattle.organiser_books.specs.Representation.{Keeps, address_of, same_text};
 ghost use Rattle.organiser_books.specs.Attending.{lists_of, sent_among, AreAttending};
 ghost use Rattle.organiser_books.specs.Storing.{LastAttends, SendsObject};
 ghost use Rattle.organiser_books.specs.Calls.{AnswersRefresh, CallFault, MayTake, is_call_fault, sent_of};
@@ -76,11 +76,11 @@ impl Organiser {
     /// SEQUENCE is left.
     pub fn store(&mut self, object: OrganiserObject, now: Stamp) -> Result<Vec<Outgoing>, Fault>
         // From each book that it keeps it makes a step of the organiser machine.
-        ensures steps { IfOk result (λ sent. (said : profile.OrganiserObject) → StandsForObject object said → (book : OrganiserBook) → Keeps self.old book
+        ensures steps { IfOk result (λ sent. (said : profile.OrganiserObject) → RepresentsObject object said → (book : OrganiserBook) → Keeps self.old book
             → MayTake profile.Store (address_of self.old) said book
             × ((after : OrganiserBook) × IsStore now said book (map sent_of sent.items) after × Keeps self.new after)) }
         ensures refuses { IfErr result (RefusesOnly is_call_fault) }
-        ensures stands { IfErr result (RefusesBy (λ n. (said : profile.OrganiserObject) → StandsForObject object said → (book : OrganiserBook) → Keeps self.old book
+        ensures fault { IfErr result (RefusesBy (λ n. (said : profile.OrganiserObject) → RepresentsObject object said → (book : OrganiserBook) → Keeps self.old book
             → CallFault profile.Store (address_of self.old) said book n)) }
         ensures address { address_of self.new ≡ address_of self.old }
         ensures err { OnErr result ((book : OrganiserBook) → Keeps self.old book → Keeps self.new book) }
@@ -120,10 +120,10 @@ impl Organiser {
     /// Refused, and then nothing has changed: 60 for an object that isn't a REPLY, 70 for one to another organiser, 71 for a meeting that isn't
     /// known or a SEQUENCE that wasn't sent yet, 73 for one who isn't an attendee of the last store.
     pub fn take_reply(&mut self, object: &OrganiserObject) -> Result<(), Fault>
-        ensures steps { IfOk result (λ _. (said : profile.OrganiserObject) → StandsForObject object.now said → (book : OrganiserBook) → Keeps self.old book
+        ensures steps { IfOk result (λ _. (said : profile.OrganiserObject) → RepresentsObject object.now said → (book : OrganiserBook) → Keeps self.old book
             → MayTake profile.Reply (address_of self.old) said book × Keeps self.new (after_reply said book)) }
         ensures refuses { IfErr result (RefusesOnly is_call_fault) }
-        ensures stands { IfErr result (RefusesBy (λ n. (said : profile.OrganiserObject) → StandsForObject object.now said → (book : OrganiserBook) → Keeps self.old book
+        ensures fault { IfErr result (RefusesBy (λ n. (said : profile.OrganiserObject) → RepresentsObject object.now said → (book : OrganiserBook) → Keeps self.old book
             → CallFault profile.Reply (address_of self.old) said book n)) }
         ensures address { address_of self.new ≡ address_of self.old }
         ensures err { OnErr result ((book : OrganiserBook) → Keeps self.old book → Keeps self.new book) }
@@ -140,10 +140,10 @@ impl Organiser {
     /// Refused: 60 for an object that isn't a REFRESH, 70 for one to another organiser, 71 for a meeting that isn't known, 73 for one who isn't
     /// an attendee of the last store.
     pub fn take_refresh(&self, object: &OrganiserObject) -> Result<Vec<u8>, Fault>
-        ensures steps { IfOk result (λ octets. (said : profile.OrganiserObject) → StandsForObject object.now said → (book : OrganiserBook) → Keeps self.now book
+        ensures steps { IfOk result (λ octets. (said : profile.OrganiserObject) → RepresentsObject object.now said → (book : OrganiserBook) → Keeps self.now book
             → MayTake profile.Refresh (address_of self.now) said book × AnswersRefresh said book octets.items) }
         ensures refuses { IfErr result (RefusesOnly is_call_fault) }
-        ensures stands { IfErr result (RefusesBy (λ n. (said : profile.OrganiserObject) → StandsForObject object.now said → (book : OrganiserBook) → Keeps self.now book
+        ensures fault { IfErr result (RefusesBy (λ n. (said : profile.OrganiserObject) → RepresentsObject object.now said → (book : OrganiserBook) → Keeps self.now book
             → CallFault profile.Refresh (address_of self.now) said book n)) }
     {
         self.expect(object, Operation::Refresh)?;
@@ -198,7 +198,7 @@ impl Organiser {
         ensures kind { OnOk result (operation_said object.now.operation ≡ operation_said operation) }
         ensures own { OnOk result (address_octets object.now.organiser ≡ address_of self.now) }
         ensures refuses { IfErr result (RefusesOnly is_call_fault) }
-        ensures stands { IfErr result (RefusesBy (λ n. (said : profile.OrganiserObject) → StandsForObject object.now said → (book : OrganiserBook)
+        ensures fault { IfErr result (RefusesBy (λ n. (said : profile.OrganiserObject) → RepresentsObject object.now said → (book : OrganiserBook)
             → CallFault (operation_said operation) (address_of self.now) said book n)) }
     {
         if object.operation != operation {

@@ -131,14 +131,14 @@ three_days_from_monday : SaysEventRule (codes "DTSTART:20250310T090000Z" ∷ cod
 unfolding three_days is_rule_day is_within_count is_counted is_placed mates_before mates_after is_mate count_days is_base is_in_step passes passes_month passes_month_day passes_weekday weekday_of year_days_before year_days_after month_days_before month_days_after month_of year_of greatest days_of_months period_of
 three_days_from_monday = record {
   text = Some three_days;
-  spells = record { line = Some (codes "rrule:FREQ=DAILY;COUNT=3"); once = refl; stands = λ h. absurd (true≢false (sym h)); is = spells_three_days };
+  spells = record { line = Some (codes "rrule:FREQ=DAILY;COUNT=3"); once = refl; present = λ h. absurd (true≢false (sym h)); is = spells_three_days };
   gives = record { day = 739_685; second = 32_400; on = (omega arith, refl); last = last_rule_day; allowed = refl; is = refl; starts = refl };
 }
 
 without_rule : SaysEventRule (codes "DTSTART:20250310T090000Z" ∷ []) times None
 without_rule = record {
   text = None;
-  spells = record { line = None; once = refl; stands = λ h. absurd (true≢false (sym h)); is = tt };
+  spells = record { line = None; once = refl; present = λ h. absurd (true≢false (sym h)); is = tt };
   gives = tt;
 }
 
@@ -147,7 +147,7 @@ without_start : SaysEventRule (codes "UID:a" ∷ codes "rrule:FREQ=DAILY;COUNT=3
 unfolding three_days
 without_start = record {
   text = Some three_days;
-  spells = record { line = Some (codes "rrule:FREQ=DAILY;COUNT=3"); once = refl; stands = λ h. absurd (true≢false (sym h)); is = spells_three_days };
+  spells = record { line = Some (codes "rrule:FREQ=DAILY;COUNT=3"); once = refl; present = λ h. absurd (true≢false (sym h)); is = spells_three_days };
   gives = refl;
 }
 

@@ -82,7 +82,7 @@ say object =
     let inside : IsInside object (codes "RDATE:20250310T090000Z,20250310T090000Z", codes "20250310T090000Z") (pos 1_741_597_200) =
     (None, pos 1_741_597_200, (refl, nine), at_nine, (omega (arith, ints), omega (arith, ints), omega (arith, ints))) in
     record {
-      is = record { line = None; once = refl; stands = λ h. absurd (true≢false (sym h)); is = tt };
+      is = record { line = None; once = refl; present = λ h. absurd (true≢false (sym h)); is = tt };
       adds = ((added, (added, tt)), omega arith);
       inside = (inside, (inside, tt));
       takes = (((refl, (None, pos 1_741_597_200, (refl, nine), at_nine)), tt), omega arith);

@@ -135,10 +135,10 @@ times = record { day = 719_528; second = 0; rule = None; offset_from = pos 19_80
 part_says : SaysTimes part times
 unfolding part times
 part_says = record {
-  start = record { line = Some (codes "DTSTART:19700101T000000"); once = refl; stands = λ _. refl; is = (refl, refl, midnight) };
+  start = record { line = Some (codes "DTSTART:19700101T000000"); once = refl; present = λ _. refl; is = (refl, refl, midnight) };
   second = omega arith;
-  from = record { line = Some (codes "TZOFFSETFROM:+0530"); once = refl; stands = λ _. refl; is = ahead };
-  to = record { line = Some (codes "tzoffsetto:+0530"); once = refl; stands = λ _. refl; is = ahead };
+  from = record { line = Some (codes "TZOFFSETFROM:+0530"); once = refl; present = λ _. refl; is = ahead };
+  to = record { line = Some (codes "tzoffsetto:+0530"); once = refl; present = λ _. refl; is = ahead };
   no_dates = refl;
 }
 

@@ -3,8 +3,8 @@ use Rattle.std.proofs.Common.{◌≡◌, ℤ, true, not, ◌&&◌, List, [], ◌
 use Rattle.std.specs.List.{AllZip, Contains, filter}
 use Rattle.std.proofs.lemmas.Bool.{and_from, both_ways, cases_Bool, not_from_false}
 use Rattle.std.proofs.lemmas.List.Elements.{Contains-append_left, Contains-append_right, Contains-append_cases}
-use Rattle.itip_order.specs.Registers.{StandsFor}
-use Rattle.itip_order.proofs.Joined.{stands_together}
+use Rattle.itip_order.specs.Registers.{RepresentsHistory}
+use Rattle.itip_order.proofs.Joined.{represents_both}
 use Rattle.itip_order.proofs.Lasting.{view_taken}
 use Rattle.itip_order.proofs.Lists.{in_cons, none_in_nil, filter_at, filter_from}
 use Rattle.profile.specs.checker.Instances.{Booked, Key}
@@ -18,9 +18,9 @@ use Rattle.room_books.specs.declared.meeting.MeetingKey.{MeetingKey}
 use Rattle.room_books.specs.declared.kept.Meeting.{Meeting}
 use Rattle.cal_events.specs.declared.instance.Single.{Single}
 use Rattle.room_books.specs.declared.meeting.Given.{Given}
-use Rattle.room_books.specs.Takings.{OutcomeDated, StandsAt, held_after}
+use Rattle.room_books.specs.Takings.{OutcomeDated, HasHistory, held_after}
 use Rattle.room_books.specs.Views.{booked_of}
-use Rattle.room_books.specs.Standing.{IsFitting, AreFitting, IsOwn, AreGiven, IsGiven, IsDated, Meets, MeetsAt, standing, book_after}
+use Rattle.room_books.specs.Representation.{IsFitting, AreFitting, IsOwn, AreGiven, IsGiven, IsDated, Meets, MeetsAt, answers_in_view, book_after}
 use Rattle.room_books.proofs.Runs.{new_answer}
 use Rattle.room_books.specs.BySlot.{Reordered}
 use Rattle.room_books.proofs.Givens.{given_from, given_reordered, given_to}
@@ -72,9 +72,9 @@ given_dated k t a given g fit dated =
 -- ---- the meeting before
 
 module _ (k : MeetingKey) (own : Book) where
-  pub stands_at : (before : Option Meeting) → MeetsAt own k before → StandsAt before own.taken
-  stands_at None m = m
-  stands_at (Some meeting) m = m.held
+  pub has_history : (before : Option Meeting) → MeetsAt own k before → HasHistory before own.taken
+  has_history None m = m
+  has_history (Some meeting) m = m.held
 
   none_seen : own.taken ≡ [] → (part : Part) → in_view own.taken part ≡ true → ⊥
   none_seen e part v = none_in_nil part (subst (λ (l : List Part). Contains l part) e (view_taken own.taken part v))
@@ -86,13 +86,13 @@ module _ (k : MeetingKey) (own : Book) where
   old_dated : (before : Option Meeting) → MeetsAt own k before → (a : Answer) → Contains own.answers a → in_view own.taken a.claim.part ≡ true → OutcomeDated a.outcome
   old_dated None m a c v = absurd (none_seen m a.claim.part v)
   old_dated (Some meeting) m a c v =
-      let found = given_to k own.taken (standing own.taken own.answers) meeting.answers.items a m.answers (filter_from (λ (x : Answer). in_view own.taken x.claim.part) own.answers a c v) in
+      let found = given_to k own.taken (answers_in_view own.taken own.answers) meeting.answers.items a m.answers (filter_from (λ (x : Answer). in_view own.taken x.claim.part) own.answers a c v) in
       subst OutcomeDated found.2.outcome (m.dated found.0 found.1).outcome
 
 -- with its parts and more
-pub held_stands : (before : Option Meeting) (more history others : List Part) → StandsAt before history → StandsFor more others → StandsFor (held_after before more) (history ++ others)
-held_stands None more history others e s = subst (λ (l : List Part). StandsFor more (l ++ others)) (sym e) s
-held_stands (Some meeting) more history others h s = stands_together meeting.held more history others h s
+pub has_history_after : (before : Option Meeting) (more history others : List Part) → HasHistory before history → RepresentsHistory more others → RepresentsHistory (held_after before more) (history ++ others)
+has_history_after None more history others e s = subst (λ (l : List Part). RepresentsHistory more (l ++ others)) (sym e) s
+has_history_after (Some meeting) more history others h s = represents_both meeting.held more history others h s
 
 -- ---- and after
 
@@ -122,7 +122,7 @@ module _ (k : MeetingKey) (own : Book) (is_own : IsOwn k own) (claims : List Cla
         ]
       ] in q
 
-  answer_dated : ((claim : Claim) → Contains asked_now claim → OutcomeDated outcome) → (a : Answer) → Contains (standing t (own.answers ++ new)) a → IsFitting a.claim × OutcomeDated a.outcome
+  answer_dated : ((claim : Claim) → Contains asked_now claim → OutcomeDated outcome) → (a : Answer) → Contains (answers_in_view t (own.answers ++ new)) a → IsFitting a.claim × OutcomeDated a.outcome
   answer_dated dated a c =
       let at = filter_at (λ (x : Answer). in_view t x.claim.part) (own.answers ++ new) a c in
       elim (Contains-append_cases own.answers new a at.0) [
@@ -134,16 +134,16 @@ module _ (k : MeetingKey) (own : Book) (is_own : IsOwn k own) (claims : List Cla
             )
       ]
 
-  pub meets_after : (meeting : Meeting) (kept given : List Given) → StandsFor meeting.held t → AreGiven k t (stayed k own is_own claims fit moment) kept → AllZip (IsGiven k t) new given
+  pub meets_after : (meeting : Meeting) (kept given : List Given) → RepresentsHistory meeting.held t → AreGiven k t (stayed k own is_own claims fit moment) kept → AllZip (IsGiven k t) new given
       → Reordered (kept ++ given) meeting.answers.items → ((claim : Claim) → Contains asked_now claim → OutcomeDated outcome) → Meets (book_after own claims moment outcome) k meeting
   meets_after meeting kept given s z w e dated =
-      let answers = given_reordered k t (standing t (own.answers ++ new)) (kept ++ given) meeting.answers.items e (given_after k own is_own claims fit moment outcome kept given z w) in
+      let answers = given_reordered k t (answers_in_view t (own.answers ++ new)) (kept ++ given) meeting.answers.items e (given_after k own is_own claims fit moment outcome kept given z w) in
       record {
         held = s;
         answers = answers;
         answered = answered_after;
         dated = λ given c.
-            let found = given_from k t (standing t (own.answers ++ new)) meeting.answers.items given answers c in
+            let found = given_from k t (answers_in_view t (own.answers ++ new)) meeting.answers.items given answers c in
             let both = answer_dated dated found.0 found.1 in
             given_dated k t found.0 given found.2 both.0 both.1;
       }

@@ -15,7 +15,7 @@ use Rattle.profile.specs.rooms.Kept.{first_parts}
 use Rattle.room_books.specs.declared.meeting.MeetingKey.{MeetingKey}
 use Rattle.room_books.specs.declared.kept.Meeting.{Meeting}
 use Rattle.room_books.specs.Views.{same_key}
-use Rattle.room_books.specs.Standing.{is_of, AreKeysOf}
+use Rattle.room_books.specs.Representation.{is_of, AreKeysOf}
 use Rattle.itip_order.proofs.Order.{meeting_total, is_eq_true}
 use Rattle.room_books.proofs.Meetings.{is_of_parts}
 

@@ -16,7 +16,7 @@ use Rattle.cal_events.specs.declared.series.Series.{Series}
 use Rattle.room_books.specs.declared.meeting.MeetingKey.{MeetingKey}
 use Rattle.room_books.specs.declared.kept.Meeting.{Meeting}
 use Rattle.room_books.specs.Views.{same_key, beside, booked_list, is_other, joined, others, other_recurring, confirmed_of, recurring_of, series_list}
-use Rattle.room_books.specs.Standing.{is_of, of_meeting, answers_of, book_of, AreFitting, AreSameSeries, Stands}
+use Rattle.room_books.specs.Representation.{is_of, of_meeting, answers_of, book_of, AreFitting, AreSameSeries, Represents}
 use Rattle.room_books.proofs.Confirms.{zip_confirms, zip_recurs}
 use Rattle.room_books.proofs.Entries.{found_entry, meeting_at}
 use Rattle.room_books.proofs.Runs.{new_answer}
@@ -26,7 +26,7 @@ use Rattle.room_books.proofs.Partition.{answers_apart, given_split, partition}
 use Rattle.room_books.proofs.Same.{AreSame, same_itself, same_then, same_append, same_swap}
 use Rattle.room_books.proofs.SameSeries.{AreAlike, series_none, series_append, series_hidden, series_then, series_turn}
 
-module _ (k : MeetingKey) (entries : List (MeetingKey × Meeting)) (distinct : IsDistinct same_key (keys_of entries)) (book : Book) (st : Stands entries book)
+module _ (k : MeetingKey) (entries : List (MeetingKey × Meeting)) (distinct : IsDistinct same_key (keys_of entries)) (book : Book) (st : Represents entries book)
     (claims : List Claim) (fit : AreFitting k claims) (moment : ℤ) where
   abbrev all : List Part
   all = book.taken ++ parts_of claims

@@ -13,7 +13,7 @@ use Rattle.ical_values.specs.Octets.{address_octets, text_octets}
 use Rattle.cal_events.proofs.InOneOrder.{head_pairs, tail_pairs}
 use Rattle.itip_messages.specs.declared.room_message.RoomMessage.{RoomMessage}
 use Rattle.itip_messages.specs.declared.room_message.MessageComponent.{MessageComponent}
-use Rattle.itip_messages.specs.Messages.{StandsFor, SaysComponent, IsDated, is_for, has_part, part_for}
+use Rattle.itip_messages.specs.Messages.{RepresentsMessage, SaysComponent, IsDated, is_for, has_part, part_for}
 use Rattle.itip_messages.proofs.MessageLemmas.{addressed, body_is, part_said, kept_said, kept_components, kept_among, no_events}
 use Rattle.itip_order.specs.Parts.{part_of}
 use Rattle.itip_order.proofs.Lists.{in_cons, in_head, in_tail, none_in_nil}
@@ -39,7 +39,7 @@ use Rattle.cal_events.specs.declared.instance.Single.{Single}
 use Rattle.room_books.specs.declared.claim.Claim.{Claim}
 use Rattle.room_books.specs.Claiming.{series_asked, series_at, AreClaimed, IsClaimIn, IsSameSeries}
 use Rattle.room_books.specs.Takings.{body_content, booked_in, claim_said, claims_said}
-use Rattle.room_books.specs.Standing.{Pairwise, IsFitting, IsFittingSeries, IsText, IsOfSlot, SlotDated}
+use Rattle.room_books.specs.Representation.{Pairwise, IsFitting, IsFittingSeries, IsText, IsOfSlot, SlotDated}
 use Rattle.itip_messages.proofs.BodyContents.{body_of}
 use Rattle.room_books.proofs.Loops.{zip_push, one_more}
 use Rattle.room_books.proofs.Meetings.{is_of_from}
@@ -151,7 +151,7 @@ module _ (event : Event) (timely : IsTimely event) (dated : IsDated (profile.slo
 
 -- ---- the claim of one component
 
-module _ (room : List ℕ) (message : RoomMessage) (given : profile.Message) (s : StandsFor message given) (event : Event) (component : MessageComponent) (among : Contains (events_of given.meeting) event)
+module _ (room : List ℕ) (message : RoomMessage) (given : profile.Message) (s : RepresentsMessage message given) (event : Event) (component : MessageComponent) (among : Contains (events_of given.meeting) event)
     (says : SaysComponent given.method (option_map own_revision given.meeting.master) event component) (claim : Claim) (x : IsClaimIn room message component claim) where
   abbrev part : Part
   part = part_for room message component
@@ -287,7 +287,7 @@ module _ (room : List ℕ) (message : RoomMessage) (given : profile.Message) (s 
 
 -- ---- all claims
 
-module _ (room : List ℕ) (message : RoomMessage) (given : profile.Message) (s : StandsFor message given) where
+module _ (room : List ℕ) (message : RoomMessage) (given : profile.Message) (s : RepresentsMessage message given) where
   abbrev Says : Event → MessageComponent → Type 0
   Says = SaysComponent given.method (option_map own_revision given.meeting.master)
 

@@ -143,7 +143,7 @@ module _ (others : Confirmed) (k : MeetingKey) (own singles : List Single) (kept
     was : p < from → IsOneOf before b → IsWhen p r x b
     is_asked : from ≤ p → r.key.now ≡ k → RecursIn wanted x → IsWhen p r x b
 
-  record Stands (b : Booked) : Type 0 where
+  record RecursAt (b : Booked) : Type 0 where
     place : ℕ
     recurring : Recurring
     single : Single
@@ -153,9 +153,9 @@ module _ (others : Confirmed) (k : MeetingKey) (own singles : List Single) (kept
     when : IsWhen place recurring single b
 
   -- of the series in a place
-  stands_at : (p : ℕ) (b : Booked) (q : MeetingKey × Series) → slice_get (map keyed_of all) p ≡ Some q → IsInstance (said q) b
-      → ((p < from) × IsOneOf before b) ⊎ ((from ≤ p) × ((x : Single) → Recurs q.1 x → RecursIn wanted x)) → Stands b
-  stands_at p b q at is placed =
+  recurs_at : (p : ℕ) (b : Booked) (q : MeetingKey × Series) → slice_get (map keyed_of all) p ≡ Some q → IsInstance (said q) b
+      → ((p < from) × IsOneOf before b) ⊎ ((from ≤ p) × ((x : Single) → Recurs q.1 x → RecursIn wanted x)) → RecursAt b
+  recurs_at p b q at is placed =
       let r = mapped_at keyed_of all p q at in
       let x = of_series r.0.key.now r.0.series.now b (subst (λ (z : MeetingKey × Series). IsInstance (said z) b) (sym r.2) is) in
       record {
@@ -171,32 +171,32 @@ module _ (others : Confirmed) (k : MeetingKey) (own singles : List Single) (kept
         ];
       }
 
-  stands_old : (b : Booked) (s : Series) → IsInstance (series_of k s) b → Contains kept s → Stands b
-  stands_old b s is c =
+  recurs_old : (b : Booked) (s : Series) → IsInstance (series_of k s) b → Contains kept s → RecursAt b
+  recurs_old b s is c =
       let p = left_at (map keyed_of first ++ map own_keyed kept) (map own_keyed wanted) (own_keyed s) (Contains-append_right (map keyed_of first) (map own_keyed kept) (own_keyed s) (map_from own_keyed kept s c)) in
       let w = p.1 in
-      stands_at p.0 b (own_keyed s) (ap (λ l. slice_get l p.0) split_is ∙ p.2) is
+      recurs_at p.0 b (own_keyed s) (ap (λ l. slice_get l p.0) split_is ∙ p.2) is
       (inl (omega (arith, w, from_at), inr (series_of k s, Contains-append_right others.series (series_list k kept) (series_of k s) (map_from (series_of k) kept s c), is)))
 
-  stands_new : (b : Booked) (s : Series) → IsInstance (series_of k s) b → Contains wanted s → Stands b
-  stands_new b s is c =
+  recurs_new : (b : Booked) (s : Series) → IsInstance (series_of k s) b → Contains wanted s → RecursAt b
+  recurs_new b s is c =
       let p = right_at (map keyed_of first ++ map own_keyed kept) (map own_keyed wanted) (own_keyed s) (map_from own_keyed wanted s c) in
       let w = p.1 in
-      stands_at p.0 b (own_keyed s) (ap (λ l. slice_get l p.0) split_is ∙ p.2) is (inr (omega (arith, w, from_at), λ x r. (s, c, r)))
+      recurs_at p.0 b (own_keyed s) (ap (λ l. slice_get l p.0) split_is ∙ p.2) is (inr (omega (arith, w, from_at), λ x r. (s, c, r)))
 
-  stands : (b : Booked) → IsInSeries (others.series ++ series_list k (kept ++ wanted)) b → Stands b
-  stands b (one, among, is) = elim (Contains-append_cases others.series (series_list k (kept ++ wanted)) one among) [
+  recurs_there : (b : Booked) → IsInSeries (others.series ++ series_list k (kept ++ wanted)) b → RecursAt b
+  recurs_there b (one, among, is) = elim (Contains-append_cases others.series (series_list k (kept ++ wanted)) one among) [
     | inl other ↦
         let x = map_at recurring_said first one ((of_others one).0 other) in
         let p = left_at (map keyed_of first) (map own_keyed (kept ++ wanted)) (keyed_of x.0) (map_from keyed_of first x.0 x.1) in
         let w = p.1 in let n = length-map first keyed_of in
-        stands_at p.0 b (keyed_of x.0) (ap (λ l. slice_get l p.0) all_is ∙ p.2) (subst (λ (z : Whole). IsInstance z b) (sym x.2) is)
+        recurs_at p.0 b (keyed_of x.0) (ap (λ l. slice_get l p.0) all_is ∙ p.2) (subst (λ (z : Whole). IsInstance z b) (sym x.2) is)
         (inl (omega (arith, w, n, from_is), inr (one, Contains-append_left others.series (series_list k kept) one other, is)))
     | inr mine ↦
         let x = map_at (series_of k) (kept ++ wanted) one mine in
         elim (Contains-append_cases kept wanted x.0 x.1) [
-          | inl old ↦ stands_old b x.0 (subst (λ (z : Whole). IsInstance z b) (sym x.2) is) old
-          | inr new ↦ stands_new b x.0 (subst (λ (z : Whole). IsInstance z b) (sym x.2) is) new
+          | inl old ↦ recurs_old b x.0 (subst (λ (z : Whole). IsInstance z b) (sym x.2) is) old
+          | inr new ↦ recurs_new b x.0 (subst (λ (z : Whole). IsInstance z b) (sym x.2) is) new
         ]
   ]
 
@@ -225,7 +225,7 @@ module _ (others : Confirmed) (k : MeetingKey) (own singles : List Single) (kept
 
   module _ (was_clear : IsClearIn before) (singles_clear : IsClear (others.singles ++ booked_list k (own ++ singles)))
       (single_clear : AreBeside (Contains singles) all None) (new_clear : AreNewClear (others.singles ++ booked_list k own) all from wanted None) where
-    single_and_series : (a b : Booked) (t : ℤ) → Contains (others.singles ++ booked_list k (own ++ singles)) a → Stands b → AreClashing a b t → ⊥
+    single_and_series : (a b : Booked) (t : ℤ) → Contains (others.singles ++ booked_list k (own ++ singles)) a → RecursAt b → AreClashing a b t → ⊥
     single_and_series a b t c f clash = elim (single_when a c) [
       | inl old ↦ by_when f.when old
       | inr (s, new, e) ↦ single_clear s new f.recurring f.single t (at_in all f.place f.recurring f.at) f.recurs (shared_by a b (booked_of k s) (booked_of f.recurring.key.now f.single) t (sym e) f.is clash)
@@ -236,7 +236,7 @@ module _ (others : Confirmed) (k : MeetingKey) (own singles : List Single) (kept
         by_when (is_asked from_on key recurs) old = new_clear.1 f.single recurs a t old (turned (span_of a) f.single.span t (shared_by a b a (booked_of f.recurring.key.now f.single) t refl f.is clash))
 
     -- the first comes before the second
-    ordered : (a b : Booked) (t : ℤ) (f : Stands a) (g : Stands b) → f.place < g.place → from ≤ g.place → RecursIn wanted g.single → AreClashing a b t → ⊥
+    ordered : (a b : Booked) (t : ℤ) (f : RecursAt a) (g : RecursAt b) → f.place < g.place → from ≤ g.place → RecursIn wanted g.single → AreClashing a b t → ⊥
     ordered a b t f g less from_on recurs clash =
         let within = slice_get_within all g.place g.recurring g.at in
         (new_clear.0 (λ e. none_in_nil recurs.0 (subst (λ (l : List Series). Contains l recurs.0) e recurs.1)) g.place g.recurring from_on g.at).0
@@ -244,7 +244,7 @@ module _ (others : Confirmed) (k : MeetingKey) (own singles : List Single) (kept
         (turned f.single.span g.single.span t (shared_by a b (booked_of f.recurring.key.now f.single) (booked_of g.recurring.key.now g.single) t f.is g.is clash))
 
     -- both are of one series
-    both_of : (a b : Booked) (t : ℤ) (f : Stands a) (g : Stands b) → f.place ≡ g.place → from ≤ g.place → RecursIn wanted g.single → AreClashing a b t → ⊥
+    both_of : (a b : Booked) (t : ℤ) (f : RecursAt a) (g : RecursAt b) → f.place ≡ g.place → from ≤ g.place → RecursIn wanted g.single → AreClashing a b t → ⊥
     both_of a b t f g e from_on recurs clash =
         let same : f.recurring ≡ g.recurring = same_Some f.recurring g.recurring (sym f.at ∙ ap (slice_get all) e ∙ g.at) in
         let is = f.is ∙ ap (λ (r : Recurring). booked_of r.key.now f.single) same in
@@ -256,7 +256,7 @@ module _ (others : Confirmed) (k : MeetingKey) (own singles : List Single) (kept
         key_of_slot : (q : MeetingKey) (s r : Single) → s.slot ≡ r.slot → (booked_of q s).key ≡ (booked_of q r).key
         key_of_slot q s r e = λ i. record { organiser = (booked_of q s).key.organiser; uid = (booked_of q s).key.uid; slot = e i }
 
-    two_series : (a b : Booked) (t : ℤ) → Stands a → Stands b → AreClashing a b t → ⊥
+    two_series : (a b : Booked) (t : ℤ) → RecursAt a → RecursAt b → AreClashing a b t → ⊥
     two_series a b t f g clash = by_when f.when g.when
       where
         compare : (m n : ℕ) → (m < n) ⊎ ((n < m) ⊎ (m ≡ n))
@@ -276,9 +276,9 @@ module _ (others : Confirmed) (k : MeetingKey) (own singles : List Single) (kept
 
     pub all_clear : IsClearIn now
     all_clear a b t (inl x) (inl y) c = singles_clear a b t (record { first = x; second = y; differ = c.differ; before = c.before; in_first = c.in_first; in_second = c.in_second })
-    all_clear a b t (inl x) (inr y) c = single_and_series a b t x (stands b y) c
-    all_clear a b t (inr x) (inl y) c = single_and_series b a t y (stands a x) (turned_clash a b t c)
-    all_clear a b t (inr x) (inr y) c = two_series a b t (stands a x) (stands b y) c
+    all_clear a b t (inl x) (inr y) c = single_and_series a b t x (recurs_there b y) c
+    all_clear a b t (inr x) (inl y) c = single_and_series b a t y (recurs_there a x) (turned_clash a b t c)
+    all_clear a b t (inr x) (inr y) c = two_series a b t (recurs_there a x) (recurs_there b y) c
 
   -- ---- two clash
 

@@ -13,7 +13,7 @@ use Rattle.room_books.specs.declared.meeting.MeetingKey.{MeetingKey}
 use Rattle.room_books.specs.declared.meeting.Given.{Given}
 use Rattle.room_books.specs.Views.{booked_of, booked_list, all_singles, all_series, series_of, series_list}
 use Rattle.room_books.specs.BySlot.{Reordered}
-use Rattle.room_books.specs.Standing.{AreGiven, AreSameSeries, IsGiven, standing}
+use Rattle.room_books.specs.Representation.{AreGiven, AreSameSeries, IsGiven, answers_in_view}
 use Rattle.room_books.proofs.Partition.{given_by}
 use Rattle.room_books.proofs.Reordering.{re_back, re_filter, re_flat, re_in, re_length}
 use Rattle.room_books.proofs.Same.{AreSame}
@@ -22,8 +22,8 @@ use Rattle.room_books.proofs.Own.{filter_within}
 
 module _ {X : Type 0} (f : Answer → List X) (t : List Part) where
   -- those to parts in the view give all that there is
-  pub standing_gives : (xs : List Answer) → given_by f t (standing t xs) ≡ given_by f t xs
-  standing_gives xs = ap (flat_map f) (filter_within (is_confirmed t) (λ a. in_view t a.claim.part) xs (λ a c h. (and_parts (is_accept a.outcome) (in_view t a.claim.part) h).1))
+  pub view_gives : (xs : List Answer) → given_by f t (answers_in_view t xs) ≡ given_by f t xs
+  view_gives xs = ap (flat_map f) (filter_within (is_confirmed t) (λ a. in_view t a.claim.part) xs (λ a c h. (and_parts (is_accept a.outcome) (in_view t a.claim.part) h).1))
 
   -- some, and after them others
   pub given_append : (xs ys : List Answer) → given_by f t (xs ++ ys) ≡ given_by f t xs ++ given_by f t ys
@@ -48,10 +48,10 @@ given_confirms key t (a ∷ xs) (g ∷ gs) z =
     let rest = given_confirms key t xs gs z.1 in
     given_append (left_of t) t (a ∷ []) xs ∙ (λ i. sym first i ++ rest i) ∙ sym (map-append (booked_of key) g.singles.items (all_singles gs))
 
-pub zip_confirms : (key : MeetingKey) (t : List Part) (answers : List Answer) (given : List Given) → AreGiven key t (standing t answers) given → AreSame (singles_confirmed t answers) (booked_list key (all_singles given))
+pub zip_confirms : (key : MeetingKey) (t : List Part) (answers : List Answer) (given : List Given) → AreGiven key t (answers_in_view t answers) given → AreSame (singles_confirmed t answers) (booked_list key (all_singles given))
 zip_confirms key t answers given are =
-    subst (λ (l : List Booked). AreSame l (booked_list key (all_singles given))) (standing_gives (left_of t) t answers)
-    (subst (AreSame (singles_confirmed t (standing t answers))) (given_confirms key t are.order given are.each) (gives_reordered (left_of t) t (standing t answers) are.order are.same))
+    subst (λ (l : List Booked). AreSame l (booked_list key (all_singles given))) (view_gives (left_of t) t answers)
+    (subst (AreSame (singles_confirmed t (answers_in_view t answers))) (given_confirms key t are.order given are.each) (gives_reordered (left_of t) t (answers_in_view t answers) are.order are.same))
 
 -- ---- series
 
@@ -64,8 +64,8 @@ given_recurs key t (a ∷ xs) (g ∷ gs) z =
     (subst (AreSameSeries t (series_confirmed t (a ∷ []) ++ series_confirmed t xs)) (sym (map-append (series_of key) (option_to_list g.series) (all_series gs)))
     (series_append t (series_confirmed t (a ∷ [])) (series_list key (option_to_list g.series)) (series_confirmed t xs) (series_list key (all_series gs)) z.0.recurs (given_recurs key t xs gs z.1)))
 
-pub zip_recurs : (key : MeetingKey) (t : List Part) (answers : List Answer) (given : List Given) → AreGiven key t (standing t answers) given → AreSameSeries t (series_confirmed t answers) (series_list key (all_series given))
+pub zip_recurs : (key : MeetingKey) (t : List Part) (answers : List Answer) (given : List Given) → AreGiven key t (answers_in_view t answers) given → AreSameSeries t (series_confirmed t answers) (series_list key (all_series given))
 zip_recurs key t answers given are =
-    subst (λ (l : List Recurring). AreSameSeries t l (series_list key (all_series given))) (standing_gives recurring_in t answers)
-    (series_turn t (series_confirmed t (standing t answers)) (series_confirmed t are.order) (series_list key (all_series given)) (gives_reordered recurring_in t (standing t answers) are.order are.same)
+    subst (λ (l : List Recurring). AreSameSeries t l (series_list key (all_series given))) (view_gives recurring_in t answers)
+    (series_turn t (series_confirmed t (answers_in_view t answers)) (series_confirmed t are.order) (series_list key (all_series given)) (gives_reordered recurring_in t (answers_in_view t answers) are.order are.same)
     (given_recurs key t are.order given are.each))

@@ -10,7 +10,7 @@ use Rattle.profile.specs.rooms.Rooms.{Answer, Book, Recurring, confirmed_singles
 use Rattle.room_books.specs.declared.meeting.MeetingKey.{MeetingKey}
 use Rattle.room_books.specs.declared.kept.Meeting.{Meeting}
 use Rattle.room_books.specs.Views.{same_key, all_confirmed, all_recurring, confirmed_of, in_room, recurring_of}
-use Rattle.room_books.specs.Standing.{is_of, of_meeting, answers_of, book_of, AreSameSeries, Meets, MeetsAt, Stands}
+use Rattle.room_books.specs.Representation.{is_of, of_meeting, answers_of, book_of, AreSameSeries, Meets, MeetsAt, Represents}
 use Rattle.room_books.proofs.Confirms.{zip_confirms, zip_recurs}
 use Rattle.room_books.proofs.Keys.{key_congr}
 use Rattle.room_books.proofs.Meetings.{key_parts, key_from, is_of_same, confirmed_own, hidden_of, part_own, series_own}
@@ -35,7 +35,7 @@ pub found_entry : (q : MeetingKey) (es : List (MeetingKey × Meeting)) (m : Meet
 found_entry q [] m h = absurd (cc)
 found_entry q (x ∷ es) m h = found_step (same_key q x.0) q x es m refl h (found_entry q es m)
 
-module _ (entries : List (MeetingKey × Meeting)) (book : Book) (st : Stands entries book) (distinct : IsDistinct same_key (keys_of entries)) where
+module _ (entries : List (MeetingKey × Meeting)) (book : Book) (st : Represents entries book) (distinct : IsDistinct same_key (keys_of entries)) where
   -- each entry represents what the book says of its meeting
   pub meeting_at : (e : MeetingKey × Meeting) → Contains entries e → Meets (book_of e.0 book) e.0 e.1
   meeting_at e c =

@@ -7,7 +7,7 @@ use Rattle.room_books.specs.declared.meeting.MeetingKey.{MeetingKey}
 use Rattle.room_books.specs.declared.meeting.Given.{Given}
 use Rattle.room_books.specs.BySlot.{Reordered}
 use Rattle.room_books.specs.BySlot.Reordered.{re_then}
-use Rattle.room_books.specs.Standing.{AreGiven, IsGiven}
+use Rattle.room_books.specs.Representation.{AreGiven, IsGiven}
 use Rattle.room_books.proofs.Loops.{zip_both, zip_from, zip_to}
 use Rattle.room_books.proofs.Reordering.{re_back, re_both, re_in, re_same, re_zip}
 

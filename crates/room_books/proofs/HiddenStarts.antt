@@ -8,7 +8,7 @@ use Rattle.std.proofs.lemmas.List.Elements.{Contains-append_left, Contains-appen
 use Rattle.std.proofs.lemmas.List.Folds.{list_any-append}
 use Rattle.itip_order.specs.declared.part.Slot.{Slot as OwnSlot}
 use Rattle.itip_order.specs.Parts.{slot_of}
-use Rattle.itip_order.specs.Registers.{StandsFor}
+use Rattle.itip_order.specs.Registers.{RepresentsHistory}
 use Rattle.itip_order.proofs.Lists.{any_at, any_from, in_cons, none_in_nil}
 use Rattle.itip_order.proofs.Order.{is_eq_true, slot_same, then_equal}
 use Rattle.itip_order.proofs.Registers.{in_view_at}
@@ -129,9 +129,9 @@ none_hidden slots i d w history part b before this =
 -- ---- all slots that are held
 
 -- what hides an instance is held, so that its slot is one of them
-pub hidden_held : (held history : List Part) → StandsFor held history → (slots : List OwnSlot) → ((p : Part) → Contains held p → Contains (map slot_of slots) p.slot) → (part : Part) (b : Booked)
+pub hidden_held : (held history : List Part) → RepresentsHistory held history → (slots : List OwnSlot) → ((p : Part) → Contains held p → Contains (map slot_of slots) p.slot) → (part : Part) (b : Booked)
     → is_hidden_by slots history part b ≡ is_hidden history part b
-hidden_held held history stands slots of part b = at_test (is_touched slots (At b.key.slot)) (is_hidden history part b) touched
+hidden_held held history represented slots of part b = at_test (is_touched slots (At b.key.slot)) (is_hidden history part b) touched
   where
     hides : Part → Bool
     hides other = in_view history other && same_place other (record part { slot = At b.key.slot })
@@ -141,7 +141,7 @@ hidden_held held history stands slots of part b = at_test (is_touched slots (At 
         let found = any_at hides history (and_parts (is_whole part) (list_any hides history) hidden).1 in
         let both = and_parts (in_view history found.0) (same_place found.0 (record part { slot = At b.key.slot })) found.2 in
         let slot : found.0.slot ≡ At b.key.slot = slot_same found.0.slot (At b.key.slot) (then_equal (meeting_cmp found.0 part) (slot_cmp found.0.slot (At b.key.slot)) (is_eq_true (place_cmp found.0 (record part { slot = At b.key.slot })) both.1)).1 in
-        let inside : Contains (map slot_of slots) (At b.key.slot) = subst (Contains (map slot_of slots)) slot (of found.0 (in_view_at held history stands found.0 both.0).0) in
+        let inside : Contains (map slot_of slots) (At b.key.slot) = subst (Contains (map slot_of slots)) slot (of found.0 (in_view_at held history represented found.0 both.0).0) in
         let own = map_at slot_of slots (At b.key.slot) inside in
         any_from (λ x. is_eq (slot_cmp (slot_of x) (At b.key.slot))) slots own.0 own.1 (slot_from (slot_of own.0) (At b.key.slot) own.2)
 

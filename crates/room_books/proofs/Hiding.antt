@@ -6,7 +6,7 @@ use Rattle.std.specs.Ordering.{is_eq}
 use Rattle.std.specs.List.{list_any}
 use Rattle.std.proofs.lemmas.Bool.{and_parts, and_from, false_from_ne_true}
 use Rattle.itip_order.specs.Parts.{part_of}
-use Rattle.itip_order.specs.Registers.{StandsFor, IsInView, HasNone, at_slot}
+use Rattle.itip_order.specs.Registers.{RepresentsHistory, IsInView, HasNone, at_slot}
 use Rattle.itip_order.specs.declared.part.Part.{Part as HeldPart}
 use Rattle.itip_order.proofs.Lists.{any_at, any_from}
 use Rattle.itip_order.proofs.Lasting.{view_taken}
@@ -15,7 +15,7 @@ use Rattle.profile.specs.rooms.Revisions.{Part, Slot, Whole, At, slot_cmp, in_vi
 use Rattle.profile.specs.rooms.Rooms.{is_hidden}
 use Rattle.std.proofs.Common.{List}
 
-module _ (held history : List Part) (s : StandsFor held history) (p : Part) (booked : Booked) (slot : ℤ) (e : booked.key.slot ≡ slot) where
+module _ (held history : List Part) (s : RepresentsHistory held history) (p : Part) (booked : Booked) (slot : ℤ) (e : booked.key.slot ≡ slot) where
   abbrev hides : Part → ℤ → Part → Bool
   hides q t o = in_view history o && same_place o (record q { slot = At t })
 

@@ -21,7 +21,7 @@ use Rattle.profile.specs.rooms.Rooms.{Claim, Answer, Book, is_accept, is_confirm
 use Rattle.room_books.specs.declared.meeting.MeetingKey.{MeetingKey}
 use Rattle.room_books.specs.declared.kept.Meeting.{Meeting}
 use Rattle.room_books.specs.Views.{same_key}
-use Rattle.room_books.specs.Standing.{Pairwise, IsText, SlotDated, is_of, of_meeting, answers_of, book_of, standing, Meets, AreKeysOf, Stands}
+use Rattle.room_books.specs.Representation.{Pairwise, IsText, SlotDated, is_of, of_meeting, answers_of, book_of, answers_in_view, Meets, AreKeysOf, Represents}
 use Rattle.room_books.specs.Takings.{body_content}
 use Rattle.room_books.specs.Keeping.{IsEntryEvent, accepted_slots, has_slot, entry_of, is_accepted, is_hiding, kept_in, all_kept, zone_of_entry}
 use Rattle.room_books.proofs.Arrivals.{key_meeting}
@@ -140,7 +140,7 @@ whole_slot q h = slot_same q.slot Whole h
 
 -- ---- one meeting
 
-module _ (entries : List (MeetingKey × Meeting)) (book : Book) (key : MeetingKey) (meeting : Meeting) (st : Stands entries book) (meets : Meets (book_of key book) key meeting) where
+module _ (entries : List (MeetingKey × Meeting)) (book : Book) (key : MeetingKey) (meeting : Meeting) (st : Represents entries book) (meets : Meets (book_of key book) key meeting) where
   own : List Part
   own = of_meeting key book.taken
 
@@ -160,8 +160,8 @@ module _ (entries : List (MeetingKey × Meeting)) (book : Book) (key : MeetingKe
   seen_from a c o k =
       let both = and_parts _ _ k in
       let seen : in_view own a.claim.part ≡ true = view_of key book.taken a.claim.part o ∙ both.1 in
-      let stands = filter_from (λ x. in_view own x.claim.part) mine a (filter_from (λ x. is_of key x.claim.part) book.answers a c o) seen in
-      let g = given_to key own (standing own mine) meeting.answers.items a meets.answers stands in (
+      let is_viewed = filter_from (λ x. in_view own x.claim.part) mine a (filter_from (λ x. is_of key x.claim.part) book.answers a c o) seen in
+      let g = given_to key own (answers_in_view own mine) meeting.answers.items a meets.answers is_viewed in (
         (view.exact a.claim.part).1 seen,
         accepted_from meeting.answers.items g.0 a.claim.part.slot g.1 g.2.slot (ap is_accept g.2.outcome ∙ both.0),
       )
@@ -175,11 +175,11 @@ module _ (entries : List (MeetingKey × Meeting)) (book : Book) (key : MeetingKe
   unfolding own mine
   slot_answer slot h =
       let g = accepted_at meeting.answers.items slot h in
-      let z = given_from key own (standing own mine) meeting.answers.items g.0 meets.answers g.1 in
+      let z = given_from key own (answers_in_view own mine) meeting.answers.items g.0 meets.answers g.1 in
       let a = z.0 in
-      let stands = filter_at (λ x. in_view own x.claim.part) mine a z.1 in
-      let of_it = filter_at (λ x. is_of key x.claim.part) book.answers a stands.0 in
-      (a, of_it.0, and_from _ _ (sym (ap is_accept z.2.outcome) ∙ g.3) (sym (view_of key book.taken a.claim.part of_it.1) ∙ stands.1), sym z.2.slot ∙ g.2, of_it.1, stands.1)
+      let is_viewed = filter_at (λ x. in_view own x.claim.part) mine a z.1 in
+      let of_it = filter_at (λ x. is_of key x.claim.part) book.answers a is_viewed.0 in
+      (a, of_it.0, and_from _ _ (sym (ap is_accept z.2.outcome) ∙ g.3) (sym (view_of key book.taken a.claim.part of_it.1) ∙ is_viewed.1), sym z.2.slot ∙ g.2, of_it.1, is_viewed.1)
 
   -- and so has an accepted part
   kept_at : (p : Part) → Contains (shown meeting.held) p → is_accepted meeting p ≡ true → HasAnswer book p
@@ -258,7 +258,7 @@ module _ (entries : List (MeetingKey × Meeting)) (book : Book) (key : MeetingKe
           subst (IsEntry book first) (sym is)
           (record {
             of_meeting = sym (key_meeting key first p of_first) ∙ shown_own p e.0;
-            stands = sym (view_of key book.taken p (shown_own p e.0)) ∙ (view.exact p).0 e.0;
+            viewed = sym (view_of key book.taken p (shown_own p e.0)) ∙ (view.exact p).0 e.0;
             instance = more.1;
             not_accepted = λ claim k same. true≢false (sym (of_shown claim k).1 ∙ ap (is_accepted meeting) same ∙ e.1);
             whole = whole.0;
@@ -278,7 +278,7 @@ module _ (entries : List (MeetingKey × Meeting)) (book : Book) (key : MeetingKe
           subst (Contains es) (p.2.1 ∙ ap Shown (ap (λ (a : Answer). a.claim) same ∙ k.to)) p.1
       from (Hidden part) k =
           let of_it : is_of key part ≡ true = key_meeting key first part of_first ∙ k.of_meeting in
-          let seen : Contains (shown meeting.held) part = (view.exact part).1 (view_of key book.taken part of_it ∙ k.stands) in
+          let seen : Contains (shown meeting.held) part = (view.exact part).1 (view_of key book.taken part of_it ∙ k.viewed) in
           let not_it : is_accepted meeting part ≡ false = false_from_ne_true _ (λ yes.
           let a = kept_at part seen yes in
           k.not_accepted a.0.claim (record { of_meeting = of_same k.of_meeting a.3; answer = a.0; given = a.1; to = refl; confirms = a.2 }) a.3) in
@@ -296,7 +296,7 @@ module _ (entries : List (MeetingKey × Meeting)) (book : Book) (key : MeetingKe
 abbrev ByMeeting : Book → List (MeetingKey × Meeting) → List Part → Type 0
 ByMeeting book es firsts = (by : List (List Entry)) × AllZip (AreKeptOf book) firsts by × AllZip (IsOfEntry book) (flat_map (λ c. c) by) (all_kept (values_of es))
 
-by_meeting : (entries : List (MeetingKey × Meeting)) (book : Book) → Stands entries book → (es : List (MeetingKey × Meeting)) (firsts : List Part) → AreKeysOf (keys_of es) firsts
+by_meeting : (entries : List (MeetingKey × Meeting)) (book : Book) → Represents entries book → (es : List (MeetingKey × Meeting)) (firsts : List Part) → AreKeysOf (keys_of es) firsts
     → ((e : MeetingKey × Meeting) → Contains es e → Meets (book_of e.0 book) e.0 e.1) → ByMeeting book es firsts
 by_meeting entries book st [] [] z m = ([], tt, tt)
 by_meeting entries book st [] (p ∷ ps) z m = absurd z
@@ -310,7 +310,7 @@ by_meeting entries book st (e ∷ es) (p ∷ ps) z m =
       zip_both (IsOfEntry book) own.0 (kept_in e.1) (flat_map (λ c. c) rest.0) (all_kept (values_of es)) own.1 rest.2,
     )
 
-event_of : (room : List ℕ) (zones : List (List ℕ)) (entries : List (MeetingKey × Meeting)) (book : Book) → Stands entries book → (entry : Entry) (b : Bool) (part : Part) (lines : List (List ℕ)) → SlotDated part.slot → IsOfEntry book entry (b, part)
+event_of : (room : List ℕ) (zones : List (List ℕ)) (entries : List (MeetingKey × Meeting)) (book : Book) → Represents entries book → (entry : Entry) (b : Bool) (part : Part) (lines : List (List ℕ)) → SlotDated part.slot → IsOfEntry book entry (b, part)
     → IsEntryEvent room zones (b, part) lines → IsKeptEvent room zones entry lines
 unfolding IsOfEntry
 event_of room zones entries book st entry true part lines dated (h, is) event =
@@ -320,20 +320,20 @@ event_of room zones entries book st entry true part lines dated (h, is) event =
 event_of room zones entries book st entry false part lines dated is event = subst (λ (x : Entry). IsKeptEvent room zones x lines) (sym is) (event dated)
 
 -- an entry's zone is that of its part
-zone_of : (entries : List (MeetingKey × Meeting)) (book : Book) → Stands entries book → (entry : Entry) (b : Bool) (part : Part) → IsOfEntry book entry (b, part) → zone_kept entry ≡ zone_of_entry (b, part)
+zone_of : (entries : List (MeetingKey × Meeting)) (book : Book) → Represents entries book → (entry : Entry) (b : Bool) (part : Part) → IsOfEntry book entry (b, part) → zone_kept entry ≡ zone_of_entry (b, part)
 unfolding IsOfEntry
 zone_of entries book st entry true part (h, is) =
     ap zone_kept is ∙ ap (λ (c : Content). option_to_list c.zone) ((st.fit h.0 h.1).content ∙ ap (λ (q : Part). body_content q.body) h.3)
 zone_of entries book st entry false part is = ap zone_kept is
 
-zones_of : (entries : List (MeetingKey × Meeting)) (book : Book) → Stands entries book → (kept : List Entry) (ps : List (Bool × Part)) → AllZip (IsOfEntry book) kept ps → flat_map zone_kept kept ≡ flat_map zone_of_entry ps
+zones_of : (entries : List (MeetingKey × Meeting)) (book : Book) → Represents entries book → (kept : List Entry) (ps : List (Bool × Part)) → AllZip (IsOfEntry book) kept ps → flat_map zone_kept kept ≡ flat_map zone_of_entry ps
 zones_of entries book st [] [] z = refl
 zones_of entries book st [] (p ∷ ps) z = absurd z
 zones_of entries book st (k ∷ ks) [] z = absurd z
 zones_of entries book st (k ∷ ks) ((b, p) ∷ ps) z = λ i. zone_of entries book st k b p z.0 i ++ zones_of entries book st ks ps z.1 i
 
 -- what is written is what the room keeps
-pub all_are_kept : (room : List ℕ) (zones : List (List ℕ)) (entries : List (MeetingKey × Meeting)) (book : Book) → Stands entries book → IsDistinct same_key (keys_of entries) → (events : List (List (List ℕ)))
+pub all_are_kept : (room : List ℕ) (zones : List (List ℕ)) (entries : List (MeetingKey × Meeting)) (book : Book) → Represents entries book → IsDistinct same_key (keys_of entries) → (events : List (List (List ℕ)))
     → AllZip (IsEntryEvent room zones) (all_kept (values_of entries)) events
     → (kept : List Entry) × AreKept book kept × AllZip (IsKeptEvent room zones) kept events × (flat_map zone_kept kept ≡ flat_map zone_of_entry (all_kept (values_of entries)))
 all_are_kept room zones entries book st distinct events z =

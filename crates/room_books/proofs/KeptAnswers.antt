@@ -19,7 +19,7 @@ use Rattle.profile.specs.series.Zones.{Zone}
 use Rattle.profile.specs.series.ZoneTexts.{SaysZone}
 use Rattle.std.proofs.lemmas.Option.{same_Some}
 use Rattle.profile.specs.events.Confirmed.{is_kept}
-use Rattle.profile.specs.events.Properties.{Says, BothOrNeither, StandsAtMostOnce, IsAddressLine, IsUidLine, IsSequenceLine, is_of, lines_named}
+use Rattle.profile.specs.events.Properties.{Says, BothOrNeither, OccursAtMostOnce, IsAddressLine, IsUidLine, IsSequenceLine, is_of, lines_named}
 use Rattle.profile.specs.rooms.Messages as messages
 use Rattle.profile.specs.rooms.Messages.{Content, SpellsMessage, IsPart, IsBody, IsContent, TellsSlot, cancels, own_revision, raised_to, slot_named, names_room}
 use Rattle.profile.specs.rooms.Revisions.{Part, Slot, Whole, At, Revision, Body, Set, Absent, Cancelled, revision_cmp}
@@ -84,17 +84,17 @@ pub record ReadsBack (zones : List (List ℕ)) (lines : Lines) (organiser uid : 
 -- the line of a value that is there
 record Given {V : Type 0} (R : List ℕ → V → Type 0) (lines : Lines) (value : V) : Type 0 where
   line : List ℕ
-  stands : Contains lines line
+  present : Contains lines line
   is : R line value
 
 given : {V : Type 0} (name : List ℕ) (needed : Bool) (R : List ℕ → V → Type 0) (lines : Lines) (value : V) → Says name needed R lines (Some value) → Given R lines value
 given name needed R lines value s = of_line s.line s.once s.is
   where
-    of_line : (line : Option (List ℕ)) → StandsAtMostOnce name lines line → BothOrNeither R line (Some value) → Given R lines value
+    of_line : (line : Option (List ℕ)) → OccursAtMostOnce name lines line → BothOrNeither R line (Some value) → Given R lines value
     of_line None once is = absurd is
     of_line (Some line) once is = record {
       line = line;
-      stands = (filter_at (is_of name) lines line (subst (λ (l : Lines). Contains l line) (sym once) (in_head line []))).0;
+      present = (filter_at (is_of name) lines line (subst (λ (l : Lines). Contains l line) (sym once) (in_head line []))).0;
       is = is;
     }
 
@@ -215,9 +215,9 @@ named room content part a =
     let u = given (codes "UID") true IsUidLine m.lines a.event.uid m.says.uid in
     let is : part.organiser ≡ lower_case (line_value o.line) = o.is.1 in
     record {
-      organiser = subst IsTextAddress (sym is) (text_address (line_value o.line) o.is.0 (m.clean o.line o.stands).utf8);
+      organiser = subst IsTextAddress (sym is) (text_address (line_value o.line) o.is.0 (m.clean o.line o.present).utf8);
       lower = subst (λ (x : List ℕ). lower_case x ≡ x) (sym is) (lower_twice (line_value o.line));
-      uid = subst IsTextValue (sym (a.is_part.uid ∙ u.is.0)) (text_value (line_value u.line) (m.clean u.line u.stands));
+      uid = subst IsTextValue (sym (a.is_part.uid ∙ u.is.0)) (text_value (line_value u.line) (m.clean u.line u.present));
       is_uid = subst IsUid (sym a.is_part.uid) u.is.1;
       small = subst (λ (r : Revision). r.sequence < 2 ^ 31) (sym a.is_part.revision)
           (small_raised a.given.meeting.master (own_revision a.event) (small_of a.event a.among)
@@ -238,12 +238,12 @@ asked_room room content part a named =
     let event = a.event in
     let found = any_at (λ x. bytes_eq x.address room) event.attendees named in
     let line = zip_from IsAttendee (lines_named (codes "ATTENDEE") m.lines) event.attendees found.0 m.says.attendees found.1 in
-    let stands = (filter_at (is_of (codes "ATTENDEE")) m.lines line.0 line.1).0 in
+    let present = (filter_at (is_of (codes "ATTENDEE")) m.lines line.0 line.1).0 in
     let value = line_value line.0 in
     let address : IsAddress value = line.2.address.0 in
     let is : room ≡ lower_case value = sym ((bytes_eq-Decides found.0.address room).0 found.2) ∙ line.2.address.1 in
     record {
-      text = subst IsTextAddress (sym is) (text_address value address (m.clean line.0 stands).utf8);
+      text = subst IsTextAddress (sym is) (text_address value address (m.clean line.0 present).utf8);
       lower = subst (λ (x : List ℕ). lower_case x ≡ x) (sym is) (lower_twice value);
     }
 

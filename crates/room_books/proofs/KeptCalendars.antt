@@ -25,9 +25,9 @@ use Rattle.itip_order.proofs.Lasting.{view_taken}
 use Rattle.itip_order.proofs.Lists.{in_head, in_tail, any_at, any_from}
 use Rattle.itip_order.proofs.Registers.{same_part_is, same_part_refl}
 use Rattle.itip_messages.proofs.ContentLines.{LinesBack, ReadsLines, no_method}
-use Rattle.clash_cert.proofs.MakingLemmas.{stands}
+use Rattle.clash_cert.proofs.MakingLemmas.{certificate_holds}
 use Rattle.room_books.specs.BySlot.{Reordered}
-use Rattle.room_books.specs.Standing.{Pairwise}
+use Rattle.room_books.specs.Representation.{Pairwise}
 use Rattle.room_books.proofs.AcceptedSlots.{slot_same}
 use Rattle.room_books.proofs.KeptAnswers.{IsAskedFor, shows_back, hides_back, set_body, set_zone, asked_room, IsRoom}
 use Rattle.room_books.proofs.KeptEntries.{SamePlace, EntriesDiffer, place_there, place_from, meeting_from, claims_confirmed, claims_kept, claims_same, entries_differ, entry_placed, of_claims}
@@ -108,7 +108,7 @@ module _ (room : List ℕ) (book : Book) (k : KeepsAll room book) where
           entry_is = record { meeting = b.back.meeting; slot = b.back.slot_is; state = (b.kept, b.books) };
         }
     one_back first (Hidden part) lines is (hiding, h, event) =
-        let a = k.taken part (view_taken book.taken part is.stands) in
+        let a = k.taken part (view_taken book.taken part is.viewed) in
         let b = hides_back room zones a.0 part lines hiding a.1 (room_asked first is.whole is.kept) h event in
         record {
           own = b.back.own;
@@ -215,7 +215,7 @@ module _ (room : List ℕ) (book : Book) (k : KeepsAll room book) (entries : Lis
   -- the part of an entry was taken, and is in the view
   in_the_view : (first : Part) (entry : Entry) → IsEntry book first entry → in_view book.taken (part_kept entry) ≡ true
   in_the_view first (Shown claim) is = subst (λ (c : Claim). in_view book.taken c.part ≡ true) is.to (and_parts _ _ is.confirms).1
-  in_the_view first (Hidden part) is = is.stands
+  in_the_view first (Hidden part) is = is.viewed
 
   -- beside a whole that is kept, each other part of its meeting in the view is an entry
   other_entry : (claim : Claim) → Contains entries (Shown claim) → is_whole claim.part ≡ true → (other : Part) → in_view book.taken other ≡ true → same_meeting claim.part other ≡ true → is_whole other ≡ false
@@ -234,7 +234,7 @@ module _ (room : List ℕ) (book : Book) (k : KeepsAll room book) (entries : Lis
           Hidden other,
           p.all (Hidden other) (record {
             of_meeting = of_first;
-            stands = seen;
+            viewed = seen;
             instance = instance;
             not_accepted = λ x is same.
                 both_ways _ none (any_from accepts book.answers is.answer is.given (and_from _ _ is.confirms (ap (λ (c : Claim). same_part c.part other) is.to ∙ ap (λ (q : Part). same_part q other) same ∙ same_part_refl other)));
@@ -261,8 +261,8 @@ module _ (room : List ℕ) (book : Book) (k : KeepsAll room book) (entries : Lis
     at_slot b own none = ap (λ (k : Key). k.slot) (master_alone said b none own).key
 
     -- what replaces an instance of the whole
-    stands_for : (b : Booked) → IsInstance (alone said) b → is_master said ≡ true → IsReplaced saids said b.start → is_hidden book.taken claim.part b ≡ true
-    stands_for b own master r =
+    replaces : (b : Booked) → IsInstance (alone said) b → is_master said ≡ true → IsReplaced saids said b.start → is_hidden book.taken claim.part b ≡ true
+    replaces b own master r =
         let found = zip_to (SaysEntry room) saids entries r.override z r.among in
         let none = master_whole said master in
         let whole : claim.part.slot ≡ Whole = sym s.slot ∙ ap slot_named none in
@@ -289,8 +289,8 @@ module _ (room : List ℕ) (book : Book) (k : KeepsAll room book) (entries : Lis
     }
 
     -- and something replaces it
-    stood_for : (b : Booked) → IsInstance (alone said) b → is_hidden book.taken claim.part b ≡ true → IsReplaced saids said b.start
-    stood_for b own h =
+    is_replaced : (b : Booked) → IsInstance (alone said) b → is_hidden book.taken claim.part b ≡ true → IsReplaced saids said b.start
+    is_replaced b own h =
         let both = and_parts _ _ h in
         let found = any_at (λ other. in_view book.taken other && same_place other (record claim.part { slot = At b.key.slot })) book.taken both.1 in
         let seen = and_parts _ _ found.2 in
@@ -302,7 +302,7 @@ module _ (room : List ℕ) (book : Book) (k : KeepsAll room book) (entries : Lis
         replaced_there b event.0 entry.0 found.0 event.1 event.2 entry.2 place (at_slot b own none)
 
     hiding : IsHiding saids said (is_hidden book.taken claim.part)
-    hiding = record { stands = stood_for; hides = stands_for; master = λ b h. ap (λ (o : Option ℤ). not (is_some o)) (whole_said b h) }
+    hiding = record { replaced = is_replaced; hides = replaces; master = λ b h. ap (λ (o : Option ℤ). not (is_some o)) (whole_said b h) }
 
   left_one : (entry : Entry) → Contains entries entry → (said : Event) → SaysEntry room said entry → AreSingles room saids said (singles_of book.taken entry)
   left_one (Shown claim) c said s = singles_left saids said (is_hidden book.taken claim.part) (hiding claim c said s) room claim.singles s.state.0 s.state.1.0
@@ -472,7 +472,7 @@ keeps_pass back reads zone_back room book keeps calendar c =
     record {
       confirmed = s.all;
       spells = s.spells;
-      stands = stands s.all (record { singles = length (confirmed_singles book); series = length (confirmed_series book) }) (omega (arith, few.singles), omega (arith, few.series)) (sym s.singles) (sym s.series)
+      holds = certificate_holds s.all (record { singles = length (confirmed_singles book); series = length (confirmed_series book) }) (omega (arith, few.singles), omega (arith, few.series)) (sym s.singles) (sym s.series)
           (λ a b t x y clash. keeps.sound.good.clear a b t ((s.exact a).0 x) ((s.exact b).0 y) clash);
     }
 

@@ -14,7 +14,7 @@ use Rattle.cal_events.proofs.InOneOrder.{head_pairs, tail_pairs}
 use Rattle.itip_order.proofs.Lists.{in_cons, in_head, none_in_nil, filter_at, filter_from}
 use Rattle.itip_order.proofs.Order.{is_eq_true, then_equal, slot_total, place_total}
 use Rattle.room_books.specs.BySlot.{Reordered}
-use Rattle.room_books.specs.Standing.{Pairwise}
+use Rattle.room_books.specs.Representation.{Pairwise}
 use Rattle.room_books.proofs.AcceptedSlots.{slot_same}
 use Rattle.room_books.proofs.KeptMeetings.{Apart, firsts_apart, firsts_cover, meeting_sym, meeting_trans}
 use Rattle.room_books.proofs.Loops.{zip_from, zip_to}

@@ -41,10 +41,10 @@ hidden_event uid instant sequence organiser stamp room = record {
 pub hidden_says : (uid_is : List ℕ) (instant : ℤ) (number : ℕ) (uid recurrence sequence stamp start organiser room : List ℕ) (stamped : ℤ) → SpellPart uid_is number uid sequence stamp organiser room stamped → SpellsStamp recurrence instant → SpellsStamp start instant → IsStart instant
     → (object : Tree) → SaysEvent object None (hidden_own uid recurrence sequence stamp start organiser room) (hidden_event uid_is instant number organiser stamped room)
 hidden_says uid_is instant number uid recurrence sequence stamp start organiser room stamped s at begins dated object = record {
-  uid = record { line = Some (codes "UID:" ++ uid); once = refl; stands = λ _. refl; is = (s.uid_there, s.is_uid) };
-  organiser = record { line = Some (codes "ORGANIZER:" ++ organiser); once = refl; stands = λ _. refl; is = (s.organised, sym s.lower) };
-  stamp = record { line = Some (codes "DTSTAMP:" ++ stamp); once = refl; stands = λ _. refl; is = s.stamped_is };
-  sequence = (Some number, record { line = Some (codes "SEQUENCE:" ++ sequence); once = refl; stands = λ _. refl; is = s.numbered }, refl);
+  uid = record { line = Some (codes "UID:" ++ uid); once = refl; present = λ _. refl; is = (s.uid_there, s.is_uid) };
+  organiser = record { line = Some (codes "ORGANIZER:" ++ organiser); once = refl; present = λ _. refl; is = (s.organised, sym s.lower) };
+  stamp = record { line = Some (codes "DTSTAMP:" ++ stamp); once = refl; present = λ _. refl; is = s.stamped_is };
+  sequence = (Some number, record { line = Some (codes "SEQUENCE:" ++ sequence); once = refl; present = λ _. refl; is = s.numbered }, refl);
   status = (Some (codes "STATUS:CANCELLED"), refl, refl);
   times = inl (record {
     line = codes "DTSTART:" ++ start;
@@ -59,9 +59,9 @@ hidden_says uid_is instant number uid recurrence sequence stamp start organiser 
     most = omega arith;
     in_dates = (dated.0, dated.0, dated.1);
   });
-  rule = record { text = None; spells = record { line = None; once = refl; stands = λ h. absurd (false≢true h); is = tt }; gives = tt };
+  rule = record { text = None; spells = record { line = None; once = refl; present = λ h. absurd (false≢true h); is = tt }; gives = tt };
   occurrences = record {
-    is = record { line = Some (codes "RECURRENCE-ID:" ++ recurrence); once = refl; stands = λ h. absurd (false≢true h); is = (refl, (None, instant, (refl, at), utc_means instant, (dated.0, dated.0, dated.1))) };
+    is = record { line = Some (codes "RECURRENCE-ID:" ++ recurrence); once = refl; present = λ h. absurd (false≢true h); is = (refl, (None, instant, (refl, at), utc_means instant, (dated.0, dated.0, dated.1))) };
     adds = (tt, omega arith);
     inside = tt;
     takes = (tt, omega arith);

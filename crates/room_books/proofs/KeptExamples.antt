@@ -168,17 +168,17 @@ gives = record { day = 739_685; second = 32_400; on = (omega arith, refl); last 
 says_rule : SaysEventRule own_lines times (Some rule)
 says_rule = record {
   text = Some two_days;
-  spells = record { line = Some (codes "RRULE:FREQ=DAILY;UNTIL=20250311"); once = refl; stands = λ h. absurd (false≢true h); is = spells_two_days };
+  spells = record { line = Some (codes "RRULE:FREQ=DAILY;UNTIL=20250311"); once = refl; present = λ h. absurd (false≢true h); is = spells_two_days };
   gives = gives;
 }
 
 says : (object : Tree) → SaysEvent object (Some Request) own_lines event
 unfolding unescaped
 says object = record {
-  uid = record { line = Some (codes "UID:a"); once = refl; stands = λ _. refl; is = (refl, (omega arith, omega arith)) };
-  organiser = record { line = Some (codes "ORGANIZER:mailto:ann@example.com"); once = refl; stands = λ _. refl; is = (ann, refl) };
-  stamp = record { line = Some (codes "DTSTAMP:20250301T120000Z"); once = refl; stands = λ _. refl; is = stamp_written _ _ stamp };
-  sequence = (None, record { line = None; once = refl; stands = λ h. absurd (false≢true h); is = tt }, refl);
+  uid = record { line = Some (codes "UID:a"); once = refl; present = λ _. refl; is = (refl, (omega arith, omega arith)) };
+  organiser = record { line = Some (codes "ORGANIZER:mailto:ann@example.com"); once = refl; present = λ _. refl; is = (ann, refl) };
+  stamp = record { line = Some (codes "DTSTAMP:20250301T120000Z"); once = refl; present = λ _. refl; is = stamp_written _ _ stamp };
+  sequence = (None, record { line = None; once = refl; present = λ h. absurd (false≢true h); is = tt }, refl);
   status = (None, refl, refl);
   times = inl (record {
     line = codes "DTSTART:20250310T090000Z";
@@ -195,7 +195,7 @@ says object = record {
   });
   rule = says_rule;
   occurrences = record {
-    is = record { line = None; once = refl; stands = λ h. absurd (false≢true h); is = tt };
+    is = record { line = None; once = refl; present = λ h. absurd (false≢true h); is = tt };
     adds = (tt, omega arith);
     inside = tt;
     takes = (tt, omega arith);
@@ -431,12 +431,12 @@ second_start = (
 says_gone : (object : Tree) → SaysEvent object (Some Cancel) gone_lines gone
 unfolding unescaped
 says_gone object = record {
-  uid = record { line = Some (codes "UID:a"); once = refl; stands = λ _. refl; is = (refl, (omega arith, omega arith)) };
-  organiser = record { line = Some (codes "ORGANIZER:mailto:ann@example.com"); once = refl; stands = λ _. refl; is = (ann, refl) };
-  stamp = record { line = Some (codes "DTSTAMP:20250301T120000Z"); once = refl; stands = λ _. refl; is = stamp_written _ _ stamp };
+  uid = record { line = Some (codes "UID:a"); once = refl; present = λ _. refl; is = (refl, (omega arith, omega arith)) };
+  organiser = record { line = Some (codes "ORGANIZER:mailto:ann@example.com"); once = refl; present = λ _. refl; is = (ann, refl) };
+  stamp = record { line = Some (codes "DTSTAMP:20250301T120000Z"); once = refl; present = λ _. refl; is = stamp_written _ _ stamp };
   sequence = (
     Some 1,
-    record { line = Some (codes "SEQUENCE:1"); once = refl; stands = λ h. absurd (false≢true h); is = (codes "1", inl refl, (omega arith, (omega arith, tt), refl), omega arith) },
+    record { line = Some (codes "SEQUENCE:1"); once = refl; present = λ h. absurd (false≢true h); is = (codes "1", inl refl, (omega arith, (omega arith, tt), refl), omega arith) },
     refl,
   );
   status = (None, refl, refl);
@@ -455,12 +455,12 @@ says_gone object = record {
       start = refl;
     },
   );
-  rule = record { text = None; spells = record { line = None; once = refl; stands = λ h. absurd (false≢true h); is = tt }; gives = refl };
+  rule = record { text = None; spells = record { line = None; once = refl; present = λ h. absurd (false≢true h); is = tt }; gives = refl };
   occurrences = record {
     is = record {
       line = Some (codes "RECURRENCE-ID:20250311T090000Z");
       once = refl;
-      stands = λ h. absurd (false≢true h);
+      present = λ h. absurd (false≢true h);
       is = (
         refl,
         (None, pos 1_741_683_600, (refl, stamp_written _ _ second_start), utc_means (pos 1_741_683_600), (omega (arith, ints), omega (arith, ints), omega (arith, ints))),
@@ -644,7 +644,7 @@ all_kept = record {
     is_hidden : IsEntry both_taken part (Hidden gone_part)
     is_hidden = record {
       of_meeting = refl;
-      stands = refl;
+      viewed = refl;
       instance = refl;
       not_accepted = λ c k same. false≢true (ap is_whole (sym same ∙ ap (λ (x : Claim). x.part) (kept_claim c k)));
       whole = claim;
@@ -661,7 +661,7 @@ all_kept = record {
     of_them : (entry : Entry) → IsEntry both_taken part entry → Contains (Shown claim ∷ Hidden gone_part ∷ []) entry
     of_them (Shown other) k = subst (λ (c : Claim). Contains (Shown claim ∷ Hidden gone_part ∷ []) (Shown c)) (sym (kept_claim other k)) (in_head (Shown claim) (Hidden gone_part ∷ []))
     of_them (Hidden other) k =
-        subst (λ (p : Part). Contains (Shown claim ∷ Hidden gone_part ∷ []) (Hidden p)) (sym (of_instance other (view_taken both_taken.taken other k.stands) k.instance))
+        subst (λ (p : Part). Contains (Shown claim ∷ Hidden gone_part ∷ []) (Hidden p)) (sym (of_instance other (view_taken both_taken.taken other k.viewed) k.instance))
         (in_tail (Shown claim) (Hidden gone_part ∷ []) (Hidden gone_part) (in_head (Hidden gone_part) []))
 
 a_kept_calendar : IsKeptCalendar room both_taken (written (opening_lines None) ++ written (kept_lines ++ hidden_lines ++ codes "END:VCALENDAR" ∷ []))

@@ -182,7 +182,7 @@ module _ (event : Event) (number : ℕ) (organiser : List ℕ) (stamp : ℤ) (ro
 
 -- where what hides an instance of the event is what replaces it
 pub record IsHiding (saids : List Event) (said : Event) (hidden : Booked → Bool) : Type 0 where
-  pub stands : (b : Booked) → IsInstance (alone said) b → hidden b ≡ true → IsReplaced saids said b.start
+  pub replaced : (b : Booked) → IsInstance (alone said) b → hidden b ≡ true → IsReplaced saids said b.start
   pub hides : (b : Booked) → IsInstance (alone said) b → is_master said ≡ true → IsReplaced saids said b.start → hidden b ≡ true
   pub master : (b : Booked) → hidden b ≡ true → is_master said ≡ true
 
@@ -191,7 +191,7 @@ module _ (saids : List Event) (said : Event) (hidden : Booked → Bool) (h : IsH
   among_others b is shown = record { is = is; shown = λ master r. true≢false (sym (h.hides b is master r) ∙ not-true _ shown) }
 
   not_hidden_there : (b : Booked) → IsInstanceAmong saids said b → not (hidden b) ≡ true
-  not_hidden_there b s = not_from_false _ (false_from_ne_true _ (λ t. s.shown (h.master b t) (h.stands b s.is t)))
+  not_hidden_there b s = not_from_false _ (false_from_ne_true _ (λ t. s.shown (h.master b t) (h.replaced b s.is t)))
 
   -- as singles
   pub singles_left : (room : List ℕ) (singles : List Booked) → is_kept room said ≡ true → AreApart said singles → AreSingles room saids said (filter (λ b. not (hidden b)) singles)

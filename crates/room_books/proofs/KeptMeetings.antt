@@ -12,7 +12,7 @@ use Rattle.room_books.specs.Keeping.{kept}
 use Rattle.itip_order.proofs.Lists.{in_cons, in_head, in_tail, none_in_nil, filter_at, filter_from}
 use Rattle.itip_order.proofs.Order.{meeting_total, is_eq_true}
 use Rattle.room_books.proofs.Arrivals.{meeting_congr}
-use Rattle.room_books.specs.Standing.{Pairwise}
+use Rattle.room_books.specs.Representation.{Pairwise}
 use Rattle.room_books.proofs.Pairs.{pairs_from, pairs_append, pairs_filter, filter_through, filter_and, flat_at, flat_same, pairs_map}
 
 -- ---- meetings

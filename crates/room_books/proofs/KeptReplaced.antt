@@ -87,17 +87,17 @@ is_same_meeting a b e = and_from _ _ ((bytes_eq-Decides a.0 b.0).1 (ap (λ (m : 
 
 module _ (event : Event) where
   -- the event replaces this instant
-  abbrev StandsFor : Event → ℤ → Type 0
-  StandsFor other t = (meeting_said other ≡ meeting_said event) × (other.recurrence ≡ Some t)
+  abbrev Replaces : Event → ℤ → Type 0
+  Replaces other t = (meeting_said other ≡ meeting_said event) × (other.recurrence ≡ Some t)
 
   -- it replaces one, or none
-  stands_for : (other : Event) → ((t : ℤ) × StandsFor other t) ⊎ ((t : ℤ) → StandsFor other t → ⊥)
-  stands_for other = by other.recurrence refl
+  replaces : (other : Event) → ((t : ℤ) × Replaces other t) ⊎ ((t : ℤ) → Replaces other t → ⊥)
+  replaces other = by other.recurrence refl
     where
       test : Bool
       test = bytes_eq (meeting_said other).0 (meeting_said event).0 && bytes_eq (meeting_said other).1 (meeting_said event).1
 
-      by : (r : Option ℤ) → other.recurrence ≡ r → ((t : ℤ) × StandsFor other t) ⊎ ((t : ℤ) → StandsFor other t → ⊥)
+      by : (r : Option ℤ) → other.recurrence ≡ r → ((t : ℤ) × Replaces other t) ⊎ ((t : ℤ) → Replaces other t → ⊥)
       by None e = inr (λ t s. none (sym e ∙ s.1))
         where
           none : {t : ℤ} → None ≡ Some t → ⊥
@@ -108,7 +108,7 @@ module _ (event : Event) where
       ]
 
   replaced_more : (other : Event) (events : List Event) (xs : List ℤ) → AreReplaced events event xs → (ys : List ℤ) × AreReplaced (other ∷ events) event ys
-  replaced_more other events xs are = by (stands_for other)
+  replaced_more other events xs are = by (replaces other)
     where
       later : (t : ℤ) → IsReplaced events event t → IsReplaced (other ∷ events) event t
       later t r = record { override = r.override; among = in_tail other events r.override r.among; of = r.of; is = r.is }
@@ -116,7 +116,7 @@ module _ (event : Event) where
       at : (t : ℤ) → Contains xs t → IsReplaced events event t
       at t c = All-contains (IsReplaced events event) xs t are.each c
 
-      by : ((t : ℤ) × StandsFor other t) ⊎ ((t : ℤ) → StandsFor other t → ⊥) → (ys : List ℤ) × AreReplaced (other ∷ events) event ys
+      by : ((t : ℤ) × Replaces other t) ⊎ ((t : ℤ) → Replaces other t → ⊥) → (ys : List ℤ) × AreReplaced (other ∷ events) event ys
       by (inl (t, (of, is))) =
           let put = put_in t xs are.ascending in (
             put.list,
@@ -141,7 +141,7 @@ module _ (event : Event) where
           each = λ i d l. later (get_or xs i d) (are.each i d l);
           ascending = are.ascending;
           all = λ u r. elim (in_cons other events r.override r.among) [
-            | inl here ↦ absurd (none u (subst (λ (e : Event). StandsFor e u) (sym here) (r.of, r.is)))
+            | inl here ↦ absurd (none u (subst (λ (e : Event). Replaces e u) (sym here) (r.of, r.is)))
             | inr there ↦ are.all u (record { override = r.override; among = there; of = r.of; is = r.is })
           ];
         },

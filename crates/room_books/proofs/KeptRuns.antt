@@ -19,7 +19,7 @@ use Rattle.room_books.proofs.Views.{view_back}
 use Rattle.room_books.proofs.Runs.{IsSound, step_sound, new_answer, runs_good}
 use Rattle.room_books.proofs.KeptAnswers.{IsAsked, IsAskedFor}
 use Rattle.room_books.proofs.SlotsApart.{OtherPart, new_once}
-use Rattle.room_books.specs.Standing.{Pairwise}
+use Rattle.room_books.specs.Representation.{Pairwise}
 use Rattle.room_books.proofs.Pairs.{pairs_append, map_at}
 
 -- ---- what a delivery claims

@@ -53,7 +53,7 @@ pub mod OwnSteps
 pub mod Beside
 pub mod Afters
 pub mod MeetingSteps
-pub mod Stands
+pub mod Representing
 pub mod PutIn
 pub mod Touching
 pub mod Splits

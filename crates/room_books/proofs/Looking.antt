@@ -16,7 +16,7 @@ use Rattle.profile.specs.rooms.Revisions as revisions
 use Rattle.profile.specs.rooms.Revisions.{Part, Whole, At, slot_cmp}
 use Rattle.room_books.specs.declared.meeting.Given.{Given}
 use Rattle.room_books.specs.BySlot.{AreBySlot, slot_in}
-use Rattle.room_books.specs.Standing.{Pairwise}
+use Rattle.room_books.specs.Representation.{Pairwise}
 use Rattle.room_books.specs.Takings.{IsLeftAlone, IsStill, LeavesAll}
 use Rattle.room_books.specs.Touching.{is_touched, IsUntouched}
 use Rattle.room_books.proofs.AcceptedSlots.{slot_from, slot_same}

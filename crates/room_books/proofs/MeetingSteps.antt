@@ -6,7 +6,7 @@ use Rattle.std.specs.List.{AllZip, Contains, IsDistinct}
 use Rattle.std.specs.Map.{keys_of, lookup}
 use Rattle.std.proofs.lemmas.Bool.{true≢false, lt-ltb}
 use Rattle.std.proofs.lemmas.List.Elements.{Contains-append_cases}
-use Rattle.itip_order.specs.Registers.{StandsFor}
+use Rattle.itip_order.specs.Registers.{RepresentsHistory}
 use Rattle.itip_order.proofs.Lists.{none_in_nil}
 use Rattle.profile.specs.checker.Instances.{Booked}
 use Rattle.profile.specs.text.Values.{IsClockSeconds}
@@ -26,7 +26,7 @@ use Rattle.room_books.specs.Views.{same_key, all_singles, all_series, beside, jo
 use Rattle.itip_order.specs.declared.part.Slot.{Slot}
 use Rattle.room_books.specs.Touching.{AllTouch}
 use Rattle.room_books.specs.BySlot.{Reordered}
-use Rattle.room_books.specs.Standing.{is_of, book_of, AreFitting, IsFitting, IsFittingSeries, AreGiven, IsGiven, IsMeetingAfter, KeepsAll, Meets, Stands}
+use Rattle.room_books.specs.Representation.{is_of, book_of, AreFitting, IsFitting, IsFittingSeries, AreGiven, IsGiven, IsMeetingAfter, KeepsAll, Meets, Represents}
 use Rattle.room_books.proofs.Afters.{confirmed_asked, recurring_asked, outcome_dated, meets_after}
 use Rattle.room_books.proofs.Beside.{beside_same}
 use Rattle.room_books.proofs.Runs.{new_answer}
@@ -36,7 +36,7 @@ use Rattle.room_books.proofs.Pairs.{pairs_filter}
 use Rattle.room_books.proofs.SameSeries.{decides_alike}
 use Rattle.room_books.proofs.SlotsApart.{OtherPart}
 
-module _ (k : MeetingKey) (entries : List (MeetingKey × Meeting)) (distinct : IsDistinct same_key (keys_of entries)) (book : Book) (st : Stands entries book)
+module _ (k : MeetingKey) (entries : List (MeetingKey × Meeting)) (distinct : IsDistinct same_key (keys_of entries)) (book : Book) (st : Represents entries book)
     (asking_all : List Asking) (fit : AreFitting k (claims_said asking_all)) (moment : ℤ) where
   abbrev claims : List Claim
   claims = claims_said asking_all
@@ -73,7 +73,7 @@ module _ (k : MeetingKey) (entries : List (MeetingKey × Meeting)) (distinct : I
       let f : IsFittingSeries found.0.claim found.1 = subst (λ (o : Option Whole). IfSome o (IsFittingSeries found.0.claim)) found.3 (fits found.0 found.2).recurs in
       (f.starts b found.4, subst IsClockSeconds (sym (f.slot b found.4)) (f.starts b found.4))
 
-  module _ (part : Part) (own_part : is_of k part ≡ true) (some : 0 < length asking_all) (meeting : Meeting) (s : StandsFor meeting.held t) (kept : List Given)
+  module _ (part : Part) (own_part : is_of k part ≡ true) (some : 0 < length asking_all) (meeting : Meeting) (s : RepresentsHistory meeting.held t) (kept : List Given)
       (slots : List Slot) (touches : AllTouch slots (parts_of claims)) (keeps : KeepsAll part slots (lookup (same_key k) entries) meeting.held kept) (asking : List (Bor Asking)) (are : AreAsked own.taken t asking_all asking) where
     kept_zip : AreGiven k t (stayed k own (own_of k entries book st) claims fit moment) kept
     kept_zip = keeps own k (parts_of claims) own_part (own_of k entries book st) (st.meets k) s touches

@@ -15,14 +15,14 @@ use Rattle.std.proofs.lemmas.Slice.Eq.{bytes_eq-Decides}
 use Rattle.ical_values.specs.Octets.{address_octets, text_octets}
 use Rattle.profile.specs.checker.Instances.{Booked}
 use Rattle.profile.specs.events.Meetings.{Meeting as Whole}
-use Rattle.profile.specs.rooms.Revisions.{Part, octets_cmp, At, slot_cmp, meeting_cmp, same_place, is_whole, is_greatest, implies, allows, in_view, same_meeting, stands_beside}
+use Rattle.profile.specs.rooms.Revisions.{Part, octets_cmp, At, slot_cmp, meeting_cmp, same_place, is_whole, is_greatest, implies, allows, in_view, same_meeting, stays_beside}
 use Rattle.profile.specs.rooms.Rooms.{Answer, Recurring, is_accept, is_confirmed, is_hidden, left_of, recurring_in, singles_confirmed, series_confirmed}
 use Rattle.itip_order.proofs.Lists.{all_at, all_from, any_at, any_from, in_cons, in_head, in_tail, none_in_nil, filter_at, filter_from}
 use Rattle.itip_order.proofs.Order.{is_eq_true, then_equal}
 use Rattle.itip_order.proofs.Registers.{greatest_at, greatest_from, eq_refl, implies_at, implies_from}
 use Rattle.room_books.specs.declared.meeting.MeetingKey.{MeetingKey}
 use Rattle.room_books.specs.Views.{same_key}
-use Rattle.room_books.specs.Standing.{is_of, of_meeting}
+use Rattle.room_books.specs.Representation.{is_of, of_meeting}
 use Rattle.room_books.proofs.Pairs.{flat_at, flat_same}
 
 pub is_of_parts : (k : MeetingKey) (p : Part) → is_of k p ≡ true → (address_octets k.organiser ≡ p.organiser) × (text_octets k.uid ≡ p.uid)
@@ -86,11 +86,11 @@ greatest_of k h p e = same_tests _ _
 -- a Whole of another meeting leaves a part in the view
 allowed_from : (k : MeetingKey) (p w : Part) → is_of k p ≡ true → (is_of k w ≡ true → allows w p ≡ true) → allows w p ≡ true
 allowed_from k p w e f = elim (cases_Bool (is_whole p)) [
-  | inl whole ↦ or_left (is_whole p) (implies (is_whole w && same_meeting w p) (stands_beside w p)) whole
-  | inr single ↦ or_right (is_whole p) (implies (is_whole w && same_meeting w p) (stands_beside w p)) (implies_from (is_whole w && same_meeting w p) (stands_beside w p) (λ both.
-      elim (or_cases (is_whole p) (implies (is_whole w && same_meeting w p) (stands_beside w p)) (f (meeting_of_key k p w (is_eq_true _ (and_parts (is_whole w) (same_meeting w p) both).1) e))) [
+  | inl whole ↦ or_left (is_whole p) (implies (is_whole w && same_meeting w p) (stays_beside w p)) whole
+  | inr single ↦ or_right (is_whole p) (implies (is_whole w && same_meeting w p) (stays_beside w p)) (implies_from (is_whole w && same_meeting w p) (stays_beside w p) (λ both.
+      elim (or_cases (is_whole p) (implies (is_whole w && same_meeting w p) (stays_beside w p)) (f (meeting_of_key k p w (is_eq_true _ (and_parts (is_whole w) (same_meeting w p) both).1) e))) [
         | inl whole ↦ absurd (true≢false (sym whole ∙ single))
-        | inr rest ↦ implies_at (is_whole w && same_meeting w p) (stands_beside w p) rest both
+        | inr rest ↦ implies_at (is_whole w && same_meeting w p) (stays_beside w p) rest both
       ]))
 ]
 

@@ -4,7 +4,7 @@ use Rattle.std.specs.List.{Contains}
 use Rattle.itip_order.proofs.Lists.{in_cons, in_head, in_tail, none_in_nil}
 use Rattle.room_books.specs.BySlot.{Reordered}
 use Rattle.room_books.specs.BySlot.Reordered.{re_none, re_more, re_then}
-use Rattle.room_books.specs.Standing.{Pairwise}
+use Rattle.room_books.specs.Representation.{Pairwise}
 use Rattle.room_books.proofs.Reordering.{re_middle, re_into, re_pairs, re_in}
 
 module _ {X : Type 0} where

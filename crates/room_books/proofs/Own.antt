@@ -5,14 +5,14 @@ use Rattle.std.proofs.lemmas.Bool.{true≢false, and_parts, and_from, or_right, 
 use Rattle.std.proofs.lemmas.List.Elements.{Contains-append_left, Contains-append_right, Contains-append_cases, Contains-push, filter-append}
 use Rattle.std.proofs.lemmas.List.{take_more}
 use Rattle.itip_order.specs.Parts.{slot_of}
-use Rattle.itip_order.specs.Registers.{StandsFor, at_slot}
+use Rattle.itip_order.specs.Registers.{RepresentsHistory, at_slot}
 use Rattle.itip_order.proofs.Lasting.{view_one}
 use Rattle.itip_order.proofs.Lists.{in_cons, in_head, in_tail, none_in_nil, filter_at, all_at, all_from, any_at, any_from}
 use Rattle.itip_order.proofs.Order.{slot_same, is_eq_true, then_equal}
 use Rattle.itip_order.proofs.Registers.{place_sym, place_trans, greatest_at, greatest_from, implies_at, implies_from}
 use Rattle.profile.specs.checker.Instances.{Booked}
 use Rattle.profile.specs.rooms.Revisions as Revision
-use Rattle.profile.specs.rooms.Revisions.{Part, Whole, At, in_view, same_place, is_whole, is_greatest, implies, allows, slot_cmp, same_meeting, stands_beside}
+use Rattle.profile.specs.rooms.Revisions.{Part, Whole, At, in_view, same_place, is_whole, is_greatest, implies, allows, slot_cmp, same_meeting, stays_beside}
 use Rattle.profile.specs.rooms.Rooms.{Answer, Book, Recurring, is_accept, is_confirmed, is_hidden, left_of, recurring_in, singles_confirmed, series_confirmed}
 use Rattle.room_books.specs.declared.meeting.MeetingKey.{MeetingKey}
 use Rattle.room_books.specs.declared.kept.Meeting.{Meeting}
@@ -28,7 +28,7 @@ use Rattle.itip_order.specs.declared.part.Slot.{Slot}
 use Rattle.std.specs.Ordering.{is_eq}
 use Rattle.room_books.specs.Views.{booked_of, booked_list, series_list}
 use Rattle.std.specs.Option.{option_to_list}
-use Rattle.room_books.specs.Standing.{is_of, AreSameSeries, IsOwn, IsGiven, standing, KeepsAll, KeepsSome}
+use Rattle.room_books.specs.Representation.{is_of, AreSameSeries, IsOwn, IsGiven, answers_in_view, KeepsAll, KeepsSome}
 use Rattle.room_books.proofs.Loops.{zip_both, zip_push, filter_push, filter_yes, filter_no}
 use Rattle.room_books.proofs.Meetings.{filter_same, is_of_parts, of_part, same_place_of}
 use Rattle.room_books.proofs.Pairs.{flat_at}
@@ -117,7 +117,7 @@ untouched_view h more a taken seen other instance =
           let g = greatest_at (h ++ more) w greatest in
           let was = greatest_from h w record { taken = old; top = λ y d same. g.top y (Contains-append_left h more y d) same } in
           implies_at _ _ (all_at (λ x. implies (is_greatest h x) (allows x a)) h w both.1 old) was
-      | inr new ↦ or_right (is_whole a) _ (implies_from (is_whole w && same_meeting w a) (stands_beside w a) (λ whole. absurd (both_ways _ (instance w new) (and_parts (is_whole w) (same_meeting w a) whole).0)))
+      | inr new ↦ or_right (is_whole a) _ (implies_from (is_whole w && same_meeting w a) (stays_beside w a) (λ whole. absurd (both_ways _ (instance w new) (and_parts (is_whole w) (same_meeting w a) whole).0)))
     ])))
 
 -- nothing hides an instance of a part that is one itself
@@ -134,7 +134,7 @@ left_instance t a whole = filter_all (λ b. not (is_hidden t a.claim.part b)) a.
 -- ---- an answer, when more parts are taken
 
 module _ (key : MeetingKey) (own : Book) (more : List Part) (is_own : IsOwn key own) (slots : List Slot) (touches : AllTouch slots more) (before after : List Part) (part : Part) (of_key : is_of key part ≡ true)
-    (stood : StandsFor before own.taken) (stands : StandsFor after (own.taken ++ more))
+    (stood : RepresentsHistory before own.taken) (represented : RepresentsHistory after (own.taken ++ more))
     (a : Answer) (known : Contains own.answers a) (seen : in_view own.taken a.claim.part ≡ true) (given : Given) (g : IsGiven key own.taken a given) where
   abbrev place : Part
   place = at_slot part (slot_of given.slot)
@@ -220,7 +220,7 @@ module _ (key : MeetingKey) (own : Book) (more : List Part) (is_own : IsOwn key 
   pub gone : IsStill slots before after part given None → in_view (own.taken ++ more) a.claim.part ≡ false
   gone s = elim s [
     | inl none ↦ absurd (none own.taken stood a.claim.part seen a_place)
-    | inr out ↦ subst (λ (p : Part). in_view (own.taken ++ more) p ≡ false) (is_part out.0 out.1) (out.2 (own.taken ++ more) stands)
+    | inr out ↦ subst (λ (p : Part). in_view (own.taken ++ more) p ≡ false) (is_part out.0 out.1) (out.2 (own.taken ++ more) represented)
   ]
 
   module _ (left : Given) (s : IsStill slots before after part given (Some left)) where
@@ -228,7 +228,7 @@ module _ (key : MeetingKey) (own : Book) (more : List Part) (is_own : IsOwn key 
     same = is_part s.0 s.1
 
     pub stays : in_view (own.taken ++ more) a.claim.part ≡ true
-    stays = subst (λ (p : Part). in_view (own.taken ++ more) p ≡ true) same (s.2 (own.taken ++ more) stands)
+    stays = subst (λ (p : Part). in_view (own.taken ++ more) p ≡ true) same (s.2 (own.taken ++ more) represented)
 
     hidden_still : (b : Booked) → not (is_hidden (own.taken ++ more) a.claim.part b) ≡ true → not (is_hidden own.taken a.claim.part b) ≡ true
     hidden_still b h = not_from_false _ (false_from_ne_true _ (λ hidden. both_ways _ (not-true _ h) (hidden_stays own.taken more a.claim.part b a_taken stays hidden)))
@@ -237,7 +237,7 @@ module _ (key : MeetingKey) (own : Book) (more : List Part) (is_own : IsOwn key 
     confirms =
         let now = own.taken ++ more in
         let f : Booked → Bool = λ b. not (is_hidden now a.claim.part b) in
-        ap (booked_list key) (s.3.singles now stands)
+        ap (booked_list key) (s.3.singles now represented)
         ∙ ap (λ (p : Part). booked_list key (left_beside slots now p given.singles.items)) same
         ∙ ap (booked_list key) beside_is
         ∙ left_booked key now a.claim.part given.singles.items (is_own.taken a.claim.part a_taken)
@@ -260,7 +260,7 @@ module _ (key : MeetingKey) (own : Book) (more : List Part) (is_own : IsOwn key 
           false_from_ne_true _ (λ hidden. both_ways _ shown (hidden_stays own.taken more part b a_taken stays hidden)),
           false_from_ne_true _ (λ both. both_ways _ shown (and_parts _ _ both).1),
         ))
-        given.series left.series (subst (λ (p : Part). IsSeriesLeft (is_hidden_by slots now p) given.series left.series) same (s.3.series now stands)) g.recurs)
+        given.series left.series (subst (λ (p : Part). IsSeriesLeft (is_hidden_by slots now p) given.series left.series) same (s.3.series now represented)) g.recurs)
 
     pub still_given : IsGiven key (own.taken ++ more) a left
     still_given = record {
@@ -286,7 +286,7 @@ zip_last R (x ∷ xs) (w ∷ ys) y z = let r = zip_last R xs ys y z.1 in (x ∷ 
 
 -- one more whose part stays in the view, with what is left of it
 module _ (part : Part) (slots : List Slot) (before after : List Part) (done kept kept' : List Given) (given left : Given) (k : KeepsSome part slots before after done kept) (is : kept' ≡ kept ++ left ∷ []) where
-  keeps_left : ((own : Book) (key : MeetingKey) (more : List Part) → is_of key part ≡ true → IsOwn key own → StandsFor before own.taken → StandsFor after (own.taken ++ more) → AllTouch slots more
+  keeps_left : ((own : Book) (key : MeetingKey) (more : List Part) → is_of key part ≡ true → IsOwn key own → RepresentsHistory before own.taken → RepresentsHistory after (own.taken ++ more) → AllTouch slots more
       → (a : Answer) → Contains own.answers a → in_view own.taken a.claim.part ≡ true → IsGiven key own.taken a given → (in_view (own.taken ++ more) a.claim.part ≡ true) × IsGiven key (own.taken ++ more) a left)
       → KeepsSome part slots before after (done ++ given ∷ []) kept'
   keeps_left f own key more e o b st t xs h z =
@@ -296,9 +296,9 @@ module _ (part : Part) (slots : List Slot) (before after : List Part) (done kept
       let old_is = h a (subst (λ (l : List Answer). Contains l a) (sym r.2) (Contains-push r.0 a)) in
       let old = k own key more e o b st t r.0 (λ x c. h x (subst (λ (l : List Answer). Contains l x) (sym r.2) (Contains-append_left r.0 (a ∷ []) x c))) r.3 in
       let both = f own key more e o b st t a old_is.0 old_is.1 r.4 in
-      let same : standing now r.0 ++ a ∷ [] ≡ standing now xs = sym (ap (standing now) r.2 ∙ filter_push (λ x. in_view now x.claim.part) r.0 a ∙ ap (λ c. standing now r.0 ++ cond c (a ∷ []) []) both.0) in
-      subst (λ (l : List Given). AllZip (IsGiven key now) (standing now xs) l) (sym is)
-      (subst (λ (l : List Answer). AllZip (IsGiven key now) l (kept ++ left ∷ [])) same (zip_push (IsGiven key now) (standing now r.0) kept a left old both.1))
+      let same : answers_in_view now r.0 ++ a ∷ [] ≡ answers_in_view now xs = sym (ap (answers_in_view now) r.2 ∙ filter_push (λ x. in_view now x.claim.part) r.0 a ∙ ap (λ c. answers_in_view now r.0 ++ cond c (a ∷ []) []) both.0) in
+      subst (λ (l : List Given). AllZip (IsGiven key now) (answers_in_view now xs) l) (sym is)
+      (subst (λ (l : List Answer). AllZip (IsGiven key now) l (kept ++ left ∷ [])) same (zip_push (IsGiven key now) (answers_in_view now r.0) kept a left old both.1))
 
 pub keeps_more : (part : Part) (slots : List Slot) (before after : List Part) (done kept kept' : List Given) (given : Given) (o : Option Given) → KeepsSome part slots before after done kept → IsStill slots before after part given o
     → ((left : Given) → o ≡ Some left → kept' ≡ kept ++ left ∷ []) → (o ≡ None → kept' ≡ kept) → KeepsSome part slots before after (done ++ given ∷ []) kept'
@@ -309,8 +309,8 @@ keeps_more part slots before after done kept kept' given None k s some none own 
     let is = h a (subst (λ (l : List Answer). Contains l a) (sym r.2) (Contains-push r.0 a)) in
     let old = k own key more e o b st t r.0 (λ x c. h x (subst (λ (l : List Answer). Contains l x) (sym r.2) (Contains-append_left r.0 (a ∷ []) x c))) r.3 in
     let out = gone key own more o slots t before after part e b st a is.0 is.1 given r.4 s in
-    let same : standing now r.0 ≡ standing now xs = sym (ap (standing now) r.2 ∙ filter_push (λ x. in_view now x.claim.part) r.0 a ∙ ap (λ c. standing now r.0 ++ cond c (a ∷ []) []) out ∙ append-nil (standing now r.0)) in
-    subst (λ (l : List Given). AllZip (IsGiven key now) (standing now xs) l) (sym (none refl)) (subst (λ (l : List Answer). AllZip (IsGiven key now) l kept) same old)
+    let same : answers_in_view now r.0 ≡ answers_in_view now xs = sym (ap (answers_in_view now) r.2 ∙ filter_push (λ x. in_view now x.claim.part) r.0 a ∙ ap (λ c. answers_in_view now r.0 ++ cond c (a ∷ []) []) out ∙ append-nil (answers_in_view now r.0)) in
+    subst (λ (l : List Given). AllZip (IsGiven key now) (answers_in_view now xs) l) (sym (none refl)) (subst (λ (l : List Answer). AllZip (IsGiven key now) l kept) same old)
 keeps_more part slots before after done kept kept' given (Some left) k s some none own key more e o b st t xs h z =
     keeps_left part slots before after done kept kept' given left k (some left refl) (λ own key more e o b st t a known seen g. (
       stays key own more o slots t before after part e b st a known seen given g left s,
@@ -319,7 +319,7 @@ keeps_more part slots before after done kept kept' given (Some left) k s some no
 
 -- an answer that is left alone
 alone_now : (key : MeetingKey) (own : Book) (more : List Part) (o : IsOwn key own) (slots : List Slot) (t : AllTouch slots more) (before after : List Part) (part : Part) → is_of key part ≡ true
-    → StandsFor before own.taken → StandsFor after (own.taken ++ more) → (a : Answer) → Contains own.answers a → in_view own.taken a.claim.part ≡ true → (given : Given) → IsGiven key own.taken a given
+    → RepresentsHistory before own.taken → RepresentsHistory after (own.taken ++ more) → (a : Answer) → Contains own.answers a → in_view own.taken a.claim.part ≡ true → (given : Given) → IsGiven key own.taken a given
     → IsLeftAlone slots before after part given → (in_view (own.taken ++ more) a.claim.part ≡ true) × IsGiven key (own.taken ++ more) a given
 alone_now key own more o slots t before after part e b st a known seen given g alone = elim alone [
   | inl untouched ↦ (
@@ -334,9 +334,9 @@ alone_now key own more o slots t before after part e b st a known seen given g a
 
 -- and all of them
 all_alone : (key : MeetingKey) (own : Book) (more : List Part) (o : IsOwn key own) (slots : List Slot) (t : AllTouch slots more) (before after : List Part) (part : Part) → is_of key part ≡ true
-    → StandsFor before own.taken → StandsFor after (own.taken ++ more) → (xs : List Answer) (given : List Given) → ((a : Answer) → Contains xs a → Contains own.answers a × (in_view own.taken a.claim.part ≡ true))
+    → RepresentsHistory before own.taken → RepresentsHistory after (own.taken ++ more) → (xs : List Answer) (given : List Given) → ((a : Answer) → Contains xs a → Contains own.answers a × (in_view own.taken a.claim.part ≡ true))
     → ((g : Given) → Contains given g → IsLeftAlone slots before after part g) → AllZip (IsGiven key own.taken) xs given
-    → (standing (own.taken ++ more) xs ≡ xs) × AllZip (IsGiven key (own.taken ++ more)) xs given
+    → (answers_in_view (own.taken ++ more) xs ≡ xs) × AllZip (IsGiven key (own.taken ++ more)) xs given
 all_alone key own more o slots t before after part e b st [] [] h alone z = (refl, tt)
 all_alone key own more o slots t before after part e b st [] (g ∷ gs) h alone z = absurd z
 all_alone key own more o slots t before after part e b st (x ∷ xs) [] h alone z = absurd z
@@ -345,7 +345,7 @@ all_alone key own more o slots t before after part e b st (x ∷ xs) (g ∷ gs) 
     let first = alone_now key own more o slots t before after part e b st x is.0 is.1 g z.0 (alone g (in_head g gs)) in
     let rest = all_alone key own more o slots t before after part e b st xs gs (λ a c. h a (in_tail x xs a c)) (λ y c. alone y (in_tail g gs y c)) z.1 in
     let now = own.taken ++ more in (
-      ap (λ b. cond b (x ∷ standing now xs) (standing now xs)) first.0 ∙ ap (λ l. x ∷ l) rest.0,
+      ap (λ b. cond b (x ∷ answers_in_view now xs) (answers_in_view now xs)) first.0 ∙ ap (λ l. x ∷ l) rest.0,
       (first.1, rest.1),
     )
 
@@ -364,7 +364,7 @@ keeps_all part slots meeting after lost left k alone own key more e o m s t =
     let test : Given → Bool = λ given. is_touched lost (slot_of given.slot) in
     let out = taken_at lost answers in
     let others = left_without lost answers in
-    let old = standing own.taken own.answers in
+    let old = answers_in_view own.taken own.answers in
     let now = own.taken ++ more in
     let seen : Answer → Bool = λ x. in_view now x.claim.part in
     let given = given_reordered key own.taken old answers (out ++ others) (re_parts test answers) m.answers in
@@ -376,21 +376,21 @@ keeps_all part slots meeting after lost left k alone own key more e o m s t =
     let first = k own key more e o m.held s t us (λ a c. known a (Contains-append_left us vs a c)) parts.3 in
     let second = all_alone key own more o slots t meeting.held after part e m.held s vs others (λ a c. known a (Contains-append_right us vs a c))
     (λ g c. let f = filter_at (λ x. not (test x)) answers g c in alone g f.0 (not-true _ f.1)) parts.4 in
-    let stood : standing now (us ++ vs) ≡ standing now us ++ vs = filter-append seen us vs ∙ ap (λ l. standing now us ++ l) second.0 in
+    let stood : answers_in_view now (us ++ vs) ≡ answers_in_view now us ++ vs = filter-append seen us vs ∙ ap (λ l. answers_in_view now us ++ l) second.0 in
     record {
-      order = vs ++ standing now us;
-      same = re_then (standing now old) (standing now us ++ vs) (vs ++ standing now us) (subst (Reordered (standing now old)) stood (re_filter seen old (us ++ vs) same)) (re_swapped (standing now us) vs);
-      each = zip_both (IsGiven key now) vs others (standing now us) left second.1 first;
+      order = vs ++ answers_in_view now us;
+      same = re_then (answers_in_view now old) (answers_in_view now us ++ vs) (vs ++ answers_in_view now us) (subst (Reordered (answers_in_view now old)) stood (re_filter seen old (us ++ vs) same)) (re_swapped (answers_in_view now us) vs);
+      each = zip_both (IsGiven key now) vs others (answers_in_view now us) left second.1 first;
     }
 
 -- of a meeting of which nothing was ever taken there are none
 pub keeps_new : (part : Part) (slots : List Slot) (after : List Part) (kept : List Given) → kept ≡ [] → KeepsAll part slots None after kept
 keeps_new part slots after kept none own key more e o m s t =
-    given_zip key (own.taken ++ more) (standing (own.taken ++ more) (standing own.taken own.answers)) kept
-    (subst (AllZip (IsGiven key (own.taken ++ more)) (standing (own.taken ++ more) (standing own.taken own.answers))) (sym none)
-    (subst (λ (l : List Answer). AllZip (IsGiven key (own.taken ++ more)) l []) (sym (ap (standing (own.taken ++ more)) (none_stood own.answers (λ a c. o.known a c)))) tt))
+    given_zip key (own.taken ++ more) (answers_in_view (own.taken ++ more) (answers_in_view own.taken own.answers)) kept
+    (subst (AllZip (IsGiven key (own.taken ++ more)) (answers_in_view (own.taken ++ more) (answers_in_view own.taken own.answers))) (sym none)
+    (subst (λ (l : List Answer). AllZip (IsGiven key (own.taken ++ more)) l []) (sym (ap (answers_in_view (own.taken ++ more)) (none_stood own.answers (λ a c. o.known a c)))) tt))
   where
-    none_stood : (xs : List Answer) → ((a : Answer) → Contains xs a → Contains own.taken a.claim.part) → standing own.taken xs ≡ []
+    none_stood : (xs : List Answer) → ((a : Answer) → Contains xs a → Contains own.taken a.claim.part) → answers_in_view own.taken xs ≡ []
     none_stood [] h = refl
     none_stood (x ∷ xs) h = absurd (none_in_nil x.claim.part (subst (λ (l : List Part). Contains l x.claim.part) m (h x (in_head x xs))))
 

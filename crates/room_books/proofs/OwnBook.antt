@@ -11,13 +11,13 @@ use Rattle.profile.specs.rooms.Revisions.{Part, in_view, is_whole, same_meeting,
 use Rattle.profile.specs.rooms.Rooms.{Claim, Answer, Book, Withdrawn, Repeated, Stale, kind_of, kind_of_outcome, is_fresh, is_same, is_set, lacks_whole, wants_whole, parts_of, asked, answered}
 use Rattle.room_books.specs.declared.meeting.MeetingKey.{MeetingKey}
 use Rattle.room_books.specs.declared.kept.Meeting.{Meeting}
-use Rattle.room_books.specs.Standing.{is_of, of_meeting, answers_of, book_of, book_after, AreFitting, IsOwn, Stands}
+use Rattle.room_books.specs.Representation.{is_of, of_meeting, answers_of, book_of, book_after, AreFitting, IsOwn, Represents}
 use Rattle.room_books.proofs.Runs.{new_answer}
 use Rattle.room_books.proofs.Meetings.{view_of, of_more_own, filter_same, meeting_of_key}
 use Rattle.room_books.proofs.Own.{filter_all}
 use Rattle.room_books.proofs.Pairs.{map_at}
 
-pub own_of : (k : MeetingKey) (entries : List (MeetingKey × Meeting)) (book : Book) → Stands entries book → IsOwn k (book_of k book)
+pub own_of : (k : MeetingKey) (entries : List (MeetingKey × Meeting)) (book : Book) → Represents entries book → IsOwn k (book_of k book)
 own_of k entries book st = record {
   taken = λ p c. (filter_at (is_of k) book.taken p c).1;
   known = λ a c. let from = filter_at (λ x. is_of k x.claim.part) book.answers a c in filter_from (is_of k) book.taken a.claim.part (st.known a from.0) from.1;

@@ -8,7 +8,7 @@ use Rattle.std.proofs.lemmas.Bool.{both_ways}
 use Rattle.std.proofs.lemmas.Grind.{flat_map-append}
 use Rattle.std.proofs.lemmas.List.Elements.{filter-append, Contains-append_cases}
 use Rattle.itip_order.specs.Parts.{part_of, slot_of}
-use Rattle.itip_order.specs.Registers.{StandsFor}
+use Rattle.itip_order.specs.Registers.{RepresentsHistory}
 use Rattle.itip_order.proofs.Lists.{in_head, in_tail, filter_at}
 use Rattle.profile.specs.checker.Instances.{Booked}
 use Rattle.profile.specs.rooms.Messages.{Accept}
@@ -25,7 +25,7 @@ use Rattle.room_books.specs.declared.meeting.Given.{Given}
 use Rattle.room_books.specs.declared.claim.Claim.{Claim as Asking}
 use Rattle.room_books.specs.Takings.{claim_said, booked_in, AreOfOneMeeting, IsAccepted, IsDecided}
 use Rattle.room_books.specs.Views.{booked_of, booked_list, all_singles, all_series, series_of, series_list, slots_of, outcome_of}
-use Rattle.room_books.specs.Standing.{is_of, AreFitting, AreSameSeries, IsFitting, IsOwn, AreGiven, IsGiven, Pairwise, standing}
+use Rattle.room_books.specs.Representation.{is_of, AreFitting, AreSameSeries, IsFitting, IsOwn, AreGiven, IsGiven, Pairwise, answers_in_view}
 use Rattle.room_books.proofs.Confirms.{given_confirms, given_recurs, zip_confirms, zip_recurs}
 use Rattle.room_books.proofs.Givens.{given_append, given_zip}
 use Rattle.room_books.proofs.Reordering.{re_back, re_in, re_left, re_pairs}
@@ -50,7 +50,7 @@ decided_booked : (k : MeetingKey) (b : Bool) (singles : List Single) → booked_
 decided_booked k true singles = refl
 decided_booked k false singles = refl
 
-module _ (k : MeetingKey) (t held : List Part) (s : StandsFor held t) (moment : ℤ) (outcome : Outcome) where
+module _ (k : MeetingKey) (t held : List Part) (s : RepresentsHistory held t) (moment : ℤ) (outcome : Outcome) where
   decided_series : (b : Bool) (all : List Recurring) (series : Option Series) → AreSameSeries t all (series_list k (option_to_list series)) → AreSameSeries t (cond b all []) (series_list k (option_to_list (if b then series else None)))
   decided_series true all series p = p
   decided_series false all series p = series_none t
@@ -105,14 +105,14 @@ module _ (k : MeetingKey) (own : Book) (is_own : IsOwn k own) (claims : List Cla
   asked_now = asked own.taken t claims
 
   abbrev pub stayed : List Answer
-  stayed = standing t (standing own.taken own.answers)
+  stayed = answers_in_view t (answers_in_view own.taken own.answers)
 
   asked_at : (claim : Claim) → Contains asked_now claim → Contains claims claim × (in_view t claim.part ≡ true)
   asked_at claim c =
       let n = new_answer own.taken t moment Accept claims (answer_to claim moment Accept) (map_from (λ (x : Claim). answer_to x moment Accept) asked_now claim c) in
       (n.among, n.seen)
 
-  pub given_new : (asking : List (Bor Asking)) → map (λ claim. claim_said claim.now) asking ≡ asked_now → (held : List Part) → StandsFor held t → (outcome : Outcome) (candidates given : List Given)
+  pub given_new : (asking : List (Bor Asking)) → map (λ claim. claim_said claim.now) asking ≡ asked_now → (held : List Part) → RepresentsHistory held t → (outcome : Outcome) (candidates given : List Given)
       → AllZip (λ claim given. IsAccepted held claim.now moment given) asking candidates → AllZip (λ candidate given. IsDecided candidate outcome given) candidates given
       → AllZip (IsGiven k t) (answered moment (outcome_of outcome) asked_now) given
   given_new asking e held s outcome candidates given z w =
@@ -124,24 +124,24 @@ module _ (k : MeetingKey) (own : Book) (is_own : IsOwn k own) (claims : List Cla
       z w)
 
   -- those that stay, and those to the claims that are asked
-  pub standing_after : (outcome : messages.Outcome) → standing t (own.answers ++ answered moment outcome asked_now) ≡ stayed ++ answered moment outcome asked_now
-  standing_after outcome =
+  pub view_after : (outcome : messages.Outcome) → answers_in_view t (own.answers ++ answered moment outcome asked_now) ≡ stayed ++ answered moment outcome asked_now
+  view_after outcome =
       let seen = λ (a : Answer). in_view t a.claim.part in
       let new = answered moment outcome asked_now in
-      let old : standing t own.answers ≡ stayed = sym (filter_within seen (λ a. in_view own.taken a.claim.part) own.answers (λ a c v. view_back own.taken (parts_of claims) a.claim.part (is_own.known a c) v)) in
-      let all : standing t new ≡ new = filter_all seen new (λ a c. (new_answer own.taken t moment outcome claims a c).seen) in
+      let old : answers_in_view t own.answers ≡ stayed = sym (filter_within seen (λ a. in_view own.taken a.claim.part) own.answers (λ a c v. view_back own.taken (parts_of claims) a.claim.part (is_own.known a c) v)) in
+      let all : answers_in_view t new ≡ new = filter_all seen new (λ a c. (new_answer own.taken t moment outcome claims a c).seen) in
       filter-append seen own.answers new ∙ (λ i. old i ++ all i)
 
   pub given_after : (outcome : messages.Outcome) (kept given : List Given) → AreGiven k t stayed kept → AllZip (IsGiven k t) (answered moment outcome asked_now) given
-      → AreGiven k t (standing t (own.answers ++ answered moment outcome asked_now)) (kept ++ given)
+      → AreGiven k t (answers_in_view t (own.answers ++ answered moment outcome asked_now)) (kept ++ given)
   given_after outcome kept given z w =
-      subst (λ (l : List Answer). AreGiven k t l (kept ++ given)) (sym (standing_after outcome))
+      subst (λ (l : List Answer). AreGiven k t l (kept ++ given)) (sym (view_after outcome))
       (given_append k t stayed (answered moment outcome asked_now) kept given z (given_zip k t (answered moment outcome asked_now) given w))
 
   -- each of them is to a part in the view, and no two to one part
   stayed_at : (a : Answer) → Contains stayed a → Contains own.answers a × (in_view own.taken a.claim.part ≡ true) × (in_view t a.claim.part ≡ true)
   stayed_at a c =
-      let outer = filter_at (λ (x : Answer). in_view t x.claim.part) (standing own.taken own.answers) a c in
+      let outer = filter_at (λ (x : Answer). in_view t x.claim.part) (answers_in_view own.taken own.answers) a c in
       let inner = filter_at (λ (x : Answer). in_view own.taken x.claim.part) own.answers a outer.0 in
       (inner.0, inner.1, outer.1)
 
@@ -157,7 +157,7 @@ module _ (k : MeetingKey) (own : Book) (is_own : IsOwn k own) (claims : List Cla
   parts_differ : Pairwise OtherPart own.answers → Pairwise OtherPart (stayed ++ candidates_said)
   parts_differ once =
       pairs_append OtherPart stayed candidates_said
-      (pairs_filter OtherPart (λ a. in_view t a.claim.part) (standing own.taken own.answers) (pairs_filter OtherPart (λ a. in_view own.taken a.claim.part) own.answers once))
+      (pairs_filter OtherPart (λ a. in_view t a.claim.part) (answers_in_view own.taken own.answers) (pairs_filter OtherPart (λ a. in_view own.taken a.claim.part) own.answers once))
       (new_once moment Accept own.taken t claims fit.differ)
       (λ a b c d e. both_ways _ (new_answer own.taken t moment Accept claims b d).gone (subst (λ (p : Part). in_view own.taken p ≡ true) e (stayed_at a c).1))
 

@@ -3,7 +3,7 @@ use Rattle.std.proofs.Common.{◌≡◌, ◌∙◌, zero, suc, ◌≤◌, Bool, 
 use Rattle.std.specs.List.{filter, flat_map, Contains, AllPairs}
 use Rattle.std.proofs.lemmas.Bool.{true≢false}
 use Rattle.std.proofs.lemmas.List.Elements.{Contains-get_or, Contains-append_left, Contains-append_right, Contains-append_cases}
-use Rattle.room_books.specs.Standing.{Pairwise}
+use Rattle.room_books.specs.Representation.{Pairwise}
 use Rattle.itip_order.proofs.Lists.{in_cons, in_head, in_tail, none_in_nil, filter_at}
 
 module _ {X : Type 0} where

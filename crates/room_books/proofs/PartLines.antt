@@ -9,7 +9,7 @@ use Rattle.profile.specs.rooms.Kept.{IsEventOf, IsNamed}
 use Rattle.profile.specs.rooms.Revisions.{Part, At, Body, Set, Absent, Cancelled}
 use Rattle.profile.specs.rooms.Rooms.{is_set, is_set_body}
 use Rattle.profile.specs.text.Values.{escaped}
-use Rattle.room_books.specs.Standing.{IsText, SlotDated}
+use Rattle.room_books.specs.Representation.{IsText, SlotDated}
 use Rattle.room_books.specs.Takings.{body_content}
 use Rattle.itip_messages.specs.BodyTexts.{WritesBody, WritesSlot, content_in, named_lines}
 use Rattle.itip_messages.specs.Zoning.{with_zones}

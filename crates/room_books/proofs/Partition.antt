@@ -10,7 +10,7 @@ use Rattle.itip_order.proofs.Lists.{in_cons, in_head, in_tail, none_in_nil, filt
 use Rattle.room_books.specs.declared.meeting.MeetingKey.{MeetingKey}
 use Rattle.room_books.specs.declared.kept.Meeting.{Meeting}
 use Rattle.room_books.specs.Views.{same_key}
-use Rattle.room_books.specs.Standing.{is_of, answers_of}
+use Rattle.room_books.specs.Representation.{is_of, answers_of}
 use Rattle.room_books.proofs.Meetings.{one_meeting, filter_none}
 use Rattle.room_books.proofs.Same.{AreSame, same_itself, same_then, same_append, same_swap}
 

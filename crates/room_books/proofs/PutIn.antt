@@ -12,7 +12,7 @@ use Rattle.room_books.specs.declared.kept.Meeting.{Meeting}
 use Rattle.room_books.specs.Views.{same_key}
 use Rattle.room_books.specs.declared.kept.Changes.{Changes}
 use Rattle.room_books.specs.Takings.{answers_by, answers_then, held_after, IsMade}
-use Rattle.room_books.specs.Standing.{IsPutIn, IsRenewed}
+use Rattle.room_books.specs.Representation.{IsPutIn, IsRenewed}
 use Rattle.std.specs.Cmp.{both_ways as same_tests}
 use Rattle.room_books.proofs.Keys.{key_congr}
 use Rattle.room_books.proofs.Meetings.{key_from}

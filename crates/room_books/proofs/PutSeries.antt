@@ -26,7 +26,7 @@ use Rattle.room_books.proofs.Partition.{differs}
 use Rattle.room_books.proofs.Places.{booked_from, in_booked, place_of, series_other, series_put}
 use Rattle.room_books.proofs.Putting.{put_same}
 use Rattle.room_books.proofs.Reordering.{re_back, re_flat, re_in, re_length}
-use Rattle.room_books.proofs.Stands.{series_same}
+use Rattle.room_books.proofs.Representing.{series_same}
 
 -- ---- places
 

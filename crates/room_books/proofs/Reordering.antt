@@ -6,7 +6,7 @@ use Rattle.std.proofs.lemmas.List.Sorted.{IsPermutation-cons, IsPermutation-midd
 use Rattle.itip_order.proofs.Lists.{in_cons, in_head, in_tail}
 use Rattle.room_books.specs.BySlot.{Reordered}
 use Rattle.room_books.specs.BySlot.Reordered.{re_none, re_more, re_turn, re_then}
-use Rattle.room_books.specs.Standing.{Pairwise}
+use Rattle.room_books.specs.Representation.{Pairwise}
 
 module _ {X : Type 0} where
   pub re_same : (xs : List X) → Reordered xs xs

@@ -27,7 +27,7 @@ use Rattle.room_books.specs.declared.meeting.Given.{Given}
 use Rattle.room_books.specs.declared.claim.Claim.{Claim}
 use Rattle.room_books.specs.Views.{outcome_of}
 use Rattle.room_books.specs.Takings.{claim_said, claims_said}
-use Rattle.room_books.specs.Standing.{AreFitting, IsOwn, Meets, standing}
+use Rattle.room_books.specs.Representation.{AreFitting, IsOwn, Meets, answers_in_view}
 use Rattle.room_books.specs.BySlot.{Reordered}
 use Rattle.room_books.specs.Replying.{AreShown, CanTell, AllTell, IsEventIn, ShowsGiven, AreTold, WritesAnswers, IsReplyOf}
 use Rattle.room_books.proofs.Givens.{given_from, given_to}
@@ -125,8 +125,8 @@ module _ (key : MeetingKey) (own : Book) (meeting : Meeting) (claims : List room
   pub can_tell : CanTell meeting.answers.items part
   can_tell =
       let a = meets.answered part (and_parts (is_set part) (in_view own.taken part) asked.1).0 seen in
-      let stands = filter_from (λ x. in_view own.taken x.claim.part) own.answers a.0 a.1 (ap (in_view own.taken) a.2 ∙ seen) in
-      let g = given_to key own.taken (standing own.taken own.answers) meeting.answers.items a.0 meets.answers stands in
+      let is_viewed = filter_from (λ x. in_view own.taken x.claim.part) own.answers a.0 a.1 (ap (in_view own.taken) a.2 ∙ seen) in
+      let g = given_to key own.taken (answers_in_view own.taken own.answers) meeting.answers.items a.0 meets.answers is_viewed in
       record {
         slot = fitting.dated claim asked.0;
         given = g.0;
@@ -137,7 +137,7 @@ module _ (key : MeetingKey) (own : Book) (meeting : Meeting) (claims : List room
 
   pub shows_answer : (room : List ℕ) (lines : List (List ℕ)) → ShowsGiven room meeting.answers.items part lines → ShowsAnswer room own claim lines
   shows_answer room lines s =
-      let a = given_from key own.taken (standing own.taken own.answers) meeting.answers.items s.given meets.answers s.kept in
+      let a = given_from key own.taken (answers_in_view own.taken own.answers) meeting.answers.items s.given meets.answers s.kept in
       let is = filter_at (λ x. in_view own.taken x.claim.part) own.answers a.0 a.1 in
       let place = same_place_of key a.0.claim.part part (is_own.taken a.0.claim.part (is_own.known a.0 is.0)) (fitting.of_it claim asked.0) (sym a.2.slot ∙ s.same) in
       let same = view_one own.taken a.0.claim.part part is.1 seen place in

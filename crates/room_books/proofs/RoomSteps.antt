@@ -18,7 +18,7 @@ use Rattle.profile.specs.rooms.Messages.{Accept, Busy, SeriesLimit, SinglesLimit
 use Rattle.profile.specs.rooms.Rooms.{Book, Kind, NotAddressed, is_accept}
 use Rattle.room_books.specs.declared.meeting.Outcome.{Outcome}
 use Rattle.room_books.specs.declared.meeting.Given.{Given}
-use Rattle.room_books.specs.Standing.{Stands, StepsWith}
+use Rattle.room_books.specs.Representation.{Represents, StepsWith}
 use Rattle.room_books.specs.Takings.{IsDecided, MayJoinAll}
 use Rattle.room_books.specs.declared.meeting.MeetingKey.{MeetingKey}
 use Rattle.room_books.specs.declared.kept.Meeting.{Meeting}
@@ -130,7 +130,7 @@ none_wanted true = refl
 none_wanted false = refl
 
 -- it is a step that changes nothing
-pub none_steps : (room : List ℕ) (entries : List (MeetingKey × Meeting)) (book : Book) (moment : ℤ) (kind : Kind) (reply : Option (List ℕ)) (adds : Bool) (refresh : Option (List ℕ)) → Stands entries book → kind ≡ NotAddressed → reply ≡ None
+pub none_steps : (room : List ℕ) (entries : List (MeetingKey × Meeting)) (book : Book) (moment : ℤ) (kind : Kind) (reply : Option (List ℕ)) (adds : Bool) (refresh : Option (List ℕ)) → Represents entries book → kind ≡ NotAddressed → reply ≡ None
     → refresh ≡ None → StepsWith room entries book [] moment kind reply adds refresh
 none_steps room entries book moment kind reply adds refresh st kind_is reply_is refresh_is = record {
   steps = record {
@@ -141,7 +141,7 @@ none_steps room entries book moment kind reply adds refresh st kind_is reply_is 
       answers = sym (append-nil book.answers);
       decided = λ some. absurd (true≢false (sym some));
     };
-    stands = st;
+    represents = st;
     kind_is = kind_is;
   };
   replies = subst (Replies room book []) (sym reply_is) refl;

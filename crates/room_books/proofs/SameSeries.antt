@@ -9,7 +9,7 @@ use Rattle.profile.specs.events.Meetings.{Meeting as Series}
 use Rattle.profile.specs.rooms.Messages.{Outcome, Accept, Busy, SeriesLimit, SinglesLimit}
 use Rattle.profile.specs.rooms.Revisions.{Part}
 use Rattle.profile.specs.rooms.Rooms.{Book, Confirms, Recurring, IsLeftOf, is_hidden, confirmed_singles, confirmed_series, most_series, most_singles, Decides}
-use Rattle.room_books.specs.Standing.{AreSameSeries}
+use Rattle.room_books.specs.Representation.{AreSameSeries}
 use Rattle.room_books.specs.Takings.{DecidesOf}
 use Rattle.room_books.proofs.Same.{AreSame}
 

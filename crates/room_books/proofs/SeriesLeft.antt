@@ -14,7 +14,7 @@ use Rattle.cal_events.specs.SaidSeries.{series_said}
 use Rattle.cal_events.specs.declared.instance.Single.{Single}
 use Rattle.cal_events.specs.declared.series.Series.{Series}
 use Rattle.room_books.specs.declared.meeting.MeetingKey.{MeetingKey}
-use Rattle.room_books.specs.Standing.{is_of, AreSameSeries, IsFittingSeries}
+use Rattle.room_books.specs.Representation.{is_of, AreSameSeries, IsFittingSeries}
 use Rattle.room_books.specs.Takings.{IsSeriesLeft}
 use Rattle.room_books.specs.Views.{booked_of, series_of, series_list, span_of}
 use Rattle.room_books.proofs.Meetings.{is_of_parts}

@@ -24,7 +24,7 @@ use Rattle.room_books.specs.Touching.{is_touched}
 use Rattle.room_books.proofs.Loops.{one_more}
 use Rattle.std.proofs.lemmas.List.Edits.{remove-append_right}
 use Rattle.std.proofs.lemmas.List.Folds.{list_any-append}
-use Rattle.room_books.specs.Standing.{Pairwise}
+use Rattle.room_books.specs.Representation.{Pairwise}
 use Rattle.room_books.proofs.Meetings.{filter_none}
 use Rattle.room_books.proofs.Own.{filter_all}
 use Rattle.room_books.proofs.Pairs.{pairs_append, pairs_filter, pairs_from}

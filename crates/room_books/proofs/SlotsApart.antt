@@ -16,7 +16,7 @@ use Rattle.profile.specs.rooms.Messages.{Outcome}
 use Rattle.profile.specs.rooms.Rooms.{Answer, Claim, Recurring, IsLeftOf, is_confirmed, is_hidden, is_set, is_fresh, left_of, recurring_in, singles_confirmed, series_confirmed, asked, answered}
 use Rattle.room_books.specs.declared.meeting.MeetingKey.{MeetingKey}
 use Rattle.cal_events.specs.declared.instance.Single.{Single}
-use Rattle.room_books.specs.Standing.{is_of, IsOfSlot, IsFitting, IsFittingSeries, Pairwise}
+use Rattle.room_books.specs.Representation.{is_of, IsOfSlot, IsFitting, IsFittingSeries, Pairwise}
 use Rattle.room_books.specs.Views.{booked_of, booked_list, slots_of}
 use Rattle.room_books.proofs.Meetings.{of_part, same_place_of}
 use Rattle.room_books.proofs.Pairs.{pairs_from, pairs_append, pairs_filter, pairs_map, flat_at, map_from}

@@ -12,7 +12,7 @@ use Rattle.itip_order.proofs.Lists.{all_at, all_from, any_at, any_from}
 use Rattle.itip_order.proofs.Order.{slot_total, meeting_total, revision_total, part_total, is_eq_true, then_equal}
 use Rattle.itip_order.proofs.Registers.{Greatest, greatest_at, greatest_from, greatest_unique, implies_at, implies_from, place_sym, place_trans}
 use Rattle.profile.specs.checker.Instances.{Booked}
-use Rattle.profile.specs.rooms.Revisions.{Slot, Whole, At, Revision, Part, slot_cmp, meeting_cmp, revision_cmp, part_cmp, same_meeting, same_place, is_whole, is_greatest, implies, stands_beside, allows, in_view}
+use Rattle.profile.specs.rooms.Revisions.{Slot, Whole, At, Revision, Part, slot_cmp, meeting_cmp, revision_cmp, part_cmp, same_meeting, same_place, is_whole, is_greatest, implies, stays_beside, allows, in_view}
 use Rattle.profile.specs.rooms.Rooms.{Answer, is_confirmed, is_hidden, left_of, singles_confirmed}
 
 -- one of two parts of a place is at most the other
@@ -39,10 +39,10 @@ level p g up down = neither (revision_cmp g p) down (ap is_gt (sym (revision_tot
     neither Greater a b = absurd (true≢false a)
 
 -- what counts beside a Whole does so with a greater part
-stands_higher : (whole x g : Part) → is_le (part_cmp x g) ≡ true → stands_beside whole x ≡ true → stands_beside whole g ≡ true
-stands_higher whole x g le stands =
+stays_higher : (whole x g : Part) → is_le (part_cmp x g) ≡ true → stays_beside whole x ≡ true → stays_beside whole g ≡ true
+stays_higher whole x g le stays =
     let low : is_gt (revision_cmp x.revision g.revision) ≡ false = revision_le _ _ le in
-    elim (or_cases _ _ stands) [
+    elim (or_cases _ _ stays) [
       | inl above ↦ or_left _ _ (true_from_ne_false _ (λ below. true≢false (sym above ∙ upto revision_total x.revision g.revision whole.revision low below)))
       | inr tied ↦
           let both = and_parts _ _ tied in
@@ -72,7 +72,7 @@ module _ (h more : List Part) (part : Part) (booked : Booked) (taken : Contains 
   part_top : Greatest (h ++ more) part
   part_top = greatest_at (h ++ more) part (and_parts _ _ seen).0
 
-  beside : stands_beside part x ≡ true
+  beside : stays_beside part x ≡ true
   beside =
       let before = view_back h more part taken seen in
       let allowed = implies_at _ _ (all_at (λ w. implies (is_greatest h w) (allows w x)) h part (and_parts _ _ x_seen).1 taken) (and_parts _ _ before).0 in
@@ -94,13 +94,13 @@ module _ (h more : List Part) (part : Part) (booked : Booked) (taken : Contains 
   stays_seen g top place =
       let g_place = place_trans g x (at_slot part booked) place x_place in
       let above : is_le (part_cmp x g) ≡ true = top.top x (Contains-append_left h more x x_taken) (place_sym g x place) in
-      let stands = stands_higher part x g above beside in
+      let stays = stays_higher part x g above beside in
       and_from _ _ (greatest_from (h ++ more) g top)
       (all_from (λ w. implies (is_greatest (h ++ more) w) (allows w g)) (h ++ more) (λ w c. implies_from _ _ (λ greatest.
       or_right (is_whole g) _ (implies_from _ _ (λ both.
       let parts = and_parts _ _ both in
       let same = is_part g w g_place (greatest_at (h ++ more) w greatest) parts.0 parts.1 in
-      subst (λ (z : Part). stands_beside z g ≡ true) (sym same) stands)))))
+      subst (λ (z : Part). stays_beside z g ≡ true) (sym same) stays)))))
 
   pub still_hidden : is_hidden (h ++ more) part booked ≡ true
   still_hidden =

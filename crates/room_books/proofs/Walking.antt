@@ -15,7 +15,7 @@ use Rattle.itip_order.proofs.Lists.{any_at, any_from, in_cons}
 use Rattle.profile.specs.rooms.Revisions.{Slot, slot_cmp}
 use Rattle.room_books.specs.declared.meeting.Given.{Given}
 use Rattle.room_books.specs.BySlot.{AreBySlot, is_at, is_up_to, taken_at, IsPlace}
-use Rattle.room_books.specs.Standing.{Pairwise}
+use Rattle.room_books.specs.Representation.{Pairwise}
 use Rattle.room_books.specs.Touching.{is_touched}
 use Rattle.room_books.proofs.AcceptedSlots.{slot_from, slot_same}
 use Rattle.room_books.proofs.Loops.{one_more}

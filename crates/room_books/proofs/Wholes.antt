@@ -6,13 +6,13 @@ use Rattle.std.specs.Ordering.{is_eq, ordering_then}
 use Rattle.std.specs.List.{list_all, Contains}
 use Rattle.std.proofs.lemmas.Bool.{and_parts, and_from, or_left, false_from_ne_true}
 use Rattle.itip_order.specs.Parts.{part_of}
-use Rattle.itip_order.specs.Registers.{StandsFor, IsInView, HasNone, at_slot}
+use Rattle.itip_order.specs.Registers.{RepresentsHistory, IsInView, HasNone, at_slot}
 use Rattle.itip_order.specs.declared.part.Part.{Part as HeldPart}
 use Rattle.itip_order.proofs.Lists.{all_from, any_at, any_from}
 use Rattle.itip_order.proofs.Lasting.{greatest_of, view_taken}
 use Rattle.itip_order.proofs.Order.{is_eq_true, then_equal}
 use Rattle.itip_order.proofs.Registers.{greatest_from, implies_from, place_trans}
-use Rattle.profile.specs.rooms.Revisions.{Part, Whole, slot_cmp, meeting_cmp, in_view, is_greatest, is_whole, implies, allows, stands_beside, same_meeting, same_place}
+use Rattle.profile.specs.rooms.Revisions.{Part, Whole, slot_cmp, meeting_cmp, in_view, is_greatest, is_whole, implies, allows, stays_beside, same_meeting, same_place}
 use Rattle.profile.specs.rooms.Rooms.{lacks_whole}
 
 -- the place of the whole, by meeting and slot
@@ -38,11 +38,11 @@ module _ (history : List Part) (p : Part) where
         g.0,
         and_from (is_greatest history g.0) (list_all (λ h. implies (is_greatest history h) (allows h g.0)) history) (greatest_from history g.0 g.1)
             (all_from (λ h. implies (is_greatest history h) (allows h g.0)) history (λ h _.
-            implies_from (is_greatest history h) (allows h g.0) (λ _. or_left (is_whole g.0) (implies (is_whole h && same_meeting h g.0) (stands_beside h g.0)) whole))),
+            implies_from (is_greatest history h) (allows h g.0) (λ _. or_left (is_whole g.0) (implies (is_whole h && same_meeting h g.0) (stays_beside h g.0)) whole))),
         place,
       )
 
-  pub whole_lacking : (held : List Part) → StandsFor held history → (r : Option (Bor HeldPart)) → IfSome r (λ f. IsInView held (part_of f.now) × IsTrue (same_place (part_of f.now) (at_slot p Whole))) → IfNone r (HasNone held (at_slot p Whole))
+  pub whole_lacking : (held : List Part) → RepresentsHistory held history → (r : Option (Bor HeldPart)) → IfSome r (λ f. IsInView held (part_of f.now) × IsTrue (same_place (part_of f.now) (at_slot p Whole))) → IfNone r (HasNone held (at_slot p Whole))
       → (none : Bool) → not none ≡ is_some r → none ≡ lacks_whole history p
   whole_lacking held s (Some f) found empty none is =
       let there = any_from (λ other. is_whole other && same_meeting other p) history (part_of f.now) (view_taken history (part_of f.now) (found.0 history s)) (whole_place (part_of f.now) p found.1) in

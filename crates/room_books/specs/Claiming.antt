@@ -16,7 +16,7 @@ use Rattle.cal_events.specs.SaidSeries.{series_said}
 use Rattle.cal_events.specs.declared.series.Series.{Series}
 use Rattle.room_books.specs.declared.claim.Claim.{Claim}
 use Rattle.room_books.specs.Takings.{claims_said}
-use Rattle.room_books.specs.Standing.{AreFitting}
+use Rattle.room_books.specs.Representation.{AreFitting}
 use Rattle.room_books.specs.Views.{IsKeyOf}
 
 -- the series that a part asks for: that of its component, where the part is of the whole

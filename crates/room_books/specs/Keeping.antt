@@ -16,7 +16,7 @@ use Rattle.profile.specs.text.Lines.{written}
 use Rattle.itip_messages.specs.Zoning.{with_zones}
 use Rattle.room_books.specs.declared.kept.Meeting.{Meeting}
 use Rattle.room_books.specs.declared.meeting.Given.{Given}
-use Rattle.room_books.specs.Standing.{IsText, SlotDated}
+use Rattle.room_books.specs.Representation.{IsText, SlotDated}
 use Rattle.room_books.specs.Takings.{body_content}
 use Rattle.room_books.specs.Views.{outcome_of}
 

@@ -1,7 +1,7 @@
 pub mod Instants
 pub mod Views
 pub mod Takings
-pub mod Standing
+pub mod Representation
 pub mod Timelines
 pub mod Keeping
 pub mod Replying

@@ -14,7 +14,7 @@ use Rattle.room_books.specs.declared.meeting.Given.{Given}
 use Rattle.room_books.specs.declared.claim.Claim.{Claim}
 use Rattle.room_books.specs.Views.{outcome_of}
 use Rattle.room_books.specs.Takings.{claim_said, claims_said, OutcomeDated}
-use Rattle.room_books.specs.Standing.{SlotDated}
+use Rattle.room_books.specs.Representation.{SlotDated}
 
 -- these are the claims that a reply shows
 abbrev pub AreShown : List Part → List Claim → List (Bor Claim) → Type 0

@@ -5,7 +5,7 @@ use Rattle.std.specs.Option.{option_to_list}
 use denote.Ref.{Bor}
 use Rattle.profile.specs.text.Values.{IsClockSeconds}
 use Rattle.cal_events.specs.Calendars.{owned_key_of}
-use Rattle.itip_order.specs.Registers.{StandsFor, IsInView, HasNone, at_slot, together}
+use Rattle.itip_order.specs.Registers.{RepresentsHistory, IsInView, HasNone, at_slot, together}
 use Rattle.itip_order.specs.declared.part.Slot.{Slot}
 use Rattle.itip_order.specs.Parts.{part_of, slot_of}
 use Rattle.profile.specs.checker.Instances.{Key, Booked, IsClash, IsClear, booked_cmp}
@@ -92,9 +92,9 @@ parts_said claims = map (λ claim. part_of claim.part) claims
 -- ---- what was taken before
 
 -- the parts that a meeting represents; none where nothing of it was ever taken
-abbrev pub StandsAt : Option Meeting → List revisions.Part → Type 0
-StandsAt None history = history ≡ []
-StandsAt (Some meeting) history = StandsFor meeting.held history
+abbrev pub HasHistory : Option Meeting → List revisions.Part → Type 0
+HasHistory None history = history ≡ []
+HasHistory (Some meeting) history = RepresentsHistory meeting.held history
 
 -- what is held of it where these registers are taken too
 abbrev pub held_after : Option Meeting → List revisions.Part → List revisions.Part
@@ -162,8 +162,8 @@ pub record IsLeftOf (slots : List Slot) (held : List revisions.Part) (of : revis
   pub slot : left.slot ≡ given.slot
   pub moment : left.moment ≡ given.moment
   pub outcome : outcome_of left.outcome ≡ outcome_of given.outcome
-  pub singles : (history : List revisions.Part) → StandsFor held history → left.singles.items ≡ left_beside slots history of given.singles.items
-  pub series : (history : List revisions.Part) → StandsFor held history → IsSeriesLeft (is_hidden_by slots history of) given.series left.series
+  pub singles : (history : List revisions.Part) → RepresentsHistory held history → left.singles.items ≡ left_beside slots history of given.singles.items
+  pub series : (history : List revisions.Part) → RepresentsHistory held history → IsSeriesLeft (is_hidden_by slots history of) given.series left.series
 
 -- what an answer confirms, if it is left
 abbrev pub singles_left : Option Given → List Single
@@ -180,8 +180,8 @@ pub record IsAccepted (held : List revisions.Part) (claim : Claim) (moment : ℤ
   pub slot : given.slot ≡ claim.part.slot
   pub moment_is : given.moment ≡ moment
   pub outcome : outcome_of given.outcome ≡ messages.Accept
-  pub singles : (history : List revisions.Part) → StandsFor held history → given.singles.items ≡ left_in history (part_of claim.part) claim.singles.items
-  pub series : (history : List revisions.Part) → StandsFor held history → IsSeriesLeft (rooms.is_hidden history (part_of claim.part)) claim.series given.series
+  pub singles : (history : List revisions.Part) → RepresentsHistory held history → given.singles.items ≡ left_in history (part_of claim.part) claim.singles.items
+  pub series : (history : List revisions.Part) → RepresentsHistory held history → IsSeriesLeft (rooms.is_hidden history (part_of claim.part)) claim.series given.series
   pub part : IsPartOf given.singles.items claim.singles.items
 
 -- a candidate with what was decided: it confirms something only where that is to accept it
@@ -276,7 +276,7 @@ pub record IsViewed (held : List revisions.Part) (place part : revisions.Part) :
 abbrev pub IsStill : List Slot → List revisions.Part → List revisions.Part → revisions.Part → Given → Option Given → Type 0
 IsStill slots before after part given None =
     HasNone before (at_slot part (slot_of given.slot))
-    ⊎ ((own : revisions.Part) × IsViewed before (at_slot part (slot_of given.slot)) own × ((history : List revisions.Part) → StandsFor after history → revisions.in_view history own ≡ false))
+    ⊎ ((own : revisions.Part) × IsViewed before (at_slot part (slot_of given.slot)) own × ((history : List revisions.Part) → RepresentsHistory after history → revisions.in_view history own ≡ false))
 IsStill slots before after part given (Some left) =
     (own : revisions.Part) × IsViewed before (at_slot part (slot_of given.slot)) own × IsInView after own × IsLeftOf slots after own given left
 

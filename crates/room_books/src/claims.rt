@@ -3,7 +3,7 @@
 ghost use Rattle.std.specs.Prelude.{◌≡◌, ◌<◌, ◌^◌, [], ◌∷◌, filter, true, IfOk, Option, if◌then◌else◌};
 ghost use Rattle.std.specs.List.{AllZip, list_any};
 ghost use Rattle.ical_values.specs.Octets.{address_octets};
-ghost use Rattle.itip_messages.specs.Messages.{StandsFor, has_part};
+ghost use Rattle.itip_messages.specs.Messages.{RepresentsMessage, has_part};
 ghost use Rattle.itip_order.specs.Parts.{part_of};
 ghost use Rattle.room_books.specs.Wholes.{is_of_whole};
 ghost use Rattle.profile.specs.rooms.Messages as profile;
@@ -23,7 +23,7 @@ pub fn claims_of(
     message: &RoomMessage,
     room: &Address,
 ) -> Result<Vec<Claim>, AllocError>
-    ensures { IfOk result (λ claims. (said : profile.Message) → StandsFor message.now said → AreClaimed (address_octets room.now) said claims.items) }
+    ensures { IfOk result (λ claims. (said : profile.Message) → RepresentsMessage message.now said → AreClaimed (address_octets room.now) said claims.items) }
 {
     if !message.is_addressed_to(room) {
         return Ok(Vec::new(alloc));

@@ -3,7 +3,7 @@
 ghost use Rattle.std.specs.Prelude.{◌≡◌, IfOk, IfSome, IfNone, OnOk, List};
 ghost use Rattle.ical_values.specs.Octets.{address_octets};
 ghost use Rattle.itip_order.specs.Parts.{part_of, slot_of};
-ghost use Rattle.itip_order.specs.Registers.{StandsFor};
+ghost use Rattle.itip_order.specs.Registers.{RepresentsHistory};
 ghost use Rattle.itip_messages.specs.Replies.{WritesLines, outcome_of as decision_outcome, slot_of as recurrence_slot};
 ghost use Rattle.profile.specs.rooms.Revisions as revisions;
 ghost use Rattle.profile.specs.rooms.Rooms.{Book};
@@ -12,7 +12,7 @@ ghost use Rattle.room_books.specs.declared.meeting.MeetingKey.{MeetingKey};
 ghost use Rattle.room_books.specs.declared.kept.Meeting.{Meeting};
 ghost use Rattle.room_books.specs.Views.{outcome_of};
 ghost use Rattle.room_books.specs.Takings.{answers_then, claims_said, octets_in, IsMade, OutcomeDated};
-ghost use Rattle.room_books.specs.Standing.{AreFitting, IsOwn, Meets, SlotDated};
+ghost use Rattle.room_books.specs.Representation.{AreFitting, IsOwn, Meets, SlotDated};
 ghost use Rattle.room_books.specs.BySlot.{AreBySlot};
 ghost use Rattle.room_books.specs.Replying.{AreShown, CanTell, AllTell, IsEventIn, IsReplyOf, ShowsGiven, WritesAnswers};
 
@@ -59,7 +59,7 @@ fn shown_in<'a>(
     claims: &'a [Claim],
     held: &Together<'_>,
 ) -> Result<Vec<&'a Claim>, AllocError>
-    ensures { IfOk result (λ shown. (history : List revisions.Part) → StandsFor held.now history → AreShown history claims.now shown.items) }
+    ensures { IfOk result (λ shown. (history : List revisions.Part) → RepresentsHistory held.now history → AreShown history claims.now shown.items) }
 {
     let mut shown = Vec::new(alloc);
     for claim in claims {

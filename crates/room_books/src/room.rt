@@ -8,10 +8,10 @@ ghost use Rattle.std.specs.Map.{lookup};
 ghost use Rattle.indexmap.specs.IndexMap.{keys, insert_index, IsUnchanged};
 ghost use Rattle.ical_values.specs.Octets.{address_octets};
 ghost use Rattle.itip_order.specs.Parts.{part_of};
-ghost use Rattle.itip_order.specs.Registers.{StandsFor as HoldsAll};
+ghost use Rattle.itip_order.specs.Registers.{RepresentsHistory};
 ghost use Rattle.profile.specs.rooms.Revisions as revisions;
 ghost use Rattle.profile.specs.checker.Instances.{IsClear};
-ghost use Rattle.itip_messages.specs.Messages.{StandsFor};
+ghost use Rattle.itip_messages.specs.Messages.{RepresentsMessage};
 ghost use Rattle.profile.specs.rooms.Messages as profile;
 ghost use Rattle.profile.specs.streams.Streams.{AreClaims};
 ghost use Rattle.profile.specs.rooms.Rooms as rooms;
@@ -29,8 +29,8 @@ ghost use Rattle.room_books.specs.BySlot.{AreBySlot};
 ghost use Rattle.std.specs.List.Sorted.{IsSortedByKey};
 ghost use Rattle.itip_order.specs.Parts.{slot_of};
 ghost use Rattle.profile.specs.rooms.Revisions.{slot_cmp};
-ghost use Rattle.room_books.specs.Takings.{StandsAt, IsMade, IsDecision, IsWholeDecision, IsAnswered, IsKindOf, MayJoinAll};
-ghost use Rattle.room_books.specs.Standing.{Stands, StepsWith, AreFitting, IsMeetingAfter, IsOwn, Meets, IsPutIn, IsRenewed};
+ghost use Rattle.room_books.specs.Takings.{HasHistory, IsMade, IsDecision, IsWholeDecision, IsAnswered, IsKindOf, MayJoinAll};
+ghost use Rattle.room_books.specs.Representation.{Represents, StepsWith, AreFitting, IsMeetingAfter, IsOwn, Meets, IsPutIn, IsRenewed};
 
 use crate::answer::{Answer, Kind, LimitKind};
 use crate::claim::Claim;
@@ -130,7 +130,7 @@ impl Confirmed for Room {
 impl Room {
     /// A room that has taken nothing.
     pub fn new(alloc: Global, address: Address) -> Room
-        ensures empty { Stands result.meetings.entries empty_book }
+        ensures empty { Represents result.meetings.entries empty_book }
         ensures address { result.address ≡ address }
     {
         Room {
@@ -167,7 +167,7 @@ impl Room {
     /// Where memory is refused nothing has changed.
     pub fn take(&mut self, message: &RoomMessage, now: Stamp) -> Result<Answer, AllocError>
         // From each book that the room represents, it makes a step of the room machine, with the claims of the message.
-        ensures steps { IfOk result (λ answer. (said : profile.Message) → StandsFor message.now said → (book : Book) → Stands self.old.meetings.entries book
+        ensures steps { IfOk result (λ answer. (said : profile.Message) → RepresentsMessage message.now said → (book : Book) → Represents self.old.meetings.entries book
             → (claims : List rooms.Claim) × AreClaims (address_octets self.old.address) said claims
             × StepsWith (address_octets self.old.address) self.new.meetings.entries book claims now (kind_view answer.kind) (reply_octets answer) (profile.is_add said.method) (refresh_octets answer)) }
         ensures address { self.new.address ≡ self.old.address }
@@ -184,14 +184,14 @@ impl Room {
 
     /// The kept calendar: each accepted part in the view, and what hides instances of an accepted whole, the meetings in order of first arrival.
     pub fn calendar_text(&self) -> Result<Vec<u8>, AllocError>
-        ensures { IfOk result (λ text. (book : Book) → Stands self.now.meetings.entries book → IsKeptCalendar (address_octets self.now.address) book text.items) }
+        ensures { IfOk result (λ text. (book : Book) → Represents self.now.meetings.entries book → IsKeptCalendar (address_octets self.now.address) book text.items) }
     {
         calendar_of(self.alloc, &self.meetings, &self.address)
     }
 
     /// The certificate that holds for the kept calendar.
     pub fn certificate_text(&self) -> Result<Vec<u8>, AllocError>
-        ensures { IfOk result (λ text. (book : Book) → Stands self.now.meetings.entries book → text.items ≡ kept_certificate book) }
+        ensures { IfOk result (λ text. (book : Book) → Represents self.now.meetings.entries book → text.items ≡ kept_certificate book) }
     {
         keys_differ(&self.meetings);
         let made = make(self.alloc, self)?;
@@ -211,7 +211,7 @@ impl Room {
     ) -> Result<Answer, AllocError>
         requires some { 0 < length claims.now }
         ensures steps { IfOk result (λ answer. ((key : MeetingKey) → IsKeyOf (part_of first.now).organiser (part_of first.now).uid key → AreFitting key (claims_said claims.now))
-            → (book : Book) → Stands self.old.meetings.entries book
+            → (book : Book) → Represents self.old.meetings.entries book
             → StepsWith (address_octets self.old.address) self.new.meetings.entries book (claims_said claims.now) now (kind_view answer.kind) (reply_octets answer) adds (refresh_octets answer)) }
         ensures address { self.new.address ≡ self.old.address }
         ensures err { OnErr result (IsUnchanged self.old.meetings self.new.meetings) }
@@ -246,12 +246,12 @@ impl Room {
         now: Stamp,
     ) -> Result<Taken, AllocError>
         requires some { 0 < length claims.now }
-        requires more { HoldsAll more.now (parts_said claims.now) }
+        requires more { RepresentsHistory more.now (parts_said claims.now) }
         ensures shifts { IfOk result (λ taken.
             Shifts (singles_by (lookup (same_key key.now) self.now.meetings.entries)) taken.gone.items taken.added.items
             (all_singles (answers_then (answers_by (lookup (same_key key.now) self.now.meetings.entries)) taken.changes))) }
         ensures after { IfOk result (λ taken. IsKeyOf (part_of first.now).organiser (part_of first.now).uid key.now → AreFitting key.now (claims_said claims.now)
-            → (book : Book) → Stands self.now.meetings.entries book → (meeting : Meeting)
+            → (book : Book) → Represents self.now.meetings.entries book → (meeting : Meeting)
             → IsMade (held_after (lookup (same_key key.now) self.now.meetings.entries) more.now) (answers_then (answers_by (lookup (same_key key.now) self.now.meetings.entries)) taken.changes) meeting
             → IsMeetingAfter book key.now (claims_said claims.now) now (kind_view taken.kind) meeting) }
         ensures joins { IfOk result (λ taken.
@@ -264,8 +264,8 @@ impl Room {
             → Meets own key.now meeting
             → Replies (address_octets self.now.address) own (claims_said claims.now) (octets_in taken.reply)) }
         ensures refreshes { IfOk result (λ taken. (before after : List revisions.Part)
-            → StandsAt (lookup (same_key key.now) self.now.meetings.entries) before
-            → HoldsAll (held_after (lookup (same_key key.now) self.now.meetings.entries) more.now) after
+            → HasHistory (lookup (same_key key.now) self.now.meetings.entries) before
+            → RepresentsHistory (held_after (lookup (same_key key.now) self.now.meetings.entries) more.now) after
             → Refreshes (address_octets self.now.address) adds before after (claims_said claims.now) now (octets_in taken.refresh)) }
     {
         keys_differ(&self.meetings);
@@ -307,7 +307,7 @@ impl Room {
         held: &Together<'_>,
         moment: Stamp,
     ) -> Result<Option<Vec<u8>>, AllocError>
-        ensures { IfOk result (λ refresh. (before after : List revisions.Part) → StandsAt (lookup (same_key key.now) self.now.meetings.entries) before → HoldsAll held.now after
+        ensures { IfOk result (λ refresh. (before after : List revisions.Part) → HasHistory (lookup (same_key key.now) self.now.meetings.entries) before → RepresentsHistory held.now after
             → Refreshes (address_octets self.now.address) adds before after (claims_said claims.now) moment (octets_in refresh)) }
     {
         if !adds {
@@ -346,11 +346,11 @@ impl Room {
         now: Stamp,
     ) -> Result<Settled, AllocError>
         requires some { 0 < length claims.now }
-        requires held { (history : List revisions.Part) → StandsAt (lookup (same_key key.now) self.now.meetings.entries) history
-            → HoldsAll held.now (history ++ parts_said claims.now) }
+        requires held { (history : List revisions.Part) → HasHistory (lookup (same_key key.now) self.now.meetings.entries) history
+            → RepresentsHistory held.now (history ++ parts_said claims.now) }
         ensures after { IfOk result (λ settled. IsKeyOf (part_of first.now).organiser (part_of first.now).uid key.now
             → AreFitting key.now (claims_said claims.now)
-            → (book : Book) → Stands self.now.meetings.entries book → (meeting : Meeting) → IsMade held.now (answers_then (answers_by (lookup (same_key key.now) self.now.meetings.entries)) settled.changes) meeting
+            → (book : Book) → Represents self.now.meetings.entries book → (meeting : Meeting) → IsMade held.now (answers_then (answers_by (lookup (same_key key.now) self.now.meetings.entries)) settled.changes) meeting
             → IsMeetingAfter book key.now (claims_said claims.now) now (kind_view settled.kind) meeting) }
         ensures shifts { IfOk result (λ settled.
             Shifts (singles_by (lookup (same_key key.now) self.now.meetings.entries)) settled.gone.items settled.added.items

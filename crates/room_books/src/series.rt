@@ -3,7 +3,7 @@
 ghost use Rattle.std.specs.Prelude.{◌≡◌, ◌≢◌, false, List, Some, IfOk};
 ghost use Rattle.std.specs.Option.{option_to_list};
 ghost use Rattle.itip_order.specs.Parts.{part_of, slot_of};
-ghost use Rattle.itip_order.specs.Registers.{StandsFor};
+ghost use Rattle.itip_order.specs.Registers.{RepresentsHistory};
 ghost use Rattle.profile.specs.checker.Instances.{Booked};
 ghost use Rattle.profile.specs.events.Starts.{IsInstance};
 ghost use Rattle.profile.specs.rooms.Revisions as revisions;
@@ -24,7 +24,7 @@ pub fn series_left(
     part: &Part,
     series: &Option<Series>,
 ) -> Result<Option<Series>, AllocError>
-    ensures left { IfOk result (λ left. (history : List revisions.Part) → StandsFor held.now history
+    ensures left { IfOk result (λ left. (history : List revisions.Part) → RepresentsHistory held.now history
         → IsSeriesLeft (rooms.is_hidden history (part_of part.now)) series.now left) }
     ensures fewer { IfOk result (λ left. AreFewer (option_to_list series.now) (option_to_list left)) }
 {
@@ -44,7 +44,7 @@ pub fn series_beside(
     slots: &[Slot],
     series: &Option<Series>,
 ) -> Result<Option<Series>, AllocError>
-    ensures left { IfOk result (λ left. (history : List revisions.Part) → StandsFor held.now history
+    ensures left { IfOk result (λ left. (history : List revisions.Part) → RepresentsHistory held.now history
         → IsSeriesLeft (is_hidden_by slots.now history (part_of part.now)) series.now left) }
     ensures fewer { IfOk result (λ left. AreFewer (option_to_list series.now) (option_to_list left)) }
 {
@@ -63,7 +63,7 @@ fn without_hidden(
     slots: &[Slot],
     series: &Series,
 ) -> Result<Series, AllocError>
-    ensures left { IfOk result (λ left. (history : List revisions.Part) → StandsFor held.now history
+    ensures left { IfOk result (λ left. (history : List revisions.Part) → RepresentsHistory held.now history
         → IsSeriesLeft (is_hidden_by slots.now history (part_of part.now)) (Some series.now) (Some left)) }
     ensures fewer { IfOk result (λ left. AreFewer (option_to_list (Some series.now)) (option_to_list (Some left))) }
 {
@@ -80,7 +80,7 @@ fn hidden_starts(
     part: &Part,
     slots: &[Slot],
 ) -> Result<Vec<i64>, AllocError>
-    ensures { IfOk result (λ starts. (history : List revisions.Part) → StandsFor held.now history
+    ensures { IfOk result (λ starts. (history : List revisions.Part) → RepresentsHistory held.now history
         → AreHiddenStarts slots.now history (part_of part.now) starts.items) }
 {
     let mut starts = Vec::new(alloc);
@@ -100,7 +100,7 @@ pub fn hides_start(
     slots: &[Slot],
     series: &Option<Series>,
 ) -> bool
-    ensures { result ≡ false → (history : List revisions.Part) → StandsFor held.now history
+    ensures { result ≡ false → (history : List revisions.Part) → RepresentsHistory held.now history
         → IsSeriesLeft (is_hidden_by slots.now history (part_of part.now)) series.now series.now }
 {
     let Some(series) = series else {
@@ -116,7 +116,7 @@ pub fn hides_start(
 
 /// Whether a part of this slot in the view hides a start of a part's series.
 fn hides_one(held: &Together<'_>, part: &Part, slot: Slot, series: &Series) -> bool
-    ensures { result ≡ false → (history : List revisions.Part) → StandsFor held.now history → (booked : Booked) → IsInstance (series_said series.now) booked
+    ensures { result ≡ false → (history : List revisions.Part) → RepresentsHistory held.now history → (booked : Booked) → IsInstance (series_said series.now) booked
         → slot_of slot ≡ revisions.At booked.key.slot → rooms.is_hidden history (part_of part.now) booked ≡ false }
 {
     cal_events::known_by_start();
@@ -128,7 +128,7 @@ fn hides_one(held: &Together<'_>, part: &Part, slot: Slot, series: &Series) -> b
 
 /// The original start of the instance of a part, where a part of this slot in the view hides it.
 fn hidden_start(held: &Together<'_>, part: &Part, slot: Slot) -> Option<i64>
-    ensures { (history : List revisions.Part) → StandsFor held.now history → IsHiddenStart history (part_of part.now) (slot_of slot) result }
+    ensures { (history : List revisions.Part) → RepresentsHistory held.now history → IsHiddenStart history (part_of part.now) (slot_of slot) result }
 {
     let Slot::At(start) = slot else {
         return None;

@@ -10,16 +10,16 @@ ghost use Rattle.std.specs.List.Sorted.{IsSortedByKey};
 ghost use Rattle.profile.specs.rooms.Revisions.{slot_cmp};
 ghost use Rattle.room_books.specs.Takings as takings;
 ghost use Rattle.room_books.specs.Touching as touching;
-ghost use Rattle.itip_order.specs.Registers.{StandsFor};
+ghost use Rattle.itip_order.specs.Registers.{RepresentsHistory};
 ghost use Rattle.room_books.specs.Views.{outcome_of, all_singles, all_series, series_by, singles_by, AreFewer};
 ghost use Rattle.std.specs.Option.{option_to_list};
 ghost use Rattle.room_books.specs.BySlot.{AreBySlot, givens};
 ghost use Rattle.room_books.specs.Instants.{IsPartOf, IsParted, IsSplit, Sheds};
 ghost use Rattle.room_books.specs.Touching.{IsUntouched};
 ghost use Rattle.room_books.specs.declared.meeting.Given.{Given};
-ghost use Rattle.room_books.specs.Standing.{KeepsAll, KeepsSome};
+ghost use Rattle.room_books.specs.Representation.{KeepsAll, KeepsSome};
 ghost use Rattle.profile.specs.checker.Instances.{Booked};
-ghost use Rattle.room_books.specs.Takings.{LeavesAll, StandsAt, held_after, AreAsked, booked_in, left_in, IsLeftOf, IsAccepted, IsDecided, IsKindOf};
+ghost use Rattle.room_books.specs.Takings.{LeavesAll, HasHistory, held_after, AreAsked, booked_in, left_in, IsLeftOf, IsAccepted, IsDecided, IsKindOf};
 ghost use Rattle.room_books.specs.Takings.{IsLeftAlone, IsStill, kept_then, kind_view, parts_said, series_still, singles_left};
 
 use crate::answer::Kind;
@@ -54,7 +54,7 @@ pub struct Views<'a> {
 
 /// The parts of these claims, as they are taken.
 pub fn parts_of(alloc: Global, claims: &[Claim]) -> Result<Held, AllocError>
-    ensures { IfOk result (λ parts. StandsFor parts (parts_said claims.now)) }
+    ensures { IfOk result (λ parts. RepresentsHistory parts (parts_said claims.now)) }
 {
     let mut parts = Held::new(alloc);
     for claim in claims {
@@ -76,14 +76,14 @@ pub fn held_with<'a>(before: Option<&'a Meeting>, more: &'a Held) -> Together<'a
 impl<'a> Views<'a> {
     /// Whether a part is in the view after.
     pub fn shows(&self, part: &Part) -> bool
-        ensures { (history : List revisions.Part) → StandsFor self.now.after.now history → result ≡ revisions.in_view history (part_of part.now) }
+        ensures { (history : List revisions.Part) → RepresentsHistory self.now.after.now history → result ≡ revisions.in_view history (part_of part.now) }
     {
         self.after.shows(part)
     }
 
     /// Whether a part is in the view before.
     fn showed(&self, part: &Part) -> bool
-        ensures { (history : List revisions.Part) → StandsAt (option_copied self.now.before) history → result ≡ revisions.in_view history (part_of part.now) }
+        ensures { (history : List revisions.Part) → HasHistory (option_copied self.now.before) history → result ≡ revisions.in_view history (part_of part.now) }
     {
         match self.before {
             Some(meeting) => meeting.held.shows(part),
@@ -93,7 +93,7 @@ impl<'a> Views<'a> {
 
     /// Whether a part is in the view after, and wasn't before.
     pub fn is_fresh(&self, part: &Part) -> bool
-        ensures { (before after : List revisions.Part) → StandsAt (option_copied self.now.before) before → StandsFor self.now.after.now after
+        ensures { (before after : List revisions.Part) → HasHistory (option_copied self.now.before) before → RepresentsHistory self.now.after.now after
             → result ≡ rooms.is_fresh before after (part_of part.now) }
     {
         self.shows(part) && !self.showed(part)
@@ -101,7 +101,7 @@ impl<'a> Views<'a> {
 
     /// Whether a part is in the view before and after.
     pub fn is_same(&self, part: &Part) -> bool
-        ensures { (before after : List revisions.Part) → StandsAt (option_copied self.now.before) before → StandsFor self.now.after.now after
+        ensures { (before after : List revisions.Part) → HasHistory (option_copied self.now.before) before → RepresentsHistory self.now.after.now after
             → result ≡ rooms.is_same before after (part_of part.now) }
     {
         self.shows(part) && self.showed(part)
@@ -113,7 +113,7 @@ impl<'a> Views<'a> {
         alloc: Global,
         claims: &'b [Claim],
     ) -> Result<Vec<&'b Claim>, AllocError>
-        ensures { IfOk result (λ asked. (before after : List revisions.Part) → StandsAt (option_copied self.now.before) before → StandsFor self.now.after.now after
+        ensures { IfOk result (λ asked. (before after : List revisions.Part) → HasHistory (option_copied self.now.before) before → RepresentsHistory self.now.after.now after
             → AreAsked before after claims.now asked.items) }
     {
         let mut asked = Vec::new(alloc);
@@ -127,7 +127,7 @@ impl<'a> Views<'a> {
 
     /// What became of a message with these claims, where this was decided of those that get an answer now.
     pub fn kind_of(&self, claims: &[Claim], outcome: &Option<Outcome>) -> Result<Kind, AllocError>
-        ensures { IfOk result (λ kind. (before after : List revisions.Part) → StandsAt (option_copied self.now.before) before → StandsFor self.now.after.now after
+        ensures { IfOk result (λ kind. (before after : List revisions.Part) → HasHistory (option_copied self.now.before) before → RepresentsHistory self.now.after.now after
             → IsKindOf before after claims.now outcome.now kind) }
     {
         if let Some(outcome) = outcome {
@@ -143,7 +143,7 @@ impl<'a> Views<'a> {
     }
 
     fn any_fresh(&self, claims: &[Claim]) -> bool
-        ensures { (before after : List revisions.Part) → StandsAt (option_copied self.now.before) before → StandsFor self.now.after.now after
+        ensures { (before after : List revisions.Part) → HasHistory (option_copied self.now.before) before → RepresentsHistory self.now.after.now after
             → result ≡ list_any (rooms.is_fresh before after) (parts_said claims.now) }
     {
         for claim in claims {
@@ -155,7 +155,7 @@ impl<'a> Views<'a> {
     }
 
     fn any_same(&self, claims: &[Claim]) -> bool
-        ensures { (before after : List revisions.Part) → StandsAt (option_copied self.now.before) before → StandsFor self.now.after.now after
+        ensures { (before after : List revisions.Part) → HasHistory (option_copied self.now.before) before → RepresentsHistory self.now.after.now after
             → result ≡ list_any (rooms.is_same before after) (parts_said claims.now) }
     {
         for claim in claims {
@@ -169,7 +169,7 @@ impl<'a> Views<'a> {
     /// The first claim whose part is fresh where nothing of the whole was ever taken, if there is one.
     pub fn unheard<'b>(&self, claims: &'b [Claim]) -> Option<&'b Claim>
         ensures found { IfSome result (λ claim. Contains claims.now claim.now) }
-        ensures wanted { (before after : List revisions.Part) → StandsAt (option_copied self.now.before) before → StandsFor self.now.after.now after
+        ensures wanted { (before after : List revisions.Part) → HasHistory (option_copied self.now.before) before → RepresentsHistory self.now.after.now after
             → is_some result ≡ list_any (λ part. rooms.is_fresh before after part && rooms.lacks_whole after part) (parts_said claims.now) }
     {
         for claim in claims {
@@ -182,7 +182,7 @@ impl<'a> Views<'a> {
 
     /// Whether a part is fresh, and nothing of the whole of its meeting was ever taken.
     fn is_unheard(&self, part: &Part) -> bool
-        ensures { (before after : List revisions.Part) → StandsAt (option_copied self.now.before) before → StandsFor self.now.after.now after
+        ensures { (before after : List revisions.Part) → HasHistory (option_copied self.now.before) before → RepresentsHistory self.now.after.now after
             → result ≡ (rooms.is_fresh before after (part_of part.now) && rooms.lacks_whole after (part_of part.now)) }
     {
         self.is_fresh(part) && lacks_whole(self.after, part)
@@ -326,7 +326,7 @@ fn stays(
 /// Whether no part of these slots in the view hides an instance that these answers to a part confirm.
 fn confirms_all(held: &Together<'_>, part: &Part, slots: &[Slot], answers: &[Given]) -> bool
     requires { IsSortedByKey slot_of slot_cmp slots.now }
-    ensures { IsTrue result → (history : List revisions.Part) → StandsFor held.now history → (given : Given) → Contains answers.now given
+    ensures { IsTrue result → (history : List revisions.Part) → RepresentsHistory held.now history → (given : Given) → Contains answers.now given
         → LeavesAll slots.now history (part_of part.now) given }
 {
     for given in answers {
@@ -340,7 +340,7 @@ fn confirms_all(held: &Together<'_>, part: &Part, slots: &[Slot], answers: &[Giv
 /// Whether a part of these slots in the view hides one of a part's instances.
 fn any_hidden(held: &Together<'_>, part: &Part, slots: &[Slot], singles: &[Single]) -> bool
     requires { IsSortedByKey slot_of slot_cmp slots.now }
-    ensures { result ≡ false → (history : List revisions.Part) → StandsFor held.now history
+    ensures { result ≡ false → (history : List revisions.Part) → RepresentsHistory held.now history
         → singles.now ≡ takings.left_beside slots.now history (part_of part.now) singles.now }
 {
     for single in singles {
@@ -353,7 +353,7 @@ fn any_hidden(held: &Together<'_>, part: &Part, slots: &[Slot], singles: &[Singl
 
 /// Whether nothing was ever taken of the whole of a part's meeting. The greatest part of the whole is in the view, whatever it says.
 fn lacks_whole(held: &Together<'_>, part: &Part) -> bool
-    ensures { (history : List revisions.Part) → StandsFor held.now history → result ≡ rooms.lacks_whole history (part_of part.now) }
+    ensures { (history : List revisions.Part) → RepresentsHistory held.now history → result ≡ rooms.lacks_whole history (part_of part.now) }
 {
     held.part_in(part, Slot::Whole).is_none()
 }
@@ -399,7 +399,7 @@ impl Given {
     /// Whether no part of these slots in the view hides an instance that this answer to a part confirms.
     fn confirms_all(&self, held: &Together<'_>, part: &Part, slots: &[Slot]) -> bool
         requires { IsSortedByKey slot_of slot_cmp slots.now }
-        ensures { IsTrue result → (history : List revisions.Part) → StandsFor held.now history → LeavesAll slots.now history (part_of part.now) self.now }
+        ensures { IsTrue result → (history : List revisions.Part) → RepresentsHistory held.now history → LeavesAll slots.now history (part_of part.now) self.now }
     {
         if any_hidden(held, part, slots, &self.singles) {
             return false;
@@ -492,7 +492,7 @@ fn left_of(
     part: &Part,
     singles: &[Single],
 ) -> Result<Vec<Single>, AllocError>
-    ensures left { IfOk result (λ left. (history : List revisions.Part) → StandsFor held.now history → left.items ≡ left_in history (part_of part.now) singles.now) }
+    ensures left { IfOk result (λ left. (history : List revisions.Part) → RepresentsHistory held.now history → left.items ≡ left_in history (part_of part.now) singles.now) }
     ensures part { IfOk result (λ left. IsPartOf left.items singles.now) }
 {
     let mut left = Vec::new(alloc);
@@ -515,7 +515,7 @@ fn left_beside(
     gone: &mut Vec<Single>,
 ) -> Result<Vec<Single>, AllocError>
     requires { IsSortedByKey slot_of slot_cmp slots.now }
-    ensures left { IfOk result (λ left. (history : List revisions.Part) → StandsFor held.now history
+    ensures left { IfOk result (λ left. (history : List revisions.Part) → RepresentsHistory held.now history
         → left.items ≡ takings.left_beside slots.now history (part_of part.now) singles.now) }
     ensures sheds { IfOk result (λ left. Sheds singles.now left.items gone.old.items gone.new.items) }
 {
@@ -532,14 +532,14 @@ fn left_beside(
 
 /// Whether another part in the view hides an instance of a part.
 fn is_hidden(held: &Together<'_>, part: &Part, single: Single) -> bool
-    ensures { (history : List revisions.Part) → StandsFor held.now history → result ≡ rooms.is_hidden history (part_of part.now) (booked_in (part_of part.now) single) }
+    ensures { (history : List revisions.Part) → RepresentsHistory held.now history → result ≡ rooms.is_hidden history (part_of part.now) (booked_in (part_of part.now) single) }
 {
     is_start_hidden(held, part, single.slot)
 }
 
 /// Whether another part in the view hides the instance of a part with this original start.
 pub fn is_start_hidden(held: &Together<'_>, part: &Part, start: i64) -> bool
-    ensures { (history : List revisions.Part) → StandsFor held.now history → (booked : Booked) → booked.key.slot ≡ start
+    ensures { (history : List revisions.Part) → RepresentsHistory held.now history → (booked : Booked) → booked.key.slot ≡ start
         → result ≡ rooms.is_hidden history (part_of part.now) booked }
 {
     match part.slot {
@@ -551,7 +551,7 @@ pub fn is_start_hidden(held: &Together<'_>, part: &Part, start: i64) -> bool
 /// Whether another part in the view, of one of these slots, hides an instance of a part.
 fn is_hidden_by(slots: &[Slot], held: &Together<'_>, part: &Part, single: Single) -> bool
     requires { IsSortedByKey slot_of slot_cmp slots.now }
-    ensures { (history : List revisions.Part) → StandsFor held.now history
+    ensures { (history : List revisions.Part) → RepresentsHistory held.now history
         → result ≡ (touching.is_touched slots.now (revisions.At single.slot) && rooms.is_hidden history (part_of part.now) (booked_in
         (part_of part.now) single)) }
 {

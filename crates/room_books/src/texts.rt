@@ -10,7 +10,7 @@ ghost use Rattle.profile.specs.checker.Certificates.{text_of};
 ghost use Rattle.profile.specs.rooms.Kept.{IsKeptCalendar};
 ghost use Rattle.profile.specs.rooms.Revisions.{is_whole, slot_cmp};
 ghost use Rattle.profile.specs.rooms.Rooms.{Book};
-ghost use Rattle.room_books.specs.Standing.{Stands};
+ghost use Rattle.room_books.specs.Representation.{Represents};
 ghost use Rattle.room_books.specs.Keeping.{WritesEntries, WritesHead, accepted_slots, all_kept, entry_of, has_slot, kept_in};
 
 use crate::decide::{Meetings, keys_differ};
@@ -31,7 +31,7 @@ pub(crate) fn calendar_of(
     meetings: &Meetings,
     room: &Address,
 ) -> Result<Vec<u8>, AllocError>
-    ensures { IfOk result (λ text. (book : Book) → Stands meetings.now.entries book
+    ensures { IfOk result (λ text. (book : Book) → Represents meetings.now.entries book
         → IsKeptCalendar (address_octets room.now) book text.items) }
 {
     keys_differ(meetings);

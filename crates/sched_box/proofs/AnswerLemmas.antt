@@ -4,14 +4,14 @@ use Rattle.std.specs.Option.{option_to_list}
 use Rattle.std.specs.List.{flat_map}
 use Rattle.std.proofs.lemmas.List.{append_assoc, append-nil, get_or-map, map-append, take-append-drop, take_more, take_more_set, drop_more, drop_all, drop-set-lt}
 use Rattle.ical_values.specs.Octets.{address_octets}
-use Rattle.itip_messages.specs.Messages.{StandsFor}
+use Rattle.itip_messages.specs.Messages.{RepresentsMessage}
 use Rattle.itip_messages.specs.declared.room_message.RoomMessage.{RoomMessage}
 use Rattle.profile.specs.rooms.Messages as profile
 use Rattle.profile.specs.rooms.Rooms as machine
 use Rattle.profile.specs.rooms.Rooms.{Book, Claim, IsStep}
 use Rattle.profile.specs.rooms.Kept.{Replies, Refreshes}
 use Rattle.profile.specs.streams.Streams.{AllTake, AreClaims, Hosted, refused_line}
-use Rattle.room_books.specs.Standing.{Stands, StepsWith}
+use Rattle.room_books.specs.Representation.{Represents, StepsWith}
 use Rattle.room_books.specs.declared.room.Room.{Room}
 use Rattle.sched_box.specs.Answering.{room_addresses, AreHosted, RoomTakes, RoomsTake, sent_octets}
 use Rattle.sched_box.specs.Asked.{asks}
@@ -26,17 +26,17 @@ sent_is (Some x) None = refl
 sent_is (Some x) (Some y) = ap (λ z. x ++ z) (sym (append-nil y))
 
 pub room_takes : (moment : ℤ) (message : RoomMessage) (old new : Room) (kind : machine.Kind) (reply refresh : Option (List ℕ))
-    → ((said : profile.Message) → StandsFor message said → (book : Book) → Stands old.meetings.entries book
+    → ((said : profile.Message) → RepresentsMessage message said → (book : Book) → Represents old.meetings.entries book
     → (claims : List Claim) × AreClaims (address_octets old.address) said claims × StepsWith (address_octets old.address) new.meetings.entries book claims moment kind reply (profile.is_add said.method) refresh)
     → new.address ≡ old.address → RoomTakes moment message old new (sent_octets reply ++ sent_octets refresh)
-room_takes moment message old new kind reply refresh steps same said stands before has =
+room_takes moment message old new kind reply refresh steps same said represented before has =
     let room = address_octets old.address in
-    let (claims, are, with') = steps said stands before.book has.stands in
+    let (claims, are, with') = steps said represented before.book has.represents in
     let P : List ℕ → Type 0 = λ a. AreClaims a said claims in
     let Q : List ℕ → Type 0 = λ a. Replies a with'.steps.after claims reply in
     let R : List ℕ → Type 0 = λ a. Refreshes a (profile.is_add said.method) before.book.taken with'.steps.after.taken claims moment refresh in (
       record { address = before.address; book = with'.steps.after },
-      record { at = has.at ∙ ap address_octets (sym same); stands = with'.steps.stands },
+      record { at = has.at ∙ ap address_octets (sym same); represents = with'.steps.represents },
       record {
         same = refl;
         claims = claims;
@@ -68,16 +68,16 @@ same_addresses moment message (o ∷ os) [] octets r = absurd r
 same_addresses moment message (o ∷ os) (n ∷ ns) octets (one, rest, is, here, takes, others) =
     ap (λ a. address_octets a ∷ room_addresses ns) here ∙ ap (λ z. address_octets o.address ∷ z) (same_addresses moment message os ns rest others)
 
-pub all_take : (moment : ℤ) (message : RoomMessage) (said : profile.Message) → StandsFor message said → (olds news : List Room) (octets : List ℕ) → RoomsTake moment message olds news octets
+pub all_take : (moment : ℤ) (message : RoomMessage) (said : profile.Message) → RepresentsMessage message said → (olds news : List Room) (octets : List ℕ) → RoomsTake moment message olds news octets
     → (before : List Hosted) → AreHosted olds before → (after : List Hosted) × AreHosted news after × AllTake moment said before after octets
-all_take moment message said stands [] [] octets r [] h = ([], tt, r)
-all_take moment message said stands [] [] octets r (b ∷ bs) h = absurd h
-all_take moment message said stands [] (n ∷ ns) octets r before h = absurd r
-all_take moment message said stands (o ∷ os) [] octets r before h = absurd r
-all_take moment message said stands (o ∷ os) (n ∷ ns) octets r [] h = absurd h
-all_take moment message said stands (o ∷ os) (n ∷ ns) octets (one, rest, is, here, takes, others) (b ∷ bs) h =
-    let (after, has, first) = takes said stands b h.0 in
-    let (afters, have, more) = all_take moment message said stands os ns rest others bs h.1 in
+all_take moment message said represented [] [] octets r [] h = ([], tt, r)
+all_take moment message said represented [] [] octets r (b ∷ bs) h = absurd h
+all_take moment message said represented [] (n ∷ ns) octets r before h = absurd r
+all_take moment message said represented (o ∷ os) [] octets r before h = absurd r
+all_take moment message said represented (o ∷ os) (n ∷ ns) octets r [] h = absurd h
+all_take moment message said represented (o ∷ os) (n ∷ ns) octets (one, rest, is, here, takes, others) (b ∷ bs) h =
+    let (after, has, first) = takes said represented b h.0 in
+    let (afters, have, more) = all_take moment message said represented os ns rest others bs h.1 in
     (after ∷ afters, (has, have), (one, rest, is, first, more))
 
 -- ---- the loop over the rooms

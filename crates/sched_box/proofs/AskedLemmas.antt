@@ -203,15 +203,15 @@ off_at (f ∷ fs) (suc place) within off = off_at fs place (omega arith) off
 
 -- it takes no parts, and answers nothing
 pub left_out : (moment : ℤ) (message : RoomMessage) (room : Room) → asks message (address_octets room.address) ≡ false → RoomTakes moment message room room []
-left_out moment message room none said stands before has =
+left_out moment message room none said represented before has =
     let a = address_octets room.address in
-    let off : is_addressed a said ≡ false = sym (addressed a message said stands) ∙ none in (
+    let off : is_addressed a said ≡ false = sym (addressed a message said represented) ∙ none in (
       before,
       has,
       record {
         same = refl;
         claims = [];
-        are = subst (λ r. AreClaims r said []) (sym has.at) (record { events = []; are = no_events a message said stands off; each = tt });
+        are = subst (λ r. AreClaims r said []) (sym has.at) (record { events = []; are = no_events a message said represented off; each = tt });
         outcome = Accept;
         step = record { taken = sym (append-nil _); answers = sym (append-nil _); decided = λ some. absurd (false≢true some) };
         reply = None;

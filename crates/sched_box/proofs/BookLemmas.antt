@@ -21,8 +21,8 @@ pub rooms_taken : (moment : ℤ) (kept : List ℕ) (message : RoomMessage) (old 
     → ((object : List ℕ) → kept ≡ kept_of object → IsSpelled object (read.ToRooms message)) → RoomsTake moment message old.rooms.rooms.items new.rooms.rooms.items octets
     → new.organisers ≡ old.organisers → TakesKept moment kept old new octets
 rooms_taken moment kept message old new octets spelled takes same object is before have =
-    let (said, spells, stands) = spelled object is in
-    let (after, hosted, all) = all_take moment message said stands old.rooms.rooms.items new.rooms.rooms.items octets takes before.rooms have.rooms in (
+    let (said, spells, represented) = spelled object is in
+    let (after, hosted, all) = all_take moment message said represented old.rooms.rooms.items new.rooms.rooms.items octets takes before.rooms have.rooms in (
       record { rooms = after; organisers = before.organisers },
       record { rooms = hosted; organisers = subst (λ o. AreKeptBy o.organisers.items before.organisers) (sym same) have.organisers },
       (ToRooms said, spells, (all, refl)),
@@ -32,8 +32,8 @@ pub organiser_taken : (moment : ℤ) (kept : List ℕ) (message : OrganiserObjec
     → ((object : List ℕ) → kept ≡ kept_of object → IsSpelled object (read.ToOrganiser message)) → OrganisersTake moment message old.organisers.organisers.items new.organisers.organisers.items octets
     → new.rooms ≡ old.rooms → TakesKept moment kept old new octets
 organiser_taken moment kept message old new octets spelled takes same object is before have =
-    let (said, spells, stands) = spelled object is in
-    let (after, hosted, taken) = takes said stands before.organisers have.organisers in (
+    let (said, spells, represented) = spelled object is in
+    let (after, hosted, taken) = takes said represented before.organisers have.organisers in (
       record { rooms = before.rooms; organisers = after },
       record { rooms = subst (λ r. AreHosted r.rooms.items before.rooms) (sym same) have.rooms; organisers = hosted },
       (ToOrganiser said, spells, (taken, refl)),
@@ -51,8 +51,8 @@ pub unhosted : (kept : List ℕ) (message : OrganiserObject) (books : Books) (f 
     → RefusesBy (OrganisersRefuse message books.organisers.organisers.items) f → RefusesBy (RefusesKept kept books) f
 unhosted kept message books Memory spelled h = tt
 unhosted kept message books (Refused r) spelled h = λ object is before have.
-    let (said, spells, stands) = spelled object is in
-    inr (said, spells, h said stands before.organisers have.organisers)
+    let (said, spells, represented) = spelled object is in
+    inr (said, spells, h said represented before.organisers have.organisers)
 
 -- their books are as before, and so is the box
 pub kept_on : (old new : Books) → KeepBooks old.organisers.organisers.items new.organisers.organisers.items → new.rooms ≡ old.rooms → KeepAll old new

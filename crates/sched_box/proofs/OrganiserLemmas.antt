@@ -12,10 +12,10 @@ use Rattle.ical_lines.specs.declared.fault.Fault.TheVariants.{Refused, Memory}
 use Rattle.ical_values.specs.Octets.{address_octets}
 use Rattle.ical_values.specs.Refused.{IfRefused}
 use Rattle.ical_values.specs.declared.address.Address.{Address}
-use Rattle.itip_messages.specs.OrganiserObjects.{StandsForObject, operation_said}
+use Rattle.itip_messages.specs.OrganiserObjects.{RepresentsObject, operation_said}
 use Rattle.itip_messages.specs.declared.organiser_object.OrganiserObject.{OrganiserObject}
 use Rattle.organiser_books.specs.Calls.{AnswersRefresh, CallFault, MayTake, other_kind, other_organiser, in_state as call_in_state, sent_of}
-use Rattle.organiser_books.specs.Standing.{Keeps, address_of}
+use Rattle.organiser_books.specs.Representation.{Keeps, address_of}
 use Rattle.organiser_books.specs.declared.organiser.Organiser.{Organiser}
 use Rattle.organiser_books.specs.declared.outgoing.Outgoing.{Outgoing}
 use Rattle.profile.specs.organisers.Objects as profile
@@ -43,31 +43,31 @@ call_fault operation address said book n kind to (other_organiser no') = absurd 
 call_fault operation address said book n kind to (call_in_state is own fault) = fault
 
 pub refused_by : (operation : Operation) (object : OrganiserObject) (organiser : Organiser) (f : Fault) → operation_said object.operation ≡ operation
-    → RefusesBy (λ n. (said : profile.OrganiserObject) → StandsForObject object said → (book : OrganiserBook) → Keeps organiser book → CallFault operation (address_of organiser) said book n) f
+    → RefusesBy (λ n. (said : profile.OrganiserObject) → RepresentsObject object said → (book : OrganiserBook) → Keeps organiser book → CallFault operation (address_of organiser) said book n) f
     → RefusesBy (OrganiserRefuses object organiser) f
 refused_by operation object organiser Memory kind h = tt
 refused_by operation object organiser (Refused r) kind h =
-    λ said stands to book keeps. call_fault operation (address_of organiser) said book r.number (sym stands.operation ∙ kind) to (h said stands book keeps)
+    λ said represented to book keeps. call_fault operation (address_of organiser) said book r.number (sym represented.operation ∙ kind) to (h said represented book keeps)
 
 pub store_takes : (moment : ℤ) (object : OrganiserObject) (old new : Organiser) (sent : List Outgoing) → operation_said object.operation ≡ profile.Store
-    → ((said : profile.OrganiserObject) → StandsForObject object said → (book : OrganiserBook) → Keeps old book
+    → ((said : profile.OrganiserObject) → RepresentsObject object said → (book : OrganiserBook) → Keeps old book
     → MayTake profile.Store (address_of old) said book × ((after : OrganiserBook) × IsStore moment said book (map sent_of sent) after × Keeps new after))
     → OrganiserTakes moment object old new (flat_map (λ one. one.octets.items) sent)
-store_takes moment object old new sent kind steps said stands to book keeps =
-    let (may, (after, store, has)) = steps said stands book keeps in
-    (after, has, served profile.Store moment (address_of old) said book after _ (sym stands.operation ∙ kind) may (map sent_of sent, store, sym (flat_map-map (λ (one : Sent). one.octets) sent_of sent)))
+store_takes moment object old new sent kind steps said represented to book keeps =
+    let (may, (after, store, has)) = steps said represented book keeps in
+    (after, has, served profile.Store moment (address_of old) said book after _ (sym represented.operation ∙ kind) may (map sent_of sent, store, sym (flat_map-map (λ (one : Sent). one.octets) sent_of sent)))
 
 pub reply_takes : (moment : ℤ) (object : OrganiserObject) (old new : Organiser) → operation_said object.operation ≡ profile.Reply
-    → ((said : profile.OrganiserObject) → StandsForObject object said → (book : OrganiserBook) → Keeps old book
+    → ((said : profile.OrganiserObject) → RepresentsObject object said → (book : OrganiserBook) → Keeps old book
     → MayTake profile.Reply (address_of old) said book × Keeps new (after_reply said book))
     → OrganiserTakes moment object old new []
-reply_takes moment object old new kind steps said stands to book keeps =
-    let (may, has) = steps said stands book keeps in
-    (after_reply said book, has, served profile.Reply moment (address_of old) said book (after_reply said book) [] (sym stands.operation ∙ kind) may (refl, refl))
+reply_takes moment object old new kind steps said represented to book keeps =
+    let (may, has) = steps said represented book keeps in
+    (after_reply said book, has, served profile.Reply moment (address_of old) said book (after_reply said book) [] (sym represented.operation ∙ kind) may (refl, refl))
 
 -- nothing is appended for it
 pub reply_answers : {A E : Type 0} (r : Result A E) (moment : ℤ) (object : OrganiserObject) (old new : Organiser) (answers : List ℕ) → operation_said object.operation ≡ profile.Reply
-    → IfOk r (λ _. (said : profile.OrganiserObject) → StandsForObject object said → (book : OrganiserBook) → Keeps old book
+    → IfOk r (λ _. (said : profile.OrganiserObject) → RepresentsObject object said → (book : OrganiserBook) → Keeps old book
     → MayTake profile.Reply (address_of old) said book × Keeps new (after_reply said book))
     → OnOk r ((more : List ℕ) × (answers ≡ answers ++ more) × OrganiserTakes moment object old new more)
 reply_answers (Ok u) moment object old new answers kind steps = ([], sym (append-nil answers), reply_takes moment object old new kind steps)
@@ -80,12 +80,12 @@ reply_keeps (Err Memory) old new answers keeps = tt
 reply_keeps (Err (Refused x)) old new answers keeps = (keeps, refl)
 
 pub refresh_takes : (moment : ℤ) (object : OrganiserObject) (organiser : Organiser) (octets : List ℕ) → operation_said object.operation ≡ profile.Refresh
-    → ((said : profile.OrganiserObject) → StandsForObject object said → (book : OrganiserBook) → Keeps organiser book
+    → ((said : profile.OrganiserObject) → RepresentsObject object said → (book : OrganiserBook) → Keeps organiser book
     → MayTake profile.Refresh (address_of organiser) said book × AnswersRefresh said book octets)
     → OrganiserTakes moment object organiser organiser octets
-refresh_takes moment object organiser octets kind steps said stands to book keeps =
-    let (may, (stored, last, is)) = steps said stands book keeps in
-    (book, keeps, served profile.Refresh moment (address_of organiser) said book book octets (sym stands.operation ∙ kind) may (stored, last, refl, is))
+refresh_takes moment object organiser octets kind steps said represented to book keeps =
+    let (may, (stored, last, is)) = steps said represented book keeps in
+    (book, keeps, served profile.Refresh moment (address_of organiser) said book book octets (sym represented.operation ∙ kind) may (stored, last, refl, is))
 
 -- ---- the one in its place
 
@@ -133,15 +133,15 @@ take_in moment said (o ∷ os) (suc place) d new octets within to same takes (b 
 abbrev pub IsNamed : OrganiserObject → List Organiser → ℕ → Type 0
 IsNamed object olds place = get_or (organiser_addresses olds) place [] ≡ address_octets object.organiser
 
-named : (object : OrganiserObject) (said : profile.OrganiserObject) (olds : List Organiser) (place : ℕ) (d : Organiser) → place < length olds → IsNamed object olds place → StandsForObject object said
+named : (object : OrganiserObject) (said : profile.OrganiserObject) (olds : List Organiser) (place : ℕ) (d : Organiser) → place < length olds → IsNamed object olds place → RepresentsObject object said
     → said.organiser ≡ address_of (get_or olds place d)
-named object said olds place d within is stands = sym (named_at olds place d said.organiser within (is ∙ stands.organiser))
+named object said olds place d within is represented = sym (named_at olds place d said.organiser within (is ∙ represented.organiser))
 
 pub taken_at : (moment : ℤ) (object : OrganiserObject) (olds : List Organiser) (place : ℕ) (d new : Organiser) (octets : List ℕ) → place < length olds → IsNamed object olds place
     → address_of new ≡ address_of (get_or olds place d) → OrganiserTakes moment object (get_or olds place d) new octets → OrganisersTake moment object olds (set olds place new) octets
-taken_at moment object olds place d new octets within is same takes said stands before have =
-    let to = named object said olds place d within is stands in
-    take_in moment said olds place d new octets within to same (takes said stands to) before have
+taken_at moment object olds place d new octets within is same takes said represented before have =
+    let to = named object said olds place d within is represented in
+    take_in moment said olds place d new octets within to same (takes said represented to) before have
 
 fault_in : (said : profile.OrganiserObject) (n : ℕ) (olds : List Organiser) (place : ℕ) (d : Organiser) → place < length olds → said.organiser ≡ address_of (get_or olds place d)
     → ((book : OrganiserBook) → Keeps (get_or olds place d) book → StateFault said book n) → (before : List HostedOrganiser) → AreKeptBy olds before
@@ -150,15 +150,15 @@ fault_in said n [] place d within to fault before have = absurd (omega arith)
 fault_in said n (o ∷ os) place d within to fault [] have = absurd have
 fault_in said n (o ∷ os) zero d within to fault (b ∷ bs) have = (b, (zero, omega arith, refl), have.0.at ∙ sym to, fault b.book have.0.keeps)
 fault_in said n (o ∷ os) (suc place) d within to fault (b ∷ bs) have =
-    let (host, (k, l, is), address, stands) = fault_in said n os place d (omega arith) to fault bs have.1 in
-    (host, (suc k, omega arith, is), address, stands)
+    let (host, (k, l, is), address, represented) = fault_in said n os place d (omega arith) to fault bs have.1 in
+    (host, (suc k, omega arith, is), address, represented)
 
 pub refused_at : (object : OrganiserObject) (olds : List Organiser) (place : ℕ) (d : Organiser) (f : Fault) → place < length olds → IsNamed object olds place
     → RefusesBy (OrganiserRefuses object (get_or olds place d)) f → RefusesBy (OrganisersRefuse object olds) f
 refused_at object olds place d Memory within is h = tt
-refused_at object olds place d (Refused r) within is h = λ said stands before have.
-    let to = named object said olds place d within is stands in
-    let (host, among, address, fault) = fault_in said r.number olds place d within to (h said stands to) before have in
+refused_at object olds place d (Refused r) within is h = λ said represented before have.
+    let to = named object said olds place d within is represented in
+    let (host, among, address, fault) = fault_in said r.number olds place d within to (h said represented to) before have in
     in_state host among address fault
 
 keep_in : (olds : List Organiser) (place : ℕ) (d new : Organiser) → address_of new ≡ address_of (get_or olds place d) → KeepsBook (get_or olds place d) new → KeepBooks olds (set olds place new)
@@ -189,7 +189,7 @@ none_named said a (o ∷ os) (b ∷ bs) to none have =
     ap (λ t. t || list_any (λ host. bytes_eq host.address said.organiser) bs) other ∙ none_named said a os bs to both.1 have.1
 
 pub refused_unhosted : (object : OrganiserObject) (olds : List Organiser) → list_any (bytes_eq (address_octets object.organiser)) (organiser_addresses olds) ≡ false → OrganisersRefuse object olds 70
-refused_unhosted object olds none said stands before have = not_hosted (none_named said (address_octets object.organiser) olds before stands.organiser none have)
+refused_unhosted object olds none said represented before have = not_hosted (none_named said (address_octets object.organiser) olds before represented.organiser none have)
 
 -- ---- empty organisers
 

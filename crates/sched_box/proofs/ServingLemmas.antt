@@ -24,7 +24,7 @@ use Rattle.profile.specs.rooms.Kept.{IsKeptCalendar, kept_certificate}
 use Rattle.ical_values.specs.Octets.{address_octets}
 use Rattle.ical_values.specs.declared.address.Address.{Address}
 use Rattle.profile.specs.rooms.Rooms.{empty_book}
-use Rattle.room_books.specs.Standing.{Stands}
+use Rattle.room_books.specs.Representation.{Represents}
 use Rattle.sched_box.specs.declared.fault.StreamFault.{StreamFault}
 use Rattle.sched_box.specs.declared.fault.StreamFault.TheVariants as stream
 use Rattle.sched_box.specs.Faults.{IfRefusedStream, IsReadFault, StopsFor}
@@ -393,8 +393,8 @@ hosted_of (r ∷ rs) (h ∷ box) all room (zero, l, is) =
     let P : Room → Type 0 = λ x. IsHosted x h in
     (h, subst P is all.0, (zero, omega arith, refl))
 hosted_of (r ∷ rs) (h ∷ box) all room (suc k, l, is) =
-    let (found, stands, (j, m, same)) = hosted_of rs box all.1 room (k, omega arith, is) in
-    (found, stands, (suc j, omega arith, same))
+    let (found, represents, (j, m, same)) = hosted_of rs box all.1 room (k, omega arith, is) in
+    (found, represents, (suc j, omega arith, same))
 
 -- no room so far has this address
 pub none_more : (rooms : List Room) (i : ℕ) (a : List ℕ) (d : Room) → ((k : ℕ) (e : Room) → k < i → k < length rooms → address_octets (get_or rooms k e).address ≢ a) → bytes_eq (address_octets (get_or rooms i d).address) a ≡ false
@@ -428,10 +428,10 @@ none_at rooms i a end h (k, l, is) = look rooms (λ n e lt. h n e (omega arith) 
 -- what is kept of a room is the texts of its book
 pub keeps_texts : (moment : ℤ) (hosts : Hosts) (news : Books) (ends : Ends) (report : ServeReport) (room : Room) (address calendar certificate : List ℕ)
     → BooksServe moment (new_box hosts) news ends (Ok report) → Contains news.rooms.rooms.items room → address_octets room.address ≡ address
-    → ((book : Book) → Stands room.meetings.entries book → IsKeptCalendar (address_octets room.address) book calendar) → ((book : Book) → Stands room.meetings.entries book → certificate ≡ kept_certificate book)
+    → ((book : Book) → Represents room.meetings.entries book → IsKeptCalendar (address_octets room.address) book calendar) → ((book : Book) → Represents room.meetings.entries book → certificate ≡ kept_certificate book)
     → KeepsTexts moment hosts ends.input ends.left address calendar certificate
 keeps_texts moment hosts news ends report room address calendar certificate (after, hosted, all) among is text proof' =
-    let (kept, stands, has) = hosted_of news.rooms.rooms.items after.rooms hosted.rooms room among in
+    let (kept, represents, has) = hosted_of news.rooms.rooms.items after.rooms hosted.rooms room among in
     let S : List ℕ → Type 0 = λ a. IsKeptCalendar a kept.book calendar in
     record {
       objects = all.objects;
@@ -444,9 +444,9 @@ keeps_texts moment hosts news ends report room address calendar certificate (aft
       bound = all.bound;
       answers = all.answers;
       has = has;
-      at = stands.at ∙ is;
-      calendar_is = subst S is (text kept.book stands.stands);
-      certificate_is = proof' kept.book stands.stands;
+      at = represents.at ∙ is;
+      calendar_is = subst S is (text kept.book represents.represents);
+      certificate_is = proof' kept.book represents.represents;
     }
 
 -- serving to a writer that never fails ends so

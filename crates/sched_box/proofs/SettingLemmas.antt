@@ -16,7 +16,7 @@ use Rattle.ical_lines.specs.declared.fault.Fault.{Fault}
 use Rattle.ical_lines.specs.declared.fault.Fault.TheVariants.{Refused, Memory}
 use Rattle.ical_values.specs.Refused.{IfRefused}
 use Rattle.sched_box.specs.declared.settings.Settings.{Settings}
-use Rattle.sched_box.specs.Settings.{rooms_of, organisers_of, CanStand, AddsHost, IsFit, CanAdd, Adds, AddsLine, CanAll, IsUnbroken, Breaks, Holds, Reads, ReadsSettings, ReadsNone, SaysNone}
+use Rattle.sched_box.specs.Settings.{rooms_of, organisers_of, CanHost, AddsHost, IsFit, CanAdd, Adds, AddsLine, CanAll, IsUnbroken, Breaks, Holds, Reads, ReadsSettings, ReadsNone, SaysNone}
 use Rattle.sched_box.proofs.Lines.{first_line, same_line, empty_line, setting_some, no_break, nil_no, Ends, Goes}
 
 -- ---- one line
@@ -89,7 +89,7 @@ room_line (Ok u) old new line text is law address adds moment others =
 room_line (Err e) old new line text is law address adds moment others = tt
 
 pub room_none : {A : Type 0} (r : Result A Fault) (old : Settings) (line text : List ℕ) → line ≡ codes "room " ++ text
-    → IfErr r (IfRefused (IsAddress text → CanStand most_rooms (rooms_of old) (lower_case text) → ⊥))
+    → IfErr r (IfRefused (IsAddress text → CanHost most_rooms (rooms_of old) (lower_case text) → ⊥))
     → IfErr r (IfRefused ((setting : Setting) → IsSetting line setting → CanAdd old setting → ⊥))
 room_none (Ok u) old line text is h = tt
 room_none (Err Memory) old line text is h = tt
@@ -99,7 +99,7 @@ room_none (Err (Refused x)) old line text is h = cannot
     cannot (Now t) (stamp, line_is, says) can = now_room line stamp text line_is is
     cannot (Room a) (other, line_is, says, lower) can =
         let same : other ≡ text = cc in
-        h (subst IsAddress same says) (subst (CanStand most_rooms (rooms_of old)) (lower ∙ ap lower_case same) can)
+        h (subst IsAddress same says) (subst (CanHost most_rooms (rooms_of old)) (lower ∙ ap lower_case same) can)
     cannot (Organiser a) (other, line_is, says, lower) can = room_organiser line text other is line_is
 
 -- an organiser's
@@ -111,7 +111,7 @@ organiser_line (Ok u) old new line text is law address adds moment others =
 organiser_line (Err e) old new line text is law address adds moment others = tt
 
 pub organiser_none : {A : Type 0} (r : Result A Fault) (old : Settings) (line text : List ℕ) → line ≡ codes "organiser " ++ text
-    → IfErr r (IfRefused (IsAddress text → CanStand most_organisers (organisers_of old) (lower_case text) → ⊥))
+    → IfErr r (IfRefused (IsAddress text → CanHost most_organisers (organisers_of old) (lower_case text) → ⊥))
     → IfErr r (IfRefused ((setting : Setting) → IsSetting line setting → CanAdd old setting → ⊥))
 organiser_none (Ok u) old line text is h = tt
 organiser_none (Err Memory) old line text is h = tt
@@ -122,7 +122,7 @@ organiser_none (Err (Refused x)) old line text is h = cannot
     cannot (Room a) (other, line_is, says, lower) can = room_organiser line other text line_is is
     cannot (Organiser a) (other, line_is, says, lower) can =
         let same : other ≡ text = cc in
-        h (subst IsAddress same says) (subst (CanStand most_organisers (organisers_of old)) (lower ∙ ap lower_case same) can)
+        h (subst IsAddress same says) (subst (CanHost most_organisers (organisers_of old)) (lower ∙ ap lower_case same) can)
 
 -- ---- settings one after another
 
@@ -153,7 +153,7 @@ not_among xs a lacks k d l e = lacks (k, l, same xs k l ∙ e)
     same (y ∷ ys) (suc i) l = same ys i (omega arith)
 
 -- hosts that fit do so with one more that can be added
-fit_more : (most : ℕ) (hosts : List (List ℕ)) (a : List ℕ) → IsFit most hosts → CanStand most hosts a → IsFit most (hosts ++ a ∷ [])
+fit_more : (most : ℕ) (hosts : List (List ℕ)) (a : List ℕ) → IsFit most hosts → CanHost most hosts a → IsFit most (hosts ++ a ∷ [])
 fit_more most hosts a fit can = record {
   few = omega (arith, can.few, length-append hosts (a ∷ []));
   differ = all_pairs_push ◌≢◌ hosts a fit.differ (not_among hosts a can.fresh);
@@ -195,9 +195,9 @@ pairs_no xs ys a pairs (k, l, is) =
     pairs k (length xs) a l longer (get_or_append_left xs (a ∷ ys) a k l ∙ is ∙ sym (get_or-append_seam xs a ys a))
 
 -- a host can come after those that come before it among hosts that fit
-can_stand : (most : ℕ) (hosts before after : List (List ℕ)) (a : List ℕ) → before ≡ hosts → IsFit most (before ++ a ∷ after) → CanStand most hosts a
-can_stand most hosts before after a is fit =
-    subst (λ (list : List (List ℕ)). CanStand most list a) is
+can_host : (most : ℕ) (hosts before after : List (List ℕ)) (a : List ℕ) → before ≡ hosts → IsFit most (before ++ a ∷ after) → CanHost most hosts a
+can_host most hosts before after a is fit =
+    subst (λ (list : List (List ℕ)). CanHost most list a) is
     (record { fresh = pairs_no before after a fit.differ; few = omega (arith, fit.few, length-append before (a ∷ after)) })
 
 can_add : (s : Settings) (done : List Setting) (setting : Setting) (more : List Setting) → Holds s done → CanAll (done ++ setting ∷ more) → CanAdd s setting
@@ -212,9 +212,9 @@ can_add s done (Now t) more h can = at s.moment refl
         let two : length (moments (done ++ Now t ∷ more)) ≡ length (x ∷ t ∷ moments more) = ap length (all ∙ ap (λ z. option_to_list z ++ t ∷ moments more) e) in
         let few = can.once in
         absurd (omega arith)
-can_add s done (Room a) more h can = can_stand most_rooms (rooms_of s) (rooms done) (rooms more) a h.rooms_are (subst (IsFit most_rooms) (rooms_append done (Room a ∷ more)) can.rooms_fit)
+can_add s done (Room a) more h can = can_host most_rooms (rooms_of s) (rooms done) (rooms more) a h.rooms_are (subst (IsFit most_rooms) (rooms_append done (Room a ∷ more)) can.rooms_fit)
 can_add s done (Organiser a) more h can =
-    can_stand most_organisers (organisers_of s) (organisers done) (organisers more) a h.organisers_are (subst (IsFit most_organisers) (organisers_append done (Organiser a ∷ more)) can.organisers_fit)
+    can_host most_organisers (organisers_of s) (organisers done) (organisers more) a h.organisers_are (subst (IsFit most_organisers) (organisers_append done (Organiser a ∷ more)) can.organisers_fit)
 
 -- ---- the settings so far
 

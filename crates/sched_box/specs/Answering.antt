@@ -2,11 +2,11 @@
 use Rattle.std.specs.Prelude.{◌≡◌, ℕ, ℤ, List, [], ◌∷◌, ◌++◌, map, Option, Some, None}
 use Rattle.std.specs.List.{AllZip}
 use Rattle.ical_values.specs.Octets.{address_octets}
-use Rattle.itip_messages.specs.Messages.{StandsFor}
+use Rattle.itip_messages.specs.Messages.{RepresentsMessage}
 use Rattle.itip_messages.specs.declared.room_message.RoomMessage.{RoomMessage}
 use Rattle.profile.specs.rooms.Messages as profile
 use Rattle.profile.specs.streams.Streams.{Hosted, Takes}
-use Rattle.room_books.specs.Standing.{Stands}
+use Rattle.room_books.specs.Representation.{Represents}
 use Rattle.room_books.specs.declared.room.Room.{Room}
 
 -- the addresses of the rooms, in order
@@ -16,7 +16,7 @@ room_addresses rooms = map (λ room. address_octets room.address) rooms
 -- the room has the address, and represents the book
 pub record IsHosted (room : Room) (hosted : Hosted) : Type 0 where
   pub at : hosted.address ≡ address_octets room.address
-  pub stands : Stands room.meetings.entries hosted.book
+  pub represents : Represents room.meetings.entries hosted.book
 
 -- the rooms are what the box keeps
 abbrev pub AreHosted : List Room → List Hosted → Type 0
@@ -25,7 +25,7 @@ AreHosted rooms box = AllZip IsHosted rooms box
 -- a room takes the message and answers these octets, from whatever it represents
 abbrev pub RoomTakes : ℤ → RoomMessage → Room → Room → List ℕ → Type 0
 RoomTakes moment message old new octets =
-    (said : profile.Message) → StandsFor message said → (before : Hosted) → IsHosted old before
+    (said : profile.Message) → RepresentsMessage message said → (before : Hosted) → IsHosted old before
     → (after : Hosted) × IsHosted new after × Takes moment said before after octets
 
 -- each room takes it in turn; their answers follow one another

@@ -1,9 +1,9 @@
 -- What the organisers of a box answer to what comes to them.
 use Rattle.std.specs.Prelude.{◌≡◌, ℕ, ℤ, List, map}
 use Rattle.std.specs.List.{AllZip}
-use Rattle.itip_messages.specs.OrganiserObjects.{StandsForObject}
+use Rattle.itip_messages.specs.OrganiserObjects.{RepresentsObject}
 use Rattle.itip_messages.specs.declared.organiser_object.OrganiserObject.{OrganiserObject}
-use Rattle.organiser_books.specs.Standing.{Keeps, address_of}
+use Rattle.organiser_books.specs.Representation.{Keeps, address_of}
 use Rattle.organiser_books.specs.declared.organiser.Organiser.{Organiser}
 use Rattle.profile.specs.organisers.Objects as profile
 use Rattle.profile.specs.organisers.Organisers.{OrganiserBook, StateFault}
@@ -27,13 +27,13 @@ AreKeptBy organisers hosted = AllZip IsKeptBy organisers hosted
 -- it takes the object and answers these octets, from whatever it keeps
 abbrev pub OrganiserTakes : ℤ → OrganiserObject → Organiser → Organiser → List ℕ → Type 0
 OrganiserTakes moment object old new octets =
-    (said : profile.OrganiserObject) → StandsForObject object said → said.organiser ≡ address_of old → (book : OrganiserBook) → Keeps old book
+    (said : profile.OrganiserObject) → RepresentsObject object said → said.organiser ≡ address_of old → (book : OrganiserBook) → Keeps old book
     → (after : OrganiserBook) × Keeps new after × TakesObject moment said book after octets
 
 -- it refuses the object with this number
 abbrev pub OrganiserRefuses : OrganiserObject → Organiser → ℕ → Type 0
 OrganiserRefuses object organiser n =
-    (said : profile.OrganiserObject) → StandsForObject object said → said.organiser ≡ address_of organiser → (book : OrganiserBook)
+    (said : profile.OrganiserObject) → RepresentsObject object said → said.organiser ≡ address_of organiser → (book : OrganiserBook)
     → Keeps organiser book → StateFault said book n
 
 -- what the first keeps, the second does
@@ -45,13 +45,13 @@ KeepsBook old new = (book : OrganiserBook) → Keeps old book → Keeps new book
 -- the one that the object names takes it
 abbrev pub OrganisersTake : ℤ → OrganiserObject → List Organiser → List Organiser → List ℕ → Type 0
 OrganisersTake moment object olds news octets =
-    (said : profile.OrganiserObject) → StandsForObject object said → (before : List HostedOrganiser) → AreKeptBy olds before
+    (said : profile.OrganiserObject) → RepresentsObject object said → (before : List HostedOrganiser) → AreKeptBy olds before
     → (after : List HostedOrganiser) × AreKeptBy news after × IsTaken moment said before after octets
 
 -- it isn't among them, or refuses the object with this number
 abbrev pub OrganisersRefuse : OrganiserObject → List Organiser → ℕ → Type 0
 OrganisersRefuse object organisers n =
-    (said : profile.OrganiserObject) → StandsForObject object said → (before : List HostedOrganiser) → AreKeptBy organisers before
+    (said : profile.OrganiserObject) → RepresentsObject object said → (before : List HostedOrganiser) → AreKeptBy organisers before
     → HostFault said before n
 
 abbrev pub KeepBooks : List Organiser → List Organiser → Type 0

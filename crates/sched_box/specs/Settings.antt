@@ -17,13 +17,13 @@ organisers_of s = map address_octets s.organisers.items
 -- ---- one more host
 
 -- the address can be added after these hosts, of which there may be this many
-pub record CanStand (most : ℕ) (hosts : List (List ℕ)) (address : List ℕ) : Type 0 where
+pub record CanHost (most : ℕ) (hosts : List (List ℕ)) (address : List ℕ) : Type 0 where
   pub fresh : Contains hosts address → ⊥
   pub few : length hosts < most
 
 -- it was added to them
 pub record AddsHost (most : ℕ) (old new : List Address) (address : List ℕ) : Type 0 where
-  pub can : CanStand most (map address_octets old) address
+  pub can : CanHost most (map address_octets old) address
   pub more : map address_octets new ≡ map address_octets old ++ address ∷ []
 
 -- there may be this many hosts, and no two are one
@@ -36,8 +36,8 @@ pub record IsFit (most : ℕ) (hosts : List (List ℕ)) : Type 0 where
 -- the setting isn't there yet
 abbrev pub CanAdd : Settings → Setting → Type 0
 CanAdd s (Now t) = s.moment ≡ None
-CanAdd s (Room address) = CanStand most_rooms (rooms_of s) address
-CanAdd s (Organiser address) = CanStand most_organisers (organisers_of s) address
+CanAdd s (Room address) = CanHost most_rooms (rooms_of s) address
+CanAdd s (Organiser address) = CanHost most_organisers (organisers_of s) address
 
 -- new is old with the setting, which wasn't there yet
 abbrev pub Adds : Settings → Settings → Setting → Type 0

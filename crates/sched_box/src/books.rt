@@ -87,7 +87,7 @@ impl Books {
     fn answer(&mut self, octets: &[u8], now: Stamp, answers: &mut Vec<u8>) -> Result<(), Fault>
         ensures takes { OnOk result ((more : List ℕ) × (answers.new.items ≡ answers.old.items ++ more)
             × TakesKept now octets.now self.old self.new more) }
-        ensures stands { IfErr result (RefusesBy (RefusesKept octets.now self.old)) }
+        ensures fault { IfErr result (RefusesBy (RefusesKept octets.now self.old)) }
         ensures keeps { IfErr result (IfRefused (KeepAll self.old self.new × (answers.new.items ≡ answers.old.items))) }
         ensures addresses { hosted_rooms self.new ≡ hosted_rooms self.old }
     {
@@ -105,7 +105,7 @@ impl Books {
 /// Refused: 6 where this many were kept, and as by `Message::read`.
 fn read_kept(alloc: Global, octets: &[u8]) -> Result<Message, Fault>
     ensures spells { IfOk result (λ message. (object : List ℕ) → octets.now ≡ kept_of object → IsSpelled object message) }
-    ensures stands { IfErr result (λ fault. (object : List ℕ) → octets.now ≡ kept_of object → RefusesBy (λ n. ObjectFault n object) fault) }
+    ensures fault { IfErr result (λ fault. (object : List ℕ) → octets.now ≡ kept_of object → RefusesBy (λ n. ObjectFault n object) fault) }
 {
     if octets.len() >= KEPT {
         return Err(Fault::Refused(Refusal::TOO_LONG));

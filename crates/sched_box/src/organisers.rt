@@ -7,7 +7,7 @@ ghost use Rattle.ical_values.specs.Octets.{address_octets};
 ghost use Rattle.ical_values.specs.Refused.{IfRefused};
 ghost use Rattle.profile.specs.organisers.Organisers.{empty_organiser};
 ghost use Rattle.profile.specs.streams.Streams.{new_box};
-ghost use Rattle.organiser_books.specs.Standing.{Keeps, address_of};
+ghost use Rattle.organiser_books.specs.Representation.{Keeps, address_of};
 ghost use Rattle.sched_box.specs.Asked.{directory_addresses};
 ghost use Rattle.sched_box.specs.Config.{config_hosts, config_organisers};
 ghost use Rattle.sched_box.specs.Organising.{AreKeptBy, KeepBooks, KeepsBook, OrganiserRefuses, OrganiserTakes, OrganisersRefuse, OrganisersTake, organiser_addresses};
@@ -51,7 +51,7 @@ impl Organisers {
     ) -> Result<(), Fault>
         ensures takes { OnOk result ((more : List ℕ) × (answers.new.items ≡ answers.old.items ++ more)
             × OrganisersTake now object self.old.organisers.items self.new.organisers.items more) }
-        ensures stands { IfErr result (RefusesBy (OrganisersRefuse object self.old.organisers.items)) }
+        ensures fault { IfErr result (RefusesBy (OrganisersRefuse object self.old.organisers.items)) }
         ensures keeps { IfErr result (IfRefused (KeepBooks self.old.organisers.items self.new.organisers.items
             × (answers.new.items ≡ answers.old.items))) }
     {
@@ -96,7 +96,7 @@ fn take_at(
     requires named { get_or (organiser_addresses organisers.old.items) place [] ≡ address_octets object.organiser }
     ensures takes { OnOk result ((more : List ℕ) × (answers.new.items ≡ answers.old.items ++ more)
         × OrganisersTake now object organisers.old.items organisers.new.items more) }
-    ensures stands { IfErr result (RefusesBy (OrganisersRefuse object organisers.old.items)) }
+    ensures fault { IfErr result (RefusesBy (OrganisersRefuse object organisers.old.items)) }
     ensures keeps { IfErr result (IfRefused (KeepBooks organisers.old.items organisers.new.items
         × (answers.new.items ≡ answers.old.items))) }
     ensures addresses { organiser_addresses organisers.new.items ≡ organiser_addresses organisers.old.items }
@@ -113,7 +113,7 @@ fn take_object(
 ) -> Result<(), Fault>
     ensures takes { OnOk result ((more : List ℕ) × (answers.new.items ≡ answers.old.items ++ more)
         × OrganiserTakes now object organiser.old organiser.new more) }
-    ensures stands { IfErr result (RefusesBy (OrganiserRefuses object organiser.old)) }
+    ensures fault { IfErr result (RefusesBy (OrganiserRefuses object organiser.old)) }
     ensures keeps { IfErr result (IfRefused (KeepsBook organiser.old organiser.new × (answers.new.items ≡ answers.old.items))) }
     ensures address { address_of organiser.new ≡ address_of organiser.old }
 {

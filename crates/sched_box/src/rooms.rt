@@ -4,7 +4,7 @@ ghost use Rattle.std.specs.Prelude.{◌≡◌, ◌++◌, ℕ, List, length, Cont
 ghost use Rattle.ical_values.specs.Octets.{address_octets};
 ghost use Rattle.profile.specs.streams.Streams.{new_box};
 ghost use Rattle.profile.specs.rooms.Rooms.{empty_book};
-ghost use Rattle.room_books.specs.Standing.{Stands};
+ghost use Rattle.room_books.specs.Representation.{Represents};
 ghost use Rattle.std.specs.Str.{bytes_eq};
 ghost use Rattle.sched_box.specs.Answering.{AreHosted, RoomTakes, RoomsTake, room_addresses, sent_octets};
 ghost use Rattle.sched_box.specs.Asked.{LeavesOut, asks, directory_addresses};
@@ -79,7 +79,7 @@ fn rooms_of(alloc: Global, config: &Config) -> Result<Vec<Room>, AllocError>
 /// An empty room of this address.
 fn room_of(alloc: Global, address: &Address) -> Result<Room, AllocError>
     ensures address { IfOk result (λ room. address_octets room.address ≡ address_octets address.now) }
-    ensures book { IfOk result (λ room. Stands room.meetings.entries empty_book) }
+    ensures book { IfOk result (λ room. Represents room.meetings.entries empty_book) }
 {
     Ok(Room::new(alloc, address.clone()?))
 }

@@ -9,7 +9,7 @@ ghost use Rattle.profile.specs.text.Values.{SpellsStamp, IsAddress, lower_case};
 ghost use Rattle.ical_lines.specs.Fault.{RefusesOnly};
 ghost use Rattle.ical_values.specs.Refused.{IfRefused};
 ghost use Rattle.ical_values.specs.Octets.{address_octets};
-ghost use Rattle.sched_box.specs.Settings.{Adds, AddsHost, AddsLine, Breaks, CanAdd, CanStand, IsUnbroken, Reads, SaysNone};
+ghost use Rattle.sched_box.specs.Settings.{Adds, AddsHost, AddsLine, Breaks, CanAdd, CanHost, IsUnbroken, Reads, SaysNone};
 
 use ical_lines::{Fault, Refusal};
 use ical_values::stamp::one_stamp;
@@ -106,7 +106,7 @@ fn add_host(alloc: Global, hosts: &mut Vec<Address>, most: usize, text: &str) ->
     ensures address { OnOk result (IsAddress text.now) }
     ensures added { OnOk result (AddsHost most hosts.old.items hosts.new.items (lower_case text.now)) }
     ensures refuses { IfErr result (RefusesOnly is_preamble_fault) }
-    ensures none { IfErr result (IfRefused (IsAddress text.now → CanStand most (map address_octets hosts.old.items) (lower_case text.now) → ⊥)) }
+    ensures none { IfErr result (IfRefused (IsAddress text.now → CanHost most (map address_octets hosts.old.items) (lower_case text.now) → ⊥)) }
 {
     if hosts.len() >= most {
         return Err(refused());

@@ -66,5 +66,5 @@ said_read status lines.Memory a b lost is says = record { quiet = λ l. absurd (
 
 pub refused_at_3 : (P : ℕ → Type 0) (status : ℕ) (fault : Fault) (a b : Option (List ℕ)) (lost : Bool) → status ≡ read_status fault → RefusesBy P fault → Says (read_text fault) a b lost
     → status ≡ 3 → (n : ℕ) × P n × Says (refused_text n) a b lost
-refused_at_3 P status (lines.Refused refusal) a b lost is stands says e = (refusal.number, stands, says)
-refused_at_3 P status lines.Memory a b lost is stands says e = absurd (omega (arith, is, e))
+refused_at_3 P status (lines.Refused refusal) a b lost is is_fault says e = (refusal.number, is_fault, says)
+refused_at_3 P status lines.Memory a b lost is is_fault says e = absurd (omega (arith, is, e))

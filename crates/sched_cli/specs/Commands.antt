@@ -123,7 +123,7 @@ pub record KeepsBoth (input left : Option (List ℕ)) (room calendar certificate
   pub keeps : KeepsTexts moment hosts rest left room calendar certificate
   pub passes : CertificateHolds room calendar certificate
 
--- why nothing is kept of input that is refused or too long: no preamble stands at its front, and no octet past its empty line was taken;
+-- why nothing is kept of input that is refused or too long: no preamble is at its front, and no octet past its empty line was taken;
 -- or the box that it names doesn't host the room, and nothing behind it was taken; or 1,073,741,824 octets were read behind it
 abbrev pub KeepsNone : Option (List ℕ) → Option (List ℕ) → List ℕ → StreamFault → Type 0
 KeepsNone input left room (Refused refusal) =

@@ -104,7 +104,7 @@ fn write_out<W: Output, E: Output>(writer: &mut W, errors: &mut E, octets: &[u8]
     }
 }
 
-/// `check`: does the certificate stand for the calendar of this room? Writes `yes`, or `no` with its number, and
+/// `check`: does the certificate hold for the calendar of this room? Writes `yes`, or `no` with its number, and
 /// for 81 the line, for 83 the pair.
 pub fn run_check<W: Output, E: Output>(
     alloc: Global,

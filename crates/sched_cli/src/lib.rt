@@ -6,7 +6,6 @@ pub mod commands;
 pub mod diagnosis;
 pub mod expand;
 pub mod explain;
-mod lines;
 pub mod place;
 pub mod status;
 pub mod tally;

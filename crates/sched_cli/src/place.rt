@@ -8,8 +8,7 @@ ghost use Rattle.sched_cli.specs.Places.{IsPlace};
 ghost use Rattle.sched_cli.specs.Searching.{Finds, FoundIn, IsFoundAt};
 
 use crate::blame::{Blame, Within, blame_of};
-use crate::lines::{split_line, without_mark};
-use ical_lines::{Fault, Limits, Line, Unfolded};
+use ical_lines::{Fault, Limits, Line, Unfolded, split_line, without_mark};
 use std::alloc::{AllocError, Global};
 use std::str;
 

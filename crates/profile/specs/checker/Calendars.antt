@@ -5,7 +5,7 @@ use Rattle.profile.specs.text.Lines.{logical_lines, text_has, reads_as_lines}
 use Rattle.profile.specs.text.Objects.{SpellsTree, IsObject, has_version, lines_have}
 use Rattle.profile.specs.text.Trees.{Tree, tree_name, tree_own, tree_inside, vevents}
 use Rattle.profile.specs.checker.Instances.{Booked}
-use Rattle.profile.specs.checker.Certificates.{CertificateStands}
+use Rattle.profile.specs.checker.Certificates.{CertificateHoldsFor}
 use Rattle.profile.specs.events.Events.{Event, SaysEvent, EventFault}
 use Rattle.profile.specs.events.Confirmed.{Confirmed, IsConfirmed, AreConfirmed, MastersDiffer, OverridesDiffer}
 
@@ -44,7 +44,7 @@ pub record IsConfirmedIn (room octets : List ℕ) (instance : Booked) : Type 0 w
 pub record CertificateHolds (room calendar text : List ℕ) : Type 0 where
   pub confirmed : Confirmed
   pub spells : SpellsCalendar room calendar confirmed
-  pub stands : CertificateStands confirmed text
+  pub holds : CertificateHoldsFor confirmed text
 
 -- ---- what can be wrong, by the number of its refusal
 

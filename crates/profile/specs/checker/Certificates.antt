@@ -97,24 +97,24 @@ abbrev pub IsSeriesAt : Confirmed → ℕ → Meeting → Type 0
 IsSeriesAt confirmed place series = slice_get confirmed.series (place - 1) ≡ Some series
 
 -- what an entry says of series i and j holds; where they are one, of any two of its instances
-abbrev pub EntryStands : Confirmed → ℕ → ℕ → Entry → Type 0
-EntryStands confirmed i j End = (a b : Meeting) → IsSeriesAt confirmed i a → IsSeriesAt confirmed j b → AreClear (IsInstance a) (IsInstance b)
+abbrev pub EntryHolds : Confirmed → ℕ → ℕ → Entry → Type 0
+EntryHolds confirmed i j End = (a b : Meeting) → IsSeriesAt confirmed i a → IsSeriesAt confirmed j b → AreClear (IsInstance a) (IsInstance b)
 
 -- it doesn't: there are two that clash
 abbrev pub EntryFails : Confirmed → ℕ → ℕ → Entry → Type 0
 EntryFails confirmed i j End = (a : Meeting) × (b : Meeting) × IsSeriesAt confirmed i a × IsSeriesAt confirmed j b × HasClash (IsInstance a) (IsInstance b)
 
 -- the entries of all pairs hold
-abbrev pub EntriesStand : Confirmed → Claims → Type 0
-EntriesStand confirmed c = (i j : ℕ) → IsPair c.series i j → EntryStands confirmed i j (entry_of c i j)
+abbrev pub EntriesHold : Confirmed → Claims → Type 0
+EntriesHold confirmed c = (i j : ℕ) → IsPair c.series i j → EntryHolds confirmed i j (entry_of c i j)
 
 -- the octets are a certificate for what is confirmed: it has the counts of that, each entry holds, and no single clashes with another
--- single or with a series. That then no two of all that is confirmed clash is a theorem: `standing_means_clear` of clash_check
-pub record CertificateStands (confirmed : Confirmed) (text : List ℕ) : Type 0 where
+-- single or with a series. That then no two of all that is confirmed clash is a theorem: `certificate_means_clear` of clash_check
+pub record CertificateHoldsFor (confirmed : Confirmed) (text : List ℕ) : Type 0 where
   pub c : Claims
   pub spells : Spells text c
   pub counts : HasCounts confirmed c
-  pub entries : EntriesStand confirmed c
+  pub entries : EntriesHold confirmed c
   pub singles : AreClear (Contains confirmed.singles) (IsOneOf confirmed)
 
 -- ---- why it doesn't
@@ -144,7 +144,7 @@ pub record HasFailingEntry (confirmed : Confirmed) (text : List ℕ) (number fir
   pub counts : HasCounts confirmed c
   pub pair : IsPair c.series first second
   pub fails : EntryFails confirmed first second (entry_of c first second)
-  pub before : (i j : ℕ) → IsPair c.series i j → IsPairBefore i j first second → EntryStands confirmed i j (entry_of c i j)
+  pub before : (i j : ℕ) → IsPair c.series i j → IsPairBefore i j first second → EntryHolds confirmed i j (entry_of c i j)
 
 -- each entry holds, and a single clashes with another single or with a series: 84
 pub record HasClashes (confirmed : Confirmed) (text : List ℕ) (number line : ℕ) : Type 0 where
@@ -153,5 +153,5 @@ pub record HasClashes (confirmed : Confirmed) (text : List ℕ) (number line : �
   pub c : Claims
   pub spells : Spells text c
   pub counts : HasCounts confirmed c
-  pub entries : EntriesStand confirmed c
+  pub entries : EntriesHold confirmed c
   pub clash : HasClash (Contains confirmed.singles) (IsOneOf confirmed)

@@ -6,7 +6,7 @@ use Rattle.std.specs.Str.{bytes_eq}
 use Rattle.profile.specs.text.Lines.{line_value, line_param, is_same_name}
 use Rattle.profile.specs.text.Trees.{Tree}
 use Rattle.profile.specs.text.Values.{IsUid, unescaped}
-use Rattle.profile.specs.events.Properties.{lines_named, IsStampLine, IsSequenceLine, IsAddressLine, Says, IsUidLine, StandsTwice, IsMissing, SomeLine, IsNoStamp, IsNoAddress, IsNoSequence}
+use Rattle.profile.specs.events.Properties.{lines_named, IsStampLine, IsSequenceLine, IsAddressLine, Says, IsUidLine, OccursMoreThanOnce, IsMissing, SomeLine, IsNoStamp, IsNoAddress, IsNoSequence}
 use Rattle.profile.specs.series.Rules.{Parts}
 use Rattle.profile.specs.events.ZonedTimes.{EventTimes, SaysTimes, EventTimesFault}
 use Rattle.profile.specs.events.EventRules.{SaysEventRule, EventRuleFault}
@@ -161,5 +161,5 @@ pub data EventFault (object : Tree) (method : Option Method) (lines : List (List
   bad_sequence : SomeLine (codes "SEQUENCE") IsNoSequence lines → EventFault object method lines 16
   no_uid : IsMissing (codes "UID") lines → EventFault object method lines 61
   no_stamp_given : is_some method ≡ true → IsMissing (codes "DTSTAMP") lines → EventFault object method lines 61
-  twice : (name : List ℕ) → Contains single_names name → StandsTwice name lines → EventFault object method lines 61
+  twice : (name : List ℕ) → Contains single_names name → OccursMoreThanOnce name lines → EventFault object method lines 61
   no_organiser : is_some method ≡ true → IsMissing (codes "ORGANIZER") lines → EventFault object method lines 63

@@ -7,7 +7,7 @@ use Rattle.std.specs.Str.{bytes_eq}
 use Rattle.profile.specs.text.Lines.{line_value, line_param, is_same_name}
 use Rattle.profile.specs.text.Trees.{Tree}
 use Rattle.profile.specs.series.Zones.{Zone, Means}
-use Rattle.profile.specs.events.Properties.{is_of, lines_named, StandsAtMostOnce, StandsTwice, SomeLine, Says}
+use Rattle.profile.specs.events.Properties.{is_of, lines_named, OccursAtMostOnce, OccursMoreThanOnce, SomeLine, Says}
 use Rattle.profile.specs.events.ZonedTimes.{is_in_zone, clock_of, IsInDates, SaysZonedText, SaysInDates, SaysOutOfDates, ZonedTextFault, ZonedTimeFault}
 
 -- ---- STATUS
@@ -15,7 +15,7 @@ use Rattle.profile.specs.events.ZonedTimes.{is_in_zone, clock_of, IsInDates, Say
 -- the event is cancelled where its STATUS is CANCELLED, caseless; another word, and none, leaves it as it is
 abbrev pub SaysStatus : List (List ℕ) → Bool → Type 0
 SaysStatus lines cancelled =
-    (line : Option (List ℕ)) × StandsAtMostOnce (codes "STATUS") lines line
+    (line : Option (List ℕ)) × OccursAtMostOnce (codes "STATUS") lines line
     × (cancelled ≡ unwrap_or (option_map (λ status. is_same_name (line_value status) (codes "CANCELLED")) line) false)
 
 -- ---- RECURRENCE-ID
@@ -106,6 +106,6 @@ pub data OccurrenceFault (added : Bool) (object : Tree) (lines : List (List ℕ)
   -- outside of the dates that an event may name
   recurrence_out : SomeLine (codes "RECURRENCE-ID") (SaysOutOfDates object) lines → OccurrenceFault added object lines 52
   additions_out : (entry : Entry) → Contains (entries_named (codes "RDATE") lines) entry → IsOutside object entry → OccurrenceFault added object lines 52
-  two_recurrences : StandsTwice (codes "RECURRENCE-ID") lines → OccurrenceFault added object lines 61
+  two_recurrences : OccursMoreThanOnce (codes "RECURRENCE-ID") lines → OccurrenceFault added object lines 61
   ranged : SomeLine (codes "RECURRENCE-ID") (λ line. has_range line ≡ true) lines → OccurrenceFault added object lines 65
   recurs : recurs_as_instance added lines ≡ true → OccurrenceFault added object lines 67

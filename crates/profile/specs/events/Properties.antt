@@ -15,12 +15,12 @@ abbrev pub lines_named : List ℕ → List (List ℕ) → List (List ℕ)
 lines_named name lines = filter (is_of name) lines
 
 -- the property occurs at most once; this is its line
-abbrev pub StandsAtMostOnce : List ℕ → List (List ℕ) → Option (List ℕ) → Type 0
-StandsAtMostOnce name lines line = lines_named name lines ≡ option_to_list line
+abbrev pub OccursAtMostOnce : List ℕ → List (List ℕ) → Option (List ℕ) → Type 0
+OccursAtMostOnce name lines line = lines_named name lines ≡ option_to_list line
 
 -- the property occurs at least twice
-abbrev pub StandsTwice : List ℕ → List (List ℕ) → Type 0
-StandsTwice name lines = 1 < length (lines_named name lines)
+abbrev pub OccursMoreThanOnce : List ℕ → List (List ℕ) → Type 0
+OccursMoreThanOnce name lines = 1 < length (lines_named name lines)
 
 abbrev pub IsMissing : List ℕ → List (List ℕ) → Type 0
 IsMissing name lines = lines_named name lines ≡ []
@@ -41,8 +41,8 @@ BothOrNeither R (Some a) None = ⊥
 -- the property occurs at most once, and this is its value; it must occur where it is needed
 pub record Says {V : Type 0} (name : List ℕ) (needed : Bool) (IsValue : List ℕ → V → Type 0) (lines : List (List ℕ)) (value : Option V) : Type 0 where
   pub line : Option (List ℕ)
-  pub once : StandsAtMostOnce name lines line
-  pub stands : needed ≡ true → is_some line ≡ true
+  pub once : OccursAtMostOnce name lines line
+  pub present : needed ≡ true → is_some line ≡ true
   pub is : BothOrNeither IsValue line value
 
 abbrev pub IsStampLine : List ℕ → ℤ → Type 0

@@ -9,7 +9,7 @@ use Rattle.profile.specs.text.Values.{SpellsStamp, SpellsLocal, unescaped}
 use Rattle.profile.specs.checker.Instances.{horizon}
 use Rattle.profile.specs.series.Zones.{Zone, Constant, Means}
 use Rattle.profile.specs.series.ZoneTexts.{SaysZone, ZoneFault}
-use Rattle.profile.specs.events.Properties.{is_of, TimeKind, DateTime, Date, Period, Other, time_kind, StandsAtMostOnce, StandsTwice, IsMissing, SomeLine, IsDateText, IsLocalText, KindFault, Length, length_seconds, LastsFor, IsNoDuration, IsNegativeOrLong, longest, first_second}
+use Rattle.profile.specs.events.Properties.{is_of, TimeKind, DateTime, Date, Period, Other, time_kind, OccursAtMostOnce, OccursMoreThanOnce, IsMissing, SomeLine, IsDateText, IsLocalText, KindFault, Length, length_seconds, LastsFor, IsNoDuration, IsNegativeOrLong, longest, first_second}
 
 -- ---- VTIMEZONEs by their names
 
@@ -149,13 +149,13 @@ LastsSo object start (Some line) (Some other) length = ⊥
 -- the lines of a VEVENT say these times
 pub record SaysEventTimes (object : Tree) (lines : List (List ℕ)) (times : EventTimes) : Type 0 where
   pub line : List ℕ
-  pub once : StandsAtMostOnce (codes "DTSTART") lines (Some line)
+  pub once : OccursAtMostOnce (codes "DTSTART") lines (Some line)
   pub says : SaysZonedTime object line times.zone times.local
   pub means : Means (clock_of times.zone) times.local times.start
   pub end_line : Option (List ℕ)
   pub duration_line : Option (List ℕ)
-  pub end_once : StandsAtMostOnce (codes "DTEND") lines end_line
-  pub duration_once : StandsAtMostOnce (codes "DURATION") lines duration_line
+  pub end_once : OccursAtMostOnce (codes "DTEND") lines end_line
+  pub duration_once : OccursAtMostOnce (codes "DURATION") lines duration_line
   pub lasts : LastsSo object times.start end_line duration_line times.length
   pub most : length_seconds times.length ≤ longest
   pub in_dates : IsInDates (is_in_zone line) times.local times.start
@@ -174,8 +174,8 @@ pub record SaysNoStart (object : Tree) (lines : List (List ℕ)) (times : EventT
   pub missing : IsMissing (codes "DTSTART") lines
   pub end_line : Option (List ℕ)
   pub duration_line : Option (List ℕ)
-  pub end_once : StandsAtMostOnce (codes "DTEND") lines end_line
-  pub duration_once : StandsAtMostOnce (codes "DURATION") lines duration_line
+  pub end_once : OccursAtMostOnce (codes "DTEND") lines end_line
+  pub duration_once : OccursAtMostOnce (codes "DURATION") lines duration_line
   pub lasts : LastsAlone object end_line duration_line times.length
   pub most : length_seconds times.length ≤ longest
   pub zone : times.zone ≡ None
@@ -211,6 +211,6 @@ pub data EventTimesFault (may_lack : Bool) (object : Tree) (lines : List (List �
   starts_out : SomeLine (codes "DTSTART") (SaysOutOfDates object) lines → EventTimesFault may_lack object lines 52
   ends_out : SomeLine (codes "DTEND") (SaysOutOfDates object) lines → EventTimesFault may_lack object lines 52
   no_start : may_lack ≡ false → IsMissing (codes "DTSTART") lines → EventTimesFault may_lack object lines 61
-  twice : (name : List ℕ) → Contains names_of_times name → StandsTwice name lines → EventTimesFault may_lack object lines 61
+  twice : (name : List ℕ) → Contains names_of_times name → OccursMoreThanOnce name lines → EventTimesFault may_lack object lines 61
   end_and_duration : SomeLine (codes "DTEND") (λ _. Unit {0}) lines → SomeLine (codes "DURATION") (λ _. Unit {0}) lines
       → EventTimesFault may_lack object lines 61

@@ -75,7 +75,7 @@ pub record IsKept (book : Book) (first : Part) (claim : Claim) : Type 0 where
 -- whole of the meeting is
 pub record IsKeptHidden (book : Book) (first part : Part) : Type 0 where
   pub of_meeting : same_meeting first part ≡ true
-  pub stands : in_view book.taken part ≡ true
+  pub viewed : in_view book.taken part ≡ true
   pub instance : is_whole part ≡ false
   pub not_accepted : (claim : Claim) → IsKept book first claim → claim.part ≢ part
   pub whole : Claim

@@ -9,7 +9,7 @@ use Rattle.profile.specs.text.Objects.{IsObject}
 use Rattle.profile.specs.text.Trees.{Tree, tree_name, tree_own, tree_inside}
 use Rattle.profile.specs.text.Values.{SpellsDate, WritesStamp, WritesLocal, duration_text, escaped}
 use Rattle.profile.specs.events.Events.{Method, Request, Add, Cancel, NamesWord, Event}
-use Rattle.profile.specs.events.Properties.{first_second, SomeLine, StandsTwice, BothOrNeither}
+use Rattle.profile.specs.events.Properties.{first_second, SomeLine, OccursMoreThanOnce, BothOrNeither}
 use Rattle.profile.specs.events.ZonedTimes.{EventTimes, clock_of}
 use Rattle.profile.specs.series.Rules.{Parts, Until, UntilDay, UntilLocal, UntilInstant, text_in}
 use Rattle.profile.specs.series.RuleTexts.{rule_text}
@@ -62,7 +62,7 @@ is_method word =
 
 -- the VCALENDAR's lines have the fault of this number
 pub data MethodFault (own : List (List ℕ)) : ℕ → Type 0 where
-  two_methods : StandsTwice (codes "METHOD") own → MethodFault own 60
+  two_methods : OccursMoreThanOnce (codes "METHOD") own → MethodFault own 60
   bad_method : SomeLine (codes "METHOD") (λ line. is_method (line_value line) ≡ false) own → MethodFault own 60
 
 -- the lines of a VCALENDAR or of its VEVENTs have the fault of this number
@@ -252,7 +252,7 @@ pub data Outcome : Type 0 where
   SeriesLimit : Outcome
   SinglesLimit : Outcome
 
--- letters, digits and `-._~@:` stand for themselves in a word of a status
+-- letters, digits and `-._~@:` are written as themselves in a word of a status
 abbrev pub is_plain : ℕ → Bool
 is_plain c =
     is_ascii_alphabetic c || is_ascii_digit c || (c == 45) || (c == 46) || (c == 95) || (c == 126) || (c == 64) || (c == 58)

@@ -100,15 +100,15 @@ is_greatest history part =
     && list_all (λ taken. implies (same_place taken part) (is_le (part_cmp taken part))) history
 
 -- the part's revision isn't below the Whole's, and is above it where the Whole is Cancelled
-abbrev pub stands_beside : Part → Part → Bool
-stands_beside whole part =
+abbrev pub stays_beside : Part → Part → Bool
+stays_beside whole part =
     is_gt (revision_cmp part.revision whole.revision)
     || (is_eq (revision_cmp part.revision whole.revision) && not (is_cancelled whole))
 
 -- a Whole of its meeting leaves the part in the view; a Whole itself always stays
 abbrev pub allows : Part → Part → Bool
 allows whole part =
-    is_whole part || implies (is_whole whole && same_meeting whole part) (stands_beside whole part)
+    is_whole part || implies (is_whole whole && same_meeting whole part) (stays_beside whole part)
 
 -- the part is in the view of all taken: the greatest of its place, and an At allowed by the greatest Whole; this profile's choice
 abbrev pub in_view : List Part → Part → Bool

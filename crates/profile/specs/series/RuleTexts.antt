@@ -186,7 +186,7 @@ pub data RuleFault (text : List ℕ) : ℕ → Type 0 where
 
 -- the least number of all faults that the text has
 pub record IsLeastRuleFault (text : List ℕ) (number : ℕ) : Type 0 where
-  pub stands : RuleFault text number
+  pub fault : RuleFault text number
   pub least : (other : ℕ) → RuleFault text other → number ≤ other
 
 -- THE ONE FORM IN WHICH A RULE IS WRITTEN

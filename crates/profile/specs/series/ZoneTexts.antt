@@ -10,7 +10,7 @@ use Rattle.profile.specs.series.Days.{days_in_month, Yearly}
 use Rattle.profile.specs.series.Rules.{WeekdayNumber, Pattern, RuleText, is_missing, is_yearly, is_base}
 use Rattle.profile.specs.series.RuleTexts.{SpellsRule, RuleFault}
 use Rattle.profile.specs.text.Values.{SpellsLocal, SpellsOffset}
-use Rattle.profile.specs.events.Properties.{Says, SomeLine, IsMissing, StandsTwice, is_date_time, ends_in_z}
+use Rattle.profile.specs.events.Properties.{Says, SomeLine, IsMissing, OccursMoreThanOnce, is_date_time, ends_in_z}
 use Rattle.profile.specs.series.Zones.{Observance, Zone, Constant, Single, Pair, local_time}
 
 -- ---- the parts
@@ -255,7 +255,7 @@ time_names = codes "DTSTART" ∷ codes "TZOFFSETFROM" ∷ codes "TZOFFSETTO" ∷
 pub data TimesFault (lines : List (List ℕ)) : ℕ → Type 0 where
   dates : (IsMissing (codes "RDATE") lines → ⊥) → TimesFault lines 40
   missing : (name : List ℕ) → Contains time_names name → IsMissing name lines → TimesFault lines 40
-  twice : (name : List ℕ) → Contains time_names name → StandsTwice name lines → TimesFault lines 40
+  twice : (name : List ℕ) → Contains time_names name → OccursMoreThanOnce name lines → TimesFault lines 40
   fixed : SomeLine (codes "DTSTART") IsFixedLine lines → TimesFault lines 40
   bad_start : SomeLine (codes "DTSTART") IsNoLocalLine lines → TimesFault lines 11
   bad_from : SomeLine (codes "TZOFFSETFROM") IsNoOffsetLine lines → TimesFault lines 13
@@ -269,7 +269,7 @@ SpellsNoYear text =
 -- a part has no rule of one day a year
 abbrev pub HasNoYearRule : List (List ℕ) → Type 0
 HasNoYearRule lines =
-    IsMissing (codes "RRULE") lines ⊎ (StandsTwice (codes "RRULE") lines ⊎ SomeLine (codes "RRULE") (λ line. SpellsNoYear (line_value line)) lines)
+    IsMissing (codes "RRULE") lines ⊎ (OccursMoreThanOnce (codes "RRULE") lines ⊎ SomeLine (codes "RRULE") (λ line. SpellsNoYear (line_value line)) lines)
 
 -- what is wrong with the parts
 pub data PartsFault (parts standards daylights : List (List (List ℕ))) : ℕ → Type 0 where

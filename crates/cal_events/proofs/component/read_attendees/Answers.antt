@@ -12,8 +12,8 @@ use Rattle.ical_values.proofs.Exits.{err_exit}
 use Rattle.cal_events.proofs.component.read_attendees.Goals as goal
 use Rattle.cal_events.proofs.component.read_attendees.Goals.{then-is_named+in_ok-read_attendee+in_ok-push, else-is_named}
 
-pub returns-in_err-read_attendee-clause-stands : goal.returns-in_err-read_attendee-clause-stands
-returns-in_err-read_attendee-clause-stands c = λ object m.
+pub returns-in_err-read_attendee-clause-fault : goal.returns-in_err-read_attendee-clause-fault
+returns-in_err-read_attendee-clause-fault c = λ object m.
     let inv = c.loop-line.invariant in
     let lines = c.lines-line-items.result.now in
     let i = c.loop-line.line-index in
@@ -22,7 +22,7 @@ returns-in_err-read_attendee-clause-stands c = λ object m.
     ap (map line_text) (at_place lines i x c.loop-line-test.true c.line-item.is) in
     err_exit _ (RefusesBy (EventFault object m c.args.properties.now)) _ c.from_residual.ensures.1
     (attendee_fault object m c.args.properties.now (map line_text (drop i lines)) (map line_text (drop (i + 1) lines)) inv.0 (line_text x) _ inv.1
-    steps (sym c.if-is_named.ensures) c.in_err-read_attendee.ensures.stands)
+    steps (sym c.if-is_named.ensures) c.in_err-read_attendee.ensures.fault)
 
 pub loop-line-preserved : goal.loop-line-preserved
 loop-line-preserved c =

@@ -12,14 +12,14 @@ use Rattle.cal_events.proofs.EventLemmas.{by_number, some_line}
 use Rattle.ical_values.proofs.Exits.{err_exit}
 use Rattle.cal_events.proofs.component.read_organiser.Goals as goal
 
-pub returns-in_err-line-clause-stands : goal.returns-in_err-line-clause-stands
-returns-in_err-line-clause-stands c object =
+pub returns-in_err-line-clause-fault : goal.returns-in_err-line-clause-fault
+returns-in_err-line-clause-fault c object =
     err_exit _ (RefusesBy (EventFault object (method_read c.args.purpose) c.args.properties.now)) _ c.from_residual.ensures.1
     (subst (EventFault object (method_read c.args.purpose) c.args.properties.now) (sym c.in_err-line.ensures.refuses)
     (twice (codes "ORGANIZER") (1, omega arith, refl) c.in_err-line.ensures.twice))
 
-pub returns-in_err-read-in-Some-clause-stands : goal.returns-in_err-read-in-Some-clause-stands
-returns-in_err-read-in-Some-clause-stands c object =
+pub returns-in_err-read-in-Some-clause-fault : goal.returns-in_err-read-in-Some-clause-fault
+returns-in_err-read-in-Some-clause-fault c object =
     let P = EventFault object (method_read c.args.purpose) c.args.properties.now in
     let once = c.in_ok-line.ensures.found ∙ ap (λ l. option_to_list (option_map line_text l)) c.in-Some.is in
     err_exit _ (RefusesBy P) _ c.from_residual-in_err-read-in-Some.ensures.1
@@ -27,6 +27,6 @@ returns-in_err-read-in-Some-clause-stands c object =
     (λ no. bad_organiser (some_line (codes "ORGANIZER") IsNoAddress c.args.properties.now (line_text c.in-Some.line) once (λ h. no (subst IsAddress (sym c.value.ensures) h))))
     c.in_err-read-in-Some.ensures.refuses c.in_err-read-in-Some.ensures.none)
 
-pub returns-in-None-clause-stands : goal.returns-in-None-clause-stands
-returns-in-None-clause-stands c object =
+pub returns-in-None-clause-fault : goal.returns-in-None-clause-fault
+returns-in-None-clause-fault c object =
     no_organiser (sym c.if-is_message.ensures) (c.in_ok-line.ensures.found ∙ ap (λ l. option_to_list (option_map line_text l)) c.in-None.is)

@@ -11,8 +11,8 @@ use Rattle.cal_events.proofs.EventLemmas.{some_line, sequence_said}
 use Rattle.ical_values.proofs.Exits.{refusal_exit, err_both}
 use Rattle.cal_events.proofs.component.read_sequence.Goals as goal
 
-pub returns-in_err-line-clause-stands : goal.returns-in_err-line-clause-stands
-returns-in_err-line-clause-stands c = λ object m.
+pub returns-in_err-line-clause-fault : goal.returns-in_err-line-clause-fault
+returns-in_err-line-clause-fault c = λ object m.
     let P = EventFault object m c.args.properties.now in
     refusal_exit _ P _ c.from_residual.ensures.1
     (subst P (sym c.in_err-line.ensures.refuses) (twice (codes "SEQUENCE") (3, omega arith, refl) c.in_err-line.ensures.twice))
@@ -21,8 +21,8 @@ pub returns-in-Some-clause-reads : goal.returns-in-Some-clause-reads
 returns-in-Some-clause-reads c =
     sequence_said _ _ (line_text c.in-Some.line) _ (c.in_ok-line.ensures.found ∙ ap (λ l. option_to_list (option_map line_text l)) c.in-Some.is) c.value.ensures c.read.ensures.reads
 
-pub returns-in-Some-clause-stands : goal.returns-in-Some-clause-stands
-returns-in-Some-clause-stands c = λ object m.
+pub returns-in-Some-clause-fault : goal.returns-in-Some-clause-fault
+returns-in-Some-clause-fault c = λ object m.
     let P = EventFault object m c.args.properties.now in
     let once = c.in_ok-line.ensures.found ∙ ap (λ l. option_to_list (option_map line_text l)) c.in-Some.is in
     let No : Refusal → Type 0 = λ _. (n : ℕ) → SpellsSequence c.value.result.now n → ⊥ in

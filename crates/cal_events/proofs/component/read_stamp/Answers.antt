@@ -11,14 +11,14 @@ use Rattle.cal_events.proofs.EventLemmas.{some_line}
 use Rattle.ical_values.proofs.Exits.{refusal_exit}
 use Rattle.cal_events.proofs.component.read_stamp.Goals as goal
 
-pub returns-in_err-line-clause-stands : goal.returns-in_err-line-clause-stands
-returns-in_err-line-clause-stands c object =
+pub returns-in_err-line-clause-fault : goal.returns-in_err-line-clause-fault
+returns-in_err-line-clause-fault c object =
     let P = EventFault object (method_read c.args.purpose) c.args.properties.now in
     refusal_exit _ P _ c.from_residual.ensures.1
     (subst P (sym c.in_err-line.ensures.refuses) (twice (codes "DTSTAMP") (2, omega arith, refl) c.in_err-line.ensures.twice))
 
-pub returns-in_err-read-in-Some-clause-stands : goal.returns-in_err-read-in-Some-clause-stands
-returns-in_err-read-in-Some-clause-stands c object =
+pub returns-in_err-read-in-Some-clause-fault : goal.returns-in_err-read-in-Some-clause-fault
+returns-in_err-read-in-Some-clause-fault c object =
     let P = EventFault object (method_read c.args.purpose) c.args.properties.now in
     let once = c.in_ok-line.ensures.found ∙ ap (λ l. option_to_list (option_map line_text l)) c.in-Some.is in
     refusal_exit _ P _ c.from_residual-in_err-read-in-Some.ensures.1
@@ -26,6 +26,6 @@ returns-in_err-read-in-Some-clause-stands c object =
     (bad_stamp (some_line (codes "DTSTAMP") (λ line. IsNoStamp (line_value line)) c.args.properties.now (line_text c.in-Some.line) once
     (subst IsNoStamp c.value.ensures c.in_err-read-in-Some.ensures.none))))
 
-pub returns-in-None-clause-stands : goal.returns-in-None-clause-stands
-returns-in-None-clause-stands c object =
+pub returns-in-None-clause-fault : goal.returns-in-None-clause-fault
+returns-in-None-clause-fault c object =
     no_stamp_given (sym c.if-is_message.ensures) (c.in_ok-line.ensures.found ∙ ap (λ l. option_to_list (option_map line_text l)) c.in-None.is)

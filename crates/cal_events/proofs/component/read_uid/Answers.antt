@@ -11,8 +11,8 @@ use Rattle.profile.specs.events.Events.{twice, no_uid, bad_uid}
 use Rattle.cal_events.proofs.EventLemmas.{by_number, some_line, uid_said}
 use Rattle.cal_events.proofs.component.read_uid.Goals as goal
 
-pub returns-in_err-line-clause-stands : goal.returns-in_err-line-clause-stands
-returns-in_err-line-clause-stands c = λ object m.
+pub returns-in_err-line-clause-fault : goal.returns-in_err-line-clause-fault
+returns-in_err-line-clause-fault c = λ object m.
     let P = EventFault object m c.args.properties.now in
     err_exit _ (RefusesBy P) _ c.from_residual.ensures.1
     (subst P (sym c.in_err-line.ensures.refuses)
@@ -22,8 +22,8 @@ pub returns-clause-reads : goal.returns-clause-reads
 returns-clause-reads c =
     uid_said _ _ (line_text c.in_ok-line.line) _ c.in_ok-line.ensures.found c.value.ensures c.read_uid.ensures.reads c.read_uid.ensures.uid
 
-pub returns-clause-stands : goal.returns-clause-stands
-returns-clause-stands c = λ object m.
+pub returns-clause-fault : goal.returns-clause-fault
+returns-clause-fault c = λ object m.
     let P = EventFault object m c.args.properties.now in
     let value = c.value.result.now in
     let line = line_text c.in_ok-line.line in

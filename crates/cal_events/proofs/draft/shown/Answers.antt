@@ -8,8 +8,8 @@ use Rattle.cal_events.specs.declared.instance.InstanceKey.{InstanceKey}
 use Rattle.cal_events.proofs.KeyLemmas.{pairs_permutation}
 use Rattle.cal_events.proofs.draft.shown.Goals as goal
 
-pub returns-then-has_equal_neighbours-clause-stands : goal.returns-then-has_equal_neighbours-clause-stands
-returns-then-has_equal_neighbours-clause-stands c =
+pub returns-then-has_equal_neighbours-clause-fault : goal.returns-then-has_equal_neighbours-clause-fault
+returns-then-has_equal_neighbours-clause-fault c =
     let same = subst (λ (l : List InstanceKey). IsPermutation (override_keys c.args.entries.now) (map key_of l)) (sym c.deref.ensures.value) c.in_ok-overrides.ensures.0 in
     (refl, λ differ. c.if-has_equal_neighbours.ensures (pairs_permutation (override_keys c.args.entries.now) (map key_of c.deref.result.now) same differ))
 

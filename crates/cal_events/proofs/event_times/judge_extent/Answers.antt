@@ -4,14 +4,14 @@ use Rattle.cal_events.specs.Events.{ExtentFault}
 use Rattle.cal_events.specs.Events.{ends_early, ends_late, lasts_long}
 use Rattle.cal_events.proofs.event_times.judge_extent.Goals as goal
 
-pub returns-in-ToEnd-clause-stands : goal.returns-in-ToEnd-clause-stands
-returns-in-ToEnd-clause-stands c =
+pub returns-in-ToEnd-clause-fault : goal.returns-in-ToEnd-clause-fault
+returns-in-ToEnd-clause-fault c =
     subst (λ x. ExtentFault x 50) (sym c.in-ToEnd.is) (ends_early c.in-ToEnd.seconds (omega (arith, ints)))
 
-pub returns-in-ToEnd-2-clause-stands : goal.returns-in-ToEnd-2-clause-stands
-returns-in-ToEnd-2-clause-stands c =
+pub returns-in-ToEnd-2-clause-fault : goal.returns-in-ToEnd-2-clause-fault
+returns-in-ToEnd-2-clause-fault c =
     subst (λ x. ExtentFault x 51) (sym c.in-ToEnd-2.is) (ends_late c.in-ToEnd-2.seconds (omega (arith, ints)))
 
-pub returns-in-For-clause-stands : goal.returns-in-For-clause-stands
-returns-in-For-clause-stands c =
+pub returns-in-For-clause-fault : goal.returns-in-For-clause-fault
+returns-in-For-clause-fault c =
     subst (λ x. ExtentFault x 51) (sym c.in-For.is) (lasts_long c.in-For.duration (omega (arith, ints)))

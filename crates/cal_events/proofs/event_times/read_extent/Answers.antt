@@ -11,29 +11,29 @@ use Rattle.cal_events.proofs.EventLemmas.{some_line}
 use Rattle.cal_events.proofs.TimesLemmas.{duration_fault}
 use Rattle.cal_events.proofs.event_times.read_extent.Goals as goal
 
-pub returns-in_err-end-clause-stands : goal.returns-in_err-end-clause-stands
-returns-in_err-end-clause-stands c may =
+pub returns-in_err-end-clause-fault : goal.returns-in_err-end-clause-fault
+returns-in_err-end-clause-fault c may =
     let P = EventTimesFault may (object_of c.args.zones.now) c.args.properties.now in
     refusal_exit _ P _ c.from_residual.ensures.1 (subst P (sym c.in_err-end.ensures.refuses) (twice (codes "DTEND") (1, omega arith, refl) c.in_err-end.ensures.twice))
 
-pub returns-in_err-duration-clause-stands : goal.returns-in_err-duration-clause-stands
-returns-in_err-duration-clause-stands c may =
+pub returns-in_err-duration-clause-fault : goal.returns-in_err-duration-clause-fault
+returns-in_err-duration-clause-fault c may =
     let P = EventTimesFault may (object_of c.args.zones.now) c.args.properties.now in
     refusal_exit _ P _ c.from_residual-in_err-duration.ensures.1
     (subst P (sym c.in_err-duration.ensures.refuses) (twice (codes "DURATION") (2, omega arith, refl) c.in_err-duration.ensures.twice))
 
-pub returns-in_err-seconds-in-Some-None-clause-stands : goal.returns-in_err-seconds-in-Some-None-clause-stands
-returns-in_err-seconds-in-Some-None-clause-stands c may =
+pub returns-in_err-seconds-in-Some-None-clause-fault : goal.returns-in_err-seconds-in-Some-None-clause-fault
+returns-in_err-seconds-in-Some-None-clause-fault c may =
     let object = object_of c.args.zones.now in
     let lines = c.args.properties.now in
     let P = EventTimesFault may object lines in
     let line = line_text c.in-Some-None.line in
     let once = c.in_ok-end.ensures.found ∙ ap (λ l. option_to_list (option_map line_text l)) c.in-Some-None.is-0 in
     refusal_exit _ P _ c.from_residual-in_err-seconds-in-Some-None.ensures.1
-    (bad_end (some_line (codes "DTEND") (λ l. ZonedTimeFault object l _) lines line once c.in_err-seconds-in-Some-None.ensures.stands))
+    (bad_end (some_line (codes "DTEND") (λ l. ZonedTimeFault object l _) lines line once c.in_err-seconds-in-Some-None.ensures.fault))
 
-pub returns-in_err-read-in-None-Some-clause-stands : goal.returns-in_err-read-in-None-Some-clause-stands
-returns-in_err-read-in-None-Some-clause-stands c may =
+pub returns-in_err-read-in-None-Some-clause-fault : goal.returns-in_err-read-in-None-Some-clause-fault
+returns-in_err-read-in-None-Some-clause-fault c may =
     let object = object_of c.args.zones.now in
     let lines = c.args.properties.now in
     let once = c.in_ok-duration.ensures.found ∙ ap (λ l. option_to_list (option_map line_text l)) c.in-None-Some.is-1 in
@@ -41,8 +41,8 @@ returns-in_err-read-in-None-Some-clause-stands c may =
     refusal_exit _ (EventTimesFault may object lines) _ c.from_residual-in_err-read-in-None-Some.ensures.1
     (duration_fault object lines (line_text c.in-None-Some.line) c.value.result.now _ once c.value.ensures h.refuses h.none h.not_negative h.range)
 
-pub returns-in-Some-Some-clause-stands : goal.returns-in-Some-Some-clause-stands
-returns-in-Some-Some-clause-stands c may =
+pub returns-in-Some-Some-clause-fault : goal.returns-in-Some-Some-clause-fault
+returns-in-Some-Some-clause-fault c may =
     let lines = c.args.properties.now in
     let end_once = c.in_ok-end.ensures.found ∙ ap (λ l. option_to_list (option_map line_text l)) c.in-Some-Some.is-0 in
     let once = c.in_ok-duration.ensures.found ∙ ap (λ l. option_to_list (option_map line_text l)) c.in-Some-Some.is-1 in

@@ -30,13 +30,13 @@ loop-component-preserved c =
           rw w.masters-is (rw w.instants-is (master_counted all i x masters ts c.loop-component-test.true c.component-item.is c.loop-component.invariant w.in-None.is))
     ]
 
-pub returns-then-masters-gt1-clause-stands : goal.returns-then-masters-gt1-clause-stands
-returns-then-masters-gt1-clause-stands c =
+pub returns-then-masters-gt1-clause-fault : goal.returns-then-masters-gt1-clause-fault
+returns-then-masters-gt1-clause-fault c =
     two_masters_are c.args.components.now c.loop-component.component-index c.loop-component.masters c.loop-component.instants.items (omega (arith, c.loop-component-test.false)) c.loop-component.invariant
     (omega (arith, c.if-masters-gt1.true))
 
-pub returns-then-has_twins-clause-stands : goal.returns-then-has_twins-clause-stands
-returns-then-has_twins-clause-stands c =
+pub returns-then-has_twins-clause-fault : goal.returns-then-has_twins-clause-fault
+returns-then-has_twins-clause-fault c =
     two_overrides_are c.args.components.now c.loop-component.component-index c.loop-component.masters c.loop-component.instants.items (omega (arith, c.loop-component-test.false)) c.loop-component.invariant
     c.of.result c.of.ensures c.if-has_twins.ensures
 

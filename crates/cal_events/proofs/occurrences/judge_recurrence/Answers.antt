@@ -2,5 +2,5 @@ use Rattle.std.proofs.Common.{rules}
 use Rattle.cal_events.proofs.RecurrenceLemmas.{recurrence_out_there}
 use Rattle.cal_events.proofs.occurrences.judge_recurrence.Goals as goal
 
-pub returns-in-Some-clause-stands : goal.returns-in-Some-clause-stands
-returns-in-Some-clause-stands c object lines s added = recurrence_out_there object lines c.in-Some.said (search rules) (search rules)
+pub returns-in-Some-clause-fault : goal.returns-in-Some-clause-fault
+returns-in-Some-clause-fault c object lines s added = recurrence_out_there object lines c.in-Some.said (search rules) (search rules)

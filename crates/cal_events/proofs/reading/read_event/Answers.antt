@@ -12,4 +12,4 @@ returns-clause-refuses c =
     let object = object_of c.args.zones.now in
     let m = method_read c.args.purpose in
     let lines = c.in_ok-properties.properties in
-    IfErr-weaker _ (RefusesBy (EventFault object m lines)) (RefusesOnly is_meeting_event_fault) (refused_for object m lines) c.read.ensures.stands
+    IfErr-weaker _ (RefusesBy (EventFault object m lines)) (RefusesOnly is_meeting_event_fault) (refused_for object m lines) c.read.ensures.fault

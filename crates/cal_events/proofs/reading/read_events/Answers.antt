@@ -12,8 +12,8 @@ use Rattle.ical_values.proofs.Exits.{err_exit}
 use Rattle.cal_events.proofs.reading.read_events.Goals as goal
 use Rattle.cal_events.proofs.reading.read_events.Goals.{then-is_named+in_ok-read_event+in_ok-push, else-is_named}
 
-pub returns-in_err-read_event-clause-stands : goal.returns-in_err-read_event-clause-stands
-returns-in_err-read_event-clause-stands c =
+pub returns-in_err-read_event-clause-fault : goal.returns-in_err-read_event-clause-fault
+returns-in_err-read_event-clause-fault c =
     let object = c.args.object.now in
     let all = component_children object in
     let i = c.loop-component.component-index in
@@ -26,7 +26,7 @@ returns-in_err-read_event-clause-stands c =
     err_exit _ (RefusesBy P) _ c.from_residual-in_err-read_event.ensures.1
     (weaker_fault _ (EventFault (tree_of object) m (component_lines x)) P
     (λ n h. (component_lines x, is_among all i x within here (sym c.if-is_named.ensures), h))
-    (subst (λ (t : Tree). RefusesBy (EventFault t m (component_lines x)) c.in_err-read_event.field-0.0) (ap tree_of c.in_ok-zones.ensures.object) c.in_err-read_event.ensures.stands))
+    (subst (λ (t : Tree). RefusesBy (EventFault t m (component_lines x)) c.in_err-read_event.field-0.0) (ap tree_of c.in_ok-zones.ensures.object) c.in_err-read_event.ensures.fault))
 
 pub loop-component-preserved : goal.loop-component-preserved
 loop-component-preserved c =

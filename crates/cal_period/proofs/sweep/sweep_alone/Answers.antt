@@ -19,18 +19,18 @@ returns-in-Some-met_by-clause-shared c =
     alone_found (series_said c.args.a.now) c.loop-walk.starts c.loop-walk.walk c.loop-walk.invariant c.in-Some.next c.in-Some.is c.in-Some-met_by.last c.in-Some-met_by.ensures.meets
 
 pub returns-in-Some-met_by-clause-drawn : goal.returns-in-Some-met_by-clause-drawn
-returns-in-Some-met_by-clause-drawn c = some_counted (series_said c.args.a.now) c.loop-walk.starts c.loop-walk.walk c.loop-walk.invariant.stands
+returns-in-Some-met_by-clause-drawn c = some_counted (series_said c.args.a.now) c.loop-walk.starts c.loop-walk.walk c.loop-walk.invariant.is_walk
 
 pub loop-walk-smaller : goal.loop-walk-smaller
 loop-walk-smaller c =
     let series = series_said c.args.a.now in
-    let g = c.past-walk.ensures.stands series c.loop-walk.starts c.next-in-Some.new.self c.loop-walk.invariant.stands c.next-in-Some.ensures.steps in
-    fewer_left series c.next-in-Some.new.self c.loop-walk.walk c.past-walk.result g.stands.ahead g.further
+    let g = c.past-walk.ensures.is_walk series c.loop-walk.starts c.next-in-Some.new.self c.loop-walk.invariant.is_walk c.next-in-Some.ensures.steps in
+    fewer_left series c.next-in-Some.new.self c.loop-walk.walk c.past-walk.result g.is_walk.ahead g.further
 
 pub loop-walk-preserved : goal.loop-walk-preserved
 loop-walk-preserved c =
     let series = series_said c.args.a.now in
-    let g = c.past-walk.ensures.stands series c.loop-walk.starts c.next-in-Some.new.self c.loop-walk.invariant.stands c.next-in-Some.ensures.steps in
+    let g = c.past-walk.ensures.is_walk series c.loop-walk.starts c.next-in-Some.new.self c.loop-walk.invariant.is_walk c.next-in-Some.ensures.steps in
     alone_past series c.loop-walk.starts c.loop-walk.walk c.loop-walk.invariant c.in-Some.next c.in-Some.is c.next-in-Some.new.self c.past-walk.result c.in_default-met_by.ensures.none g
 
 pub returns-clause-shared : goal.returns-clause-shared
@@ -41,4 +41,4 @@ returns-clause-shared c =
 pub returns-clause-drawn : goal.returns-clause-drawn
 returns-clause-drawn c =
     let end : place_of c.loop-walk.walk.next ≡ horizon = ap place_of (none_is c.loop-walk.walk.next c.in_default.not-Some) in
-    all_counted (series_said c.args.a.now) c.loop-walk.starts c.loop-walk.walk c.loop-walk.invariant.stands (omega (arith, ints, end))
+    all_counted (series_said c.args.a.now) c.loop-walk.starts c.loop-walk.walk c.loop-walk.invariant.is_walk (omega (arith, ints, end))

@@ -52,8 +52,8 @@ returns-in-Some-met_by-clause-drawn c =
 pub loop-next-smaller-then-place : goal.loop-next-smaller-then-place
 loop-next-smaller-then-place c =
     let a = series_said c.args.a.now in
-    let g = c.past-first.ensures.stands a c.loop-next.of_a c.next-then-place.new.self c.loop-next.invariant.in_first c.next-then-place.ensures.steps in
-    let l = fewer_left a c.next-then-place.new.self c.loop-next.first c.past-first.result g.stands.ahead g.further in
+    let g = c.past-first.ensures.is_walk a c.loop-next.of_a c.next-then-place.new.self c.loop-next.invariant.in_first c.next-then-place.ensures.steps in
+    let l = fewer_left a c.next-then-place.new.self c.loop-next.first c.past-first.result g.is_walk.ahead g.further in
     omega (arith, l)
 
 pub loop-next-preserved-then-place : goal.loop-next-preserved-then-place
@@ -64,7 +64,7 @@ loop-next-preserved-then-place c =
     let f : FitsSigned w64 p = search rules in
     let h : FitsSigned w64 q = search rules in
     let l = place_before p q _ _ f h c.place.ensures c.place-in-loop-next.ensures c.if-place.true in
-    let g = c.past-first.ensures.stands a c.loop-next.of_a c.next-then-place.new.self c.loop-next.invariant.in_first c.next-then-place.ensures.steps in
+    let g = c.past-first.ensures.is_walk a c.loop-next.of_a c.next-then-place.new.self c.loop-next.invariant.in_first c.next-then-place.ensures.steps in
     pair_past a (series_said c.args.b.now) c.loop-next.of_a c.loop-next.of_b c.loop-next.first c.loop-next.second c.loop-next.invariant c.in-Some.next c.in-Some.is c.next-then-place.new.self c.past-first.result l
     c.in_default-met_by.ensures.none g
 
@@ -104,8 +104,8 @@ returns-in-Some-met_by-2-clause-drawn c =
 pub loop-next-smaller : goal.loop-next-smaller
 loop-next-smaller c =
     let b = series_said c.args.b.now in
-    let g = c.past-second.ensures.stands b c.loop-next.of_b c.next-in-loop-next.new.self c.loop-next.invariant.in_second c.next-in-loop-next.ensures.steps in
-    let l = fewer_left b c.next-in-loop-next.new.self c.loop-next.second c.past-second.result g.stands.ahead g.further in
+    let g = c.past-second.ensures.is_walk b c.loop-next.of_b c.next-in-loop-next.new.self c.loop-next.invariant.in_second c.next-in-loop-next.ensures.steps in
+    let l = fewer_left b c.next-in-loop-next.new.self c.loop-next.second c.past-second.result g.is_walk.ahead g.further in
     omega (arith, l)
 
 pub loop-next-preserved : goal.loop-next-preserved
@@ -117,7 +117,7 @@ loop-next-preserved c =
     let f : FitsSigned w64 p = search rules in
     let h : FitsSigned w64 q = search rules in
     let l = place_after p q _ _ f h c.place.ensures c.place-in-loop-next.ensures c.if-place.false in
-    let g = c.past-second.ensures.stands b c.loop-next.of_b c.next-in-loop-next.new.self c.loop-next.invariant.in_second c.next-in-loop-next.ensures.steps in
+    let g = c.past-second.ensures.is_walk b c.loop-next.of_b c.next-in-loop-next.new.self c.loop-next.invariant.in_second c.next-in-loop-next.ensures.steps in
     let at = pair_turned a b c.loop-next.of_a c.loop-next.of_b c.loop-next.first c.loop-next.second c.loop-next.invariant in
     pair_turned b a c.next-in-loop-next.new.self c.loop-next.of_a c.past-second.result c.loop-next.first
     (pair_past b a c.loop-next.of_b c.loop-next.of_a c.loop-next.second c.loop-next.first at c.in-Some-next.next c.in-Some-next.is c.next-in-loop-next.new.self c.past-second.result (omega (arith, ints, l))

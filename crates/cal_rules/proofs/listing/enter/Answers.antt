@@ -12,8 +12,8 @@ returns-in-Some-clause-span c = search rules
 pub returns-in-Some-clause-none : goal.returns-in-Some-clause-none
 returns-in-Some-clause-none c = search rules
 
-pub returns-in-Some-clause-stands : goal.returns-in-Some-clause-stands
-returns-in-Some-clause-stands c = search rules
+pub returns-in-Some-clause-is_cursor : goal.returns-in-Some-clause-is_cursor
+returns-in-Some-clause-is_cursor c = search rules
 
 pub returns-clause-not_before : goal.returns-clause-not_before
 returns-clause-not_before c = search rules
@@ -24,8 +24,8 @@ returns-clause-span c = search rules
 pub returns-clause-none : goal.returns-clause-none
 returns-clause-none c = search rules
 
-pub returns-clause-stands : goal.returns-clause-stands
-returns-clause-stands c = search rules
+pub returns-clause-is_cursor : goal.returns-clause-is_cursor
+returns-clause-is_cursor c = search rules
 
-pub returns-then-is_empty-clause-stands : goal.returns-then-is_empty-clause-stands
-returns-then-is_empty-clause-stands c = grind (arith, common_steps)
+pub returns-then-is_empty-clause-is_cursor : goal.returns-then-is_empty-clause-is_cursor
+returns-then-is_empty-clause-is_cursor c = grind (arith, common_steps)

@@ -54,14 +54,14 @@ returns-else-later-depth-clause-none c =
     let p = pattern_of c.args.written.now c.args.start.index in
     before_last p c.args.day.index c.loop-here.here.index c.args.span.first c.args.span.end c.args.depth c.loop-here.later c.requires.span c.requires.in_step c.requires.end c.requires.some c.requires.deep i.high i.count (omega arith)
 
-pub returns-else-later-depth-clause-stands : goal.returns-else-later-depth-clause-stands
-returns-else-later-depth-clause-stands c =
+pub returns-else-later-depth-clause-is_cursor : goal.returns-else-later-depth-clause-is_cursor
+returns-else-later-depth-clause-is_cursor c =
     let i = c.loop-here.invariant in
     entered_from_end (pattern_of c.args.written.now c.args.start.index) c.args.day.index c.args.depth c.args.span c.loop-here.here c.loop-here.later c.requires.span c.requires.in_step c.requires.end c.requires.deep i.facts i.low i.high i.count
 
 -- the day itself is reached
 
-pub returns-after-loop-here-clause-stands : goal.returns-after-loop-here-clause-stands
-returns-after-loop-here-clause-stands c =
+pub returns-after-loop-here-clause-is_cursor : goal.returns-after-loop-here-clause-is_cursor
+returns-after-loop-here-clause-is_cursor c =
     let i = c.loop-here.invariant in
     entered_from_end (pattern_of c.args.written.now c.args.start.index) c.args.day.index c.args.depth c.args.span c.loop-here.here c.loop-here.later c.requires.span c.requires.in_step c.requires.end c.requires.deep i.facts i.low i.high i.count

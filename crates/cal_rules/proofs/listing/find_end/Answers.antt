@@ -15,7 +15,7 @@ loop-done-init c =
     let e = c.at-cursor.ensures.index in
     let none : c.at-cursor.result.day.index - c.args.start.index ≡ 0 = omega arith in
     record {
-      stands = c.at-cursor.ensures.stands (pattern_of c.args.written.now c.args.start.index);
+      is_cursor = c.at-cursor.ensures.is_cursor (pattern_of c.args.written.now c.args.start.index);
       low = omega arith;
       count = rw none refl;
     }
@@ -34,7 +34,7 @@ loop-done-preserved c =
     let range = past.range in
     let place : after - 1 + 1 ≡ after = omega arith in
     record {
-      stands = past.stands;
+      is_cursor = past.is_cursor;
       low = omega arith;
       count = rw place at (count_next (parts_of c.args.written.now c.args.start.index (day_index c.args.last)) c.loop-done.cursor.day.index (after - 1) c.loop-done.done i.low low i.count past.next.least past.next.counted);
     }
@@ -43,4 +43,4 @@ pub returns : goal.returns
 returns c =
     let i = c.loop-done.invariant in
     let all : c.loop-done.done ≡ c.in-Some.count = omega arith in
-    ends_at (parts_of c.args.written.now c.args.start.index (day_index c.args.last)) c.in-Some.count c.loop-done.cursor.day.index c.in-Some.is i.low (omega (arith, i.stands.range)) (i.count ∙ all)
+    ends_at (parts_of c.args.written.now c.args.start.index (day_index c.args.last)) c.in-Some.count c.loop-done.cursor.day.index c.in-Some.is i.low (omega (arith, i.is_cursor.range)) (i.count ∙ all)

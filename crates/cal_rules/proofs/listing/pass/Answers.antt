@@ -11,46 +11,46 @@ pub returns-then-not-passes-clause-chosen : goal.returns-then-not-passes-clause-
 returns-then-not-passes-clause-chosen c =
     sym (chosen_passes (pattern_of c.args.written.now c.args.start.index) c.args.cursor.day.index (sym c.passes.ensures ∙ c.if-not-passes.true))
 
-pub returns-then-not-passes-clause-stands : goal.returns-then-not-passes-clause-stands
-returns-then-not-passes-clause-stands c =
+pub returns-then-not-passes-clause-is_cursor : goal.returns-then-not-passes-clause-is_cursor
+returns-then-not-passes-clause-is_cursor c =
     let next = c.tomorrow-day.ensures in
-    on_flat (pattern_of c.args.written.now c.args.start.index) c.args.cursor c.tomorrow-day.result c.requires.stands c.requires.inside next.index next.facts (sym c.passes.ensures ∙ c.if-not-passes.true)
+    on_flat (pattern_of c.args.written.now c.args.start.index) c.args.cursor c.tomorrow-day.result c.requires.is_cursor c.requires.inside next.index next.facts (sym c.passes.ensures ∙ c.if-not-passes.true)
 
 -- no set position
 
 pub returns-then-is_empty-clause-chosen : goal.returns-then-is_empty-clause-chosen
 returns-then-is_empty-clause-chosen c =
     let none : is_missing c.args.written.now.positions.items ≡ true = search rules in
-    sym (chosen_plain (pattern_of c.args.written.now c.args.start.index) c.args.cursor.day.index (c.requires.stands.inside c.requires.inside).in_step none (sym c.passes.ensures ∙ c.if-not-passes.false))
+    sym (chosen_plain (pattern_of c.args.written.now c.args.start.index) c.args.cursor.day.index (c.requires.is_cursor.inside c.requires.inside).in_step none (sym c.passes.ensures ∙ c.if-not-passes.false))
 
-pub returns-then-is_empty-clause-stands : goal.returns-then-is_empty-clause-stands
-returns-then-is_empty-clause-stands c =
+pub returns-then-is_empty-clause-is_cursor : goal.returns-then-is_empty-clause-is_cursor
+returns-then-is_empty-clause-is_cursor c =
     let none : is_missing c.args.written.now.positions.items ≡ true = search rules in
     let next = c.tomorrow-day.ensures in
-    on_plain (pattern_of c.args.written.now c.args.start.index) c.args.cursor c.tomorrow-day.result c.requires.stands c.requires.inside next.index next.facts none
+    on_plain (pattern_of c.args.written.now c.args.start.index) c.args.cursor c.tomorrow-day.result c.requires.is_cursor c.requires.inside next.index next.facts none
 
 -- set positions
 
 pub overflow_sub-later : goal.overflow_sub-later
 overflow_sub-later c =
     let some : is_missing c.args.written.now.positions.items ≡ false = search rules in
-    omega (arith, later_is (pattern_of c.args.written.now c.args.start.index) c.args.cursor c.requires.stands c.requires.inside some (sym c.passes.ensures ∙ c.if-not-passes.false))
+    omega (arith, later_is (pattern_of c.args.written.now c.args.start.index) c.args.cursor c.requires.is_cursor c.requires.inside some (sym c.passes.ensures ∙ c.if-not-passes.false))
 
 pub overflow_add-after : goal.overflow_add-after
 overflow_add-after c =
     let some : is_missing c.args.written.now.positions.items ≡ false = search rules in
-    omega (arith, earlier_few (pattern_of c.args.written.now c.args.start.index) c.args.cursor c.requires.stands c.requires.inside some)
+    omega (arith, earlier_few (pattern_of c.args.written.now c.args.start.index) c.args.cursor c.requires.is_cursor c.requires.inside some)
 
 pub returns-clause-chosen : goal.returns-clause-chosen
 returns-clause-chosen c =
     let some : is_missing c.args.written.now.positions.items ≡ false = search rules in
-    c.allows_nth-placed.ensures ∙ rw c.deref.ensures.value (sym (placed_is (pattern_of c.args.written.now c.args.start.index) c.args.cursor c.requires.stands c.requires.inside some (sym c.passes.ensures ∙ c.if-not-passes.false)))
+    c.allows_nth-placed.ensures ∙ rw c.deref.ensures.value (sym (placed_is (pattern_of c.args.written.now c.args.start.index) c.args.cursor c.requires.is_cursor c.requires.inside some (sym c.passes.ensures ∙ c.if-not-passes.false)))
 
-pub returns-clause-stands : goal.returns-clause-stands
-returns-clause-stands c =
+pub returns-clause-is_cursor : goal.returns-clause-is_cursor
+returns-clause-is_cursor c =
     let some : is_missing c.args.written.now.positions.items ≡ false = search rules in
     let next = c.tomorrow-day.ensures in
-    on_passed (pattern_of c.args.written.now c.args.start.index) c.args.cursor c.tomorrow-day.result c.requires.stands c.requires.inside next.index next.facts some (sym c.passes.ensures ∙ c.if-not-passes.false)
+    on_passed (pattern_of c.args.written.now c.args.start.index) c.args.cursor c.tomorrow-day.result c.requires.is_cursor c.requires.inside next.index next.facts some (sym c.passes.ensures ∙ c.if-not-passes.false)
 
 pub returns-clause-index : goal.returns-clause-index
 returns-clause-index c = search rules

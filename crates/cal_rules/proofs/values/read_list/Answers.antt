@@ -1,7 +1,7 @@
 use Rattle.std.proofs.Common.{◌==◌, inl, inr, refl, arith}
 use Rattle.std.specs.List.{slice_split}
 use Rattle.cal_rules.proofs.Cuts.{all_left, cut_more, cut_done}
-use Rattle.cal_rules.proofs.Entered.{none_yet, one_more, stands_there, too_many, list_read}
+use Rattle.cal_rules.proofs.Entered.{none_yet, one_more, is_there_in, too_many, list_read}
 use Rattle.cal_rules.proofs.values.read_list.Goals as goal
 
 pub loop-text-init : goal.loop-text-init
@@ -14,7 +14,7 @@ pub returns-in_default-clause-none : goal.returns-in_default-clause-none
 returns-in_default-clause-none g c =
     let i = c.loop-text.invariant in
     let more = cut_more c.loop-text.text-iterator c.next.new.self c.in-Some.text i.0 i.1 c.in-Some.ensures.steps in
-    inl (c.in-Some.text.now, stands_there _ _ i.0 more.0 c.in-Some.text.now c.loop-text.values.items i.2 more.1, record { shown = c.in-Some.text; shows = refl; says = record { met = c.in_default.ensures } })
+    inl (c.in-Some.text.now, is_there_in _ _ i.0 more.0 c.in-Some.text.now c.loop-text.values.items i.2 more.1, record { shown = c.in-Some.text; shows = refl; says = record { met = c.in_default.ensures } })
 
 pub loop-text-preserved : goal.loop-text-preserved
 loop-text-preserved g c =

@@ -7,8 +7,8 @@ use Rattle.cal_zones.specs.Read.{StartFault}
 use Rattle.ical_values.proofs.Exits.{err_both}
 use Rattle.cal_zones.proofs.parts.read_local.Goals as goal
 
-pub returns-clause-stands : goal.returns-clause-stands
-returns-clause-stands c =
+pub returns-clause-fault : goal.returns-clause-fault
+returns-clause-fault c =
     let No : Refusal → Type 0 = λ _. (local : ℤ) → SpellsLocal c.value-2.result.now local → ⊥ in
     err_both _ (λ e. e.number ≡ 11) No (λ e. StartFault (line_text c.args.line) e.number)
     (λ e n none. inr (n, inr (λ t h. none t (subst (λ (s : List ℕ). SpellsLocal s t) (sym c.value-2.ensures) h))))

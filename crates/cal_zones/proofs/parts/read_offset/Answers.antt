@@ -12,8 +12,8 @@ use Rattle.cal_zones.proofs.Reading.{said}
 use Rattle.ical_values.proofs.Exits.{refusal_exit, err_both}
 use Rattle.cal_zones.proofs.parts.read_offset.Goals as goal
 
-pub returns-in_err-line-clause-stands : goal.returns-in_err-line-clause-stands
-returns-in_err-line-clause-stands c =
+pub returns-in_err-line-clause-fault : goal.returns-in_err-line-clause-fault
+returns-in_err-line-clause-fault c =
     refusal_exit _ (OffsetFault c.args.name.now c.args.properties.now) _ c.from_residual.ensures.1
     (inl (ap (λ (e : Refusal). e.number) c.in_err-line.ensures.refuses, c.in_err-line.ensures.faulty))
 
@@ -25,8 +25,8 @@ returns-clause-says c =
     IfOk-weaker _ (SpellsOffset c.value.result.now) (λ t. Says name true IsOffsetLine lines (Some t))
     (λ t h. said IsOffsetLine name lines line t c.in_ok-line.ensures.found (subst (λ (s : List ℕ). SpellsOffset s t) c.value.ensures h)) c.read.ensures.reads
 
-pub returns-clause-stands : goal.returns-clause-stands
-returns-clause-stands c =
+pub returns-clause-fault : goal.returns-clause-fault
+returns-clause-fault c =
     let lines = c.args.properties.now in
     let line = line_text c.in_ok-line.line in
     let name = c.args.name.now in

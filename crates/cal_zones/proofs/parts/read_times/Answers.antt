@@ -9,31 +9,31 @@ use Rattle.cal_zones.proofs.Reading.{said, not_one, start_fault, from_fault, to_
 use Rattle.ical_values.proofs.Exits.{refusal_exit}
 use Rattle.cal_zones.proofs.parts.read_times.Goals as goal
 
-pub returns-then-has_line-clause-stands : goal.returns-then-has_line-clause-stands
-returns-then-has_line-clause-stands c = dates (c.has_line.ensures.stands c.if-has_line.true)
+pub returns-then-has_line-clause-fault : goal.returns-then-has_line-clause-fault
+returns-then-has_line-clause-fault c = dates (c.has_line.ensures.present c.if-has_line.true)
 
-pub returns-in_err-line-clause-stands : goal.returns-in_err-line-clause-stands
-returns-in_err-line-clause-stands c =
+pub returns-in_err-line-clause-fault : goal.returns-in_err-line-clause-fault
+returns-in_err-line-clause-fault c =
     let lines = c.args.properties.now in
     refusal_exit _ (TimesFault lines) _ c.from_residual.ensures.1
     (subst (λ (e : Refusal). TimesFault lines e.number) (sym c.in_err-line.ensures.refuses) (not_one (codes "DTSTART") lines (0, omega arith, refl) c.in_err-line.ensures.faulty))
 
-pub returns-in_err-start-clause-stands : goal.returns-in_err-start-clause-stands
-returns-in_err-start-clause-stands c =
+pub returns-in_err-start-clause-fault : goal.returns-in_err-start-clause-fault
+returns-in_err-start-clause-fault c =
     let lines = c.args.properties.now in
     let line = line_text c.in_ok-line.line in
     refusal_exit _ (TimesFault lines) _ c.from_residual-in_err-start.ensures.1
-    (start_fault lines line _ (the_line (codes "DTSTART") lines line c.in_ok-line.ensures.found) c.in_err-start.ensures.stands)
+    (start_fault lines line _ (the_line (codes "DTSTART") lines line c.in_ok-line.ensures.found) c.in_err-start.ensures.fault)
 
-pub returns-in_err-from-clause-stands : goal.returns-in_err-from-clause-stands
-returns-in_err-from-clause-stands c =
+pub returns-in_err-from-clause-fault : goal.returns-in_err-from-clause-fault
+returns-in_err-from-clause-fault c =
     let lines = c.args.properties.now in
-    refusal_exit _ (TimesFault lines) _ c.from_residual-in_err-from.ensures.1 (from_fault lines _ c.in_err-from.ensures.stands)
+    refusal_exit _ (TimesFault lines) _ c.from_residual-in_err-from.ensures.1 (from_fault lines _ c.in_err-from.ensures.fault)
 
-pub returns-in_err-to-clause-stands : goal.returns-in_err-to-clause-stands
-returns-in_err-to-clause-stands c =
+pub returns-in_err-to-clause-fault : goal.returns-in_err-to-clause-fault
+returns-in_err-to-clause-fault c =
     let lines = c.args.properties.now in
-    refusal_exit _ (TimesFault lines) _ c.from_residual-in_err-to.ensures.1 (to_fault lines _ c.in_err-to.ensures.stands)
+    refusal_exit _ (TimesFault lines) _ c.from_residual-in_err-to.ensures.1 (to_fault lines _ c.in_err-to.ensures.fault)
 
 pub returns-clause-says : goal.returns-clause-says
 returns-clause-says c =

@@ -9,8 +9,8 @@ use Rattle.cal_zones.proofs.Reading.{fault_exit}
 use Rattle.cal_zones.proofs.read.all_keep.Goals as goal
 use Rattle.cal_zones.proofs.read.all_keep.Goals.{then-is_part+in_ok-keeps+else-not-branch, else-is_part}
 
-pub returns-in_err-keeps-clause-stands : goal.returns-in_err-keeps-clause-stands
-returns-in_err-keeps-clause-stands c =
+pub returns-in_err-keeps-clause-fault : goal.returns-in_err-keeps-clause-fault
+returns-in_err-keeps-clause-fault c =
     let all = component_children c.args.zone.now in
     let i = c.loop-child.child-index in
     let x = c.child-item.result in
@@ -18,7 +18,7 @@ returns-in_err-keeps-clause-stands c =
     let within = subst (λ (l : List Component). i < length l) same c.loop-child-test.true in
     let here = subst (λ (l : List Component). x ≡ get_or l i x) same c.child-item.is in
     fault_exit _ (SomeTimesFault (parts_of c.args.zone.now)) (TimesFault (component_lines x)) _
-    (λ n h. (component_lines x, is_among is_part all i x within here (sym c.if-is_part.ensures), h)) c.from_residual.ensures.1 c.in_err-keeps.ensures.stands
+    (λ n h. (component_lines x, is_among is_part all i x within here (sym c.if-is_part.ensures), h)) c.from_residual.ensures.1 c.in_err-keeps.ensures.fault
 
 pub returns-then-not-branch-clause-no : goal.returns-then-not-branch-clause-no
 returns-then-not-branch-clause-no c h =

@@ -12,9 +12,9 @@ returns-in-Some-clause-says c =
     IfOk-weaker _ (λ z. SaysSingle part (zone_of z)) (λ z. Says zone (zone_of z))
     (λ z h. single_says (parts_of zone) (standards_of zone) (daylights_of zone) part (zone_of z) c.requires c.in-Some.ensures.found h) c.read_single.ensures.says
 
-pub returns-in-Some-clause-stands : goal.returns-in-Some-clause-stands
-returns-in-Some-clause-stands c =
+pub returns-in-Some-clause-fault : goal.returns-in-Some-clause-fault
+returns-in-Some-clause-fault c =
     let zone = c.args.zone.now in
     let part = component_lines c.in-Some.part.now in
     weaker_fault _ (SingleFault part) (HasFault zone)
-    (λ n h. single_fault (parts_of zone) (standards_of zone) (daylights_of zone) part n c.requires c.in-Some.ensures.found h) c.read_single.ensures.stands
+    (λ n h. single_fault (parts_of zone) (standards_of zone) (daylights_of zone) part n c.requires c.in-Some.ensures.found h) c.read_single.ensures.fault

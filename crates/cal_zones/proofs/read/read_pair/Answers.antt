@@ -9,30 +9,30 @@ use Rattle.ical_lines.specs.Fault.{RefusesBy}
 use Rattle.ical_values.proofs.Exits.{err_exit}
 use Rattle.cal_zones.proofs.read.read_pair.Goals as goal
 
-pub returns-in_default-clause-stands : goal.returns-in_default-clause-stands
-returns-in_default-clause-stands c = other_parts c.requires.differ c.requires.several (λ h. c.in_default.ensures.none h.0)
+pub returns-in_default-clause-fault : goal.returns-in_default-clause-fault
+returns-in_default-clause-fault c = other_parts c.requires.differ c.requires.several (λ h. c.in_default.ensures.none h.0)
 
-pub returns-in_default-only_named-clause-stands : goal.returns-in_default-only_named-clause-stands
-returns-in_default-only_named-clause-stands c = other_parts c.requires.differ c.requires.several (λ h. c.in_default-only_named.ensures.none h.1)
+pub returns-in_default-only_named-clause-fault : goal.returns-in_default-only_named-clause-fault
+returns-in_default-only_named-clause-fault c = other_parts c.requires.differ c.requires.several (λ h. c.in_default-only_named.ensures.none h.1)
 
-pub returns-in_err-first-clause-stands : goal.returns-in_err-first-clause-stands
-returns-in_err-first-clause-stands c =
+pub returns-in_err-first-clause-fault : goal.returns-in_err-first-clause-fault
+returns-in_err-first-clause-fault c =
     let zone = c.args.zone.now in
     let p = component_lines c.in-Some.standard.now in
     let q = component_lines c.in-Some-only_named.daylight.now in
     fault_exit _ (HasFault zone) (YearlyFault p) _ (λ n h. both_fault (parts_of zone) (standards_of zone) (daylights_of zone) p q n c.requires.differ c.in-Some.ensures.found c.in-Some-only_named.ensures.found
-    (standard_is_part (component_children zone) p c.in-Some.ensures.found) (daylight_is_part (component_children zone) q c.in-Some-only_named.ensures.found) (in_standard h)) c.from_residual.ensures.1 c.in_err-first.ensures.stands
+    (standard_is_part (component_children zone) p c.in-Some.ensures.found) (daylight_is_part (component_children zone) q c.in-Some-only_named.ensures.found) (in_standard h)) c.from_residual.ensures.1 c.in_err-first.ensures.fault
 
-pub returns-in_err-second-clause-stands : goal.returns-in_err-second-clause-stands
-returns-in_err-second-clause-stands c =
+pub returns-in_err-second-clause-fault : goal.returns-in_err-second-clause-fault
+returns-in_err-second-clause-fault c =
     let zone = c.args.zone.now in
     let p = component_lines c.in-Some.standard.now in
     let q = component_lines c.in-Some-only_named.daylight.now in
     fault_exit _ (HasFault zone) (YearlyFault q) _ (λ n h. both_fault (parts_of zone) (standards_of zone) (daylights_of zone) p q n c.requires.differ c.in-Some.ensures.found c.in-Some-only_named.ensures.found
-    (standard_is_part (component_children zone) p c.in-Some.ensures.found) (daylight_is_part (component_children zone) q c.in-Some-only_named.ensures.found) (in_daylight h)) c.from_residual-in_err-second.ensures.1 c.in_err-second.ensures.stands
+    (standard_is_part (component_children zone) p c.in-Some.ensures.found) (daylight_is_part (component_children zone) q c.in-Some-only_named.ensures.found) (in_daylight h)) c.from_residual-in_err-second.ensures.1 c.in_err-second.ensures.fault
 
-pub returns-in_err-pair-clause-stands : goal.returns-in_err-pair-clause-stands
-returns-in_err-pair-clause-stands c =
+pub returns-in_err-pair-clause-fault : goal.returns-in_err-pair-clause-fault
+returns-in_err-pair-clause-fault c =
     let zone = c.args.zone.now in
     let p = component_lines c.in-Some.standard.now in
     let q = component_lines c.in-Some-only_named.daylight.now in

@@ -9,14 +9,14 @@ use Rattle.cal_zones.proofs.Reading.{single_refused}
 use Rattle.ical_values.proofs.Exits.{err_exit}
 use Rattle.cal_zones.proofs.read.read_single.Goals as goal
 
-pub returns-in_err-observance-clause-stands : goal.returns-in_err-observance-clause-stands
-returns-in_err-observance-clause-stands c =
+pub returns-in_err-observance-clause-fault : goal.returns-in_err-observance-clause-fault
+returns-in_err-observance-clause-fault c =
     err_exit _ (RefusesBy (SingleFault (component_lines c.args.part.now))) _ c.from_residual-in_err-observance.ensures.1
-    (in_times (rw c.in_ok-properties.ensures at c.in_err-observance.ensures.stands))
+    (in_times (rw c.in_ok-properties.ensures at c.in_err-observance.ensures.fault))
 
-pub returns-then-has_line-clause-stands : goal.returns-then-has_line-clause-stands
-returns-then-has_line-clause-stands c =
-    has_rule (λ missing. c.has_line.ensures.stands c.if-has_line.true (subst (IsMissing (codes "RRULE")) (sym c.in_ok-properties.ensures) missing))
+pub returns-then-has_line-clause-fault : goal.returns-then-has_line-clause-fault
+returns-then-has_line-clause-fault c =
+    has_rule (λ missing. c.has_line.ensures.present c.if-has_line.true (subst (IsMissing (codes "RRULE")) (sym c.in_ok-properties.ensures) missing))
 
 pub returns-clause-says : goal.returns-clause-says
 returns-clause-says c =
@@ -28,8 +28,8 @@ returns-clause-says c =
     } in
     (observance_of o, c.in_ok-single.ensures.ok, once, c.in_ok-single.ensures.accepted.1)
 
-pub returns-in_err-single-clause-stands : goal.returns-in_err-single-clause-stands
-returns-in_err-single-clause-stands c =
+pub returns-in_err-single-clause-fault : goal.returns-in_err-single-clause-fault
+returns-in_err-single-clause-fault c =
     let lines = component_lines c.args.part.now in
     let o = c.in_ok-observance.observance in
     let once : SaysOnce lines (observance_of o) = record {

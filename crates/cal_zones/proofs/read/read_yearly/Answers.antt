@@ -15,22 +15,22 @@ use Rattle.cal_zones.proofs.Reading.{fault_exit, said, no_rule_there, same_times
 use Rattle.ical_values.proofs.Exits.{err_exit}
 use Rattle.cal_zones.proofs.read.read_yearly.Goals as goal
 
-pub returns-in_err-observance-clause-stands : goal.returns-in_err-observance-clause-stands
-returns-in_err-observance-clause-stands c =
+pub returns-in_err-observance-clause-fault : goal.returns-in_err-observance-clause-fault
+returns-in_err-observance-clause-fault c =
     err_exit _ (RefusesBy (YearlyFault (component_lines c.args.part.now))) _ c.from_residual-in_err-observance.ensures.1
-    (inl (rw c.in_ok-properties.ensures at c.in_err-observance.ensures.stands))
+    (inl (rw c.in_ok-properties.ensures at c.in_err-observance.ensures.fault))
 
-pub returns-in_err-line-clause-stands : goal.returns-in_err-line-clause-stands
-returns-in_err-line-clause-stands c =
+pub returns-in_err-line-clause-fault : goal.returns-in_err-line-clause-fault
+returns-in_err-line-clause-fault c =
     err_exit _ (RefusesBy (YearlyFault (component_lines c.args.part.now))) _ c.from_residual-in_err-line.ensures.1
     (inr (ap (λ (e : Refusal). e.number) c.in_err-line.ensures.refuses, subst HasNoYearRule c.in_ok-properties.ensures (no_rule_there c.in_ok-properties.properties c.in_err-line.ensures.faulty)))
 
-pub returns-in_err-rule-clause-stands : goal.returns-in_err-rule-clause-stands
-returns-in_err-rule-clause-stands c =
+pub returns-in_err-rule-clause-fault : goal.returns-in_err-rule-clause-fault
+returns-in_err-rule-clause-fault c =
     let own = c.in_ok-properties.properties in
     let line = line_text c.in_ok-line.line in
     fault_exit _ (YearlyFault (component_lines c.args.part.now)) (λ n. (n ≡ 40) × SpellsNoYear c.value.result.now) _
-    (λ n h. inr (h.0, subst HasNoYearRule c.in_ok-properties.ensures (inr (inr (line, the_line (codes "RRULE") own line c.in_ok-line.ensures.found, subst SpellsNoYear c.value.ensures h.1))))) c.from_residual-in_err-rule.ensures.1 c.in_err-rule.ensures.stands
+    (λ n h. inr (h.0, subst HasNoYearRule c.in_ok-properties.ensures (inr (inr (line, the_line (codes "RRULE") own line c.in_ok-line.ensures.found, subst SpellsNoYear c.value.ensures h.1))))) c.from_residual-in_err-rule.ensures.1 c.in_err-rule.ensures.fault
 
 pub returns-clause-says : goal.returns-clause-says
 returns-clause-says c =
@@ -49,5 +49,5 @@ invariant_of-observance c = search rules
 pub returns-clause-has_rule : goal.returns-clause-has_rule
 returns-clause-has_rule c = search rules
 
-pub returns-clause-stands : goal.returns-clause-stands
-returns-clause-stands c = search rules
+pub returns-clause-fault : goal.returns-clause-fault
+returns-clause-fault c = search rules

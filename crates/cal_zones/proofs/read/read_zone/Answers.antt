@@ -9,19 +9,19 @@ use Rattle.cal_zones.proofs.Reading.{fault_exit, some_times_fault}
 use Rattle.cal_zones.proofs.PartLemmas.{found_in, nothing_in}
 use Rattle.cal_zones.proofs.read.read_zone.Goals as goal
 
-pub returns-in_default-clause-stands : goal.returns-in_default-clause-stands
-returns-in_default-clause-stands c = no_part (nothing_in is_part (component_children c.args.zone.now) None c.in_default.ensures)
+pub returns-in_default-clause-fault : goal.returns-in_default-clause-fault
+returns-in_default-clause-fault c = no_part (nothing_in is_part (component_children c.args.zone.now) None c.in_default.ensures)
 
-pub returns-in_err-first-clause-stands : goal.returns-in_err-first-clause-stands
-returns-in_err-first-clause-stands c =
+pub returns-in_err-first-clause-fault : goal.returns-in_err-first-clause-fault
+returns-in_err-first-clause-fault c =
     let part = component_lines c.in-Some.part.now in
-    fault_exit _ (HasFault c.args.zone.now) (TimesFault part) _ (λ n h. in_part part (found_in is_part (component_children c.args.zone.now) (Some c.in-Some.part) c.in-Some.ensures) h) c.from_residual.ensures.1 c.in_err-first.ensures.stands
+    fault_exit _ (HasFault c.args.zone.now) (TimesFault part) _ (λ n h. in_part part (found_in is_part (component_children c.args.zone.now) (Some c.in-Some.part) c.in-Some.ensures) h) c.from_residual.ensures.1 c.in_err-first.ensures.fault
 
-pub returns-in_err-all_keep-clause-stands : goal.returns-in_err-all_keep-clause-stands
-returns-in_err-all_keep-clause-stands c =
+pub returns-in_err-all_keep-clause-fault : goal.returns-in_err-all_keep-clause-fault
+returns-in_err-all_keep-clause-fault c =
     let zone = c.args.zone.now in
     fault_exit _ (HasFault zone) (SomeTimesFault (parts_of zone)) _ (some_times_fault (parts_of zone) (standards_of zone) (daylights_of zone))
-    c.from_residual-in_err-all_keep.ensures.1 c.in_err-all_keep.ensures.stands
+    c.from_residual-in_err-all_keep.ensures.1 c.in_err-all_keep.ensures.fault
 
 pub returns-then-branch-clause-says : goal.returns-then-branch-clause-says
 returns-then-branch-clause-says c =

@@ -12,7 +12,7 @@ returns-in-Ok-clause-yes c =
 pub returns-in-Err-Refused-clause-yes : goal.returns-in-Err-Refused-clause-yes
 returns-in-Err-Refused-clause-yes c =
     refused_iff c.one_calendar_text.ensures.or_a_fault (address_octets c.args.room.now) c.args.calendar.now c.args.certificate.now c.in-Err-Refused.field-0-0.number c.no.result.verdict
-    (rw c.in-Err-Refused.field-0-is at c.in-Err-Refused.ensures.stands) c.no.ensures.no
+    (rw c.in-Err-Refused.field-0-is at c.in-Err-Refused.ensures.fault) c.no.ensures.no
 
 pub returns-in-Ok-clause-judged : goal.returns-in-Ok-clause-judged
 returns-in-Ok-clause-judged c =

@@ -2,7 +2,7 @@ use Rattle.std.proofs.Common.{ℕ, List, ◌+◌, ◌≤◌, ◌<◌, length, re
 use Rattle.profile.specs.events.Meetings.{Meeting}
 use Rattle.cal_period.specs.Every.{IsFound, IsPairClear}
 use Rattle.cal_period.proofs.EveryPair.{where_none, where_some}
-use Rattle.clash_check.proofs.VerdictLemmas.{no_entry, no_singles, failing_entry, entries_stand, where_bool, where_not}
+use Rattle.clash_check.proofs.VerdictLemmas.{no_entry, no_singles, failing_entry, entries_hold, where_bool, where_not}
 use Rattle.clash_check.proofs.checking.judge_counted.Goals as goal
 
 pub returns-in-Some-clause-verdict : goal.returns-in-Some-clause-verdict
@@ -17,7 +17,7 @@ returns-then-branch-clause-verdict c = λ text claims spells counts.
     let all = c.args.calendar.now in
     let pairs = where_none c.sweep_all-swept.result.shared _ _ c.in_default.is c.sweep_all-swept.ensures.shared in
     let clear = subst (λ (l : List Meeting). (p q : ℕ) → p ≤ q → q < length l → IsPairClear l p q) c.series.ensures.are pairs in
-    record { c = claims; spells = spells; counts = counts; entries = entries_stand all claims counts clear; singles = where_bool _ _ _ c.if-branch.true c.in_ok-are_singles_clear.ensures }
+    record { c = claims; spells = spells; counts = counts; entries = entries_hold all claims counts clear; singles = where_bool _ _ _ c.if-branch.true c.in_ok-are_singles_clear.ensures }
 
 pub returns-else-branch-clause-verdict : goal.returns-else-branch-clause-verdict
 returns-else-branch-clause-verdict c = λ text claims spells counts.
@@ -31,6 +31,6 @@ returns-else-branch-clause-verdict c = λ text claims spells counts.
       c = claims;
       spells = spells;
       counts = counts;
-      entries = entries_stand all claims counts clear;
+      entries = entries_hold all claims counts clear;
       clash = where_not _ _ _ c.if-branch.false c.in_ok-are_singles_clear.ensures;
     })

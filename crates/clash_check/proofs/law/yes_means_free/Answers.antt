@@ -3,4 +3,4 @@ use Rattle.clash_check.proofs.FreeLemmas.{free}
 use Rattle.clash_check.proofs.law.yes_means_free.Goals as goal
 
 pub returns : goal.returns
-returns c = free c.standing_means_clear.ensures c.series_and_singles_divide.ensures.single c.singles_are_confirmed.ensures.keys
+returns c = free c.certificate_means_clear.ensures c.series_and_singles_divide.ensures.single c.singles_are_confirmed.ensures.keys

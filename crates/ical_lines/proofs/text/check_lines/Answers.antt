@@ -6,7 +6,7 @@ use Rattle.ical_lines.specs.Breaks.{lines_of}
 use Rattle.ical_lines.specs.Limits.{is_bounded}
 use Rattle.ical_lines.specs.Text.{lines_left}
 use Rattle.ical_lines.proofs.BreakLemmas.{any_later, any_here, lines_of-le}
-use Rattle.ical_lines.proofs.FirstLemmas.{next_judged, first_found, too_many, bound_stands}
+use Rattle.ical_lines.proofs.FirstLemmas.{next_judged, first_found, too_many, bound_refuses}
 use Rattle.ical_lines.proofs.text.check_lines.Goals as goal
 
 pub loop-line-init : goal.loop-line-init
@@ -25,18 +25,18 @@ loop-line-preserved c =
       counted = omega (arith, c.loop-line.invariant.counted, ap length s);
       fits = omega (arith, c.loop-line.invariant.fits, ap length s);
       within = sym c.exceeds_lines.ensures ∙ c.if-exceeds_lines.false;
-      same = c.loop-line.invariant.same ∙ (ap (list_any is_faulty) s ∙ ap (λ b. b || list_any is_faulty (lines_left c.next_text.new.self)) c.in_default-fault_in.ensures.stands);
-      first = c.loop-line.invariant.first ∙ next_judged (is_bounded c.args.limits) c.loop-line.count _ _ _ s (sym c.exceeds_lines.ensures ∙ c.if-exceeds_lines.false) c.in_default-fault_in.ensures.stands;
+      same = c.loop-line.invariant.same ∙ (ap (list_any is_faulty) s ∙ ap (λ b. b || list_any is_faulty (lines_left c.next_text.new.self)) c.in_default-fault_in.ensures.fault);
+      first = c.loop-line.invariant.first ∙ next_judged (is_bounded c.args.limits) c.loop-line.count _ _ _ s (sym c.exceeds_lines.ensures ∙ c.if-exceeds_lines.false) c.in_default-fault_in.ensures.fault;
       among = λ n h. c.loop-line.invariant.among n (any_later (line_has n) _ _ _ s h);
     }
 
-pub returns-in-Some-fault_in-clause-stands : goal.returns-in-Some-fault_in-clause-stands
-returns-in-Some-fault_in-clause-stands c =
+pub returns-in-Some-fault_in-clause-fault : goal.returns-in-Some-fault_in-clause-fault
+returns-in-Some-fault_in-clause-fault c =
     let n = c.in-Some-fault_in.refusal.number in
-    let h = c.loop-line.invariant.among n (any_here (line_has n) _ _ _ c.in-Some.ensures.next c.in-Some-fault_in.ensures.stands) in rw h refl
+    let h = c.loop-line.invariant.among n (any_here (line_has n) _ _ _ c.in-Some.ensures.next c.in-Some-fault_in.ensures.fault) in rw h refl
 
-pub returns-clause-stands : goal.returns-clause-stands
-returns-clause-stands c =
+pub returns-clause-fault : goal.returns-clause-fault
+returns-clause-fault c =
     let s = c.in_default.ensures.next in
     let e : length (lines_of c.args.text.now) ≡ c.loop-line.count = omega (arith, c.loop-line.invariant.counted, ap length s.0) in (
       c.loop-line.invariant.same ∙ ap (list_any is_faulty) s.0,
@@ -51,6 +51,6 @@ pub returns-then-exceeds_lines-clause-first : goal.returns-then-exceeds_lines-cl
 returns-then-exceeds_lines-clause-first c =
     too_many (is_bounded c.args.limits) c.loop-line.count _ _ _ (lines_of c.args.text.now) c.in-Some.ensures.next c.loop-line.invariant.within (sym c.exceeds_lines.ensures ∙ c.if-exceeds_lines.true) c.loop-line.invariant.counted c.loop-line.invariant.first
 
-pub returns-then-exceeds_lines-clause-stands : goal.returns-then-exceeds_lines-clause-stands
-returns-then-exceeds_lines-clause-stands c =
-    bound_stands (is_bounded c.args.limits) c.loop-line.count _ _ _ (lines_of c.args.text.now) c.in-Some.ensures.next (sym c.exceeds_lines.ensures ∙ c.if-exceeds_lines.true) c.loop-line.invariant.counted
+pub returns-then-exceeds_lines-clause-fault : goal.returns-then-exceeds_lines-clause-fault
+returns-then-exceeds_lines-clause-fault c =
+    bound_refuses (is_bounded c.args.limits) c.loop-line.count _ _ _ (lines_of c.args.text.now) c.in-Some.ensures.next (sym c.exceeds_lines.ensures ∙ c.if-exceeds_lines.true) c.loop-line.invariant.counted

@@ -2,7 +2,7 @@ use Rattle.std.proofs.Common.{◌∙◌, inl}
 use Rattle.std.proofs.lemmas.Result.{err_from_is_err_and}
 use Rattle.ical_lines.specs.Limits.{is_bounded}
 use Rattle.ical_tree.specs.Runs.{run_lines}
-use Rattle.ical_tree.proofs.StandsLemmas.{state_first, state_next, state_spelled, take_stands, finish_stands}
+use Rattle.ical_tree.proofs.RefusalLemmas.{state_first, state_next, state_spelled, take_refuses, finish_refuses}
 use Rattle.ical_tree.proofs.read.read_object.Goals as goal
 
 pub loop-line-init : goal.loop-line-init
@@ -20,15 +20,15 @@ loop-line-preserved c = record {
   state = state_next _ _ _ _ _ _ _ _ c.loop-line.invariant.state c.in-Some.ensures.next c.in_ok-take.ensures.built c.in_ok-take.ensures.names;
 }
 
-pub returns-in_err-take-clause-stands : goal.returns-in_err-take-clause-stands
-returns-in_err-take-clause-stands c =
+pub returns-in_err-take-clause-fault : goal.returns-in_err-take-clause-fault
+returns-in_err-take-clause-fault c =
     let p = err_from_is_err_and c.from_residual.result c.from_residual.ensures.1 in
-    rw (p.1, p.2) (take_stands (is_bounded c.args.limits) c.args.text.now _ _ _ _ _ _ c.loop-line.invariant.state c.in-Some.ensures.next c.in_err-take.ensures.stands)
+    rw (p.1, p.2) (take_refuses (is_bounded c.args.limits) c.args.text.now _ _ _ _ _ _ c.loop-line.invariant.state c.in-Some.ensures.next c.in_err-take.ensures.fault)
 
-pub returns-in_err-calendar-clause-stands : goal.returns-in_err-calendar-clause-stands
-returns-in_err-calendar-clause-stands c =
+pub returns-in_err-calendar-clause-fault : goal.returns-in_err-calendar-clause-fault
+returns-in_err-calendar-clause-fault c =
     let p = err_from_is_err_and c.from_residual-in_err-calendar.result c.from_residual-in_err-calendar.ensures.1 in
-    rw (p.1, p.2) (inl (finish_stands (is_bounded c.args.limits) c.args.text.now _ _ _ c.in_err-calendar.field-0.0.number c.loop-line.invariant.state c.in_default.ensures.next.0 c.in_err-calendar.ensures.stands))
+    rw (p.1, p.2) (inl (finish_refuses (is_bounded c.args.limits) c.args.text.now _ _ _ c.in_err-calendar.field-0.0.number c.loop-line.invariant.state c.in_default.ensures.next.0 c.in_err-calendar.ensures.fault))
 
 pub returns-clause-spelled : goal.returns-clause-spelled
 returns-clause-spelled c =

@@ -2,7 +2,7 @@ use Rattle.std.proofs.Common.{◌≡◌, length}
 use Rattle.ical_lines.specs.Text.{lines_left}
 use Rattle.ical_tree.specs.Reading.{open_view}
 use Rattle.ical_tree.specs.Runs.{lines_after}
-use Rattle.ical_tree.proofs.StandsLemmas.{State}
+use Rattle.ical_tree.proofs.RefusalLemmas.{State}
 use Rattle.ical_tree.proofs.read.read_object.Given as goal
 
 abbrev pub invariant-loop-line : goal.invariant-loop-line

@@ -4,8 +4,8 @@ use Rattle.itip_messages.proofs.ObjectLemmas.{mapped_one_each}
 use Rattle.itip_messages.proofs.organiser_object.judge_attendees.Goals as goal
 use Rattle.itip_messages.proofs.organiser_object.judge_attendees.Goals.{else-is_of_attendee-via-then-is_of_attendee+else-not-all_have_one, else-is_of_attendee-via-else-is_of_attendee}
 
-pub returns-then-not-all_have_one-clause-stands : goal.returns-then-not-all_have_one-clause-stands
-returns-then-not-all_have_one-clause-stands c =
+pub returns-then-not-all_have_one-clause-fault : goal.returns-then-not-all_have_one-clause-fault
+returns-then-not-all_have_one-clause-fault c =
     (refl, sym c.if-is_of_attendee.ensures, sym (mapped_one_each c.args.events.now false c.if-not-all_have_one.ensures))
 
 pub returns-clause-each : goal.returns-clause-each

@@ -10,20 +10,20 @@ use Rattle.room_books.proofs.HiddenStarts.{none_before, none_hidden, series_whol
 use Rattle.room_books.proofs.series.hides_start.Goals as goal
 
 pub loop-slot-init : goal.loop-slot-init
-loop-slot-init c = λ history stands b inside. none_before history (part_of c.args.part.now) b
+loop-slot-init c = λ history represented b inside. none_before history (part_of c.args.part.now) b
 
 pub loop-slot-preserved : goal.loop-slot-preserved
-loop-slot-preserved c = λ history stands b inside.
+loop-slot-preserved c = λ history represented b inside.
     let slots = c.args.slots.now in
     let i = c.loop-slot.slot-index in
     let part = part_of c.args.part.now in
-    none_hidden slots i own.Whole c.loop-slot-test.true history part b (c.loop-slot.invariant history stands b inside) (c.hides_one.ensures c.if-hides_one.false history stands b inside)
+    none_hidden slots i own.Whole c.loop-slot-test.true history part b (c.loop-slot.invariant history represented b inside) (c.hides_one.ensures c.if-hides_one.false history represented b inside)
 
 pub returns : goal.returns
-returns c = λ none history stands.
+returns c = λ none history represented.
     let slots = c.args.slots.now in
     let hides = is_hidden_by slots history (part_of c.args.part.now) in
     let all = take_all c.loop-slot.slot-index slots (omega arith) in
     let series = c.in-Some.series in
     subst (λ (o : Option Series). IsSeriesLeft hides o o) (sym c.in-Some.is)
-    (series_whole hides series (λ b inside. subst (λ (l : List OwnSlot). is_hidden_by l history (part_of c.args.part.now) b ≡ false) all (c.loop-slot.invariant history stands b inside)))
+    (series_whole hides series (λ b inside. subst (λ (l : List OwnSlot). is_hidden_by l history (part_of c.args.part.now) b ≡ false) all (c.loop-slot.invariant history represented b inside)))

@@ -5,5 +5,5 @@ use Rattle.room_books.specs.Takings.{is_hidden_by, IsSeriesLeft}
 use Rattle.room_books.proofs.series.series_beside.Goals as goal
 
 pub returns-clause-left : goal.returns-clause-left
-returns-clause-left c = λ history stands.
-    subst (λ (o : Option Series). IsSeriesLeft (is_hidden_by c.args.slots.now history (part_of c.args.part.now)) o (Some c.in_ok-left.left)) (sym c.in-Some.is) (c.in_ok-left.ensures.left history stands)
+returns-clause-left c = λ history represented.
+    subst (λ (o : Option Series). IsSeriesLeft (is_hidden_by c.args.slots.now history (part_of c.args.part.now)) o (Some c.in_ok-left.left)) (sym c.in-Some.is) (c.in_ok-left.ensures.left history represented)

@@ -6,9 +6,9 @@ use Rattle.room_books.proofs.HiddenStarts.{series_without}
 use Rattle.room_books.proofs.series.without_hidden.Goals as goal
 
 pub returns-clause-left : goal.returns-clause-left
-returns-clause-left c = λ history stands.
+returns-clause-left c = λ history represented.
     let series = c.args.series.now in let left = c.in_ok-left.left in
-    series_without c.args.slots.now history (part_of c.args.part.now) series left c.in_ok-starts.starts.items (c.known_by_start.ensures series) (c.in_ok-starts.ensures history stands)
+    series_without c.args.slots.now history (part_of c.args.part.now) series left c.in_ok-starts.starts.items (c.known_by_start.ensures series) (c.in_ok-starts.ensures history represented)
     (subst (λ (l : List ℤ). IsLeftOf (series_said series) l (series_said left)) c.deref.ensures.value c.in_ok-left.ensures)
 
 pub returns-clause-fewer : goal.returns-clause-fewer

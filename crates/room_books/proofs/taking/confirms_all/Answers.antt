@@ -7,10 +7,10 @@ use Rattle.room_books.proofs.Looking.{one_confirms}
 use Rattle.room_books.proofs.taking.confirms_all.Goals as goal
 
 pub returns : goal.returns
-returns c = λ yes_it history stands given among.
-    c.loop-given.invariant history stands given (subst (λ (l : List Given). Contains l given) (sym (take_all c.loop-given.given-index c.args.answers.now (omega arith))) among)
+returns c = λ yes_it history represented given among.
+    c.loop-given.invariant history represented given (subst (λ (l : List Given). Contains l given) (sym (take_all c.loop-given.given-index c.args.answers.now (omega arith))) among)
 
 pub loop-given-preserved : goal.loop-given-preserved
-loop-given-preserved c = λ history stands.
-    one_confirms c.args.slots.now history (part_of c.args.part.now) c.args.answers.now c.loop-given.given-index c.given-item.result c.loop-given-test.true c.given-item.is (c.loop-given.invariant history stands)
-    (c.confirms_all.ensures c.if-not-confirms_all.false history stands)
+loop-given-preserved c = λ history represented.
+    one_confirms c.args.slots.now history (part_of c.args.part.now) c.args.answers.now c.loop-given.given-index c.given-item.result c.loop-given-test.true c.given-item.is (c.loop-given.invariant history represented)
+    (c.confirms_all.ensures c.if-not-confirms_all.false history represented)

@@ -7,7 +7,7 @@ use Rattle.room_books.specs.BySlot.{givens}
 use Rattle.room_books.specs.Instants.{Sheds, IsSplit}
 use Rattle.room_books.specs.Takings.{series_still, singles_left}
 use Rattle.room_books.specs.Views.{all_series, all_singles, AreFewer}
-use Rattle.room_books.specs.Standing.{KeepsSome}
+use Rattle.room_books.specs.Representation.{KeepsSome}
 use Rattle.itip_messages.proofs.WrittenLines.{flat_push}
 use Rattle.room_books.proofs.Loops.{one_more}
 use Rattle.room_books.proofs.Own.{keeps_none, keeps_more}

@@ -1,6 +1,6 @@
 use Rattle.std.proofs.Common.{◌≡◌, take, List}
 use Rattle.room_books.specs.Instants.{Sheds}
-use Rattle.itip_order.specs.Registers.{StandsFor}
+use Rattle.itip_order.specs.Registers.{RepresentsHistory}
 use Rattle.itip_order.specs.Parts.{part_of}
 use Rattle.profile.specs.rooms.Revisions.{Part}
 use Rattle.room_books.specs.Takings.{left_beside}
@@ -8,5 +8,5 @@ use Rattle.room_books.proofs.taking.left_beside.Given as goal
 
 abbrev pub invariant-loop-single : goal.invariant-loop-single
 invariant-loop-single l =
-    ((history : List Part) → StandsFor l.held history → l.left.items ≡ left_beside l.slots history (part_of l.part) (take l.single-index l.singles))
+    ((history : List Part) → RepresentsHistory l.held history → l.left.items ≡ left_beside l.slots history (part_of l.part) (take l.single-index l.singles))
     × Sheds (take l.single-index l.singles) l.left.items l.fn.gone.items l.gone.items

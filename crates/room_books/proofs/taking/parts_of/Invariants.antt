@@ -1,7 +1,7 @@
 use Rattle.std.proofs.Common.{take}
-use Rattle.itip_order.specs.Registers.{StandsFor}
+use Rattle.itip_order.specs.Registers.{RepresentsHistory}
 use Rattle.room_books.specs.Takings.{parts_said}
 use Rattle.room_books.proofs.taking.parts_of.Given as goal
 
 abbrev pub invariant-loop-claim : goal.invariant-loop-claim
-invariant-loop-claim l = StandsFor l.parts (parts_said (take l.claim-index l.claims))
+invariant-loop-claim l = RepresentsHistory l.parts (parts_said (take l.claim-index l.claims))

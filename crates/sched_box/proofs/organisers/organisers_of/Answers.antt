@@ -1,7 +1,7 @@
 use Rattle.std.proofs.Common.{◌∙◌, ap, map, subst, sym, arith}
 use Rattle.std.specs.List.{AllZip}
 use Rattle.ical_values.specs.Octets.{address_octets}
-use Rattle.organiser_books.specs.Standing.{address_of}
+use Rattle.organiser_books.specs.Representation.{address_of}
 use Rattle.sched_box.specs.Organising.{IsKeptBy}
 use Rattle.sched_box.proofs.HostLemmas.{none_made, made_more, all_made}
 use Rattle.sched_box.proofs.OrganiserLemmas.{nothing_kept}

@@ -2,7 +2,7 @@ use Rattle.std.proofs.Common.{◌≡◌, ◌∙◌, ap, subst}
 use Rattle.std.proofs.lemmas.Result.{IfErr-weaker, on_ok_weaker}
 use Rattle.ical_lines.specs.Fault.{RefusesBy}
 use Rattle.ical_values.specs.Refused.{IfRefused}
-use Rattle.organiser_books.specs.Standing.{address_of}
+use Rattle.organiser_books.specs.Representation.{address_of}
 use Rattle.organiser_books.specs.declared.organiser.Organiser.{Organiser}
 use Rattle.sched_box.specs.Organising.{KeepsBook, OrganiserRefuses, OrganiserTakes}
 use Rattle.sched_box.proofs.OrganiserLemmas.{taken_at, refused_at, kept_at, same_addresses}
@@ -22,12 +22,12 @@ returns-clause-takes c =
     ))
     c.take_object.ensures.takes
 
-pub returns-clause-stands : goal.returns-clause-stands
-returns-clause-stands c =
+pub returns-clause-fault : goal.returns-clause-fault
+returns-clause-fault c =
     let d = c.index_mut.result.now in
     IfErr-weaker c.take_object.result _ _
     (λ f h. refused_at c.args.object c.args.organisers.now.items c.args.place d f c.requires.within c.requires.named (subst (λ (o : Organiser). RefusesBy (OrganiserRefuses c.args.object o) f) c.index_mut.ensures.value h))
-    c.take_object.ensures.stands
+    c.take_object.ensures.fault
 
 pub returns-clause-keeps : goal.returns-clause-keeps
 returns-clause-keeps c =

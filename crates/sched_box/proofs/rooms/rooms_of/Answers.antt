@@ -13,7 +13,7 @@ pub loop-address-preserved : goal.loop-address-preserved
 loop-address-preserved c =
     let same = c.in_ok-room.ensures.address ∙ ap address_octets c.address-item.is in
     made_more (λ room. address_octets room.address) IsHosted nothing_taken _ c.loop-address.address-index _ _ c.in_ok-room.room c.address-item.result c.loop-address.invariant (omega arith) c.in_ok-push.ensures.items same
-    (record { at = sym same; stands = c.in_ok-room.ensures.book })
+    (record { at = sym same; represents = c.in_ok-room.ensures.book })
 
 pub returns-clause-addresses : goal.returns-clause-addresses
 returns-clause-addresses c =

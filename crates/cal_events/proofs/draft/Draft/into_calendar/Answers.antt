@@ -15,8 +15,8 @@ use Rattle.cal_events.proofs.DraftKeys.{masters_there, there_masters, overrides_
 use Rattle.cal_events.proofs.DraftLemmas.{within_entries, masters_of, confirmed_of, left_within, different_keys}
 use Rattle.cal_events.proofs.draft.Draft.into_calendar.Goals as goal
 
-pub returns-then-has_equal_neighbours-clause-stands : goal.returns-then-has_equal_neighbours-clause-stands
-returns-then-has_equal_neighbours-clause-stands c room events d =
+pub returns-then-has_equal_neighbours-clause-fault : goal.returns-then-has_equal_neighbours-clause-fault
+returns-then-has_equal_neighbours-clause-fault c room events d =
     let entries = c.args.self.entries in
     let sorted = c.in_ok-keys_of_masters.ensures.0 in
     let same = subst (λ (l : List InstanceKey). IsPermutation (master_keys entries) (map key_of l)) (sym c.deref.ensures.value) sorted in
@@ -30,13 +30,13 @@ shown-requires c =
       masters = masters_of d.0 d.1 c.args.self d.2;
     }
 
-pub returns-in_err-singles-clause-stands : goal.returns-in_err-singles-clause-stands
-returns-in_err-singles-clause-stands c room events d =
+pub returns-in_err-singles-clause-fault : goal.returns-in_err-singles-clause-fault
+returns-in_err-singles-clause-fault c room events d =
     let entries = c.args.self.entries in
     err_exit _ (RefusesBy (IsTwoOf events)) _ c.from_residual-in_err-singles.ensures.1
     (weaker_fault _ _ (IsTwoOf events)
     (λ n h. inr (h.0, λ differ. h.1 (there_overrides entries events d.entries differ)))
-    c.in_err-singles.ensures.stands)
+    c.in_err-singles.ensures.fault)
 
 pub invariant_of-result : goal.invariant_of-result
 invariant_of-result c =

@@ -13,7 +13,7 @@ use Rattle.profile.specs.events.Events.{EventFault, SaysEvent}
 use Rattle.cal_events.specs.Events.{event_of, vevents_of}
 use Rattle.cal_events.specs.Drafts.{IsDraft}
 use Rattle.cal_events.proofs.EventLemmas.{push_zip}
-use Rattle.cal_events.proofs.ReadingLemmas.{events_in, is_among, take_other, take_event, event_stands}
+use Rattle.cal_events.proofs.ReadingLemmas.{events_in, is_among, take_other, take_event, event_refuses}
 use Rattle.cal_events.proofs.TreeLemmas.{vevents_tree, only_calendar}
 use Rattle.cal_events.proofs.draft.Draft.of_object.Goals as goal
 use Rattle.cal_events.proofs.draft.Draft.of_object.Goals.{then-is_named+in_ok-event+in_ok-add, else-is_named}
@@ -21,8 +21,8 @@ use Rattle.cal_events.proofs.draft.Draft.of_object.Goals.{then-is_named+in_ok-ev
 pub loop-component-init : goal.loop-component-init
 loop-component-init c = ([], tt, c.new-draft.ensures (address_octets c.args.room.now))
 
-pub returns-in_err-event-clause-stands : goal.returns-in_err-event-clause-stands
-returns-in_err-event-clause-stands c =
+pub returns-in_err-event-clause-fault : goal.returns-in_err-event-clause-fault
+returns-in_err-event-clause-fault c =
     let object = c.args.object.now in
     let all = component_children object in
     let i = c.loop-component.component-index in
@@ -31,8 +31,8 @@ returns-in_err-event-clause-stands c =
     let within = subst (λ (l : List Component). i < length l) same c.loop-component-test.true in
     let here = subst (λ (l : List Component). x ≡ get_or l i x) same c.component-item.is in
     err_exit _ (RefusesBy (CalendarFault (tree_of object))) _ c.from_residual-in_err-event.ensures.1
-    (event_stands (tree_of object) (vevents_of object) (component_lines x) _ (vevents_tree object) (is_among all i x within here (sym c.if-is_named.ensures))
-    (subst (λ (t : Tree). RefusesBy (EventFault t None (component_lines x)) c.in_err-event.field-0.0) (ap tree_of c.in_ok-zones.ensures.object) c.in_err-event.ensures.stands))
+    (event_refuses (tree_of object) (vevents_of object) (component_lines x) _ (vevents_tree object) (is_among all i x within here (sym c.if-is_named.ensures))
+    (subst (λ (t : Tree). RefusesBy (EventFault t None (component_lines x)) c.in_err-event.field-0.0) (ap tree_of c.in_ok-zones.ensures.object) c.in_err-event.ensures.fault))
 
 pub loop-component-preserved : goal.loop-component-preserved
 loop-component-preserved c =

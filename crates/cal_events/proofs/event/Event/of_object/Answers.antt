@@ -13,9 +13,9 @@ use Rattle.cal_events.proofs.Clocks.{all_clocks, master_good}
 use Rattle.profile.specs.text.Trees.{vevents}
 use Rattle.cal_events.proofs.event.Event.of_object.Goals as goal
 
-pub returns-in_err-components-clause-stands : goal.returns-in_err-components-clause-stands
-returns-in_err-components-clause-stands c =
-    err_exit _ (RefusesBy (MeetingFault (tree_of c.args.object.now) None)) _ c.from_residual.ensures.1 c.in_err-components.ensures.stands
+pub returns-in_err-components-clause-fault : goal.returns-in_err-components-clause-fault
+returns-in_err-components-clause-fault c =
+    err_exit _ (RefusesBy (MeetingFault (tree_of c.args.object.now) None)) _ c.from_residual.ensures.1 c.in_err-components.ensures.fault
 
 pub into_event-requires-clause-clock : goal.into_event-requires-clause-clock
 into_event-requires-clause-clock c =

@@ -7,7 +7,7 @@ use Rattle.profile.specs.events.ZonedTimes.{clock_of}
 use Rattle.profile.specs.events.EventRules.{GivesRule, IsOutside, EventRuleFault}
 use Rattle.cal_events.specs.Events.{times_of}
 use Rattle.ical_values.proofs.Exits.{err_exit}
-use Rattle.cal_events.proofs.RuleLemmas.{outside_stands, some_named, says_beside, says_without}
+use Rattle.cal_events.proofs.RuleLemmas.{outside_refuses, some_named, says_beside, says_without}
 use Rattle.cal_events.proofs.ZonedLemmas.{weaker_fault}
 use Rattle.cal_events.proofs.event_rule.SaidRule.judge.Goals as goal
 
@@ -22,14 +22,14 @@ returns-in_ok-rule_from-in-Some-2-clause-says c lines said has =
     says_beside lines t c.args.self.text said (Some rule) (sym has ∙ c.if-not-has_start.false)
     (subst (λ (o : Option RuleText). BothOrNeither (GivesRule (clock_of t.zone) t.local) o (Some rule)) (sym c.in-Some-2.is) gives)
 
-pub returns-in_err-rule_from-in-Some-2-clause-stands : goal.returns-in_err-rule_from-in-Some-2-clause-stands
-returns-in_err-rule_from-in-Some-2-clause-stands c may object lines said has times =
+pub returns-in_err-rule_from-in-Some-2-clause-fault : goal.returns-in_err-rule_from-in-Some-2-clause-fault
+returns-in_err-rule_from-in-Some-2-clause-fault c may object lines said has times =
     let t = times_of c.args.times.now in
     let outside : RefusesBy (λ n. (n ≡ 34) × IsOutside (clock_of t.zone) t.local c.in-Some-2.text) c.in_err-rule_from-in-Some-2.field-0.0 = search rules in
     err_exit _ (RefusesBy (EventRuleFault object lines)) _ c.from_residual.ensures.1
     (weaker_fault _ (λ n. (n ≡ 34) × IsOutside (clock_of t.zone) t.local c.in-Some-2.text) (EventRuleFault object lines)
     (λ n h. elim times [
-      | inl starts ↦ outside_stands object lines t c.args.self.text c.in-Some-2.text n c.in-Some-2.is said starts h
+      | inl starts ↦ outside_refuses object lines t c.args.self.text c.in-Some-2.text n c.in-Some-2.is said starts h
       | inr (_, none) ↦ absurd (some_named (is_of (codes "DTSTART")) lines (sym has ∙ c.if-not-has_start.false) none.missing)
     ])
     outside)

@@ -10,13 +10,13 @@ use Rattle.cal_events.proofs.EventLemmas.{some_line}
 use Rattle.cal_events.proofs.ZonedLemmas.{weaker_fault}
 use Rattle.cal_events.proofs.event_rule.SaidRule.read.Goals as goal
 
-pub returns-in_err-line-clause-stands : goal.returns-in_err-line-clause-stands
-returns-in_err-line-clause-stands c object =
+pub returns-in_err-line-clause-fault : goal.returns-in_err-line-clause-fault
+returns-in_err-line-clause-fault c object =
     let P = EventRuleFault object c.args.properties.now in
     err_exit _ (RefusesBy P) _ c.from_residual.ensures.1 (subst P (sym c.in_err-line.ensures.refuses) (two_rules c.in_err-line.ensures.twice))
 
-pub returns-in_err-read-in-Some-clause-stands : goal.returns-in_err-read-in-Some-clause-stands
-returns-in_err-read-in-Some-clause-stands c object =
+pub returns-in_err-read-in-Some-clause-fault : goal.returns-in_err-read-in-Some-clause-fault
+returns-in_err-read-in-Some-clause-fault c object =
     let lines = c.args.properties.now in
     let P = EventRuleFault object lines in
     let line = line_text c.in-Some.line in

@@ -11,18 +11,18 @@ use Rattle.cal_events.specs.Zones.{object_of}
 use Rattle.cal_events.specs.Events.{zone_said}
 use Rattle.cal_events.proofs.event_times.SaidTimes.from_start.Goals as goal
 
-pub returns-in_err-start-clause-stands : goal.returns-in_err-start-clause-stands
-returns-in_err-start-clause-stands c may =
+pub returns-in_err-start-clause-fault : goal.returns-in_err-start-clause-fault
+returns-in_err-start-clause-fault c may =
     let object = object_of c.args.zones.now in
     let lines = c.args.properties.now in
     let line = line_text c.args.line in
     let P = EventTimesFault may object lines in
     refusal_exit _ P _ c.from_residual.ensures.1
-    (bad_start (some_line (codes "DTSTART") (λ l. ZonedTimeFault object l _) lines line c.requires.once c.in_err-start.ensures.stands))
+    (bad_start (some_line (codes "DTSTART") (λ l. ZonedTimeFault object l _) lines line c.requires.once c.in_err-start.ensures.fault))
 
-pub returns-in_err-extent-clause-stands : goal.returns-in_err-extent-clause-stands
-returns-in_err-extent-clause-stands c may =
-    refusal_exit _ (EventTimesFault may (object_of c.args.zones.now) c.args.properties.now) _ c.from_residual-in_err-extent.ensures.1 (c.in_err-extent.ensures.stands may)
+pub returns-in_err-extent-clause-fault : goal.returns-in_err-extent-clause-fault
+returns-in_err-extent-clause-fault c may =
+    refusal_exit _ (EventTimesFault may (object_of c.args.zones.now) c.args.properties.now) _ c.from_residual-in_err-extent.ensures.1 (c.in_err-extent.ensures.fault may)
 
 pub returns-clause-said : goal.returns-clause-said
 returns-clause-said c =

@@ -7,20 +7,20 @@ use Rattle.cal_events.proofs.TimesLemmas.{extent_judged_by, start_judged_by, end
 use Rattle.cal_events.proofs.event_times.SaidTimes.judge.Goals as goal
 use Rattle.cal_events.proofs.event_times.SaidTimes.judge.Goals.{then-not-self-via-then-not-self, then-not-self-via-else-not-self+then-not-self-2}
 
-pub returns-in_err-length-clause-stands : goal.returns-in_err-length-clause-stands
-returns-in_err-length-clause-stands c may object lines a =
-    refusal_exit _ (EventTimesFault may object lines) _ c.from_residual.ensures.1 (extent_judged_by may object lines c.args.self _ a c.in_err-length.ensures.stands)
+pub returns-in_err-length-clause-fault : goal.returns-in_err-length-clause-fault
+returns-in_err-length-clause-fault c may object lines a =
+    refusal_exit _ (EventTimesFault may object lines) _ c.from_residual.ensures.1 (extent_judged_by may object lines c.args.self _ a c.in_err-length.ensures.fault)
 
-pub returns-then-not-self-clause-stands : goal.returns-then-not-self-clause-stands
-returns-then-not-self-clause-stands c may object lines a =
+pub returns-then-not-self-clause-fault : goal.returns-then-not-self-clause-fault
+returns-then-not-self-clause-fault c may object lines a =
     elim c.then-not-self.branch [
       | then-not-self-via-then-not-self x ↦ start_judged_by may object lines c.args.self a (search rules)
       | then-not-self-via-else-not-self+then-not-self-2 x ↦ end_judged_by may object lines c.args.self a (search rules)
     ]
 
 -- what is in the dates has a stamp
-pub returns-in_default-clause-stands : goal.returns-in_default-clause-stands
-returns-in_default-clause-stands c may object lines a =
+pub returns-in_default-clause-fault : goal.returns-in_default-clause-fault
+returns-in_default-clause-fault c may object lines a =
     let instant = c.args.self.instant in
     let within = within_clock may object lines c.args.self a (search rules) in
     let same : to_z w64 (of_z w64 instant) ≡ instant = omega (arith, ints, within.0, within.1) in

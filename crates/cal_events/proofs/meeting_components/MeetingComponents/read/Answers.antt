@@ -15,25 +15,25 @@ use Rattle.cal_events.proofs.ZonedLemmas.{weaker_fault}
 use Rattle.cal_events.proofs.MeetingLemmas.{among_there, not_one_there, slot_there, meeting_there}
 use Rattle.cal_events.proofs.meeting_components.MeetingComponents.read.Goals as goal
 
-pub returns-in_err-components-clause-stands : goal.returns-in_err-components-clause-stands
-returns-in_err-components-clause-stands c =
+pub returns-in_err-components-clause-fault : goal.returns-in_err-components-clause-fault
+returns-in_err-components-clause-fault c =
     let object = c.args.object.now in
     let m = method_read c.args.purpose in
     err_exit _ (RefusesBy (MeetingFault (tree_of object) m)) _ c.from_residual.ensures.1
     (weaker_fault _ (IsFaultAmong (tree_of object) m (vevents_of object)) (MeetingFault (tree_of object) m)
-    (among_there (tree_of object) (vevents_of object) (vevents_tree object) m) c.in_err-components.ensures.stands)
+    (among_there (tree_of object) (vevents_of object) (vevents_tree object) m) c.in_err-components.ensures.fault)
 
-pub returns-in_err-judge_meeting-clause-stands : goal.returns-in_err-judge_meeting-clause-stands
-returns-in_err-judge_meeting-clause-stands c =
+pub returns-in_err-judge_meeting-clause-fault : goal.returns-in_err-judge_meeting-clause-fault
+returns-in_err-judge_meeting-clause-fault c =
     let object = c.args.object.now in
     let m = method_read c.args.purpose in
     let items = c.in_ok-components.components.items in
     err_exit _ (RefusesBy (MeetingFault (tree_of object) m)) _ c.from_residual-in_err-judge_meeting.ensures.1
     (not_one_there (tree_of object) (vevents_of object) (vevents_tree object) m (map event_of items) c.in_ok-components.ensures.says c.in_err-judge_meeting.field-0.0.number
-    (subst (λ (l : List EventComponent). IsNotOne (map event_of l) c.in_err-judge_meeting.field-0.0.number) c.deref.ensures.value c.in_err-judge_meeting.ensures.stands))
+    (subst (λ (l : List EventComponent). IsNotOne (map event_of l) c.in_err-judge_meeting.field-0.0.number) c.deref.ensures.value c.in_err-judge_meeting.ensures.fault))
 
-pub returns-in_err-judge_slots-clause-stands : goal.returns-in_err-judge_slots-clause-stands
-returns-in_err-judge_slots-clause-stands c =
+pub returns-in_err-judge_slots-clause-fault : goal.returns-in_err-judge_slots-clause-fault
+returns-in_err-judge_slots-clause-fault c =
     let object = c.args.object.now in
     let m = method_read c.args.purpose in
     let e = c.in_err-judge_slots.field-0.0 in
@@ -41,7 +41,7 @@ returns-in_err-judge_slots-clause-stands c =
     (weaker_fault _ (SharesSlot (taken_by m (map event_of c.in_ok-components.components.items))) (MeetingFault (tree_of object) m)
     (slot_there (tree_of object) (vevents_of object) (vevents_tree object) m (map event_of c.in_ok-components.components.items) c.in_ok-components.ensures.says)
     (subst (λ (l : List Event). RefusesBy (SharesSlot l) e) c.in_ok-taken.ensures
-    (subst (λ (l : List EventComponent). RefusesBy (SharesSlot (map event_of l)) e) c.deref-2.ensures.value c.in_err-judge_slots.ensures.stands)))
+    (subst (λ (l : List EventComponent). RefusesBy (SharesSlot (map event_of l)) e) c.deref-2.ensures.value c.in_err-judge_slots.ensures.fault)))
 
 pub of-requires : goal.of-requires
 of-requires c = record {

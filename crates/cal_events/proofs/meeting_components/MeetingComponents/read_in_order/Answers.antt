@@ -12,25 +12,25 @@ use Rattle.cal_events.proofs.ZonedLemmas.{weaker_fault}
 use Rattle.cal_events.proofs.MeetingLemmas.{among_there, not_one_there, slot_there}
 use Rattle.cal_events.proofs.meeting_components.MeetingComponents.read_in_order.Goals as goal
 
-pub returns-in_err-components-clause-stands : goal.returns-in_err-components-clause-stands
-returns-in_err-components-clause-stands c same =
+pub returns-in_err-components-clause-fault : goal.returns-in_err-components-clause-fault
+returns-in_err-components-clause-fault c same =
     let object = c.args.object.now in
     let m = method_read c.args.purpose in
     err_exit _ (RefusesBy (MeetingFault (tree_of object) m)) _ c.from_residual.ensures.1
     (weaker_fault _ (IsFaultAmong (tree_of object) m (vevents_of object)) (MeetingFault (tree_of object) m)
-    (among_there (tree_of object) (vevents_of object) (vevents_tree object) m) c.in_err-components.ensures.stands)
+    (among_there (tree_of object) (vevents_of object) (vevents_tree object) m) c.in_err-components.ensures.fault)
 
-pub returns-in_err-judge_meeting-clause-stands : goal.returns-in_err-judge_meeting-clause-stands
-returns-in_err-judge_meeting-clause-stands c same =
+pub returns-in_err-judge_meeting-clause-fault : goal.returns-in_err-judge_meeting-clause-fault
+returns-in_err-judge_meeting-clause-fault c same =
     let object = c.args.object.now in
     let m = method_read c.args.purpose in
     let n = c.in_err-judge_meeting.field-0.0.number in
     err_exit _ (RefusesBy (MeetingFault (tree_of object) m)) _ c.from_residual-in_err-judge_meeting.ensures.1
     (not_one_there (tree_of object) (vevents_of object) (vevents_tree object) m (map event_of c.in_ok-components.components.items) c.in_ok-components.ensures.says n
-    (subst (λ (l : List EventComponent). IsNotOne (map event_of l) n) c.deref.ensures.value c.in_err-judge_meeting.ensures.stands))
+    (subst (λ (l : List EventComponent). IsNotOne (map event_of l) n) c.deref.ensures.value c.in_err-judge_meeting.ensures.fault))
 
-pub returns-in_err-judge_slots-clause-stands : goal.returns-in_err-judge_slots-clause-stands
-returns-in_err-judge_slots-clause-stands c same =
+pub returns-in_err-judge_slots-clause-fault : goal.returns-in_err-judge_slots-clause-fault
+returns-in_err-judge_slots-clause-fault c same =
     let object = c.args.object.now in
     let m = method_read c.args.purpose in
     let events = map event_of c.in_ok-components.components.items in
@@ -38,7 +38,7 @@ returns-in_err-judge_slots-clause-stands c same =
     err_exit _ (RefusesBy (MeetingFault (tree_of object) m)) _ c.from_residual-in_err-judge_slots.ensures.1
     (weaker_fault _ (SharesSlot events) (MeetingFault (tree_of object) m)
     (λ n h. slot_there (tree_of object) (vevents_of object) (vevents_tree object) m events c.in_ok-components.ensures.says n (subst (λ (l : List Event). SharesSlot l n) (sym (same events)) h))
-    (subst (λ (l : List EventComponent). RefusesBy (SharesSlot (map event_of l)) e) c.deref-2.ensures.value c.in_err-judge_slots.ensures.stands))
+    (subst (λ (l : List EventComponent). RefusesBy (SharesSlot (map event_of l)) e) c.deref-2.ensures.value c.in_err-judge_slots.ensures.fault))
 
 pub returns-clause-says : goal.returns-clause-says
 returns-clause-says c = c.in_ok-components.ensures.says

@@ -11,8 +11,8 @@ use Rattle.cal_events.proofs.OccurrenceLemmas.{one_listed, full, period, malform
 use Rattle.cal_events.proofs.occurrences.SaidInstants.add.Goals as goal
 use Rattle.cal_events.proofs.occurrences.SaidInstants.add.Goals.{then-len-eq-MOST-via-then-len-eq-MOST, then-len-eq-MOST-via-else-len-eq-MOST+then-is_period}
 
-pub returns-then-len-eq-MOST-clause-stands : goal.returns-then-len-eq-MOST-clause-stands
-returns-then-len-eq-MOST-clause-stands c done a =
+pub returns-then-len-eq-MOST-clause-fault : goal.returns-then-len-eq-MOST-clause-fault
+returns-then-len-eq-MOST-clause-fault c done a =
     let object = object_of c.args.zones.now in
     let name = name_of c.args.listing in
     let line = line_text c.args.line in
@@ -24,14 +24,14 @@ returns-then-len-eq-MOST-clause-stands c done a =
           period object name line text done c.args.self.now a (sym w.is_period.ensures ∙ w.if-is_period.true)
     ]
 
-pub returns-in_err-said-clause-stands : goal.returns-in_err-said-clause-stands
-returns-in_err-said-clause-stands c done a =
+pub returns-in_err-said-clause-fault : goal.returns-in_err-said-clause-fault
+returns-in_err-said-clause-fault c done a =
     let object = object_of c.args.zones.now in
     let name = name_of c.args.listing in
     let line = line_text c.args.line in
     let text = c.args.text.now in
     err_exit _ (RefusesBy (EntriesFault object name _)) _ c.from_residual.ensures.1
-    (malformed object name line text done c.args.self.now a _ (sym c.is_period.ensures ∙ c.if-is_period.false) c.in_err-said.ensures.stands)
+    (malformed object name line text done c.args.self.now a _ (sym c.is_period.ensures ∙ c.if-is_period.false) c.in_err-said.ensures.fault)
 
 pub returns-then-not-said-clause-adds : goal.returns-then-not-said-clause-adds
 returns-then-not-said-clause-adds c done a =

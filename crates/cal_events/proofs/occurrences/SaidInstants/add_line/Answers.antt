@@ -35,8 +35,8 @@ loop-text-preserved c =
           (c.in_ok-add.ensures.adds (done ++ on_line line i.2) (i.4 done a)),
     )
 
-pub returns-in_err-add-clause-stands : goal.returns-in_err-add-clause-stands
-returns-in_err-add-clause-stands c done a =
+pub returns-in_err-add-clause-fault : goal.returns-in_err-add-clause-fault
+returns-in_err-add-clause-fault c done a =
     let i = c.loop-text.invariant in
     let object = object_of c.args.zones.now in
     let name = name_of c.args.listing in
@@ -45,7 +45,7 @@ returns-in_err-add-clause-stands c done a =
     let more = cut_more c.loop-text.text-iterator c.next.new.self c.in-Some.text i.0 i.1 c.in-Some.ensures.steps in
     err_exit _ (RefusesBy (EntriesFault object name (done ++ entries_of line))) _ c.from_residual.ensures.1
     (still_refused object name ((done ++ on_line line i.2) ++ (line, text) ∷ []) (on_line line more.0) (done ++ entries_of line) _
-    (text_next line text i.2 i.0 more.0 done i.3 more.1).2 (c.in_err-add.ensures.stands (done ++ on_line line i.2) (i.4 done a)))
+    (text_next line text i.2 i.0 more.0 done i.3 more.1).2 (c.in_err-add.ensures.fault (done ++ on_line line i.2) (i.4 done a)))
 
 pub returns-clause-adds : goal.returns-clause-adds
 returns-clause-adds c done a =

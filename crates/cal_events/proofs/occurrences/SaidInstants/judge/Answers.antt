@@ -2,5 +2,5 @@ use Rattle.std.proofs.Common.{rules}
 use Rattle.profile.specs.events.Occurrences.{additions_out}
 use Rattle.cal_events.proofs.occurrences.SaidInstants.judge.Goals as goal
 
-pub returns-then-not-self-clause-stands : goal.returns-then-not-self-clause-stands
-returns-then-not-self-clause-stands c object lines a added = let out = a.outside (search rules) in additions_out out.0 out.1 out.2
+pub returns-then-not-self-clause-fault : goal.returns-then-not-self-clause-fault
+returns-then-not-self-clause-fault c object lines a added = let out = a.outside (search rules) in additions_out out.0 out.1 out.2

@@ -12,8 +12,8 @@ use Rattle.cal_events.proofs.OccurrenceLemmas.{line_next, other_next, still_refu
 use Rattle.cal_events.proofs.occurrences.SaidInstants.read.Goals as goal
 use Rattle.cal_events.proofs.occurrences.SaidInstants.read.Goals.{then-is_named+in_ok-add_line, else-is_named}
 
-pub returns-in_err-add_line-clause-stands : goal.returns-in_err-add_line-clause-stands
-returns-in_err-add_line-clause-stands c =
+pub returns-in_err-add_line-clause-fault : goal.returns-in_err-add_line-clause-fault
+returns-in_err-add_line-clause-fault c =
     let inv = c.loop-line.invariant in
     let object = object_of c.args.zones.now in
     let name = name_of c.args.listing in
@@ -27,7 +27,7 @@ returns-in_err-add_line-clause-stands c =
     let named = sym (c.if-is_named.ensures ∙ ap (λ n. is_of n (line_text x)) c.name.ensures) in
     err_exit _ (RefusesBy (EntriesFault object name (entries_named name all))) _ c.from_residual.ensures.1
     (still_refused object name (inv.0 ++ entries_of (line_text x)) (entries_named name rest) (entries_named name all) _
-    (line_next name all left rest (line_text x) inv.0 inv.1 steps named) (c.in_err-add_line.ensures.stands inv.0 inv.2))
+    (line_next name all left rest (line_text x) inv.0 inv.1 steps named) (c.in_err-add_line.ensures.fault inv.0 inv.2))
 
 pub loop-line-preserved : goal.loop-line-preserved
 loop-line-preserved c =

@@ -11,7 +11,7 @@ returns-clause-says c =
     subst (λ (text : List ℕ). IfOk c.read_text.result (λ t. SaysZonedText (object_of c.args.zones.now) (line_text c.args.line) text (zone_said t) t.local)) c.value.ensures
     c.read_text.ensures.says
 
-pub returns-clause-stands : goal.returns-clause-stands
-returns-clause-stands c =
+pub returns-clause-fault : goal.returns-clause-fault
+returns-clause-fault c =
     subst (λ (text : List ℕ). IfErr c.read_text.result (λ e. ZonedTextFault (object_of c.args.zones.now) (line_text c.args.line) text e.number)) c.value.ensures
-    c.read_text.ensures.stands
+    c.read_text.ensures.fault

@@ -22,8 +22,8 @@ returns-in-Some-clause-says c =
     (λ t. SaysZonedText object line text (zone_said t) t.local)
     (λ t h. zoned_said object line text name (zone_said t) t.local named h) c.read_in_zone.ensures.says
 
-pub returns-in-Some-clause-stands : goal.returns-in-Some-clause-stands
-returns-in-Some-clause-stands c =
+pub returns-in-Some-clause-fault : goal.returns-in-Some-clause-fault
+returns-in-Some-clause-fault c =
     let line = line_text c.args.line in
     let text = c.args.text.now in
     let object = object_of c.args.zones.now in
@@ -31,15 +31,15 @@ returns-in-Some-clause-stands c =
     let named = sym c.param.ensures ∙ ap (option_map (λ x. x.now)) c.in-Some.is in
     let P = InZoneFault object name (time_kind line) text in
     IfErr-weaker _ (λ e. P e.number) (λ e. ZonedTextFault object line text e.number)
-    (λ e k. zoned_fault object line text name e.number named k) c.read_in_zone.ensures.stands
+    (λ e k. zoned_fault object line text name e.number named k) c.read_in_zone.ensures.fault
 
-pub returns-in_err-read_time-in-None-clause-stands : goal.returns-in_err-read_time-in-None-clause-stands
-returns-in_err-read_time-in-None-clause-stands c =
+pub returns-in_err-read_time-in-None-clause-fault : goal.returns-in_err-read_time-in-None-clause-fault
+returns-in_err-read_time-in-None-clause-fault c =
     let line = line_text c.args.line in
     let text = c.args.text.now in
     let object = object_of c.args.zones.now in
     let named = sym c.param.ensures ∙ ap (option_map (λ x. x.now)) c.in-None.is in
-    refusal_exit _ (ZonedTextFault object line text) _ c.from_residual.ensures.1 (utc_fault object line text _ named c.in_err-read_time-in-None.ensures.stands)
+    refusal_exit _ (ZonedTextFault object line text) _ c.from_residual.ensures.1 (utc_fault object line text _ named c.in_err-read_time-in-None.ensures.fault)
 
 pub returns-in_ok-read_time-in-None-clause-says : goal.returns-in_ok-read_time-in-None-clause-says
 returns-in_ok-read_time-in-None-clause-says c =

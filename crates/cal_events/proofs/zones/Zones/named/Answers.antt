@@ -19,16 +19,16 @@ returns-in-Some-clause-says c =
     let h = subst (λ (o : Option (Result Zone Refusal)). BothOrNeither IsZoneRead f o) (sym c.get.ensures.value ∙ ap option_copied c.in-Some.is) (c.requires name) in
     subst (λ (t : Option Tree). IfOk c.in-Some.zone.now (λ z. SaysZoneOf t (zone_of z))) (sym (zone_among name object)) (zone_read f c.in-Some.zone.now h).0
 
-pub returns-in-Some-clause-stands : goal.returns-in-Some-clause-stands
-returns-in-Some-clause-stands c =
+pub returns-in-Some-clause-fault : goal.returns-in-Some-clause-fault
+returns-in-Some-clause-fault c =
     let name = c.args.name.now in
     let object = c.args.self.now.object.now in
     let f = find (is_zone_called name) (component_children object) in
     let h = subst (λ (o : Option (Result Zone Refusal)). BothOrNeither IsZoneRead f o) (sym c.get.ensures.value ∙ ap option_copied c.in-Some.is) (c.requires name) in
     subst (λ (t : Option Tree). IfErr c.in-Some.zone.now (λ e. NamedFault t e.number)) (sym (zone_among name object)) (zone_read f c.in-Some.zone.now h).1
 
-pub returns-in-None-clause-stands : goal.returns-in-None-clause-stands
-returns-in-None-clause-stands c =
+pub returns-in-None-clause-fault : goal.returns-in-None-clause-fault
+returns-in-None-clause-fault c =
     let name = c.args.name.now in
     let object = c.args.self.now.object.now in
     let f = find (is_zone_called name) (component_children object) in

@@ -1,8 +1,8 @@
 use Rattle.cal_period.proofs.Going.{gone_past, gone_on}
 use Rattle.cal_period.proofs.walk.Walk.past.Goals as goal
 
-pub returns-clause-stands : goal.returns-clause-stands
-returns-clause-stands c = λ series old new s given.
+pub returns-clause-is_walk : goal.returns-clause-is_walk
+returns-clause-is_walk c = λ series old new s given.
     gone_past series old new c.args.self.now s.ahead c.args.next c.requires c.args.after given s.last s.count c.later_end.result c.saturating_add.result c.later_end.ensures c.saturating_add.ensures
 
 pub returns-clause-tail : goal.returns-clause-tail

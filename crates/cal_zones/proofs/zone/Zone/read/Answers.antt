@@ -11,7 +11,7 @@ returns-clause-says c =
     let zone = c.args.zone.now in
     IfOk-weaker _ (λ z. Says zone (zone_of z)) (λ z. SaysZone (tree_of zone) (zone_of z)) (λ z h. says_there zone (zone_of z) h) c.read_zone.ensures.says
 
-pub returns-clause-stands : goal.returns-clause-stands
-returns-clause-stands c =
+pub returns-clause-fault : goal.returns-clause-fault
+returns-clause-fault c =
     let zone = c.args.zone.now in
-    weaker_fault _ (HasFault zone) (ZoneFault (tree_of zone)) (fault_there zone) c.read_zone.ensures.stands
+    weaker_fault _ (HasFault zone) (ZoneFault (tree_of zone)) (fault_there zone) c.read_zone.ensures.fault

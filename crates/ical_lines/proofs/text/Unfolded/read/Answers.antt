@@ -3,15 +3,15 @@ use Rattle.std.proofs.lemmas.Result.{err_from_is_err_and}
 use Rattle.profile.specs.text.Lines.{logical_lines}
 use Rattle.ical_lines.specs.Breaks.{lines_of}
 use Rattle.ical_lines.specs.Limits.{is_bounded}
-use Rattle.ical_lines.proofs.BreakLemmas.{lines_stand, all_read}
+use Rattle.ical_lines.proofs.BreakLemmas.{lines_refuse, all_read}
 use Rattle.ical_lines.proofs.FirstLemmas.{lines_first}
 use Rattle.ical_lines.proofs.Utf8Lemmas.{text_utf8}
 use Rattle.ical_lines.proofs.text.Unfolded.read.Goals as goal
 
-pub returns-in_err-check_lines-clause-stands : goal.returns-in_err-check_lines-clause-stands
-returns-in_err-check_lines-clause-stands c =
+pub returns-in_err-check_lines-clause-fault : goal.returns-in_err-check_lines-clause-fault
+returns-in_err-check_lines-clause-fault c =
     let p = err_from_is_err_and c.from_residual-in_err-check_lines.result c.from_residual-in_err-check_lines.ensures.1 in
-    rw (p.1, p.2) (lines_stand (is_bounded c.args.limits) c.in_err-check_lines.field-0.0.number c.args.bytes.now (lines_of c.as_str.result.now) (ap lines_of c.as_str.ensures ∙ c.in_ok-text.ensures.lines) c.in_err-check_lines.ensures.stands)
+    rw (p.1, p.2) (lines_refuse (is_bounded c.args.limits) c.in_err-check_lines.field-0.0.number c.args.bytes.now (lines_of c.as_str.result.now) (ap lines_of c.as_str.ensures ∙ c.in_ok-text.ensures.lines) c.in_err-check_lines.ensures.fault)
 
 pub returns-in_err-check_lines-clause-first : goal.returns-in_err-check_lines-clause-first
 returns-in_err-check_lines-clause-first c =
@@ -20,4 +20,4 @@ returns-in_err-check_lines-clause-first c =
 
 pub returns-clause-reads : goal.returns-clause-reads
 returns-clause-reads c =
-    all_read (is_bounded c.args.limits) c.args.bytes.now (lines_of c.as_str.result.now) (ap lines_of c.as_str.ensures ∙ c.in_ok-text.ensures.lines) (text_utf8 c.as_str.result.now (logical_lines c.args.bytes.now) (ap lines_of c.as_str.ensures ∙ c.in_ok-text.ensures.lines) c.as_str.utf8) c.in_ok-check_lines.ensures.stands.0 c.in_ok-check_lines.ensures.stands.1 (sym c.exceeds_octets.ensures ∙ c.if-exceeds_octets.false)
+    all_read (is_bounded c.args.limits) c.args.bytes.now (lines_of c.as_str.result.now) (ap lines_of c.as_str.ensures ∙ c.in_ok-text.ensures.lines) (text_utf8 c.as_str.result.now (logical_lines c.args.bytes.now) (ap lines_of c.as_str.ensures ∙ c.in_ok-text.ensures.lines) c.as_str.utf8) c.in_ok-check_lines.ensures.fault.0 c.in_ok-check_lines.ensures.fault.1 (sym c.exceeds_octets.ensures ∙ c.if-exceeds_octets.false)

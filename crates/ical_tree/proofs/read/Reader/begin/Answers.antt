@@ -16,11 +16,11 @@ returns-clause-built c = λ done line o b.
     let built : Built (open_view mid) mid.closed done = rw (moved.view, moved.closed) b in
     rw c.in_ok-push.ensures.items (begun mid.«open».items (run_lines mid.run) c.new.result mid.closed done line moved.empty (rw c.new.ensures.name o) c.new.ensures.lines c.new.ensures.children may few built)
 
-pub returns-then-len-ge-MAX_DEPTH-clause-stands : goal.returns-then-len-ge-MAX_DEPTH-clause-stands
-returns-then-len-ge-MAX_DEPTH-clause-stands c = grind (arith, common_steps)
+pub returns-then-len-ge-MAX_DEPTH-clause-fault : goal.returns-then-len-ge-MAX_DEPTH-clause-fault
+returns-then-len-ge-MAX_DEPTH-clause-fault c = grind (arith, common_steps)
 
-pub returns-then-not-may_begin-clause-stands : goal.returns-then-not-may_begin-clause-stands
-returns-then-not-may_begin-clause-stands c = grind (arith, common_steps)
+pub returns-then-not-may_begin-clause-fault : goal.returns-then-not-may_begin-clause-fault
+returns-then-not-may_begin-clause-fault c = grind (arith, common_steps)
 
 pub returns-clause-names : goal.returns-clause-names
 returns-clause-names c = grind (arith, common_steps)

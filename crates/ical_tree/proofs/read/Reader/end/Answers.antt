@@ -22,8 +22,8 @@ returns-clause-built c = λ done line e v b.
     let two = c.in-Some.ensures.items ∙ ap (λ z. z ++ c.in-Some.component ∷ []) c.in-Some-pop.ensures.items in
     rw c.in_ok-push.ensures.items (ended_child c.pop-2.new.self.items (run_lines mid.run) c.in-Some-pop.parent c.push_child.new.self c.in-Some.component mid.closed done line moved.empty e (rw v (sym c.is_named.ensures ∙ c.if-not-is_named.false)) c.in_ok-push_child.ensures.name c.in_ok-push_child.ensures.lines c.in_ok-push_child.ensures.added (subst (λ xs. Built (with_lines (run_lines mid.run) (opens xs)) mid.closed done) two built))
 
-pub returns-then-not-is_named-clause-stands : goal.returns-then-not-is_named-clause-stands
-returns-then-not-is_named-clause-stands c = grind (arith, common_steps)
+pub returns-then-not-is_named-clause-fault : goal.returns-then-not-is_named-clause-fault
+returns-then-not-is_named-clause-fault c = grind (arith, common_steps)
 
 pub returns-clause-names : goal.returns-clause-names
 returns-clause-names c = grind (arith, common_steps)

@@ -2,11 +2,11 @@ use Rattle.std.proofs.lemmas.Grind.{common_steps}
 use Rattle.std.proofs.Common.{arith}
 use Rattle.ical_tree.proofs.read.Reader.finish.Goals as goal
 
-pub returns-then-not-is_empty-clause-stands : goal.returns-then-not-is_empty-clause-stands
-returns-then-not-is_empty-clause-stands c = grind (arith, common_steps)
+pub returns-then-not-is_empty-clause-fault : goal.returns-then-not-is_empty-clause-fault
+returns-then-not-is_empty-clause-fault c = grind (arith, common_steps)
 
 pub returns-clause-spelled : goal.returns-clause-spelled
 returns-clause-spelled c = grind (arith, common_steps)
 
-pub returns-clause-stands : goal.returns-clause-stands
-returns-clause-stands c = grind (arith, common_steps)
+pub returns-clause-fault : goal.returns-clause-fault
+returns-clause-fault c = grind (arith, common_steps)

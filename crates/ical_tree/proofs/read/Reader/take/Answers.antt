@@ -7,14 +7,14 @@ use Rattle.ical_tree.proofs.PairLemmas.{at_property, now_property}
 use Rattle.ical_tree.proofs.read.Reader.take.Goals.{in_default-via-in-Some-2+else-is_named-2, in_default-via-in_default}
 use Rattle.ical_tree.proofs.read.Reader.take.Goals as goal
 
-pub returns-in_err-add-in_default-clause-stands : goal.returns-in_err-add-in_default-clause-stands
-returns-in_err-add-in_default-clause-stands c =
+pub returns-in_err-add-in_default-clause-fault : goal.returns-in_err-add-in_default-clause-fault
+returns-in_err-add-in_default-clause-fault c =
     let property : is_property c.args.text.now ≡ true = elim c.in_default.branch [
       | in_default-via-in-Some-2+else-is_named-2 w ↦ neither c.args.text.now _ w.in-Some.ensures w.if-is_named.ensures w.if-is_named-2.ensures
       | in_default-via-in_default w ↦ other_first c.args.text.now w.in_default.ensures
     ] in
     let p = err_from_is_err_and c.from_residual.result c.from_residual.ensures.1 in
-    rw (p.1, p.2) (at_property c.in_err-add-in_default.field-0.0.number _ _ c.args.text.now property ∙ c.in_err-add-in_default.ensures.stands)
+    rw (p.1, p.2) (at_property c.in_err-add-in_default.field-0.0.number _ _ c.args.text.now property ∙ c.in_err-add-in_default.ensures.fault)
 
 pub returns-in_ok-add-in_default-clause-built : goal.returns-in_ok-add-in_default-clause-built
 returns-in_ok-add-in_default-clause-built c = λ done b.

@@ -2,15 +2,15 @@ use Rattle.std.proofs.Common.{ap, sym, subst}
 use Rattle.ical_lines.specs.Text.{line_text}
 use Rattle.profile.specs.rooms.Messages.{MethodFault, two_methods}
 use Rattle.ical_values.proofs.Exits.{refusal_exit}
-use Rattle.itip_messages.proofs.MessageLemmas.{word_stands}
+use Rattle.itip_messages.proofs.MessageLemmas.{word_refuses}
 use Rattle.itip_messages.proofs.message.Kind.of.Goals as goal
 
-pub returns-in_err-line-clause-stands : goal.returns-in_err-line-clause-stands
-returns-in_err-line-clause-stands c =
+pub returns-in_err-line-clause-fault : goal.returns-in_err-line-clause-fault
+returns-in_err-line-clause-fault c =
     let P = MethodFault c.args.properties.now in
     refusal_exit _ P _ c.from_residual.ensures.1 (subst P (sym (ap (λ refusal. refusal.number) c.in_err-line.ensures.refuses)) (two_methods c.in_err-line.ensures.twice))
 
-pub returns-in-Some-clause-stands : goal.returns-in-Some-clause-stands
-returns-in-Some-clause-stands c =
+pub returns-in-Some-clause-fault : goal.returns-in-Some-clause-fault
+returns-in-Some-clause-fault c =
     let once = rw c.in-Some.is at c.in_ok-line.ensures.found in
-    word_stands _ c.args.properties.now (line_text c.in-Some.line) once c.named.ensures.stands
+    word_refuses _ c.args.properties.now (line_text c.in-Some.line) once c.named.ensures.fault

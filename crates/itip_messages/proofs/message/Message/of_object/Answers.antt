@@ -7,25 +7,25 @@ use Rattle.profile.specs.rooms.Messages.{MethodFault, MessageFault, in_method}
 use Rattle.itip_messages.specs.Messages.{method_said}
 use Rattle.itip_messages.specs.OrganiserObjects.{operation_said}
 use Rattle.itip_messages.specs.Readings.{NamesKind}
-use Rattle.itip_messages.proofs.MessageLemmas.{meeting_stands, object_stands}
+use Rattle.itip_messages.proofs.MessageLemmas.{meeting_refuses, object_refuses}
 use Rattle.itip_messages.proofs.message.Message.of_object.Goals as goal
 
-pub returns-in_err-method-clause-stands : goal.returns-in_err-method-clause-stands
-returns-in_err-method-clause-stands c =
+pub returns-in_err-method-clause-fault : goal.returns-in_err-method-clause-fault
+returns-in_err-method-clause-fault c =
     let object = c.args.object.now in
-    let own = subst (λ (ls : List (List ℕ)). MethodFault ls c.in_err-method.field-0.0.number) (c.in_ok-properties.ensures ∙ sym (tree_of-own object)) c.in_err-method.ensures.stands in
+    let own = subst (λ (ls : List (List ℕ)). MethodFault ls c.in_err-method.field-0.0.number) (c.in_ok-properties.ensures ∙ sym (tree_of-own object)) c.in_err-method.ensures.fault in
     err_exit _ (RefusesBy (MessageFault (tree_of object))) _ c.from_residual-in_err-method.ensures.1 (in_method own)
 
-pub returns-in_err-read-in-ToRooms-clause-stands : goal.returns-in_err-read-in-ToRooms-clause-stands
-returns-in_err-read-in-ToRooms-clause-stands c =
+pub returns-in_err-read-in-ToRooms-clause-fault : goal.returns-in_err-read-in-ToRooms-clause-fault
+returns-in_err-read-in-ToRooms-clause-fault c =
     let object = c.args.object.now in
     let named = subst (λ (ls : List (List ℕ)). NamesKind ls c.in_ok-method.field-0) (c.in_ok-properties.ensures ∙ sym (tree_of-own object)) c.in_ok-method.ensures.named in
     err_exit _ (RefusesBy (MessageFault (tree_of object))) _ c.from_residual-in_err-read-in-ToRooms.ensures.1
-    (meeting_stands (tree_of object) (method_said c.in-ToRooms.method) _ (rw c.in-ToRooms.is at named) c.in_err-read-in-ToRooms.ensures.stands)
+    (meeting_refuses (tree_of object) (method_said c.in-ToRooms.method) _ (rw c.in-ToRooms.is at named) c.in_err-read-in-ToRooms.ensures.fault)
 
-pub returns-in_err-read-in-ToOrganiser-clause-stands : goal.returns-in_err-read-in-ToOrganiser-clause-stands
-returns-in_err-read-in-ToOrganiser-clause-stands c =
+pub returns-in_err-read-in-ToOrganiser-clause-fault : goal.returns-in_err-read-in-ToOrganiser-clause-fault
+returns-in_err-read-in-ToOrganiser-clause-fault c =
     let object = c.args.object.now in
     let named = subst (λ (ls : List (List ℕ)). NamesKind ls c.in_ok-method.field-0) (c.in_ok-properties.ensures ∙ sym (tree_of-own object)) c.in_ok-method.ensures.named in
     err_exit _ (RefusesBy (MessageFault (tree_of object))) _ c.from_residual-in_err-read-in-ToOrganiser.ensures.1
-    (object_stands (tree_of object) (operation_said c.in-ToOrganiser.operation) _ (rw c.in-ToOrganiser.is at named) c.in_err-read-in-ToOrganiser.ensures.stands)
+    (object_refuses (tree_of object) (operation_said c.in-ToOrganiser.operation) _ (rw c.in-ToOrganiser.is at named) c.in_err-read-in-ToOrganiser.ensures.fault)

@@ -9,20 +9,20 @@ use Rattle.profile.specs.organisers.Objects.{AreOfMeeting, has_one_attendee, is_
 use Rattle.cal_events.specs.Events.{event_of}
 use Rattle.cal_events.specs.declared.component.EventComponent.{EventComponent}
 use Rattle.itip_messages.specs.OrganiserObjects.{IsNotOneEach, IsOrganiserFault, operation_said}
-use Rattle.itip_messages.proofs.ObjectLemmas.{as_they_stand, said_by_tree, stamp_given, slot_dated, event_is_ready, organiser_given, meeting_wrong, attendee_wrong, of_meeting}
+use Rattle.itip_messages.proofs.ObjectLemmas.{as_they_are, said_by_tree, stamp_given, slot_dated, event_is_ready, organiser_given, meeting_wrong, attendee_wrong, of_meeting}
 use Rattle.itip_messages.proofs.organiser_object.OrganiserObject.read.Goals as goal
 
-pub returns-in_err-events-clause-stands : goal.returns-in_err-events-clause-stands
-returns-in_err-events-clause-stands c =
+pub returns-in_err-events-clause-fault : goal.returns-in_err-events-clause-fault
+returns-in_err-events-clause-fault c =
     let object = tree_of c.args.object.now in
     err_exit _ (RefusesBy (IsOrganiserFault object (operation_said c.args.operation))) _ c.from_residual.ensures.1
-    (meeting_wrong c.args.operation _ c.purpose.ensures object _ (c.in_err-events.ensures.stands (as_they_stand c.args.operation _ c.purpose.ensures)))
+    (meeting_wrong c.args.operation _ c.purpose.ensures object _ (c.in_err-events.ensures.fault (as_they_are c.args.operation _ c.purpose.ensures)))
 
-pub returns-in_err-judge_attendees-clause-stands : goal.returns-in_err-judge_attendees-clause-stands
-returns-in_err-judge_attendees-clause-stands c =
+pub returns-in_err-judge_attendees-clause-fault : goal.returns-in_err-judge_attendees-clause-fault
+returns-in_err-judge_attendees-clause-fault c =
     let operation = operation_said c.args.operation in
     let number = c.in_err-judge_attendees.field-0.0.number in
-    let wrong = subst (λ (l : List EventComponent). IsNotOneEach operation (map event_of l) number) c.deref.ensures.value c.in_err-judge_attendees.ensures.stands in
+    let wrong = subst (λ (l : List EventComponent). IsNotOneEach operation (map event_of l) number) c.deref.ensures.value c.in_err-judge_attendees.ensures.fault in
     err_exit _ (RefusesBy (IsOrganiserFault (tree_of c.args.object.now) operation)) _ c.from_residual-in_err-judge_attendees.ensures.1
     (attendee_wrong c.args.operation _ c.purpose.ensures c.args.object.now c.in_ok-events.events.items c.in_ok-events.ensures.says number wrong)
 

@@ -3,7 +3,7 @@ use Rattle.std.proofs.lemmas.Result.{IfOk-weaker}
 use Rattle.ical_values.specs.Octets.{address_octets}
 use Rattle.profile.specs.rooms.Messages.{Message, AreParts}
 use Rattle.itip_order.specs.Parts.{parts_of}
-use Rattle.itip_messages.specs.Messages.{StandsFor, has_part, part_for}
+use Rattle.itip_messages.specs.Messages.{RepresentsMessage, has_part, part_for}
 use Rattle.itip_messages.proofs.MessageLemmas.{no_parts, all_parts}
 use Rattle.itip_messages.proofs.room_message.RoomMessage.parts.Goals as goal
 
@@ -16,5 +16,5 @@ returns-clause-message c =
     let room = address_octets c.args.room.now in
     let message = c.args.self.now in
     IfOk-weaker c.all_parts.result (λ parts. parts_of parts.items ≡ map (part_for room message) (filter (has_part room message) message.components.items))
-    (λ parts. (said : Message) → StandsFor message said → AreParts room said (parts_of parts.items))
+    (λ parts. (said : Message) → RepresentsMessage message said → AreParts room said (parts_of parts.items))
     (λ parts are said s. all_parts room message said s _ _ c.is_addressed_to.ensures c.if-not-is_addressed_to.false are) c.all_parts.ensures

@@ -14,7 +14,7 @@ pub returns-in-Some : goal.returns-in-Some
 returns-in-Some c =
     let other = ap (λ slot. is_eq (revisions.slot_cmp (slot_of slot) revisions.Whole)) c.in-At.is in
     let ascends = subst (λ (M : List revisions.Part). is_ascending M ≡ true) c.self.view_is (together_ascending (parts_of c.self.inside.first.now) (parts_of c.self.inside.second.now) c.self.invariant.0) in
-    c.stands_with.ensures ∙ allowed_found c.args.self.now (part_of c.args.part.now) (part_of c.in-Some.whole.now) ascends other c.in-Some.ensures.found
+    c.stays_with.ensures ∙ allowed_found c.args.self.now (part_of c.args.part.now) (part_of c.in-Some.whole.now) ascends other c.in-Some.ensures.found
 
 pub returns-in-None : goal.returns-in-None
 returns-in-None c = allowed_absent c.args.self.now (part_of c.args.part.now) c.in-None.ensures.none

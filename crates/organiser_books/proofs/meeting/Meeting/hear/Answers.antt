@@ -14,7 +14,7 @@ use Rattle.organiser_books.specs.declared.answers.Answer.{Answer}
 use Rattle.organiser_books.specs.declared.answers.AnswerKey.{AnswerKey}
 use Rattle.organiser_books.specs.Answers.{key_at, later_answer, same_key}
 use Rattle.organiser_books.specs.Attending.{attendance_of}
-use Rattle.organiser_books.specs.Standing.{heard_by, is_unknown, AreSeen}
+use Rattle.organiser_books.specs.Representation.{heard_by, is_unknown, AreSeen}
 use Rattle.organiser_books.proofs.Lines.{same_itself}
 use Rattle.organiser_books.proofs.Hearing.{first_line, heard_new, heard_other, Seen}
 use Rattle.organiser_books.proofs.meeting.Meeting.hear.Goals as goal

@@ -4,7 +4,7 @@ use Rattle.std.proofs.lemmas.List.{take_all}
 use Rattle.itip_order.specs.Parts.{revision_of}
 use Rattle.itip_messages.specs.declared.organiser_object.ObjectComponent.{ObjectComponent}
 use Rattle.profile.specs.organisers.Organisers.{Heard}
-use Rattle.organiser_books.specs.Standing.{heard_of, is_unknown, AreSeen}
+use Rattle.organiser_books.specs.Representation.{heard_of, is_unknown, AreSeen}
 use Rattle.organiser_books.proofs.Hearing.{none_passes, unknown_same}
 use Rattle.organiser_books.proofs.Loops.{flat_push, one_more}
 use Rattle.organiser_books.proofs.meeting.Meeting.hear_all.Goals as goal

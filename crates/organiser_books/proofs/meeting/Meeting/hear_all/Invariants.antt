@@ -4,7 +4,7 @@ use Rattle.std.specs.List.{flat_map}
 use Rattle.indexmap.specs.IndexMap.{spare}
 use Rattle.profile.specs.organisers.Organisers.{Heard, Stored}
 use Rattle.itip_order.specs.Parts.{revision_of}
-use Rattle.organiser_books.specs.Standing.{heard_of, is_strange, AreSeen}
+use Rattle.organiser_books.specs.Representation.{heard_of, is_strange, AreSeen}
 use Rattle.organiser_books.proofs.meeting.Meeting.hear_all.Given as goal
 
 abbrev pub invariant-loop-component : goal.invariant-loop-component

@@ -7,10 +7,10 @@ use Rattle.organiser_books.proofs.Lines.{same_itself}
 use Rattle.organiser_books.proofs.Taking.{operations_differ}
 use Rattle.organiser_books.proofs.organiser.Organiser.expect.Goals as goal
 
-pub returns-then-ne-clause-stands : goal.returns-then-ne-clause-stands
-returns-then-ne-clause-stands c = λ said is book.
+pub returns-then-ne-clause-fault : goal.returns-then-ne-clause-fault
+returns-then-ne-clause-fault c = λ said is book.
     other_kind (λ same. operations_differ c.args.object.now.operation c.args.operation (not-true _ (sym c.ne.ensures ∙ c.if-ne.true)) (is.operation ∙ same))
 
-pub returns-then-ne-2-clause-stands : goal.returns-then-ne-2-clause-stands
-returns-then-ne-2-clause-stands c = λ said is book.
+pub returns-then-ne-2-clause-fault : goal.returns-then-ne-2-clause-fault
+returns-then-ne-2-clause-fault c = λ said is book.
     other_organiser (λ same. both_ways _ (not-true _ (sym c.ne-2.ensures ∙ c.if-ne-2.true)) (subst (λ a. bytes_eq (address_octets c.args.object.now.organiser) a ≡ true) (is.organiser ∙ same) (same_itself (address_octets c.args.object.now.organiser))))

@@ -6,13 +6,13 @@ use Rattle.itip_messages.specs.declared.organiser_object.ObjectComponent.{Object
 use Rattle.itip_order.specs.declared.part.Revision.{Revision}
 use Rattle.organiser_books.specs.declared.meeting.Meeting.{Meeting}
 use Rattle.organiser_books.specs.Calls.{sent_of}
-use Rattle.organiser_books.specs.Standing.{same_text}
+use Rattle.organiser_books.specs.Representation.{same_text}
 use Rattle.organiser_books.specs.Storing.{sequence_then}
 use Rattle.organiser_books.proofs.Storing.{is_stored, spent_fault}
 use Rattle.organiser_books.proofs.organiser.Organiser.store.Goals as goal
 
-pub returns-in_default-clause-stands : goal.returns-in_default-clause-stands
-returns-in_default-clause-stands c = λ said is book keeps.
+pub returns-in_default-clause-fault : goal.returns-in_default-clause-fault
+returns-in_default-clause-fault c = λ said is book keeps.
     let same : sequence_then _ c.deref.result.now ≡ sequence_then (get same_text c.args.self.now.meetings c.args.object.uid) c.args.object.components.items = λ i. sequence_then (c.get.ensures.value i) (c.deref.ensures.value i) in
     spent_fault (address_octets c.args.self.now.address) c.args.object said is book (get same_text c.args.self.now.meetings) keeps.each (sym is.operation ∙ c.in_ok-expect.ensures.kind) (sym is.organiser ∙ c.in_ok-expect.ensures.own)
     (subst (λ (n : ℕ). most_sequence < n) same c.in_default.ensures.none)

@@ -6,33 +6,33 @@ use Rattle.ical_values.specs.Octets.{address_octets, text_octets}
 use Rattle.ical_values.specs.declared.text.Text.{Text}
 use Rattle.profile.specs.organisers.Objects as objects
 use Rattle.profile.specs.organisers.Organisers.{OrganiserBook, last_store}
-use Rattle.itip_messages.specs.OrganiserObjects.{StandsForObject}
+use Rattle.itip_messages.specs.OrganiserObjects.{RepresentsObject}
 use Rattle.itip_messages.specs.declared.organiser_object.ObjectComponent.{ObjectComponent}
 use Rattle.organiser_books.specs.declared.meeting.Meeting.{Meeting}
 use Rattle.organiser_books.specs.declared.organiser.Organiser.{Organiser}
 use Rattle.organiser_books.specs.Calls.{CallFault}
-use Rattle.organiser_books.specs.Standing.{heard_of, is_ahead, is_strange, same_text, AreSeen, IsReplyFault, Keeps, StandsAt}
+use Rattle.organiser_books.specs.Representation.{heard_of, is_ahead, is_strange, same_text, AreSeen, IsReplyFault, Keeps, RepresentsAt}
 use Rattle.organiser_books.proofs.Replying.{fault_exit, keeps_same, replied}
 use Rattle.organiser_books.proofs.Taking.{reply_fault, unknown_fault}
 use Rattle.organiser_books.proofs.organiser.Organiser.take_reply.Goals as goal
 
-pub returns-in_default-clause-stands : goal.returns-in_default-clause-stands
-returns-in_default-clause-stands c = λ said is book keeps.
+pub returns-in_default-clause-fault : goal.returns-in_default-clause-fault
+returns-in_default-clause-fault c = λ said is book keeps.
     let object = c.args.object.now in
     let uid = text_octets object.uid in
-    let found : StandsAt book uid None (last_store uid book) = subst (λ (o : Option Meeting). StandsAt book uid o (last_store uid book)) (sym c.in_default.ensures.value) (keeps.each object.uid) in
+    let found : RepresentsAt book uid None (last_store uid book) = subst (λ (o : Option Meeting). RepresentsAt book uid o (last_store uid book)) (sym c.in_default.ensures.value) (keeps.each object.uid) in
     unknown_fault (address_octets c.args.self.now.address) object said is book objects.Reply (sym is.operation ∙ c.in_ok-expect.ensures.kind) (sym is.organiser ∙ c.in_ok-expect.ensures.own) refl found
 
-pub returns-in_err-take_reply-clause-stands : goal.returns-in_err-take_reply-clause-stands
-returns-in_err-take_reply-clause-stands c =
+pub returns-in_err-take_reply-clause-fault : goal.returns-in_err-take_reply-clause-fault
+returns-in_err-take_reply-clause-fault c =
     let object = c.args.object.now in
     let uid = text_octets object.uid in
     let m = c.in-Some.meeting.now in
     let address = address_octets c.args.self.now.address in
-    fault_exit _ (λ n. (said : objects.OrganiserObject) → StandsForObject object said → (book : OrganiserBook) → Keeps c.args.self.now book → CallFault objects.Reply address said book n)
+    fault_exit _ (λ n. (said : objects.OrganiserObject) → RepresentsObject object said → (book : OrganiserBook) → Keeps c.args.self.now book → CallFault objects.Reply address said book n)
     (IsReplyFault m c.deref.result.now) _
     (λ n fault said is book keeps.
-    let found : StandsAt book uid (Some m) (last_store uid book) = subst (λ (o : Option Meeting). StandsAt book uid o (last_store uid book)) (sym c.in-Some.ensures.value) (keeps.each object.uid) in
+    let found : RepresentsAt book uid (Some m) (last_store uid book) = subst (λ (o : Option Meeting). RepresentsAt book uid o (last_store uid book)) (sym c.in-Some.ensures.value) (keeps.each object.uid) in
     reply_fault address object said is book m found n (sym is.operation ∙ c.in_ok-expect.ensures.kind) (sym is.organiser ∙ c.in_ok-expect.ensures.own) (subst (λ (l : List ObjectComponent). IsReplyFault m l n) c.deref.ensures.value fault))
     c.from_residual-in_err-take_reply.ensures.1 c.in_err-take_reply.ensures.refuses
 

@@ -9,8 +9,8 @@ use Rattle.itip_messages.specs.OrganiserObjects.{SaysObjectComponent}
 use Rattle.itip_messages.specs.declared.organiser_object.ObjectComponent.{ObjectComponent}
 use Rattle.organiser_books.specs.declared.meeting.Meeting.{Meeting}
 use Rattle.organiser_books.specs.Shown.{ShowsAnswered}
-use Rattle.organiser_books.specs.Standing.{StandsAt}
-use Rattle.organiser_books.proofs.Books.{stands_known}
+use Rattle.organiser_books.specs.Representation.{RepresentsAt}
+use Rattle.organiser_books.proofs.Books.{represented_known}
 use Rattle.organiser_books.proofs.Taking.{shows_seen, text_lift}
 use Rattle.organiser_books.proofs.organiser.Organiser.text.Goals as goal
 
@@ -19,8 +19,8 @@ returns c = λ book keeps.
     let uid = text_octets c.args.uid.now in
     let organiser = address_octets c.args.self.now.address in
     let m = c.in-Some.meeting.now in
-    let found : StandsAt book uid (Some m) (last_store uid book) = subst (λ (o : Option Meeting). StandsAt book uid o (last_store uid book)) (sym c.in-Some.ensures.value) (keeps.each c.args.uid.now) in
-    let known = stands_known book uid m (last_store uid book) found in
+    let found : RepresentsAt book uid (Some m) (last_store uid book) = subst (λ (o : Option Meeting). RepresentsAt book uid o (last_store uid book)) (sym c.in-Some.ensures.value) (keeps.each c.args.uid.now) in
+    let known = represented_known book uid m (last_store uid book) found in
     let stored = known.0 in
     let w = c.in_ok-write_meeting.ensures.ok in
     let written = w.1 stored.events (subst (λ (l : List ObjectComponent). AllZip SaysObjectComponent stored.events l) (sym c.deref.ensures.value) known.2.components) in

@@ -3,19 +3,19 @@ use Rattle.std.proofs.Common.{◌≡◌, List, ◌++◌, Option, sym, subst}
 use Rattle.std.specs.Prelude.{option_copied}
 use Rattle.std.specs.Map.{lookup}
 use Rattle.itip_order.specs.Parts.{part_of}
-use Rattle.itip_order.specs.Registers.{StandsFor}
+use Rattle.itip_order.specs.Registers.{RepresentsHistory}
 use Rattle.profile.specs.rooms.Revisions as revisions
 use Rattle.room_books.specs.declared.kept.Meeting.{Meeting}
 use Rattle.profile.specs.rooms.Rooms.{parts_of}
-use Rattle.room_books.specs.Takings.{StandsAt, AreAsked, IsAnswered, answers_by, answers_then, claims_said, kept_then}
+use Rattle.room_books.specs.Takings.{HasHistory, AreAsked, IsAnswered, answers_by, answers_then, claims_said, kept_then}
 use Rattle.itip_order.specs.declared.part.Slot.{Slot as OwnSlot}
 use Rattle.room_books.specs.Touching.{AllTouch}
-use Rattle.room_books.specs.Standing.{KeepsAll, book_of}
+use Rattle.room_books.specs.Representation.{KeepsAll, book_of}
 use Rattle.room_books.specs.Views.{same_key, all_series, all_singles, beside, series_by, singles_by, AreFewer}
 use Rattle.cal_events.specs.declared.instance.Single.{Single}
 use Rattle.room_books.specs.Instants.{IsParted}
 use Rattle.room_books.proofs.Answered.{answered_reordered}
-use Rattle.room_books.proofs.Afters.{stands_at}
+use Rattle.room_books.proofs.Afters.{has_history}
 use Rattle.room_books.proofs.KindLemmas.{parts_are}
 use Rattle.room_books.proofs.Meetings.{is_of_from}
 use Rattle.room_books.proofs.MeetingSteps.{meeting_after}
@@ -30,8 +30,8 @@ returns-clause-after c = λ is_key fit book st meeting is.
     let part = part_of c.args.first.now in
     let held = c.args.held.now in
     let found : option_copied c.get.result ≡ lookup (same_key k) es = c.get.ensures.value in
-    let stood : StandsAt (option_copied c.get.result) own.taken = subst (λ (o : Option Meeting). StandsAt o own.taken) (sym found) (stands_at k own (lookup (same_key k) es) (st.meets k)) in
-    let now : StandsFor held (own.taken ++ parts_of (claims_said claims)) = subst (λ (l : List revisions.Part). StandsFor held (own.taken ++ l)) (sym (parts_are claims)) (c.requires.held own.taken (stands_at k own (lookup (same_key k) es) (st.meets k))) in
+    let stood : HasHistory (option_copied c.get.result) own.taken = subst (λ (o : Option Meeting). HasHistory o own.taken) (sym found) (has_history k own (lookup (same_key k) es) (st.meets k)) in
+    let now : RepresentsHistory held (own.taken ++ parts_of (claims_said claims)) = subst (λ (l : List revisions.Part). RepresentsHistory held (own.taken ++ l)) (sym (parts_are claims)) (c.requires.held own.taken (has_history k own (lookup (same_key k) es) (st.meets k))) in
     let lost = c.in_ok-lost.field-0.lost.items in let left = c.in_ok-lost.field-0.left.items in
     let kept = kept_then (lookup (same_key k) es) lost left in
     let keeps = subst (λ (o : Option Meeting). KeepsAll part c.deref.result.now o held (kept_then o lost left)) found c.in_ok-lost.ensures.kept in
@@ -43,7 +43,7 @@ returns-clause-after c = λ is_key fit book st meeting is.
     let answered = subst (λ (l : List revisions.Part). IsAnswered (beside k es) k l c.args.now kept asked meeting.answers.items outcome) (sym is.held_is)
     (answered_reordered (beside k es) k held c.args.now kept asked after_it meeting.answers.items outcome is.answers_are c.in_ok-answered.ensures.answered) in
     meeting_after k es c.keys_differ.ensures book st claims fit c.args.now part (is_of_from k part is_key.organiser_is is_key.uid_is) c.requires.some
-    meeting (subst (λ (l : List revisions.Part). StandsFor l (own.taken ++ parts_of (claims_said claims))) (sym is.held_is) now) kept c.deref.result.now touches (subst (λ (l : List revisions.Part). KeepsAll part c.deref.result.now (lookup (same_key k) es) l kept) (sym is.held_is) keeps) asked are c.in_ok-kind.kind outcome
+    meeting (subst (λ (l : List revisions.Part). RepresentsHistory l (own.taken ++ parts_of (claims_said claims))) (sym is.held_is) now) kept c.deref.result.now touches (subst (λ (l : List revisions.Part). KeepsAll part c.deref.result.now (lookup (same_key k) es) l kept) (sym is.held_is) keeps) asked are c.in_ok-kind.kind outcome
     answered (c.in_ok-kind.ensures own.taken (own.taken ++ parts_of (claims_said claims)) stood now)
 
 pub returns-clause-shifts : goal.returns-clause-shifts

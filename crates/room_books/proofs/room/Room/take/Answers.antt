@@ -6,7 +6,7 @@ use Rattle.profile.specs.streams.Streams.{AreClaims}
 use Rattle.room_books.specs.declared.claim.Claim.{Claim}
 use Rattle.room_books.specs.Claiming.{AreClaimed}
 use Rattle.room_books.specs.Takings.{claims_said, kind_view, reply_octets, refresh_octets}
-use Rattle.room_books.specs.Standing.{StepsWith}
+use Rattle.room_books.specs.Representation.{StepsWith}
 use Rattle.itip_messages.specs.Messages.{method_said}
 use Rattle.itip_messages.specs.declared.room_message.Method.{Method}
 use Rattle.profile.specs.rooms.Messages.{is_add}

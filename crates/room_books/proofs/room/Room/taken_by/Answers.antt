@@ -1,14 +1,14 @@
 -- What is held of the meeting is what it held, and the parts of the message.
 use Rattle.std.proofs.Common.{◌++◌, ◌∙◌, Option, List, sym, ap, subst}
 use Rattle.std.specs.Map.{lookup}
-use Rattle.itip_order.specs.Registers.{StandsFor}
+use Rattle.itip_order.specs.Registers.{RepresentsHistory}
 use Rattle.profile.specs.rooms.Revisions.{Part}
 use Rattle.room_books.specs.declared.kept.Meeting.{Meeting}
 use Rattle.room_books.specs.declared.meeting.Given.{Given}
 use Rattle.room_books.specs.BySlot.{Reordered}
 use Rattle.room_books.specs.Takings.{answers_by, answers_then, held_after, parts_said, IsMade}
 use Rattle.room_books.specs.Views.{same_key}
-use Rattle.room_books.proofs.Afters.{held_stands}
+use Rattle.room_books.proofs.Afters.{has_history_after}
 use Rattle.room_books.proofs.room.Room.taken_by.Goals as goal
 
 pub settled-requires-clause-held : goal.settled-requires-clause-held
@@ -16,7 +16,7 @@ settled-requires-clause-held c = λ history h.
     let found = lookup (same_key c.args.key.now) c.args.self.now.meetings.entries in
     let parts = parts_said c.args.claims.now in
     let held = c.held_with-held.ensures ∙ ap (λ (o : Option Meeting). held_after o c.args.more.now) c.get.ensures.value in
-    subst (λ (l : List Part). StandsFor l (history ++ parts)) (sym held) (held_stands found c.args.more.now history parts h c.requires.more)
+    subst (λ (l : List Part). RepresentsHistory l (history ++ parts)) (sym held) (has_history_after found c.args.more.now history parts h c.requires.more)
 
 pub returns-clause-after : goal.returns-clause-after
 returns-clause-after c = λ is_key fit book st meeting is.
@@ -31,4 +31,4 @@ returns-clause-replies c = λ own meeting fit is_own is meets.
 pub returns-clause-refreshes : goal.returns-clause-refreshes
 returns-clause-refreshes c = λ before after b a.
     let held = c.held_with-held.ensures ∙ ap (λ (o : Option Meeting). held_after o c.args.more.now) c.get.ensures.value in
-    c.in_ok-refresh.ensures before after b (subst (λ (l : List Part). StandsFor l after) (sym held) a)
+    c.in_ok-refresh.ensures before after b (subst (λ (l : List Part). RepresentsHistory l after) (sym held) a)

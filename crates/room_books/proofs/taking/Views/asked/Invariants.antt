@@ -1,10 +1,10 @@
 use Rattle.std.proofs.Common.{take, List}
 use Rattle.std.specs.Prelude.{option_copied}
-use Rattle.itip_order.specs.Registers.{StandsFor}
+use Rattle.itip_order.specs.Registers.{RepresentsHistory}
 use Rattle.profile.specs.rooms.Revisions.{Part}
-use Rattle.room_books.specs.Takings.{StandsAt, AreAsked}
+use Rattle.room_books.specs.Takings.{HasHistory, AreAsked}
 use Rattle.room_books.proofs.taking.Views.asked.Given as goal
 
 abbrev pub invariant-loop-claim : goal.invariant-loop-claim
-invariant-loop-claim l = (before after : List Part) → StandsAt (option_copied l.self.before) before → StandsFor l.self.after.now after
+invariant-loop-claim l = (before after : List Part) → HasHistory (option_copied l.self.before) before → RepresentsHistory l.self.after.now after
     → AreAsked before after (take l.claim-index l.claims) l.asked.items

@@ -10,7 +10,7 @@ use Rattle.room_books.specs.Instants.{IsParted, IsSplit}
 use Rattle.room_books.specs.Takings.{IsLeftAlone, kept_then}
 use Rattle.room_books.specs.Touching.{is_touched}
 use Rattle.room_books.specs.Views.{all_series, all_singles, series_by, singles_by, AreFewer}
-use Rattle.room_books.specs.Standing.{KeepsAll, KeepsSome}
+use Rattle.room_books.specs.Representation.{KeepsAll, KeepsSome}
 use Rattle.room_books.proofs.Own.{keeps_new, keeps_all}
 use Rattle.room_books.proofs.Reordering.{re_parts}
 use Rattle.room_books.proofs.Fewer.{all_fewer, fewer_none}

@@ -17,7 +17,7 @@ returns-in_ok-write_refusal-in-Err-Refused-clause-answers c =
     let octets = c.args.octets.now in
     let old = c.args.self.now in
     let new = c.answer.new.self in
-    let refuses = subst (RefusesBy (RefusesKept octets old)) c.in-Err-Refused.field-0-is c.in-Err-Refused.ensures.stands in
+    let refuses = subst (RefusesBy (RefusesKept octets old)) c.in-Err-Refused.field-0-is c.in-Err-Refused.ensures.fault in
     let kept = subst (IfRefused (KeepAll old new × (c.answer.new.answers.items ≡ c.args.answers.now.items))) c.in-Err-Refused.field-0-is c.in-Err-Refused.ensures.keeps in (
       refused_line c.args.number n,
       c.in_ok-write_refusal-in-Err-Refused.ensures ∙ ap (λ z. z ++ refused_line c.args.number n) kept.1,

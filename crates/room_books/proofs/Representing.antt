@@ -10,9 +10,9 @@ use Rattle.itip_order.proofs.Lists.{in_head, in_tail, filter_at}
 use Rattle.profile.specs.rooms.Revisions.{Part, in_view}
 use Rattle.profile.specs.rooms.Rooms.{Claim, Answer, Book, Kind, is_set, parts_of, asked, answered, series_confirmed, shown}
 use Rattle.profile.specs.rooms.Kept.{Replies, Refreshes, ShowsAnswer, first_parts}
-use Rattle.itip_order.specs.Registers.{StandsFor as HoldsAll}
-use Rattle.room_books.specs.Takings.{StandsAt}
-use Rattle.room_books.proofs.Afters.{stands_at}
+use Rattle.itip_order.specs.Registers.{RepresentsHistory}
+use Rattle.room_books.specs.Takings.{HasHistory}
+use Rattle.room_books.proofs.Afters.{has_history}
 use Rattle.room_books.specs.declared.meeting.MeetingKey.{MeetingKey}
 use Rattle.room_books.specs.declared.kept.Meeting.{Meeting}
 use Rattle.std.specs.Prelude.{option_map}
@@ -21,7 +21,7 @@ use Rattle.profile.specs.events.Events.{Event}
 use Rattle.cal_events.specs.SaidSeries.{series_said}
 use Rattle.cal_events.specs.declared.series.Series.{Series}
 use Rattle.room_books.specs.Views.{same_key, series_of, series_list}
-use Rattle.room_books.specs.Standing.{SlotDated, is_of, AreFitting, AreSameSeries, of_meeting, answers_of, book_of, IsOwn, IsGiven, Meets, MeetsAt, Covers, AreKeysOf, Stands, book_after, IsMeetingAfter, StepsWith}
+use Rattle.room_books.specs.Representation.{SlotDated, is_of, AreFitting, AreSameSeries, of_meeting, answers_of, book_of, IsOwn, IsGiven, Meets, MeetsAt, Covers, AreKeysOf, Represents, book_after, IsMeetingAfter, StepsWith}
 use Rattle.room_books.proofs.Arrivals.{arrives}
 use Rattle.room_books.proofs.Meetings.{key_from, key_parts, is_of_same, one_meeting, of_more_other, filter_none, view_of}
 use Rattle.room_books.proofs.Pairs.{pairs_append, map_at}
@@ -106,7 +106,7 @@ meets_same k q book m e h = subst (λ (own : Book). Meets own q m) (book_same k 
 -- ---- the room after it
 
 module _ (entries entries' : Entries) (book : Book) (k : MeetingKey) (claims : List Claim) (moment : ℤ) (kind : Kind) (m : Meeting)
-    (st : Stands entries book) (fit : AreFitting k claims) (after : IsMeetingAfter book k claims moment kind m)
+    (st : Represents entries book) (fit : AreFitting k claims) (after : IsMeetingAfter book k claims moment kind m)
     (order : AreKeysOf (keys_of entries') (first_parts (book.taken ++ parts_of claims)))
     (updates : (q : MeetingKey) → lookup (same_key q) entries' ≡ cond (same_key k q) (Some m) (lookup (same_key q) entries)) where
   abbrev taken : List Part
@@ -161,8 +161,8 @@ module _ (entries entries' : Entries) (book : Book) (k : MeetingKey) (claims : L
     | inr d ↦ subst (MeetsAt (book_of q later) q) (sym (found_at q false d)) (subst (λ (own : Book). MeetsAt own q (lookup (same_key q) entries)) (sym (other_book q d)) (st.meets q))
   ]
 
-  stands_now : Stands entries' later
-  stands_now =
+  represents_now : Represents entries' later
+  represents_now =
       let sound = step_sound book claims moment after.outcome later after.step record { known = st.known; good = record { clear = st.clear; few = st.few } } in
       record {
         order = order;
@@ -220,20 +220,20 @@ refreshes_all room k book claims fit adds moment (Some octets) r = (sym (wants_o
 
 -- from the meeting after the claims, put in its place, and the reply by its own book
 pub claims_step : (room : List ℕ) (entries entries' : Entries) (book : Book) (k : MeetingKey) (claims : List Claim) (moment : ℤ) (kind : Kind) (m : Meeting) (reply : Option (List ℕ)) (adds : Bool) (refresh : Option (List ℕ)) → 0 < length claims
-    → Stands entries book → AreFitting k claims → IsMeetingAfter book k claims moment kind m → entries' ≡ insert_entry same_key entries k m
+    → Represents entries book → AreFitting k claims → IsMeetingAfter book k claims moment kind m → entries' ≡ insert_entry same_key entries k m
     → ((q : MeetingKey) → lookup (same_key q) entries' ≡ cond (same_key k q) (Some m) (lookup (same_key q) entries))
     → ((own : Book) → IsOwn k own → Meets own k m → Replies room own claims reply)
-    → ((before taken : List Part) → StandsAt (lookup (same_key k) entries) before → HoldsAll m.held taken → Refreshes room adds before taken claims moment refresh)
+    → ((before taken : List Part) → HasHistory (lookup (same_key k) entries) before → RepresentsHistory m.held taken → Refreshes room adds before taken claims moment refresh)
     → StepsWith room entries' book claims moment kind reply adds refresh
 claims_step room entries entries' book k claims moment kind m reply adds refresh some st fit after put updates shows asks =
     let order : AreKeysOf (keys_of entries') (first_parts (book.taken ++ parts_of claims)) =
     subst (λ (l : Entries). AreKeysOf (keys_of l) (first_parts (book.taken ++ parts_of claims))) (sym put) (arrive_all entries book.taken k m claims some fit st.order) in
     let now : Book = book_after book claims moment after.outcome in
-    let stands : Stands entries' now = stands_now entries entries' book k claims moment kind m st fit after order updates in
+    let represents : Represents entries' now = represents_now entries entries' book k claims moment kind m st fit after order updates in
     record {
-      steps = record { outcome = after.outcome; after = now; step = after.step; stands = stands; kind_is = after.kind_is };
-      replies = replies_all room k now claims reply fit.of_it (shows (book_of k now) (own_of k entries' now stands) after.meets);
+      steps = record { outcome = after.outcome; after = now; step = after.step; represents = represents; kind_is = after.kind_is };
+      replies = replies_all room k now claims reply fit.of_it (shows (book_of k now) (own_of k entries' now represents) after.meets);
       refreshes = refreshes_all room k book claims fit adds moment refresh
           (subst (λ (l : List Part). Refreshes room adds (of_meeting k book.taken) l claims moment refresh) (taken_own k book claims fit)
-          (asks (of_meeting k book.taken) (of_meeting k now.taken) (stands_at k (book_of k book) (lookup (same_key k) entries) (st.meets k)) after.meets.held));
+          (asks (of_meeting k book.taken) (of_meeting k now.taken) (has_history k (book_of k book) (lookup (same_key k) entries) (st.meets k)) after.meets.held));
     }

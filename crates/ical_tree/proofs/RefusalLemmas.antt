@@ -9,7 +9,7 @@ use Rattle.ical_lines.specs.declared.fault.Fault.{Fault}
 use Rattle.ical_lines.specs.declared.fault.Fault.TheVariants.{Refused, Memory}
 use Rattle.ical_tree.specs.declared.component.Component.{Component}
 use Rattle.ical_tree.specs.Tree.{component_name}
-use Rattle.ical_tree.specs.Reading.{Built, Open, open_of, Stands, TreeHas, SpellsOf, IsCalendar, names_of, with_lines}
+use Rattle.ical_tree.specs.Reading.{Built, Open, open_of, IsRefusalOf, TreeHas, SpellsOf, IsCalendar, names_of, with_lines}
 use Rattle.ical_tree.proofs.BuiltLemmas.{outermost, opens, names-with}
 use Rattle.ical_tree.proofs.PairLemmas.{opened-append, any_misplaced, after, after_first, none-append, all_fit_from, found_later, now_begin, fine_begin, fine_first, stays_whole, stays, fine_whole, fine}
 
@@ -116,9 +116,9 @@ same_started (c ∷ cs) closed done n line b = refl
 or_first : (a b c : Bool) → a ≡ true → (a || b || c) ≡ true
 or_first a b c h = ap (λ x. x || b || c) h
 
-pub take_stands : (bounded : Bool) (lines : List (List ℕ)) (cs : List Open) (closed : Option Component) (left rest : List (List ℕ)) (line : List ℕ) (fault : Fault) → State cs closed left lines → left ≡ line ∷ rest → RefusesOnly (λ n. misplaced n (names_of cs) (is_some closed) line) fault → RefusesBy (λ m. TreeHas bounded m lines) fault
-take_stands bounded lines cs closed left rest line Memory s e h = tt
-take_stands bounded lines cs closed left rest line (Refused r) s e h =
+pub take_refuses : (bounded : Bool) (lines : List (List ℕ)) (cs : List Open) (closed : Option Component) (left rest : List (List ℕ)) (line : List ℕ) (fault : Fault) → State cs closed left lines → left ≡ line ∷ rest → RefusesOnly (λ n. misplaced n (names_of cs) (is_some closed) line) fault → RefusesBy (λ m. TreeHas bounded m lines) fault
+take_refuses bounded lines cs closed left rest line Memory s e h = tt
+take_refuses bounded lines cs closed left rest line (Refused r) s e h =
     let n = r.number in
     let here : misplaced n (opened s.0) (not (is_none s.0)) line ≡ true = ap (λ z. misplaced n z (not (is_none s.0)) line) (sym s.3) ∙ (sym (same_started cs closed s.0 n line s.1) ∙ h) in
     let next : some_misplaced n (opened s.0) (not (is_none s.0)) left ≡ true = ap (some_misplaced n (opened s.0) (not (is_none s.0))) e ∙ ap (λ x. x || (fits (opened s.0) (not (is_none s.0)) line && some_misplaced n (now_open (opened s.0) line) true rest)) here in
@@ -149,8 +149,8 @@ end_by a [] None done n b e h = ap (λ d. a || (eqb n 21 && not (is_none (opened
 end_by a [] (Some c) done n b e h = absurd (never_by (eqb n 21) (eqb n 23) h)
 end_by a (c ∷ cs) closed done n b e h = ap (λ z. a || (eqb n 21 && not (is_none z)) || (eqb n 23 && is_none done)) (sym e) ∙ open_by a (eqb n 21) (eqb n 23) (is_none done) h
 
-pub finish_stands : (bounded : Bool) (lines : List (List ℕ)) (cs : List Open) (closed : Option Component) (left : List (List ℕ)) (n : ℕ) → State cs closed left lines → left ≡ [] → ((eqb n 21 && not (is_none (names_of cs))) || (eqb n 23 && (is_none (names_of cs) && not (is_some closed)))) ≡ true → lines_have n lines ≡ true
-finish_stands bounded lines cs closed left n s e h =
+pub finish_refuses : (bounded : Bool) (lines : List (List ℕ)) (cs : List Open) (closed : Option Component) (left : List (List ℕ)) (n : ℕ) → State cs closed left lines → left ≡ [] → ((eqb n 21 && not (is_none (names_of cs))) || (eqb n 23 && (is_none (names_of cs) && not (is_some closed)))) ≡ true → lines_have n lines ≡ true
+finish_refuses bounded lines cs closed left n s e h =
     let all : s.0 ≡ lines = sym (append-nil s.0) ∙ (ap (λ z. s.0 ++ z) (sym e) ∙ s.2) in
     let a = some_misplaced n [] false lines in
     let fitting : all_fit [] false s.0 ≡ true = built_fits cs closed s.0 s.1 in
@@ -159,10 +159,10 @@ finish_stands bounded lines cs closed left n s e h =
 
 -- ---- of octets: a fault of their lines, or of what these spell
 
-pub text_stands : (bounded : Bool) (octets : List ℕ) (fault : Fault) → RefusesOnly (λ n. text_has bounded n octets) fault → Stands bounded octets fault
-text_stands bounded octets Memory h = tt
-text_stands bounded octets (Refused r) h = inl h
+pub text_refuses : (bounded : Bool) (octets : List ℕ) (fault : Fault) → RefusesOnly (λ n. text_has bounded n octets) fault → IsRefusalOf bounded octets fault
+text_refuses bounded octets Memory h = tt
+text_refuses bounded octets (Refused r) h = inl h
 
-pub tree_stands : (bounded : Bool) (octets : List ℕ) (lines : List (List ℕ)) (fault : Fault) → lines ≡ logical_lines octets → RefusesBy (λ n. TreeHas bounded n lines) fault → Stands bounded octets fault
-tree_stands bounded octets lines Memory e h = tt
-tree_stands bounded octets lines (Refused r) e h = inr (subst (λ (ls : List (List ℕ)). TreeHas bounded r.number ls) e h)
+pub tree_refuses : (bounded : Bool) (octets : List ℕ) (lines : List (List ℕ)) (fault : Fault) → lines ≡ logical_lines octets → RefusesBy (λ n. TreeHas bounded n lines) fault → IsRefusalOf bounded octets fault
+tree_refuses bounded octets lines Memory e h = tt
+tree_refuses bounded octets lines (Refused r) e h = inr (subst (λ (ls : List (List ℕ)). TreeHas bounded r.number ls) e h)

@@ -6,7 +6,7 @@ use Rattle.std.specs.List.{AllZip}
 use Rattle.std.specs.Map.{lookup, keys_of, values_of}
 use Rattle.indexmap.specs.IndexMap.{insert_entry, set_value_at}
 use Rattle.ical_values.specs.Octets.{address_octets, text_octets}
-use Rattle.itip_order.specs.Registers.{StandsFor, together}
+use Rattle.itip_order.specs.Registers.{RepresentsHistory, together}
 use Rattle.itip_order.specs.declared.part.Slot.{Slot as OwnSlot}
 use Rattle.itip_order.specs.Parts.{slot_of}
 use Rattle.profile.specs.checker.Instances.{Booked}
@@ -101,8 +101,8 @@ pub record IsOwn (key : MeetingKey) (own : Book) : Type 0 where
   pub fit : (answer : Answer) → Contains own.answers answer → IsFitting answer.claim
 
 -- the answers to parts in the view
-abbrev pub standing : List Part → List Answer → List Answer
-standing taken answers = filter (λ a. in_view taken a.claim.part) answers
+abbrev pub answers_in_view : List Part → List Answer → List Answer
+answers_in_view taken answers = filter (λ a. in_view taken a.claim.part) answers
 
 -- there are as many series, and those of the first that other parts leave have the same instances as those of the second
 pub record AreSameSeries (taken : List Part) (all : List Recurring) (series : List Series) : Type 0 where
@@ -131,8 +131,8 @@ pub record AreGiven (key : MeetingKey) (taken : List Part) (answers : List Answe
 
 -- the meeting holds the parts taken of it, and the answers to those in the view; each that is to take place has one
 pub record Meets (own : Book) (key : MeetingKey) (meeting : Meeting) : Type 0 where
-  pub held : StandsFor meeting.held own.taken
-  pub answers : AreGiven key own.taken (standing own.taken own.answers) meeting.answers.items
+  pub held : RepresentsHistory meeting.held own.taken
+  pub answers : AreGiven key own.taken (answers_in_view own.taken own.answers) meeting.answers.items
   pub answered : (part : Part) → is_set part ≡ true → in_view own.taken part ≡ true → (a : Answer) × Contains own.answers a × (a.claim.part ≡ part)
   pub dated : (given : Given) → Contains meeting.answers.items given → IsDated given
 
@@ -144,15 +144,15 @@ MeetsAt own key (Some meeting) = Meets own key meeting
 -- where the meeting was that of its own book, and more of its parts were taken, all of these slots, these are the answers that stay
 abbrev pub KeepsAll : Part → List OwnSlot → Option Meeting → List Part → List Given → Type 0
 KeepsAll part slots before held kept =
-    (own : Book) (key : MeetingKey) (more : List Part) → is_of key part ≡ true → IsOwn key own → MeetsAt own key before → StandsFor held (own.taken ++ more) → AllTouch slots more
-    → AreGiven key (own.taken ++ more) (standing (own.taken ++ more) (standing own.taken own.answers)) kept
+    (own : Book) (key : MeetingKey) (more : List Part) → is_of key part ≡ true → IsOwn key own → MeetsAt own key before → RepresentsHistory held (own.taken ++ more) → AllTouch slots more
+    → AreGiven key (own.taken ++ more) (answers_in_view (own.taken ++ more) (answers_in_view own.taken own.answers)) kept
 
 -- some of the answers that the meeting had, and what stays of them
 abbrev pub KeepsSome : Part → List OwnSlot → List Part → List Part → List Given → List Given → Type 0
 KeepsSome part slots before after done kept =
-    (own : Book) (key : MeetingKey) (more : List Part) → is_of key part ≡ true → IsOwn key own → StandsFor before own.taken → StandsFor after (own.taken ++ more) → AllTouch slots more
+    (own : Book) (key : MeetingKey) (more : List Part) → is_of key part ≡ true → IsOwn key own → RepresentsHistory before own.taken → RepresentsHistory after (own.taken ++ more) → AllTouch slots more
     → (xs : List Answer) → ((a : Answer) → Contains xs a → Contains own.answers a × (in_view own.taken a.claim.part ≡ true)) → AllZip (IsGiven key own.taken) xs done
-    → AllZip (IsGiven key (own.taken ++ more)) (standing (own.taken ++ more) xs) kept
+    → AllZip (IsGiven key (own.taken ++ more)) (answers_in_view (own.taken ++ more) xs) kept
 
 -- ---- all meetings
 
@@ -168,7 +168,7 @@ abbrev pub AreKeysOf : List MeetingKey → List Part → Type 0
 AreKeysOf keys parts = AllZip (λ key part. is_of key part ≡ true) keys parts
 
 -- the meetings, in order of first arrival, represent the book, whose confirmed instances are clear and within the limit
-pub record Stands (entries : List (MeetingKey × Meeting)) (book : Book) : Type 0 where
+pub record Represents (entries : List (MeetingKey × Meeting)) (book : Book) : Type 0 where
   pub order : AreKeysOf (keys_of entries) (first_parts book.taken)
   pub covered : (part : Part) → Contains book.taken part → Covers entries part
   pub known : (answer : Answer) → Contains book.answers answer → Contains book.taken answer.claim.part
@@ -213,7 +213,7 @@ pub record StepsTo (entries : List (MeetingKey × Meeting)) (book : Book) (claim
   pub outcome : Outcome
   pub after : Book
   pub step : IsStep book claims moment outcome after
-  pub stands : Stands entries after
+  pub represents : Represents entries after
   pub kind_is : kind ≡ kind_of book.taken after.taken claims outcome
 
 -- and a reply comes exactly where a part is shown: it shows the answers that the book after it has. A refresh comes exactly where the message

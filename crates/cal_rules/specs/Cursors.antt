@@ -28,17 +28,17 @@ pub record IsInside (p : Pattern) (c : Cursor) : Type 0 where
   pub later : is_missing p.positions ≡ false → c.later ≡ count_days (passes p) c.day.index (c.span.end - c.day.index)
 
 -- it is in its period, or where that ends
-pub record StandsAt (p : Pattern) (c : Cursor) : Type 0 where
+pub record IsCursorOf (p : Pattern) (c : Cursor) : Type 0 where
   pub range : (366 ≤ c.day.index) × (c.day.index ≤ c.span.end) × (c.span.end ≤ 3_653_155)
   pub inside : c.day.index < c.span.end → IsInside p c
 
 -- it is after the first base day with a set position from one day on and before another
 pub record IsPastFirst (p : Pattern) (from end : ℕ) (c : Cursor) : Type 0 where
-  pub stands : StandsAt p c
+  pub is_cursor : IsCursorOf p c
   pub first : IsFirstIn (is_chosen p) from end (c.day.index - 1)
 
 -- it is after the least rule day apart from COUNT from a day on
 pub record IsPastNext (r : Parts) (from : ℕ) (c : Cursor) : Type 0 where
-  pub stands : StandsAt r.pattern c
+  pub is_cursor : IsCursorOf r.pattern c
   pub next : IsNextCounted r from (c.day.index - 1)
   pub range : (367 ≤ c.day.index) × (c.day.index ≤ 3_652_425)

@@ -95,7 +95,7 @@ IsReplyFault meeting components n = ((n ≡ 71) × (is_ahead meeting components 
 -- ---- meetings
 
 -- the meeting is the last store, and has what was answered to it. No answer was taken that is to a later SEQUENCE
-pub record Stands (meeting : Meeting) (book : OrganiserBook) (stored : Stored) : Type 0 where
+pub record Represents (meeting : Meeting) (book : OrganiserBook) (stored : Stored) : Type 0 where
   pub revision : revision_of meeting.revision ≡ stored.revision
   pub components : AllZip SaysObjectComponent stored.events meeting.components.items
   pub attending : AreAttending (lists_said stored.events) meeting.attending.entries
@@ -103,12 +103,12 @@ pub record Stands (meeting : Meeting) (book : OrganiserBook) (stored : Stored) :
   pub seen : AreSeen meeting stored book.replies
   pub sent : (heard : Heard) → Contains book.replies heard → bytes_eq heard.uid stored.uid ≡ true → heard.revision.sequence ≤ stored.revision.sequence
 
-abbrev pub StandsAt : OrganiserBook → List ℕ → Option Meeting → Option Stored → Type 0
-StandsAt book uid None None = (heard : Heard) → Contains book.replies heard → bytes_eq heard.uid uid ≡ false
-StandsAt book uid None (Some stored) = ⊥
-StandsAt book uid (Some meeting) None = ⊥
-StandsAt book uid (Some meeting) (Some stored) = Stands meeting book stored
+abbrev pub RepresentsAt : OrganiserBook → List ℕ → Option Meeting → Option Stored → Type 0
+RepresentsAt book uid None None = (heard : Heard) → Contains book.replies heard → bytes_eq heard.uid uid ≡ false
+RepresentsAt book uid None (Some stored) = ⊥
+RepresentsAt book uid (Some meeting) None = ⊥
+RepresentsAt book uid (Some meeting) (Some stored) = Represents meeting book stored
 
 -- the organiser keeps this book: of each UID the last store
 pub record Keeps (organiser : Organiser) (book : OrganiserBook) : Type 0 where
-  pub each : (uid : Text) → StandsAt book (text_octets uid) (get same_text organiser.meetings uid) (last_store (text_octets uid) book)
+  pub each : (uid : Text) → RepresentsAt book (text_octets uid) (get same_text organiser.meetings uid) (last_store (text_octets uid) book)
