@@ -2,9 +2,9 @@
 
     python3 bench/prove.py [CRATE]
 
-It is for a first run: only libraries that were never built are proved here, as many at once as there are processors and memory. What changed since
-is proved by `rt run`, which comes next. `rt` locks a crate with all that it uses, so each is proved in a copy, and what it made is taken over.
-What the prover says is in out/build/.
+Only libraries that were never built, or are older than a source of theirs or of one that they use, are proved here, as many at once as there are
+processors and memory. `rt run`, which comes next, looks at all of them again. `rt` locks a crate with all that it uses, so each is proved in a
+copy, and what it made is taken over. What the prover says is in out/build/.
 """
 
 import os
@@ -35,8 +35,16 @@ def spent(since):
     return f"{minutes} min {seconds:02} s" if minutes else f"{seconds} s"
 
 
-def is_built(crate):
-    return (ROOT / "crates" / crate / "out" / "rlib" / f"{crate}.rlib").is_file()
+def last_change(crate):
+    """When a source, a definition or a proof of a crate was changed last, in seconds."""
+    files = [it for part in ("src", "specs", "proofs") for it in (ROOT / "crates" / crate / part).rglob("*") if it.is_file()]
+    return max(it.stat().st_mtime for it in files)
+
+
+def is_built(crate, below):
+    """Whether its library was built since the last change of it and of all that it uses."""
+    stamp = ROOT / "crates" / crate / "out" / "rlib" / "stamp"
+    return stamp.is_file() and stamp.stat().st_mtime >= max(map(last_change, below[crate]))
 
 
 def proved(crate, below, jobs):
@@ -54,7 +62,7 @@ def proved(crate, below, jobs):
 def main():
     crate = sys.argv[1] if len(sys.argv) > 1 else "roombox"
     below, start = crates_below(), time.monotonic()
-    left = [it for it in below if it in below[crate] - {crate} and not is_built(it)]
+    left = [it for it in below if it in below[crate] - {crate} and not is_built(it, below)]
     count, room, running = len(left), lanes(), {}
     if not left:
         print(f"now {crate} itself is checked and built", file=sys.stderr)
