@@ -114,8 +114,8 @@ def main():
     own = sum(counts[0] for name, counts in table.items() if not re.search(r"_(examples|tests)$", name))
     print(*costs(given, total[0], own), sep="\n")
     print("\n## What it proves\n")
-    print("Code, definitions, specs and proofs are lines that aren't blank; code is without its tests. The crate `profile` holds the")
-    print("definitions that all contracts cite.\n")
+    said = "Code, definitions, specs and proofs are lines that aren't blank; code is without its tests. "
+    print(paragraph(said + "The crate `profile` holds the definitions that all contracts cite.") + "\n")
     print(row(COLUMNS))
     print("|---|" + "---:|" * (len(COLUMNS) - 1))
     for name, counts in table.items():

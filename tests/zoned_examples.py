@@ -276,7 +276,7 @@ CASES += [
     # overrides
     ("an override in a gap", NY, GAP + override(";" + IN + "20250309T023000", "DTSTART;" + IN + "20250309T023000", "DURATION:PT2H"),
      at(GAPS[0]) + at(GAPS[1], length=7200) + at(GAPS[2])),
-    ("an override that names 03:30 stands for the start at 02:30 in a gap", NY,
+    ("an override that names 03:30 replaces the start at 02:30 in a gap", NY,
      GAP + override(";" + IN + "20250309T033000", "DTSTART:20250309T080000Z", HOUR),
      at(GAPS[0]) + ["20250309T073000Z 20250309T080000Z 3600"] + at(GAPS[2])),
     ("an override that names a date of exception", [],
@@ -304,7 +304,7 @@ CASES += [
      january(1) + ["20250102T090000Z 20250102T120000Z 3600"] + january(3)),
     ("an override without a master", [], ["RECURRENCE-ID:20250102T090000Z", "DTSTART:20250102T120000Z", HOUR],
      ["20250102T090000Z 20250102T120000Z 3600"]),
-    ("an override stands before its master", [],
+    ("an override comes before its master", [],
      ["RECURRENCE-ID:20250102T090000Z", "DTSTART:20250102T120000Z", HOUR, "END:VEVENT", "BEGIN:VEVENT", "UID:a"] + DAILY,
      january(1) + ["20250102T090000Z 20250102T120000Z 3600"] + january(3)),
     ("two masters", [], NINE + ["END:VEVENT", "BEGIN:VEVENT", "UID:a"] + NINE, 53),
