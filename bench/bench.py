@@ -361,9 +361,10 @@ def replies(count, people):
 
 
 def after(program, pieces, accepted, first, first_accepted, word=ACCEPTED):
-    """The seconds that a stream takes beyond those of its first part."""
-    whole, peak, size = serve(program, pieces, accepted, word)
-    part, _, _ = serve(program, first, first_accepted, word)
+    """The seconds that a stream takes beyond those of its first part: of each the least of three runs, since their difference may be small."""
+    pieces, first = list(pieces), list(first)
+    whole, peak, size = min(serve(program, pieces, accepted, word) for _ in range(3))
+    part, _, _ = min(serve(program, first, first_accepted, word) for _ in range(3))
     return max(whole - part, 1e-3), peak, size
 
 
@@ -467,7 +468,7 @@ def overlaps(program, instant):
     asked = f"overlap {instant} {instant + 86_400}"
     text = IN_NEW_YORK.format(start="19700101T090000", rule="FREQ=DAILY").replace("\n", "\\r\\n")
     with tempfile.TemporaryDirectory() as folder:
-        for table in ("messages.txt", "commands.txt", "calendars.txt"):
+        for table in ("messages.txt", "commands.txt", "calendars.txt", "organisers.txt"):
             open(os.path.join(folder, table), "w", encoding="ascii").close()
         with open(os.path.join(folder, "events.txt"), "w", encoding="ascii") as file:
             file.writelines(f"{number} | text | {text} | {asked}\n" for number in range(EVENTS))
