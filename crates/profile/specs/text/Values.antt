@@ -101,7 +101,7 @@ is_escape c = (c == 92) || (c == 59) || (c == 44) || (c == 110) || (c == 78)
 abbrev pub meant : ℕ → ℕ
 meant c = if (c == 110) || (c == 78) then 10 else c
 
--- what a written text represents; a backslash that makes no escape is itself, this profile's choice
+-- what a written text represents; a backslash that makes no escape stays a backslash, this profile's choice
 unfoldable pub unescaped : List ℕ → List ℕ
 unescaped [] = []
 unescaped (c ∷ []) = c ∷ []
