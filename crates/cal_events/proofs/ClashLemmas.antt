@@ -4,38 +4,38 @@ use Rattle.std.specs.Prelude.{Option, Some, None, IfSome, IfNone, Result, Ok, Er
 use Rattle.std.proofs.lemmas.Bool.{cases_order}
 use Rattle.std.proofs.lemmas.List.{get_or-map, get_or_default, length-map}
 use Rattle.std.proofs.lemmas.Option.{IfSome_then}
-use Rattle.profile.specs.checker.Instances.{Booked, IsClear, IsWithin}
+use Rattle.profile.specs.checker.Instances.{Instance, IsClear, IsWithin}
 use Rattle.cal_events.specs.declared.sweep.Span.{Span}
 use Rattle.cal_events.specs.declared.sweep.Overlap.{Overlap}
 use Rattle.cal_events.specs.Entries.{Name}
 use Rattle.cal_events.specs.declared.calendar.PlacedSingle.{PlacedSingle as Single}
-use Rattle.cal_events.specs.Calendars.{booked_in, span_of, HaveDifferentKeys}
+use Rattle.cal_events.specs.Calendars.{named_instance, span_of, HaveDifferentKeys}
 use Rattle.cal_events.specs.Clashes.{Names}
-use Rattle.cal_events.specs.Sweep.{span_at, AreApart, IsOverlap}
+use Rattle.cal_events.specs.Sweep.{span_at, AreSpansApart, IsOverlap}
 
 -- the span of an instance
-abbrev when : Booked → Span
+abbrev when : Instance → Span
 when b = record { start = b.start; end = b.end }
 
-spans_is : (entries : List Name) (ss : List Single) → map span_of ss ≡ map when (map (booked_in entries) ss)
+spans_is : (entries : List Name) (ss : List Single) → map span_of ss ≡ map when (map (named_instance entries) ss)
 spans_is entries [] = refl
 spans_is entries (s ∷ ss) = ap (λ (l : List Span). span_of s ∷ l) (spans_is entries ss)
 
 -- any instance: a default past the end
-abbrev some_booked : Booked
+abbrev some_booked : Instance
 some_booked = record { key = record { organiser = []; uid = []; slot = pos 0 }; start = pos 0; end = pos 0 }
 
-span_is : (all : List Booked) (i : ℕ) (d : Booked) → i < length all → span_at (map when all) i ≡ when (get_or all i d)
+span_is : (all : List Instance) (i : ℕ) (d : Instance) → i < length all → span_at (map when all) i ≡ when (get_or all i d)
 span_is all i d w = get_or-map when all i d (record { start = pos 0; end = pos 0 }) w
 
-different : (all : List Booked) → HaveDifferentKeys all → (i j : ℕ) (d : Booked) → i < length all → j < length all → i ≢ j → (get_or all i d).key ≢ (get_or all j d).key
+different : (all : List Instance) → HaveDifferentKeys all → (i j : ℕ) (d : Instance) → i < length all → j < length all → i ≢ j → (get_or all i d).key ≢ (get_or all j d).key
 different all keys i j d hi hj ne e =
     elim (cases_order i j) [
       | inl same ↦ ne same
       | inr w ↦ elim w [ inl lt ↦ keys i j d lt hj e | inr lt ↦ keys j i d lt hi (sym e) ]
     ]
 
-names : (all : List Booked) → HaveDifferentKeys all → (found : Overlap) → IsOverlap (map when all) found → Names all found
+names : (all : List Instance) → HaveDifferentKeys all → (found : Overlap) → IsOverlap (map when all) found → Names all found
 names all keys found o =
     let n : length (map when all) ≡ length all = length-map all when in
     let d = some_booked in
@@ -64,7 +64,7 @@ names all keys found o =
       earlier = subst (λ (s : Span). s.start ≤ℤ found.instant) ea o.earlier;
     }
 
-clear : (all : List Booked) → AreApart (map when all) → IsClear all
+clear : (all : List Instance) → AreSpansApart (map when all) → IsClear all
 clear all apart a b t h =
     let i = h.first.0 in
     let j = h.second.0 in
@@ -74,7 +74,7 @@ clear all apart a b t h =
     apart i j t (record {
       first_in = omega (arith, n, h.first.1);
       second_in = omega (arith, n, h.second.1);
-      differ = λ e. h.differ (ap (λ (x : Booked). x.key)
+      differ = λ e. h.differ (ap (λ (x : Instance). x.key)
           (sym h.first.2 ∙ get_or_default all i a b h.first.1 ∙ ap (λ k. get_or all k b) e ∙ h.second.2));
       before = h.before;
       in_first = subst (λ (s : Span). IsWithin s.start s.end t) (sym ea) h.in_first;
@@ -82,24 +82,24 @@ clear all apart a b t h =
     })
 
 -- what the sweep over the spans of the singles says about the calendar's instances
-pub clash_from_overlap : (all : List Booked) (entries : List Name) (bs : List Single) (spans seen : List Span) (r : Option Overlap) → HaveDifferentKeys (map (booked_in entries) bs) → map (booked_in entries) bs ≡ all
+pub clash_from_overlap : (all : List Instance) (entries : List Name) (bs : List Single) (spans seen : List Span) (r : Option Overlap) → HaveDifferentKeys (map (named_instance entries) bs) → map (named_instance entries) bs ≡ all
     → spans ≡ map span_of bs → seen ≡ spans → IfSome r (IsOverlap seen) → IfSome r (Names all)
 clash_from_overlap all entries bs spans seen r keys view e f h =
     IfSome_then r (subst (λ (l : List Span). IfSome r (IsOverlap l)) (f ∙ e ∙ spans_is entries bs ∙ ap (map when) view) h)
     (λ found o. names all (subst HaveDifferentKeys view keys) found o)
 
-pub clear_from_none : (all : List Booked) (entries : List Name) (bs : List Single) (spans seen : List Span) (r : Option Overlap) → map (booked_in entries) bs ≡ all
-    → spans ≡ map span_of bs → seen ≡ spans → IfNone r (AreApart seen) → IfNone r (IsClear all)
+pub clear_from_none : (all : List Instance) (entries : List Name) (bs : List Single) (spans seen : List Span) (r : Option Overlap) → map (named_instance entries) bs ≡ all
+    → spans ≡ map span_of bs → seen ≡ spans → IfNone r (AreSpansApart seen) → IfNone r (IsClear all)
 clear_from_none all entries bs spans seen None view e f h =
-    clear all (subst AreApart (f ∙ e ∙ spans_is entries bs ∙ ap (map when) view) h)
+    clear all (subst AreSpansApart (f ∙ e ∙ spans_is entries bs ∙ ap (map when) view) h)
 clear_from_none all entries bs spans seen (Some found) view e f h = h
 
-pub clash_from_sweep : (all : List Booked) (entries : List Name) (bs : List Single) (spans seen : List Span) {E : Type 0} (r : Result (Option Overlap) E) → HaveDifferentKeys (map (booked_in entries) bs) → map (booked_in entries) bs ≡ all
+pub clash_from_sweep : (all : List Instance) (entries : List Name) (bs : List Single) (spans seen : List Span) {E : Type 0} (r : Result (Option Overlap) E) → HaveDifferentKeys (map (named_instance entries) bs) → map (named_instance entries) bs ≡ all
     → spans ≡ map span_of bs → seen ≡ spans → IfOk r (λ o. IfSome o (IsOverlap seen)) → IfOk r (λ o. IfSome o (Names all))
 clash_from_sweep all entries bs spans seen (Ok o) keys view e f h = clash_from_overlap all entries bs spans seen o keys view e f h
 clash_from_sweep all entries bs spans seen (Err x) keys view e f h = h
 
-pub clear_from_sweep : (all : List Booked) (entries : List Name) (bs : List Single) (spans seen : List Span) {E : Type 0} (r : Result (Option Overlap) E) → map (booked_in entries) bs ≡ all
-    → spans ≡ map span_of bs → seen ≡ spans → IfOk r (λ o. IfNone o (AreApart seen)) → IfOk r (λ o. IfNone o (IsClear all))
+pub clear_from_sweep : (all : List Instance) (entries : List Name) (bs : List Single) (spans seen : List Span) {E : Type 0} (r : Result (Option Overlap) E) → map (named_instance entries) bs ≡ all
+    → spans ≡ map span_of bs → seen ≡ spans → IfOk r (λ o. IfNone o (AreSpansApart seen)) → IfOk r (λ o. IfNone o (IsClear all))
 clear_from_sweep all entries bs spans seen (Ok o) view e f h = clear_from_none all entries bs spans seen o view e f h
 clear_from_sweep all entries bs spans seen (Err x) view e f h = h

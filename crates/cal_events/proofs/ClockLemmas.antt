@@ -7,7 +7,7 @@ use Rattle.cal_zones.specs.Kinds.{zone_of}
 use Rattle.cal_zones.specs.declared.clock.Clock.{Clock}
 use Rattle.cal_zones.specs.declared.zone.Zone as kept
 use Rattle.cal_zones.proofs.Meant.{meant_alone}
-use Rattle.cal_events.specs.Events.{event_of, zone_said}
+use Rattle.cal_events.specs.Events.{component_of, zone_said}
 use Rattle.cal_events.specs.Instances.{IsOfClock}
 use Rattle.cal_events.specs.declared.component.EventComponent.{EventComponent}
 use Rattle.cal_events.specs.declared.zoned.ZonedTime.{ZonedTime}
@@ -21,12 +21,12 @@ means_there time local r f = go time.zone f
     go None f = subst (Means (Constant (pos 0)) local) (f local (utc_means local)) (utc_means local)
     go (Some z) f = meant_alone z local r f
 
-pub means_by : (master : EventComponent) (clock : Clock) (local r : ℤ) → IsOfClock (event_of master) clock → Means (zone_of clock.zone) local r → Means (clock_of (event_of master).times.zone) local r
+pub means_by : (master : EventComponent) (clock : Clock) (local r : ℤ) → IsOfClock (component_of master) clock → Means (zone_of clock.zone) local r → Means (clock_of (component_of master).times.zone) local r
 means_by master clock local r same means = means_there master.times.start local r (λ u m. same local r u means m)
 
 -- clocks of one zone say the same
-pub same_clock : (master : EventComponent) (old new : Clock) → new.zone ≡ old.zone → IsOfClock (event_of master) old → IsOfClock (event_of master) new
+pub same_clock : (master : EventComponent) (old new : Clock) → new.zone ≡ old.zone → IsOfClock (component_of master) old → IsOfClock (component_of master) new
 same_clock master old new e same = λ local t u m k. same local t u (subst (λ (z : kept.Zone). Means (zone_of z) local t) e m) k
 
-pub own_clock : (master : EventComponent) (clock : Clock) → zone_of clock.zone ≡ clock_of (event_of master).times.zone → IsOneMeaning (clock_of (event_of master).times.zone) → IsOfClock (event_of master) clock
+pub own_clock : (master : EventComponent) (clock : Clock) → zone_of clock.zone ≡ clock_of (component_of master).times.zone → IsOneMeaning (clock_of (component_of master).times.zone) → IsOfClock (component_of master) clock
 own_clock master clock e one = λ local t u m k. one local u t k (subst (λ (z : Zone). Means z local t) e m)

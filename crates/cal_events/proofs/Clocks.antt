@@ -11,9 +11,9 @@ use Rattle.profile.specs.text.Trees.{Tree}
 use Rattle.profile.specs.series.Zones.{Zone, Constant, Single, Pair, Observance, IsZoneOnset, InForce, Since, Until, IsOneMeaning, Means}
 use Rattle.profile.specs.series.ZoneTexts.{AreMatched}
 use Rattle.profile.specs.events.ZonedTimes.{zone_named, SaysZoneOf, SpellsZoned, SaysZonedText, clock_of}
-use Rattle.profile.specs.events.Events.{Method, Event, SaysEvent}
-use Rattle.profile.specs.events.Meetings.{is_master}
-use Rattle.cal_events.specs.Events.{event_of}
+use Rattle.profile.specs.events.EventComponents.{Method, EventComponent as SaidComponent, SaysEventComponent}
+use Rattle.profile.specs.events.Events.{is_master}
+use Rattle.cal_events.specs.Events.{component_of}
 use Rattle.cal_events.specs.declared.component.EventComponent.{EventComponent}
 use Rattle.cal_events.specs.Instances.{IsAscending, HasGoodClock}
 use Rattle.cal_events.proofs.OneTimes.{clock_one}
@@ -84,24 +84,24 @@ clock_ascends object line text (Some zone) local h = spelled (line_param (codes 
     spelled None says = absurd says
     spelled (Some name) says = named (zone_named name object) says.1
 
-pub clock_good : (object : Tree) {m : Option Method} (lines : Lines) (event : Event) → SaysEvent object m lines event → HasGoodClock event
+pub clock_good : (object : Tree) {m : Option Method} (lines : Lines) (event : SaidComponent) → SaysEventComponent object m lines event → HasGoodClock event
 clock_good object lines event s = elim s.times [
   | inl t ↦
       (clock_one object t.line (line_value t.line) event.times.zone event.times.local t.says, clock_ascends object t.line (line_value t.line) event.times.zone event.times.local t.says)
   | inr (_, t) ↦ subst (λ (z : Option Zone). IsOneMeaning (clock_of z) × IsAscending (clock_of z)) (sym t.zone) (one_meaning (Constant (pos 0)) tt, ascends (Constant (pos 0)) tt)
 ]
 
-pub all_clocks : (object : Tree) (m : Option Method) (vs : List Lines) (es : List Event) → AllZip (SaysEvent object m) vs es → All HasGoodClock es
+pub all_clocks : (object : Tree) (m : Option Method) (vs : List Lines) (es : List SaidComponent) → AllZip (SaysEventComponent object m) vs es → All HasGoodClock es
 all_clocks object m vs es z = All-from_recursion HasGoodClock es (go vs es z)
   where
-    go : (vs : List Lines) (es : List Event) → AllZip (SaysEvent object m) vs es → AllByRecursion HasGoodClock es
+    go : (vs : List Lines) (es : List SaidComponent) → AllZip (SaysEventComponent object m) vs es → AllByRecursion HasGoodClock es
     go [] [] z = tt
     go [] (e ∷ es) z = absurd z
     go (v ∷ vs) [] z = absurd z
     go (v ∷ vs) (e ∷ es) z = (clock_good object v e z.0, go vs es z.1)
 
 -- the one master
-pub master_good : (es : List Event) (o : Option EventComponent) → All HasGoodClock es → filter is_master es ≡ option_to_list (option_map event_of o) → (m : EventComponent) → o ≡ Some m → HasGoodClock (event_of m)
+pub master_good : (es : List SaidComponent) (o : Option EventComponent) → All HasGoodClock es → filter is_master es ≡ option_to_list (option_map component_of o) → (m : EventComponent) → o ≡ Some m → HasGoodClock (component_of m)
 master_good es o all e m is =
-    let one : filter is_master es ≡ event_of m ∷ [] = e ∙ ap (λ (x : Option EventComponent). option_to_list (option_map event_of x)) is in
-    subst (All HasGoodClock) one (All-filter is_master HasGoodClock es all) 0 (event_of m) (omega arith)
+    let one : filter is_master es ≡ component_of m ∷ [] = e ∙ ap (λ (x : Option EventComponent). option_to_list (option_map component_of x)) is in
+    subst (All HasGoodClock) one (All-filter is_master HasGoodClock es all) 0 (component_of m) (omega arith)

@@ -8,10 +8,10 @@ use Rattle.std.proofs.lemmas.List.{get_or_default, append_assoc, length-append, 
 use Rattle.std.proofs.lemmas.List.Elements.{All-from_recursion, All-contains}
 use Rattle.profile.specs.text.Lines.{logical_lines}
 use Rattle.profile.specs.text.Trees.{Tree, vevents}
-use Rattle.profile.specs.checker.Instances.{Key, Booked}
+use Rattle.profile.specs.checker.Instances.{Key, Instance}
 use Rattle.profile.specs.checker.Calendars.{SpellsCalendar, IsConfirmedIn, SayEvents}
-use Rattle.profile.specs.events.Events.{Event, SaysEvent, meeting_said}
-use Rattle.profile.specs.events.Meetings.{Meeting as Whole, is_master}
+use Rattle.profile.specs.events.EventComponents.{EventComponent, SaysEventComponent, meeting_said}
+use Rattle.profile.specs.events.Events.{Event as Whole, is_master}
 use Rattle.profile.specs.events.Starts.{ComesBefore}
 use Rattle.profile.specs.events.Confirmed.{Confirmed, is_kept, is_series, IsSeries, IsInSeries, IsInstanceAmong, IsConfirmed, IsOfSeries, IsSingle, AreSingles, MastersDiffer, OverridesDiffer}
 use Rattle.cal_events.specs.Calendars.{HaveDifferentKeys}
@@ -27,11 +27,11 @@ use Rattle.cal_events.proofs.OwnSingles.{of_both, is_a_master, master_alone, ove
 meeting_of_key : Key → List ℕ × List ℕ
 meeting_of_key k = (k.organiser, k.uid)
 
-module _ (events : List Event) (e f : Event) (e_in : Contains events e) (f_in : Contains events f)
+module _ (events : List EventComponent) (e f : EventComponent) (e_in : Contains events e) (f_in : Contains events f)
     (masters : e.recurrence ≡ None → f.recurrence ≡ None → meeting_said e ≢ meeting_said f)
     (overrides : (slot : ℤ) → e.recurrence ≡ Some slot → f.recurrence ≡ Some slot → meeting_said e ≢ meeting_said f) where
   -- instances of two events have different keys
-  pub keys_apart : (a b : Booked) → IsInstanceAmong events e a → IsInstanceAmong events f b → a.key ≡ b.key → ⊥
+  pub keys_apart : (a b : Instance) → IsInstanceAmong events e a → IsInstanceAmong events f b → a.key ≡ b.key → ⊥
   unfolding meeting_of_key
   keys_apart a b h k same = go (of_both e) (of_both f)
     where
@@ -55,22 +55,22 @@ module _ (events : List Event) (e f : Event) (e_in : Contains events e) (f_in : 
           let y = override_alone f b other n k.is in
           overrides a.key.slot x.slot (y.slot ∙ ap Some (sym (ap (λ (key : Key). key.slot) same))) (ap meeting_of_key (sym x.key ∙ same ∙ y.key))
 
-module _ (events : List Event) (masters : MastersDiffer events) (overrides : OverridesDiffer events) where
-  at_places : (i j : ℕ) (e f : Event) → i < j → j < length events → get_or events i e ≡ e → get_or events j f ≡ f
-      → (a b : Booked) → IsInstanceAmong events e a → IsInstanceAmong events f b → a.key ≡ b.key → ⊥
+module _ (events : List EventComponent) (masters : MastersDiffer events) (overrides : OverridesDiffer events) where
+  at_places : (i j : ℕ) (e f : EventComponent) → i < j → j < length events → get_or events i e ≡ e → get_or events j f ≡ f
+      → (a b : Instance) → IsInstanceAmong events e a → IsInstanceAmong events f b → a.key ≡ b.key → ⊥
   at_places i j e f l w is_e is_f a b h k same =
       keys_apart events e f (i, omega (arith, l, w), is_e) (j, w, is_f)
       (λ m n. subst (λ x. meeting_said x ≢ meeting_said f) first (subst (λ y. meeting_said (get_or events i f) ≢ meeting_said y) is_f
-      (masters i j f l w (ap (λ (x : Event). x.recurrence) first ∙ m) (ap (λ (x : Event). x.recurrence) is_f ∙ n))))
+      (masters i j f l w (ap (λ (x : EventComponent). x.recurrence) first ∙ m) (ap (λ (x : EventComponent). x.recurrence) is_f ∙ n))))
       (λ slot m n. subst (λ x. meeting_said x ≢ meeting_said f) first (subst (λ y. meeting_said (get_or events i f) ≢ meeting_said y) is_f
-      (overrides i j f l w slot (ap (λ (x : Event). x.recurrence) first ∙ m) (ap (λ (x : Event). x.recurrence) is_f ∙ n))))
+      (overrides i j f l w slot (ap (λ (x : EventComponent). x.recurrence) first ∙ m) (ap (λ (x : EventComponent). x.recurrence) is_f ∙ n))))
       a b h k same
     where
       first : get_or events i f ≡ e
       first = get_or_default events i f e (omega (arith, l, w)) ∙ is_e
 
   -- an instance is one of one event
-  pub one_event : (e f : Event) → Contains events e → Contains events f → (a : Booked) → IsInstanceAmong events e a → IsInstanceAmong events f a → e ≡ f
+  pub one_event : (e f : EventComponent) → Contains events e → Contains events f → (a : Instance) → IsInstanceAmong events e a → IsInstanceAmong events f a → e ≡ f
   one_event e f c d a h k =
       elim (cases_order c.0 d.0) [
         | inl at ↦ sym c.2 ∙ ap (λ n. get_or events n e) at ∙ get_or_default events d.0 e f d.1 ∙ d.2
@@ -81,12 +81,12 @@ module _ (events : List Event) (masters : MastersDiffer events) (overrides : Ove
       ]
 
   -- confirmed instances of one key are one
-  pub one_confirmed : (room : List ℕ) → All IsSaid events → (a b : Booked) → IsConfirmed room events a → IsConfirmed room events b → a.key ≡ b.key → a ≡ b
+  pub one_confirmed : (room : List ℕ) → All IsSaid events → (a b : Instance) → IsConfirmed room events a → IsConfirmed room events b → a.key ≡ b.key → a ≡ b
   one_confirmed room said a b h k same =
       elim (cases_order h.among.0 k.among.0) [
         | inl at ↦
             let one : h.event ≡ k.event = sym h.among.2 ∙ ap (λ n. get_or events n h.event) at ∙ get_or_default events k.among.0 h.event k.event k.among.1 ∙ k.among.2 in
-            one_of_key k.event a b (All-contains IsSaid events k.event said k.among) (subst (λ (e : Event). IsInstanceAmong events e a) one h.is).is k.is.is same
+            one_of_key k.event a b (All-contains IsSaid events k.event said k.among) (subst (λ (e : EventComponent). IsInstanceAmong events e a) one h.is).is k.is.is same
         | inr o ↦ elim o [
           | inl l ↦ absurd (at_places h.among.0 k.among.0 h.event k.event l k.among.1 h.among.2 k.among.2 a b h.is k.is same)
           | inr l ↦ absurd (at_places k.among.0 h.among.0 k.event h.event l h.among.1 k.among.2 h.among.2 b a k.is h.is (sym same))
@@ -97,44 +97,44 @@ module _ (events : List Event) (masters : MastersDiffer events) (overrides : Ove
 
   module _ (room : List ℕ) where
     -- one of the lists has it
-    pub of_lists : (es : List Event) (lists : List (List Booked)) (b : Booked) → AllZip (AreSingles room events) es lists → Contains (flat_map (λ own. own) lists) b
-        → (e : Event) × Contains es e × IsSingle room events e b
+    pub of_lists : (es : List EventComponent) (lists : List (List Instance)) (b : Instance) → AllZip (AreSingles room events) es lists → Contains (flat_map (λ own. own) lists) b
+        → (e : EventComponent) × Contains es e × IsSingle room events e b
     of_lists [] [] b z c = absurd (none_in b c)
     of_lists [] (l ∷ ls) b z c = absurd z
     of_lists (e ∷ es) [] b z c = absurd z
     of_lists (e ∷ es) (l ∷ ls) b z c = go (parts l (flat_map (λ own. own) ls) b c) (λ d. of_lists es ls b z.1 d)
       where
-        parts : (xs ys : List Booked) (y : Booked) → Contains (xs ++ ys) y → Contains xs y ⊎ Contains ys y
+        parts : (xs ys : List Instance) (y : Instance) → Contains (xs ++ ys) y → Contains xs y ⊎ Contains ys y
         parts [] ys y c = inr c
         parts (x ∷ xs) ys y (zero, w, e) = inl (zero, omega arith, e)
         parts (x ∷ xs) ys y (suc k, w, e) = elim (parts xs ys y (k, omega (arith, w), e)) [ inl c ↦ inl (later x y xs c) | inr c ↦ inr c ]
 
-        go : Contains l b ⊎ Contains (flat_map (λ own. own) ls) b → (Contains (flat_map (λ own. own) ls) b → (f : Event) × Contains es f × IsSingle room events f b)
-            → (f : Event) × Contains (e ∷ es) f × IsSingle room events f b
+        go : Contains l b ⊎ Contains (flat_map (λ own. own) ls) b → (Contains (flat_map (λ own. own) ls) b → (f : EventComponent) × Contains es f × IsSingle room events f b)
+            → (f : EventComponent) × Contains (e ∷ es) f × IsSingle room events f b
         go (inl c) rest = (e, (zero, omega arith, refl), All-contains (IsSingle room events e) l b z.0.each c)
         go (inr c) rest = let r = rest c in (r.0, later e r.0 es r.1, r.2)
 
-    pub in_lists : (es : List Event) (lists : List (List Booked)) (e : Event) (b : Booked) → AllZip (AreSingles room events) es lists → Contains es e → IsSingle room events e b
+    pub in_lists : (es : List EventComponent) (lists : List (List Instance)) (e : EventComponent) (b : Instance) → AllZip (AreSingles room events) es lists → Contains es e → IsSingle room events e b
         → Contains (flat_map (λ own. own) lists) b
     in_lists [] lists e b z c s = absurd (none_in e c)
     in_lists (x ∷ xs) [] e b z c s = absurd z
-    in_lists (x ∷ xs) (l ∷ ls) e b z (zero, w, is) s = left l (flat_map (λ own. own) ls) b (z.0.all b (subst (λ (y : Event). IsSingle room events y b) (sym is) s))
+    in_lists (x ∷ xs) (l ∷ ls) e b z (zero, w, is) s = left l (flat_map (λ own. own) ls) b (z.0.all b (subst (λ (y : EventComponent). IsSingle room events y b) (sym is) s))
       where
-        left : (xs ys : List Booked) (y : Booked) → Contains xs y → Contains (xs ++ ys) y
+        left : (xs ys : List Instance) (y : Instance) → Contains xs y → Contains (xs ++ ys) y
         left [] ys y c = absurd (none_in y c)
         left (x ∷ xs) ys y (zero, w, e) = (zero, omega arith, e)
         left (x ∷ xs) ys y (suc k, w, e) = later x y (xs ++ ys) (left xs ys y (k, omega (arith, w), e))
     in_lists (x ∷ xs) (l ∷ ls) e b z (suc k, w, is) s = right l (flat_map (λ own. own) ls) b (in_lists xs ls e b z.1 (k, omega (arith, w), is) s)
       where
-        right : (xs ys : List Booked) (y : Booked) → Contains ys y → Contains (xs ++ ys) y
+        right : (xs ys : List Instance) (y : Instance) → Contains ys y → Contains (xs ++ ys) y
         right [] ys y c = c
         right (x ∷ xs) ys y c = later x y (xs ++ ys) (right xs ys y c)
 
     -- in one list the keys differ
-    in_one : (e : Event) (l : List Booked) → AreSingles room events e l → HaveDifferentKeys l
+    in_one : (e : EventComponent) (l : List Instance) → AreSingles room events e l → HaveDifferentKeys l
     in_one e l h = go l h.each h.ordered
       where
-        differ : (a b : Booked) → IsSingle room events e a → IsSingle room events e b → ComesBefore a b → a.key ≡ b.key → ⊥
+        differ : (a b : Instance) → IsSingle room events e a → IsSingle room events e b → ComesBefore a b → a.key ≡ b.key → ⊥
         differ a b x y before same = by (of_both e) before
           where
             by : (e.recurrence ≡ None) ⊎ ((slot : ℤ) × (e.recurrence ≡ Some slot)) → ComesBefore a b → ⊥
@@ -143,7 +143,7 @@ module _ (events : List Event) (masters : MastersDiffer events) (overrides : Ove
             by (inr (slot, m)) (inl l) = let p = (override_alone e a slot m x.is.is).starts ∙ sym (override_alone e b slot m y.is.is).starts in omega (arith, ints, p, l)
             by o (inr (s, l)) = let p = ap (λ (key : Key). key.slot) same in omega (arith, ints, p, l)
 
-        go : (l : List Booked) → All (IsSingle room events e) l → AllPairs ComesBefore l → HaveDifferentKeys l
+        go : (l : List Instance) → All (IsSingle room events e) l → AllPairs ComesBefore l → HaveDifferentKeys l
         go [] each p = λ i j d l w. absurd (omega (arith, w))
         go (x ∷ xs) each p =
             cons_pairs (λ a b. a.key ≢ b.key) x xs
@@ -152,7 +152,7 @@ module _ (events : List Event) (masters : MastersDiffer events) (overrides : Ove
             (go xs (λ k d w. each (suc k) d (omega (arith, w))) (tail_pairs ComesBefore x xs p))
 
     -- and in all of them
-    pub lists_apart : (front es : List Event) (lists : List (List Booked)) → events ≡ front ++ es → AllZip (AreSingles room events) es lists → HaveDifferentKeys (flat_map (λ own. own) lists)
+    pub lists_apart : (front es : List EventComponent) (lists : List (List Instance)) → events ≡ front ++ es → AllZip (AreSingles room events) es lists → HaveDifferentKeys (flat_map (λ own. own) lists)
     lists_apart front [] [] whole z = λ i j d l w. absurd (omega (arith, w))
     lists_apart front [] (l ∷ ls) whole z = absurd z
     lists_apart front (e ∷ es) [] whole z = absurd z
@@ -165,15 +165,15 @@ module _ (events : List Event) (masters : MastersDiffer events) (overrides : Ove
         (ap (λ x. get_or x (length front) e) whole ∙ seam front (e ∷ es) (length front) 0 e (omega arith)) (ap (λ x. get_or x (length front + suc r.1.0) r.0) whole ∙ seam front (e ∷ es) (length front + suc r.1.0) (suc r.1.0) r.0 refl ∙ r.1.2)
         a b (All-contains (IsSingle room events e) l a z.0.each c).is r.2.is)
       where
-        seam : (xs ys : List Event) (i k : ℕ) (d : Event) → i ≡ length xs + k → get_or (xs ++ ys) i d ≡ get_or ys k d
+        seam : (xs ys : List EventComponent) (i k : ℕ) (d : EventComponent) → i ≡ length xs + k → get_or (xs ++ ys) i d ≡ get_or ys k d
         seam xs ys i k d e = get_or-append_right xs ys (length xs) i d refl (omega (arith, e)) ∙ ap (λ n. get_or ys n d) (omega (arith, e))
 
 -- ---- calendars
 
-all_said : (object : Tree) (events : List Event) → SayEvents object events → All IsSaid events
+all_said : (object : Tree) (events : List EventComponent) → SayEvents object events → All IsSaid events
 all_said object events z = All-from_recursion IsSaid events (go (vevents object) events z)
   where
-    go : (vs : List (List (List ℕ))) (es : List Event) → AllZip (SaysEvent object None) vs es → AllByRecursion IsSaid es
+    go : (vs : List (List (List ℕ))) (es : List EventComponent) → AllZip (SaysEventComponent object None) vs es → AllByRecursion IsSaid es
     go [] [] z = tt
     go [] (e ∷ es) z = absurd z
     go (v ∷ vs) [] z = absurd z
@@ -181,17 +181,17 @@ all_said object events z = All-from_recursion IsSaid events (go (vevents object)
 
 module _ (tree : OneTree) (one : OneEvent) (room octets : List ℕ) (all : Confirmed) (s : SpellsCalendar room octets all) where
   -- the octets say one list of events
-  same_as : {b : Booked} (h : IsConfirmedIn room octets b) → h.events ≡ s.says.events
+  same_as : {b : Instance} (h : IsConfirmedIn room octets b) → h.events ≡ s.says.events
   same_as h =
       let same : h.tree ≡ s.tree = tree 7 7 (logical_lines octets) h.tree s.tree h.object.spelled s.object.spelled in
       same_events one s.tree h.events s.says.events (subst (λ (t : Tree). SayEvents t h.events) same h.says) s.says.says
 
-  of_events : (b : Booked) → IsConfirmedIn room octets b → IsConfirmed room s.says.events b
-  of_events b h = subst (λ (es : List Event). IsConfirmed room es b) (same_as h) h.is
+  of_events : (b : Instance) → IsConfirmedIn room octets b → IsConfirmed room s.says.events b
+  of_events b h = subst (λ (es : List EventComponent). IsConfirmed room es b) (same_as h) h.is
 
-  pub single : (b : Booked) → Contains all.singles b → IsConfirmedIn room octets b
+  pub single : (b : Instance) → Contains all.singles b → IsConfirmedIn room octets b
   single b c =
-      let e = of_lists s.says.events s.says.masters s.says.overrides room s.says.events s.says.are.lists b s.says.are.each (subst (λ (l : List Booked). Contains l b) s.says.are.singles c) in
+      let e = of_lists s.says.events s.says.masters s.says.overrides room s.says.events s.says.are.lists b s.says.are.each (subst (λ (l : List Instance). Contains l b) s.says.are.singles c) in
       record {
         tree = s.tree;
         object = s.object;
@@ -201,22 +201,22 @@ module _ (tree : OneTree) (one : OneEvent) (room octets : List ℕ) (all : Confi
       }
 
   -- what holds of each confirmed instance of the calendar's events holds of each in the octets
-  for_each : (b : Booked) (p : Event → Type 0) → ((k : IsConfirmed room s.says.events b) → p k.event) → (h : IsConfirmedIn room octets b) → p h.is.event
+  for_each : (b : Instance) (p : EventComponent → Type 0) → ((k : IsConfirmed room s.says.events b) → p k.event) → (h : IsConfirmedIn room octets b) → p h.is.event
   for_each b p holds h =
-      subst (λ (es : List Event). (k : IsConfirmed room es b) → p k.event) (sym (same_as h)) holds h.is
+      subst (λ (es : List EventComponent). (k : IsConfirmed room es b) → p k.event) (sym (same_as h)) holds h.is
 
   -- one that its master's rule doesn't give is a single
-  left_over : (b : Booked) (h : IsConfirmedIn room octets b) → (IsOfSeries h.is.event b → ⊥) → Contains all.singles b
+  left_over : (b : Instance) (h : IsConfirmedIn room octets b) → (IsOfSeries h.is.event b → ⊥) → Contains all.singles b
   left_over b h =
       for_each b (λ e. (IsOfSeries e b → ⊥) → Contains all.singles b)
       (λ k apart.
-      subst (λ (l : List Booked). Contains l b) (sym s.says.are.singles)
+      subst (λ (l : List Instance). Contains l b) (sym s.says.are.singles)
       (in_lists s.says.events s.says.masters s.says.overrides room s.says.events s.says.are.lists k.event b s.says.are.each k.among (record { kept = k.kept; is = k.is; apart = apart })))
       h
 
   -- the master of a series
   record IsOf (series : Whole) : Type 0 where
-    master : Event
+    master : EventComponent
     among : Contains s.says.events master
     kept : is_kept room master ≡ true
     is : is_master master ≡ true
@@ -232,7 +232,7 @@ module _ (tree : OneTree) (one : OneEvent) (room octets : List ℕ) (all : Confi
       record { master = r.0; among = f.0; kept = q.0; is = q.1; rule = p.1; of = r.2 }
 
   -- what is of a series is confirmed
-  pub series_confirmed : (b : Booked) → IsInSeries all.series b → IsConfirmedIn room octets b
+  pub series_confirmed : (b : Instance) → IsInSeries all.series b → IsConfirmedIn room octets b
   series_confirmed b (series, c, h) =
       let m = master_of series c in
       record {
@@ -244,15 +244,15 @@ module _ (tree : OneTree) (one : OneEvent) (room octets : List ℕ) (all : Confi
       }
 
   -- and no single
-  pub no_single : (b : Booked) → Contains all.singles b → IsInSeries all.series b → ⊥
+  pub no_single : (b : Instance) → Contains all.singles b → IsInSeries all.series b → ⊥
   no_single b c (series, d, h) =
       let m = master_of series d in
       let x = of_its_series s.says.events m.master m.is series m.of m.rule b h in
-      let e = of_lists s.says.events s.says.masters s.says.overrides room s.says.events s.says.are.lists b s.says.are.each (subst (λ (l : List Booked). Contains l b) s.says.are.singles c) in
-      e.2.apart (subst (λ (f : Event). IsOfSeries f b) (one_event s.says.events s.says.masters s.says.overrides m.master e.0 m.among e.1 b x.0 e.2.is) x.1)
+      let e = of_lists s.says.events s.says.masters s.says.overrides room s.says.events s.says.are.lists b s.says.are.each (subst (λ (l : List Instance). Contains l b) s.says.are.singles c) in
+      e.2.apart (subst (λ (f : EventComponent). IsOfSeries f b) (one_event s.says.events s.says.masters s.says.overrides m.master e.0 m.among e.1 b x.0 e.2.is) x.1)
 
   -- one whose master's rule gives its start is of a series
-  in_series : (b : Booked) (h : IsConfirmedIn room octets b) → IsOfSeries h.is.event b → IsInSeries all.series b
+  in_series : (b : Instance) (h : IsConfirmedIn room octets b) → IsOfSeries h.is.event b → IsInSeries all.series b
   in_series b h =
       for_each b (λ e. IsOfSeries e b → IsInSeries all.series b)
       (λ k series.
@@ -263,12 +263,12 @@ module _ (tree : OneTree) (one : OneEvent) (room octets : List ℕ) (all : Confi
       h
 
   -- each other one is a single
-  pub other_single : (b : Booked) (h : IsConfirmedIn room octets b) → (IsInSeries all.series b → ⊥) → Contains all.singles b
+  pub other_single : (b : Instance) (h : IsConfirmedIn room octets b) → (IsInSeries all.series b → ⊥) → Contains all.singles b
   other_single b h none = left_over b h (λ series. none (in_series b h series))
 
-  pub all_single : all.series ≡ [] → (b : Booked) → IsConfirmedIn room octets b → Contains all.singles b
+  pub all_single : all.series ≡ [] → (b : Instance) → IsConfirmedIn room octets b → Contains all.singles b
   all_single none b h = other_single b h (λ x. none_in x.0 (subst (λ (l : List Whole). Contains l x.0) none x.1))
 
-  pub one_key : (a b : Booked) → IsConfirmedIn room octets a → IsConfirmedIn room octets b → a.key ≡ b.key → a ≡ b
+  pub one_key : (a b : Instance) → IsConfirmedIn room octets a → IsConfirmedIn room octets b → a.key ≡ b.key → a ≡ b
   one_key a b h k same =
       one_confirmed s.says.events s.says.masters s.says.overrides room (all_said s.tree s.says.events s.says.says) a b (of_events a h) (of_events b k) same

@@ -7,9 +7,9 @@ use Rattle.std.proofs.lemmas.Option.{same_Some}
 use Rattle.std.proofs.lemmas.List.{map-append, take_more, append-nil, get_or_default}
 use Rattle.std.proofs.lemmas.List.Elements.{filter_map-append}
 use Rattle.profile.specs.checker.Instances.{Key}
-use Rattle.profile.specs.events.Events.{Event, meeting_said}
+use Rattle.profile.specs.events.EventComponents.{EventComponent, meeting_said}
 use Rattle.profile.specs.events.Confirmed.{MastersDiffer, OverridesDiffer}
-use Rattle.cal_events.specs.Entries.{Meeting, Name}
+use Rattle.cal_events.specs.Entries.{MeetingName, Name}
 use Rattle.cal_events.specs.Names.{name_said, name_at}
 use Rattle.cal_events.specs.Calendars.{key_of, key_in}
 use Rattle.cal_events.specs.Drafts.{master_key, override_key, master_keys, override_keys}
@@ -41,24 +41,24 @@ some_there (Some x) h = (x, refl)
 -- ---- those of a list of events
 
 module _ (f : Name → Option Key) where
-  keys_of : List Event → List Key
+  keys_of : List EventComponent → List Key
   keys_of events = filter_map f (map name_said events)
 
   -- a key is that of an event
-  pub key_there : (events : List Event) (k : Key) → Contains (filter_map f (map name_said events)) k → (o : Event) × Contains events o × (f (name_said o) ≡ Some k)
+  pub key_there : (events : List EventComponent) (k : Key) → Contains (filter_map f (map name_said events)) k → (o : EventComponent) × Contains events o × (f (name_said o) ≡ Some k)
   key_there [] k c = absurd (none_in k c)
   key_there (x ∷ xs) k c = go (f (name_said x)) refl c (λ d. key_there xs k d)
     where
-      pass : (o : Event) × Contains xs o × (f (name_said o) ≡ Some k) → (o : Event) × Contains (x ∷ xs) o × (f (name_said o) ≡ Some k)
+      pass : (o : EventComponent) × Contains xs o × (f (name_said o) ≡ Some k) → (o : EventComponent) × Contains (x ∷ xs) o × (f (name_said o) ≡ Some k)
       pass (o, c, h) = (o, later x o xs c, h)
 
       go : (r : Option Key) → f (name_said x) ≡ r → Contains (cons_option r (filter_map f (map name_said xs))) k
-          → (Contains (filter_map f (map name_said xs)) k → (o : Event) × Contains xs o × (f (name_said o) ≡ Some k)) → (o : Event) × Contains (x ∷ xs) o × (f (name_said o) ≡ Some k)
+          → (Contains (filter_map f (map name_said xs)) k → (o : EventComponent) × Contains xs o × (f (name_said o) ≡ Some k)) → (o : EventComponent) × Contains (x ∷ xs) o × (f (name_said o) ≡ Some k)
       go None e c rest = pass (rest c)
       go (Some y) e (zero, w, is) rest = (x, (zero, omega arith, refl), e ∙ ap Some is)
       go (Some y) e (suc j, w, is) rest = pass (rest (j, omega (arith, w), is))
 
-  pub there_key : (events : List Event) (o : Event) (k : Key) → Contains events o → f (name_said o) ≡ Some k → Contains (filter_map f (map name_said events)) k
+  pub there_key : (events : List EventComponent) (o : EventComponent) (k : Key) → Contains events o → f (name_said o) ≡ Some k → Contains (filter_map f (map name_said events)) k
   there_key [] o k c h = absurd (none_in o c)
   there_key (x ∷ xs) o k (zero, w, e) h = subst (λ r. Contains (cons_option r (filter_map f (map name_said xs))) k) (sym (ap (λ y. f (name_said y)) e ∙ h)) (zero, omega arith, refl)
   there_key (x ∷ xs) o k (suc j, w, e) h = go (f (name_said x)) (there_key xs o k (j, omega (arith, w), e) h)
@@ -68,8 +68,8 @@ module _ (f : Name → Option Key) where
       go (Some y) c = later y k (filter_map f (map name_said xs)) c
 
   -- no two keys are one
-  pub apart_there : (events : List Event) → AllPairs ◌≢◌ (filter_map f (map name_said events))
-      → (i j : ℕ) (d : Event) (a b : Key) → i < j → j < length events → f (name_said (get_or events i d)) ≡ Some a → f (name_said (get_or events j d)) ≡ Some b → a ≢ b
+  pub apart_there : (events : List EventComponent) → AllPairs ◌≢◌ (filter_map f (map name_said events))
+      → (i j : ℕ) (d : EventComponent) (a b : Key) → i < j → j < length events → f (name_said (get_or events i d)) ≡ Some a → f (name_said (get_or events j d)) ≡ Some b → a ≢ b
   apart_there [] p i j d a b l w h k = absurd (omega (arith, w))
   apart_there (x ∷ xs) p i zero d a b l w h k = absurd (omega (arith, l))
   apart_there (x ∷ xs) p zero (suc j) d a b l w h k =
@@ -81,8 +81,8 @@ module _ (f : Name → Option Key) where
       go None p = p
       go (Some y) p = tail_pairs ◌≢◌ y (filter_map f (map name_said xs)) p
 
-  pub there_apart : (events : List Event)
-      → ((i j : ℕ) (d : Event) (a b : Key) → i < j → j < length events → f (name_said (get_or events i d)) ≡ Some a → f (name_said (get_or events j d)) ≡ Some b → a ≢ b)
+  pub there_apart : (events : List EventComponent)
+      → ((i j : ℕ) (d : EventComponent) (a b : Key) → i < j → j < length events → f (name_said (get_or events i d)) ≡ Some a → f (name_said (get_or events j d)) ≡ Some b → a ≢ b)
       → AllPairs ◌≢◌ (filter_map f (map name_said events))
   there_apart [] h = λ i j d l w. absurd (omega (arith, w))
   there_apart (x ∷ xs) h = go (f (name_said x)) refl (there_apart xs (λ i j d a b l w. h (suc i) (suc j) d a b (omega (arith, l)) (omega (arith, w))))
@@ -97,30 +97,30 @@ module _ (f : Name → Option Key) where
 
 -- ---- masters, and overrides
 
-meeting_same : (a b : Meeting) (s t : ℤ) → key_in a s ≡ key_in b t → a ≡ b
+meeting_same : (a b : MeetingName) (s t : ℤ) → key_in a s ≡ key_in b t → a ≡ b
 meeting_same a b s t e = ap (λ (k : Key). (k.organiser, k.uid)) e
 
-master_said : (x : Event) (k : Key) → master_key (name_said x) ≡ Some k → (x.recurrence ≡ None) × (k ≡ key_in (meeting_said x) (pos 0))
+master_said : (x : EventComponent) (k : Key) → master_key (name_said x) ≡ Some k → (x.recurrence ≡ None) × (k ≡ key_in (meeting_said x) (pos 0))
 master_said x k h = go x.recurrence refl h
   where
     go : (r : Option ℤ) → x.recurrence ≡ r → master_key (meeting_said x, r) ≡ Some k → (x.recurrence ≡ None) × (k ≡ key_in (meeting_said x) (pos 0))
     go None e h = (e, sym (same_Some _ _ h))
     go (Some t) e h = cc
 
-override_said : (x : Event) (k : Key) → override_key (name_said x) ≡ Some k → (slot : ℤ) × (x.recurrence ≡ Some slot) × (k ≡ key_in (meeting_said x) slot)
+override_said : (x : EventComponent) (k : Key) → override_key (name_said x) ≡ Some k → (slot : ℤ) × (x.recurrence ≡ Some slot) × (k ≡ key_in (meeting_said x) slot)
 override_said x k h = go x.recurrence refl h
   where
     go : (r : Option ℤ) → x.recurrence ≡ r → override_key (meeting_said x, r) ≡ Some k → (slot : ℤ) × (x.recurrence ≡ Some slot) × (k ≡ key_in (meeting_said x) slot)
     go None e h = cc
     go (Some t) e h = (t, e, sym (same_Some _ _ h))
 
-said_override : (x : Event) (slot : ℤ) → x.recurrence ≡ Some slot → override_key (name_said x) ≡ Some (key_in (meeting_said x) slot)
+said_override : (x : EventComponent) (slot : ℤ) → x.recurrence ≡ Some slot → override_key (name_said x) ≡ Some (key_in (meeting_said x) slot)
 said_override x slot e = ap (λ r. override_key (meeting_said x, r)) e
 
-said_master : (x : Event) → x.recurrence ≡ None → master_key (name_said x) ≡ Some (key_in (meeting_said x) (pos 0))
+said_master : (x : EventComponent) → x.recurrence ≡ None → master_key (name_said x) ≡ Some (key_in (meeting_said x) (pos 0))
 said_master x e = ap (λ r. master_key (meeting_said x, r)) e
 
-module _ (events : List Event) where
+module _ (events : List EventComponent) where
   pub masters_differ : AllPairs ◌≢◌ (filter_map master_key (map name_said events)) → MastersDiffer events
   masters_differ p i j d l w m n same =
       apart_there master_key events p i j d _ _ l w (said_master (get_or events i d) m) (said_master (get_or events j d) n) (ap (λ x. key_in x (pos 0)) same)
@@ -145,14 +145,14 @@ module _ (events : List Event) where
       h i j d l w x.0 x.1 (y.1 ∙ ap Some (sym (ap (λ (k : Key). k.slot) e))) (meeting_same _ _ _ _ e))
 
   -- an override replaces the instance of a key
-  pub replaced_key : (k : Key) → Contains (filter_map override_key (map name_said events)) k → (o : Event) × Contains events o × ((slot : ℤ) × (o.recurrence ≡ Some slot) × (k ≡ key_in (meeting_said o) slot))
+  pub replaced_key : (k : Key) → Contains (filter_map override_key (map name_said events)) k → (o : EventComponent) × Contains events o × ((slot : ℤ) × (o.recurrence ≡ Some slot) × (k ≡ key_in (meeting_said o) slot))
   replaced_key k c = let t = key_there override_key events k c in (t.0, t.1, override_said t.0 k t.2)
 
-  pub key_replaced : (o : Event) (slot : ℤ) → Contains events o → o.recurrence ≡ Some slot → Contains (filter_map override_key (map name_said events)) (key_in (meeting_said o) slot)
+  pub key_replaced : (o : EventComponent) (slot : ℤ) → Contains events o → o.recurrence ≡ Some slot → Contains (filter_map override_key (map name_said events)) (key_in (meeting_said o) slot)
   key_replaced o slot c e = there_key override_key events o (key_in (meeting_said o) slot) c (said_override o slot e)
 
 -- the same of the entries
-module _ (entries : List Name) (events : List Event) (e : entries ≡ map name_said events) where
+module _ (entries : List Name) (events : List EventComponent) (e : entries ≡ map name_said events) where
   pub entry_overrides : override_keys entries ≡ filter_map override_key (map name_said events)
   entry_overrides = ap (filter_map override_key) e
 

@@ -6,7 +6,7 @@ use Rattle.std.proofs.lemmas.Int.{ints}
 use Rattle.profile.specs.series.Days.{days_before_year, days_of_months}
 use Rattle.profile.specs.text.Values.{SpellsStamp, SpellsDuration, unescaped}
 use Rattle.profile.specs.text.Trees.{Tree}
-use Rattle.profile.specs.events.Events.{Event, Accepted, Declined, Request, SaysEvent, EventFault, is_confirmed, no_organiser}
+use Rattle.profile.specs.events.EventComponents.{EventComponent, Accepted, Declined, Request, SaysEventComponent, EventComponentFault, has_accepted, no_organiser}
 use Rattle.profile.specs.events.Properties.{IsDateText, TimeFault}
 use Rattle.profile.specs.events.ZonedTimes.{SaysNoStart}
 use Rattle.cal_events.proofs.Meanings.{utc_means}
@@ -59,7 +59,7 @@ ninety_minutes = (
 lines : List (List ℕ)
 lines = codes "uid:a" ∷ codes "DTSTART;VALUE=date-time:20250310T090000Z" ∷ codes "DURATION:PT90M" ∷ codes "ATTENDEE;PARTSTAT=Accepted:MAILTO:Room@example.com" ∷ codes "ATTENDEE;PARTSTAT=DECLINED:mailto:room@example.com" ∷ []
 
-said : Event
+said : EventComponent
 said = record {
   uid = codes "a";
   organiser = None;
@@ -79,7 +79,7 @@ no_need : {A : Type 0} → false ≡ true → A
 no_need h = absurd (true≢false (sym h))
 
 -- the lines of a calendar's VEVENT say this event, in whatever object they are
-say : (object : Tree) → SaysEvent object None lines said
+say : (object : Tree) → SaysEventComponent object None lines said
 unfolding lines said unescaped
 say object = record {
   uid = record { line = Some (codes "uid:a"); once = refl; present = λ _. refl; is = (refl, (omega arith, omega arith)) };
@@ -116,12 +116,12 @@ say object = record {
 }
 
 -- the first answer counts: the room has accepted, and the event holds it for ninety minutes
-accepts : is_confirmed (codes "mailto:room@example.com") said ≡ true
+accepts : has_accepted (codes "mailto:room@example.com") said ≡ true
 unfolding said
 accepts = refl
 
 -- a message lacks an organiser there
-lacks : (object : Tree) → EventFault object (Some Request) lines 63
+lacks : (object : Tree) → EventComponentFault object (Some Request) lines 63
 unfolding lines
 lacks object = no_organiser refl refl
 

@@ -17,7 +17,7 @@ use Rattle.cal_events.specs.declared.component.Attendee.{Attendee}
 use Rattle.profile.specs.text.Lines.{line_value}
 use Rattle.profile.specs.text.Values.{SpellsDate, SpellsLocal, SpellsStamp, SpellsSequence, SpellsDuration, SpellsLong, IsUid, unescaped}
 use Rattle.profile.specs.text.Trees.{Tree}
-use Rattle.profile.specs.events.Events.{SaysSequence, EventFault, IsAttendee, bad_attendee, Method, first_text, summary_of}
+use Rattle.profile.specs.events.EventComponents.{SaysSequence, EventComponentFault, IsAttendee, bad_attendee, Method, first_text, summary_of}
 use Rattle.profile.specs.events.Properties.{is_of, lines_named, OccursAtMostOnce, SomeLine, Says, IsUidLine, TimeKind, DateTime, time_kind, IsDateText, IsLocalText, KindFault, IsNegativeOrLong, IsNoAddress}
 use Rattle.cal_events.specs.Events.{attendee_of, IsTime}
 use Rattle.ical_tree.proofs.OneLine.{the_line}
@@ -125,10 +125,10 @@ attendee_pushed all left rest done line old new a e s h zip n is = (
 
 pub attendee_fault : (object : Tree) (m : Option Method) (all left rest done : List (List ℕ)) (line : List ℕ) (f : Fault)
     → lines_named (codes "ATTENDEE") all ≡ done ++ lines_named (codes "ATTENDEE") left → left ≡ line ∷ rest → is_of (codes "ATTENDEE") line ≡ true
-    → RefusesBy (λ n. (n ≡ 15) × IsNoAddress line) f → RefusesBy (EventFault object m all) f
+    → RefusesBy (λ n. (n ≡ 15) × IsNoAddress line) f → RefusesBy (EventComponentFault object m all) f
 attendee_fault object m all left rest done line Memory e s h w = tt
 attendee_fault object m all left rest done line (Refused r) e s h w =
-    subst (EventFault object m all) (sym w.0)
+    subst (EventComponentFault object m all) (sym w.0)
     (bad_attendee (line, in_rest done (lines_named (codes "ATTENDEE") rest) (lines_named (codes "ATTENDEE") all) line (named_next (codes "ATTENDEE") all left rest done line e s h), w.1))
 
 -- the first element of a kind, from a place on, where the one that is there is none

@@ -8,10 +8,10 @@ use Rattle.std.proofs.lemmas.Option.{same_Some}
 use Rattle.std.proofs.lemmas.List.Elements.{All-nil, All-cons}
 use Rattle.profile.specs.series.Days.{days_before_year, days_of_months}
 use Rattle.profile.specs.text.Values.{WritesStamp}
-use Rattle.profile.specs.checker.Instances.{Key, Booked}
+use Rattle.profile.specs.checker.Instances.{Key, Instance}
 use Rattle.profile.specs.events.ZonedTimes.{EventTimes}
+use Rattle.profile.specs.events.EventComponents.{EventComponent}
 use Rattle.profile.specs.events.Events.{Event}
-use Rattle.profile.specs.events.Meetings.{Meeting}
 use Rattle.profile.specs.events.Starts.{EndsAt, IsStart, IsInstance, IsOfMaster, IsOfOverride, ComesBefore, AreFirst, key_at}
 use Rattle.profile.specs.events.Expanding.{IsInstanceLine}
 use Rattle.cal_events.proofs.OneInstance.{booked_same}
@@ -25,7 +25,7 @@ second = pos 1_735_808_400
 abbrev nine_seconds_from : ℤ → EventTimes
 nine_seconds_from start = record { zone = None; local = start; start = start; length = record { days = 0; seconds = 9 } }
 
-abbrev master : Event
+abbrev master : EventComponent
 master = record {
   uid = codes "a";
   organiser = None;
@@ -41,7 +41,7 @@ master = record {
   attendees = [];
 }
 
-abbrev moved : Event
+abbrev moved : EventComponent
 moved = record {
   uid = codes "a";
   organiser = None;
@@ -57,19 +57,19 @@ moved = record {
   attendees = [];
 }
 
-abbrev meeting : Meeting
+abbrev meeting : Event
 meeting = record { master = Some master; overrides = moved ∷ [] }
 
-abbrev instance : Booked
+abbrev instance : Instance
 instance = record { key = record { organiser = []; uid = codes "a"; slot = first }; start = second; end = pos 1_735_808_409 }
 
 it_is : IsInstance meeting instance
 it_is = inr (record { override = moved; is = (0, omega arith, refl); recurrence = refl; key = refl; starts = refl; ends = (second, inl (refl, refl), refl) })
 
 -- the other one comes after it, since its slot is later
-other_later : (b : Booked) → IsOfMaster meeting b → ComesBefore instance b
+other_later : (b : Instance) → IsOfMaster meeting b → ComesBefore instance b
 other_later b h =
-    let starts = subst (λ (m : Event). IsStart m (moved ∷ []) b.start) (sym (same_Some master h.master h.is)) h.starts in
+    let starts = subst (λ (m : EventComponent). IsStart m (moved ∷ []) b.start) (sym (same_Some master h.master h.is)) h.starts in
     go (ap (λ (k : Key). k.slot) h.key) starts starts.given
   where
     go : b.key.slot ≡ b.start → IsStart master (moved ∷ []) b.start → (b.start ≡ first) ⊎ Contains (second ∷ []) b.start → ComesBefore instance b
@@ -77,22 +77,22 @@ other_later b h =
     go slot starts (inr (zero, w, e)) = inr (e, omega (arith, ints, e, slot))
     go slot starts (inr (suc k, w, e)) = absurd (omega (arith, w))
 
-ends_so : (b : Booked) → b.start ≡ second → EndsAt (nine_seconds_from second) b.start b.end → pos 1_735_808_409 ≡ b.end
+ends_so : (b : Instance) → b.start ≡ second → EndsAt (nine_seconds_from second) b.start b.end → pos 1_735_808_409 ≡ b.end
 ends_so b e (later, inl (z, f), g) = omega (arith, ints, e, f, g)
 ends_so b e (later, inr (some, f), g) = absurd (omega (arith, some))
 
-no_other : (b : Booked) → IsOfOverride meeting b → instance ≡ b
+no_other : (b : Instance) → IsOfOverride meeting b → instance ≡ b
 no_other b h = go h.is
   where
     go : Contains (moved ∷ []) h.override → instance ≡ b
     go (zero, w, e) =
-        let slot : first ≡ b.key.slot = same_Some first b.key.slot (ap (λ (x : Event). x.recurrence) e ∙ h.recurrence) in
-        let start : b.start ≡ second = h.starts ∙ ap (λ (x : Event). x.times.start) (sym e) in
+        let slot : first ≡ b.key.slot = same_Some first b.key.slot (ap (λ (x : EventComponent). x.recurrence) e ∙ h.recurrence) in
+        let start : b.start ≡ second = h.starts ∙ ap (λ (x : EventComponent). x.times.start) (sym e) in
         booked_same instance b
-        (ap (λ t. record { organiser = []; uid = codes "a"; slot = t }) slot ∙ ap (λ (x : Event). key_of_it x) e ∙ sym h.key) (sym start)
-        (ends_so b start (subst (λ (x : Event). EndsAt x.times b.start b.end) (sym e) h.ends))
+        (ap (λ t. record { organiser = []; uid = codes "a"; slot = t }) slot ∙ ap (λ (x : EventComponent). key_of_it x) e ∙ sym h.key) (sym start)
+        (ends_so b start (subst (λ (x : EventComponent). EndsAt x.times b.start b.end) (sym e) h.ends))
       where
-        key_of_it : Event → Key
+        key_of_it : EventComponent → Key
         key_of_it x = key_at x b.key.slot
     go (suc k, w, e) = absurd (omega (arith, w))
 

@@ -13,11 +13,11 @@ use Rattle.std.proofs.lemmas.List.Elements.{Contains-append_left, Contains-appen
 use Rattle.std.proofs.lemmas.List.Folds.{Any-from_list_any, list_any-from_Any}
 use Rattle.std.proofs.lemmas.List.Sorted.{Contains-permutation, IsPermutation-sym}
 use Rattle.profile.specs.checker.Instances.{horizon}
-use Rattle.profile.specs.events.Events.{Event}
-use Rattle.cal_events.specs.Meetings.{IsNamed, instants_said}
+use Rattle.profile.specs.events.EventComponents.{EventComponent as SaidComponent}
+use Rattle.cal_events.specs.Meetings.{IsInEventDates, instants_said}
 use Rattle.cal_events.specs.declared.component.EventComponent.{EventComponent}
 use Rattle.cal_events.specs.declared.instances.Bound.{Bound}
-use Rattle.cal_events.specs.Ordered.{IsFirstFrom, HasInstant, Hides, Adds, AreStartsOf}
+use Rattle.cal_events.specs.Ordered.{IsFirstFrom, HasInstant, Hides, AddsStarts, AreStartsOf}
 use Rattle.cal_events.specs.Instances.{IsAfter, IsWanted, IsLeast}
 
 -- ---- one of them is this one
@@ -48,7 +48,7 @@ of_some [] t (k, w, e) = absurd (omega (arith, w))
 of_some (x ∷ xs) t (zero, w, e) = (0, omega arith, same_Some x t e)
 of_some (x ∷ xs) t (suc k, w, e) = let r = of_some xs t (k, omega (arith, w), e) in (suc r.0, omega (arith, r.1), r.2)
 
-pub hides_made : (master : Event) (overrides : List Event) (instants hidden : List ℤ) → map Some instants ≡ instants_said overrides → IsPermutation (instants ++ master.exceptions) hidden → Hides master overrides hidden
+pub hides_made : (master : SaidComponent) (overrides : List SaidComponent) (instants hidden : List ℤ) → map Some instants ≡ instants_said overrides → IsPermutation (instants ++ master.exceptions) hidden → Hides master overrides hidden
 hides_made master overrides instants hidden said same t = (
   (λ none. (
     (λ c. none (Contains-permutation (instants ++ master.exceptions) hidden t same (Contains-append_right instants master.exceptions t c))),
@@ -61,7 +61,7 @@ hides_made master overrides instants hidden said same t = (
 )
 
 -- an instant that isn't before the bound is wanted where it is a start
-pub wanted_by : (master : Event) (overrides : List Event) (hidden : List ℤ) (bound : Bound) (t : ℤ) → Hides master overrides hidden → IsAfter bound t t → (IsNamed t × (Contains hidden t → ⊥)) ↔ IsWanted master overrides bound t
+pub wanted_by : (master : SaidComponent) (overrides : List SaidComponent) (hidden : List ℤ) (bound : Bound) (t : ℤ) → Hides master overrides hidden → IsAfter bound t t → (IsInEventDates t × (Contains hidden t → ⊥)) ↔ IsWanted master overrides bound t
 wanted_by master overrides hidden bound t hides after = (
   (λ h. let x = (hides t).0 h.1 in record { after = after; in_dates = h.0; not_excepted = x.0; not_overridden = x.1 }),
   λ w. (w.in_dates, (hides t).1 (w.not_excepted, w.not_overridden)),
@@ -69,7 +69,7 @@ wanted_by master overrides hidden bound t hides after = (
 
 -- ---- those that are starts
 
-pub adds_made : (master : Event) (overrides : List Event) (hidden added : List ℤ) → Hides master overrides hidden → AreStartsOf master.additions hidden added → Adds master overrides added
+pub adds_made : (master : SaidComponent) (overrides : List SaidComponent) (hidden added : List ℤ) → Hides master overrides hidden → AreStartsOf master.additions hidden added → AddsStarts master overrides added
 adds_made master overrides hidden added hides are t = (
   (λ h.
       let x = (are t).0 (has_at added t h) in
@@ -79,7 +79,7 @@ adds_made master overrides hidden added hides are t = (
 )
 
 -- the first of them is the first that is wanted
-pub first_wanted : (master : Event) (overrides : List Event) (added : List ℤ) (bound : Bound) (from : ℤ) (found : Option ℤ) → Adds master overrides added
+pub first_wanted : (master : SaidComponent) (overrides : List SaidComponent) (added : List ℤ) (bound : Bound) (from : ℤ) (found : Option ℤ) → AddsStarts master overrides added
     → ((t : ℤ) → t <ℤ horizon → IsAfter bound t t ↔ (from ≤ℤ t)) → IsFirstFrom added from found → IsLeast (λ t. Contains master.additions t × IsWanted master overrides bound t) found
 first_wanted master overrides added bound from None adds after h = λ t c.
     h t (has_at added t ((adds t).1 (has_from master.additions t c.0, c.1.in_dates, c.1.not_excepted, c.1.not_overridden))) ((after t c.1.in_dates.1).0 c.1.after)

@@ -7,37 +7,37 @@ use Rattle.std.proofs.lemmas.Int.{ints}
 use Rattle.std.proofs.lemmas.List.{take_more}
 use Rattle.std.proofs.lemmas.List.Elements.{Contains-append_left, Contains-push, Contains-push_cases}
 use Rattle.std.proofs.lemmas.Bool.Decides.{nat_tests}
-use Rattle.profile.specs.series.Rules.{Parts, is_rule_day, is_counted, IsNextDay, NoDayFrom}
+use Rattle.profile.specs.series.Rules.{Rule, is_rule_day, is_counted, IsNextDay, NoDayFrom}
 use Rattle.profile.specs.series.Zones.{Zone, Means, IsOneMeaning, IsBounds, local_time}
-use Rattle.profile.specs.checker.Instances.{Key, Booked, horizon}
+use Rattle.profile.specs.checker.Instances.{Key, Instance, horizon}
 use Rattle.profile.specs.events.Properties.{first_second}
 use Rattle.profile.specs.events.ZonedTimes.{clock_of}
 use Rattle.profile.specs.events.EventRules.{IsOnDay}
-use Rattle.profile.specs.events.Events.{Event}
+use Rattle.profile.specs.events.EventComponents.{EventComponent as SaidComponent}
 use Rattle.profile.specs.events.Starts.{IsGiven, IsRuleStart, IsOverridden, IsStart, IsInstance, ComesBefore, EndsAt, key_at}
-use Rattle.cal_events.specs.Events.{event_of}
+use Rattle.cal_events.specs.Events.{component_of}
 use Rattle.cal_events.specs.SaidMeetings.{said_meeting}
 use Rattle.cal_events.specs.declared.event.Event as declared
 use Rattle.cal_events.specs.declared.component.EventComponent.{EventComponent}
 use Rattle.cal_events.specs.declared.rule_days.RuleDays.{RuleDays}
 use Rattle.cal_events.specs.declared.instances.Bound.{Bound}
-use Rattle.cal_events.specs.declared.instances.Place.{Place}
-use Rattle.cal_events.specs.Instances.{IsAfter, IsBefore, IsAscending, IsWanted, NoneBefore, IsLeast, lesser, IsMovedTo, IsSoonest, IsSooner, IsPastSlot, HasPassed, IsHeldAt, IsHeld, IsAt, own_place}
+use Rattle.cal_events.specs.declared.instances.InstancePlace.{InstancePlace}
+use Rattle.cal_events.specs.Instances.{IsAfter, IsBefore, IsAscending, IsWanted, NoneBefore, IsLeast, lesser, IsMovedTo, IsSoonest, IsSooner, IsPastSlot, HasPassed, IsHeldAt, IsHeld, IsAtPlace, own_place}
 
 -- ---- overrides
 
-pub over_at : (os : List EventComponent) (t : ℤ) (k : ℕ) (d : EventComponent) → k < length os → (get_or os k d).recurrence ≡ Some t → IsOverridden (map event_of os) t
+pub over_at : (os : List EventComponent) (t : ℤ) (k : ℕ) (d : EventComponent) → k < length os → (get_or os k d).recurrence ≡ Some t → IsOverridden (map component_of os) t
 over_at [] t k d w e = absurd (omega (arith, w))
 over_at (o ∷ os) t zero d w e = (0, omega arith, e)
 over_at (o ∷ os) t (suc k) d w e = let c = over_at os t k d (omega (arith, w)) e in (suc c.0, omega (arith, c.1), c.2)
 
-pub none_over : (os : List EventComponent) (t : ℤ) → ((k : ℕ) (d : EventComponent) → k < length os → (get_or os k d).recurrence ≡ Some t → ⊥) → IsOverridden (map event_of os) t → ⊥
+pub none_over : (os : List EventComponent) (t : ℤ) → ((k : ℕ) (d : EventComponent) → k < length os → (get_or os k d).recurrence ≡ Some t → ⊥) → IsOverridden (map component_of os) t → ⊥
 none_over [] t h (k, w, e) = absurd (omega (arith, w))
 none_over (o ∷ os) t h (zero, w, e) = h 0 o (omega arith) e
 none_over (o ∷ os) t h (suc k, w, e) = none_over os t (λ j d l. h (suc j) d (omega (arith, l))) (k, omega (arith, w), e)
 
 -- an instant that passes all tests but the last is wanted where that says no
-pub wanted_unless : (master : Event) (overrides : List Event) (bound : Bound) (t : ℤ) (xs : List ℤ) (o : Bool) → IsAfter bound t t → (first_second ≤ℤ t) × (t <ℤ horizon) → xs ≡ master.exceptions
+pub wanted_unless : (master : SaidComponent) (overrides : List SaidComponent) (bound : Bound) (t : ℤ) (xs : List ℤ) (o : Bool) → IsAfter bound t t → (first_second ≤ℤ t) × (t <ℤ horizon) → xs ≡ master.exceptions
     → (Contains xs t → ⊥) → (IsTrue o ↔ IsOverridden overrides t) → IsTrue (not o) ↔ IsWanted master overrides bound t
 wanted_unless master overrides bound t xs true after dates e none h = ((λ x. absurd (false≢true x)), λ w. absurd (w.not_overridden (h.0 refl)))
 wanted_unless master overrides bound t xs false after dates e none h = (
@@ -95,7 +95,7 @@ least_whole P xs k a w h = subst (λ (l : List ℤ). IsLeast (λ t. Contains l t
 
 -- ---- the days of a rule
 
-pub last_of_rule : (r : Parts) (n : ℕ) → is_rule_day r n ≡ true → n ≤ 3_652_424
+pub last_of_rule : (r : Rule) (n : ℕ) → is_rule_day r n ≡ true → n ≤ 3_652_424
 unfolding is_rule_day is_counted
 last_of_rule r n h = grind (arith, nat_tests)
 
@@ -103,7 +103,7 @@ last_of_rule r n h = grind (arith, nat_tests)
 pub one_second : (local : ℤ) (a b s t : ℕ) → IsOnDay local a s → IsOnDay local b t → s ≡ t
 one_second local a b s t (p, e) (q, f) = omega (arith, ints, e, f, p, q)
 
-module _ (master : Event) (overrides : List Event) (bound : Bound) (rule : Parts) (is : master.rule ≡ Some rule) (one : IsOneMeaning (clock_of master.times.zone))
+module _ (master : SaidComponent) (overrides : List SaidComponent) (bound : Bound) (rule : Rule) (is : master.rule ≡ Some rule) (one : IsOneMeaning (clock_of master.times.zone))
     (first second : ℕ) (on : IsOnDay master.times.local first second) (from : ℕ) (none : NoneBefore master overrides bound from) where
   abbrev zone : Zone
   zone = clock_of master.times.zone
@@ -123,7 +123,7 @@ module _ (master : Event) (overrides : List Event) (bound : Bound) (rule : Parts
       → NoneBefore master overrides bound (found + 1)
   none_through found next start means not other e a s n o lt holds t m w =
       let same : other ≡ rule = same_Some other rule (sym e ∙ is) in
-      let holds' : is_rule_day rule n ≡ true = subst (λ (r : Parts). is_rule_day r n ≡ true) same holds in
+      let holds' : is_rule_day rule n ≡ true = subst (λ (r : Rule). is_rule_day r n ≡ true) same holds in
       let m' : Means zone (local_time n second) t = subst (λ (x : ℕ). Means zone (local_time n x) t) (one_second master.times.local a first s second o on) m in
       elim (cases_order n found) [
         | inl is_it ↦ not (subst (IsWanted master overrides bound) (one (local_time found second) t start (subst (λ (x : ℕ). Means zone (local_time x second) t) is_it m') means) w)
@@ -133,17 +133,17 @@ module _ (master : Event) (overrides : List Event) (bound : Bound) (rule : Parts
   pub none_up_to : (found : ℕ) → IsNextDay rule from found → NoneBefore master overrides bound found
   none_up_to found next other e a s n o lt holds t m w =
       let same : other ≡ rule = same_Some other rule (sym e ∙ is) in
-      none_earlier found next n lt (subst (λ (r : Parts). is_rule_day r n ≡ true) same holds) t
+      none_earlier found next n lt (subst (λ (r : Rule). is_rule_day r n ≡ true) same holds) t
       (subst (λ (x : ℕ). Means zone (local_time n x) t) (one_second master.times.local a first s second o on) m) w
 
   -- what the rule gives, on which day
   given : (t : ℤ) → IsGiven master.times master.rule t → IsRuleStart master.times rule t
-  given t g = subst (λ (r : Option Parts). IsGiven master.times r t) is g
+  given t g = subst (λ (r : Option Rule). IsGiven master.times r t) is g
 
   pub first_of_rule : IsAscending zone → (found : ℕ) → IsNextDay rule from found → (start : ℤ) → Means zone (local_time found second) start → IsWanted master overrides bound start
       → IsLeast (λ t. IsGiven master.times master.rule t × IsWanted master overrides bound t) (Some start)
   first_of_rule up found next start means w = (
-    (subst (λ (r : Option Parts). IsGiven master.times r start) (sym is) (record { first = first; second = second; on = on; day = found; listed = next.holds; means = means }), w),
+    (subst (λ (r : Option Rule). IsGiven master.times r start) (sym is) (record { first = first; second = second; on = on; day = found; listed = next.holds; means = means }), w),
     λ u h.
         let g = given u h.0 in
         let m : Means zone (local_time g.day second) u = subst (λ (x : ℕ). Means zone (local_time g.day x) u) (one_second master.times.local g.first first g.second second g.on on) g.means in
@@ -166,14 +166,14 @@ module _ (master : Event) (overrides : List Event) (bound : Bound) (rule : Parts
 
 -- ---- the place that comes first
 
-before_trans : (a b c : Place) → IsBefore a b → IsBefore b c → IsBefore a c
+before_trans : (a b c : InstancePlace) → IsBefore a b → IsBefore b c → IsBefore a c
 before_trans a b c (inl p) (inl q) = inl (omega (arith, ints))
 before_trans a b c (inl p) (inr q) = inl (omega (arith, ints, q.0))
 before_trans a b c (inr p) (inl q) = inl (omega (arith, ints, p.0))
 before_trans a b c (inr p) (inr q) = inr (p.0 ∙ q.0, omega (arith, ints, p.1, q.1))
 
 -- what comes before one of two comes before the other, or that comes before the one
-before_either : (a b c : Place) → IsBefore a b → IsBefore a c ⊎ IsBefore c b
+before_either : (a b c : InstancePlace) → IsBefore a b → IsBefore a c ⊎ IsBefore c b
 before_either a b c h =
     elim (order_of a.start c.start) [
       | inl less ↦ inl (inl less)
@@ -188,7 +188,7 @@ before_either a b c h =
     order_of : (x y : ℤ) → (x <ℤ y) ⊎ ((x ≡ y) ⊎ (y <ℤ x))
     order_of x y = grind (arith, ints)
 
-soonest_picked : (P Q : Place → Type 0) (x y : Place) → P x × ((q : Place) → P q → IsBefore q x → ⊥) → ((q : Place) → Q q → IsBefore q y → ⊥) → (IsBefore y x → ⊥)
+soonest_picked : (P Q : InstancePlace → Type 0) (x y : InstancePlace) → P x × ((q : InstancePlace) → P q → IsBefore q x → ⊥) → ((q : InstancePlace) → Q q → IsBefore q y → ⊥) → (IsBefore y x → ⊥)
     → IsSoonest (λ p. P p ⊎ Q p) (Some x)
 soonest_picked P Q x y p q not = (
   inl p.0,
@@ -198,7 +198,7 @@ soonest_picked P Q x y p q not = (
   ],
 )
 
-pub soonest_of_two : (P Q : Place → Type 0) (a b r : Option Place) → IsSoonest P a → IsSoonest Q b → IsSooner a b r → IsSoonest (λ p. P p ⊎ Q p) r
+pub soonest_of_two : (P Q : InstancePlace → Type 0) (a b r : Option InstancePlace) → IsSoonest P a → IsSoonest Q b → IsSooner a b r → IsSoonest (λ p. P p ⊎ Q p) r
 soonest_of_two P Q None None r p q e = subst (IsSoonest (λ p. P p ⊎ Q p)) (sym e) (λ t h. elim h [ inl x ↦ p t x | inr x ↦ q t x ])
 soonest_of_two P Q None (Some y) r p q e = subst (IsSoonest (λ p. P p ⊎ Q p)) (sym e) (inr q.0, λ u h b. elim h [ inl x ↦ p u x | inr x ↦ q.1 u x b ])
 soonest_of_two P Q (Some x) None r p q e = subst (IsSoonest (λ p. P p ⊎ Q p)) (sym e) (inl p.0, λ u h b. elim h [ inl z ↦ p.1 u z b | inr z ↦ q u z ])
@@ -206,13 +206,13 @@ soonest_of_two P Q (Some x) (Some y) r p q (inl e) = subst (IsSoonest (λ p. P p
 soonest_of_two P Q (Some x) (Some y) r p q (inr e) =
     subst (IsSoonest (λ p. P p ⊎ Q p)) (sym e.0) (inr q.0, λ u h b. elim h [ inl z ↦ p.1 u z (before_trans u y x b e.1) | inr z ↦ q.1 u z b ])
 
-pub soonest_same : (P Q : Place → Type 0) (o : Option Place) → ((p : Place) → P p → Q p) → ((p : Place) → Q p → P p) → IsSoonest P o → IsSoonest Q o
+pub soonest_same : (P Q : InstancePlace → Type 0) (o : Option InstancePlace) → ((p : InstancePlace) → P p → Q p) → ((p : InstancePlace) → Q p → P p) → IsSoonest P o → IsSoonest Q o
 soonest_same P Q None f g h = λ t q. h t (g t q)
 soonest_same P Q (Some x) f g h = (f x h.0, λ u q. h.1 u (g u q))
 
 -- ---- the starts of a master
 
-module _ (master : Event) (overrides : List Event) (bound : Bound) where
+module _ (master : SaidComponent) (overrides : List SaidComponent) (bound : Bound) where
   abbrev to_come : ℤ → Type 0
   to_come t = IsStart master overrides t × IsAfter bound t t
 
@@ -235,40 +235,40 @@ module _ (master : Event) (overrides : List Event) (bound : Bound) where
 -- ---- the places of an event
 
 module _ (os : List EventComponent) (bound : Bound) where
-  abbrev moved : Place → Type 0
+  abbrev moved : InstancePlace → Type 0
   moved p = (o : EventComponent) × Contains os o × IsMovedTo o bound p
 
-  abbrev own : EventComponent → Place → Type 0
-  own c p = (p ≡ own_place p.start) × IsStart (event_of c) (map event_of os) p.start × IsAfter bound p.start p.start
+  abbrev own : EventComponent → InstancePlace → Type 0
+  own c p = (p ≡ own_place p.start) × IsStart (component_of c) (map component_of os) p.start × IsAfter bound p.start p.start
 
-  own_soonest : (c : EventComponent) (start : Option ℤ) → IsLeast (λ t. IsStart (event_of c) (map event_of os) t × IsAfter bound t t) start → IsSoonest (own c) (option_map own_place start)
+  own_soonest : (c : EventComponent) (start : Option ℤ) → IsLeast (λ t. IsStart (component_of c) (map component_of os) t × IsAfter bound t t) start → IsSoonest (own c) (option_map own_place start)
   own_soonest c None h = λ p k. h p.start (k.1, k.2)
   own_soonest c (Some t) h = (
     (refl, h.0.0, h.0.1),
     λ q k b.
         let least : t ≤ℤ q.start = h.1 q.start (k.1, k.2) in
-        let slot : q.slot ≡ q.start = ap (λ (p : Place). p.slot) k.0 in
+        let slot : q.slot ≡ q.start = ap (λ (p : InstancePlace). p.slot) k.0 in
         elim b [ inl l ↦ absurd (omega (arith, ints, l, least)) | inr l ↦ absurd (omega (arith, ints, l.0, l.1, slot)) ],
   )
 
-  held_of : (master : Option EventComponent) (c : EventComponent) → master ≡ Some c → (p : Place) → own c p ⊎ moved p → IsHeld master os bound p
-  held_of master c is p (inl (e, s, a)) = (inl (c, is, e, s), subst (λ (x : ℤ). IsAfter bound p.start x) (sym (ap (λ (q : Place). q.slot) e)) a)
+  held_of : (master : Option EventComponent) (c : EventComponent) → master ≡ Some c → (p : InstancePlace) → own c p ⊎ moved p → IsHeld master os bound p
+  held_of master c is p (inl (e, s, a)) = (inl (c, is, e, s), subst (λ (x : ℤ). IsAfter bound p.start x) (sym (ap (λ (q : InstancePlace). q.slot) e)) a)
   held_of master c is p (inr (o, k, (at, a))) = (inr (o, k, at), a)
 
-  of_held : (master : Option EventComponent) (c : EventComponent) → master ≡ Some c → (p : Place) → IsHeld master os bound p → own c p ⊎ moved p
+  of_held : (master : Option EventComponent) (c : EventComponent) → master ≡ Some c → (p : InstancePlace) → IsHeld master os bound p → own c p ⊎ moved p
   of_held master c is p (inl (d, other, e, s), a) =
       let same : d ≡ c = same_Some d c (sym other ∙ is) in
-      inl (e, subst (λ (x : EventComponent). IsStart (event_of x) (map event_of os) p.start) same s, subst (λ (x : ℤ). IsAfter bound p.start x) (ap (λ (q : Place). q.slot) e) a)
+      inl (e, subst (λ (x : EventComponent). IsStart (component_of x) (map component_of os) p.start) same s, subst (λ (x : ℤ). IsAfter bound p.start x) (ap (λ (q : InstancePlace). q.slot) e) a)
   of_held master c is p (inr (o, k, at), a) = inr (o, k, (at, a))
 
-  pub first_with_master : (master : Option EventComponent) (c : EventComponent) → master ≡ Some c → (start : Option ℤ) (n m r : Option Place)
-      → IsLeast (λ t. IsStart (event_of c) (map event_of os) t × IsAfter bound t t) start → n ≡ option_map own_place start → IsSoonest (λ p. (o : EventComponent) × Contains os o × IsMovedTo o bound p) m
+  pub first_with_master : (master : Option EventComponent) (c : EventComponent) → master ≡ Some c → (start : Option ℤ) (n m r : Option InstancePlace)
+      → IsLeast (λ t. IsStart (component_of c) (map component_of os) t × IsAfter bound t t) start → n ≡ option_map own_place start → IsSoonest (λ p. (o : EventComponent) × Contains os o × IsMovedTo o bound p) m
       → IsSooner n m r → IsSoonest (IsHeld master os bound) r
   first_with_master master c is start n m r h e g s =
       soonest_same (λ p. own c p ⊎ moved p) (IsHeld master os bound) r (held_of master c is) (of_held master c is)
       (soonest_of_two (own c) moved n m r (subst (IsSoonest (own c)) (sym e) (own_soonest c start h)) g s)
 
-  pub first_without : (master : Option EventComponent) → master ≡ None → (m : Option Place) → IsSoonest (λ p. (o : EventComponent) × Contains os o × IsMovedTo o bound p) m
+  pub first_without : (master : Option EventComponent) → master ≡ None → (m : Option InstancePlace) → IsSoonest (λ p. (o : EventComponent) × Contains os o × IsMovedTo o bound p) m
       → IsSoonest (IsHeld master os bound) m
   first_without master none m h =
       soonest_same moved (IsHeld master os bound) m (λ p k. (inr (k.0, k.1, k.2.0), k.2.1))
@@ -278,7 +278,7 @@ module _ (os : List EventComponent) (bound : Bound) where
       nothing c e = cc
 
 -- what is to come after a place that was to come was to come
-pub admitted : (bound : Bound) (p : Place) (start slot : ℤ) → IsAfter bound p.start p.slot → IsAfter (record { start = p.start; slot = Some p.slot }) start slot → IsAfter bound start slot
+pub admitted : (bound : Bound) (p : InstancePlace) (start slot : ℤ) → IsAfter bound p.start p.slot → IsAfter (record { start = p.start; slot = Some p.slot }) start slot → IsAfter bound start slot
 admitted bound p start slot (inl a) (inl b) = inl (omega (arith, ints))
 admitted bound p start slot (inl a) (inr b) = inl (omega (arith, ints, b.0))
 admitted bound p start slot (inr a) (inl b) = inl (omega (arith, ints, a.0))
@@ -288,56 +288,56 @@ admitted bound p start slot (inr a) (inr b) = inr (a.0 ∙ b.0, past bound.slot 
     past None h = tt
     past (Some x) h = omega (arith, ints, h, b.1)
 
-none_more : (master : Event) (overrides : List Event) (bound : Bound) (p : Place) (day : ℕ) → IsAfter bound p.start p.slot → NoneBefore master overrides bound day
+none_more : (master : SaidComponent) (overrides : List SaidComponent) (bound : Bound) (p : InstancePlace) (day : ℕ) → IsAfter bound p.start p.slot → NoneBefore master overrides bound day
     → NoneBefore master overrides (record { start = p.start; slot = Some p.slot }) day
 none_more master overrides bound p day a h rule e first second n on lt holds t means w =
     h rule e first second n on lt holds t means
     (record { after = admitted bound p t t a w.after; in_dates = w.in_dates; not_excepted = w.not_excepted; not_overridden = w.not_overridden })
 
-pub passed_more : (master : Option EventComponent) (os : List EventComponent) (bound : Bound) (p : Place) (days : RuleDays) → IsAfter bound p.start p.slot → HasPassed master os bound days
+pub passed_more : (master : Option EventComponent) (os : List EventComponent) (bound : Bound) (p : InstancePlace) (days : RuleDays) → IsAfter bound p.start p.slot → HasPassed master os bound days
     → HasPassed master os (record { start = p.start; slot = Some p.slot }) days
 passed_more master os bound p days a h c is =
     let w = h c is in
-    record { listed = w.listed; none = none_more (event_of c) (map event_of os) bound p days.from a w.none; kept = w.kept }
+    record { listed = w.listed; none = none_more (component_of c) (map component_of os) bound p days.from a w.none; kept = w.kept }
 
 -- ---- instances and their places
 
-pub of_option : (o : Option EventComponent) (m : Event) → option_map event_of o ≡ Some m → (c : EventComponent) × (o ≡ Some c) × (event_of c ≡ m)
+pub of_option : (o : Option EventComponent) (m : SaidComponent) → option_map component_of o ≡ Some m → (c : EventComponent) × (o ≡ Some c) × (component_of c ≡ m)
 of_option None m e = absurd (nothing e)
   where
     nothing : None ≡ Some m → ⊥
     nothing e = cc
-of_option (Some c) m e = (c, refl, same_Some (event_of c) m e)
+of_option (Some c) m e = (c, refl, same_Some (component_of c) m e)
 
-pub of_list : (os : List EventComponent) (m : Event) → Contains (map event_of os) m → (c : EventComponent) × Contains os c × (event_of c ≡ m)
+pub of_list : (os : List EventComponent) (m : SaidComponent) → Contains (map component_of os) m → (c : EventComponent) × Contains os c × (component_of c ≡ m)
 of_list [] m (k, w, e) = absurd (omega (arith, w))
 of_list (o ∷ os) m (zero, w, e) = (o, (0, omega arith, refl), e)
 of_list (o ∷ os) m (suc k, w, e) = let r = of_list os m (k, omega (arith, w), e) in (r.0, (suc r.1.0, omega (arith, r.1.1), r.1.2), r.2)
 
-in_list : (os : List EventComponent) (c : EventComponent) → Contains os c → Contains (map event_of os) (event_of c)
+in_list : (os : List EventComponent) (c : EventComponent) → Contains os c → Contains (map component_of os) (component_of c)
 in_list [] c (k, w, e) = absurd (omega (arith, w))
-in_list (o ∷ os) c (zero, w, e) = (0, omega arith, ap event_of e)
+in_list (o ∷ os) c (zero, w, e) = (0, omega arith, ap component_of e)
 in_list (o ∷ os) c (suc k, w, e) = let r = in_list os c (k, omega (arith, w), e) in (suc r.0, omega (arith, r.1), r.2)
 
-abbrev place_of : Booked → Place
+abbrev place_of : Instance → InstancePlace
 place_of b = record { start = b.start; slot = b.key.slot }
 
-pub instance_held : (event : declared.Event) (b : Booked) → IsInstance (said_meeting event) b → IsHeldAt event.master event.overrides.items (place_of b)
+pub instance_held : (event : declared.Event) (b : Instance) → IsInstance (said_meeting event) b → IsHeldAt event.master event.overrides.items (place_of b)
 instance_held event b (inl i) =
     let m = of_option event.master i.master i.is in
     let slot : b.key.slot ≡ b.start = ap (λ (k : Key). k.slot) i.key in
-    inl (m.0, m.1, (λ j. record { start = b.start; slot = slot j }), subst (λ (e : Event). IsStart e (map event_of event.overrides.items) b.start) (sym m.2) i.starts)
+    inl (m.0, m.1, (λ j. record { start = b.start; slot = slot j }), subst (λ (e : SaidComponent). IsStart e (map component_of event.overrides.items) b.start) (sym m.2) i.starts)
 instance_held event b (inr i) =
     let m = of_list event.overrides.items i.override i.is in
-    inr (m.0, m.1, (ap (λ (e : Event). e.recurrence) m.2 ∙ i.recurrence, ap (λ (e : Event). e.times.start) m.2 ∙ sym i.starts))
+    inr (m.0, m.1, (ap (λ (e : SaidComponent). e.recurrence) m.2 ∙ i.recurrence, ap (λ (e : SaidComponent). e.times.start) m.2 ∙ sym i.starts))
 
-pub master_instance : (event : declared.Event) (c : EventComponent) → event.master ≡ Some c → (b : Booked) → IsStart (event_of c) (map event_of event.overrides.items) b.start → b.key ≡ key_at (event_of c) b.start
-    → EndsAt (event_of c).times b.start b.end → IsInstance (said_meeting event) b
-master_instance event c is b s k e = inl (record { master = event_of c; is = ap (option_map event_of) is; starts = s; key = k; ends = e })
+pub master_instance : (event : declared.Event) (c : EventComponent) → event.master ≡ Some c → (b : Instance) → IsStart (component_of c) (map component_of event.overrides.items) b.start → b.key ≡ key_at (component_of c) b.start
+    → EndsAt (component_of c).times b.start b.end → IsInstance (said_meeting event) b
+master_instance event c is b s k e = inl (record { master = component_of c; is = ap (option_map component_of) is; starts = s; key = k; ends = e })
 
-pub override_instance : (event : declared.Event) (c : EventComponent) → Contains event.overrides.items c → (b : Booked) → c.recurrence ≡ Some b.key.slot → b.start ≡ c.times.instant
-    → b.key ≡ key_at (event_of c) b.key.slot → EndsAt (event_of c).times b.start b.end → IsInstance (said_meeting event) b
-override_instance event c is b r s k e = inr (record { override = event_of c; is = in_list event.overrides.items c is; recurrence = r; key = k; starts = s; ends = e })
+pub override_instance : (event : declared.Event) (c : EventComponent) → Contains event.overrides.items c → (b : Instance) → c.recurrence ≡ Some b.key.slot → b.start ≡ c.times.instant
+    → b.key ≡ key_at (component_of c) b.key.slot → EndsAt (component_of c).times b.start b.end → IsInstance (said_meeting event) b
+override_instance event c is b r s k e = inr (record { override = component_of c; is = in_list event.overrides.items c is; recurrence = r; key = k; starts = s; ends = e })
 
 -- ---- where to begin
 
@@ -346,7 +346,7 @@ pub not_less : (z : Zone) (least greatest local t : ℤ) → IsBounds z least gr
 not_less z least greatest local t b (inl h) = elim (b.one t h.shown.0 h.shown.1) [ inl e ↦ omega (arith, ints, e, h.shown.2) | inr e ↦ omega (arith, ints, e, h.shown.2, b.ordered) ]
 not_less z least greatest local t b (inr h) = elim (b.sides h.onset h.listed) [ inl e ↦ omega (arith, ints, e.0, h.read) | inr e ↦ omega (arith, ints, e.0, h.read, b.ordered) ]
 
-pub none_before_day : (master : Event) (overrides : List Event) (from least greatest : ℤ) (day second : ℕ) → IsBounds (clock_of master.times.zone) least greatest
+pub none_before_day : (master : SaidComponent) (overrides : List SaidComponent) (from least greatest : ℤ) (day second : ℕ) → IsBounds (clock_of master.times.zone) least greatest
     → from +ℤ least ≡ local_time day second → NoneBefore master overrides (record { start = from; slot = None }) day
 none_before_day master overrides from least greatest day second b e rule is first s n on lt holds t means w =
     let l = not_less (clock_of master.times.zone) least greatest (local_time n s) t b means in
@@ -354,20 +354,20 @@ none_before_day master overrides from least greatest day second b e rule is firs
     let range : s < 86_400 = on.0 in
     absurd (omega (arith, ints, l, a, e, lt, range))
 
-starts_at : (r : Parts) (n : ℕ) → is_rule_day r n ≡ true → r.pattern.start ≤ n
+starts_at : (r : Rule) (n : ℕ) → is_rule_day r n ≡ true → r.pattern.start ≤ n
 unfolding is_rule_day is_counted
 starts_at r n h = grind (arith, nat_tests)
 
-pub none_before_start : (master : Event) (overrides : List Event) (bound : Bound) (rule : Parts) (day : ℕ) → master.rule ≡ Some rule → day ≡ rule.pattern.start → NoneBefore master overrides bound day
+pub none_before_start : (master : SaidComponent) (overrides : List SaidComponent) (bound : Bound) (rule : Rule) (day : ℕ) → master.rule ≡ Some rule → day ≡ rule.pattern.start → NoneBefore master overrides bound day
 none_before_start master overrides bound rule day is e other o first s n on lt holds t means w =
     let same : other ≡ rule = same_Some other rule (sym o ∙ is) in
-    let after = starts_at rule n (subst (λ (r : Parts). is_rule_day r n ≡ true) same holds) in
+    let after = starts_at rule n (subst (λ (r : Rule). is_rule_day r n ≡ true) same holds) in
     absurd (omega (arith, after, lt, e))
 
-pub none_without_rule : (master : Event) (overrides : List Event) (bound : Bound) (day : ℕ) → master.rule ≡ None → NoneBefore master overrides bound day
+pub none_without_rule : (master : SaidComponent) (overrides : List SaidComponent) (bound : Bound) (day : ℕ) → master.rule ≡ None → NoneBefore master overrides bound day
 none_without_rule master overrides bound day none rule is first s n on lt holds t means w = nothing rule (sym none ∙ is)
   where
-    nothing : (r : Parts) → None ≡ Some r → ⊥
+    nothing : (r : Rule) → None ≡ Some r → ⊥
     nothing r e = cc
 
 pub from_on : (from start slot : ℤ) → IsAfter (record { start = from; slot = None }) start slot ↔ from ≤ℤ start
@@ -381,13 +381,13 @@ from_on from start slot = (
 
 -- ---- the instance at a place
 
-pub master_there : (master : Option EventComponent) (os : List EventComponent) (place : Place) → IsHeldAt master os place → ((o : EventComponent) → Contains os o → IsAt o place → ⊥)
-    → (c : EventComponent) → master ≡ Some c → (place.slot ≡ place.start) × IsStart (event_of c) (map event_of os) place.start
+pub master_there : (master : Option EventComponent) (os : List EventComponent) (place : InstancePlace) → IsHeldAt master os place → ((o : EventComponent) → Contains os o → IsAtPlace o place → ⊥)
+    → (c : EventComponent) → master ≡ Some c → (place.slot ≡ place.start) × IsStart (component_of c) (map component_of os) place.start
 master_there master os place (inl (d, is, e, s)) none c other =
-    (ap (λ (p : Place). p.slot) e, subst (λ (x : EventComponent). IsStart (event_of x) (map event_of os) place.start) (same_Some d c (sym is ∙ other)) s)
+    (ap (λ (p : InstancePlace). p.slot) e, subst (λ (x : EventComponent). IsStart (component_of x) (map component_of os) place.start) (same_Some d c (sym is ∙ other)) s)
 master_there master os place (inr (o, k, at)) none c other = absurd (none o k at)
 
-pub nothing_there : (master : Option EventComponent) (os : List EventComponent) (place : Place) → IsHeldAt master os place → ((o : EventComponent) → Contains os o → IsAt o place → ⊥) → master ≡ None → ⊥
+pub nothing_there : (master : Option EventComponent) (os : List EventComponent) (place : InstancePlace) → IsHeldAt master os place → ((o : EventComponent) → Contains os o → IsAtPlace o place → ⊥) → master ≡ None → ⊥
 nothing_there master os place (inl (d, is, e, s)) none other = nothing d (sym other ∙ is)
   where
     nothing : (c : EventComponent) → None ≡ Some c → ⊥
@@ -395,35 +395,35 @@ nothing_there master os place (inl (d, is, e, s)) none other = nothing d (sym ot
 nothing_there master os place (inr (o, k, at)) none other = none o k at
 
 -- what was made for the master's start, or for an override, is an instance
-pub made_of_master : (event : declared.Event) (c : EventComponent) → event.master ≡ Some c → (b : Booked) (start slot : ℤ) → slot ≡ start → IsStart (event_of c) (map event_of event.overrides.items) start
-    → b.start ≡ start → b.key ≡ key_at (event_of c) slot → EndsAt (event_of c).times start b.end → IsInstance (said_meeting event) b
+pub made_of_master : (event : declared.Event) (c : EventComponent) → event.master ≡ Some c → (b : Instance) (start slot : ℤ) → slot ≡ start → IsStart (component_of c) (map component_of event.overrides.items) start
+    → b.start ≡ start → b.key ≡ key_at (component_of c) slot → EndsAt (component_of c).times start b.end → IsInstance (said_meeting event) b
 made_of_master event c is b start slot own s e k ends =
-    master_instance event c is b (subst (IsStart (event_of c) (map event_of event.overrides.items)) (sym e) s) (k ∙ ap (key_at (event_of c)) (own ∙ sym e))
-    (subst (λ (t : ℤ). EndsAt (event_of c).times t b.end) (sym e) ends)
+    master_instance event c is b (subst (IsStart (component_of c) (map component_of event.overrides.items)) (sym e) s) (k ∙ ap (key_at (component_of c)) (own ∙ sym e))
+    (subst (λ (t : ℤ). EndsAt (component_of c).times t b.end) (sym e) ends)
 
-pub made_of_override : (event : declared.Event) (c : EventComponent) → Contains event.overrides.items c → (b : Booked) (start slot : ℤ) → c.recurrence ≡ Some slot → start ≡ c.times.instant
-    → b.start ≡ start → b.key ≡ key_at (event_of c) slot → EndsAt (event_of c).times start b.end → IsInstance (said_meeting event) b
+pub made_of_override : (event : declared.Event) (c : EventComponent) → Contains event.overrides.items c → (b : Instance) (start slot : ℤ) → c.recurrence ≡ Some slot → start ≡ c.times.instant
+    → b.start ≡ start → b.key ≡ key_at (component_of c) slot → EndsAt (component_of c).times start b.end → IsInstance (said_meeting event) b
 made_of_override event c is b start slot r t e k ends =
     let same : b.key.slot ≡ slot = ap (λ (x : Key). x.slot) k in
-    override_instance event c is b (r ∙ ap Some (sym same)) (e ∙ t) (k ∙ ap (key_at (event_of c)) (sym same)) (subst (λ (x : ℤ). EndsAt (event_of c).times x b.end) (sym e) ends)
+    override_instance event c is b (r ∙ ap Some (sym same)) (e ∙ t) (k ∙ ap (key_at (component_of c)) (sym same)) (subst (λ (x : ℤ). EndsAt (component_of c).times x b.end) (sym e) ends)
 
 -- ---- one step
 
 abbrev pub bound_at : ℤ → ℤ → Bound
 bound_at start slot = record { start = start; slot = Some slot }
 
-module _ (event : declared.Event) (bound : Bound) (r : Option Place) (h : IsSoonest (IsHeld event.master event.overrides.items bound) r) where
-  pub none_left : r ≡ None → (b : Booked) → IsInstance (said_meeting event) b × IsAfter bound b.start b.key.slot → ⊥
+module _ (event : declared.Event) (bound : Bound) (r : Option InstancePlace) (h : IsSoonest (IsHeld event.master event.overrides.items bound) r) where
+  pub none_left : r ≡ None → (b : Instance) → IsInstance (said_meeting event) b × IsAfter bound b.start b.key.slot → ⊥
   none_left e b l = (subst (IsSoonest (IsHeld event.master event.overrides.items bound)) e h) (place_of b) (instance_held event b l.0, l.1)
 
-  module _ (p : Place) (e : r ≡ Some p) where
-    soonest : IsHeld event.master event.overrides.items bound p × ((q : Place) → IsHeld event.master event.overrides.items bound q → IsBefore q p → ⊥)
+  module _ (p : InstancePlace) (e : r ≡ Some p) where
+    soonest : IsHeld event.master event.overrides.items bound p × ((q : InstancePlace) → IsHeld event.master event.overrides.items bound q → IsBefore q p → ⊥)
     soonest = subst (IsSoonest (IsHeld event.master event.overrides.items bound)) e h
 
     pub held_there : IsHeld event.master event.overrides.items bound p
     held_there = soonest.0
 
-    pub none_before : (i : Booked) → i.start ≡ p.start → i.key.slot ≡ p.slot → (b : Booked) → IsInstance (said_meeting event) b × IsAfter bound b.start b.key.slot → ComesBefore b i → ⊥
+    pub none_before : (i : Instance) → i.start ≡ p.start → i.key.slot ≡ p.slot → (b : Instance) → IsInstance (said_meeting event) b × IsAfter bound b.start b.key.slot → ComesBefore b i → ⊥
     none_before i start slot b l before =
         soonest.1 (place_of b) (instance_held event b l.0, l.1)
         (elim before [ inl x ↦ inl (omega (arith, ints, x, start)) | inr x ↦ inr (x.0 ∙ start, omega (arith, ints, x.1, slot)) ])
@@ -431,7 +431,7 @@ module _ (event : declared.Event) (bound : Bound) (r : Option Place) (h : IsSoon
 pub bound_same : (a b start slot : ℤ) → a ≡ start → b ≡ slot → bound_at a b ≡ bound_at start slot
 bound_same a b start slot e f = λ i. record { start = e i; slot = Some (f i) }
 
-pub passed_at : (master : Option EventComponent) (os : List EventComponent) (bound : Bound) (p : Place) (a b : ℤ) (days : RuleDays) → a ≡ p.start → b ≡ p.slot → IsAfter bound p.start p.slot
+pub passed_at : (master : Option EventComponent) (os : List EventComponent) (bound : Bound) (p : InstancePlace) (a b : ℤ) (days : RuleDays) → a ≡ p.start → b ≡ p.slot → IsAfter bound p.start p.slot
     → HasPassed master os bound days → HasPassed master os (bound_at a b) days
 passed_at master os bound p a b days e f after h =
     subst (λ (x : Bound). HasPassed master os x days) (sym (bound_same a b p.start p.slot e f)) (passed_more master os bound p days after h)

@@ -12,8 +12,8 @@ use Rattle.profile.specs.events.Properties.{TimeKind, DateTime, Date, Period, Ot
 use Rattle.profile.specs.events.ZonedTimes.{zone_named, DateOrMalformed, LocalFault, NamedFault, FaultIn, ZonedTimeFault, EventTimesFault, bad_start, bad_end, bad_duration, ends_early, ends_late, lasts_long, starts_out, ends_out, no_start, twice as times_twice, end_and_duration}
 use Rattle.profile.specs.series.RuleTexts.{RuleFault, unknown, bad_value, no_frequency, two_frequencies, twice as rule_twice, apart, two_ends}
 use Rattle.profile.specs.events.EventRules.{EventRuleFault, bad_rule, starts_outside, two_rules}
-use Rattle.profile.specs.events.Occurrences.{Entry, EntryFault, entries_named, EntriesFault, in_entry, too_many, OccurrenceFault, bad_recurrence, bad_additions, bad_exceptions, recurrence_out, additions_out, two_recurrences, ranged, recurs}
-use Rattle.profile.specs.events.Events.{EventFault, in_times, in_rule, in_occurrences, bad_stamp, bad_uid, bad_organiser, bad_attendee, bad_sequence, no_uid, no_stamp_given, twice, no_organiser, Method}
+use Rattle.profile.specs.events.Occurrences.{ListedTime, EntryFault, entries_named, EntriesFault, in_entry, too_many, OccurrenceFault, bad_recurrence, bad_additions, bad_exceptions, recurrence_out, additions_out, two_recurrences, ranged, recurs}
+use Rattle.profile.specs.events.EventComponents.{EventComponentFault, in_times, in_rule, in_occurrences, bad_stamp, bad_uid, bad_organiser, bad_attendee, bad_sequence, no_uid, no_stamp_given, twice, no_organiser, Method}
 
 abbrev Lines : Type 0
 Lines = List (List ℕ)
@@ -120,11 +120,11 @@ rule_number object lines n (two_rules x) = refl
 meeting_wider : (n : ℕ) → is_series_event_fault n ≡ true → is_meeting_event_fault n ≡ true
 meeting_wider n h = ap (λ b. b || eqb n 65 || eqb n 67) h
 
-entry_number : (object : Tree) (name : List ℕ) (e : Entry) (n : ℕ) → EntryFault object name e n → is_meeting_event_fault n ≡ true
+entry_number : (object : Tree) (name : List ℕ) (e : ListedTime) (n : ℕ) → EntryFault object name e n → is_meeting_event_fault n ≡ true
 entry_number object name (line, text) n (inl (_, e)) = ap is_meeting_event_fault e
 entry_number object name (line, text) n (inr (_, f)) = meeting_wider n (series_wider n (text_number object (line_param (codes "TZID") line) (time_kind line) text n f))
 
-entries_number : (object : Tree) (name : List ℕ) (es : List Entry) (n : ℕ) → EntriesFault object name es n → is_meeting_event_fault n ≡ true
+entries_number : (object : Tree) (name : List ℕ) (es : List ListedTime) (n : ℕ) → EntriesFault object name es n → is_meeting_event_fault n ≡ true
 entries_number object name es n (in_entry e c f) = entry_number object name e n f
 entries_number object name es n (too_many more) = refl
 
@@ -138,7 +138,7 @@ occurrence_number object lines n (two_recurrences t) = refl
 occurrence_number object lines n (ranged l) = refl
 occurrence_number object lines n (recurs t) = refl
 
-component_number : (object : Tree) (m : Option Method) (lines : Lines) (n : ℕ) → EventFault object m lines n → is_meeting_event_fault n ≡ true
+component_number : (object : Tree) (m : Option Method) (lines : Lines) (n : ℕ) → EventComponentFault object m lines n → is_meeting_event_fault n ≡ true
 component_number object m lines n (in_times f) = meeting_wider n (series_wider n (times_number object lines n f))
 component_number object m lines n (in_rule f) = meeting_wider n (rule_number object lines n f)
 component_number object m lines n (in_occurrences f) = occurrence_number object lines n f
@@ -154,6 +154,6 @@ component_number object m lines n (no_organiser t x) = refl
 
 -- ---- what a VEVENT is refused for
 
-pub refused_for : (object : Tree) (m : Option Method) (lines : Lines) → (f : Fault) → RefusesBy (EventFault object m lines) f → RefusesOnly is_meeting_event_fault f
+pub refused_for : (object : Tree) (m : Option Method) (lines : Lines) → (f : Fault) → RefusesBy (EventComponentFault object m lines) f → RefusesOnly is_meeting_event_fault f
 refused_for object m lines Memory s = tt
 refused_for object m lines (Refused r) s = component_number object m lines r.number s

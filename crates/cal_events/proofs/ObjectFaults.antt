@@ -5,23 +5,23 @@ use Rattle.std.proofs.lemmas.Bool.Decides.{nat_tests}
 use Rattle.ical_lines.specs.Fault.{RefusesBy}
 use Rattle.ical_lines.specs.declared.fault.Fault.{Fault}
 use Rattle.ical_lines.specs.declared.fault.Fault.TheVariants.{Refused, Memory}
-use Rattle.ical_tree.specs.Tree.{component_name, component_lines, component_children, tree_of}
+use Rattle.ical_tree.specs.Tree.{component_name, component_lines, tree_of, count_children}
 use Rattle.ical_tree.specs.Reading.{SpellsOf, IsRefusalOf, calendar_has}
 use Rattle.ical_tree.specs.declared.component.Component.{Component}
 use Rattle.ical_tree.proofs.TreeOfLemmas.{tree_of-own, spells_tree, count_tree}
 use Rattle.profile.specs.text.Lines.{logical_lines, text_has}
 use Rattle.profile.specs.text.Objects.{SpellsTree, IsObject, has_version, lines_have, count_inside, most_events, is_calendar_name}
-use Rattle.profile.specs.text.Trees.{Tree, tree_name, tree_own, tree_inside}
+use Rattle.profile.specs.text.Trees.{Tree, tree_own}
 use Rattle.cal_events.proofs.OneText.{OneTree}
 
 -- the tree of a text has no VERSION, or two, or another
 abbrev pub HasNoVersion : List ℕ → Tree → Type 0
-HasNoVersion octets t = SpellsTree tree_name tree_own tree_inside 7 t (logical_lines octets) × (has_version (tree_own t) ≡ false)
+HasNoVersion octets t = SpellsTree 7 t (logical_lines octets) × (has_version (tree_own t) ≡ false)
 
 -- it has more VEVENTs than a message may have
 abbrev pub HasManyEvents : List ℕ → Tree → Type 0
 HasManyEvents octets t =
-    SpellsTree tree_name tree_own tree_inside 7 t (logical_lines octets) × (most_events < count_inside tree_name tree_own tree_inside (codes "VEVENT") t)
+    SpellsTree 7 t (logical_lines octets) × (most_events < count_inside (codes "VEVENT") t)
 
 -- ---- where octets are refused
 
@@ -40,7 +40,7 @@ module _ (octets : List ℕ) (P : ℕ → Type 0) (version : (t : Tree) → HasN
       (weaker (is_calendar_name (component_name c)) ((n == 24) && not (has_version (component_lines c))) (n == 25) (nat_lt 200 count) (has_version (component_lines c)) h)
     where
       count : ℕ
-      count = count_inside component_name component_lines component_children (codes "VEVENT") c
+      count = count_children (codes "VEVENT") c
 
       at : (a b : Bool) → ((n == 24) && not (has_version (component_lines c))) ≡ a → ((n == 25) && nat_lt 200 count) ≡ b → (a || b) ≡ true → P n
       at true b e f g =
@@ -61,7 +61,7 @@ module _ (octets : List ℕ) (P : ℕ → Type 0) (version : (t : Tree) → HasN
 
 -- ---- where they are an object
 
-module _ (one : OneTree) (octets : List ℕ) (s : Tree) (object : IsObject tree_name tree_own tree_inside true s (logical_lines octets)) where
+module _ (one : OneTree) (octets : List ℕ) (s : Tree) (object : IsObject true s (logical_lines octets)) where
   pub has_version_only : (t : Tree) → HasNoVersion octets t → ⊥
   has_version_only t (spelled, h) =
       let same : s ≡ t = one 7 7 (logical_lines octets) s t object.spelled spelled in
@@ -70,6 +70,6 @@ module _ (one : OneTree) (octets : List ℕ) (s : Tree) (object : IsObject tree_
   pub has_few_events : (t : Tree) → HasManyEvents octets t → ⊥
   has_few_events t (spelled, h) =
       let same : t ≡ s = sym (one 7 7 (logical_lines octets) s t object.spelled spelled) in
-      let many : most_events < count_inside tree_name tree_own tree_inside (codes "VEVENT") s = subst (λ (x : Tree). most_events < count_inside tree_name tree_own tree_inside (codes "VEVENT") x) same h in
-      let over : nat_lt most_events (count_inside tree_name tree_own tree_inside (codes "VEVENT") s) ≡ true = grind (arith, nat_tests) in
+      let many : most_events < count_inside (codes "VEVENT") s = subst (λ (x : Tree). most_events < count_inside (codes "VEVENT") x) same h in
+      let over : nat_lt most_events (count_inside (codes "VEVENT") s) ≡ true = grind (arith, nat_tests) in
       true≢false (sym over ∙ object.events)

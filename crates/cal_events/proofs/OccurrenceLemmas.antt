@@ -12,7 +12,7 @@ use Rattle.profile.specs.text.Lines.{line_value}
 use Rattle.profile.specs.text.Trees.{Tree}
 use Rattle.profile.specs.events.Properties.{is_of}
 use Rattle.profile.specs.events.ZonedTimes.{ZonedTextFault}
-use Rattle.profile.specs.events.Occurrences.{Entry, entries_of, entries_named, is_period, IsListed, IsInside, Lists, EntriesFault, in_entry, too_many}
+use Rattle.profile.specs.events.Occurrences.{ListedTime, entries_of, entries_named, is_period, IsListed, IsInside, Lists, EntriesFault, in_entry, too_many}
 use Rattle.cal_events.specs.Occurrences.{SaysSo, AreListed}
 use Rattle.cal_events.specs.declared.occurrences.SaidInstant.{SaidInstant}
 use Rattle.cal_events.specs.declared.occurrences.SaidInstants.{SaidInstants}
@@ -28,8 +28,8 @@ Lines = List (List ℕ)
 abbrev pub IsKept : SaidInstants → SaidInstant → SaidInstants → Type 0
 IsKept old said new = ((said.in_dates ≡ true) × (new.in_dates ≡ old.in_dates)) ⊎ ((said.in_dates ≡ false) × (new.in_dates ≡ false))
 
-module _ (object : Tree) (name line text : List ℕ) (done : List Entry) (old : SaidInstants) (a : AreListed object name done old) where
-  abbrev pub grown : List Entry
+module _ (object : Tree) (name line text : List ℕ) (done : List ListedTime) (old : SaidInstants) (a : AreListed object name done old) where
+  abbrev pub grown : List ListedTime
   grown = done ++ (line, text) ∷ []
 
   module _ (said : SaidInstant) (new : SaidInstants) (few : length old.instants.items ≢ 366) (plain : is_period name text ≡ false) (says : SaysSo object line text said)
@@ -69,11 +69,11 @@ module _ (object : Tree) (name line text : List ℕ) (done : List Entry) (old : 
   malformed n plain f = in_entry (line, text) (Contains-push done (line, text)) (inr (plain, f))
 
 -- a fault stays where more times follow
-pub still_faulty : (object : Tree) (name : List ℕ) (entries rest : List Entry) (n : ℕ) → EntriesFault object name entries n → EntriesFault object name (entries ++ rest) n
+pub still_faulty : (object : Tree) (name : List ℕ) (entries rest : List ListedTime) (n : ℕ) → EntriesFault object name entries n → EntriesFault object name (entries ++ rest) n
 still_faulty object name entries rest n (in_entry e c f) = in_entry e (Contains-append_left entries rest e c) f
 still_faulty object name entries rest n (too_many more) = let l = length-append entries rest in let over : 366 < length entries = more in too_many (omega (arith, l, over))
 
-pub still_refused : (object : Tree) (name : List ℕ) (entries rest all : List Entry) (f : Fault) → all ≡ entries ++ rest → RefusesBy (EntriesFault object name entries) f
+pub still_refused : (object : Tree) (name : List ℕ) (entries rest all : List ListedTime) (f : Fault) → all ≡ entries ++ rest → RefusesBy (EntriesFault object name entries) f
     → RefusesBy (EntriesFault object name all) f
 still_refused object name entries rest all Memory e h = tt
 still_refused object name entries rest all (Refused r) e h = subst (λ es. EntriesFault object name es r.number) (sym e) (still_faulty object name entries rest r.number h)
@@ -83,11 +83,11 @@ still_refused object name entries rest all (Refused r) e h = subst (λ es. Entri
 abbrev pub texts : List ℕ → List (List ℕ)
 texts line = slice_split (λ c. c == 44) (line_value line)
 
-abbrev pub on_line : List ℕ → List (List ℕ) → List Entry
+abbrev pub on_line : List ℕ → List (List ℕ) → List ListedTime
 on_line line = map (λ text. (line, text))
 
 -- one of them comes
-pub text_next : (line text : List ℕ) (seen left rest : List (List ℕ)) (done : List Entry) → texts line ≡ seen ++ left → left ≡ text ∷ rest
+pub text_next : (line text : List ℕ) (seen left rest : List (List ℕ)) (done : List ListedTime) → texts line ≡ seen ++ left → left ≡ text ∷ rest
     → (texts line ≡ (seen ++ text ∷ []) ++ rest) × (done ++ on_line line (seen ++ text ∷ []) ≡ (done ++ on_line line seen) ++ (line, text) ∷ [])
     × (done ++ entries_of line ≡ ((done ++ on_line line seen) ++ (line, text) ∷ []) ++ on_line line rest)
 text_next line text seen left rest done e s =
@@ -105,14 +105,14 @@ texts_end line seen left e n = ap (on_line line) (sym (e ∙ ap (λ ts. seen ++ 
 -- ---- the lines of a property
 
 -- a line of it comes
-pub line_next : (name : List ℕ) (all left rest : Lines) (line : List ℕ) (done : List Entry) → entries_named name all ≡ done ++ entries_named name left → left ≡ line ∷ rest
+pub line_next : (name : List ℕ) (all left rest : Lines) (line : List ℕ) (done : List ListedTime) → entries_named name all ≡ done ++ entries_named name left → left ≡ line ∷ rest
     → is_of name line ≡ true → entries_named name all ≡ (done ++ entries_of line) ++ entries_named name rest
 line_next name all left rest line done e s h =
     e ∙ ap (λ ls. done ++ entries_named name ls) s ∙ ap (λ ls. done ++ flat_map entries_of ls) (one_more name line rest h)
     ∙ sym (append_assoc done (entries_of line) (entries_named name rest))
 
 -- another line comes
-pub other_next : (name : List ℕ) (all left rest : Lines) (line : List ℕ) (done : List Entry) → entries_named name all ≡ done ++ entries_named name left → left ≡ line ∷ rest
+pub other_next : (name : List ℕ) (all left rest : Lines) (line : List ℕ) (done : List ListedTime) → entries_named name all ≡ done ++ entries_named name left → left ≡ line ∷ rest
     → is_of name line ≡ false → entries_named name all ≡ done ++ entries_named name rest
 other_next name all left rest line done e s h =
     e ∙ ap (λ ls. done ++ entries_named name ls) s ∙ ap (λ ls. done ++ flat_map entries_of ls) (one_other name line rest h)

@@ -2,8 +2,8 @@
 use Rattle.std.proofs.Common.{◌≡◌, ◌∙◌, ℕ, Bool, false, List, filter, subst, sym, ap, inl, inr, arith, Option, None}
 use Rattle.std.specs.List.{AllZip, flat_map}
 use Rattle.profile.specs.text.Trees.{Tree, vevents}
-use Rattle.profile.specs.checker.Instances.{Booked}
-use Rattle.profile.specs.events.Events.{Event, SaysEvent, EventFault, Method}
+use Rattle.profile.specs.checker.Instances.{Instance}
+use Rattle.profile.specs.events.EventComponents.{EventComponent, SaysEventComponent, EventComponentFault, Method}
 use Rattle.profile.specs.events.Confirmed.{Confirmed, IsSingle, AreSingles, IsSeries, is_series, MastersDiffer, OverridesDiffer}
 use Rattle.profile.specs.checker.Calendars.{SaysCalendar, CalendarFault, in_event, two_masters, two_overrides}
 use Rattle.std.proofs.lemmas.Int.{ints}
@@ -14,26 +14,26 @@ use Rattle.cal_events.proofs.SeriesLemmas.{one_series}
 use Rattle.cal_events.proofs.Zips.{zip_one, zip_at}
 
 abbrev pub OneEvent : Type 0
-OneEvent = (object : Tree) (m : Option Method) (lines : List (List ℕ)) (a b : Event) → SaysEvent object m lines a → SaysEvent object m lines b → a ≡ b
+OneEvent = (object : Tree) (m : Option Method) (lines : List (List ℕ)) (a b : EventComponent) → SaysEventComponent object m lines a → SaysEventComponent object m lines b → a ≡ b
 
 abbrev pub NoFault : Type 0
-NoFault = (object : Tree) (m : Option Method) (lines : List (List ℕ)) (a : Event) (n : ℕ) → SaysEvent object m lines a → EventFault object m lines n → ⊥
+NoFault = (object : Tree) (m : Option Method) (lines : List (List ℕ)) (a : EventComponent) (n : ℕ) → SaysEventComponent object m lines a → EventComponentFault object m lines n → ⊥
 
-pub same_events : OneEvent → (object : Tree) (a b : List Event) → AllZip (SaysEvent object None) (vevents object) a → AllZip (SaysEvent object None) (vevents object) b → a ≡ b
-same_events one object a b s t = zip_one (SaysEvent object None) (λ lines x y h k. one object None lines x y h k) (vevents object) a b s t
+pub same_events : OneEvent → (object : Tree) (a b : List EventComponent) → AllZip (SaysEventComponent object None) (vevents object) a → AllZip (SaysEventComponent object None) (vevents object) b → a ≡ b
+same_events one object a b s t = zip_one (SaysEventComponent object None) (λ lines x y h k. one object None lines x y h k) (vevents object) a b s t
 
-never_first : (x : Booked) → ComesBefore x x → ⊥
+never_first : (x : Instance) → ComesBefore x x → ⊥
 never_first x (inl l) = absurd (omega (arith, ints, l))
 never_first x (inr (e, l)) = absurd (omega (arith, ints, l))
 
-first_of_three : (x y z : Booked) → ComesBefore x y → ComesBefore y z → ComesBefore x z
+first_of_three : (x y z : Instance) → ComesBefore x y → ComesBefore y z → ComesBefore x z
 first_of_three x y z (inl l) (inl m) = inl (omega (arith, ints, l, m))
 first_of_three x y z (inl l) (inr (e, m)) = inl (omega (arith, ints, l, e))
 first_of_three x y z (inr (e, l)) (inl m) = inl (omega (arith, ints, e, m))
 first_of_three x y z (inr (e, l)) (inr (f, m)) = inr (e ∙ f, omega (arith, ints, l, m))
 
 -- the singles of an event are one list
-one_list : (room : List ℕ) (events : List Event) (event : Event) (a b : List Booked) → AreSingles room events event a → AreSingles room events event b → a ≡ b
+one_list : (room : List ℕ) (events : List EventComponent) (event : EventComponent) (a b : List Instance) → AreSingles room events event a → AreSingles room events event b → a ≡ b
 one_list room events event a b s t =
     one_order ComesBefore never_first first_of_three a b s.ordered t.ordered
     (λ x c. t.all x (All-contains (IsSingle room events event) a x s.each c)) (λ x c. s.all x (All-contains (IsSingle room events event) b x t.each c))
@@ -45,14 +45,14 @@ pub one_calendar : OneEvent → (room : List ℕ) (object : Tree) (a b : Confirm
 one_calendar one room object a b s t =
     let same : s.events ≡ t.events = same_events one object s.events t.events s.says t.says in
     let lists : s.are.lists ≡ t.are.lists =
-    zip_one (AreSingles room t.events) (one_list room t.events) t.events s.are.lists t.are.lists (subst (λ (es : List Event). AllZip (AreSingles room es) es s.are.lists) same s.are.each) t.are.each in
+    zip_one (AreSingles room t.events) (one_list room t.events) t.events s.are.lists t.are.lists (subst (λ (es : List EventComponent). AllZip (AreSingles room es) es s.are.lists) same s.are.each) t.are.each in
     let series : a.series ≡ b.series =
     zip_one (IsSeries t.events) (one_series t.events) (filter (is_series room) t.events) a.series b.series
-    (subst (λ (es : List Event). AllZip (IsSeries es) (filter (is_series room) es) a.series) same s.are.series) t.are.series in
+    (subst (λ (es : List EventComponent). AllZip (IsSeries es) (filter (is_series room) es) a.series) same s.are.series) t.are.series in
     confirmed_same a b series (s.are.singles ∙ ap (flat_map (λ own. own)) lists ∙ sym t.are.singles)
 
 pub no_fault : OneEvent → NoFault → (room : List ℕ) (object : Tree) (a : Confirmed) (n : ℕ) → SaysCalendar room object a → CalendarFault object n → ⊥
 no_fault one sound room object a n s (in_event lines at fault) =
-    let e = zip_at (SaysEvent object None) (vevents object) s.events lines s.says at in sound object None lines e.0 n e.1 fault
+    let e = zip_at (SaysEventComponent object None) (vevents object) s.events lines s.says at in sound object None lines e.0 n e.1 fault
 no_fault one sound room object a n s (two_masters events says twins) = twins (subst MastersDiffer (same_events one object s.events events s.says says) s.masters)
 no_fault one sound room object a n s (two_overrides events says twins) = twins (subst OverridesDiffer (same_events one object s.events events s.says says) s.overrides)

@@ -8,7 +8,7 @@ use Rattle.std.proofs.lemmas.Option.{same_Some}
 use Rattle.profile.specs.text.Lines.{line_value}
 use Rattle.profile.specs.text.Values.{SpellsStamp, SpellsSequence, IsUid, unescaped}
 use Rattle.profile.specs.text.Trees.{Tree}
-use Rattle.profile.specs.events.Events.{Method, SaysEvent, Event, Attendee, IsAttendee, EventFault, single_names, in_times, in_rule, in_occurrences, bad_stamp, bad_uid, bad_organiser, bad_attendee, bad_sequence, no_uid, no_stamp_given, twice, no_organiser}
+use Rattle.profile.specs.events.EventComponents.{Method, SaysEventComponent, EventComponent, Attendee, IsAttendee, EventComponentFault, single_names, in_times, in_rule, in_occurrences, bad_stamp, bad_uid, bad_organiser, bad_attendee, bad_sequence, no_uid, no_stamp_given, twice, no_organiser}
 use Rattle.profile.specs.events.Properties.{lines_named, IsMissing, Says, IsUidLine, IsAddressLine, IsStampLine, IsSequenceLine, IsNoStamp, IsNoAddress, IsNoSequence, TimeKind, DateTime, Date, Period, Other, time_kind, IsDateText, IsLocalText, UnfixedOrMalformed, KindFault, TimeFault}
 use Rattle.ical_tree.proofs.OneLine.{IsFunctional}
 use Rattle.cal_events.proofs.Said.{same_said, said_by}
@@ -43,7 +43,7 @@ attendee_same a b p q r = λ i. record { address = p i; participation = q i; sch
 attendee_one : IsFunctional IsAttendee
 attendee_one line a b h k = attendee_same a b (h.address.1 ∙ sym k.address.1) (h.participation ∙ sym k.participation) (h.scheduled ∙ sym k.scheduled)
 
-event_same : (a b : Event) → a.uid ≡ b.uid → a.organiser ≡ b.organiser → a.stamp ≡ b.stamp → a.sequence ≡ b.sequence → a.cancelled ≡ b.cancelled → a.recurrence ≡ b.recurrence
+event_same : (a b : EventComponent) → a.uid ≡ b.uid → a.organiser ≡ b.organiser → a.stamp ≡ b.stamp → a.sequence ≡ b.sequence → a.cancelled ≡ b.cancelled → a.recurrence ≡ b.recurrence
     → a.times ≡ b.times → a.rule ≡ b.rule → a.additions ≡ b.additions → a.exceptions ≡ b.exceptions → a.summary ≡ b.summary → a.attendees ≡ b.attendees → a ≡ b
 event_same a b p q r s c o t w x y z u = λ i. record {
   uid = p i;
@@ -60,7 +60,7 @@ event_same a b p q r s c o t w x y z u = λ i. record {
   attendees = u i;
 }
 
-pub one_event : OneStamp → OneDuration → OneSequence → OneZonedTime → OneRule → (object : Tree) (m : Option Method) (lines : Lines) (a b : Event) → SaysEvent object m lines a → SaysEvent object m lines b → a ≡ b
+pub one_event : OneStamp → OneDuration → OneSequence → OneZonedTime → OneRule → (object : Tree) (m : Option Method) (lines : Lines) (a b : EventComponent) → SaysEventComponent object m lines a → SaysEventComponent object m lines b → a ≡ b
 one_event one two three zoned rules object m lines a b s t =
     let same = one_occurrences zoned object lines a.recurrence b.recurrence a.additions b.additions a.exceptions b.exceptions s.occurrences t.occurrences in
     let given = same_said IsSequenceLine (codes "SEQUENCE") false lines s.sequence.0 t.sequence.0 (sequence_one three) s.sequence.1 t.sequence.1 in
@@ -104,7 +104,7 @@ present_some R name m lines v s t missing = go s.line (sym s.once ∙ missing) (
     go None h k = true≢false (sym k)
     go (Some x) h k = cc
 
-all_lone : (object : Tree) (m : Option Method) (lines : Lines) (e : Event) → SaysEvent object m lines e → All (IsLone lines) single_names
+all_lone : (object : Tree) (m : Option Method) (lines : Lines) (e : EventComponent) → SaysEventComponent object m lines e → All (IsLone lines) single_names
 all_lone object m lines e s =
     All-from_recursion (IsLone lines) single_names (
       at_most_one (codes "UID") lines s.uid.line s.uid.once,
@@ -120,8 +120,8 @@ all_lone object m lines e s =
       ),
     )
 
-module _ (two : OneDuration) (apart : NotBoth) (zoned : OneZonedTime) (sound : NoTimeFault) (rules : OneRule) (faultless : NoRuleFault) (object : Tree) (m : Option Method) (lines : Lines) (event : Event) (s : SaysEvent object m lines event) where
-  pub no_fault : (n : ℕ) → EventFault object m lines n → ⊥
+module _ (two : OneDuration) (apart : NotBoth) (zoned : OneZonedTime) (sound : NoTimeFault) (rules : OneRule) (faultless : NoRuleFault) (object : Tree) (m : Option Method) (lines : Lines) (event : EventComponent) (s : SaysEventComponent object m lines event) where
+  pub no_fault : (n : ℕ) → EventComponentFault object m lines n → ⊥
   no_fault n (in_times f) = no_times_fault_by zoned sound two apart object lines event.times s.times n f
   no_fault n (in_rule f) = no_rule_fault_by zoned rules faultless object lines event.times event.rule s.times s.rule n f
   no_fault n (in_occurrences f) = no_occurrence_fault zoned sound object lines event.recurrence event.additions event.exceptions s.occurrences n f

@@ -7,12 +7,12 @@ use Rattle.std.proofs.lemmas.Int.{ints}
 use Rattle.std.proofs.lemmas.Option.{same_Some}
 use Rattle.profile.specs.text.Lines.{line_value}
 use Rattle.profile.specs.text.Trees.{Tree}
-use Rattle.profile.specs.series.Rules.{Parts, RuleText, Until, UntilDay, UntilLocal, UntilInstant, rule_of, is_rule_day, is_counted}
+use Rattle.profile.specs.series.Rules.{Rule, RuleText, Until, UntilDay, UntilLocal, UntilInstant, rule_of, is_rule_day, is_counted}
 use Rattle.profile.specs.series.RuleTexts.{SpellsRule, RuleFault, IsLeastRuleFault}
 use Rattle.profile.specs.series.Zones.{Zone, IsOneMeaning, NoneFrom, IsLastDay}
 use Rattle.profile.specs.events.Properties.{BothOrNeither, SomeLine, lines_named}
 use Rattle.profile.specs.events.ZonedTimes.{SaysZonedTime, clock_of, is_in_zone, first_local, EventTimes, SaysEventTimes, SaysTimes}
-use Rattle.profile.specs.events.EventRules.{as_end, IsLastAllowed, AllowsNone, IsOnDay, GivesRule, IsRuleText, GivesBeside, SaysEventRule, IsOutside, EventRuleFault, bad_rule, starts_outside, two_rules}
+use Rattle.profile.specs.events.EventRules.{as_end, IsLastAllowed, AllowsNone, IsOnDay, GivesRule, IsRuleText, GivesBeside, SaysEventRule, IsOutsideRule, EventRuleFault, bad_rule, starts_outside, two_rules}
 use Rattle.ical_tree.proofs.OneLine.{IsFunctional, only_line}
 use Rattle.cal_events.proofs.OneTimes.{Lines, OneZonedTime, OneDuration, at_most_one, clock_one, one_times_by, clock_by, none_there}
 use Rattle.cal_events.proofs.Said.{same_said, said_by}
@@ -55,7 +55,7 @@ not_none zone second one (Some (UntilInstant instant)) last from h k = none_left
 same_day : (local : ℤ) (d s e t : ℕ) → IsOnDay local d s → IsOnDay local e t → (d ≡ e) × (s ≡ t)
 same_day local d s e t h k = (omega (arith, ints, h.0, h.1, k.0, k.1), omega (arith, ints, h.0, h.1, k.0, k.1))
 
-same_given : (zone : Zone) (local : ℤ) → IsOneMeaning zone → (text : RuleText) (a b : Parts) → GivesRule zone local text a → GivesRule zone local text b → a ≡ b
+same_given : (zone : Zone) (local : ℤ) → IsOneMeaning zone → (text : RuleText) (a b : Rule) → GivesRule zone local text a → GivesRule zone local text b → a ≡ b
 same_given zone local one text a b g h =
     let e = same_day local g.day g.second h.day h.second g.on h.on in
     let last = same_last zone h.second one text.until g.last h.last (subst (λ (s : ℕ). IsLastAllowed zone s text.until g.last) e.1 g.allowed) h.allowed in
@@ -64,7 +64,7 @@ same_given zone local one text a b g h =
 text_one : OneRule → IsFunctional IsRuleText
 text_one rules line a b h k = rules (line_value line) a b h k
 
-same_beside : (starts : Lines) (times : EventTimes) → IsOneMeaning (clock_of times.zone) → (text : Option RuleText) (a b : Option Parts) → GivesBeside starts times text a → GivesBeside starts times text b → a ≡ b
+same_beside : (starts : Lines) (times : EventTimes) → IsOneMeaning (clock_of times.zone) → (text : Option RuleText) (a b : Option Rule) → GivesBeside starts times text a → GivesBeside starts times text b → a ≡ b
 same_beside [] times one text a b g h = g ∙ sym h
 same_beside (start ∷ more) times one None None None g h = refl
 same_beside (start ∷ more) times one None None (Some b) g h = absurd h
@@ -73,7 +73,7 @@ same_beside (start ∷ more) times one (Some text) None b g h = absurd g
 same_beside (start ∷ more) times one (Some text) (Some a) None g h = absurd h
 same_beside (start ∷ more) times one (Some text) (Some a) (Some b) g h = ap Some (same_given (clock_of times.zone) times.local one text a b g h)
 
-pub one_event_rule : OneZonedTime → OneDuration → OneRule → {may : Bool} (object : Tree) (lines : Lines) (s t : EventTimes) (a b : Option Parts) → SaysTimes may object lines s → SaysTimes may object lines t
+pub one_event_rule : OneZonedTime → OneDuration → OneRule → {may : Bool} (object : Tree) (lines : Lines) (s t : EventTimes) (a b : Option Rule) → SaysTimes may object lines s → SaysTimes may object lines t
     → SaysEventRule lines s a → SaysEventRule lines t b → a ≡ b
 one_event_rule zoned two rules object lines s t a b h k p q =
     let starts = lines_named (codes "DTSTART") lines in
@@ -84,16 +84,16 @@ one_event_rule zoned two rules object lines s t a b h k p q =
 -- ---- there is no fault where a rule is said
 
 -- a rule day is not past the last one
-is_up_to_last : (rule : Parts) (day : ℕ) → is_rule_day rule day ≡ true → day ≤ rule.last
+is_up_to_last : (rule : Rule) (day : ℕ) → is_rule_day rule day ≡ true → day ≤ rule.last
 unfolding is_rule_day is_counted
 is_up_to_last rule day h = grind (arith, nat_tests)
 
-no_text_fault : OneRule → NoRuleFault → (lines : Lines) (times : EventTimes) (rule : Option Parts) → SaysEventRule lines times rule → (n : ℕ)
+no_text_fault : OneRule → NoRuleFault → (lines : Lines) (times : EventTimes) (rule : Option Rule) → SaysEventRule lines times rule → (n : ℕ)
     → SomeLine (codes "RRULE") (λ line. IsLeastRuleFault (line_value line) n) lines → ⊥
 no_text_fault rules none lines times rule r n l =
     let f = said_by IsRuleText _ (codes "RRULE") false lines r.text r.spells l in none (line_value l.0) n f.0 l.2.fault f.1
 
-module _ (zoned : OneZonedTime) (rules : OneRule) (none : NoRuleFault) (object : Tree) (lines : Lines) (times : EventTimes) (rule : Option Parts) (s : SaysEventTimes object lines times) (r : SaysEventRule lines times rule) where
+module _ (zoned : OneZonedTime) (rules : OneRule) (none : NoRuleFault) (object : Tree) (lines : Lines) (times : EventTimes) (rule : Option Rule) (s : SaysEventTimes object lines times) (r : SaysEventRule lines times rule) where
   the_clock : IsOneMeaning (clock_of times.zone)
   the_clock = clock_one object s.line (line_value s.line) times.zone times.local s.says
 
@@ -105,11 +105,11 @@ module _ (zoned : OneZonedTime) (rules : OneRule) (none : NoRuleFault) (object :
       go true h = omega (arith, ints, h, on.0, on.1)
       go false h = omega (arith, ints, h, on.0, on.1)
 
-  not_outside : (text : RuleText) (x : Parts) → GivesRule (clock_of times.zone) times.local text x → IsOutside (clock_of times.zone) times.local text → ⊥
+  not_outside : (text : RuleText) (x : Rule) → GivesRule (clock_of times.zone) times.local text x → IsOutsideRule (clock_of times.zone) times.local text → ⊥
   not_outside text x g out =
       let e = same_day times.local out.day out.second g.day g.second out.on g.on in
       let zone = clock_of times.zone in
-      let starts : is_rule_day (rule_of text g.day g.last) g.day ≡ true = subst (λ (y : Parts). is_rule_day y g.day ≡ true) g.is g.starts in
+      let starts : is_rule_day (rule_of text g.day g.last) g.day ≡ true = subst (λ (y : Rule). is_rule_day y g.day ≡ true) g.is g.starts in
       let from : g.day ≤ g.last = is_up_to_last (rule_of text g.day g.last) g.day starts in
       elim out.none [
         | inl h ↦ not_none zone g.second the_clock text.until g.last (omega (arith, from, late g.day g.second g.on)) g.allowed
@@ -121,13 +121,13 @@ module _ (zoned : OneZonedTime) (rules : OneRule) (none : NoRuleFault) (object :
       ]
 
   -- the rule that the text gives from the start that is there
-  given : (text : RuleText) → r.text ≡ Some text → (x : Parts) × GivesRule (clock_of times.zone) times.local text x
+  given : (text : RuleText) → r.text ≡ Some text → (x : Rule) × GivesRule (clock_of times.zone) times.local text x
   given text e =
       both rule
       (subst (λ (t : Option RuleText). BothOrNeither (GivesRule (clock_of times.zone) times.local) t rule) e
       (subst (λ (starts : Lines). GivesBeside starts times r.text rule) s.once r.gives))
     where
-      both : (o : Option Parts) → BothOrNeither (GivesRule (clock_of times.zone) times.local) (Some text) o → (x : Parts) × GivesRule (clock_of times.zone) times.local text x
+      both : (o : Option Rule) → BothOrNeither (GivesRule (clock_of times.zone) times.local) (Some text) o → (x : Rule) × GivesRule (clock_of times.zone) times.local text x
       both None g = absurd g
       both (Some x) g = (x, g)
 
@@ -141,11 +141,11 @@ module _ (zoned : OneZonedTime) (rules : OneRule) (none : NoRuleFault) (object :
       let z = zoned object start (line_value start) out.zone times.zone out.local times.local out.says (subst (λ (x : List ℕ). SaysZonedTime object x times.zone times.local) line s.says) in
       let text = rules (line_value l.0) out.text f.0 out.spelled f.1 in
       not_outside f.0 g.0 g.1
-      (subst (λ (t : RuleText). IsOutside (clock_of times.zone) times.local t) text
-      (subst (λ (x : ℤ). IsOutside (clock_of times.zone) x out.text) z.1 (subst (λ (x : Option Zone). IsOutside (clock_of x) out.local out.text) z.0 out.outside)))
+      (subst (λ (t : RuleText). IsOutsideRule (clock_of times.zone) times.local t) text
+      (subst (λ (x : ℤ). IsOutsideRule (clock_of times.zone) x out.text) z.1 (subst (λ (x : Option Zone). IsOutsideRule (clock_of x) out.local out.text) z.0 out.outside)))
   no_rule_fault n (two_rules h) = let l = at_most_one (codes "RRULE") lines r.spells.line r.spells.once in absurd (omega (arith, l, h))
 
-pub no_rule_fault_by : OneZonedTime → OneRule → NoRuleFault → {may : Bool} (object : Tree) (lines : Lines) (times : EventTimes) (rule : Option Parts) → SaysTimes may object lines times → SaysEventRule lines times rule
+pub no_rule_fault_by : OneZonedTime → OneRule → NoRuleFault → {may : Bool} (object : Tree) (lines : Lines) (times : EventTimes) (rule : Option Rule) → SaysTimes may object lines times → SaysEventRule lines times rule
     → (n : ℕ) → EventRuleFault object lines n → ⊥
 no_rule_fault_by zoned rules none object lines times rule (inl s) r n f = no_rule_fault zoned rules none object lines times rule s r n f
 no_rule_fault_by zoned rules none object lines times rule (inr (_, s)) r n (bad_rule l) = no_text_fault rules none lines times rule r n l

@@ -12,14 +12,14 @@ use Rattle.profile.specs.text.Trees.{Tree, vevents}
 use Rattle.profile.specs.series.Rules.{Pattern, is_base}
 use Rattle.profile.specs.series.Zones.{Zone, Constant, Single, Pair, Observance, Onset, IsOnset, IsOffsetAt, IsOneOffset, IsOneMeaning, Means}
 use Rattle.profile.specs.series.ZoneTexts.{AreMatched, AreSpaced, HasForm, pair, IsRuleOnset, PartsSay, year_pattern}
-use Rattle.profile.specs.checker.Instances.{Key, Booked}
+use Rattle.profile.specs.checker.Instances.{Key, Instance}
 use Rattle.profile.specs.events.Properties.{BothOrNeither}
 use Rattle.profile.specs.events.ZonedTimes.{zone_named, SaysZoneOf, SpellsZoned, SaysZonedText, clock_of, EventTimes, SaysTimes}
 use Rattle.profile.specs.events.Occurrences.{IsRecurrenceLine}
-use Rattle.profile.specs.events.Events.{Method, Event, SaysEvent}
-use Rattle.profile.specs.events.Meetings.{Meeting, is_master, is_override, InstancesDiffer, SaysMeeting}
+use Rattle.profile.specs.events.EventComponents.{Method, EventComponent, SaysEventComponent}
+use Rattle.profile.specs.events.Events.{Event, is_master, is_override, InstancesDiffer, SaysEvent}
 use Rattle.profile.specs.events.Starts.{IsDaysLater, EndsAt, IsOverridden, IsOfMaster, IsOfOverride, IsInstance, key_at}
-use Rattle.cal_events.specs.Meetings.{IsNamed}
+use Rattle.cal_events.specs.Meetings.{IsInEventDates}
 use Rattle.cal_events.specs.OwnInstances.{IsSteady}
 use Rattle.cal_zones.proofs.Zones.{unique, once_constant, once_single, once_pair}
 use Rattle.cal_events.proofs.Meanings.{one_meaning}
@@ -84,27 +84,27 @@ clock_steady object line text (Some zone) local h = spelled (line_param (codes "
 
 -- ---- an event
 
-pub record IsSound (event : Event) : Type 0 where
+pub record IsSound (event : EventComponent) : Type 0 where
   pub steady : IsSteady (clock_of event.times.zone)
-  pub starts : IsNamed event.times.start
-  pub names : (slot : ℤ) → event.recurrence ≡ Some slot → IsNamed slot
+  pub starts : IsInEventDates event.times.start
+  pub names : (slot : ℤ) → event.recurrence ≡ Some slot → IsInEventDates slot
 
-pub recurrence_named : (object : Tree) (line : Option (List ℕ)) (r : Option ℤ) (slot : ℤ) → BothOrNeither (IsRecurrenceLine object) line r → r ≡ Some slot → IsNamed slot
+pub recurrence_named : (object : Tree) (line : Option (List ℕ)) (r : Option ℤ) (slot : ℤ) → BothOrNeither (IsRecurrenceLine object) line r → r ≡ Some slot → IsInEventDates slot
 recurrence_named object line r slot h e = go line (subst (BothOrNeither (IsRecurrenceLine object) line) e h)
   where
-    go : (l : Option (List ℕ)) → BothOrNeither (IsRecurrenceLine object) l (Some slot) → IsNamed slot
+    go : (l : Option (List ℕ)) → BothOrNeither (IsRecurrenceLine object) l (Some slot) → IsInEventDates slot
     go None h = absurd h
     go (Some l) (_, (_, _, _, _, dates)) = (dates.1, dates.2)
 
 -- its clocks, and where it starts
-times_sound : {may : Bool} (object : Tree) (lines : Lines) (times : EventTimes) → SaysTimes may object lines times → IsSteady (clock_of times.zone) × IsNamed times.start
+times_sound : {may : Bool} (object : Tree) (lines : Lines) (times : EventTimes) → SaysTimes may object lines times → IsSteady (clock_of times.zone) × IsInEventDates times.start
 times_sound object lines times (inl t) = (clock_steady object t.line (line_value t.line) times.zone times.local t.says, (t.in_dates.1, t.in_dates.2))
 times_sound object lines times (inr (_, t)) = (
   subst (λ (z : Option Zone). IsSteady (clock_of z)) (sym t.zone) utc_steady,
-  subst IsNamed (sym t.start) (omega (arith, ints), omega (arith, ints)),
+  subst IsInEventDates (sym t.start) (omega (arith, ints), omega (arith, ints)),
 )
 
-pub event_sound : (object : Tree) {m : Option Method} (lines : Lines) (event : Event) → SaysEvent object m lines event → IsSound event
+pub event_sound : (object : Tree) {m : Option Method} (lines : Lines) (event : EventComponent) → SaysEventComponent object m lines event → IsSound event
 event_sound object lines event s =
     let t = times_sound object lines event.times s.times in
     record {
@@ -113,10 +113,10 @@ event_sound object lines event s =
       names = λ slot e. recurrence_named object s.occurrences.is.line event.recurrence slot s.occurrences.is.is e;
     }
 
-pub all_sound : (object : Tree) (m : Option Method) (vs : List Lines) (es : List Event) → AllZip (SaysEvent object m) vs es → All IsSound es
+pub all_sound : (object : Tree) (m : Option Method) (vs : List Lines) (es : List EventComponent) → AllZip (SaysEventComponent object m) vs es → All IsSound es
 all_sound object m vs es z = All-from_recursion IsSound es (go vs es z)
   where
-    go : (vs : List Lines) (es : List Event) → AllZip (SaysEvent object m) vs es → AllByRecursion IsSound es
+    go : (vs : List Lines) (es : List EventComponent) → AllZip (SaysEventComponent object m) vs es → AllByRecursion IsSound es
     go [] [] z = tt
     go [] (e ∷ es) z = absurd z
     go (v ∷ vs) [] z = absurd z
@@ -147,82 +147,82 @@ ends_after times t e s (u, h, p) = let k = not_earlier (clock_of times.zone) tim
 
 -- ---- overrides
 
-recurrence_at : (os : List Event) (y : Event) (k : ℕ) → k < length os → get_or os k y ≡ y → get_or (map (λ event. event.recurrence) os) k y.recurrence ≡ y.recurrence
+recurrence_at : (os : List EventComponent) (y : EventComponent) (k : ℕ) → k < length os → get_or os k y ≡ y → get_or (map (λ event. event.recurrence) os) k y.recurrence ≡ y.recurrence
 recurrence_at [] y k w e = refl
-recurrence_at (o ∷ os) y zero w e = ap (λ (x : Event). x.recurrence) e
+recurrence_at (o ∷ os) y zero w e = ap (λ (x : EventComponent). x.recurrence) e
 recurrence_at (o ∷ os) y (suc k) w e = recurrence_at os y k (omega (arith, w)) e
 
-as_many : (os : List Event) (k : ℕ) → k < length os → k < length (map (λ event. event.recurrence) os)
+as_many : (os : List EventComponent) (k : ℕ) → k < length os → k < length (map (λ event. event.recurrence) os)
 as_many [] k w = absurd (omega (arith, w))
 as_many (o ∷ os) zero w = omega arith
 as_many (o ∷ os) (suc k) w = let l = as_many os k (omega (arith, w)) in omega (arith, l)
 
-overridden : (os : List Event) (y : Event) (slot : ℤ) → Contains os y → y.recurrence ≡ Some slot → IsOverridden os slot
+overridden : (os : List EventComponent) (y : EventComponent) (slot : ℤ) → Contains os y → y.recurrence ≡ Some slot → IsOverridden os slot
 overridden os y slot (k, w, e) is =
     (k, as_many os k w, subst (λ (r : Option ℤ). get_or (map (λ event. event.recurrence) os) k r ≡ r) is (recurrence_at os y k w e))
 
-apart : (o : Event) (os : List Event) (y : Event) → InstancesDiffer (o ∷ os) → Contains os y → o.recurrence ≡ y.recurrence → ⊥
+apart : (o : EventComponent) (os : List EventComponent) (y : EventComponent) → InstancesDiffer (o ∷ os) → Contains os y → o.recurrence ≡ y.recurrence → ⊥
 apart o os y d (k, w, e) same =
     let l = as_many os k w in
     d 0 (suc k) y.recurrence (omega arith) (omega (arith, l)) (same ∙ sym (recurrence_at os y k w e))
 
-rest_differ : (o : Event) (os : List Event) → InstancesDiffer (o ∷ os) → InstancesDiffer os
+rest_differ : (o : EventComponent) (os : List EventComponent) → InstancesDiffer (o ∷ os) → InstancesDiffer os
 rest_differ o os d i j x l w = d (suc i) (suc j) x (omega (arith, l)) (omega (arith, w))
 
-same_override : (os : List Event) (a b : Event) → InstancesDiffer os → Contains os a → Contains os b → a.recurrence ≡ b.recurrence → a ≡ b
+same_override : (os : List EventComponent) (a b : EventComponent) → InstancesDiffer os → Contains os a → Contains os b → a.recurrence ≡ b.recurrence → a ≡ b
 same_override [] a b d (k, w, e) c same = absurd (omega (arith, w))
 same_override (o ∷ os) a b d (zero, w, e) (zero, v, f) same = sym e ∙ f
 same_override (o ∷ os) a b d (zero, w, e) (suc k, v, f) same =
-    absurd (apart o os b d (k, omega (arith, v), f) (ap (λ (x : Event). x.recurrence) e ∙ same))
+    absurd (apart o os b d (k, omega (arith, v), f) (ap (λ (x : EventComponent). x.recurrence) e ∙ same))
 same_override (o ∷ os) a b d (suc k, w, e) (zero, v, f) same =
-    absurd (apart o os a d (k, omega (arith, w), e) (ap (λ (x : Event). x.recurrence) f ∙ sym same))
+    absurd (apart o os a d (k, omega (arith, w), e) (ap (λ (x : EventComponent). x.recurrence) f ∙ sym same))
 same_override (o ∷ os) a b d (suc k, w, e) (suc j, v, f) same =
     same_override os a b (rest_differ o os d) (k, omega (arith, w), e) (j, omega (arith, v), f) same
 
 -- ---- an event with its instances
 
-pub booked_same : (a b : Booked) → a.key ≡ b.key → a.start ≡ b.start → a.end ≡ b.end → a ≡ b
+pub booked_same : (a b : Instance) → a.key ≡ b.key → a.start ≡ b.start → a.end ≡ b.end → a ≡ b
 booked_same a b p q r = λ i. record { key = p i; start = q i; end = r i }
 
-module _ (object : Tree) (meeting : Meeting) (s : SaysMeeting object None meeting) where
+module _ (object : Tree) (meeting : Event) (s : SaysEvent object None meeting) where
   sound : All IsSound s.events
   sound = all_sound object None (vevents object) s.events s.says
 
-  master_sound : (m : Event) → meeting.master ≡ Some m → IsSound m
+  master_sound : (m : EventComponent) → meeting.master ≡ Some m → IsSound m
   master_sound m is =
-      let one : filter is_master s.events ≡ m ∷ [] = s.master ∙ ap (λ (x : Option Event). option_to_list x) is in
+      let one : filter is_master s.events ≡ m ∷ [] = s.master ∙ ap (λ (x : Option EventComponent). option_to_list x) is in
       subst (All IsSound) one (All-filter is_master IsSound s.events sound) 0 m (omega arith)
 
-  override_sound : (o : Event) → Contains meeting.overrides o → IsSound o
+  override_sound : (o : EventComponent) → Contains meeting.overrides o → IsSound o
   override_sound o c = All-contains IsSound meeting.overrides o (subst (All IsSound) s.overrides (All-filter is_override IsSound s.events sound)) c
 
   -- a start of the master isn't an override's
-  not_both : (a b : Booked) → IsOfMaster meeting a → IsOfOverride meeting b → a.key.slot ≡ b.key.slot → ⊥
+  not_both : (a b : Instance) → IsOfMaster meeting a → IsOfOverride meeting b → a.key.slot ≡ b.key.slot → ⊥
   not_both a b h k same =
       let slot : b.key.slot ≡ a.start = sym same ∙ ap (λ (x : Key). x.slot) h.key in
       h.starts.not_overridden (overridden meeting.overrides k.override a.start k.is (k.recurrence ∙ ap Some slot))
 
-  pub one_at : (a b : Booked) → IsInstance meeting a → IsInstance meeting b → a.start ≡ b.start → a.key.slot ≡ b.key.slot → a ≡ b
+  pub one_at : (a b : Instance) → IsInstance meeting a → IsInstance meeting b → a.start ≡ b.start → a.key.slot ≡ b.key.slot → a ≡ b
   one_at a b (inl h) (inl k) start slot =
       let m : k.master ≡ h.master = same_Some k.master h.master (sym k.is ∙ h.is) in
       booked_same a b
-      (h.key ∙ ap (key_at h.master) start ∙ ap (λ (x : Event). key_at x b.start) (sym m) ∙ sym k.key)
+      (h.key ∙ ap (key_at h.master) start ∙ ap (λ (x : EventComponent). key_at x b.start) (sym m) ∙ sym k.key)
       start
       (end_one h.master.times b.start a.end b.end (master_sound h.master h.is).steady (subst (λ (t : ℤ). EndsAt h.master.times t a.end) start h.ends)
-      (subst (λ (x : Event). EndsAt x.times b.start b.end) m k.ends))
+      (subst (λ (x : EventComponent). EndsAt x.times b.start b.end) m k.ends))
   one_at a b (inl h) (inr k) start slot = absurd (not_both a b h k slot)
   one_at a b (inr h) (inl k) start slot = absurd (not_both b a k h (sym slot))
   one_at a b (inr h) (inr k) start slot =
       let o : k.override ≡ h.override = same_override meeting.overrides k.override h.override s.differ k.is h.is (k.recurrence ∙ ap Some (sym slot) ∙ sym h.recurrence) in
       booked_same a b
-      (h.key ∙ ap (key_at h.override) slot ∙ ap (λ (x : Event). key_at x b.key.slot) (sym o) ∙ sym k.key)
+      (h.key ∙ ap (key_at h.override) slot ∙ ap (λ (x : EventComponent). key_at x b.key.slot) (sym o) ∙ sym k.key)
       start
       (end_one h.override.times b.start a.end b.end (override_sound h.override h.is).steady (subst (λ (t : ℤ). EndsAt h.override.times t a.end) start h.ends)
-      (subst (λ (x : Event). EndsAt x.times b.start b.end) o k.ends))
+      (subst (λ (x : EventComponent). EndsAt x.times b.start b.end) o k.ends))
 
-  pub dated : (a : Booked) → IsInstance meeting a → IsNamed a.key.slot × IsNamed a.start × (a.start ≤ℤ a.end)
+  pub dated : (a : Instance) → IsInstance meeting a → IsInEventDates a.key.slot × IsInEventDates a.start × (a.start ≤ℤ a.end)
   dated a (inl h) =
-      (subst IsNamed (sym (ap (λ (x : Key). x.slot) h.key)) h.starts.in_dates, h.starts.in_dates, ends_after h.master.times a.start a.end (master_sound h.master h.is).steady h.ends)
+      (subst IsInEventDates (sym (ap (λ (x : Key). x.slot) h.key)) h.starts.in_dates, h.starts.in_dates, ends_after h.master.times a.start a.end (master_sound h.master h.is).steady h.ends)
   dated a (inr h) =
       let o = override_sound h.override h.is in
-      (o.names a.key.slot h.recurrence, subst IsNamed (sym h.starts) o.starts, ends_after h.override.times a.start a.end o.steady h.ends)
+      (o.names a.key.slot h.recurrence, subst IsInEventDates (sym h.starts) o.starts, ends_after h.override.times a.start a.end o.steady h.ends)

@@ -5,7 +5,7 @@ use Rattle.std.proofs.lemmas.Bool.{true≢false}
 use Rattle.profile.specs.text.Lines.{line_value, is_same_name}
 use Rattle.profile.specs.text.Trees.{Tree}
 use Rattle.profile.specs.events.ZonedTimes.{ZonedTimeFault, SaysOutOfDates}
-use Rattle.profile.specs.events.Occurrences.{SaysStatus, has_range, IsRecurrenceLine, Entry, entries_named, IsListed, IsInside, IsOutside, Lists, SaysOccurrences, EntryFault, EntriesFault, in_entry, too_many, OccurrenceFault, bad_recurrence, bad_additions, bad_exceptions, recurrence_out, additions_out, two_recurrences, ranged, recurs}
+use Rattle.profile.specs.events.Occurrences.{SaysStatus, has_range, IsRecurrenceLine, ListedTime, entries_named, IsListed, IsInside, IsOutside, Lists, SaysOccurrences, EntryFault, EntriesFault, in_entry, too_many, OccurrenceFault, bad_recurrence, bad_additions, bad_exceptions, recurrence_out, additions_out, two_recurrences, ranged, recurs}
 use Rattle.ical_tree.proofs.OneLine.{IsFunctional}
 use Rattle.cal_events.proofs.Said.{same_said, said_by}
 use Rattle.cal_events.proofs.Zips.{zip_one, zip_at, zip_length}
@@ -23,10 +23,10 @@ one_status lines a b (line, once, is) (other, lone, says) =
 recurrence_one : OneZonedTime → (object : Tree) → IsFunctional (IsRecurrenceLine object)
 recurrence_one one object line a b h k = one_instant one object line a b (dated object line a h.1) (dated object line b k.1)
 
-listed_one : OneZonedTime → (object : Tree) (name : List ℕ) (e : Entry) (a b : ℤ) → IsListed object name e a → IsListed object name e b → a ≡ b
+listed_one : OneZonedTime → (object : Tree) (name : List ℕ) (e : ListedTime) (a b : ℤ) → IsListed object name e a → IsListed object name e b → a ≡ b
 listed_one one object name (line, text) a b h k = text_instant one object line text a b h.1 k.1
 
-lists_one : OneZonedTime → (object : Tree) (name : List ℕ) (entries : List Entry) (a b : List ℤ) → Lists object name entries a → Lists object name entries b → a ≡ b
+lists_one : OneZonedTime → (object : Tree) (name : List ℕ) (entries : List ListedTime) (a b : List ℤ) → Lists object name entries a → Lists object name entries b → a ≡ b
 lists_one one object name entries a b h k = zip_one (IsListed object name) (listed_one one object name) entries a b h.0 k.0
 
 pub one_occurrences : OneZonedTime → {added : Bool} (object : Tree) (lines : Lines) (r q : Option ℤ) (a b e f : List ℤ) → SaysOccurrences added object lines r a e → SaysOccurrences added object lines q b f
@@ -39,11 +39,11 @@ one_occurrences one object lines r q a b e f s t = (
 
 -- ---- there is no fault where they are said
 
-no_entry_fault : NoTimeFault → (object : Tree) (name : List ℕ) (e : Entry) (t : ℤ) (n : ℕ) → IsListed object name e t → EntryFault object name e n → ⊥
+no_entry_fault : NoTimeFault → (object : Tree) (name : List ℕ) (e : ListedTime) (t : ℤ) (n : ℕ) → IsListed object name e t → EntryFault object name e n → ⊥
 no_entry_fault none object name (line, text) t n h (inl f) = true≢false (sym f.0 ∙ h.0)
 no_entry_fault none object name (line, text) t n h (inr f) = none object line text h.1.0 h.1.1 n h.1.2 f.1
 
-no_entries_fault : NoTimeFault → (object : Tree) (name : List ℕ) (entries : List Entry) (ts : List ℤ) → Lists object name entries ts → (n : ℕ) → EntriesFault object name entries n → ⊥
+no_entries_fault : NoTimeFault → (object : Tree) (name : List ℕ) (entries : List ListedTime) (ts : List ℤ) → Lists object name entries ts → (n : ℕ) → EntriesFault object name entries n → ⊥
 no_entries_fault none object name entries ts s n (in_entry e c f) =
     let x = zip_at (IsListed object name) entries ts e s.0 c in no_entry_fault none object name e x.0 n x.1 f
 no_entries_fault none object name entries ts s n (too_many more) =
@@ -52,7 +52,7 @@ no_entries_fault none object name entries ts s n (too_many more) =
     let over : 366 < length entries = more in
     absurd (omega (arith, l, most, over))
 
-inside_or_out : OneZonedTime → (object : Tree) (e : Entry) (t : ℤ) → IsInside object e t → IsOutside object e → ⊥
+inside_or_out : OneZonedTime → (object : Tree) (e : ListedTime) (t : ℤ) → IsInside object e t → IsOutside object e → ⊥
 inside_or_out one object (line, text) t (zone, local, says, means, dates) out = text_not_out one object line text zone local t says means dates out
 
 module _ (one : OneZonedTime) (none : NoTimeFault) {added : Bool} (object : Tree) (lines : Lines) (recurrence : Option ℤ) (additions exceptions : List ℤ) (s : SaysOccurrences added object lines recurrence additions exceptions) where

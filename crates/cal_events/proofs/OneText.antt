@@ -4,7 +4,7 @@ use Rattle.std.proofs.lemmas.Bool.{true≢false}
 use Rattle.ical_lines.proofs.ContentLemmas.{read_fine}
 use Rattle.profile.specs.text.Lines.{logical_lines}
 use Rattle.profile.specs.text.Objects.{SpellsTree, IsObject, has_version, lines_have}
-use Rattle.profile.specs.text.Trees.{Tree, tree_name, tree_own, tree_inside}
+use Rattle.profile.specs.text.Trees.{Tree, tree_own}
 use Rattle.profile.specs.events.Confirmed.{Confirmed}
 use Rattle.profile.specs.checker.Calendars.{SaysCalendar, CalendarFault, SpellsCalendar, CalendarTextFault, in_lines, in_tree, no_version, in_vevents}
 
@@ -12,10 +12,10 @@ abbrev Lines : Type 0
 Lines = List (List ℕ)
 
 abbrev pub OneTree : Type 0
-OneTree = (d e : ℕ) (lines : Lines) (a b : Tree) → SpellsTree tree_name tree_own tree_inside d a lines → SpellsTree tree_name tree_own tree_inside e b lines → a ≡ b
+OneTree = (d e : ℕ) (lines : Lines) (a b : Tree) → SpellsTree d a lines → SpellsTree e b lines → a ≡ b
 
 abbrev pub PairsUp : Type 0
-PairsUp = (bounded : Bool) (t : Tree) (lines : Lines) (n : ℕ) → IsObject tree_name tree_own tree_inside bounded t lines → lines_have n lines ≡ true → ⊥
+PairsUp = (bounded : Bool) (t : Tree) (lines : Lines) (n : ℕ) → IsObject bounded t lines → lines_have n lines ≡ true → ⊥
 
 abbrev OneCalendar : Type 0
 OneCalendar = (room : List ℕ) (object : Tree) (a b : Confirmed) → SaysCalendar room object a → SaysCalendar room object b → a ≡ b

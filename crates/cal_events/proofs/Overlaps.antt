@@ -7,17 +7,17 @@ use Rattle.std.proofs.lemmas.Int.{ints}
 use Rattle.std.proofs.lemmas.List.{take_more}
 use Rattle.std.proofs.lemmas.List.Elements.{Contains-push_cases}
 use Rattle.profile.specs.series.Zones.{IsBounds}
-use Rattle.profile.specs.checker.Instances.{Booked, horizon}
+use Rattle.profile.specs.checker.Instances.{Instance as SaidInstance, horizon}
 use Rattle.profile.specs.events.Properties.{first_second, length_seconds}
 use Rattle.profile.specs.events.ZonedTimes.{EventTimes, clock_of}
-use Rattle.profile.specs.events.Meetings.{Meeting}
 use Rattle.profile.specs.events.Events.{Event}
+use Rattle.profile.specs.events.EventComponents.{EventComponent as SaidComponent}
 use Rattle.profile.specs.events.Starts.{IsInstance, ComesBefore, EndsAt, SharesInstant, IsFirstOverlap}
 use Rattle.cal_events.specs.Calendars.{instance_of}
 use Rattle.cal_events.specs.Events.{times_of}
 use Rattle.cal_events.specs.Instances.{IsAfter, IsPastSlot}
 use Rattle.cal_events.specs.Left.{IsLeft, GivesFirst}
-use Rattle.cal_events.specs.Meetings.{IsNamed}
+use Rattle.cal_events.specs.Meetings.{IsInEventDates}
 use Rattle.cal_events.specs.SaidMeetings.{said_meeting}
 use Rattle.cal_events.specs.declared.event.Event as declared
 use Rattle.cal_events.specs.declared.component.EventComponent.{EventComponent}
@@ -56,13 +56,13 @@ pub last_whole : (os : List EventComponent) (k : ℕ) (n : ℤ) → length os �
 last_whole os k n le h = subst (λ (l : List EventComponent). AllLast l n) (take_all k os le) h
 
 pub instance_lasts : (event : declared.Event) (n : ℤ) → ((c : EventComponent) → event.master ≡ Some c → LastAtMost (times_of c.times) n) → AllLast event.overrides.items n
-    → (b : Booked) → IsInstance (said_meeting event) b → b.end ≤ℤ (b.start +ℤ n)
+    → (b : SaidInstance) → IsInstance (said_meeting event) b → b.end ≤ℤ (b.start +ℤ n)
 instance_lasts event n master overrides b (inl i) =
     let m = of_option event.master i.master i.is in
-    master m.0 m.1 b.start b.end (subst (λ (e : Event). EndsAt e.times b.start b.end) (sym m.2) i.ends)
+    master m.0 m.1 b.start b.end (subst (λ (e : SaidComponent). EndsAt e.times b.start b.end) (sym m.2) i.ends)
 instance_lasts event n master overrides b (inr i) =
     let m = of_list event.overrides.items i.override i.is in
-    overrides m.0 m.1 b.start b.end (subst (λ (e : Event). EndsAt e.times b.start b.end) (sym m.2) i.ends)
+    overrides m.0 m.1 b.start b.end (subst (λ (e : SaidComponent). EndsAt e.times b.start b.end) (sym m.2) i.ends)
 
 -- ---- one instance beside a span
 
@@ -81,7 +81,7 @@ abs_is : (d : ℤ) → pos 0 ≤ℤ d → pos (unsigned_abs d) ≡ d
 abs_is (pos n) h = refl
 abs_is (negsuc n) h = absurd (omega (arith, ints, h))
 
-less : (bound : Bound) (start slot : ℤ) → IsNamed slot → IsNamed start → IsAfter bound start slot → places_left (record { start = start; slot = Some slot }) < places_left bound
+less : (bound : Bound) (start slot : ℤ) → IsInEventDates slot → IsInEventDates start → IsAfter bound start slot → places_left (record { start = start; slot = Some slot }) < places_left bound
 less bound start slot s t (inl before) =
     let a = abs_is (horizon -ℤ start) (omega (arith, ints, t)) in
     let b = abs_is (horizon -ℤ bound.start) (omega (arith, ints, t, before)) in
@@ -92,7 +92,7 @@ less bound start slot s t (inr (same, past)) =
     let fewer = slots_fewer bound.slot slot s past in
     omega (arith, a, fewer)
   where
-    slots_fewer : (last : Option ℤ) (slot : ℤ) → IsNamed slot → IsPastSlot last slot → slots_left (Some slot) < slots_left last
+    slots_fewer : (last : Option ℤ) (slot : ℤ) → IsInEventDates slot → IsPastSlot last slot → slots_left (Some slot) < slots_left last
     slots_fewer None slot s h = let c = abs_is (horizon -ℤ slot) (omega (arith, ints, s)) in omega (arith, ints, c, s)
     slots_fewer (Some last) slot s h =
         let c = abs_is (horizon -ℤ slot) (omega (arith, ints, s)) in
@@ -101,14 +101,14 @@ less bound start slot s t (inr (same, past)) =
 
 -- ---- those that share one are still to come
 
-pub record StillLeft (meeting : Meeting) (from to : ℤ) (left : Instances) : Type 0 where
-  pub its : (b : Booked) → IsLeft left b → IsInstance meeting b
-  pub all : (b : Booked) → IsInstance meeting b → SharesInstant b.start b.end from to → IsLeft left b
+pub record StillLeft (meeting : Event) (from to : ℤ) (left : Instances) : Type 0 where
+  pub its : (b : SaidInstance) → IsLeft left b → IsInstance meeting b
+  pub all : (b : SaidInstance) → IsInstance meeting b → SharesInstant b.start b.end from to → IsLeft left b
 
-module _ (meeting : Meeting) (from to : ℤ) where
+module _ (meeting : Event) (from to : ℤ) where
   -- from so early on
-  pub left_first : (begin n : ℤ) (left : Instances) → ((b : Booked) → IsInstance meeting b → b.end ≤ℤ (b.start +ℤ n)) → AreDated meeting → (begin ≤ℤ (from -ℤ n)) ⊎ (begin ≤ℤ first_second)
-      → ((b : Booked) → IsLeft left b ↔ (IsInstance meeting b × (begin ≤ℤ b.start))) → StillLeft meeting from to left
+  pub left_first : (begin n : ℤ) (left : Instances) → ((b : SaidInstance) → IsInstance meeting b → b.end ≤ℤ (b.start +ℤ n)) → AreDated meeting → (begin ≤ℤ (from -ℤ n)) ⊎ (begin ≤ℤ first_second)
+      → ((b : SaidInstance) → IsLeft left b ↔ (IsInstance meeting b × (begin ≤ℤ b.start))) → StillLeft meeting from to left
   left_first begin n left last dated early begins = record {
     its = λ b l. ((begins b).0 l).0;
     all = λ b is s.
@@ -118,14 +118,14 @@ module _ (meeting : Meeting) (from to : ℤ) where
   }
 
   module _ (old new : Instances) (h : StillLeft meeting from to old) where
-    pub none_shares : GivesFirst old None new → (b : Booked) → IsInstance meeting b → SharesInstant b.start b.end from to → ⊥
+    pub none_shares : GivesFirst old None new → (b : SaidInstance) → IsInstance meeting b → SharesInstant b.start b.end from to → ⊥
     none_shares given b is s = given.1.0 b (h.all b is s)
 
     module _ (i : Instance) (given : GivesFirst old (Some i) new) where
-      abbrev it : Booked
+      abbrev it : SaidInstance
       it = instance_of i
 
-      first_of : (b : Booked) → IsInstance meeting b → SharesInstant b.start b.end from to → ComesBefore b it → ⊥
+      first_of : (b : SaidInstance) → IsInstance meeting b → SharesInstant b.start b.end from to → ComesBefore b it → ⊥
       first_of b is s = given.1.1 b (h.all b is s)
 
       pub found : SharesInstant it.start it.end from to → IsFirstOverlap meeting from to (Some it)
@@ -136,7 +136,7 @@ module _ (meeting : Meeting) (from to : ℤ) where
       too_late late = λ b is s.
           let l : b.start <ℤ to = omega (arith, ints, s.in_first, s.in_second) in first_of b is s (inl (omega (arith, ints, l, late)))
 
-      still : (b : Booked) → IsLeft new b → IsLeft old b
+      still : (b : SaidInstance) → IsLeft new b → IsLeft old b
       still b (is, after) =
           (subst (λ e. IsInstance (said_meeting e.now) b) given.0 is, after_later old.after it b given.1.0.1 (subst (λ (x : Bound). IsAfter x b.start b.key.slot) given.1.2 after))
 
@@ -164,7 +164,7 @@ module _ (meeting : Meeting) (from to : ℤ) where
 -- ---- the walk
 
 -- the next was given, and is to be looked at
-pub record IsAhead (meeting : Meeting) (from to : ℤ) (next : Option Instance) (left : Instances) : Type 0 where
+pub record IsAhead (meeting : Event) (from to : ℤ) (next : Option Instance) (left : Instances) : Type 0 where
   pub old : Instances
   pub still : StillLeft meeting from to old
   pub given : GivesFirst old next left
@@ -174,12 +174,12 @@ abbrev pub steps_left : Option Instance → Instances → ℕ
 steps_left None left = 0
 steps_left (Some i) left = suc (places_left left.after)
 
-pub one_fewer : (meeting : Meeting) (from to : ℤ) (old new : Instances) (i : Instance) (next : Option Instance) → StillLeft meeting from to old → AreDated meeting → GivesFirst old next new → steps_left next new < suc (places_left old.after)
+pub one_fewer : (meeting : Event) (from to : ℤ) (old new : Instances) (i : Instance) (next : Option Instance) → StillLeft meeting from to old → AreDated meeting → GivesFirst old next new → steps_left next new < suc (places_left old.after)
 one_fewer meeting from to old new i None h dated given = omega arith
 one_fewer meeting from to old new i (Some j) h dated given = let l = fewer meeting from to old new h j given dated in omega (arith, l)
 
 -- none is to be looked at
-pub ended : (meeting : Meeting) (from to : ℤ) (next : Option Instance) (left : Instances) → IsAhead meeting from to next left → ((i : Instance) → next ≡ Some i → ⊥) → IsFirstOverlap meeting from to None
+pub ended : (meeting : Event) (from to : ℤ) (next : Option Instance) (left : Instances) → IsAhead meeting from to next left → ((i : Instance) → next ≡ Some i → ⊥) → IsFirstOverlap meeting from to None
 ended meeting from to None left h none = none_shares meeting from to h.old left h.still h.given
 ended meeting from to (Some i) left h none = absurd (none i refl)
 

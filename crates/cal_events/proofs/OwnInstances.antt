@@ -4,12 +4,12 @@ use Rattle.std.specs.Prelude.{Some, None, All, AllPairs, Contains}
 use Rattle.std.specs.List.{AllZip}
 use Rattle.std.proofs.lemmas.Option.{same_Some}
 use Rattle.std.proofs.lemmas.List.Elements.{All-nil, All-cons}
-use Rattle.profile.specs.checker.Instances.{Booked}
+use Rattle.profile.specs.checker.Instances.{Instance}
 use Rattle.profile.specs.events.Properties.{first_second}
-use Rattle.profile.specs.events.Events.{Event}
+use Rattle.profile.specs.events.EventComponents.{EventComponent}
 use Rattle.profile.specs.events.Starts.{IsStart, IsInstance, EndsAt, ComesBefore, AreInstancesFrom, key_at}
 use Rattle.profile.specs.events.Confirmed.{alone, IsOfSeries, AreApart}
-use Rattle.cal_events.specs.OwnInstances.{booked_at, IsMade, IsTimely}
+use Rattle.cal_events.specs.OwnInstances.{own_instance_at, IsInstanceAt, IsTimely}
 use Rattle.cal_events.specs.SingleStarts.{IsSingleStart, IsOnRule, AreSingleStarts}
 use Rattle.cal_events.specs.declared.instance.Single.{Single}
 use Rattle.std.proofs.lemmas.List.{take_more}
@@ -18,23 +18,23 @@ use Rattle.cal_events.proofs.InOneOrder.{later, none_in, head_pairs, tail_pairs,
 use Rattle.cal_events.proofs.OwnSingles.{IsAtStart, alone_master, master_alone, alone_override, override_alone, one_by_key, of_both, is_a_master, not_a_master}
 use Rattle.cal_events.proofs.PlainSingles.{no_rule}
 
-module _ (event : Event) (t : IsTimely event) where
-  abbrev booked : Single → Booked
-  booked = booked_at event
+module _ (event : EventComponent) (t : IsTimely event) where
+  abbrev booked : Single → Instance
+  booked = own_instance_at event
 
-  abbrev IsHere : Booked → Type 0
+  abbrev IsHere : Instance → Type 0
   IsHere b = IsInstance (alone event) b × (IsOfSeries event b → ⊥)
 
   -- ---- a master
 
   module _ (none : event.recurrence ≡ None) where
-    on_rule : (b : Booked) → IsOfSeries event b → IsOnRule event b.start
+    on_rule : (b : Instance) → IsOfSeries event b → IsOnRule event b.start
     on_rule b series = (series.rule, series.has, series.starts)
 
-    of_series : (b : Booked) → IsOnRule event b.start → IsOfSeries event b
+    of_series : (b : Instance) → IsOnRule event b.start → IsOfSeries event b
     of_series b on = record { master = is_a_master event none; rule = on.0; has = on.1; starts = on.2 }
 
-    made : (start : ℤ) (s : Single) → IsMade event start start s → IsSingleStart event start → IsHere (booked s)
+    made : (start : ℤ) (s : Single) → IsInstanceAt event start start s → IsSingleStart event start → IsHere (booked s)
     made start s m h = (
       alone_master event (booked s) none (record {
         starts = subst (IsStart event []) (sym m.starts) h.0;
@@ -45,18 +45,18 @@ module _ (event : Event) (t : IsTimely event) where
     )
 
     abbrev AreMade : List ℤ → List Single → Type 0
-    AreMade starts own = AllZip (λ start single. IsMade event start start single) starts own
+    AreMade starts own = AllZip (λ start single. IsInstanceAt event start start single) starts own
 
-    among : (starts : List ℤ) (own : List Single) (u : ℤ) → AreMade starts own → Contains starts u → (s : Single) × Contains own s × IsMade event u u s
+    among : (starts : List ℤ) (own : List Single) (u : ℤ) → AreMade starts own → Contains starts u → (s : Single) × Contains own s × IsInstanceAt event u u s
     among [] own u z c = absurd (none_in u c)
     among (x ∷ xs) [] u z c = absurd z
-    among (x ∷ xs) (s ∷ ss) u z (zero, w, e) = (s, (zero, omega arith, refl), subst (λ (v : ℤ). IsMade event v v s) e z.0)
+    among (x ∷ xs) (s ∷ ss) u z (zero, w, e) = (s, (zero, omega arith, refl), subst (λ (v : ℤ). IsInstanceAt event v v s) e z.0)
     among (x ∷ xs) (s ∷ ss) u z (suc k, w, e) = let r = among xs ss u z.1 (k, omega (arith, w), e) in (r.0, later s r.0 ss r.1, r.2)
 
-    of_start : (starts : List ℤ) (own : List Single) (b : Booked) → AreMade starts own → Contains (map booked own) b → (u : ℤ) × Contains starts u × (b.start ≡ u)
+    of_start : (starts : List ℤ) (own : List Single) (b : Instance) → AreMade starts own → Contains (map booked own) b → (u : ℤ) × Contains starts u × (b.start ≡ u)
     of_start starts [] b z c = absurd (none_in b c)
     of_start [] (s ∷ ss) b z c = absurd z
-    of_start (x ∷ xs) (s ∷ ss) b z (zero, w, e) = (x, (zero, omega arith, refl), sym (ap (λ (y : Booked). y.start) e) ∙ z.0.starts)
+    of_start (x ∷ xs) (s ∷ ss) b z (zero, w, e) = (x, (zero, omega arith, refl), sym (ap (λ (y : Instance). y.start) e) ∙ z.0.starts)
     of_start (x ∷ xs) (s ∷ ss) b z (suc k, w, e) = let r = of_start xs ss b z.1 (k, omega (arith, w), e) in (r.0, later x r.0 xs r.1, r.2)
 
     mapped : (own : List Single) (s : Single) → Contains own s → Contains (map booked own) (booked s)
@@ -87,7 +87,7 @@ module _ (event : Event) (t : IsTimely event) where
         at : (starts : List ℤ) (u : ℤ) → All (IsSingleStart event) starts → Contains starts u → IsSingleStart event u
         at starts u h (k, w, e) = subst (IsSingleStart event) e (h k u w)
 
-        all : (b : Booked) → IsAtStart event b → IsInstance (alone event) b → (IsOfSeries event b → ⊥) → Contains (map booked own) b
+        all : (b : Instance) → IsAtStart event b → IsInstance (alone event) b → (IsOfSeries event b → ⊥) → Contains (map booked own) b
         all b s h apart =
             let single : IsSingleStart event b.start = (s.starts, λ on. apart (of_series b on)) in
             let r = among starts own b.start z (are.all b.start single) in
@@ -96,7 +96,7 @@ module _ (event : Event) (t : IsTimely event) where
 
   -- ---- one instance
 
-  pub own_apart : (slot : ℤ) (s : Single) → event.recurrence ≡ Some slot → IsMade event slot event.times.start s → AreApart event (booked s ∷ [])
+  pub own_apart : (slot : ℤ) (s : Single) → event.recurrence ≡ Some slot → IsInstanceAt event slot event.times.start s → AreApart event (booked s ∷ [])
   own_apart slot s is m = record {
     each = All-cons IsHere (booked s) [] (own, λ series. not_a_master event slot is series.master) (All-nil IsHere);
     ordered = cons_pairs ComesBefore (booked s) [] (λ y c. absurd (none_in y c)) (λ i j d l w. absurd (omega (arith, w)));
@@ -120,14 +120,14 @@ module _ (event : Event) (t : IsTimely event) where
 
   -- ---- without a rule
 
-  from_first : (b : Booked) → IsInstance (alone event) b → first_second ≤ℤ b.start
+  from_first : (b : Instance) → IsInstance (alone event) b → first_second ≤ℤ b.start
   from_first b h = elim (of_both event) [
     | inl none ↦ (master_alone event b none h).starts.in_dates.0
     | inr (slot, is) ↦ subst (λ (u : ℤ). first_second ≤ℤ u) (sym (override_alone event b slot is h).starts) t.starts.0
   ]
 
   -- then all instances are apart
-  pub apart_once : (all : List Booked) → event.rule ≡ None → AreApart event all → AreInstancesFrom (alone event) first_second all
+  pub apart_once : (all : List Instance) → event.rule ≡ None → AreApart event all → AreInstancesFrom (alone event) first_second all
   apart_once all once a = record {
     each = λ k d w. let x = a.each k d w in (x.0, from_first (get_or all k d) x.0);
     ordered = a.ordered;
@@ -136,9 +136,9 @@ module _ (event : Event) (t : IsTimely event) where
 
 -- ---- one more start
 
-pub made_more : (event : Event) (xs : List ℤ) (k : ℕ) (old new : List Single) (s : Single) → k < length xs → AllZip (λ start single. IsMade event start start single) (take k xs) old → new ≡ old ++ s ∷ []
-    → IsMade event (get_or xs k (pos 0)) (get_or xs k (pos 0)) s → AllZip (λ start single. IsMade event start start single) (take (k + 1) xs) new
+pub made_more : (event : EventComponent) (xs : List ℤ) (k : ℕ) (old new : List Single) (s : Single) → k < length xs → AllZip (λ start single. IsInstanceAt event start start single) (take k xs) old → new ≡ old ++ s ∷ []
+    → IsInstanceAt event (get_or xs k (pos 0)) (get_or xs k (pos 0)) s → AllZip (λ start single. IsInstanceAt event start start single) (take (k + 1) xs) new
 made_more event xs k old new s w z is m =
-    subst (λ (l : List Single). AllZip (λ start single. IsMade event start start single) (take (k + 1) xs) l) (sym is)
-    (subst (λ (l : List ℤ). AllZip (λ start single. IsMade event start start single) l (old ++ s ∷ [])) (sym (take_more xs k (pos 0) w))
-    (push_zip (λ start single. IsMade event start start single) (take k xs) old (get_or xs k (pos 0)) s z m))
+    subst (λ (l : List Single). AllZip (λ start single. IsInstanceAt event start start single) (take (k + 1) xs) l) (sym is)
+    (subst (λ (l : List ℤ). AllZip (λ start single. IsInstanceAt event start start single) l (old ++ s ∷ [])) (sym (take_more xs k (pos 0) w))
+    (push_zip (λ start single. IsInstanceAt event start start single) (take k xs) old (get_or xs k (pos 0)) s z m))

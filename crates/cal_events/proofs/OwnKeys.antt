@@ -12,9 +12,9 @@ use Rattle.std.proofs.lemmas.List.Elements.{filter-append, filter_passes}
 use Rattle.std.proofs.lemmas.List.Kept.{AllPairs-filter}
 use Rattle.std.proofs.lemmas.List.Sorted.{searchable_from_sorted, sorted_far, ranks_by}
 use Rattle.profile.specs.checker.Instances.{Key, key_cmp}
-use Rattle.cal_events.specs.Calendars.{Meeting, key_of, key_in}
+use Rattle.cal_events.specs.Calendars.{MeetingName, key_of, key_in}
 use Rattle.cal_events.specs.Drafts.{AreInOrder}
-use Rattle.cal_events.specs.Ruled.{meeting_cmp, cmp_to, is_before, is_of, AreSlotsOf}
+use Rattle.cal_events.specs.Ruled.{meeting_name_cmp, cmp_to, is_before, is_key_of, AreSlotsOf}
 use Rattle.cal_events.specs.declared.instance.InstanceKey.{InstanceKey}
 use Rattle.std.proofs.lemmas.Map.Lookups.{exact_pairs, exact_bytes}
 use Rattle.cal_events.proofs.InOneOrder.{in_mapped, of_mapped, in_filtered, of_filtered, mapped_pairs, pairs_mapped}
@@ -22,14 +22,14 @@ use Rattle.cal_events.proofs.KeyLemmas.{key_total, tie}
 
 -- ---- orders
 
-meeting_total : IsTotalOrder meeting_cmp
-meeting_total = then_total (on_total (λ (m : Meeting). m.0) nat_list_cmp_total) (on_total (λ (m : Meeting). m.1) nat_list_cmp_total)
+meeting_total : IsTotalOrder meeting_name_cmp
+meeting_total = then_total (on_total (λ (m : MeetingName). m.0) nat_list_cmp_total) (on_total (λ (m : MeetingName). m.1) nat_list_cmp_total)
 
-meeting_exact : (a b : Meeting) → meeting_cmp a b ≡ Equal → a ≡ b
+meeting_exact : (a b : MeetingName) → meeting_name_cmp a b ≡ Equal → a ≡ b
 meeting_exact a b e = exact_pairs (slice_cmp nat_cmp) (slice_cmp nat_cmp) exact_bytes exact_bytes a b e
 
-meeting_itself : (m : Meeting) → meeting_cmp m m ≡ Equal
-meeting_itself m = go (meeting_cmp m m) (meeting_total.antisymm m m)
+meeting_itself : (m : MeetingName) → meeting_name_cmp m m ≡ Equal
+meeting_itself m = go (meeting_name_cmp m m) (meeting_total.antisymm m m)
   where
     go : (r : Ordering) → r ≡ ordering_reverse r → r ≡ Equal
     go Less e = cc
@@ -71,8 +71,8 @@ equal_is Equal h = refl
 equal_is Greater h = absurd (true≢false (sym h))
 
 -- keys of one meeting are in order by their slots
-by_slot : (a b : InstanceKey) → ◌≡◌ {A = Meeting} (a.organiser.now, a.uid.now) (b.organiser.now, b.uid.now) → int_cmp a.slot b.slot ≡ key_cmp (key_of a) (key_of b)
-by_slot a b same = sym (go (slice_cmp nat_cmp a.organiser.now b.organiser.now) (slice_cmp nat_cmp a.uid.now b.uid.now) (ap (meeting_cmp (a.organiser.now, a.uid.now)) (sym same) ∙ meeting_itself (a.organiser.now, a.uid.now)))
+by_slot : (a b : InstanceKey) → ◌≡◌ {A = MeetingName} (a.organiser.now, a.uid.now) (b.organiser.now, b.uid.now) → int_cmp a.slot b.slot ≡ key_cmp (key_of a) (key_of b)
+by_slot a b same = sym (go (slice_cmp nat_cmp a.organiser.now b.organiser.now) (slice_cmp nat_cmp a.uid.now b.uid.now) (ap (meeting_name_cmp (a.organiser.now, a.uid.now)) (sym same) ∙ meeting_itself (a.organiser.now, a.uid.now)))
   where
     go : (o u : Ordering) → ordering_then o u ≡ Equal → ordering_then o (ordering_then u (int_cmp a.slot b.slot)) ≡ int_cmp a.slot b.slot
     go Less u e = cc
@@ -97,7 +97,7 @@ all_pass : {X : Type 0} (p : X → Bool) (xs : List X) → ((k : ℕ) (d : X) �
 all_pass p [] h = refl
 all_pass p (x ∷ xs) h = simp (h 0 x (omega arith)) (ap (λ l. x ∷ l) (all_pass p xs (λ k d w. h (suc k) d (omega (arith, w)))))
 
-module _ (keys : List InstanceKey) (up : AreInOrder keys) (m : Meeting) where
+module _ (keys : List InstanceKey) (up : AreInOrder keys) (m : MeetingName) where
   rises : IsNonDecreasingBy (λ y. ordering_index (cmp_to m y)) keys
   rises =
       searchable_from_sorted meeting_total (λ (k : InstanceKey). (k.organiser.now, k.uid.now)) keys m
@@ -115,7 +115,7 @@ module _ (keys : List InstanceKey) (up : AreInOrder keys) (m : Meeting) where
     not_before i d w =
         let at = at_rest i d w in ap (λ k. is_lt (cmp_to m k)) at.0 ∙ point.1 (first + i) d (omega arith) at.1
 
-    pub rest_parted : IsPartitionedBy (is_of m) (drop first keys)
+    pub rest_parted : IsPartitionedBy (is_key_of m) (drop first keys)
     rest_parted i j d a b h =
         let x = at_rest i d (omega (arith, a, b)) in
         let y = at_rest j d b in
@@ -125,20 +125,20 @@ module _ (keys : List InstanceKey) (up : AreInOrder keys) (m : Meeting) where
         h (not_before i d (omega (arith, a, b)))
 
     -- two searches find them
-    pub own_found : (count : ℕ) → IsPartitionPoint (λ k. is_of m k ≡ true) (λ k. is_of m k ≡ false) (drop first keys) count → take count (drop first keys) ≡ filter (is_of m) keys
+    pub own_found : (count : ℕ) → IsPartitionPoint (λ k. is_key_of m k ≡ true) (λ k. is_key_of m k ≡ false) (drop first keys) count → take count (drop first keys) ≡ filter (is_key_of m) keys
     own_found count parts =
         let rest = drop first keys in
-        let front : filter (is_of m) (take first keys) ≡ [] =
-        all_fail (is_of m) (take first keys)
-        (λ k d w. let l = in_front first keys k d w in ap (is_of m) l.0 ∙ less_no_other (cmp_to m (get_or keys k d)) (point.0 k d (omega arith) l.1)) in
-        let own : filter (is_of m) (take count rest) ≡ take count rest =
-        all_pass (is_of m) (take count rest) (λ k d w. let l = in_front count rest k d w in ap (is_of m) l.0 ∙ parts.0 k d (omega arith) l.1) in
-        let back : filter (is_of m) (drop count rest) ≡ [] =
-        all_fail (is_of m) (drop count rest)
-        (λ k d w. ap (is_of m) (get_or-drop count rest k d) ∙ parts.1 (count + k) d (omega arith) (omega (arith, w, length-drop count rest))) in
-        sym (ap (filter (is_of m)) (sym (take-append-drop first keys)) ∙ filter-append (is_of m) (take first keys) rest ∙ ap (λ l. l ++ filter (is_of m) rest) front
-        ∙ ap (filter (is_of m)) (sym (take-append-drop count rest)) ∙ filter-append (is_of m) (take count rest) (drop count rest)
-        ∙ ap (λ l. filter (is_of m) (take count rest) ++ l) back ∙ append-nil (filter (is_of m) (take count rest)) ∙ own)
+        let front : filter (is_key_of m) (take first keys) ≡ [] =
+        all_fail (is_key_of m) (take first keys)
+        (λ k d w. let l = in_front first keys k d w in ap (is_key_of m) l.0 ∙ less_no_other (cmp_to m (get_or keys k d)) (point.0 k d (omega arith) l.1)) in
+        let own : filter (is_key_of m) (take count rest) ≡ take count rest =
+        all_pass (is_key_of m) (take count rest) (λ k d w. let l = in_front count rest k d w in ap (is_key_of m) l.0 ∙ parts.0 k d (omega arith) l.1) in
+        let back : filter (is_key_of m) (drop count rest) ≡ [] =
+        all_fail (is_key_of m) (drop count rest)
+        (λ k d w. ap (is_key_of m) (get_or-drop count rest k d) ∙ parts.1 (count + k) d (omega arith) (omega (arith, w, length-drop count rest))) in
+        sym (ap (filter (is_key_of m)) (sym (take-append-drop first keys)) ∙ filter-append (is_key_of m) (take first keys) rest ∙ ap (λ l. l ++ filter (is_key_of m) rest) front
+        ∙ ap (filter (is_key_of m)) (sym (take-append-drop count rest)) ∙ filter-append (is_key_of m) (take count rest) (drop count rest)
+        ∙ ap (λ l. filter (is_key_of m) (take count rest) ++ l) back ∙ append-nil (filter (is_key_of m) (take count rest)) ∙ own)
 
   -- ---- their slots
 
@@ -158,39 +158,39 @@ module _ (keys : List InstanceKey) (up : AreInOrder keys) (m : Meeting) where
         go Greater e = absurd (two (absurd (true≢false (sym (ap is_lt (key_total.antisymm (key_of (get_or keys j d)) (key_of (get_or keys i d)) ∙ ap ordering_reverse e)) ∙ not_back))))
 
     -- of one meeting the slots ascend
-    slots_less : (a b : InstanceKey) → is_of m a ≡ true → is_of m b ≡ true → key_cmp (key_of a) (key_of b) ≡ Less → a.slot <ℤ b.slot
+    slots_less : (a b : InstanceKey) → is_key_of m a ≡ true → is_key_of m b ≡ true → key_cmp (key_of a) (key_of b) ≡ Less → a.slot <ℤ b.slot
     slots_less a b p q e =
         let own = meeting_exact (a.organiser.now, a.uid.now) m (equal_is _ p) in
         let other = meeting_exact (b.organiser.now, b.uid.now) m (equal_is _ q) in
-        let same : ◌≡◌ {A = Meeting} (a.organiser.now, a.uid.now) (b.organiser.now, b.uid.now) = own ∙ sym other in
+        let same : ◌≡◌ {A = MeetingName} (a.organiser.now, a.uid.now) (b.organiser.now, b.uid.now) = own ∙ sym other in
         int_ranked a.slot b.slot Less (sym (by_slot a b same ∙ e))
 
-    pub own_slots : (own : List InstanceKey) → own ≡ filter (is_of m) keys → AreSlotsOf (map key_of keys) m (map (λ k. k.slot) own)
+    pub own_slots : (own : List InstanceKey) → own ≡ filter (is_key_of m) keys → AreSlotsOf (map key_of keys) m (map (λ k. k.slot) own)
     own_slots own is = record {
       ascending = pairs_mapped ◌<ℤ◌ (λ (k : InstanceKey). k.slot) own ascends;
       are = λ t. (
         (λ c.
             let r = of_mapped (λ (k : InstanceKey). k.slot) own t c in
-            let f = of_filtered (is_of m) keys r.0 (subst (λ l. Contains l r.0) is r.1) in
+            let f = of_filtered (is_key_of m) keys r.0 (subst (λ l. Contains l r.0) is r.1) in
             let at = meeting_exact (r.0.organiser.now, r.0.uid.now) m (equal_is _ f.1) in
             subst (Contains (map key_of keys)) (ap (λ n. key_in n r.0.slot) at ∙ ap (key_in m) r.2) (in_mapped key_of keys r.0 f.0)),
         λ c.
             let r = of_mapped key_of keys (key_in m t) c in
-            let at : ◌≡◌ {A = Meeting} (r.0.organiser.now, r.0.uid.now) m = ap (λ (k : Key). (k.organiser, k.uid)) r.2 in
-            let own_one : is_of m r.0 ≡ true = ap is_eq (ap (λ n. meeting_cmp n m) at ∙ meeting_itself m) in
+            let at : ◌≡◌ {A = MeetingName} (r.0.organiser.now, r.0.uid.now) m = ap (λ (k : Key). (k.organiser, k.uid)) r.2 in
+            let own_one : is_key_of m r.0 ≡ true = ap is_eq (ap (λ n. meeting_name_cmp n m) at ∙ meeting_itself m) in
             subst (Contains (map (λ k. k.slot) own)) (ap (λ (k : Key). k.slot) r.2)
-            (in_mapped (λ (k : InstanceKey). k.slot) own r.0 (subst (λ l. Contains l r.0) (sym is) (in_filtered (is_of m) keys r.0 r.1 own_one))),
+            (in_mapped (λ (k : InstanceKey). k.slot) own r.0 (subst (λ l. Contains l r.0) (sym is) (in_filtered (is_key_of m) keys r.0 r.1 own_one))),
       );
     }
       where
         ascends : AllPairs (λ (a b : InstanceKey). a.slot <ℤ b.slot) own
         ascends = subst (AllPairs (λ (a b : InstanceKey). a.slot <ℤ b.slot)) (sym is) pairs
           where
-            kept : AllPairs (λ a b. key_cmp (key_of a) (key_of b) ≡ Less) (filter (is_of m) keys)
-            kept = AllPairs-filter (λ a b. key_cmp (key_of a) (key_of b) ≡ Less) (is_of m) keys strict
+            kept : AllPairs (λ a b. key_cmp (key_of a) (key_of b) ≡ Less) (filter (is_key_of m) keys)
+            kept = AllPairs-filter (λ a b. key_cmp (key_of a) (key_of b) ≡ Less) (is_key_of m) keys strict
 
-            of_it : (k : ℕ) (d : InstanceKey) → k < length (filter (is_of m) keys) → is_of m (get_or (filter (is_of m) keys) k d) ≡ true
-            of_it = filter_passes (is_of m) keys
+            of_it : (k : ℕ) (d : InstanceKey) → k < length (filter (is_key_of m) keys) → is_key_of m (get_or (filter (is_key_of m) keys) k d) ≡ true
+            of_it = filter_passes (is_key_of m) keys
 
-            pairs : AllPairs (λ (a b : InstanceKey). a.slot <ℤ b.slot) (filter (is_of m) keys)
-            pairs i j d l w = slots_less (get_or (filter (is_of m) keys) i d) (get_or (filter (is_of m) keys) j d) (of_it i d (omega (arith, l, w))) (of_it j d w) (kept i j d l w)
+            pairs : AllPairs (λ (a b : InstanceKey). a.slot <ℤ b.slot) (filter (is_key_of m) keys)
+            pairs i j d l w = slots_less (get_or (filter (is_key_of m) keys) i d) (get_or (filter (is_key_of m) keys) j d) (of_it i d (omega (arith, l, w))) (of_it j d w) (kept i j d l w)

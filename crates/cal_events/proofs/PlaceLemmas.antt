@@ -15,12 +15,12 @@ use Rattle.std.proofs.lemmas.List.{get_or_default}
 use Rattle.std.proofs.lemmas.List.Elements.{All-append, All-contains, Contains-append_left, Contains-append_right}
 use Rattle.std.proofs.lemmas.List.Folds.{list_any_at}
 use Rattle.std.proofs.lemmas.List.Sorted.{sorted_far, ranks_by, Contains-permutation, All-permutation}
-use Rattle.cal_events.specs.Instances.{IsAt, IsAfter, IsBefore, IsPastSlot, IsMovedTo, IsSoonest}
+use Rattle.cal_events.specs.Instances.{IsAtPlace, IsAfter, IsBefore, IsPastSlot, IsMovedTo, IsSoonest}
 use Rattle.cal_events.specs.PlaceOrder.{moved_cmp}
 use Rattle.cal_events.specs.Places.{place_of, is_past_slot, is_to_come, is_left_of, is_there, IsMovedOf, ArePlaces, IsPlaceToCome, IsWhichAt}
 use Rattle.cal_events.specs.declared.component.EventComponent.{EventComponent}
 use Rattle.cal_events.specs.declared.instances.Bound.{Bound}
-use Rattle.cal_events.specs.declared.instances.Place.{Place}
+use Rattle.cal_events.specs.declared.instances.InstancePlace.{InstancePlace}
 use Rattle.cal_events.specs.declared.places.Moved.{Moved}
 use Rattle.cal_events.proofs.InOneOrder.{later}
 use Rattle.cal_events.proofs.InstanceLemmas.{soonest_same}
@@ -81,22 +81,22 @@ is_after after m h = elim (or_parts (int_lt after.start m.start) _ h) [
   | inr r ↦ let p = and_parts (int_eq after.start m.start) _ r in inr (is_same after.start m.start p.0, is_past after.slot m.slot p.1)
 ]
 
-pub left_is : (place : Place) (m : Moved) → IsBefore (place_of m) place → is_left_of place m ≡ true
+pub left_is : (place : InstancePlace) (m : Moved) → IsBefore (place_of m) place → is_left_of place m ≡ true
 left_is place m (inl l) = or_left _ _ (less_is m.start place.start l)
 left_is place m (inr (e, l)) = or_right (int_lt m.start place.start) _ (both_true _ _ (same_is m.start place.start e) (less_is m.slot place.slot l))
 
-pub is_left : (place : Place) (m : Moved) → is_left_of place m ≡ true → IsBefore (place_of m) place
+pub is_left : (place : InstancePlace) (m : Moved) → is_left_of place m ≡ true → IsBefore (place_of m) place
 is_left place m h = elim (or_parts (int_lt m.start place.start) _ h) [
   | inl l ↦ inl (is_less m.start place.start l)
   | inr r ↦ let p = and_parts (int_eq m.start place.start) _ r in inr (is_same m.start place.start p.0, is_less m.slot place.slot p.1)
 ]
 
-pub same_place : (m : Moved) (place : Place) → m.start ≡ place.start → m.slot ≡ place.slot → place_of m ≡ place
+pub same_place : (m : Moved) (place : InstancePlace) → m.start ≡ place.start → m.slot ≡ place.slot → place_of m ≡ place
 same_place m place p q = λ i. record { start = p i; slot = q i }
 
-pub not_there : (m : Moved) (place : Place) → is_there place m ≡ false → place_of m ≡ place → ⊥
+pub not_there : (m : Moved) (place : InstancePlace) → is_there place m ≡ false → place_of m ≡ place → ⊥
 not_there m place h is =
-    true≢false (sym (both_true _ _ (same_is m.start place.start (ap (λ (p : Place). p.start) is)) (same_is m.slot place.slot (ap (λ (p : Place). p.slot) is))) ∙ h)
+    true≢false (sym (both_true _ _ (same_is m.start place.start (ap (λ (p : InstancePlace). p.start) is)) (same_is m.slot place.slot (ap (λ (p : InstancePlace). p.slot) is))) ∙ h)
 
 -- ---- in order
 
@@ -155,7 +155,7 @@ module _ (ms : List Moved) (up : IsSorted moved_cmp ms) where
           let there = to_come_is after (get_or ms j d) (to_come_later after (get_or ms i d) (get_or ms j d) (far i j d a b) (is_after after (get_or ms i d) e)) in
           sym (ap not there) ∙ h
 
-  pub left_parted : (place : Place) → IsPartitionedBy (is_left_of place) ms
+  pub left_parted : (place : InstancePlace) → IsPartitionedBy (is_left_of place) ms
   left_parted place i j d a b h =
       left_is place (get_or ms i d) (earlier (get_or ms i d) (get_or ms j d) (far i j d a b) (is_left place (get_or ms j d) h))
     where
@@ -186,9 +186,9 @@ module _ (ms : List Moved) (up : IsSorted moved_cmp ms) where
     first_found m w e = (
       (m, (at, w, e), refl, is_after after m (yes (is_to_come after m) (subst (λ (x : Moved). not (is_to_come after x) ≡ false) e (point.1 at m (omega arith) w)))),
       λ q (n, (k, v, f), is, h) before. elim (cases_lt k at) [
-        | inl lt ↦ before_at k n lt v f (subst (λ (p : Place). IsAfter after p.start p.slot) (sym is) h)
+        | inl lt ↦ before_at k n lt v f (subst (λ (p : InstancePlace). IsAfter after p.start p.slot) (sym is) h)
         | inr le ↦ far at k n le v (subst (λ (x : Moved). IsBefore (place_of x) (place_of (get_or ms at n))) (sym f)
-            (subst (λ (x : Moved). IsBefore (place_of n) (place_of x)) (sym (get_or_default ms at n m w ∙ e)) (subst (λ (p : Place). IsBefore p (place_of m)) (sym is) before)))
+            (subst (λ (x : Moved). IsBefore (place_of n) (place_of x)) (sym (get_or_default ms at n m w ∙ e)) (subst (λ (p : InstancePlace). IsBefore p (place_of m)) (sym is) before)))
       ],
     )
       where
@@ -197,14 +197,14 @@ module _ (ms : List Moved) (up : IsSorted moved_cmp ms) where
         yes false h = absurd (true≢false h)
 
     pub none_found : length ms ≤ at → IsSoonest (IsPlaceToCome ms after) None
-    none_found le p (m, (k, w, e), is, h) = before_at k m (omega (arith, w, le)) w e (subst (λ (q : Place). IsAfter after q.start q.slot) (sym is) h)
+    none_found le p (m, (k, w, e), is, h) = before_at k m (omega (arith, w, le)) w e (subst (λ (q : InstancePlace). IsAfter after q.start q.slot) (sym is) h)
 
   -- ---- the one at a place
 
-  module _ (place : Place) (at : ℕ) (point : IsPartitionPoint (λ m. is_left_of place m ≡ true) (λ m. is_left_of place m ≡ false) ms at) where
+  module _ (place : InstancePlace) (at : ℕ) (point : IsPartitionPoint (λ m. is_left_of place m ≡ true) (λ m. is_left_of place m ≡ false) ms at) where
     not_left : (m : Moved) → place_of m ≡ place → IsBefore (place_of m) place → ⊥
-    not_left m is (inl l) = let s = ap (λ (p : Place). p.start) is in omega (arith, ints, s, l)
-    not_left m is (inr (_, l)) = let s = ap (λ (p : Place). p.slot) is in omega (arith, ints, s, l)
+    not_left m is (inl l) = let s = ap (λ (p : InstancePlace). p.start) is in omega (arith, ints, s, l)
+    not_left m is (inr (_, l)) = let s = ap (λ (p : InstancePlace). p.slot) is in omega (arith, ints, s, l)
 
     from_at : (k : ℕ) (m : Moved) → k < length ms → get_or ms k m ≡ m → place_of m ≡ place → at ≤ k
     from_at k m w e is = elim (cases_lt k at) [
@@ -221,7 +221,7 @@ module _ (ms : List Moved) (up : IsSorted moved_cmp ms) where
         let l = from_at k n v f is in
         let right : IsBefore (place_of m) place → ⊥ = λ b. true≢false (sym (left_is place m b) ∙ subst (λ (x : Moved). is_left_of place x ≡ false) e (point.1 at m (omega arith) w)) in
         let below : IsBefore place (place_of m) → ⊥ = λ b. far at k n l v (subst (λ (x : Moved). IsBefore (place_of x) (place_of (get_or ms at n))) (sym f)
-        (subst (λ (x : Moved). IsBefore (place_of n) (place_of x)) (sym (get_or_default ms at n m w ∙ e)) (subst (λ (p : Place). IsBefore p (place_of m)) (sym is) b))) in
+        (subst (λ (x : Moved). IsBefore (place_of n) (place_of x)) (sym (get_or_default ms at n m w ∙ e)) (subst (λ (p : InstancePlace). IsBefore p (place_of m)) (sym is) b))) in
         not (elim (order m.start place.start) [
           | inl less ↦ absurd (right (inl less))
           | inr o ↦ elim o [
@@ -238,7 +238,7 @@ module _ (ms : List Moved) (up : IsSorted moved_cmp ms) where
 -- of the first n
 pub record AreFound (os : List EventComponent) (n : ℕ) (ms : List Moved) : Type 0 where
   pub each : All (IsMovedOf os) ms
-  pub all : (k : ℕ) (d : EventComponent) (place : Place) → k < n → k < length os → IsAt (get_or os k d) place → Contains ms (record { start = place.start; slot = place.slot; which = k })
+  pub all : (k : ℕ) (d : EventComponent) (place : InstancePlace) → k < n → k < length os → IsAtPlace (get_or os k d) place → Contains ms (record { start = place.start; slot = place.slot; which = k })
 
 pub found_first : (os : List EventComponent) → AreFound os 0 []
 found_first os = record { each = λ k d w. absurd (omega (arith, w)); all = λ k d place l w at. absurd (omega (arith, l)) }
@@ -247,14 +247,14 @@ module _ (os : List EventComponent) (n : ℕ) (o : EventComponent) (w : n < leng
   same_there : (d : EventComponent) → get_or os n d ≡ o
   same_there d = get_or_default os n d o w ∙ sym is
 
-  pub found_more : (m : Moved) (new : List Moved) → m.which ≡ n → IsAt o (place_of m) → new ≡ ms ++ m ∷ [] → AreFound os (n + 1) new
+  pub found_more : (m : Moved) (new : List Moved) → m.which ≡ n → IsAtPlace o (place_of m) → new ≡ ms ++ m ∷ [] → AreFound os (n + 1) new
   found_more m new which at grown = record {
     each = subst (All (IsMovedOf os)) (sym grown) (All-append (IsMovedOf os) ms (m ∷ []) h.each one);
     all = λ k d place l v there. subst (λ (l : List Moved). Contains l (record { start = place.start; slot = place.slot; which = k })) (sym grown) (elim (cases_lt k n) [
       | inl lt ↦ Contains-append_left ms (m ∷ []) _ (h.all k d place lt v there)
       | inr le ↦
           let same : k ≡ n = omega (arith, l, le) in
-          let at_o = subst (λ (c : EventComponent). IsAt c place) (ap (λ j. get_or os j d) same ∙ same_there d) there in
+          let at_o = subst (λ (c : EventComponent). IsAtPlace c place) (ap (λ j. get_or os j d) same ∙ same_there d) there in
           let slot : m.slot ≡ place.slot = same_Some m.slot place.slot (sym at.0 ∙ at_o.0) in
           let start : m.start ≡ place.start = sym at.1 ∙ at_o.1 in
           let it : m ≡ record { start = place.start; slot = place.slot; which = k } = λ i. record { start = start i; slot = slot i; which = (which ∙ sym same) i } in
@@ -263,7 +263,7 @@ module _ (os : List EventComponent) (n : ℕ) (o : EventComponent) (w : n < leng
   }
     where
       one : (k : ℕ) (d : Moved) → k < 1 → IsMovedOf os (get_or (m ∷ []) k d)
-      one zero d v = (omega (arith, w, which), λ c. subst (λ (x : EventComponent). IsAt x (place_of m)) (sym (ap (λ j. get_or os j c) which ∙ same_there c)) at)
+      one zero d v = (omega (arith, w, which), λ c. subst (λ (x : EventComponent). IsAtPlace x (place_of m)) (sym (ap (λ j. get_or os j c) which ∙ same_there c)) at)
       one (suc k) d v = absurd (omega (arith, v))
 
   pub found_past : o.recurrence ≡ None → AreFound os (n + 1) ms
@@ -273,7 +273,7 @@ module _ (os : List EventComponent) (n : ℕ) (o : EventComponent) (w : n < leng
       | inl lt ↦ h.all k d place lt v there
       | inr le ↦
           let same : k ≡ n = omega (arith, l, le) in
-          let at_o = subst (λ (c : EventComponent). IsAt c place) (ap (λ j. get_or os j d) same ∙ same_there d) there in
+          let at_o = subst (λ (c : EventComponent). IsAtPlace c place) (ap (λ j. get_or os j d) same ∙ same_there d) there in
           absurd (nothing place.slot (sym none ∙ at_o.0))
     ];
   }
@@ -305,31 +305,31 @@ element [] k w = absurd (omega (arith, w))
 element (o ∷ os) k w = o
 
 module _ (os : List EventComponent) (ms : List Moved) (are : ArePlaces os ms) where
-  pub of_override : (m : Moved) → Contains ms m → (o : EventComponent) × Contains os o × IsAt o (place_of m)
+  pub of_override : (m : Moved) → Contains ms m → (o : EventComponent) × Contains os o × IsAtPlace o (place_of m)
   of_override m c =
       let h = All-contains (IsMovedOf os) ms m are.0 c in
       let d = element os m.which h.0 in
       (get_or os m.which d, (m.which, h.0, get_or_default os m.which (get_or os m.which d) d h.0), h.1 d)
 
-  pub has_place : (o : EventComponent) (place : Place) → Contains os o → IsAt o place → (m : Moved) × Contains ms m × (place_of m ≡ place)
+  pub has_place : (o : EventComponent) (place : InstancePlace) → Contains os o → IsAtPlace o place → (m : Moved) × Contains ms m × (place_of m ≡ place)
   has_place o place (k, w, e) at =
-      let f = any_found (is_there place) ms (are.1 k o place w (subst (λ (c : EventComponent). IsAt c place) (sym e) at)) in
+      let f = any_found (is_there place) ms (are.1 k o place w (subst (λ (c : EventComponent). IsAtPlace c place) (sym e) at)) in
       let p = and_parts (int_eq f.0.start place.start) (int_eq f.0.slot place.slot) f.2 in
       (f.0, f.1, same_place f.0 place (is_same f.0.start place.start p.0) (is_same f.0.slot place.slot p.1))
 
-  pub moved_first : (after : Bound) (r : Option Place) → IsSoonest (IsPlaceToCome ms after) r → IsSoonest (λ p. (o : EventComponent) × Contains os o × IsMovedTo o after p) r
+  pub moved_first : (after : Bound) (r : Option InstancePlace) → IsSoonest (IsPlaceToCome ms after) r → IsSoonest (λ p. (o : EventComponent) × Contains os o × IsMovedTo o after p) r
   moved_first after r =
       soonest_same (IsPlaceToCome ms after) (λ p. (o : EventComponent) × Contains os o × IsMovedTo o after p) r
-      (λ p (m, c, is, h). let o = of_override m c in (o.0, o.1, (subst (IsAt o.0) is o.2, h)))
+      (λ p (m, c, is, h). let o = of_override m c in (o.0, o.1, (subst (IsAtPlace o.0) is o.2, h)))
       (λ p (o, c, h). let m = has_place o p c h.0 in (m.0, m.1, m.2, h.1))
 
-  pub that_override : (place : Place) (which : ℕ) (o : EventComponent) → IsWhichAt ms place (Some which) → get_or os which o ≡ o → which < length os → Contains os o × IsAt o place
+  pub that_override : (place : InstancePlace) (which : ℕ) (o : EventComponent) → IsWhichAt ms place (Some which) → get_or os which o ≡ o → which < length os → Contains os o × IsAtPlace o place
   that_override place which o (m, c, is, number) e w =
       let h = All-contains (IsMovedOf os) ms m are.0 c in
-      ((which, w, e), subst (λ (x : EventComponent). IsAt x place) (ap (λ k. get_or os k o) number ∙ e) (subst (IsAt (get_or os m.which o)) is (h.1 o)))
+      ((which, w, e), subst (λ (x : EventComponent). IsAtPlace x place) (ap (λ k. get_or os k o) number ∙ e) (subst (IsAtPlace (get_or os m.which o)) is (h.1 o)))
 
-  pub within : (place : Place) (which : ℕ) → IsWhichAt ms place (Some which) → which < length os
+  pub within : (place : InstancePlace) (which : ℕ) → IsWhichAt ms place (Some which) → which < length os
   within place which (m, c, is, number) = let h = All-contains (IsMovedOf os) ms m are.0 c in omega (arith, h.0, number)
 
-  pub no_override : (place : Place) → IsWhichAt ms place None → (o : EventComponent) → Contains os o → IsAt o place → ⊥
+  pub no_override : (place : InstancePlace) → IsWhichAt ms place None → (o : EventComponent) → Contains os o → IsAtPlace o place → ⊥
   no_override place none o c at = let m = has_place o place c at in none m.0 m.1 m.2

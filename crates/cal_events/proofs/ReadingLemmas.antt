@@ -11,10 +11,10 @@ use Rattle.ical_tree.specs.Tree.{component_lines}
 use Rattle.ical_tree.specs.declared.component.Component.{Component}
 use Rattle.ical_tree.proofs.OneLine.{at_place}
 use Rattle.profile.specs.text.Trees.{Tree, vevents}
-use Rattle.profile.specs.events.Events.{Event, EventFault, SaysEvent, Method}
+use Rattle.profile.specs.events.EventComponents.{EventComponent as SaidComponent, EventComponentFault, SaysEventComponent, Method}
 use Rattle.profile.specs.checker.Calendars.{CalendarFault, in_event}
 use Rattle.cal_events.specs.declared.component.EventComponent.{EventComponent}
-use Rattle.cal_events.specs.Events.{event_of, is_vevent}
+use Rattle.cal_events.specs.Events.{component_of, is_vevent}
 use Rattle.cal_events.proofs.EventLemmas.{push_zip}
 
 -- ---- the VEVENTs among some components
@@ -64,14 +64,14 @@ is_among cs i c w e h =
 -- ---- events, and entries
 
 pub event_pushed : (object : Tree) (m : Option Method) (vs : List Lines) (lines : Lines) (old new : List EventComponent) (event : EventComponent)
-    → AllZip (SaysEvent object m) vs (map event_of old) → SaysEvent object m lines (event_of event) → new ≡ old ++ event ∷ []
-    → AllZip (SaysEvent object m) (vs ++ lines ∷ []) (map event_of new)
+    → AllZip (SaysEventComponent object m) vs (map component_of old) → SaysEventComponent object m lines (component_of event) → new ≡ old ++ event ∷ []
+    → AllZip (SaysEventComponent object m) (vs ++ lines ∷ []) (map component_of new)
 event_pushed object m vs lines old new event zip says n =
-    subst (λ (es : List Event). AllZip (SaysEvent object m) (vs ++ lines ∷ []) es) (sym (ap (map event_of) n ∙ map-append event_of old (event ∷ [])))
-    (push_zip (SaysEvent object m) vs (map event_of old) lines (event_of event) zip says)
+    subst (λ (es : List SaidComponent). AllZip (SaysEventComponent object m) (vs ++ lines ∷ []) es) (sym (ap (map component_of) n ∙ map-append component_of old (event ∷ [])))
+    (push_zip (SaysEventComponent object m) vs (map component_of old) lines (component_of event) zip says)
 
 -- a VEVENT that is refused has a fault, which the object has
-pub event_refuses : (object : Tree) (vs : List Lines) (lines : Lines) (f : Fault) → vevents object ≡ vs → Contains vs lines → RefusesBy (EventFault object None lines) f
+pub event_refuses : (object : Tree) (vs : List Lines) (lines : Lines) (f : Fault) → vevents object ≡ vs → Contains vs lines → RefusesBy (EventComponentFault object None lines) f
     → RefusesBy (CalendarFault object) f
 event_refuses object vs lines Memory e h s = tt
 event_refuses object vs lines (Refused r) e h s = in_event lines (subst (λ (xs : List Lines). Contains xs lines) (sym e) h) s

@@ -3,10 +3,10 @@ use Rattle.std.proofs.Common.{◌≡◌, ◌∙◌, sym, ap, subst, refl, ℕ, z
 use Rattle.std.specs.List.{range_with_len}
 use Rattle.std.proofs.lemmas.Bool.{cases_order}
 use Rattle.std.proofs.lemmas.Bool.Decides.{nat_tests}
-use Rattle.profile.specs.series.Rules.{Parts, is_rule_day, is_counted, rule_days_from, NoDayFrom, IsNextDay, last_rule_day}
+use Rattle.profile.specs.series.Rules.{Rule, is_rule_day, is_counted, rule_days_from, NoDayFrom, IsNextDay, last_rule_day}
 use Rattle.cal_rules.proofs.Lists.{days_after}
 
-last_of : (r : Parts) (n : ℕ) → is_rule_day r n ≡ true → n ≤ 3_652_424
+last_of : (r : Rule) (n : ℕ) → is_rule_day r n ≡ true → n ≤ 3_652_424
 unfolding is_rule_day is_counted
 last_of r n h = grind (arith, nat_tests)
 
@@ -67,7 +67,7 @@ none_there test from (suc len) e n a b = go (λ h more. none_there test (from + 
       ]
     ]
 
-pub none_from : (r : Parts) (from : ℕ) → rule_days_from r from ≡ [] → NoDayFrom r from
+pub none_from : (r : Rule) (from : ℕ) → rule_days_from r from ≡ [] → NoDayFrom r from
 unfolding rule_days_from
 none_from r from e n a = go (is_rule_day r n) refl
   where
@@ -75,7 +75,7 @@ none_from r from e n a = go (is_rule_day r n) refl
     go false is = is
     go true is = none_there (is_rule_day r) from (last_rule_day + 1 - from) e n a (omega (arith, last_of r n is, a))
 
-pub next_from : (r : Parts) (from day : ℕ) (rest : List ℕ) → rule_days_from r from ≡ day ∷ rest → IsNextDay r from day × (rest ≡ rule_days_from r (day + 1))
+pub next_from : (r : Rule) (from day : ℕ) (rest : List ℕ) → rule_days_from r from ≡ day ∷ rest → IsNextDay r from day × (rest ≡ rule_days_from r (day + 1))
 unfolding rule_days_from
 next_from r from day rest e =
     let f = first_there (is_rule_day r) from (last_rule_day + 1 - from) day rest e in
@@ -85,15 +85,15 @@ next_from r from day rest e =
 -- ---- the days that are still to be looked at
 
 -- the first was taken
-pub first_taken : (r : Parts) (from after day : ℕ) (days rest : List ℕ) → days ≡ rule_days_from r from → days ≡ day ∷ rest → after ≡ day + 1 → IsNextDay r from day × (rest ≡ rule_days_from r after)
+pub first_taken : (r : Rule) (from after day : ℕ) (days rest : List ℕ) → days ≡ rule_days_from r from → days ≡ day ∷ rest → after ≡ day + 1 → IsNextDay r from day × (rest ≡ rule_days_from r after)
 first_taken r from after day days rest are e is = let n = next_from r from day rest (sym are ∙ e) in (n.0, n.1 ∙ ap (rule_days_from r) (sym is))
 
 -- there was none
-pub none_taken : (r : Parts) (from after : ℕ) (days rest : List ℕ) → days ≡ rule_days_from r from → days ≡ [] → rest ≡ [] → after ≡ from → NoDayFrom r from × (rest ≡ rule_days_from r after)
+pub none_taken : (r : Rule) (from after : ℕ) (days rest : List ℕ) → days ≡ rule_days_from r from → days ≡ [] → rest ≡ [] → after ≡ from → NoDayFrom r from × (rest ≡ rule_days_from r after)
 none_taken r from after days rest are e f is = (none_from r from (sym are ∙ e), f ∙ sym e ∙ are ∙ ap (rule_days_from r) (sym is))
 
 -- and put back
-pub first_back : (r : Parts) (from after day : ℕ) (rest : List ℕ) → rest ≡ rule_days_from r after → IsNextDay r from day → after ≡ day + 1 → day ∷ rest ≡ rule_days_from r day
+pub first_back : (r : Rule) (from after day : ℕ) (rest : List ℕ) → rest ≡ rule_days_from r after → IsNextDay r from day → after ≡ day + 1 → day ∷ rest ≡ rule_days_from r day
 first_back r from after day rest are next is =
     let here : IsNextDay r day day = record { not_before = omega arith; holds = next.holds; least = λ n a b. absurd (omega (arith, a, b)) } in
     ap (λ (l : List ℕ). day ∷ l) are ∙ sym (days_after r day day after here is)

@@ -10,7 +10,7 @@ use Rattle.profile.specs.series.Days.{day_index, number_of_day, IsDayDate, days_
 use Rattle.profile.specs.text.Lines.{line_value}
 use Rattle.profile.specs.text.Values.{IsClockSeconds}
 use Rattle.profile.specs.text.Trees.{Tree}
-use Rattle.profile.specs.series.Rules.{Parts, RuleText, Until, UntilLocal, UntilInstant, rule_of, is_rule_day}
+use Rattle.profile.specs.series.Rules.{Rule, RuleText, Until, UntilLocal, UntilInstant, rule_of, is_rule_day}
 use Rattle.profile.specs.series.RuleTexts.{SpellsRule}
 use Rattle.std.specs.Int.Signed.{lt_z}
 use Rattle.std.proofs.lemmas.Int.{ints}
@@ -18,7 +18,7 @@ use Rattle.profile.specs.checker.Instances.{horizon}
 use Rattle.profile.specs.series.Zones.{Zone, Means, NoneFrom, IsLastDay, IsNearEpoch}
 use Rattle.profile.specs.events.Properties.{first_second, OccursAtMostOnce, Says, BothOrNeither, is_of, lines_named}
 use Rattle.profile.specs.events.ZonedTimes.{clock_of, EventTimes, SaysEventTimes}
-use Rattle.profile.specs.events.EventRules.{as_end, IsLastAllowed, AllowsNone, IsOnDay, GivesRule, IsRuleText, GivesBeside, SaysEventRule, IsOutside, StartsOutside, EventRuleFault, starts_outside}
+use Rattle.profile.specs.events.EventRules.{as_end, IsLastAllowed, AllowsNone, IsOnDay, GivesRule, IsRuleText, GivesBeside, SaysEventRule, IsOutsideRule, StartsOutside, EventRuleFault, starts_outside}
 use Rattle.cal_events.proofs.EventLemmas.{some_line}
 
 -- ---- the last day
@@ -75,16 +75,16 @@ stamp_near t h = (omega (arith, ints, h.0), omega (arith, ints, h.1))
 -- ---- the rule
 
 module _ (zone : Zone) (local : ℤ) (text : RuleText) (day second last : ℕ) (on : IsOnDay local day second) (allowed : IsLastAllowed zone second text.until last) where
-  pub rule_given : (r : Result Parts Fault) → IfOk r (λ rule. rule ≡ rule_of text day last) → IfOk r (λ _. is_rule_day (rule_of text day last) day ≡ true) → IfOk r (GivesRule zone local text)
+  pub rule_given : (r : Result Rule Fault) → IfOk r (λ rule. rule ≡ rule_of text day last) → IfOk r (λ _. is_rule_day (rule_of text day last) day ≡ true) → IfOk r (GivesRule zone local text)
   rule_given (Ok rule) made starts =
-      record { day = day; second = second; on = on; last = last; allowed = allowed; is = made; starts = subst (λ (x : Parts). is_rule_day x day ≡ true) (sym made) starts }
+      record { day = day; second = second; on = on; last = last; allowed = allowed; is = made; starts = subst (λ (x : Rule). is_rule_day x day ≡ true) (sym made) starts }
   rule_given (Err e) made starts = tt
 
-  pub rule_refused : (r : Result Parts Fault) → IfErr r (λ e. (e ≡ Refused (record { number = 34 })) × (is_rule_day (rule_of text day last) day ≡ false))
-      → IfErr r (RefusesBy (λ n. (n ≡ 34) × IsOutside zone local text))
+  pub rule_refused : (r : Result Rule Fault) → IfErr r (λ e. (e ≡ Refused (record { number = 34 })) × (is_rule_day (rule_of text day last) day ≡ false))
+      → IfErr r (RefusesBy (λ n. (n ≡ 34) × IsOutsideRule zone local text))
   rule_refused (Ok rule) h = tt
   rule_refused (Err e) (is, never) =
-      subst (RefusesBy (λ n. (n ≡ 34) × IsOutside zone local text)) (sym is)
+      subst (RefusesBy (λ n. (n ≡ 34) × IsOutsideRule zone local text)) (sym is)
       (refl, record { day = day; second = second; on = on; none = inr (last, allowed, never) })
 
 -- ---- the fault of a start
@@ -112,7 +112,7 @@ some_named p (line ∷ lines) h missing = go (some_named p lines) (p line) h mis
 
 module _ (lines : List (List ℕ)) (times : EventTimes) (text : Option RuleText) (spells : Says (codes "RRULE") false IsRuleText lines text) where
   -- beside a start
-  pub says_beside : (rule : Option Parts) → list_any (is_of (codes "DTSTART")) lines ≡ true → BothOrNeither (GivesRule (clock_of times.zone) times.local) text rule
+  pub says_beside : (rule : Option Rule) → list_any (is_of (codes "DTSTART")) lines ≡ true → BothOrNeither (GivesRule (clock_of times.zone) times.local) text rule
       → SaysEventRule lines times rule
   says_beside rule starts gives = record { text = text; spells = spells; gives = go (lines_named (codes "DTSTART") lines) (some_named (is_of (codes "DTSTART")) lines starts) }
     where
@@ -129,7 +129,7 @@ module _ (lines : List (List ℕ)) (times : EventTimes) (text : Option RuleText)
   }
 
 pub outside_refuses : (object : Tree) (lines : List (List ℕ)) (times : EventTimes) (said : Option RuleText) (text : RuleText) (n : ℕ) → said ≡ Some text
-    → Says (codes "RRULE") false IsRuleText lines said → SaysEventTimes object lines times → (n ≡ 34) × IsOutside (clock_of times.zone) times.local text
+    → Says (codes "RRULE") false IsRuleText lines said → SaysEventTimes object lines times → (n ≡ 34) × IsOutsideRule (clock_of times.zone) times.local text
     → EventRuleFault object lines n
 outside_refuses object lines times said text n e s t (is, out) =
     let l = spelled_by s.line text (subst (λ (o : Option RuleText). BothOrNeither IsRuleText s.line o) e s.is) in

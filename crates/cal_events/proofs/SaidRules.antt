@@ -4,7 +4,7 @@ use Rattle.std.specs.Prelude.{Option, Some, None}
 use Rattle.std.specs.Option.{option_to_list}
 use Rattle.std.proofs.lemmas.Option.{same_Some}
 use Rattle.profile.specs.text.Lines.{line_value}
-use Rattle.profile.specs.series.Rules.{Parts, RuleText}
+use Rattle.profile.specs.series.Rules.{Rule, RuleText}
 use Rattle.profile.specs.series.RuleTexts.{SpellsRule}
 use Rattle.profile.specs.events.Properties.{BothOrNeither, OccursAtMostOnce, lines_named}
 use Rattle.profile.specs.events.ZonedTimes.{clock_of, EventTimes}
@@ -14,7 +14,7 @@ abbrev Lines : Type 0
 Lines = List (List ℕ)
 
 -- the rule is what the text of the one RRULE gives
-pub record IsFound (lines : Lines) (times : EventTimes) (rule : Parts) : Type 0 where
+pub record IsFound (lines : Lines) (times : EventTimes) (rule : Rule) : Type 0 where
   pub line : List ℕ
   pub once : OccursAtMostOnce (codes "RRULE") lines (Some line)
   pub text : RuleText
@@ -24,8 +24,8 @@ pub record IsFound (lines : Lines) (times : EventTimes) (rule : Parts) : Type 0 
 none_or_some : {A : Type 0} (x : A) → None ≡ Some x → ⊥
 none_or_some x e = true≢false (ap (λ (o : Option _). elim o [ None ↦ true | Some _ ↦ false ]) e)
 
-module _ (lines : Lines) (times : EventTimes) (rule : Option Parts) (s : SaysEventRule lines times rule) where
-  abbrev Gives : RuleText → Parts → Type 0
+module _ (lines : Lines) (times : EventTimes) (rule : Option Rule) (s : SaysEventRule lines times rule) where
+  abbrev Gives : RuleText → Rule → Type 0
   Gives = GivesRule (clock_of times.zone) times.local
 
   -- without RRULE, and without DTSTART, there is no rule
@@ -37,7 +37,7 @@ module _ (lines : Lines) (times : EventTimes) (rule : Option Parts) (s : SaysEve
       no_text None (Some t) e b = absurd b
       no_text (Some l) text e b = let k : 0 ≡ 1 = ap length e in absurd (omega (arith, k))
 
-      beside : (starts : Lines) (text : Option RuleText) (rule : Option Parts) → text ≡ None → GivesBeside starts times text rule → rule ≡ None
+      beside : (starts : Lines) (text : Option RuleText) (rule : Option Rule) → text ≡ None → GivesBeside starts times text rule → rule ≡ None
       beside [] text rule e g = g
       beside (start ∷ more) None None e g = refl
       beside (start ∷ more) None (Some r) e g = absurd g
@@ -46,13 +46,13 @@ module _ (lines : Lines) (times : EventTimes) (rule : Option Parts) (s : SaysEve
   pub no_rule_alone : lines_named (codes "DTSTART") lines ≡ [] → rule ≡ None
   no_rule_alone missing = subst (λ (starts : Lines). GivesBeside starts times s.text rule) missing s.gives
 
-  pub rule_found : (r : Parts) → rule ≡ Some r → IsFound lines times r
+  pub rule_found : (r : Rule) → rule ≡ Some r → IsFound lines times r
   rule_found r is =
       let found = beside (lines_named (codes "DTSTART") lines) s.text rule s.gives is in
       let line = of_text s.spells.line s.text found.0 found.1 s.spells.is in
       record { line = line.0; once = s.spells.once ∙ ap (λ (o : Option (List ℕ)). option_to_list o) line.1; text = found.0; spelled = line.2; gives = found.2 }
     where
-      beside : (starts : Lines) (text : Option RuleText) (rule : Option Parts) → GivesBeside starts times text rule → rule ≡ Some r → (t : RuleText) × (text ≡ Some t) × Gives t r
+      beside : (starts : Lines) (text : Option RuleText) (rule : Option Rule) → GivesBeside starts times text rule → rule ≡ Some r → (t : RuleText) × (text ≡ Some t) × Gives t r
       beside [] text rule g e = absurd (none_or_some r (sym g ∙ e))
       beside (start ∷ more) None None g e = absurd (none_or_some r e)
       beside (start ∷ more) None (Some q) g e = absurd g

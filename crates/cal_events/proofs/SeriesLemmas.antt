@@ -9,10 +9,10 @@ use Rattle.std.proofs.lemmas.Int.{ints}
 use Rattle.std.proofs.lemmas.List.{get_or_default}
 use Rattle.std.proofs.lemmas.List.Elements.{All-contains, Contains-append_left, Contains-append_right}
 use Rattle.std.proofs.lemmas.List.Sorted.{Contains-permutation, IsPermutation-sym}
-use Rattle.profile.specs.checker.Instances.{Key, Booked}
-use Rattle.profile.specs.series.Rules.{Parts}
-use Rattle.profile.specs.events.Events.{Event, meeting_said}
-use Rattle.profile.specs.events.Meetings.{Meeting as Whole, is_master}
+use Rattle.profile.specs.checker.Instances.{Key, Instance}
+use Rattle.profile.specs.series.Rules.{Rule}
+use Rattle.profile.specs.events.EventComponents.{EventComponent as SaidComponent, meeting_said}
+use Rattle.profile.specs.events.Events.{Event as Whole, is_master}
 use Rattle.profile.specs.events.ZonedTimes.{EventTimes, clock_of}
 use Rattle.profile.specs.events.Starts.{key_at, IsGiven, IsRuleStart, IsInstance, EndsAt}
 use Rattle.profile.specs.events.Confirmed.{IsReplaced, IsInstanceAmong, IsOfSeries, by_its_rule, IsSeries}
@@ -22,10 +22,10 @@ use Rattle.cal_events.specs.Names.{name_said}
 use Rattle.cal_events.specs.Drafts.{override_key, override_keys, IsSaid}
 use Rattle.cal_events.specs.OwnInstances.{IsSteady}
 use Rattle.cal_events.specs.Ruled.{IsByItsRule, IsRuled, ruled_without}
-use Rattle.cal_events.specs.SaidSeries.{IsSeriesOf, IsLeftOf}
-use Rattle.cal_events.specs.Meetings.{IsNamed}
+use Rattle.cal_events.specs.SaidSeries.{IsSeriesOf, IsSeriesWithout}
+use Rattle.cal_events.specs.Meetings.{IsInEventDates}
 use Rattle.cal_events.specs.Overlapping.{HaveOneEnd, AreDated}
-use Rattle.cal_events.specs.Events.{event_of}
+use Rattle.cal_events.specs.Events.{component_of}
 use Rattle.cal_events.specs.SaidMeetings.{said_meeting}
 use Rattle.cal_events.specs.declared.component.EventComponent.{EventComponent}
 use Rattle.cal_events.specs.declared.event.Event as declared
@@ -44,24 +44,24 @@ in_one_of (y ∷ xs) ys x (suc k, w, e) = elim (in_one_of xs ys x (k, omega (ari
 
 -- ---- what a rule gives
 
-given_rule : (times : EventTimes) (o : Option Parts) (t : ℤ) → is_some o ≡ true → IsGiven times o t → (rule : Parts) × (o ≡ Some rule) × IsRuleStart times rule t
+given_rule : (times : EventTimes) (o : Option Rule) (t : ℤ) → is_some o ≡ true → IsGiven times o t → (rule : Rule) × (o ≡ Some rule) × IsRuleStart times rule t
 given_rule times None t h g = absurd (false≢true h)
 given_rule times (Some rule) t h g = (rule, refl, g)
 
-pub rule_gives : (times : EventTimes) (o : Option Parts) (rule : Parts) (t : ℤ) → o ≡ Some rule → IsRuleStart times rule t → IsGiven times o t
-rule_gives times o rule t e h = subst (λ (x : Option Parts). IsGiven times x t) (sym e) h
+pub rule_gives : (times : EventTimes) (o : Option Rule) (rule : Rule) (t : ℤ) → o ≡ Some rule → IsRuleStart times rule t → IsGiven times o t
+rule_gives times o rule t e h = subst (λ (x : Option Rule). IsGiven times x t) (sym e) h
 
-no_recurrence : (event : Event) → is_master event ≡ true → event.recurrence ≡ None
+no_recurrence : (event : SaidComponent) → is_master event ≡ true → event.recurrence ≡ None
 no_recurrence event h = elim (of_both event) [ inl e ↦ e | inr (slot, e) ↦ absurd (not_a_master event slot e h) ]
 
 -- ---- the series of a master
 
-module _ (events : List Event) (master : Event) (is : is_master master ≡ true) (series : Whole) (s : IsSeries events master series) where
-  abbrev ruled : Event
+module _ (events : List SaidComponent) (master : SaidComponent) (is : is_master master ≡ true) (series : Whole) (s : IsSeries events master series) where
+  abbrev ruled : SaidComponent
   ruled = by_its_rule master s.replaced
 
   -- what is of the series is an instance of the master at a start that its rule gives
-  pub of_its_series : is_some master.rule ≡ true → (b : Booked) → IsInstance series b → IsInstanceAmong events master b × IsOfSeries master b
+  pub of_its_series : is_some master.rule ≡ true → (b : Instance) → IsInstance series b → IsInstanceAmong events master b × IsOfSeries master b
   of_its_series some b h =
       let x = at_start ruled b (subst (λ (m : Whole). IsInstance m b) s.is h) in
       let g : IsGiven master.times master.rule b.start = elim x.starts.given [ inl g ↦ g | inr c ↦ absurd (none_in b.start c) ] in
@@ -83,7 +83,7 @@ module _ (events : List Event) (master : Event) (is : is_master master ≡ true)
       )
 
   -- and what is such an instance is of the series
-  pub in_its_series : (b : Booked) → IsInstanceAmong events master b → IsOfSeries master b → IsInstance series b
+  pub in_its_series : (b : Instance) → IsInstanceAmong events master b → IsOfSeries master b → IsInstance series b
   in_its_series b among of =
       let y = master_alone master b (no_recurrence master is) among.is in
       subst (λ (m : Whole). IsInstance m b) (sym s.is)
@@ -102,7 +102,7 @@ module _ (events : List Event) (master : Event) (is : is_master master ≡ true)
       }))
 
 -- a master has one series
-pub one_series : (events : List Event) (master : Event) (a b : Whole) → IsSeries events master a → IsSeries events master b → a ≡ b
+pub one_series : (events : List SaidComponent) (master : SaidComponent) (a b : Whole) → IsSeries events master a → IsSeries events master b → a ≡ b
 one_series events master a b s t =
     let same : s.replaced ≡ t.replaced =
     one_order ◌<ℤ◌ (λ x l. absurd (omega (arith, ints, l))) (λ x y z l m. omega (arith, ints, l, m)) s.replaced t.replaced s.are.ascending t.are.ascending
@@ -111,7 +111,7 @@ one_series events master a b s t =
 
 -- ---- what overrides replace
 
-module _ (events : List Event) (entries : List Name) (said : entries ≡ map name_said events) (event : Event) (slot : ℤ) where
+module _ (events : List SaidComponent) (entries : List Name) (said : entries ≡ map name_said events) (event : SaidComponent) (slot : ℤ) where
   abbrev own : Key
   own = key_in (meeting_said event) slot
 
@@ -127,8 +127,8 @@ module _ (events : List Event) (entries : List Name) (said : entries ≡ map nam
       (subst (Contains (filter_map override_key (map name_said events))) (ap (λ m. key_in m slot) r.of) (key_replaced events r.override slot r.among r.is))
 
 -- what is made by the keys of the entries is the series
-pub series_made : (events : List Event) (entries : List Name) → entries ≡ map name_said events → (keys : List Key) → IsPermutation (override_keys entries) keys
-    → (master : Event) (series : Whole) → IsByItsRule keys master series → IsSeries events master series
+pub series_made : (events : List SaidComponent) (entries : List Name) → entries ≡ map name_said events → (keys : List Key) → IsPermutation (override_keys entries) keys
+    → (master : SaidComponent) (series : Whole) → IsByItsRule keys master series → IsSeries events master series
 series_made events entries said keys same master series h = record {
   replaced = h.replaced;
   are = record {
@@ -149,7 +149,7 @@ series_made events entries said keys same master series h = record {
 
 -- ---- a master by itself
 
-module _ (master : Event) (said : IsSaid master) (replaced : List ℤ) where
+module _ (master : SaidComponent) (said : IsSaid master) (replaced : List ℤ) where
   pub ruled_ends : HaveOneEnd (of_master (by_its_rule master replaced))
   ruled_ends a b h k start slot =
       let x = at_start (by_its_rule master replaced) a h in
@@ -159,7 +159,7 @@ module _ (master : Event) (said : IsSaid master) (replaced : List ℤ) where
   pub ruled_dated : AreDated (of_master (by_its_rule master replaced))
   ruled_dated a h =
       let x = at_start (by_its_rule master replaced) a h in
-      (subst IsNamed (sym (ap (λ (key : Key). key.slot) x.key)) x.starts.in_dates, x.starts.in_dates)
+      (subst IsInEventDates (sym (ap (λ (key : Key). key.slot) x.key)) x.starts.in_dates, x.starts.in_dates)
 
 -- ---- lists that are related element by element
 
@@ -189,41 +189,41 @@ empty_list [] h = refl
 empty_list (x ∷ xs) h = absurd (omega (arith, h))
 
 -- the event of a master alone represents it
-pub alone_said : (event : declared.Event) → length event.overrides.items ≡ 0 → (m : EventComponent) → event.master ≡ Some m → said_meeting event ≡ of_master (event_of m)
+pub alone_said : (event : declared.Event) → length event.overrides.items ≡ 0 → (m : EventComponent) → event.master ≡ Some m → said_meeting event ≡ of_master (component_of m)
 alone_said event none m is =
-    let e = empty_list event.overrides.items none in λ i. record { master = option_map event_of (is i); overrides = map event_of (e i) }
+    let e = empty_list event.overrides.items none in λ i. record { master = option_map component_of (is i); overrides = map component_of (e i) }
 
 -- of a master alone the instances differ in their starts
-pub one_start : (event : declared.Event) → IsRuled event → (a b : Booked) → IsInstance (said_meeting event) a → IsInstance (said_meeting event) b → a.start ≡ b.start → a.key.slot ≡ b.key.slot → a ≡ b
+pub one_start : (event : declared.Event) → IsRuled event → (a b : Instance) → IsInstance (said_meeting event) a → IsInstance (said_meeting event) b → a.start ≡ b.start → a.key.slot ≡ b.key.slot → a ≡ b
 one_start event r a b h k start slot =
     let m = some_there event.master r.0 in
     let is = alone_said event r.1.1 m.0 m.1 in
-    let x = at_start (event_of m.0) a (subst (λ (w : Whole). IsInstance w a) is h) in
-    let y = at_start (event_of m.0) b (subst (λ (w : Whole). IsInstance w b) is k) in
-    booked_same a b (x.key ∙ ap (key_at (event_of m.0)) start ∙ sym y.key) start (event.ends a b h k start slot)
+    let x = at_start (component_of m.0) a (subst (λ (w : Whole). IsInstance w a) is h) in
+    let y = at_start (component_of m.0) b (subst (λ (w : Whole). IsInstance w b) is k) in
+    booked_same a b (x.key ∙ ap (key_at (component_of m.0)) start ∙ sym y.key) start (event.ends a b h k start slot)
 
 -- a master alone gives slots that are starts, in the dates
-pub at_its_start : (event : declared.Event) → IsRuled event → (a : Booked) → IsInstance (said_meeting event) a → (a.key.slot ≡ a.start) × IsNamed a.start
+pub at_its_start : (event : declared.Event) → IsRuled event → (a : Instance) → IsInstance (said_meeting event) a → (a.key.slot ≡ a.start) × IsInEventDates a.start
 at_its_start event r a h =
     let m = some_there event.master r.0 in
     let is = alone_said event r.1.1 m.0 m.1 in
-    let x = at_start (event_of m.0) a (subst (λ (w : Whole). IsInstance w a) is h) in
+    let x = at_start (component_of m.0) a (subst (λ (w : Whole). IsInstance w a) is h) in
     (ap (λ (k : Key). k.slot) x.key, x.starts.in_dates)
 
 -- their keys are the master's, at their starts
-pub key_of_start : (event : declared.Event) → IsRuled event → (master : Event) → (said_meeting event).master ≡ Some master → (b : Booked) → IsInstance (said_meeting event) b
+pub key_of_start : (event : declared.Event) → IsRuled event → (master : SaidComponent) → (said_meeting event).master ≡ Some master → (b : Instance) → IsInstance (said_meeting event) b
     → b.key ≡ key_at master b.start
 key_of_start event r master e b h =
     let m = some_there event.master r.0 in
     let is = alone_said event r.1.1 m.0 m.1 in
-    let x = at_start (event_of m.0) b (subst (λ (w : Whole). IsInstance w b) is h) in
-    let same : event_of m.0 ≡ master = same_Some (event_of m.0) master (sym (ap (option_map event_of) m.1) ∙ e) in
-    x.key ∙ ap (λ (v : Event). key_at v b.start) same
+    let x = at_start (component_of m.0) b (subst (λ (w : Whole). IsInstance w b) is h) in
+    let same : component_of m.0 ≡ master = same_Some (component_of m.0) master (sym (ap (option_map component_of) m.1) ∙ e) in
+    x.key ∙ ap (λ (v : SaidComponent). key_at v b.start) same
 
 -- ---- a master by its rule alone, without some starts
 
-module _ (master : Event) (hidden : List ℤ) (b : Booked) where
-  abbrev left : Event
+module _ (master : SaidComponent) (hidden : List ℤ) (b : Instance) where
+  abbrev left : SaidComponent
   left = ruled_without master hidden
 
   -- at a start that its rule gives, and that is none of those
@@ -265,7 +265,7 @@ module _ (master : Event) (hidden : List ℤ) (b : Booked) where
       })
 
 -- the series of an event by itself
-pub series_of : (event : Event) → is_master event ≡ true → is_some event.rule ≡ true → (series : Whole) → series ≡ of_master (ruled_without event []) → IsSeriesOf event series
+pub series_of : (event : SaidComponent) → is_master event ≡ true → is_some event.rule ≡ true → (series : Whole) → series ≡ of_master (ruled_without event []) → IsSeriesOf event series
 series_of event is some series same = record {
   has = both (is_master event) (is_some event.rule) is some;
   instances = λ b. (
@@ -286,25 +286,25 @@ series_of event is some series same = record {
     both a b p q = rw p (q)
 
 -- a series without some of its instances: nothing is added to its master
-pub left_of : (master : Event) → length master.additions ≡ 0 → (hidden : List ℤ) (series rest : Whole) → series ≡ of_master master → rest ≡ of_master (ruled_without master hidden) → IsLeftOf series hidden rest
+pub left_of : (master : SaidComponent) → length master.additions ≡ 0 → (hidden : List ℤ) (series rest : Whole) → series ≡ of_master master → rest ≡ of_master (ruled_without master hidden) → IsSeriesWithout series hidden rest
 left_of master none hidden series rest same made = record {
   instances = λ b. (
     (λ h. let x = of_ruled master hidden b (subst (λ (m : Whole). IsInstance m b) made h) in (subst (λ (m : Whole). IsInstance m b) (sym same) (from_start master b x.at), x.shown)),
     λ h. let x = at_start master b (subst (λ (m : Whole). IsInstance m b) same h.0) in
         subst (λ (m : Whole). IsInstance m b) (sym made) (to_ruled master hidden b (record { at = x; given = elim x.starts.given [ inl g ↦ g | inr c ↦ absurd (none_in b.start (subst (λ (l : List ℤ). Contains l b.start) (empty_list master.additions none) c)) ]; shown = h.1 })),
   );
-  master = λ own is. let e : master ≡ own = same_Some master own (sym (ap (λ (m : Whole). m.master) same) ∙ is) in made ∙ ap (λ (m : Event). of_master (ruled_without m hidden)) e;
+  master = λ own is. let e : master ≡ own = same_Some master own (sym (ap (λ (m : Whole). m.master) same) ∙ is) in made ∙ ap (λ (m : SaidComponent). of_master (ruled_without m hidden)) e;
 }
 
 -- its instances end where they did
-pub left_ends : (master : Event) (hidden : List ℤ) → HaveOneEnd (of_master master) → HaveOneEnd (of_master (ruled_without master hidden))
+pub left_ends : (master : SaidComponent) (hidden : List ℤ) → HaveOneEnd (of_master master) → HaveOneEnd (of_master (ruled_without master hidden))
 left_ends master hidden one a b h k start slot = one a b (from_start master a (of_ruled master hidden a h).at) (from_start master b (of_ruled master hidden b k).at) start slot
 
 -- of a steady clock they end at one instant
-pub steady_ends : (master : Event) (hidden : List ℤ) → IsSteady (clock_of master.times.zone) → HaveOneEnd (of_master (ruled_without master hidden))
+pub steady_ends : (master : SaidComponent) (hidden : List ℤ) → IsSteady (clock_of master.times.zone) → HaveOneEnd (of_master (ruled_without master hidden))
 steady_ends master hidden clock a b h k start slot =
     end_one master.times b.start a.end b.end clock (subst (λ (t : ℤ). EndsAt master.times t a.end) start (of_ruled master hidden a h).at.ends) (of_ruled master hidden b k).at.ends
 
 -- the master of a series
-pub own_master : (event : declared.Event) → IsRuled event → (m : EventComponent) × (event.master ≡ Some m) × (said_meeting event ≡ of_master (event_of m))
+pub own_master : (event : declared.Event) → IsRuled event → (m : EventComponent) × (event.master ≡ Some m) × (said_meeting event ≡ of_master (component_of m))
 own_master event r = let m = some_there event.master r.0 in (m.0, m.1, alone_said event r.1.1 m.0 m.1)

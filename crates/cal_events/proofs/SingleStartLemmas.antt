@@ -9,13 +9,13 @@ use Rattle.std.proofs.lemmas.Option.{same_Some}
 use Rattle.std.proofs.lemmas.List.{take_all, take_more, get_or_default, length-take-le, get_or-take}
 use Rattle.std.proofs.lemmas.List.Elements.{Contains-push_cases, Contains-push, Contains-append_left}
 use Rattle.std.proofs.lemmas.List.Sorted.{IsPermutation-sym, Contains-permutation}
-use Rattle.profile.specs.series.Rules.{Parts, IsNextDay, NoDayFrom}
+use Rattle.profile.specs.series.Rules.{Rule, IsNextDay, NoDayFrom}
 use Rattle.profile.specs.series.Zones.{Means, IsOneMeaning, local_time}
-use Rattle.profile.specs.events.Events.{Event}
+use Rattle.profile.specs.events.EventComponents.{EventComponent}
 use Rattle.profile.specs.events.EventRules.{IsOnDay}
 use Rattle.profile.specs.events.ZonedTimes.{clock_of}
 use Rattle.profile.specs.events.Starts.{IsGiven, IsRuleStart}
-use Rattle.cal_events.specs.Meetings.{IsNamed}
+use Rattle.cal_events.specs.Meetings.{IsInEventDates}
 use Rattle.cal_events.specs.Instances.{IsAscending, IsAfter, IsWanted, NoneBefore}
 use Rattle.cal_events.specs.SingleStarts.{IsOnRule, IsSingleStart, AreSingleStarts, IsCandidate, IsLast, IsLeftOver}
 use Rattle.cal_events.specs.declared.instances.Bound.{Bound}
@@ -26,7 +26,7 @@ use Rattle.cal_events.proofs.InstanceLemmas.{none_earlier, one_second}
 
 -- ---- candidates
 
-module _ (master : Event) (xs sorted : List ℤ) (same : IsPermutation xs sorted) where
+module _ (master : EventComponent) (xs sorted : List ℤ) (same : IsPermutation xs sorted) where
   there : (t : ℤ) → Contains sorted t → Contains xs t
   there t c = Contains-permutation sorted xs t (IsPermutation-sym xs sorted same) c
 
@@ -46,7 +46,7 @@ module _ (master : Event) (xs sorted : List ℤ) (same : IsPermutation xs sorted
   without_dtstart some is t = (
     (λ c. inr (subst (λ (l : List ℤ). Contains l t) is (there t c))),
     λ h. back t (subst (λ (l : List ℤ). Contains l t) (sym is) (elim h [
-      | inl it ↦ absurd (false≢true (sym (ap (λ (o : Option Parts). is_some o) it.0) ∙ some))
+      | inl it ↦ absurd (false≢true (sym (ap (λ (o : Option Rule). is_some o) it.0) ∙ some))
       | inr old ↦ old
     ])),
   )
@@ -56,17 +56,17 @@ module _ (master : Event) (xs sorted : List ℤ) (same : IsPermutation xs sorted
 abbrev pub at : ℤ → Bound
 at instant = record { start = instant; slot = None }
 
-pub wanted_at : (master : Event) (instant : ℤ) → IsNamed instant → (Contains master.exceptions instant → ⊥) → IsWanted master [] (at instant) instant
+pub wanted_at : (master : EventComponent) (instant : ℤ) → IsInEventDates instant → (Contains master.exceptions instant → ⊥) → IsWanted master [] (at instant) instant
 wanted_at master instant named not = record { after = inr (refl, tt); in_dates = named; not_excepted = not; not_overridden = λ c. none_in _ c }
 
-pub early_unwanted : (master : Event) (instant start : ℤ) → start <ℤ instant → IsWanted master [] (at instant) start → ⊥
+pub early_unwanted : (master : EventComponent) (instant start : ℤ) → start <ℤ instant → IsWanted master [] (at instant) start → ⊥
 early_unwanted master instant start less w = go w.after
   where
     go : IsAfter (at instant) start start → ⊥
     go (inl l) = omega (arith, ints, l, less)
     go (inr (e, _)) = omega (arith, ints, e, less)
 
-module _ (master : Event) (instant : ℤ) (rule : Parts) (is : master.rule ≡ Some rule) (one : IsOneMeaning (clock_of master.times.zone))
+module _ (master : EventComponent) (instant : ℤ) (rule : Rule) (is : master.rule ≡ Some rule) (one : IsOneMeaning (clock_of master.times.zone))
     (first second : ℕ) (on : IsOnDay master.times.local first second) (from : ℕ) (none : NoneBefore master [] (at instant) from)
     (wanted : IsWanted master [] (at instant) instant) where
   pub gives : (found : ℕ) → IsNextDay rule from found → (start : ℤ) → Means (clock_of master.times.zone) (local_time found second) start → start ≡ instant → IsOnRule master instant
@@ -78,7 +78,7 @@ module _ (master : Event) (instant : ℤ) (rule : Parts) (is : master.rule ≡ S
   means_too r = subst (λ (x : ℕ). Means (clock_of master.times.zone) (local_time r.day x) instant) (one_second master.times.local r.first first r.second second r.on on) r.means
 
   it_gives : IsOnRule master instant → IsRuleStart master.times rule instant
-  it_gives (other, e, r) = subst (λ (x : Parts). IsRuleStart master.times x instant) (same_Some other rule (sym e ∙ is)) r
+  it_gives (other, e, r) = subst (λ (x : Rule). IsRuleStart master.times x instant) (same_Some other rule (sym e ∙ is)) r
 
   pub gives_not : IsAscending (clock_of master.times.zone) → (found : ℕ) → IsNextDay rule from found → (start : ℤ) → Means (clock_of master.times.zone) (local_time found second) start → instant <ℤ start
       → IsOnRule master instant → ⊥
@@ -106,8 +106,8 @@ module _ (master : Event) (instant : ℤ) (rule : Parts) (is : master.rule ≡ S
 
 -- ---- whether a candidate is left over
 
-module _ (master : Event) (hidden : List ℤ) (instant : ℤ) (r : Bool) (same : IsPermutation master.exceptions hidden) where
-  pub left_over : IsNamed instant × (Contains hidden instant → ⊥) → IsTrue r ↔ IsOnRule master instant → IsTrue (not r) ↔ IsLeftOver master instant
+module _ (master : EventComponent) (hidden : List ℤ) (instant : ℤ) (r : Bool) (same : IsPermutation master.exceptions hidden) where
+  pub left_over : IsInEventDates instant × (Contains hidden instant → ⊥) → IsTrue r ↔ IsOnRule master instant → IsTrue (not r) ↔ IsLeftOver master instant
   left_over (named, none) on = (
     (λ h. (named, (λ c. none (Contains-permutation master.exceptions hidden instant same c)), λ given. both r h (on.1 given))),
     λ h. neither r (λ t. h.2 (on.0 t)),
@@ -121,7 +121,7 @@ module _ (master : Event) (hidden : List ℤ) (instant : ℤ) (r : Bool) (same :
       neither true h = absurd (h refl)
       neither false h = refl
 
-  pub not_left_over : r ≡ false → IsTrue r ↔ (IsNamed instant × (Contains hidden instant → ⊥)) → IsTrue r ↔ IsLeftOver master instant
+  pub not_left_over : r ≡ false → IsTrue r ↔ (IsInEventDates instant × (Contains hidden instant → ⊥)) → IsTrue r ↔ IsLeftOver master instant
   not_left_over isnt starts = (
     (λ h. absurd (true≢false (sym h ∙ isnt))),
     λ h. starts.1 (h.0, λ c. h.1 (Contains-permutation hidden master.exceptions instant (IsPermutation-sym master.exceptions hidden same) c)),
@@ -130,11 +130,11 @@ module _ (master : Event) (hidden : List ℤ) (instant : ℤ) (r : Bool) (same :
 -- ---- one candidate after another
 
 -- those so far
-pub record AreSoFar (master : Event) (xs starts : List ℤ) : Type 0 where
+pub record AreSoFar (master : EventComponent) (xs starts : List ℤ) : Type 0 where
   pub kept : AreKept (IsLeftOver master) xs starts
   pub ascending : AllPairs ◌<ℤ◌ starts
 
-pub so_far_none : (master : Event) → AreSoFar master [] []
+pub so_far_none : (master : EventComponent) → AreSoFar master [] []
 so_far_none master = record {
   kept = λ t. ((λ c. absurd (none_in t c)), λ h. absurd (none_in t h.0));
   ascending = λ i j d l w. absurd (omega (arith, w));
@@ -160,7 +160,7 @@ below_last starts t x up (k, w, e) most not =
     strict : (a b : ℤ) → a ≤ℤ b → (a ≡ b → ⊥) → a <ℤ b
     strict a b le ne = by_lt_z a b (λ l. l) (λ m. absurd (ne (omega (arith, ints, le, m))))
 
-module _ (master : Event) (xs starts : List ℤ) (up : IsSorted int_cmp xs) (k : ℕ) (x : ℤ) (w : k < length xs) (e : get_or xs k x ≡ x) (h : AreSoFar master (take k xs) starts) where
+module _ (master : EventComponent) (xs starts : List ℤ) (up : IsSorted int_cmp xs) (k : ℕ) (x : ℤ) (w : k < length xs) (e : get_or xs k x ≡ x) (h : AreSoFar master (take k xs) starts) where
   -- those so far aren't later
   most : (u : ℤ) → Contains starts u → u ≤ℤ x
   most u c =
@@ -206,7 +206,7 @@ module _ (master : Event) (xs starts : List ℤ) (up : IsSorted int_cmp xs) (k :
           grown = take_more xs k x w ∙ ap (λ y. take k xs ++ y ∷ []) e
 
 -- all candidates
-pub all_starts : (master : Event) (xs starts : List ℤ) (k : ℕ) → length xs ≤ k → ((t : ℤ) → Contains xs t ↔ IsCandidate master t) → AreSoFar master (take k xs) starts → AreSingleStarts master starts
+pub all_starts : (master : EventComponent) (xs starts : List ℤ) (k : ℕ) → length xs ≤ k → ((t : ℤ) → Contains xs t ↔ IsCandidate master t) → AreSoFar master (take k xs) starts → AreSingleStarts master starts
 all_starts master xs starts k le are h =
     let kept = subst (λ (l : List ℤ). AreKept (IsLeftOver master) l starts) (take_all k xs le) h.kept in
     record {
@@ -216,7 +216,7 @@ all_starts master xs starts k le are h =
     }
   where
     at_all : (t : ℤ) → IsCandidate master t → IsGiven master.times master.rule t ⊎ Contains master.additions t
-    at_all t (inl (none, it)) = inl (subst (λ (r : Option Parts). IsGiven master.times r t) (sym none) it)
+    at_all t (inl (none, it)) = inl (subst (λ (r : Option Rule). IsGiven master.times r t) (sym none) it)
     at_all t (inr added) = inr added
 
     one : (t : ℤ) → Contains xs t × IsLeftOver master t → IsSingleStart master t
@@ -226,6 +226,6 @@ all_starts master xs starts k le are h =
     candidate t apart (inr added) = inr added
     candidate t apart (inl given) = go master.rule refl given
       where
-        go : (r : Option Parts) → master.rule ≡ r → IsGiven master.times r t → IsCandidate master t
+        go : (r : Option Rule) → master.rule ≡ r → IsGiven master.times r t → IsCandidate master t
         go None e g = inl (e, g)
         go (Some rule) e g = absurd (apart (rule, e, g))

@@ -18,7 +18,7 @@ use Rattle.profile.specs.checker.Instances.{horizon, IsWithin}
 use Rattle.cal_events.specs.declared.sweep.Span.{Span}
 use Rattle.cal_events.specs.declared.sweep.Placed.{Placed}
 use Rattle.cal_events.specs.declared.sweep.Overlap.{Overlap}
-use Rattle.cal_events.specs.Sweep.{span_at, AreApart, IsOverlap, holds_instant, placed_from, Rises, EndsBefore, AreNeighbours}
+use Rattle.cal_events.specs.Sweep.{span_at, AreSpansApart, IsOverlap, holds_instant, placed_from, Rises, IsOverBefore, AreNeighbours}
 use Rattle.cal_events.proofs.Distinct.{Distinct, distinct_nil, distinct_cons, distinct_permutation}
 
 le_from_not_lt : (a b : ℤ) → is_lt (int_cmp b a) ≡ false → a ≤ℤ b
@@ -44,7 +44,7 @@ rise_by xs up i (suc n) d h =
     omega (arith, ints)
 
 -- each earlier place ends before each later one starts
-apart : (xs : List Placed) → AllAdjacentBelow Rises xs (length xs) → AllAdjacentBelow EndsBefore xs (length xs)
+apart : (xs : List Placed) → AllAdjacentBelow Rises xs (length xs) → AllAdjacentBelow IsOverBefore xs (length xs)
     → (i j : ℕ) (d : Placed) → i < j → j < length xs → (get_or xs i d).end ≤ℤ (get_or xs j d).start
 apart xs up ends i j d lt h =
     let n : ℕ = j - (i + 1) in
@@ -121,7 +121,7 @@ holds_from : (s : Span) (t : ℤ) → IsWithin s.start s.end t → t <ℤ horizo
 holds_from s t h b = grind (arith, ints)
 
 -- two entries at places that differ don't overlap
-one_way : (xs : List Placed) → AllAdjacentBelow Rises xs (length xs) → AllAdjacentBelow EndsBefore xs (length xs)
+one_way : (xs : List Placed) → AllAdjacentBelow Rises xs (length xs) → AllAdjacentBelow IsOverBefore xs (length xs)
     → (i j : ℕ) (p q : Placed) → i < j → j < length xs → get_or xs i p ≡ p → get_or xs j q ≡ q → p.end ≤ℤ q.start
 one_way xs up ends i j p q lt h ep eq =
     let a = apart xs up ends i j p lt h in
@@ -140,7 +140,7 @@ one_element xs i j p q e h ep eq = sym ep ∙ get_or_default xs i p q h ∙ ap (
 
 -- where no neighbours overlap, no two places share an instant
 pub apart_from_neighbours : (spans : List Span) (sorted : List Placed) → IsPermutation (placed_from 0 spans) sorted
-    → AllAdjacentBelow Rises sorted (length sorted) → AllAdjacentBelow EndsBefore sorted (length sorted) → AreApart spans
+    → AllAdjacentBelow Rises sorted (length sorted) → AllAdjacentBelow IsOverBefore sorted (length sorted) → AreSpansApart spans
 apart_from_neighbours spans sorted same up ends i j t s =
     let a = Contains-permutation (placed_from 0 spans) sorted _ same (contains_placed 0 spans i s.first_in (holds_from (span_at spans i) t s.in_first s.before)) in
     let b = Contains-permutation (placed_from 0 spans) sorted _ same (contains_placed 0 spans j s.second_in (holds_from (span_at spans j) t s.in_second s.before)) in
@@ -225,8 +225,8 @@ found_by_sweep spans placed sorted seen r p same up e h =
     (λ found n. overlap_from_neighbours spans sorted (subst (λ (l : List Placed). IsPermutation l sorted) p same) up found n)
 
 pub none_by_sweep : (spans : List Span) (placed sorted seen : List Placed) (r : Option Overlap) → placed ≡ placed_from 0 spans → IsPermutation placed sorted
-    → AllAdjacentBelow Rises sorted (length sorted) → seen ≡ sorted → IfNone r (AllAdjacentBelow EndsBefore seen (length seen)) → IfNone r (AreApart spans)
+    → AllAdjacentBelow Rises sorted (length sorted) → seen ≡ sorted → IfNone r (AllAdjacentBelow IsOverBefore seen (length seen)) → IfNone r (AreSpansApart spans)
 none_by_sweep spans placed sorted seen None p same up e h =
     apart_from_neighbours spans sorted (subst (λ (l : List Placed). IsPermutation l sorted) p same) up
-    (subst (λ (l : List Placed). AllAdjacentBelow EndsBefore l (length l)) e h)
+    (subst (λ (l : List Placed). AllAdjacentBelow IsOverBefore l (length l)) e h)
 none_by_sweep spans placed sorted seen (Some found) p same up e h = h

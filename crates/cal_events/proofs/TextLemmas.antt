@@ -7,7 +7,7 @@ use Rattle.std.proofs.lemmas.Bool.Decides.{nat_tests}
 use Rattle.std.proofs.lemmas.List.{drop_all, drop_at, take-append-le, drop-append-le, take_all, length-append, length-drop}
 use Rattle.std.proofs.lemmas.List.Folds.{drop_split}
 use Rattle.std.proofs.lemmas.Str.{IsUtf8-append, IsUtf8-nil, IsUtf8-from_is_utf8, is_utf8-from_IsUtf8, IsCharBoundary-from_drop}
-use Rattle.cal_events.specs.Texts.{pieces, is_piece, are_pieces}
+use Rattle.cal_events.specs.Texts.{pieces_between, is_piece, are_pieces}
 
 -- ---- each is a text
 
@@ -42,17 +42,17 @@ rest_is joined start (end ∷ ends) h =
 start_cut : (joined : List ℕ) (start : ℕ) (ends : List ℕ) → are_pieces joined start ends ≡ true → IsCharBoundary joined start
 start_cut joined start ends h = IsCharBoundary-from_drop joined start (start_in joined start ends h) (rest_is joined start ends h)
 
-pub count : (joined : List ℕ) (start : ℕ) (ends : List ℕ) → length (pieces joined start ends) ≡ length ends
+pub count : (joined : List ℕ) (start : ℕ) (ends : List ℕ) → length (pieces_between joined start ends) ≡ length ends
 count joined start [] = refl
 count joined start (end ∷ ends) = ap suc (count joined end ends)
 
-pub place_in : (joined : List ℕ) (ends : List ℕ) (all : List (List ℕ)) (k : ℕ) → pieces joined 0 ends ≡ all → k < length all → k < length ends
+pub place_in : (joined : List ℕ) (ends : List ℕ) (all : List (List ℕ)) (k : ℕ) → pieces_between joined 0 ends ≡ all → k < length all → k < length ends
 place_in joined ends all k e w = let n = count joined 0 ends in let m = ap length e in omega (arith, w, n, m)
 
 -- ---- the one at a place
 
 pub record IsPieceAt (joined : List ℕ) (start : ℕ) (ends : List ℕ) (k : ℕ) : Type 0 where
-  pub is : get_or (pieces joined start ends) k [] ≡ slice_range joined (get_or (start ∷ ends) k 0) (get_or ends k 0)
+  pub is : get_or (pieces_between joined start ends) k [] ≡ slice_range joined (get_or (start ∷ ends) k 0) (get_or ends k 0)
   pub order : get_or (start ∷ ends) k 0 ≤ get_or ends k 0
   pub begins : IsCharBoundary joined (get_or (start ∷ ends) k 0)
   pub stops : IsCharBoundary joined (get_or ends k 0)
@@ -92,7 +92,7 @@ module _ (joined more : List ℕ) where
       (and_from (nat_le end (length (joined ++ more))) _ (grind (arith, nat_tests, w)) (is_utf8-from_IsUtf8 _ u))
 
   pub pushed : (start : ℕ) (ends : List ℕ) → are_pieces joined start ends ≡ true
-      → pieces (joined ++ more) start (ends ++ length (joined ++ more) ∷ []) ≡ pieces joined start ends ++ more ∷ []
+      → pieces_between (joined ++ more) start (ends ++ length (joined ++ more) ∷ []) ≡ pieces_between joined start ends ++ more ∷ []
   pushed start [] h = ap (λ (p : List ℕ). p ∷ []) (last_one start (same_number start (length joined) h))
   pushed start (end ∷ ends) h =
       let a = and_parts (is_piece joined start end) _ h in

@@ -6,12 +6,12 @@ use Rattle.std.specs.Result.{IsErrAnd}
 use Rattle.std.proofs.lemmas.Bool.Decides.{nat_tests}
 use Rattle.ical_lines.specs.declared.fault.Fault.{Fault}
 use Rattle.ical_lines.specs.declared.fault.Fault.TheVariants.{Refused, Memory}
-use Rattle.ical_tree.specs.Tree.{component_name, component_lines, component_children, IsObjectOf, tree_of}
+use Rattle.ical_tree.specs.Tree.{component_lines, component_children, IsObjectOf, tree_of, SpellsComponent}
 use Rattle.ical_tree.proofs.TreeOfLemmas.{tree_of-name, tree_of-own, tree_of-inside, spells_tree, object_tree}
 use Rattle.ical_tree.specs.Reading.{IsRefusalOf, calendar_has}
 use Rattle.ical_tree.specs.declared.component.Component.{Component}
 use Rattle.profile.specs.text.Lines.{is_same_name, logical_lines, reads_as_lines}
-use Rattle.profile.specs.text.Objects.{SpellsTree, has_version}
+use Rattle.profile.specs.text.Objects.{has_version}
 use Rattle.profile.specs.text.Trees.{Tree, tree_name, tree_own, vevents}
 use Rattle.profile.specs.checker.Calendars.{CalendarFault, CalendarTextFault, in_lines, in_tree, no_version, in_vevents}
 use Rattle.cal_events.specs.Drafts.{IsDraftOf, IsDraftIn}
@@ -50,7 +50,7 @@ faults_there (Err (Refused x)) octets c object h =
     in_vevents (tree_of c) (object_tree false c (logical_lines octets) object) h
 
 -- what is wrong with the one VCALENDAR: nothing counts its VEVENTs here
-version_wrong : (octets : List ℕ) (n : ℕ) (c : Component) → SpellsTree component_name component_lines component_children 7 c (logical_lines octets) → IsTrue (calendar_has false n c)
+version_wrong : (octets : List ℕ) (n : ℕ) (c : Component) → SpellsComponent 7 c (logical_lines octets) → IsTrue (calendar_has false n c)
     → CalendarTextFault octets n
 version_wrong octets n c s h =
     let e : n ≡ 24 = grind (arith, nat_tests) in

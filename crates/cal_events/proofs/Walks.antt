@@ -4,11 +4,11 @@ use Rattle.std.specs.Prelude.{Some, None}
 use Rattle.std.proofs.lemmas.Option.{same_Some}
 use Rattle.std.proofs.lemmas.Bool.{cases_order}
 use Rattle.profile.specs.series.Days.{day_index}
-use Rattle.profile.specs.series.Rules.{Parts}
+use Rattle.profile.specs.series.Rules.{Rule}
 use Rattle.profile.specs.series.Zones.{Means, IsOneMeaning, local_time}
 use Rattle.profile.specs.events.ZonedTimes.{clock_of}
 use Rattle.profile.specs.events.EventRules.{IsOnDay}
-use Rattle.profile.specs.events.Events.{Event}
+use Rattle.profile.specs.events.EventComponents.{EventComponent}
 use Rattle.cal_events.specs.declared.instances.Bound.{Bound}
 use Rattle.cal_events.specs.declared.rule_days.RuleDays.{RuleDays}
 use Rattle.cal_events.specs.RuleDaysLeft.{AreDaysOf, AreStepped}
@@ -18,7 +18,7 @@ use Rattle.cal_events.proofs.InstanceLemmas.{none_through, none_up_to, one_secon
 none_is_some : (day : ℤ) → None ≡ Some day → ⊥
 none_is_some day e = cc
 
-module _ (master : Event) (overrides : List Event) (bound : Bound) where
+module _ (master : EventComponent) (overrides : List EventComponent) (bound : Bound) where
   -- without a rule
   pub walked_without : (days : RuleDays) → master.rule ≡ None → days.first ≡ None → AreWalked master overrides bound days
   walked_without days none first = record {
@@ -27,18 +27,18 @@ module _ (master : Event) (overrides : List Event) (bound : Bound) where
     kept = λ d e. absurd (none_is_some d (sym first ∙ e));
   }
     where
-      no_rule : (r : Parts) → None ≡ Some r → ⊥
+      no_rule : (r : Rule) → None ≡ Some r → ⊥
       no_rule r e = cc
 
   -- from a day on
-  pub walked_from : (rule : Parts) (days : RuleDays) (day : ℕ) → master.rule ≡ Some rule → AreDaysOf rule days → days.from ≡ day → days.first ≡ None → NoneBefore master overrides bound day → AreWalked master overrides bound days
+  pub walked_from : (rule : Rule) (days : RuleDays) (day : ℕ) → master.rule ≡ Some rule → AreDaysOf rule days → days.from ≡ day → days.first ≡ None → NoneBefore master overrides bound day → AreWalked master overrides bound days
   walked_from rule days day is are from first none = record {
-    listed = λ r e. subst (λ (x : Parts). AreDaysOf x days) (same_Some rule r (sym is ∙ e)) are;
+    listed = λ r e. subst (λ (x : Rule). AreDaysOf x days) (same_Some rule r (sym is ∙ e)) are;
     none = subst (NoneBefore master overrides bound) (sym from) none;
     kept = λ d e. absurd (none_is_some d (sym first ∙ e));
   }
 
-  module _ (rule : Parts) (is : master.rule ≡ Some rule) (one : IsOneMeaning (clock_of master.times.zone))
+  module _ (rule : Rule) (is : master.rule ≡ Some rule) (one : IsOneMeaning (clock_of master.times.zone))
       (first second : ℕ) (on : IsOnDay master.times.local first second) (old new : RuleDays) (walked : AreWalked master overrides bound old) where
     -- the day that was taken doesn't start then
     pub walked_on : (day start : ℤ) → AreStepped rule old (Some day) new → Means (clock_of master.times.zone) (local_time (day_index day) second) start → (IsWanted master overrides bound start → ⊥)
@@ -55,7 +55,7 @@ module _ (master : Event) (overrides : List Event) (bound : Bound) where
     pub walked_back : (day start : ℤ) (back : RuleDays) → AreStepped rule old (Some day) new → Means (clock_of master.times.zone) (local_time (day_index day) second) start
         → AreDaysOf rule back → back.from ≡ day_index day → back.first ≡ Some day → back.start ≡ start → AreWalked master overrides bound back
     walked_back day start back step means are from is_first is_start = record {
-      listed = λ r e. subst (λ (x : Parts). AreDaysOf x back) (same_Some rule r (sym is ∙ e)) are;
+      listed = λ r e. subst (λ (x : Rule). AreDaysOf x back) (same_Some rule r (sym is ∙ e)) are;
       none = subst (NoneBefore master overrides bound) (sym from) (none_up_to master overrides bound rule is one first second on old.from walked.none (day_index day) step.2.0);
       kept = λ d e.
           let same : day ≡ d = same_Some day d (sym is_first ∙ e) in (
@@ -68,8 +68,8 @@ module _ (master : Event) (overrides : List Event) (bound : Bound) where
     }
 
 -- the day that was put back is passed, where its start isn't to come
-pub walked_past : (bound : Bound) (old new : RuleDays) (day : ℤ) → old.first ≡ Some day → (IsAfter bound old.start old.start → ⊥) → ((rule : Parts) → AreDaysOf rule old → old.from ≡ day_index day → AreDaysOf rule new)
-    → new.from ≡ day_index day + 1 → new.first ≡ None → (master : Event) (overrides : List Event) → AreWalked master overrides bound old → AreWalked master overrides bound new
+pub walked_past : (bound : Bound) (old new : RuleDays) (day : ℤ) → old.first ≡ Some day → (IsAfter bound old.start old.start → ⊥) → ((rule : Rule) → AreDaysOf rule old → old.from ≡ day_index day → AreDaysOf rule new)
+    → new.from ≡ day_index day + 1 → new.first ≡ None → (master : EventComponent) (overrides : List EventComponent) → AreWalked master overrides bound old → AreWalked master overrides bound new
 walked_past bound old new day is past are from first master overrides walked =
     let kept = walked.kept day is in
     record {

@@ -2,8 +2,8 @@
 use Rattle.std.proofs.Common.{◌≡◌, ◌∙◌, ap, sym, subst, inl, inr, ◌⊎◌, zero, suc, List, [], ◌∷◌, get_or, arith, ℤ, ◌<ℤ◌, ◌≤ℤ◌}
 use Rattle.std.specs.Prelude.{Option, Some, None, All, AllPairs, Contains, ◌↔◌}
 use Rattle.std.proofs.lemmas.Int.{ints, by_lt_z}
-use Rattle.profile.specs.checker.Instances.{Booked}
-use Rattle.profile.specs.events.Meetings.{Meeting}
+use Rattle.profile.specs.checker.Instances.{Instance as SaidInstance}
+use Rattle.profile.specs.events.Events.{Event}
 use Rattle.profile.specs.events.Starts.{IsInstance, ComesBefore, AreInstancesFrom}
 use Rattle.cal_events.specs.Calendars.{instance_of}
 use Rattle.cal_events.specs.Instances.{IsAfter, IsPastSlot}
@@ -41,7 +41,7 @@ order x y =
     (λ most. by_lt_z y x (λ more. inr (inr more)) (λ least. inr (inl (omega (arith, ints, most, least)))))
 
 -- two have one place, or one of them comes first
-pub placed : (a b : Booked) → ComesBefore a b ⊎ (((a.start ≡ b.start) × (a.key.slot ≡ b.key.slot)) ⊎ ComesBefore b a)
+pub placed : (a b : SaidInstance) → ComesBefore a b ⊎ (((a.start ≡ b.start) × (a.key.slot ≡ b.key.slot)) ⊎ ComesBefore b a)
 placed a b =
     elim (order a.start b.start) [
       | inl less ↦ inl (inl less)
@@ -59,14 +59,14 @@ past None a b h l = tt
 past (Some k) a b h l = omega (arith, ints, h, l)
 
 -- what comes after one that is to come is to come too
-pub after_later : (bound : Bound) (a b : Booked) → IsAfter bound a.start a.key.slot → ComesBefore a b → IsAfter bound b.start b.key.slot
+pub after_later : (bound : Bound) (a b : SaidInstance) → IsAfter bound a.start a.key.slot → ComesBefore a b → IsAfter bound b.start b.key.slot
 after_later bound a b (inl l) (inl m) = inl (omega (arith, ints, l, m))
 after_later bound a b (inl l) (inr (e, m)) = inl (omega (arith, ints, l, e))
 after_later bound a b (inr (e, p)) (inl m) = inl (omega (arith, ints, e, m))
 after_later bound a b (inr (e, p)) (inr (f, m)) = inr (e ∙ f, past bound.slot a.key.slot b.key.slot p m)
 
 -- those from an instant on are those that start then or later
-pub left_from : (event : declared.Event) (from : ℤ) (b : Booked) → (IsInstance (said_meeting event) b × IsAfter (record { start = from; slot = None }) b.start b.key.slot) ↔ (IsInstance (said_meeting event) b × (from ≤ℤ b.start))
+pub left_from : (event : declared.Event) (from : ℤ) (b : SaidInstance) → (IsInstance (said_meeting event) b × IsAfter (record { start = from; slot = None }) b.start b.key.slot) ↔ (IsInstance (said_meeting event) b × (from ≤ℤ b.start))
 left_from event from b = ((λ h. (h.0, late h.1)), λ h. (h.0, after h.1))
   where
     late : IsAfter (record { start = from; slot = None }) b.start b.key.slot → from ≤ℤ b.start
@@ -81,29 +81,29 @@ left_from event from b = ((λ h. (h.0, late h.1)), λ h. (h.0, after h.1))
 
 -- ---- all that are left
 
-record AreLeft (left : Instances) (all : List Booked) : Type 0 where
+record AreLeft (left : Instances) (all : List SaidInstance) : Type 0 where
   each : All (IsLeft left) all
   ordered : AllPairs ComesBefore all
-  whole : (b : Booked) → IsLeft left b → Contains all b
+  whole : (b : SaidInstance) → IsLeft left b → Contains all b
 
-module _ (meeting : Meeting) (one : (a b : Booked) → IsInstance meeting a → IsInstance meeting b → a.start ≡ b.start → a.key.slot ≡ b.key.slot → a ≡ b) where
-  module _ (left rest : Instances) (i : Instance) (others : List Booked) (of_meeting : said_meeting left.event.now ≡ meeting) (given : GivesFirst left (Some i) rest) where
-    abbrev it : Booked
+module _ (meeting : Event) (one : (a b : SaidInstance) → IsInstance meeting a → IsInstance meeting b → a.start ≡ b.start → a.key.slot ≡ b.key.slot → a ≡ b) where
+  module _ (left rest : Instances) (i : Instance) (others : List SaidInstance) (of_meeting : said_meeting left.event.now ≡ meeting) (given : GivesFirst left (Some i) rest) where
+    abbrev it : SaidInstance
     it = instance_of i
 
     is_left : IsLeft left it
     is_left = given.1.0
 
     -- what is left then was left, and comes after it
-    behind : (b : Booked) → IsLeft rest b → ComesBefore it b
+    behind : (b : SaidInstance) → IsLeft rest b → ComesBefore it b
     behind b (is, after) = subst (λ (x : Bound). IsAfter x b.start b.key.slot) given.1.2 after
 
-    still : (b : Booked) → IsLeft rest b → IsLeft left b
+    still : (b : SaidInstance) → IsLeft rest b → IsLeft left b
     still b (is, after) =
         (subst (λ e. IsInstance (said_meeting e.now) b) given.0 is, after_later left.after it b is_left.1 (behind b (is, after)))
 
     -- what was left is it, or is left
-    or_left : (b : Booked) → IsLeft left b → (it ≡ b) ⊎ IsLeft rest b
+    or_left : (b : SaidInstance) → IsLeft left b → (it ≡ b) ⊎ IsLeft rest b
     or_left b (is, after) =
         elim (placed it b) [
           | inl before ↦ inr (subst (λ e. IsInstance (said_meeting e.now) b) (sym given.0) is, subst (λ (x : Bound). IsAfter x b.start b.key.slot) (sym given.1.2) before)
@@ -120,7 +120,7 @@ module _ (meeting : Meeting) (one : (a b : Booked) → IsInstance meeting a → 
       whole = λ b l. elim (or_left b l) [ inl same ↦ (0, omega arith, same) | inr r ↦ in_tail it b others (h.whole b r) ];
     }
 
-  all_left : (left : Instances) (all : List Booked) → said_meeting left.event.now ≡ meeting → GivesAll left all → AreLeft left all
+  all_left : (left : Instances) (all : List SaidInstance) → said_meeting left.event.now ≡ meeting → GivesAll left all → AreLeft left all
   all_left left [] of_meeting (no_more own rest given) = record {
     each = λ k d w. absurd (omega (arith, w));
     ordered = λ i j d l w. absurd (omega (arith, w));
@@ -130,7 +130,7 @@ module _ (meeting : Meeting) (one : (a b : Booked) → IsInstance meeting a → 
       more_left own rest i others of_meeting given (all_left rest others (ap (λ e. said_meeting e.now) given.0 ∙ of_meeting) later)
 
   -- what is given from an instant on is all that starts then or later
-  pub all_given : (from : ℤ) (left : Instances) (all : List Booked) → said_meeting left.event.now ≡ meeting → ((b : Booked) → IsLeft left b ↔ (IsInstance meeting b × (from ≤ℤ b.start))) → GivesAll left all
+  pub all_given : (from : ℤ) (left : Instances) (all : List SaidInstance) → said_meeting left.event.now ≡ meeting → ((b : SaidInstance) → IsLeft left b ↔ (IsInstance meeting b × (from ≤ℤ b.start))) → GivesAll left all
       → AreInstancesFrom meeting from all
   all_given from left all of_meeting begins given =
       let h = all_left left all of_meeting given in

@@ -3,18 +3,18 @@ use Rattle.std.proofs.Common.{◌≡◌, ℕ, ℤ, pos, negsuc, true, false, Lis
 use Rattle.std.specs.Prelude.{codes}
 use Rattle.std.specs.declared.cmp.Ordering.TheVariants.{Less}
 use Rattle.std.proofs.lemmas.Int.{ints}
-use Rattle.profile.specs.checker.Instances.{Key, Booked, IsClash, IsWithin, horizon, booked_cmp}
+use Rattle.profile.specs.checker.Instances.{Key, Instance, IsClash, IsWithin, horizon, instance_cmp}
 use Rattle.cal_events.specs.Sweep.{holds_instant}
 
 -- an instance of Ann's meeting in these seconds, named by its start
-abbrev meeting : List ℕ → ℤ → ℤ → Booked
+abbrev meeting : List ℕ → ℤ → ℤ → Instance
 meeting uid start end = record { key = record { organiser = codes "mailto:ann@example.com"; uid = uid; slot = start }; start = start; end = end }
 
 -- 2025-03-10, 09:00Z to 10:00Z and 09:30Z to 10:30Z
-abbrev first : Booked
+abbrev first : Instance
 first = meeting (codes "a") (pos 1741597200) (pos 1741600800)
 
-abbrev second : Booked
+abbrev second : Instance
 second = meeting (codes "b") (pos 1741599000) (pos 1741602600)
 
 -- they clash at 09:30Z
@@ -29,7 +29,7 @@ half_an_hour = record {
 }
 
 -- the earlier is named first
-earlier_first : booked_cmp first second ≡ Less
+earlier_first : instance_cmp first second ≡ Less
 earlier_first = refl
 
 -- one instance doesn't clash with itself
@@ -45,10 +45,10 @@ no_length : (a t : ℤ) → IsWithin a a t → ⊥
 no_length a t h = absurd (omega (arith, ints))
 
 -- 99991231T230000Z for two hours and 99991231T233000Z for ten minutes clash at the second's start
-abbrev last_hours : Booked
+abbrev last_hours : Instance
 last_hours = meeting (codes "a") (pos 253402297200) (pos 253402304400)
 
-abbrev last_minutes : Booked
+abbrev last_minutes : Instance
 last_minutes = meeting (codes "b") (pos 253402299000) (pos 253402299600)
 
 last_clash : IsClash (last_hours ∷ last_minutes ∷ []) last_hours last_minutes (pos 253402299000)

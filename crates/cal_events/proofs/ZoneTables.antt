@@ -14,7 +14,7 @@ use Rattle.ical_tree.specs.declared.component.Component.{Component}
 use Rattle.profile.specs.text.Lines.{is_same_name}
 use Rattle.profile.specs.events.Properties.{BothOrNeither}
 use Rattle.profile.specs.events.ZonedTimes.{zone_name}
-use Rattle.cal_events.specs.Zones.{name_said, is_zone_called, IsZoneRead, AreZonesAmong}
+use Rattle.cal_events.specs.Zones.{zone_name_said, is_zone_called, IsZoneRead, AreZonesAmong}
 
 -- ---- a search in a list with one more item
 
@@ -58,7 +58,7 @@ both_kept R x None (Some w) b there h = absurd h
 
 -- ---- the name of a component
 
-not_called : (c : Component) (name : List ℕ) → name_said c ≡ None → is_zone_called name c ≡ false
+not_called : (c : Component) (name : List ℕ) → zone_name_said c ≡ None → is_zone_called name c ≡ false
 not_called c name e = go (is_same_name (component_name c) (codes "VTIMEZONE")) (zone_name (component_lines c)) e
   where
     go : (b : Bool) (o : Option (List ℕ)) → cond b o None ≡ None → (b && unwrap_or (option_map (λ given. bytes_eq given name) o) false) ≡ false
@@ -66,7 +66,7 @@ not_called c name e = go (is_same_name (component_name c) (codes "VTIMEZONE")) (
     go true (Some given) h = absurd (none-some given (sym h))
     go false o h = refl
 
-called : (c : Component) (name given : List ℕ) → name_said c ≡ Some given → is_zone_called name c ≡ bytes_eq given name
+called : (c : Component) (name given : List ℕ) → zone_name_said c ≡ Some given → is_zone_called name c ≡ bytes_eq given name
 called c name given e = go (is_same_name (component_name c) (codes "VTIMEZONE")) (zone_name (component_lines c)) e
   where
     go : (b : Bool) (o : Option (List ℕ)) → cond b o None ≡ Some given → (b && unwrap_or (option_map (λ g. bytes_eq g name) o) false) ≡ bytes_eq given name
@@ -93,7 +93,7 @@ abbrev Entries : Type 0 → Type 0
 Entries Y = List (String Y × Result Zone Refusal)
 
 module _ {Y : Type 0} where
-  pub no_zone_more : (c : Component) (earlier : List Component) (zones : Entries Y) → name_said c ≡ None → AreZonesAmong earlier zones
+  pub no_zone_more : (c : Component) (earlier : List Component) (zones : Entries Y) → zone_name_said c ≡ None → AreZonesAmong earlier zones
       → AreZonesAmong (earlier ++ c ∷ []) zones
   no_zone_more c earlier zones none h name =
       let kept = both_kept IsZoneRead c (find (is_zone_called name) earlier) (lookup (λ key. bytes_eq name (string_bytes key)) zones) (is_zone_called name c)
@@ -101,7 +101,7 @@ module _ {Y : Type 0} where
       subst (λ o. BothOrNeither IsZoneRead o (lookup (λ key. bytes_eq name (string_bytes key)) zones)) (sym (find_push (is_zone_called name) c earlier)) kept
 
   -- a name that is there already
-  pub same_name_more : (c : Component) (earlier : List Component) (zones : Entries Y) (given : List ℕ) → name_said c ≡ Some given
+  pub same_name_more : (c : Component) (earlier : List Component) (zones : Entries Y) (given : List ℕ) → zone_name_said c ≡ Some given
       → is_some (lookup (λ key. bytes_eq given (string_bytes key)) zones) ≡ true → AreZonesAmong earlier zones → AreZonesAmong (earlier ++ c ∷ []) zones
   same_name_more c earlier zones given said there h name =
       let o = lookup (λ key. bytes_eq name (string_bytes key)) zones in
@@ -123,7 +123,7 @@ module _ {Y : Type 0} where
       go false rest h = ap (λ l. e ∷ l) (rest h)
 
   -- the first of a name
-  pub zone_more : (c : Component) (earlier : List Component) (old new : Entries Y) (k : String Y) (v : Result Zone Refusal) → name_said c ≡ Some (string_bytes k)
+  pub zone_more : (c : Component) (earlier : List Component) (old new : Entries Y) (k : String Y) (v : Result Zone Refusal) → zone_name_said c ≡ Some (string_bytes k)
       → IsZoneRead c v → lookup (λ key. bytes_eq (string_bytes k) (string_bytes key)) old ≡ None
       → new ≡ insert_entry (λ a b. bytes_eq (string_bytes a) (string_bytes b)) old k v → AreZonesAmong earlier old → AreZonesAmong (earlier ++ c ∷ []) new
   zone_more c earlier old new k v said read absent is h name =

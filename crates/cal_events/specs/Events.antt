@@ -2,7 +2,7 @@
 use Rattle.std.specs.Prelude.{ℕ, Bool, List, length, map, filter, option_map, Option, None, Some, is_some, codes, Contains, ◌≡◌, ◌<◌, ℤ, pos, ◌<ℤ◌}
 use Rattle.ical_values.specs.Octets.{address_octets, text_octets}
 use Rattle.ical_values.specs.declared.duration.Duration.{Duration}
-use Rattle.profile.specs.events.Events as profile
+use Rattle.profile.specs.events.EventComponents as profile
 use Rattle.profile.specs.events.Properties as properties
 use Rattle.profile.specs.events.Properties.{length_seconds, time_kind}
 use Rattle.profile.specs.text.Trees.{Tree}
@@ -21,8 +21,8 @@ use Rattle.cal_events.specs.declared.component.TimeKind.{TimeKind}
 use Rattle.cal_events.specs.declared.component.TimeKind.TheVariants.{Date, DateTime, Period, Other}
 use Rattle.cal_events.specs.declared.component.Attendee.{Attendee}
 use Rattle.cal_events.specs.declared.component.EventComponent.{EventComponent}
-use Rattle.cal_events.specs.declared.component.ParticipationStatus.{ParticipationStatus}
-use Rattle.cal_events.specs.declared.component.ParticipationStatus.TheVariants.{NeedsAction, Tentative, Accepted, Delegated, Declined}
+use Rattle.cal_events.specs.declared.component.PartStat.{PartStat}
+use Rattle.cal_events.specs.declared.component.PartStat.TheVariants.{NeedsAction, Tentative, Accepted, Delegated, Declined}
 use Rattle.cal_events.specs.declared.component.Purpose.{Purpose}
 use Rattle.cal_events.specs.declared.component.Purpose.TheVariants.{Request, Add, Cancel, Meeting}
 
@@ -37,7 +37,7 @@ method_read Meeting = None
 abbrev pub is_message : Purpose → Bool
 is_message purpose = is_some (method_read purpose)
 
-abbrev pub participation_of : ParticipationStatus → profile.Participation
+abbrev pub participation_of : PartStat → profile.Participation
 participation_of NeedsAction = profile.NeedsAction
 participation_of Tentative = profile.Tentative
 participation_of Accepted = profile.Accepted
@@ -59,8 +59,8 @@ abbrev pub times_of : EventTimes → zoned.EventTimes
 times_of t = record { zone = zone_said t.start; local = t.start.local; start = t.instant; length = length_of t.length }
 
 -- the event that a VEVENT says
-abbrev pub event_of : EventComponent → profile.Event
-event_of e = record {
+abbrev pub component_of : EventComponent → profile.EventComponent
+component_of e = record {
   uid = text_octets e.uid;
   organiser = option_map address_octets e.organiser;
   stamp = e.stamp;
@@ -105,4 +105,4 @@ vevents_of object = map component_lines (filter is_vevent (component_children ob
 
 -- one of these VEVENTs has this fault
 abbrev pub IsFaultAmong : Tree → Option profile.Method → List (List (List ℕ)) → ℕ → Type 0
-IsFaultAmong object method vevents n = (lines : List (List ℕ)) × Contains vevents lines × profile.EventFault object method lines n
+IsFaultAmong object method vevents n = (lines : List (List ℕ)) × Contains vevents lines × profile.EventComponentFault object method lines n

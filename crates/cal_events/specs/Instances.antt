@@ -2,21 +2,21 @@
 use Rattle.std.specs.Prelude.{◌≡◌, ◌⊎◌, ℕ, ◌<◌, true, Contains, List, Option, Some, None, MatchOption, map, int_lt, if◌then◌else◌, ℤ, ◌≤ℤ◌, ◌<ℤ◌, ◌+ℤ◌, pos}
 use Rattle.profile.specs.checker.Instances.{horizon}
 use Rattle.profile.specs.series.Days.{day_index}
-use Rattle.profile.specs.series.Rules.{Parts, is_rule_day}
+use Rattle.profile.specs.series.Rules.{Rule, is_rule_day}
 use Rattle.profile.specs.series.Zones.{Zone, Means, IsOneMeaning, local_time}
 use Rattle.profile.specs.events.Properties.{first_second}
 use Rattle.profile.specs.events.ZonedTimes.{clock_of}
 use Rattle.profile.specs.events.EventRules.{IsOnDay}
-use Rattle.profile.specs.events.Events as profile
+use Rattle.profile.specs.events.EventComponents as profile
 use Rattle.profile.specs.events.Starts.{IsOverridden, IsStart}
 use Rattle.cal_zones.specs.Kinds.{zone_of}
 use Rattle.cal_zones.specs.declared.clock.Clock.{Clock}
-use Rattle.cal_events.specs.Events.{event_of}
+use Rattle.cal_events.specs.Events.{component_of}
 use Rattle.cal_events.specs.declared.component.EventComponent.{EventComponent}
 use Rattle.cal_events.specs.declared.rule_days.RuleDays.{RuleDays}
 use Rattle.cal_events.specs.RuleDaysLeft.{AreDaysOf}
 use Rattle.cal_events.specs.declared.instances.Bound.{Bound}
-use Rattle.cal_events.specs.declared.instances.Place.{Place}
+use Rattle.cal_events.specs.declared.instances.InstancePlace.{InstancePlace}
 
 -- ---- the clocks of a zone
 
@@ -25,7 +25,7 @@ abbrev pub IsAscending : Zone → Type 0
 IsAscending zone = (a b t u : ℤ) → Means zone a t → Means zone b u → (a +ℤ pos 43_200) <ℤ b → t <ℤ u
 
 -- the clocks of DTSTART's zone show a local time at one instant, and one that is more than half a day later at a later one
-abbrev pub HasGoodClock : profile.Event → Type 0
+abbrev pub HasGoodClock : profile.EventComponent → Type 0
 HasGoodClock event = IsOneMeaning (clock_of event.times.zone) × IsAscending (clock_of event.times.zone)
 
 -- ---- what is left
@@ -40,39 +40,39 @@ abbrev pub IsAfter : Bound → ℤ → ℤ → Type 0
 IsAfter bound start slot = (bound.start <ℤ start) ⊎ ((bound.start ≡ start) × IsPastSlot bound.slot slot)
 
 -- one place comes before another
-abbrev pub IsBefore : Place → Place → Type 0
+abbrev pub IsBefore : InstancePlace → InstancePlace → Type 0
 IsBefore a b = (a.start <ℤ b.start) ⊎ ((a.start ≡ b.start) × (a.slot <ℤ b.slot))
 
 -- an instant that the master's rule or an RDATE gives is one of its starts, and is still to come
-pub record IsWanted (master : profile.Event) (overrides : List profile.Event) (bound : Bound) (instant : ℤ) : Type 0 where
+pub record IsWanted (master : profile.EventComponent) (overrides : List profile.EventComponent) (bound : Bound) (instant : ℤ) : Type 0 where
   pub after : IsAfter bound instant instant
   pub in_dates : (first_second ≤ℤ instant) × (instant <ℤ horizon)
   pub not_excepted : Contains master.exceptions instant → ⊥
   pub not_overridden : IsOverridden overrides instant → ⊥
 
 -- of a rule's days before that one none has such a start
-abbrev pub NoneBefore : profile.Event → List profile.Event → Bound → ℕ → Type 0
+abbrev pub NoneBefore : profile.EventComponent → List profile.EventComponent → Bound → ℕ → Type 0
 NoneBefore master overrides bound day =
-    (rule : Parts) → master.rule ≡ Some rule → (first second n : ℕ) → IsOnDay master.times.local first second → n < day
+    (rule : Rule) → master.rule ≡ Some rule → (first second n : ℕ) → IsOnDay master.times.local first second → n < day
     → is_rule_day rule n ≡ true → (instant : ℤ) → Means (clock_of master.times.zone) (local_time n second) instant
     → IsWanted master overrides bound instant → ⊥
 
 -- the day that was put back is the first that is to come, and means no other instant than that
-abbrev pub IsKept : profile.Event → RuleDays → Type 0
-IsKept master days =
+abbrev pub IsDayKept : profile.EventComponent → RuleDays → Type 0
+IsDayKept master days =
     (day : ℤ) → days.first ≡ Some day
     → (days.from ≡ day_index day)
     × ((first second : ℕ) (instant : ℤ) → IsOnDay master.times.local first second → Means (clock_of master.times.zone) (local_time (day_index day) second) instant → instant ≡ days.start)
 
 -- on no day of the rule other than those that are to come is a start that is wanted
-pub record AreWalked (master : profile.Event) (overrides : List profile.Event) (bound : Bound) (days : RuleDays) : Type 0 where
-  pub listed : (rule : Parts) → master.rule ≡ Some rule → AreDaysOf rule days
+pub record AreWalked (master : profile.EventComponent) (overrides : List profile.EventComponent) (bound : Bound) (days : RuleDays) : Type 0 where
+  pub listed : (rule : Rule) → master.rule ≡ Some rule → AreDaysOf rule days
   pub none : NoneBefore master overrides bound days.from
-  pub kept : IsKept master days
+  pub kept : IsDayKept master days
 
 -- what held of the one holds of the other
 abbrev pub StayWalked : Bound → RuleDays → RuleDays → Type 0
-StayWalked bound old new = (master : profile.Event) (overrides : List profile.Event) → AreWalked master overrides bound old → AreWalked master overrides bound new
+StayWalked bound old new = (master : profile.EventComponent) (overrides : List profile.EventComponent) → AreWalked master overrides bound old → AreWalked master overrides bound new
 
 -- the least instant for which it holds, if there is one
 abbrev pub IsLeast : (ℤ → Type 0) → Option ℤ → Type 0
@@ -87,19 +87,19 @@ lesser (Some x) (Some y) = if int_lt y x then Some y else Some x
 -- ---- overrides
 
 -- the override is at that place
-abbrev pub IsAt : EventComponent → Place → Type 0
-IsAt o place = (o.recurrence ≡ Some place.slot) × (o.times.instant ≡ place.start)
+abbrev pub IsAtPlace : EventComponent → InstancePlace → Type 0
+IsAtPlace o place = (o.recurrence ≡ Some place.slot) × (o.times.instant ≡ place.start)
 
 -- it is, and that place is still to come
-abbrev pub IsMovedTo : EventComponent → Bound → Place → Type 0
-IsMovedTo o bound place = IsAt o place × IsAfter bound place.start place.slot
+abbrev pub IsMovedTo : EventComponent → Bound → InstancePlace → Type 0
+IsMovedTo o bound place = IsAtPlace o place × IsAfter bound place.start place.slot
 
 -- the place for which it holds and that comes before all others for which it does, if there is one
-abbrev pub IsSoonest : (Place → Type 0) → Option Place → Type 0
-IsSoonest P found = MatchOption found ((p : Place) → P p → ⊥) (λ p. P p × ((q : Place) → P q → IsBefore q p → ⊥))
+abbrev pub IsSoonest : (InstancePlace → Type 0) → Option InstancePlace → Type 0
+IsSoonest P found = MatchOption found ((p : InstancePlace) → P p → ⊥) (λ p. P p × ((q : InstancePlace) → P q → IsBefore q p → ⊥))
 
 -- the one of two that comes first, where there are any
-abbrev pub IsSooner : Option Place → Option Place → Option Place → Type 0
+abbrev pub IsSooner : Option InstancePlace → Option InstancePlace → Option InstancePlace → Type 0
 IsSooner None b r = r ≡ b
 IsSooner (Some x) None r = r ≡ Some x
 IsSooner (Some x) (Some y) r = ((r ≡ Some x) × (IsBefore y x → ⊥)) ⊎ ((r ≡ Some y) × IsBefore y x)
@@ -108,25 +108,25 @@ IsSooner (Some x) (Some y) r = ((r ≡ Some x) × (IsBefore y x → ⊥)) ⊎ ((
 
 -- on no other day of the master's rule is a start to come
 abbrev pub HasPassed : Option EventComponent → List EventComponent → Bound → RuleDays → Type 0
-HasPassed master overrides bound days = (c : EventComponent) → master ≡ Some c → AreWalked (event_of c) (map event_of overrides) bound days
+HasPassed master overrides bound days = (c : EventComponent) → master ≡ Some c → AreWalked (component_of c) (map component_of overrides) bound days
 
 -- what a local time means on the clocks of DTSTART's zone is what it means on these
-abbrev pub IsOfClock : profile.Event → Clock → Type 0
+abbrev pub IsOfClock : profile.EventComponent → Clock → Type 0
 IsOfClock event clock = (local t u : ℤ) → Means (zone_of clock.zone) local t → Means (clock_of event.times.zone) local u → u ≡ t
 
 abbrev pub HasClock : Option EventComponent → Clock → Type 0
-HasClock master clock = (c : EventComponent) → master ≡ Some c → IsOfClock (event_of c) clock
+HasClock master clock = (c : EventComponent) → master ≡ Some c → IsOfClock (component_of c) clock
 
 -- the place of the instance at a start
-abbrev pub own_place : ℤ → Place
+abbrev pub own_place : ℤ → InstancePlace
 own_place start = record { start = start; slot = start }
 
 -- at that place is a start of the master, or an override
-abbrev pub IsHeldAt : Option EventComponent → List EventComponent → Place → Type 0
+abbrev pub IsHeldAt : Option EventComponent → List EventComponent → InstancePlace → Type 0
 IsHeldAt master overrides place =
-    ((c : EventComponent) × (master ≡ Some c) × (place ≡ own_place place.start) × IsStart (event_of c) (map event_of overrides) place.start)
-    ⊎ ((o : EventComponent) × Contains overrides o × IsAt o place)
+    ((c : EventComponent) × (master ≡ Some c) × (place ≡ own_place place.start) × IsStart (component_of c) (map component_of overrides) place.start)
+    ⊎ ((o : EventComponent) × Contains overrides o × IsAtPlace o place)
 
 -- and it is to come
-abbrev pub IsHeld : Option EventComponent → List EventComponent → Bound → Place → Type 0
+abbrev pub IsHeld : Option EventComponent → List EventComponent → Bound → InstancePlace → Type 0
 IsHeld master overrides bound place = IsHeldAt master overrides place × IsAfter bound place.start place.slot

@@ -2,22 +2,22 @@
 use Rattle.std.specs.Prelude.{◌≡◌, ◌⊎◌, ℕ, ◌<◌, List, [], length, map, filter, Option, ℤ, ◌≤ℤ◌, ◌<ℤ◌}
 use Rattle.profile.specs.checker.Instances.{horizon}
 use Rattle.profile.specs.events.Properties.{first_second}
-use Rattle.profile.specs.events.Events as profile
-use Rattle.profile.specs.events.Meetings.{AreOfOne, InstancesDiffer, is_master, is_override}
+use Rattle.profile.specs.events.EventComponents as profile
+use Rattle.profile.specs.events.Events.{AreOfOne, InstancesDiffer, is_master, is_override}
 
 -- which instances events are for
-abbrev pub instants_said : List profile.Event → List (Option ℤ)
+abbrev pub instants_said : List profile.EventComponent → List (Option ℤ)
 instants_said events = map (λ event. event.recurrence) events
 
 -- events aren't those of one meeting: there is none, or two are of two
-abbrev pub IsNotOne : List profile.Event → ℕ → Type 0
+abbrev pub IsNotOne : List profile.EventComponent → ℕ → Type 0
 IsNotOne events n = ((n ≡ 66) × (events ≡ [])) ⊎ ((n ≡ 62) × (AreOfOne events → ⊥))
 
 -- two of these events are of one slot of their meeting: both of the whole, or of one instance
-abbrev pub SharesSlot : List profile.Event → ℕ → Type 0
+abbrev pub SharesSlot : List profile.EventComponent → ℕ → Type 0
 SharesSlot events n =
     ((n ≡ 53) × (1 < length (filter is_master events))) ⊎ ((n ≡ 54) × (InstancesDiffer (filter is_override events) → ⊥))
 
 -- the instant is in the dates that an event may name
-abbrev pub IsNamed : ℤ → Type 0
-IsNamed instant = (first_second ≤ℤ instant) × (instant <ℤ horizon)
+abbrev pub IsInEventDates : ℤ → Type 0
+IsInEventDates instant = (first_second ≤ℤ instant) × (instant <ℤ horizon)

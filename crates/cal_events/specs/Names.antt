@@ -1,16 +1,16 @@
 -- Whose VEVENTs are, and what is at a place of a calendar's VEVENTs.
 use Rattle.std.specs.Prelude.{◌≡◌, ◌<◌, ℕ, List, [], length, get_or, Option, None, ℤ}
-use Rattle.profile.specs.events.Events.{Event, meeting_said}
-use Rattle.cal_events.specs.Entries.{Meeting, Name}
+use Rattle.profile.specs.events.EventComponents.{EventComponent, meeting_said}
+use Rattle.cal_events.specs.Entries.{MeetingName, Name}
 
-abbrev pub name_said : Event → Name
+abbrev pub name_said : EventComponent → Name
 name_said event = (meeting_said event, event.recurrence)
 
 abbrev pub name_at : List Name → ℕ → Name
 name_at names k = get_or names k (([], []), None)
 
 -- the meeting of the VEVENT there
-abbrev pub meeting_at : List Name → ℕ → Meeting
+abbrev pub meeting_at : List Name → ℕ → MeetingName
 meeting_at names k = (name_at names k).0
 
 -- the instance that it is for

@@ -6,7 +6,7 @@ use Rattle.profile.specs.text.Trees.{Tree}
 use Rattle.profile.specs.series.Zones.{Zone, Means}
 use Rattle.profile.specs.events.Properties.{Says}
 use Rattle.profile.specs.events.ZonedTimes.{is_in_zone, clock_of, IsInDates, SaysZonedText}
-use Rattle.profile.specs.events.Occurrences.{Entry, has_range, Lists, IsInside, IsOutside}
+use Rattle.profile.specs.events.Occurrences.{ListedTime, has_range, Lists, IsInside, IsOutside}
 use Rattle.cal_events.specs.declared.occurrences.Listing.{Listing}
 use Rattle.cal_events.specs.declared.occurrences.Listing.TheVariants.{Additions, Exceptions}
 use Rattle.cal_events.specs.declared.occurrences.SaidInstant.{SaidInstant}
@@ -30,7 +30,7 @@ abbrev pub IsRecurrenceSaid : Tree → List (List ℕ) → Option SaidInstant �
 IsRecurrenceSaid object lines said = Says (codes "RECURRENCE-ID") false (IsRecurrenceSo object) lines said
 
 -- these times of a property were read
-pub record AreListed (object : Tree) (name : List ℕ) (entries : List Entry) (said : SaidInstants) : Type 0 where
+pub record AreListed (object : Tree) (name : List ℕ) (entries : List ListedTime) (said : SaidInstants) : Type 0 where
   pub lists : Lists object name entries said.instants.items
   pub inside : said.in_dates ≡ true → AllZip (IsInside object) entries said.instants.items
-  pub outside : said.in_dates ≡ false → (entry : Entry) × Contains entries entry × IsOutside object entry
+  pub outside : said.in_dates ≡ false → (entry : ListedTime) × Contains entries entry × IsOutside object entry

@@ -2,9 +2,9 @@
 use Rattle.std.specs.Prelude.{◌≡◌, ◌↔◌, true, Contains, List, Option, MatchOption, ℤ, ◌≤ℤ◌}
 use Rattle.std.specs.List.{list_any}
 use Rattle.std.specs.Ordering.{int_eq}
-use Rattle.profile.specs.events.Events.{Event}
+use Rattle.profile.specs.events.EventComponents.{EventComponent}
 use Rattle.profile.specs.events.Starts.{IsOverridden}
-use Rattle.cal_events.specs.Meetings.{IsNamed}
+use Rattle.cal_events.specs.Meetings.{IsInEventDates}
 
 -- the least of them that isn't before an instant, if there is one
 abbrev pub IsFirstFrom : List ℤ → ℤ → Option ℤ → Type 0
@@ -17,14 +17,14 @@ abbrev pub HasInstant : List ℤ → ℤ → Type 0
 HasInstant instants t = list_any (λ own. int_eq own t) instants ≡ true
 
 -- they are those that EXDATE names, and those that an override replaces
-abbrev pub Hides : Event → List Event → List ℤ → Type 0
+abbrev pub Hides : EventComponent → List EventComponent → List ℤ → Type 0
 Hides master overrides hidden = (t : ℤ) → (Contains hidden t → ⊥) ↔ ((Contains master.exceptions t → ⊥) × (IsOverridden overrides t → ⊥))
 
 -- they are those of the instants that are starts
 abbrev pub AreStartsOf : List ℤ → List ℤ → List ℤ → Type 0
-AreStartsOf instants hidden starts = (t : ℤ) → Contains starts t ↔ (Contains instants t × (IsNamed t × (Contains hidden t → ⊥)))
+AreStartsOf instants hidden starts = (t : ℤ) → Contains starts t ↔ (Contains instants t × (IsInEventDates t × (Contains hidden t → ⊥)))
 
 -- they are the starts that RDATE gives
-abbrev pub Adds : Event → List Event → List ℤ → Type 0
-Adds master overrides added =
-    (t : ℤ) → HasInstant added t ↔ (HasInstant master.additions t × IsNamed t × (Contains master.exceptions t → ⊥) × (IsOverridden overrides t → ⊥))
+abbrev pub AddsStarts : EventComponent → List EventComponent → List ℤ → Type 0
+AddsStarts master overrides added =
+    (t : ℤ) → HasInstant added t ↔ (HasInstant master.additions t × IsInEventDates t × (Contains master.exceptions t → ⊥) × (IsOverridden overrides t → ⊥))

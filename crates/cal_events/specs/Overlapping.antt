@@ -1,19 +1,19 @@
 -- What the search for the first instance that shares an instant with a span rests on.
 use Rattle.std.specs.Prelude.{◌≡◌, ℕ, ◌+◌, ◌*◌, Option, Some, None, ℤ, ◌+ℤ◌, ◌-ℤ◌, ◌≤ℤ◌, unsigned_abs}
-use Rattle.profile.specs.checker.Instances.{Booked, horizon}
+use Rattle.profile.specs.checker.Instances.{Instance, horizon}
 use Rattle.profile.specs.events.ZonedTimes.{EventTimes}
-use Rattle.profile.specs.events.Meetings.{Meeting}
+use Rattle.profile.specs.events.Events.{Event}
 use Rattle.profile.specs.events.Starts.{IsInstance, EndsAt}
-use Rattle.cal_events.specs.Meetings.{IsNamed}
+use Rattle.cal_events.specs.Meetings.{IsInEventDates}
 use Rattle.cal_events.specs.declared.instances.Bound.{Bound}
 
 -- instances of one start and one slot end then
-abbrev pub HaveOneEnd : Meeting → Type 0
-HaveOneEnd meeting = (a b : Booked) → IsInstance meeting a → IsInstance meeting b → a.start ≡ b.start → a.key.slot ≡ b.key.slot → a.end ≡ b.end
+abbrev pub HaveOneEnd : Event → Type 0
+HaveOneEnd meeting = (a b : Instance) → IsInstance meeting a → IsInstance meeting b → a.start ≡ b.start → a.key.slot ≡ b.key.slot → a.end ≡ b.end
 
 -- instances are in the dates that an event may name
-abbrev pub AreDated : Meeting → Type 0
-AreDated meeting = (a : Booked) → IsInstance meeting a → IsNamed a.key.slot × IsNamed a.start
+abbrev pub AreDated : Event → Type 0
+AreDated meeting = (a : Instance) → IsInstance meeting a → IsInEventDates a.key.slot × IsInEventDates a.start
 
 -- no instance with these times lasts longer
 abbrev pub LastAtMost : EventTimes → ℤ → Type 0

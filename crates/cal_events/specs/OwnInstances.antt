@@ -1,12 +1,12 @@
 -- The instances of a VEVENT by itself, as they are made.
 use Rattle.std.specs.Prelude.{◌≡◌, ℤ, ◌-ℤ◌, ◌+ℤ◌, ◌≤ℤ◌, pos}
-use Rattle.profile.specs.checker.Instances.{Booked}
+use Rattle.profile.specs.checker.Instances.{Instance}
 use Rattle.profile.specs.series.Zones.{Zone, IsOffsetAt, IsOneOffset, IsOneMeaning, Means}
 use Rattle.profile.specs.events.ZonedTimes.{clock_of}
-use Rattle.profile.specs.events.Events.{Event}
+use Rattle.profile.specs.events.EventComponents.{EventComponent}
 use Rattle.profile.specs.events.Starts.{EndsAt, key_at}
 use Rattle.cal_events.specs.Instances.{IsAscending}
-use Rattle.cal_events.specs.Meetings.{IsNamed}
+use Rattle.cal_events.specs.Meetings.{IsInEventDates}
 use Rattle.cal_events.specs.declared.instance.Single.{Single}
 
 -- at each instant the clocks have one offset, a local time means one instant, it isn't much later with another offset, and one that is much
@@ -18,16 +18,16 @@ pub record IsSteady (z : Zone) : Type 0 where
   pub ascends : IsAscending z
 
 -- the times of an event are such as some VEVENT says
-pub record IsTimely (event : Event) : Type 0 where
+pub record IsTimely (event : EventComponent) : Type 0 where
   pub steady : IsSteady (clock_of event.times.zone)
-  pub starts : IsNamed event.times.start
+  pub starts : IsInEventDates event.times.start
 
 -- the instance of the event's meeting that it is
-abbrev pub booked_at : Event → Single → Booked
-booked_at event single = record { key = key_at event single.slot; start = single.span.start; end = single.span.end }
+abbrev pub own_instance_at : EventComponent → Single → Instance
+own_instance_at event single = record { key = key_at event single.slot; start = single.span.start; end = single.span.end }
 
 -- it is the instance of that slot at a start
-pub record IsMade (event : Event) (slot start : ℤ) (single : Single) : Type 0 where
+pub record IsInstanceAt (event : EventComponent) (slot start : ℤ) (single : Single) : Type 0 where
   pub slot_is : single.slot ≡ slot
   pub starts : single.span.start ≡ start
   pub ends : EndsAt event.times start single.span.end

@@ -4,10 +4,10 @@ use Rattle.std.specs.Ordering.{ordering_then, nat_cmp, is_lt, is_eq}
 use Rattle.std.specs.Cmp.Lexicographic.{slice_cmp}
 use Rattle.std.specs.declared.cmp.Ordering.{Ordering}
 use Rattle.profile.specs.checker.Instances.{Key}
-use Rattle.profile.specs.events.Events.{Event as Said, meeting_said}
-use Rattle.profile.specs.events.Meetings.{Meeting as Whole}
+use Rattle.profile.specs.events.EventComponents.{EventComponent as Said, meeting_said}
+use Rattle.profile.specs.events.Events.{Event as Whole}
 use Rattle.profile.specs.events.Confirmed.{by_its_rule}
-use Rattle.cal_events.specs.Calendars.{Meeting, key_in}
+use Rattle.cal_events.specs.Calendars.{MeetingName, key_in}
 use Rattle.cal_events.specs.declared.component.EventComponent.{EventComponent}
 use Rattle.cal_events.specs.declared.event.Event.{Event}
 use Rattle.cal_events.specs.declared.instance.InstanceKey.{InstanceKey}
@@ -39,23 +39,23 @@ ruled_without master starts = record {
 -- ---- the keys of one meeting
 
 -- meetings are in order by organiser and UID as octets
-abbrev pub meeting_cmp : Meeting → Meeting → Ordering
-meeting_cmp a b = ordering_then (slice_cmp nat_cmp a.0 b.0) (slice_cmp nat_cmp a.1 b.1)
+abbrev pub meeting_name_cmp : MeetingName → MeetingName → Ordering
+meeting_name_cmp a b = ordering_then (slice_cmp nat_cmp a.0 b.0) (slice_cmp nat_cmp a.1 b.1)
 
 -- the meeting of a key beside another
-abbrev pub cmp_to : Meeting → InstanceKey → Ordering
-cmp_to m key = meeting_cmp (key.organiser.now, key.uid.now) m
+abbrev pub cmp_to : MeetingName → InstanceKey → Ordering
+cmp_to m key = meeting_name_cmp (key.organiser.now, key.uid.now) m
 
-abbrev pub is_before : Meeting → InstanceKey → Bool
+abbrev pub is_before : MeetingName → InstanceKey → Bool
 is_before m key = is_lt (cmp_to m key)
 
-abbrev pub is_of : Meeting → InstanceKey → Bool
-is_of m key = is_eq (cmp_to m key)
+abbrev pub is_key_of : MeetingName → InstanceKey → Bool
+is_key_of m key = is_eq (cmp_to m key)
 
 -- ---- what overrides replace
 
 -- the slots of those of these keys that are of a meeting, ascending
-pub record AreSlotsOf (keys : List Key) (m : Meeting) (slots : List ℤ) : Type 0 where
+pub record AreSlotsOf (keys : List Key) (m : MeetingName) (slots : List ℤ) : Type 0 where
   pub ascending : AllPairs ◌<ℤ◌ slots
   pub are : (t : ℤ) → Contains slots t ↔ Contains keys (key_in m t)
 

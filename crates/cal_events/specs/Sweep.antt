@@ -19,8 +19,8 @@ pub record Share (spans : List Span) (i j : ℕ) (t : ℤ) : Type 0 where
   pub in_second : IsWithin (span_at spans j).start (span_at spans j).end t
 
 -- no two places of the list share an instant
-abbrev pub AreApart : List Span → Type 0
-AreApart spans = (i j : ℕ) (t : ℤ) → Share spans i j t → ⊥
+abbrev pub AreSpansApart : List Span → Type 0
+AreSpansApart spans = (i j : ℕ) (t : ℤ) → Share spans i j t → ⊥
 
 -- the places share the instant; it is the second's start, and the first starts no later
 pub record IsOverlap (spans : List Span) (found : Overlap) : Type 0 where
@@ -42,8 +42,8 @@ abbrev pub Rises : Placed → Placed → Type 0
 Rises a b = a.start ≤ℤ b.start
 
 -- the first has ended when the second starts
-abbrev pub EndsBefore : Placed → Placed → Type 0
-EndsBefore a b = a.end ≤ℤ b.start
+abbrev pub IsOverBefore : Placed → Placed → Type 0
+IsOverBefore a b = a.end ≤ℤ b.start
 
 -- the places of two neighbours of which the second starts before the first has ended, and that start
 pub record AreNeighbours (sorted : List Placed) (found : Overlap) : Type 0 where

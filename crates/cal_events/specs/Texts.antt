@@ -3,9 +3,9 @@ use Rattle.std.specs.Prelude.{ℕ, List, [], ◌∷◌, Bool, ◌&&◌, ◌==◌
 use Rattle.std.specs.Str.{is_utf8}
 
 -- those that begin at a place and end at these
-abbrev pub pieces : List ℕ → ℕ → List ℕ → List (List ℕ)
-pieces joined start [] = []
-pieces joined start (end ∷ ends) = slice_range joined start end ∷ pieces joined end ends
+abbrev pub pieces_between : List ℕ → ℕ → List ℕ → List (List ℕ)
+pieces_between joined start [] = []
+pieces_between joined start (end ∷ ends) = slice_range joined start end ∷ pieces_between joined end ends
 
 -- what is between two places is a text
 abbrev pub is_piece : List ℕ → ℕ → ℕ → Bool

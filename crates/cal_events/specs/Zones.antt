@@ -12,11 +12,11 @@ use Rattle.profile.specs.events.Properties.{BothOrNeither}
 use Rattle.profile.specs.events.ZonedTimes.{zone_name, has_zone_name}
 use Rattle.profile.specs.series.ZoneTexts.{SaysZone, ZoneFault}
 use Rattle.profile.specs.text.Trees.{Tree}
-use Rattle.cal_events.specs.declared.zones.Zones.{Zones}
+use Rattle.cal_events.specs.declared.zones.ZonesOfObject.{ZonesOfObject}
 
 -- the name that a component gives a zone: none where it isn't a VTIMEZONE
-abbrev pub name_said : Component → Option (List ℕ)
-name_said c = if is_same_name (component_name c) (codes "VTIMEZONE") then zone_name (component_lines c) else None
+abbrev pub zone_name_said : Component → Option (List ℕ)
+zone_name_said c = if is_same_name (component_name c) (codes "VTIMEZONE") then zone_name (component_lines c) else None
 
 -- a VTIMEZONE of this name
 abbrev pub is_zone_called : List ℕ → Component → Bool
@@ -33,9 +33,9 @@ AreZonesAmong cs zones =
     (name : List ℕ) → BothOrNeither IsZoneRead (find (is_zone_called name) cs) (lookup (λ key. bytes_eq name (string_bytes key)) zones)
 
 -- the object whose zones they are
-abbrev pub object_of : Zones → Tree
+abbrev pub object_of : ZonesOfObject → Tree
 object_of zones = tree_of zones.object.now
 
 -- each of its VTIMEZONEs was read
-abbrev pub AreRead : Zones → Type 0
+abbrev pub AreRead : ZonesOfObject → Type 0
 AreRead zones = AreZonesAmong (component_children zones.object.now) zones.by_name.entries

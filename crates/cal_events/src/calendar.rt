@@ -3,7 +3,7 @@ ghost use Rattle.std.specs.Prelude.{◌≡◌, ◌<◌, map, length, option_map,
 ghost use Rattle.std.specs.List.{slice_get};
 ghost use Rattle.std.specs.Iterator.{YieldsFirstBy, item_count};
 ghost use Rattle.profile.specs.checker.Instances.{IsClear};
-ghost use Rattle.cal_events.specs.Calendars.{booked_in, instance_of, owned_key_of, span_of, HaveDifferentKeys, HaveOwnKeys, AreWithin};
+ghost use Rattle.cal_events.specs.Calendars.{named_instance, instance_of, owned_key_of, span_of, HaveDifferentKeys, HaveOwnKeys, AreWithin};
 ghost use Rattle.cal_events.specs.Clashes.{Names};
 ghost use Rattle.cal_events.specs.SaidSeries.{series_said};
 
@@ -35,14 +35,14 @@ impl Model for Calendar {
     ghost use Rattle.std.specs.Prelude.{map};
     ghost use Rattle.profile.specs.events.Confirmed.{Confirmed};
     ghost use Rattle.cal_events.specs.SaidSeries.{series_said};
-    ghost use Rattle.cal_events.specs.Calendars.{booked_in, HaveDifferentKeys, HaveOwnKeys, AreWithin};
+    ghost use Rattle.cal_events.specs.Calendars.{named_instance, HaveDifferentKeys, HaveOwnKeys, AreWithin};
 
     ghost Value = { Confirmed };
 
-    ghost view = { λ c. record { series = map series_said c.series.items; singles = map (booked_in c.entries) c.singles.items } };
+    ghost view = { λ c. record { series = map series_said c.series.items; singles = map (named_instance c.entries) c.singles.items } };
 
-    ghost invariant = { λ c. HaveDifferentKeys (map (booked_in c.entries) c.singles.items) × AreWithin c.entries c.singles.items
-        × HaveOwnKeys (record { series = map series_said c.series.items; singles = map (booked_in c.entries) c.singles.items }) };
+    ghost invariant = { λ c. HaveDifferentKeys (map (named_instance c.entries) c.singles.items) × AreWithin c.entries c.singles.items
+        × HaveOwnKeys (record { series = map series_said c.series.items; singles = map (named_instance c.entries) c.singles.items }) };
 }
 
 /// The singles of a calendar, in its order.
@@ -122,7 +122,7 @@ impl PlacedSingle {
     /// The instance, of one of these VEVENTs.
     fn lend<'a>(&self, entries: &'a Entries) -> Instance<'a>
         requires { self.now.entry < length entries.now }
-        ensures { instance_of result ≡ booked_in entries.now self.now }
+        ensures { instance_of result ≡ named_instance entries.now self.now }
     {
         Instance {
             key: entries.key_at(self.entry, self.slot),

@@ -8,11 +8,11 @@ ghost use Rattle.ical_values.specs.Octets.{address_octets, text_octets};
 ghost use Rattle.profile.specs.text.Trees.{Tree};
 ghost use Rattle.profile.specs.faults.Faults.{is_event_fault};
 ghost use Rattle.profile.specs.text.Values.{SpellsStamp};
-ghost use Rattle.profile.specs.events.Events.{Event, Method, adds_instances, may_lack_start, answer_named, answer_of, is_by_server, summary_of, SaysSequence, SaysEvent, IsAttendee, EventFault};
+ghost use Rattle.profile.specs.events.EventComponents.{EventComponent as SaidComponent, Method, adds_instances, may_lack_start, answer_named, answer_of, is_by_server, summary_of, SaysSequence, SaysEventComponent, IsAttendee, EventComponentFault};
 ghost use Rattle.profile.specs.events.Occurrences.{SaysStatus};
 ghost use Rattle.profile.specs.events.Properties.{OccursMoreThanOnce, length_seconds, lines_named, malformed_number, Says, IsUidLine, IsAddressLine, IsStampLine, IsDateText, IsLocalText, IsNoAddress, UnfixedOrMalformed, time_kind, DateTime, KindFault, TimeFault};
 ghost use Rattle.cal_events.specs.Zones.{object_of, AreRead};
-ghost use Rattle.cal_events.specs.Events.{is_message, method_read, participation_of, attendee_of, length_of, event_of, said_kind, IsTime};
+ghost use Rattle.cal_events.specs.Events.{is_message, method_read, participation_of, attendee_of, length_of, component_of, said_kind, IsTime};
 
 use crate::event_rule::SaidRule;
 use crate::event_times::{EventTimes, SaidTimes, seconds_of};
@@ -21,7 +21,7 @@ use crate::occurrences::{
 };
 use crate::properties::{first_named, has, optional, required};
 use crate::zoned::one_zoned_time;
-use crate::zones::Zones;
+use crate::zones::ZonesOfObject;
 use cal_rules::{Rule, one_rule};
 use ical_lines::{Fault, Line, Refusal};
 use ical_tree::Properties;
@@ -70,7 +70,7 @@ impl Purpose {
 
 /// What an attendee answered (RFC 5545 3.2.12, for VEVENT).
 #[derive(Clone, Copy, PartialEq, Eq)]
-pub enum ParticipationStatus {
+pub enum PartStat {
     NeedsAction,
     Tentative,
     Accepted,
@@ -78,17 +78,17 @@ pub enum ParticipationStatus {
     Declined,
 }
 
-impl ParticipationStatus {
+impl PartStat {
     /// The status that a PARTSTAT word names (caseless); NeedsAction where it is missing or unknown.
-    pub fn of(word: Option<&str>) -> ParticipationStatus
+    pub fn of(word: Option<&str>) -> PartStat
         ensures { participation_of result ≡ answer_named (option_map (λ x. x.now) word.entry) }
     {
         match word {
-            Some(word) if word.eq_ignore_ascii_case("ACCEPTED") => ParticipationStatus::Accepted,
-            Some(word) if word.eq_ignore_ascii_case("DECLINED") => ParticipationStatus::Declined,
-            Some(word) if word.eq_ignore_ascii_case("TENTATIVE") => ParticipationStatus::Tentative,
-            Some(word) if word.eq_ignore_ascii_case("DELEGATED") => ParticipationStatus::Delegated,
-            _ => ParticipationStatus::NeedsAction,
+            Some(word) if word.eq_ignore_ascii_case("ACCEPTED") => PartStat::Accepted,
+            Some(word) if word.eq_ignore_ascii_case("DECLINED") => PartStat::Declined,
+            Some(word) if word.eq_ignore_ascii_case("TENTATIVE") => PartStat::Tentative,
+            Some(word) if word.eq_ignore_ascii_case("DELEGATED") => PartStat::Delegated,
+            _ => PartStat::NeedsAction,
         }
     }
 }
@@ -97,7 +97,7 @@ impl ParticipationStatus {
 #[derive(Drop)]
 pub struct Attendee {
     pub address: Address,
-    pub status: ParticipationStatus,
+    pub status: PartStat,
     /// Whether it is left to the server to send messages to it: SCHEDULE-AGENT is SERVER or missing (RFC 6638 7.1).
     pub scheduled: bool,
 }
@@ -140,13 +140,13 @@ impl EventComponent {
     /// 67 for RRULE or RDATE in a single instance; 34 for a DTSTART that isn't one of the rule's days.
     pub(crate) fn read(
         alloc: Global,
-        zones: &Zones<'_, '_>,
+        zones: &ZonesOfObject<'_, '_>,
         properties: &Properties<'_>,
         purpose: Purpose,
     ) -> Result<EventComponent, Fault>
         requires zones { AreRead zones.now }
-        ensures says { IfOk result (λ event. SaysEvent (object_of zones.now) (method_read purpose) properties.now (event_of event)) }
-        ensures fault { IfErr result (RefusesBy (EventFault (object_of zones.now) (method_read purpose) properties.now)) }
+        ensures says { IfOk result (λ event. SaysEventComponent (object_of zones.now) (method_read purpose) properties.now (component_of event)) }
+        ensures fault { IfErr result (RefusesBy (EventComponentFault (object_of zones.now) (method_read purpose) properties.now)) }
     {
         let uid = read_uid(alloc, properties)?;
         let organiser = read_organiser(alloc, properties, purpose)?;
@@ -195,7 +195,7 @@ impl EventComponent {
 
     /// The ORGANIZER's address; the empty text where there is none.
     pub(crate) fn organiser_text(&self) -> &str
-        ensures { result.now ≡ unwrap_or (event_of self.now).organiser [] }
+        ensures { result.now ≡ unwrap_or (component_of self.now).organiser [] }
     {
         match &self.organiser {
             Some(organiser) => organiser.as_str(),
@@ -204,8 +204,8 @@ impl EventComponent {
     }
 
     /// What the attendee of this address answered, None where none has it.
-    pub fn status_of(&self, address: &Address) -> Option<ParticipationStatus>
-        ensures { option_map participation_of result ≡ answer_of (address_octets address.now) (event_of self.now) }
+    pub fn status_of(&self, address: &Address) -> Option<PartStat>
+        ensures { option_map participation_of result ≡ answer_of (address_octets address.now) (component_of self.now) }
     {
         for attendee in &self.attendees {
             if attendee.address == *address {
@@ -219,10 +219,10 @@ impl EventComponent {
 /// The lines of a VEVENT of an object say at most one event, and none where they have a fault. A start or an end
 /// without TZID has at most one fault.
 pub fn one_event()
-    ensures one { (object : Tree) (method : Option Method) (lines : List (List ℕ)) (a b : Event)
-        → SaysEvent object method lines a → SaysEvent object method lines b → a ≡ b }
-    ensures or_a_fault { (object : Tree) (method : Option Method) (lines : List (List ℕ)) (a : Event) (n : ℕ)
-        → SaysEvent object method lines a → EventFault object method lines n → ⊥ }
+    ensures one { (object : Tree) (method : Option Method) (lines : List (List ℕ)) (a b : SaidComponent)
+        → SaysEventComponent object method lines a → SaysEventComponent object method lines b → a ≡ b }
+    ensures or_a_fault { (object : Tree) (method : Option Method) (lines : List (List ℕ)) (a : SaidComponent) (n : ℕ)
+        → SaysEventComponent object method lines a → EventComponentFault object method lines n → ⊥ }
     ensures one_number { (line : List ℕ) (m n : ℕ) → TimeFault line m → TimeFault line n → m ≡ n }
 {
     one_stamp();
@@ -235,7 +235,7 @@ pub fn one_event()
 fn read_uid(alloc: Global, properties: &Properties<'_>) -> Result<Text, Fault>
     ensures reads { IfOk result (λ uid. Says (codes "UID") true IsUidLine properties.now (Some (text_octets uid))) }
     ensures refuses { IfErr result (RefusesOnly is_event_fault) }
-    ensures fault { (object : Tree) (method : Option Method) → IfErr result (RefusesBy (EventFault object method properties.now)) }
+    ensures fault { (object : Tree) (method : Option Method) → IfErr result (RefusesBy (EventComponentFault object method properties.now)) }
 {
     let line = required(properties, "UID")?;
     Text::read_uid(alloc, line.value())
@@ -248,7 +248,7 @@ fn read_organiser(
 ) -> Result<Option<Address>, Fault>
     ensures reads { IfOk result (λ found. Says (codes "ORGANIZER") (is_message purpose) IsAddressLine properties.now (option_map address_octets found)) }
     ensures refuses { IfErr result (RefusesOnly is_event_fault) }
-    ensures fault { (object : Tree) → IfErr result (RefusesBy (EventFault object (method_read purpose) properties.now)) }
+    ensures fault { (object : Tree) → IfErr result (RefusesBy (EventComponentFault object (method_read purpose) properties.now)) }
 {
     match optional(properties, "ORGANIZER")? {
         Some(line) => Ok(Some(Address::read(alloc, line.value())?)),
@@ -260,7 +260,7 @@ fn read_organiser(
 fn read_stamp(properties: &Properties<'_>, purpose: Purpose) -> Result<Option<Stamp>, Refusal>
     ensures reads { IfOk result (λ found. Says (codes "DTSTAMP") (is_message purpose) IsStampLine properties.now found) }
     ensures refuses { IfErr result (λ e. IsTrue (is_event_fault e.number)) }
-    ensures fault { (object : Tree) → IfErr result (λ e. EventFault object (method_read purpose) properties.now e.number) }
+    ensures fault { (object : Tree) → IfErr result (λ e. EventComponentFault object (method_read purpose) properties.now e.number) }
 {
     match optional(properties, "DTSTAMP")? {
         Some(line) => Ok(Some(Stamp::read(line.value())?)),
@@ -272,7 +272,7 @@ fn read_stamp(properties: &Properties<'_>, purpose: Purpose) -> Result<Option<St
 fn read_sequence(properties: &Properties<'_>) -> Result<Sequence, Refusal>
     ensures reads { IfOk result (SaysSequence properties.now) }
     ensures refuses { IfErr result (λ e. IsTrue (is_event_fault e.number)) }
-    ensures fault { (object : Tree) (method : Option Method) → IfErr result (λ e. EventFault object method properties.now e.number) }
+    ensures fault { (object : Tree) (method : Option Method) → IfErr result (λ e. EventComponentFault object method properties.now e.number) }
 {
     match optional(properties, "SEQUENCE")? {
         Some(line) => Sequence::read(line.value()),
@@ -396,7 +396,7 @@ pub(crate) fn is_date(text: &str) -> bool
 fn read_attendees(alloc: Global, properties: &Properties<'_>) -> Result<Vec<Attendee>, Fault>
     ensures reads { IfOk result (λ v. AllZip IsAttendee (lines_named (codes "ATTENDEE") properties.now) (map attendee_of v.items)) }
     ensures refuses { IfErr result (RefusesOnly is_event_fault) }
-    ensures fault { (object : Tree) (method : Option Method) → IfErr result (RefusesBy (EventFault object method properties.now)) }
+    ensures fault { (object : Tree) (method : Option Method) → IfErr result (RefusesBy (EventComponentFault object method properties.now)) }
 {
     let mut attendees = Vec::new(alloc);
     for line in properties.lines() {
@@ -413,7 +413,7 @@ fn read_attendee(alloc: Global, line: Line<'_>) -> Result<Attendee, Fault>
     ensures fault { IfErr result (RefusesBy (λ n. (n ≡ 15) × IsNoAddress (line_text line.entry))) }
 {
     let address = Address::read(alloc, line.value())?;
-    let status = ParticipationStatus::of(line.param("PARTSTAT"));
+    let status = PartStat::of(line.param("PARTSTAT"));
     let scheduled = is_by_server(line);
     Ok(Attendee {
         address,

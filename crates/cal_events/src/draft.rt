@@ -5,25 +5,25 @@ ghost use Rattle.ical_values.specs.Octets.{address_octets};
 ghost use Rattle.ical_tree.specs.Tree.{tree_of};
 ghost use Rattle.profile.specs.faults.Faults.{is_between, is_calendar_fault};
 ghost use Rattle.profile.specs.checker.Calendars.{CalendarFault, CalendarTextFault};
-ghost use Rattle.profile.specs.events.Events.{Event};
-ghost use Rattle.profile.specs.events.Meetings.{is_master};
+ghost use Rattle.profile.specs.events.EventComponents.{EventComponent as SaidComponent};
+ghost use Rattle.profile.specs.events.Events.{is_master};
 ghost use Rattle.profile.specs.events.Starts.{EndsAt};
 ghost use Rattle.profile.specs.series.Zones.{IsNearEpoch};
 ghost use Rattle.profile.specs.events.Confirmed.{is_kept, AreConfirmed, MastersDiffer, OverridesDiffer};
-ghost use Rattle.cal_events.specs.Events.{event_of};
+ghost use Rattle.cal_events.specs.Events.{component_of};
 ghost use Rattle.cal_events.specs.Calendars.{key_of, AreWithin};
-ghost use Rattle.cal_events.specs.Drafts.{AreOwnAt, IsDraft, IsDraftOf, IsDraftIn, IsSaid, AreSorted, AreInOrder, master_keys, override_keys, is_shown_in, AreShown, IsTwoOf};
+ghost use Rattle.cal_events.specs.Drafts.{AreOwnAt, IsDraft, IsDraftOf, IsDraftIn, IsSaid, AreSorted, AreInOrder, master_keys, override_keys, is_shown_in, AreSinglesShown, IsTwoOf};
 ghost use Rattle.cal_events.specs.Masters.{AreMasters, AreSeriesOf, AreRuled};
 ghost use Rattle.cal_events.specs.declared.calendar.PlacedSingle.{PlacedSingle};
 
 use crate::calendar::{Calendar, PlacedSingle};
-use crate::component::{EventComponent, ParticipationStatus, Purpose};
+use crate::component::{EventComponent, PartStat, Purpose};
 use crate::entries::Entries;
 use crate::instance::InstanceKey;
 use crate::reading::read_event;
 use crate::series::Series;
 use crate::single_starts::single_starts;
-use crate::zones::Zones;
+use crate::zones::ZonesOfObject;
 use ical_lines::{Fault, Limits, Refusal, Unfolded};
 use ical_tree::{Component, read_object};
 use ical_values::Address;
@@ -72,7 +72,7 @@ impl Draft {
         ensures refuses { IfErr result (RefusesOnly is_calendar_fault) }
         ensures fault { IfErr result (RefusesBy (CalendarFault (tree_of object.now))) }
     {
-        let zones = Zones::of(alloc, object)?;
+        let zones = ZonesOfObject::of(alloc, object)?;
         let mut draft = Draft::new(alloc);
         for component in object.children() {
             if component.is_named("VEVENT") {
@@ -90,8 +90,8 @@ impl Draft {
         event: EventComponent,
         room: &Address,
     ) -> Result<(), AllocError>
-        requires { IsSaid (event_of event) }
-        ensures { (events : List Event) → IsDraft (address_octets room.now) events self.old → OnOk result (IsDraft (address_octets room.now) (events ++ event_of event ∷ []) self.new) }
+        requires { IsSaid (component_of event) }
+        ensures { (events : List SaidComponent) → IsDraft (address_octets room.now) events self.old → OnOk result (IsDraft (address_octets room.now) (events ++ component_of event ∷ []) self.new) }
     {
         let place = self.entries.len();
         self.entries.push(alloc, &event)?;
@@ -108,11 +108,11 @@ impl Draft {
     /// The calendar of these VEVENTs.
     /// Refused: 53 for two masters of one meeting, 54 for two overrides of one instance. In time n log n.
     pub(crate) fn into_calendar(self, alloc: Global) -> Result<Calendar, Fault>
-        requires { (room : List ℕ) × (events : List Event) × IsDraft room events self }
-        ensures masters { (room : List ℕ) (events : List Event) → IsDraft room events self → IfOk result (λ _. MastersDiffer events × OverridesDiffer events) }
-        ensures are { (room : List ℕ) (events : List Event) → IsDraft room events self → IfOk result (AreConfirmed room events) }
+        requires { (room : List ℕ) × (events : List SaidComponent) × IsDraft room events self }
+        ensures masters { (room : List ℕ) (events : List SaidComponent) → IsDraft room events self → IfOk result (λ _. MastersDiffer events × OverridesDiffer events) }
+        ensures are { (room : List ℕ) (events : List SaidComponent) → IsDraft room events self → IfOk result (AreConfirmed room events) }
         ensures refuses { IfErr result (RefusesOnly (is_between 53 54)) }
-        ensures fault { (room : List ℕ) (events : List Event) → IsDraft room events self → IfErr result (RefusesBy (IsTwoOf events)) }
+        ensures fault { (room : List ℕ) (events : List SaidComponent) → IsDraft room events self → IfErr result (RefusesBy (IsTwoOf events)) }
     {
         let Draft {
             entries,
@@ -142,7 +142,7 @@ fn shown(
     requires within { AreWithin entries.now singles.items }
     requires masters { AreMasters masters.items }
     ensures differ { IfOk result (λ _. AllPairs ◌≢◌ (override_keys entries.now)) }
-    ensures shown { IfOk result (λ left. AreShown entries.now singles.items left.0.items) }
+    ensures shown { IfOk result (λ left. AreSinglesShown entries.now singles.items left.0.items) }
     ensures ruled { IfOk result (λ left. AreRuled entries.now masters.items left.1.items) }
     ensures fault { IfErr result (RefusesBy (λ n. (n ≡ 54) × (AllPairs ◌≢◌ (override_keys entries.now) → ⊥))) }
 {
@@ -198,17 +198,17 @@ fn without_hidden(
 
 /// Whether the room has accepted an event that isn't cancelled.
 fn is_kept(event: &EventComponent, room: &Address) -> bool
-    ensures { result ≡ is_kept (address_octets room.now) (event_of event.now) }
+    ensures { result ≡ is_kept (address_octets room.now) (component_of event.now) }
 {
     match event.status_of(room) {
-        Some(ParticipationStatus::Accepted) => !event.cancelled,
+        Some(PartStat::Accepted) => !event.cancelled,
         _ => false,
     }
 }
 
 /// Whether it is a master with RRULE.
 pub(crate) fn is_series(event: &EventComponent) -> bool
-    ensures { result ≡ is_master (event_of event.now) && is_some event.now.rule }
+    ensures { result ≡ is_master (component_of event.now) && is_some event.now.rule }
 {
     event.recurrence.is_none() && event.rule.is_some()
 }
@@ -220,9 +220,9 @@ fn add_singles(
     entry: usize,
     event: &EventComponent,
 ) -> Result<(), AllocError>
-    requires { IsSaid (event_of event.now) }
-    ensures { (room : List ℕ) → is_kept room (event_of event.now) ≡ true
-        → OnOk result ((own : List PlacedSingle) × (singles.new.items ≡ singles.old.items ++ own) × AreOwnAt room entry (event_of event.now) own) }
+    requires { IsSaid (component_of event.now) }
+    ensures { (room : List ℕ) → is_kept room (component_of event.now) ≡ true
+        → OnOk result ((own : List PlacedSingle) × (singles.new.items ≡ singles.old.items ++ own) × AreOwnAt room entry (component_of event.now) own) }
 {
     match event.recurrence {
         Some(slot) => {
@@ -243,7 +243,7 @@ fn add_singles(
 fn single_at(entry: usize, event: &EventComponent, slot: i64, start: i64) -> PlacedSingle
     requires { IsNearEpoch start }
     ensures place { (result.entry ≡ entry) × (result.slot ≡ slot) × (result.start ≡ start) }
-    ensures ends { EndsAt (event_of event.now).times start result.end }
+    ensures ends { EndsAt (component_of event.now).times start result.end }
 {
     PlacedSingle {
         entry,

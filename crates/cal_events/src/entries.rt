@@ -3,7 +3,7 @@
 ghost use Rattle.std.specs.Prelude.{◌≡◌, ◌++◌, ◌∷◌, ◌<◌, ◌-◌, ℕ, List, [], length, map, unwrap_or, IsTrue, IfOk, OnOk};
 ghost use Rattle.ical_values.specs.Octets.{address_octets};
 ghost use Rattle.cal_events.specs.Calendars.{key_of, key_in, owned_key_of};
-ghost use Rattle.cal_events.specs.Events.{event_of};
+ghost use Rattle.cal_events.specs.Events.{component_of};
 ghost use Rattle.cal_events.specs.Names.{meeting_at, recurrence_at, name_said, IsThere};
 
 use crate::component::EventComponent;
@@ -15,7 +15,7 @@ use std::marker::Model;
 
 /// A VEVENT, without its UID.
 #[derive(Clone, Copy)]
-struct Entry {
+struct ComponentName {
     /// Which of the organisers it has.
     organiser: usize,
     /// RECURRENCE-ID, in seconds from 1970-01-01T00:00:00Z.
@@ -28,7 +28,7 @@ pub(crate) struct Entries {
     /// The organisers, once for VEVENTs of one that follow each other. The empty address where ORGANIZER is missing.
     organisers: Vec<Address>,
     uids: Texts,
-    entries: Vec<Entry>,
+    entries: Vec<ComponentName>,
 }
 
 impl Model for Entries {
@@ -65,10 +65,10 @@ impl Entries {
 
     /// Adds a VEVENT at the end. Where memory is refused none is added.
     pub(crate) fn push(&mut self, alloc: Global, event: &EventComponent) -> Result<(), AllocError>
-        ensures { OnOk result (self.new ≡ self.old ++ name_said (event_of event.now) ∷ []) }
+        ensures { OnOk result (self.new ≡ self.old ++ name_said (component_of event.now) ∷ []) }
     {
         let organiser = place_of(alloc, &mut self.organisers, event)?;
-        self.entries.push(Entry {
+        self.entries.push(ComponentName {
             organiser,
             recurrence: event.recurrence,
         })?;
@@ -122,7 +122,7 @@ fn place_of(
     event: &EventComponent,
 ) -> Result<usize, AllocError>
     ensures keeps { (more : List (List ℕ)) × (map address_octets organisers.new.items ≡ map address_octets organisers.old.items ++ more) }
-    ensures place { IfOk result (λ k. IsThere (map address_octets organisers.new.items) k (unwrap_or (event_of event.now).organiser [])) }
+    ensures place { IfOk result (λ k. IsThere (map address_octets organisers.new.items) k (unwrap_or (component_of event.now).organiser [])) }
 {
     let count = organisers.len();
     if is_last(organisers, event.organiser_text()) {
@@ -144,7 +144,7 @@ fn is_last(addresses: &[Address], text: &str) -> bool
 
 /// The address of an event's organiser; the empty one where ORGANIZER is missing.
 pub(crate) fn organiser_of(alloc: Global, event: &EventComponent) -> Result<Address, AllocError>
-    ensures { IfOk result (λ address. address_octets address ≡ unwrap_or (event_of event.now).organiser []) }
+    ensures { IfOk result (λ address. address_octets address ≡ unwrap_or (component_of event.now).organiser []) }
 {
     match &event.organiser {
         Some(organiser) => organiser.clone(),

@@ -6,13 +6,13 @@ ghost use Rattle.std.specs.List.{list_all};
 ghost use Rattle.std.specs.List.Sorted.{IsPermutation};
 ghost use Rattle.ical_lines.specs.Fault.{RefusesOnly, RefusesBy};
 ghost use Rattle.ical_tree.specs.Tree.{tree_of};
-ghost use Rattle.profile.specs.checker.Instances.{Booked};
-ghost use Rattle.profile.specs.events.Meetings.{Meeting, is_master, is_override, AreOfOne, SaysMeeting, SpellsMeeting, MeetingFault, MeetingTextFault, is_meeting_fault};
-ghost use Rattle.cal_events.specs.Events.{event_of};
-ghost use Rattle.cal_events.specs.Meetings.{instants_said, IsNotOne, IsNamed};
+ghost use Rattle.profile.specs.checker.Instances.{Instance as SaidInstance};
+ghost use Rattle.profile.specs.events.Events.{Event as SaidEvent, is_master, is_override, AreOfOne, SaysEvent, SpellsEvent, EventFault, EventTextFault, is_meeting_fault};
+ghost use Rattle.cal_events.specs.Events.{component_of};
+ghost use Rattle.cal_events.specs.Meetings.{instants_said, IsNotOne, IsInEventDates};
 ghost use Rattle.profile.specs.events.Starts.{IsInstance, IsFirstOverlap};
 ghost use Rattle.cal_events.specs.Instances.{HasGoodClock};
-ghost use Rattle.cal_events.specs.Ordered.{Hides, Adds, AreStartsOf};
+ghost use Rattle.cal_events.specs.Ordered.{Hides, AddsStarts, AreStartsOf};
 ghost use Rattle.cal_events.specs.Places.{ArePlaces};
 ghost use Rattle.cal_events.specs.Overlapping.{HaveOneEnd, AreDated};
 ghost use Rattle.cal_events.specs.declared.component.EventComponent.{EventComponent};
@@ -42,11 +42,11 @@ pub struct Event {
     pub(crate) added: Instants,
     /// Where the overrides are.
     pub(crate) places: Places,
-    ghost clock: { (component : EventComponent) → master ≡ Some component → HasGoodClock (event_of component) },
-    ghost hides: { (component : EventComponent) → master ≡ Some component → Hides (event_of component) (map event_of overrides.items) hidden },
-    ghost ends: { HaveOneEnd (record { master = option_map event_of master; overrides = map event_of overrides.items }) },
-    ghost dated: { AreDated (record { master = option_map event_of master; overrides = map event_of overrides.items }) },
-    ghost adds: { (component : EventComponent) → master ≡ Some component → Adds (event_of component) (map event_of overrides.items) added },
+    ghost clock: { (component : EventComponent) → master ≡ Some component → HasGoodClock (component_of component) },
+    ghost hides: { (component : EventComponent) → master ≡ Some component → Hides (component_of component) (map component_of overrides.items) hidden },
+    ghost ends: { HaveOneEnd (record { master = option_map component_of master; overrides = map component_of overrides.items }) },
+    ghost dated: { AreDated (record { master = option_map component_of master; overrides = map component_of overrides.items }) },
+    ghost adds: { (component : EventComponent) → master ≡ Some component → AddsStarts (component_of component) (map component_of overrides.items) added },
     ghost placed: { ArePlaces overrides.items places },
 }
 
@@ -59,7 +59,7 @@ impl Event {
     /// Its instances that start at an instant or later, in seconds from 1970-01-01T00:00:00Z: each once, by start and then by slot. Takes no
     /// memory, and looks at nothing that comes before.
     pub fn instances(&self, from: i64) -> Instances<'_>
-        ensures left { (b : Booked) → IsLeft result b ↔ IsInstance (said_meeting self.now) b × (from ≤ℤ b.start) }
+        ensures left { (b : SaidInstance) → IsLeft result b ↔ IsInstance (said_meeting self.now) b × (from ≤ℤ b.start) }
         ensures of { said_meeting result.event.now ≡ said_meeting self.now }
     {
         Instances::from(self, from)
@@ -76,9 +76,9 @@ impl Event {
     /// The event that octets spell: an object of one UID and one ORGANIZER, whose METHOD is ignored.
     /// Refused: 1 to 6 and 20 to 25 for the object, and as by `of_object`.
     pub fn read(alloc: Global, bytes: &[u8]) -> Result<Event, Fault>
-        ensures spells { IfOk result (λ event. SpellsMeeting bytes.now (said_meeting event)) }
+        ensures spells { IfOk result (λ event. SpellsEvent bytes.now (said_meeting event)) }
         ensures refuses { IfErr result (RefusesOnly is_meeting_fault) }
-        ensures fault { IfErr result (RefusesBy (MeetingTextFault bytes.now)) }
+        ensures fault { IfErr result (RefusesBy (EventTextFault bytes.now)) }
     {
         let text = Unfolded::read(alloc, bytes, Limits::Message)?;
         let object = read_object(alloc, &text, Limits::Message)?;
@@ -88,9 +88,9 @@ impl Event {
     /// The event of an object that was read.
     /// Refused: as by `MeetingComponents::read`.
     pub fn of_object(alloc: Global, object: &Component) -> Result<Event, Fault>
-        ensures says { IfOk result (λ event. SaysMeeting (tree_of object.now) None (said_meeting event)) }
+        ensures says { IfOk result (λ event. SaysEvent (tree_of object.now) None (said_meeting event)) }
         ensures refuses { IfErr result (RefusesOnly is_meeting_fault) }
-        ensures fault { IfErr result (RefusesBy (MeetingFault (tree_of object.now) None)) }
+        ensures fault { IfErr result (RefusesBy (EventFault (tree_of object.now) None)) }
     {
         let components = MeetingComponents::read(alloc, object, Purpose::Meeting)?;
         Ok(components.into_event(alloc)?)
@@ -98,9 +98,9 @@ impl Event {
 
     /// The event of a master alone. It fails only when out of memory.
     pub(crate) fn of_master(alloc: Global, master: EventComponent) -> Result<Event, AllocError>
-        requires clock { HasGoodClock (event_of master) }
-        requires ends { HaveOneEnd (record { master = Some (event_of master); overrides = [] }) }
-        requires dated { AreDated (record { master = Some (event_of master); overrides = [] }) }
+        requires clock { HasGoodClock (component_of master) }
+        requires ends { HaveOneEnd (record { master = Some (component_of master); overrides = [] }) }
+        requires dated { AreDated (record { master = Some (component_of master); overrides = [] }) }
         ensures { IfOk result (λ event. (event.master ≡ Some master) × (event.overrides.items ≡ [])) }
     {
         let components = MeetingComponents {
@@ -115,10 +115,10 @@ impl Event {
 impl MeetingComponents {
     /// The event that they are. It fails only when out of memory.
     fn into_event(self, alloc: Global) -> Result<Event, AllocError>
-        requires said { map Some self.instants.items ≡ instants_said (map event_of self.overrides.items) }
-        requires clock { (component : EventComponent) → self.master ≡ Some component → HasGoodClock (event_of component) }
-        requires ends { HaveOneEnd (record { master = option_map event_of self.master; overrides = map event_of self.overrides.items }) }
-        requires dated { AreDated (record { master = option_map event_of self.master; overrides = map event_of self.overrides.items }) }
+        requires said { map Some self.instants.items ≡ instants_said (map component_of self.overrides.items) }
+        requires clock { (component : EventComponent) → self.master ≡ Some component → HasGoodClock (component_of component) }
+        requires ends { HaveOneEnd (record { master = option_map component_of self.master; overrides = map component_of self.overrides.items }) }
+        requires dated { AreDated (record { master = option_map component_of self.master; overrides = map component_of self.overrides.items }) }
         ensures { IfOk result (λ event. (event.master ≡ self.master) × (event.overrides.items ≡ self.overrides.items)) }
     {
         let MeetingComponents {
@@ -141,8 +141,8 @@ impl MeetingComponents {
 
 /// Octets spell at most one event with its instances, and none where they have a fault.
 pub fn one_meeting()
-    ensures one { (octets : List ℕ) (a b : Meeting) → SpellsMeeting octets a → SpellsMeeting octets b → a ≡ b }
-    ensures or_a_fault { (octets : List ℕ) (a : Meeting) (n : ℕ) → SpellsMeeting octets a → MeetingTextFault octets n → ⊥ }
+    ensures one { (octets : List ℕ) (a b : SaidEvent) → SpellsEvent octets a → SpellsEvent octets b → a ≡ b }
+    ensures or_a_fault { (octets : List ℕ) (a : SaidEvent) (n : ℕ) → SpellsEvent octets a → EventTextFault octets n → ⊥ }
 {
     one_tree();
     one_event();
@@ -151,10 +151,10 @@ pub fn one_meeting()
 /// The instances of an event that octets spell differ in their places, by start and slot, which are in the dates that an event may name.
 /// None ends before it starts.
 pub fn one_instance()
-    ensures one { (octets : List ℕ) (meeting : Meeting) (a b : Booked) → SpellsMeeting octets meeting → IsInstance meeting a → IsInstance meeting b
+    ensures one { (octets : List ℕ) (meeting : SaidEvent) (a b : SaidInstance) → SpellsEvent octets meeting → IsInstance meeting a → IsInstance meeting b
         → a.start ≡ b.start → a.key.slot ≡ b.key.slot → a ≡ b }
-    ensures dates { (octets : List ℕ) (meeting : Meeting) (a : Booked) → SpellsMeeting octets meeting → IsInstance meeting a
-        → IsNamed a.key.slot × IsNamed a.start × (a.start ≤ℤ a.end) }
+    ensures dates { (octets : List ℕ) (meeting : SaidEvent) (a : SaidInstance) → SpellsEvent octets meeting → IsInstance meeting a
+        → IsInEventDates a.key.slot × IsInEventDates a.start × (a.start ≤ℤ a.end) }
 {}
 
 /// The instants that EXDATE names and these, which overrides replace.

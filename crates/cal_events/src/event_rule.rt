@@ -10,7 +10,7 @@ ghost use Rattle.profile.specs.text.Trees.{Tree};
 ghost use Rattle.profile.specs.events.Properties.{is_of};
 ghost use Rattle.profile.specs.events.ZonedTimes.{SaysTimes, clock_of};
 ghost use Rattle.profile.specs.events.EventRules as event_rules;
-ghost use Rattle.profile.specs.events.EventRules.{IsLastAllowed, AllowsNone, GivesRule, SaysEventRule, IsOutside, EventRuleFault};
+ghost use Rattle.profile.specs.events.EventRules.{IsLastAllowed, AllowsNone, GivesRule, SaysEventRule, IsOutsideRule, EventRuleFault};
 ghost use Rattle.cal_events.specs.Events.{times_of, zone_said};
 ghost use Rattle.cal_events.specs.Zoned.{IsRuleSaid};
 
@@ -67,7 +67,7 @@ impl SaidRule {
 /// Refused: 34 where the start isn't one of the rule's days, or UNTIL leaves no day.
 fn rule_from(text: RuleText, start: ZonedTime) -> Result<Rule, Fault>
     ensures gives { IfOk result (GivesRule (clock_of (zone_said start)) start.local text) }
-    ensures outside { IfErr result (RefusesBy (λ n. (n ≡ 34) × IsOutside (clock_of (zone_said start)) start.local text)) }
+    ensures outside { IfErr result (RefusesBy (λ n. (n ≡ 34) × IsOutsideRule (clock_of (zone_said start)) start.local text)) }
 {
     let (day, second) = start.local.day_and_second();
     match last_day(text.until(), start.clock(), second) {

@@ -18,7 +18,7 @@ ghost use Rattle.cal_events.specs.Zoned.{EndsSo, IsExtentIn, IsAlone, AreSaid, A
 use crate::instance::HORIZON;
 use crate::properties::optional;
 use crate::zoned::ZonedTime;
-use crate::zones::Zones;
+use crate::zones::ZonesOfObject;
 use cal_zones::Zone;
 use ical_lines::{Line, Refusal};
 use ical_tree::Properties;
@@ -145,7 +145,7 @@ impl SaidTimes {
     /// Refused: 61 where DTSTART is missing and may not, one of the three occurs twice, or DTEND beside DURATION; as by
     /// `ZonedTime::read` for the two times; 12 and 51 for DURATION.
     pub(crate) fn read(
-        zones: &Zones<'_, '_>,
+        zones: &ZonesOfObject<'_, '_>,
         properties: &Properties<'_>,
         may_lack: bool,
     ) -> Result<SaidTimes, Refusal>
@@ -164,7 +164,7 @@ impl SaidTimes {
     /// What they say with this line of DTSTART.
     fn from_start(
         line: Line<'_>,
-        zones: &Zones<'_, '_>,
+        zones: &ZonesOfObject<'_, '_>,
         properties: &Properties<'_>,
     ) -> Result<SaidTimes, Refusal>
         requires zones { AreRead zones.now }
@@ -188,7 +188,7 @@ impl SaidTimes {
 
     /// What they say without DTSTART: an end is read, and gives no length.
     fn without_start(
-        zones: &Zones<'_, '_>,
+        zones: &ZonesOfObject<'_, '_>,
         properties: &Properties<'_>,
     ) -> Result<SaidTimes, Refusal>
         requires zones { AreRead zones.now }
@@ -247,7 +247,7 @@ pub(crate) fn is_in_dates(in_zone: bool, local: LocalTime, instant: i64) -> bool
 
 /// What DTEND or DURATION say of an event that starts at an instant, and whether DTEND is in the dates that an event may name.
 fn read_extent(
-    zones: &Zones<'_, '_>,
+    zones: &ZonesOfObject<'_, '_>,
     properties: &Properties<'_>,
     start: i64,
 ) -> Result<(Extent, bool), Refusal>
@@ -276,7 +276,11 @@ fn read_extent(
 }
 
 /// The seconds from an instant to the end that a line says, and whether that is in the dates that an event may name.
-fn seconds_to(line: Line<'_>, zones: &Zones<'_, '_>, start: i64) -> Result<(i64, bool), Refusal>
+fn seconds_to(
+    line: Line<'_>,
+    zones: &ZonesOfObject<'_, '_>,
+    start: i64,
+) -> Result<(i64, bool), Refusal>
     requires zones { AreRead zones.now }
     requires start { IsNearEpoch start }
     ensures says { IfOk result (λ end. EndsSo (object_of zones.now) (line_text line.entry) (start +ℤ end.0) end.1) }

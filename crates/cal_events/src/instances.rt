@@ -5,14 +5,14 @@ ghost use Rattle.std.specs.Prelude.{◌≡◌, ◌↔◌, ◌<◌, ◌≤ℤ◌,
 ghost use Rattle.profile.specs.series.Days.{day_index};
 ghost use Rattle.profile.specs.series.Zones.{IsOneMeaning, IsNearEpoch, Means, local_time};
 ghost use Rattle.profile.specs.events.ZonedTimes.{clock_of};
-ghost use Rattle.profile.specs.checker.Instances.{Booked, horizon};
+ghost use Rattle.profile.specs.checker.Instances.{Instance as SaidInstance, horizon};
 ghost use Rattle.profile.specs.events.Starts.{IsGiven, IsOverridden, IsStart, IsInstance, EndsAt, key_at};
 ghost use Rattle.cal_events.specs.Calendars.{key_of, instance_of};
 ghost use Rattle.cal_events.specs.SaidMeetings.{said_meeting};
 ghost use Rattle.cal_zones.specs.Kinds.{zone_of};
-ghost use Rattle.cal_events.specs.Events.{event_of, zone_said};
-ghost use Rattle.cal_events.specs.Meetings.{IsNamed};
-ghost use Rattle.cal_events.specs.Instances.{IsAfter, IsPastSlot, IsBefore, IsAscending, IsWanted, NoneBefore, AreWalked, StayWalked, IsLeast, lesser, IsAt, IsMovedTo, IsSoonest, IsSooner, HasGoodClock, HasPassed, IsOfClock, HasClock, IsHeldAt, IsHeld, own_place};
+ghost use Rattle.cal_events.specs.Events.{component_of, zone_said};
+ghost use Rattle.cal_events.specs.Meetings.{IsInEventDates};
+ghost use Rattle.cal_events.specs.Instances.{IsAfter, IsPastSlot, IsBefore, IsAscending, IsWanted, NoneBefore, AreWalked, StayWalked, IsLeast, lesser, IsAtPlace, IsMovedTo, IsSoonest, IsSooner, HasGoodClock, HasPassed, IsOfClock, HasClock, IsHeldAt, IsHeld, own_place};
 ghost use Rattle.cal_events.specs.declared.component.EventComponent.{EventComponent};
 
 use crate::component::EventComponent;
@@ -29,14 +29,14 @@ use ical_values::LocalTime;
 
 /// Where an instance is among those of its event.
 #[derive(Clone, Copy)]
-pub(crate) struct Place {
+pub(crate) struct InstancePlace {
     pub(crate) start: i64,
     pub(crate) slot: i64,
 }
 
-impl Place {
+impl InstancePlace {
     /// Whether it comes before another.
-    pub(crate) fn is_before(self, other: Place) -> bool
+    pub(crate) fn is_before(self, other: InstancePlace) -> bool
         ensures { IsTrue result ↔ IsBefore self other }
     {
         if self.start == other.start {
@@ -105,7 +105,7 @@ impl<'a> Instances<'a> {
 
     /// Those that start at an instant or later.
     pub(crate) fn from(event: &'a Event, from: i64) -> Instances<'a>
-        ensures left { (b : Booked) → IsLeft result b ↔ IsInstance (said_meeting event.now) b × (from ≤ℤ b.start) }
+        ensures left { (b : SaidInstance) → IsLeft result b ↔ IsInstance (said_meeting event.now) b × (from ≤ℤ b.start) }
         ensures of { said_meeting result.event.now ≡ said_meeting event.now }
     {
         let after = Bound {
@@ -143,7 +143,7 @@ impl<'a> Iterator for Instances<'a> {
 
 /// Whether an instant that the master's rule or an RDATE gives is one of its starts, and is to come.
 fn is_wanted(event: &Event, after: Bound, instant: i64) -> bool
-    ensures { (master : EventComponent) → event.now.master ≡ Some master → IsTrue result ↔ IsWanted (event_of master) (map event_of event.now.overrides.items) after instant }
+    ensures { (master : EventComponent) → event.now.master ≡ Some master → IsTrue result ↔ IsWanted (component_of master) (map component_of event.now.overrides.items) after instant }
 {
     if !after.admits(instant, instant) {
         return false;
@@ -153,7 +153,7 @@ fn is_wanted(event: &Event, after: Bound, instant: i64) -> bool
 
 /// Whether an instant that is given is a start: it is in the dates that an event may name, and none hides it.
 pub(crate) fn is_start(instant: i64, hidden: &Instants) -> bool
-    ensures { IsTrue result ↔ (IsNamed instant × (Contains hidden.now instant → ⊥)) }
+    ensures { IsTrue result ↔ (IsInEventDates instant × (Contains hidden.now instant → ⊥)) }
 {
     if instant < FIRST_SECOND || instant >= HORIZON {
         return false;
@@ -163,7 +163,7 @@ pub(crate) fn is_start(instant: i64, hidden: &Instants) -> bool
 
 /// The first start after a bound that RDATE adds.
 fn first_added(event: &Event, after: Bound) -> Option<i64>
-    ensures { (master : EventComponent) → event.now.master ≡ Some master → IsLeast (λ t. Contains (event_of master).additions t × IsWanted (event_of master) (map event_of event.now.overrides.items) after t) result }
+    ensures { (master : EventComponent) → event.now.master ≡ Some master → IsLeast (λ t. Contains (component_of master).additions t × IsWanted (component_of master) (map component_of event.now.overrides.items) after t) result }
 {
     event.added.first_from(after.first_own_start())
 }
@@ -189,13 +189,13 @@ fn first_given(
     clock: &mut Clock,
 ) -> Option<i64>
     requires master { event.now.master ≡ Some master.now }
-    requires meaning { IsOneMeaning (clock_of (event_of master.now).times.zone) }
-    requires ascending { IsAscending (clock_of (event_of master.now).times.zone) }
-    requires walked { AreWalked (event_of master.now) (map event_of event.now.overrides.items) after days.old }
-    requires reads { IsOfClock (event_of master.now) clock.old }
-    ensures first { IsLeast (λ t. IsGiven (event_of master.now).times (event_of master.now).rule t × IsWanted (event_of master.now) (map event_of event.now.overrides.items) after t) result }
-    ensures walked { AreWalked (event_of master.now) (map event_of event.now.overrides.items) after days.new }
-    ensures reads { IsOfClock (event_of master.now) clock.new }
+    requires meaning { IsOneMeaning (clock_of (component_of master.now).times.zone) }
+    requires ascending { IsAscending (clock_of (component_of master.now).times.zone) }
+    requires walked { AreWalked (component_of master.now) (map component_of event.now.overrides.items) after days.old }
+    requires reads { IsOfClock (component_of master.now) clock.old }
+    ensures first { IsLeast (λ t. IsGiven (component_of master.now).times (component_of master.now).rule t × IsWanted (component_of master.now) (map component_of event.now.overrides.items) after t) result }
+    ensures walked { AreWalked (component_of master.now) (map component_of event.now.overrides.items) after days.new }
+    ensures reads { IsOfClock (component_of master.now) clock.new }
 {
     match &master.rule {
         Some(rule) => first_on_rule(event, master, rule, after, days, clock),
@@ -208,7 +208,7 @@ fn first_given(
 
 /// An instant that the master's rule or an RDATE gives, if it is one of its starts and is to come.
 fn wanted_at(event: &Event, after: Bound, instant: i64) -> Option<i64>
-    ensures { (master : EventComponent) → event.now.master ≡ Some master → IsLeast (λ t. (t ≡ instant) × IsWanted (event_of master) (map event_of event.now.overrides.items) after t) result }
+    ensures { (master : EventComponent) → event.now.master ≡ Some master → IsLeast (λ t. (t ≡ instant) × IsWanted (component_of master) (map component_of event.now.overrides.items) after t) result }
 {
     if is_wanted(event, after, instant) {
         return Some(instant);
@@ -227,13 +227,13 @@ fn first_on_rule(
 ) -> Option<i64>
     requires rule { master.now.rule ≡ Some _rule.now }
     requires master { event.now.master ≡ Some master.now }
-    requires meaning { IsOneMeaning (clock_of (event_of master.now).times.zone) }
-    requires ascending { IsAscending (clock_of (event_of master.now).times.zone) }
-    requires walked { AreWalked (event_of master.now) (map event_of event.now.overrides.items) after days.old }
-    requires reads { IsOfClock (event_of master.now) clock.old }
-    ensures first { IsLeast (λ t. IsGiven (event_of master.now).times (event_of master.now).rule t × IsWanted (event_of master.now) (map event_of event.now.overrides.items) after t) result }
-    ensures walked { AreWalked (event_of master.now) (map event_of event.now.overrides.items) after days.new }
-    ensures reads { IsOfClock (event_of master.now) clock.new }
+    requires meaning { IsOneMeaning (clock_of (component_of master.now).times.zone) }
+    requires ascending { IsAscending (clock_of (component_of master.now).times.zone) }
+    requires walked { AreWalked (component_of master.now) (map component_of event.now.overrides.items) after days.old }
+    requires reads { IsOfClock (component_of master.now) clock.old }
+    ensures first { IsLeast (λ t. IsGiven (component_of master.now).times (component_of master.now).rule t × IsWanted (component_of master.now) (map component_of event.now.overrides.items) after t) result }
+    ensures walked { AreWalked (component_of master.now) (map component_of event.now.overrides.items) after days.new }
+    ensures reads { IsOfClock (component_of master.now) clock.new }
 {
     let (_, second) = master.times.start.local.day_and_second();
     pass_given(after, days);
@@ -292,14 +292,14 @@ fn clock_of(event: &Event) -> Clock
 }
 
 /// The place of the first override that is to come.
-fn first_moved(event: &Event, after: Bound) -> Option<Place>
+fn first_moved(event: &Event, after: Bound) -> Option<InstancePlace>
     ensures { IsSoonest (λ p. (o : EventComponent) × Contains event.now.overrides.items o × IsMovedTo o after p) result }
 {
     event.places.first(after)
 }
 
 /// The one of two places that comes first, where there are any.
-fn sooner(a: Option<Place>, b: Option<Place>) -> Option<Place>
+fn sooner(a: Option<InstancePlace>, b: Option<InstancePlace>) -> Option<InstancePlace>
     ensures { IsSooner a b result }
 {
     match (a, b) {
@@ -311,9 +311,9 @@ fn sooner(a: Option<Place>, b: Option<Place>) -> Option<Place>
 }
 
 /// The override that is at a place.
-fn override_at<'a>(event: &'a Event, place: Place) -> Option<&'a EventComponent>
-    ensures found { IfSome result (λ o. Contains event.now.overrides.items o.now × IsAt o.now place) }
-    ensures none { IfNone result ((o : EventComponent) → Contains event.now.overrides.items o → IsAt o place → ⊥) }
+fn override_at<'a>(event: &'a Event, place: InstancePlace) -> Option<&'a EventComponent>
+    ensures found { IfSome result (λ o. Contains event.now.overrides.items o.now × IsAtPlace o.now place) }
+    ensures none { IfNone result ((o : EventComponent) → Contains event.now.overrides.items o → IsAtPlace o place → ⊥) }
 {
     let which = event.places.which(place)?;
     Some(&event.overrides[which])
@@ -335,7 +335,7 @@ pub(crate) fn days_of<'a>(
     overrides: &[EventComponent],
     from: i64,
 ) -> RuleDays<'a>
-    ensures { AreWalked (event_of master.now) (map event_of overrides.now) (record { start = from; slot = None }) result }
+    ensures { AreWalked (component_of master.now) (map component_of overrides.now) (record { start = from; slot = None }) result }
 {
     match &master.rule {
         Some(rule) => RuleDays::of(rule, first_day(master, rule, overrides, from)),
@@ -347,7 +347,7 @@ pub(crate) fn days_of<'a>(
 /// even earlier.
 fn first_day(master: &EventComponent, rule: &Rule, overrides: &[EventComponent], from: i64) -> Day
     requires { master.now.rule ≡ Some rule.now }
-    ensures { NoneBefore (event_of master.now) (map event_of overrides.now) (record { start = from; slot = None }) (day_index result) }
+    ensures { NoneBefore (component_of master.now) (map component_of overrides.now) (record { start = from; slot = None }) (day_index result) }
 {
     let (least, _) = master.times.start.clock().offsets();
     match LocalTime::of_seconds(from.saturating_add(least as i64)) {
@@ -362,7 +362,7 @@ fn first_place(
     after: Bound,
     days: &mut RuleDays<'_>,
     clock: &mut Clock,
-) -> Option<Place>
+) -> Option<InstancePlace>
     requires passed { HasPassed event.now.master event.now.overrides.items after days.old }
     requires reads { HasClock event.now.master clock.old }
     ensures first { IsSoonest (IsHeld event.now.master event.now.overrides.items after) result }
@@ -388,12 +388,12 @@ fn first_start(
     clock: &mut Clock,
 ) -> Option<i64>
     requires master { event.now.master ≡ Some master.now }
-    requires clock { HasGoodClock (event_of master.now) }
-    requires walked { AreWalked (event_of master.now) (map event_of event.now.overrides.items) after days.old }
-    requires reads { IsOfClock (event_of master.now) clock.old }
-    ensures first { IsLeast (λ t. IsStart (event_of master.now) (map event_of event.now.overrides.items) t × IsAfter after t t) result }
-    ensures walked { AreWalked (event_of master.now) (map event_of event.now.overrides.items) after days.new }
-    ensures reads { IsOfClock (event_of master.now) clock.new }
+    requires clock { HasGoodClock (component_of master.now) }
+    requires walked { AreWalked (component_of master.now) (map component_of event.now.overrides.items) after days.old }
+    requires reads { IsOfClock (component_of master.now) clock.old }
+    ensures first { IsLeast (λ t. IsStart (component_of master.now) (map component_of event.now.overrides.items) t × IsAfter after t t) result }
+    ensures walked { AreWalked (component_of master.now) (map component_of event.now.overrides.items) after days.new }
+    ensures reads { IsOfClock (component_of master.now) clock.new }
 {
     let given = first_given(event, master, after, days, clock);
     let added = first_added(event, after);
@@ -401,17 +401,17 @@ fn first_start(
 }
 
 /// The place of the instance at a start: its slot is that start.
-fn own_place(start: Option<i64>) -> Option<Place>
+fn own_place(start: Option<i64>) -> Option<InstancePlace>
     ensures { result ≡ option_map own_place start }
 {
     match start {
-        Some(start) => Some(Place { start, slot: start }),
+        Some(start) => Some(InstancePlace { start, slot: start }),
         None => None,
     }
 }
 
 /// The instance at a place.
-fn instance_at<'a>(event: &'a Event, place: Place) -> Instance<'a>
+fn instance_at<'a>(event: &'a Event, place: InstancePlace) -> Instance<'a>
     requires { IsHeldAt event.now.master event.now.overrides.items place }
     ensures instance { IsInstance (said_meeting event.now) (instance_of result) }
     ensures start { result.start ≡ place.start }
@@ -429,9 +429,9 @@ fn instance_at<'a>(event: &'a Event, place: Place) -> Instance<'a>
 /// The instance of a VEVENT at a start, with that slot.
 fn instance_from<'a>(component: &'a EventComponent, start: i64, slot: i64) -> Instance<'a>
     requires { IsNearEpoch start }
-    ensures key { key_of result.key ≡ key_at (event_of component.now) slot }
+    ensures key { key_of result.key ≡ key_at (component_of component.now) slot }
     ensures start { result.start ≡ start }
-    ensures ends { EndsAt (event_of component.now).times start result.end }
+    ensures ends { EndsAt (component_of component.now).times start result.end }
 {
     let key = InstanceKey {
         organiser: component.organiser_text(),

@@ -28,7 +28,7 @@ mod zoned;
 mod zones;
 
 pub use calendar::{Calendar, Singles};
-pub use component::{Attendee, EventComponent, ParticipationStatus, Purpose, one_event};
+pub use component::{Attendee, EventComponent, PartStat, Purpose, one_event};
 pub use event::{Event, one_instance, one_meeting};
 pub use event_rule::as_end;
 pub use event_times::EventTimes;

@@ -5,9 +5,9 @@ ghost use Rattle.std.specs.Option.{option_to_list};
 ghost use Rattle.std.specs.List.{list_all, AllZip};
 ghost use Rattle.ical_lines.specs.Fault.{RefusesOnly, RefusesBy};
 ghost use Rattle.ical_tree.specs.Tree.{tree_of};
-ghost use Rattle.profile.specs.events.Events.{Event, SaysEvent};
-ghost use Rattle.profile.specs.events.Meetings.{as_added, events_of, is_same_meeting, is_master, is_override, taken_by, AreOfOne, InstancesDiffer, SaysMeeting, MeetingFault};
-ghost use Rattle.cal_events.specs.Events.{event_of, method_read, vevents_of};
+ghost use Rattle.profile.specs.events.EventComponents.{EventComponent as SaidComponent, SaysEventComponent};
+ghost use Rattle.profile.specs.events.Events.{as_added, components_of, is_same_meeting, is_master, is_override, taken_by, AreOfOne, InstancesDiffer, SaysEvent, EventFault};
+ghost use Rattle.cal_events.specs.Events.{component_of, method_read, vevents_of};
 ghost use Rattle.cal_events.specs.Meetings.{instants_said, IsNotOne, SharesSlot};
 
 use crate::component::{EventComponent, Purpose};
@@ -39,10 +39,10 @@ impl MeetingComponents {
         object: &Component,
         purpose: Purpose,
     ) -> Result<MeetingComponents, Fault>
-        ensures says { IfOk result (λ meeting. SaysMeeting (tree_of object.now) (method_read purpose) (meeting_of meeting)) }
-        ensures instants { IfOk result (λ meeting. map Some meeting.instants.items ≡ instants_said (map event_of meeting.overrides.items)) }
+        ensures says { IfOk result (λ meeting. SaysEvent (tree_of object.now) (method_read purpose) (meeting_of meeting)) }
+        ensures instants { IfOk result (λ meeting. map Some meeting.instants.items ≡ instants_said (map component_of meeting.overrides.items)) }
         ensures refuses { IfErr result (RefusesOnly is_components_fault) }
-        ensures fault { IfErr result (RefusesBy (MeetingFault (tree_of object.now) (method_read purpose))) }
+        ensures fault { IfErr result (RefusesBy (EventFault (tree_of object.now) (method_read purpose))) }
     {
         let components = read_events(alloc, object, purpose)?;
         judge_meeting(&components)?;
@@ -59,13 +59,13 @@ impl MeetingComponents {
         object: &Component,
         purpose: Purpose,
     ) -> Result<Vec<EventComponent>, Fault>
-        ensures says { IfOk result (λ events. AllZip (SaysEvent (tree_of object.now) (method_read purpose)) (vevents_of object.now) (map event_of events.items)) }
+        ensures says { IfOk result (λ events. AllZip (SaysEventComponent (tree_of object.now) (method_read purpose)) (vevents_of object.now) (map component_of events.items)) }
         ensures some { IfOk result (λ events. 0 < length events.items) }
-        ensures one { IfOk result (λ events. AreOfOne (map event_of events.items)) }
-        ensures masters { IfOk result (λ events. length (filter is_master (map event_of events.items)) ≤ 1) }
-        ensures differ { IfOk result (λ events. InstancesDiffer (filter is_override (map event_of events.items))) }
+        ensures one { IfOk result (λ events. AreOfOne (map component_of events.items)) }
+        ensures masters { IfOk result (λ events. length (filter is_master (map component_of events.items)) ≤ 1) }
+        ensures differ { IfOk result (λ events. InstancesDiffer (filter is_override (map component_of events.items))) }
         ensures refuses { IfErr result (RefusesOnly is_components_fault) }
-        ensures fault { ((events : List Event) → taken_by (method_read purpose) events ≡ events) → IfErr result (RefusesBy (MeetingFault (tree_of object.now) (method_read purpose))) }
+        ensures fault { ((events : List SaidComponent) → taken_by (method_read purpose) events ≡ events) → IfErr result (RefusesBy (EventFault (tree_of object.now) (method_read purpose))) }
     {
         let components = read_events(alloc, object, purpose)?;
         judge_meeting(&components)?;
@@ -75,10 +75,10 @@ impl MeetingComponents {
 
     /// These, divided by RECURRENCE-ID, which one of them at most may lack. It fails only when out of memory.
     fn of(alloc: Global, components: Vec<EventComponent>) -> Result<MeetingComponents, AllocError>
-        requires masters { length (filter is_master (map event_of components.items)) ≤ 1 }
-        ensures master { IfOk result (λ d. filter is_master (map event_of components.items) ≡ option_to_list (option_map event_of d.master)) }
-        ensures overrides { IfOk result (λ d. filter is_override (map event_of components.items) ≡ map event_of d.overrides.items) }
-        ensures instants { IfOk result (λ d. map Some d.instants.items ≡ instants_said (map event_of d.overrides.items)) }
+        requires masters { length (filter is_master (map component_of components.items)) ≤ 1 }
+        ensures master { IfOk result (λ d. filter is_master (map component_of components.items) ≡ option_to_list (option_map component_of d.master)) }
+        ensures overrides { IfOk result (λ d. filter is_override (map component_of components.items) ≡ map component_of d.overrides.items) }
+        ensures instants { IfOk result (λ d. map Some d.instants.items ≡ instants_said (map component_of d.overrides.items)) }
     {
         let mut masters = Vec::new(alloc);
         let mut overrides = Vec::new(alloc);
@@ -101,7 +101,7 @@ impl MeetingComponents {
 
     /// All of them, the master first. It fails only when out of memory.
     pub fn into_events(self, alloc: Global) -> Result<Vec<EventComponent>, AllocError>
-        ensures { IfOk result (λ events. map event_of events.items ≡ events_of (meeting_of self)) }
+        ensures { IfOk result (λ events. map component_of events.items ≡ components_of (meeting_of self)) }
     {
         let MeetingComponents {
             master,
@@ -123,7 +123,7 @@ fn taken_for(
     purpose: Purpose,
     components: Vec<EventComponent>,
 ) -> Result<Vec<EventComponent>, AllocError>
-    ensures { IfOk result (λ taken. map event_of taken.items ≡ taken_by (method_read purpose) (map event_of components.items)) }
+    ensures { IfOk result (λ taken. map component_of taken.items ≡ taken_by (method_read purpose) (map component_of components.items)) }
 {
     match purpose {
         Purpose::Add => all_added(alloc, components),
@@ -136,7 +136,7 @@ fn all_added(
     alloc: Global,
     components: Vec<EventComponent>,
 ) -> Result<Vec<EventComponent>, AllocError>
-    ensures { IfOk result (λ added. map event_of added.items ≡ map as_added (map event_of components.items)) }
+    ensures { IfOk result (λ added. map component_of added.items ≡ map as_added (map component_of components.items)) }
 {
     let mut added = Vec::new(alloc);
     for component in components {
@@ -149,7 +149,7 @@ fn all_added(
 
 /// Takes a component as an ADD does: as the instance of its own start, whatever RECURRENCE-ID says (RFC 5546 3.2.4).
 fn add(component: &mut EventComponent)
-    ensures { event_of component.new ≡ as_added (event_of component.old) }
+    ensures { component_of component.new ≡ as_added (component_of component.old) }
 {
     let times = component.times;
     component.recurrence = Some(times.instant.instant());
@@ -158,9 +158,9 @@ fn add(component: &mut EventComponent)
 /// Refuses components that aren't those of one meeting.
 /// Refused: 66 where there is none, 62 for two UIDs or two ORGANIZERs.
 fn judge_meeting(components: &[EventComponent]) -> Result<(), Refusal>
-    ensures some { OnOk result (0 < length (map event_of components.now)) }
-    ensures one { OnOk result (AreOfOne (map event_of components.now)) }
-    ensures fault { IfErr result (λ e. IsNotOne (map event_of components.now) e.number) }
+    ensures some { OnOk result (0 < length (map component_of components.now)) }
+    ensures one { OnOk result (AreOfOne (map component_of components.now)) }
+    ensures fault { IfErr result (λ e. IsNotOne (map component_of components.now) e.number) }
 {
     let Some((first, others)) = components.split_first() else {
         return Err(Refusal::NO_EVENT);
@@ -172,14 +172,14 @@ fn judge_meeting(components: &[EventComponent]) -> Result<(), Refusal>
 }
 
 fn are_one_meeting(first: &EventComponent, others: &[EventComponent]) -> bool
-    ensures { result ≡ list_all (λ other. is_same_meeting (event_of first.now) (event_of other)) others.now }
+    ensures { result ≡ list_all (λ other. is_same_meeting (component_of first.now) (component_of other)) others.now }
 {
     others.iter().all(|other| is_same_meeting(first, other))
 }
 
 /// Whether both are of one UID and one ORGANIZER.
 fn is_same_meeting(a: &EventComponent, b: &EventComponent) -> bool
-    ensures { result ≡ is_same_meeting (event_of a.now) (event_of b.now) }
+    ensures { result ≡ is_same_meeting (component_of a.now) (component_of b.now) }
 {
     a.uid.as_str() == b.uid.as_str() && a.organiser_text() == b.organiser_text()
 }
@@ -187,9 +187,9 @@ fn is_same_meeting(a: &EventComponent, b: &EventComponent) -> bool
 /// Refuses components of which two are of one slot of their meeting. In time n log n.
 /// Refused: 53 for two without RECURRENCE-ID, 54 for two of the same instance.
 fn judge_slots(alloc: Global, components: &[EventComponent]) -> Result<(), Fault>
-    ensures masters { OnOk result (length (filter is_master (map event_of components.now)) ≤ 1) }
-    ensures differ { OnOk result (InstancesDiffer (filter is_override (map event_of components.now))) }
-    ensures fault { IfErr result (RefusesBy (SharesSlot (map event_of components.now))) }
+    ensures masters { OnOk result (length (filter is_master (map component_of components.now)) ≤ 1) }
+    ensures differ { OnOk result (InstancesDiffer (filter is_override (map component_of components.now))) }
+    ensures fault { IfErr result (RefusesBy (SharesSlot (map component_of components.now))) }
 {
     let mut masters: usize = 0;
     let mut instants = Vec::new(alloc);

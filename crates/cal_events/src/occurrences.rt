@@ -8,14 +8,14 @@ ghost use Rattle.ical_lines.specs.Text.{line_text};
 ghost use Rattle.profile.specs.text.Trees.{Tree};
 ghost use Rattle.profile.specs.events.Properties.{is_of, Says};
 ghost use Rattle.profile.specs.events.ZonedTimes.{ZonedTextFault};
-ghost use Rattle.profile.specs.events.Occurrences.{Entry, IsRecurrenceLine, is_period, entries_of, entries_named, Lists, IsInside, EntriesFault, OccurrenceFault, recurs_as_instance};
+ghost use Rattle.profile.specs.events.Occurrences.{ListedTime, IsRecurrenceLine, is_period, entries_of, entries_named, Lists, IsInside, EntriesFault, OccurrenceFault, recurs_as_instance};
 ghost use Rattle.cal_events.specs.Zones.{object_of, AreRead};
 ghost use Rattle.cal_events.specs.Occurrences.{name_of, SaysSo, IsRecurrenceSaid, AreListed};
 
 use crate::event_times::{is_in_dates, is_in_zone};
 use crate::properties::optional;
 use crate::zoned::ZonedTime;
-use crate::zones::Zones;
+use crate::zones::ZonesOfObject;
 use ical_lines::{Fault, Line, Refusal};
 use ical_tree::Properties;
 use std::alloc::Global;
@@ -74,7 +74,7 @@ impl SaidInstant {
     pub(crate) fn read(
         line: Line<'_>,
         text: &str,
-        zones: &Zones<'_, '_>,
+        zones: &ZonesOfObject<'_, '_>,
     ) -> Result<SaidInstant, Refusal>
         requires zones { AreRead zones.now }
         ensures says { IfOk result (SaysSo (object_of zones.now) (line_text line.entry) text.now) }
@@ -91,7 +91,7 @@ impl SaidInstant {
     /// What RECURRENCE-ID says, None where it is absent.
     /// Refused: 61 where it occurs twice, 65 where it has RANGE, and as by `ZonedTime::read`.
     pub(crate) fn read_recurrence(
-        zones: &Zones<'_, '_>,
+        zones: &ZonesOfObject<'_, '_>,
         properties: &Properties<'_>,
     ) -> Result<Option<SaidInstant>, Refusal>
         requires zones { AreRead zones.now }
@@ -175,7 +175,7 @@ impl SaidInstants {
     /// Refused: 56 at the 367th time and for a period, and else as by `ZonedTime::read`, at the first time in the text.
     pub(crate) fn read(
         alloc: Global,
-        zones: &Zones<'_, '_>,
+        zones: &ZonesOfObject<'_, '_>,
         properties: &Properties<'_>,
         listing: Listing,
     ) -> Result<SaidInstants, Fault>
@@ -199,13 +199,13 @@ impl SaidInstants {
     fn add_line(
         &mut self,
         line: Line<'_>,
-        zones: &Zones<'_, '_>,
+        zones: &ZonesOfObject<'_, '_>,
         listing: Listing,
     ) -> Result<(), Fault>
         requires zones { AreRead zones.now }
-        ensures adds { (done : List Entry) → AreListed (object_of zones.now) (name_of listing) done self.old
+        ensures adds { (done : List ListedTime) → AreListed (object_of zones.now) (name_of listing) done self.old
             → OnOk result (AreListed (object_of zones.now) (name_of listing) (done ++ entries_of (line_text line.entry)) self.new) }
-        ensures fault { (done : List Entry) → AreListed (object_of zones.now) (name_of listing) done self.old
+        ensures fault { (done : List ListedTime) → AreListed (object_of zones.now) (name_of listing) done self.old
             → IfErr result (RefusesBy (EntriesFault (object_of zones.now) (name_of listing) (done ++ entries_of (line_text line.entry)))) }
     {
         for text in line.value().split(',') {
@@ -219,13 +219,13 @@ impl SaidInstants {
         &mut self,
         line: Line<'_>,
         text: &str,
-        zones: &Zones<'_, '_>,
+        zones: &ZonesOfObject<'_, '_>,
         listing: Listing,
     ) -> Result<(), Fault>
         requires zones { AreRead zones.now }
-        ensures adds { (done : List Entry) → AreListed (object_of zones.now) (name_of listing) done self.old
+        ensures adds { (done : List ListedTime) → AreListed (object_of zones.now) (name_of listing) done self.old
             → OnOk result (AreListed (object_of zones.now) (name_of listing) (done ++ (line_text line.entry, text.now) ∷ []) self.new) }
-        ensures fault { (done : List Entry) → AreListed (object_of zones.now) (name_of listing) done self.old
+        ensures fault { (done : List ListedTime) → AreListed (object_of zones.now) (name_of listing) done self.old
             → IfErr result (RefusesBy (EntriesFault (object_of zones.now) (name_of listing) (done ++ (line_text line.entry, text.now) ∷ []))) }
     {
         if self.instants.len() == MOST || listing.is_period(text) {

@@ -1,7 +1,7 @@
 //! The first instance of an event that shares an instant with a span.
 
 ghost use Rattle.std.specs.Prelude.{◌≡◌, ◌⊎◌, ◌↔◌, ◌^◌, pos, ℤ, ◌+ℤ◌, ◌≤ℤ◌, ◌<ℤ◌, Contains, IsTrue, option_map};
-ghost use Rattle.profile.specs.checker.Instances.{Booked};
+ghost use Rattle.profile.specs.checker.Instances.{Instance as SaidInstance};
 ghost use Rattle.profile.specs.events.Starts.{IsInstance, SharesInstant, IsFirstOverlap};
 ghost use Rattle.cal_events.specs.Calendars.{instance_of};
 ghost use Rattle.cal_events.specs.Events.{times_of};
@@ -59,7 +59,7 @@ fn later(a: i64, b: i64) -> i64
 
 /// No instance of an event lasts longer, in exact seconds.
 fn longest(event: &Event) -> i64
-    ensures bound { (b : Booked) → IsInstance (said_meeting event.now) b → b.end ≤ℤ (b.start +ℤ result) }
+    ensures bound { (b : SaidInstance) → IsInstance (said_meeting event.now) b → b.end ≤ℤ (b.start +ℤ result) }
     ensures range { (pos 0 ≤ℤ result) × (result <ℤ pos (2 ^ 50)) }
 {
     let of_overrides = longest_of(event.overrides.as_slice());

@@ -5,8 +5,8 @@ ghost use Rattle.profile.specs.series.Zones.{IsNearEpoch};
 ghost use Rattle.profile.specs.events.Properties.{first_second};
 ghost use Rattle.profile.specs.events.Starts.{AreInstancesFrom};
 ghost use Rattle.profile.specs.events.Confirmed.{alone, AreApart};
-ghost use Rattle.cal_events.specs.Events.{event_of};
-ghost use Rattle.cal_events.specs.OwnInstances.{booked_at, IsMade, IsTimely};
+ghost use Rattle.cal_events.specs.Events.{component_of};
+ghost use Rattle.cal_events.specs.OwnInstances.{own_instance_at, IsInstanceAt, IsTimely};
 
 use crate::component::EventComponent;
 use crate::instance::Single;
@@ -20,10 +20,10 @@ impl EventComponent {
     /// It fails only when out of memory.
     pub fn singles(&self, alloc: Global) -> Result<Vec<Single>, AllocError>
         // of an event that some VEVENT says
-        requires { IsTimely (event_of self.now) }
-        ensures apart { IfOk result (λ singles. AreApart (event_of self.now) (map (booked_at (event_of self.now)) singles.items)) }
-        ensures once { IfOk result (λ singles. self.now.rule ≡ None → IsTimely (event_of self.now)
-            → AreInstancesFrom (alone (event_of self.now)) first_second (map (booked_at (event_of self.now)) singles.items)) }
+        requires { IsTimely (component_of self.now) }
+        ensures apart { IfOk result (λ singles. AreApart (component_of self.now) (map (own_instance_at (component_of self.now)) singles.items)) }
+        ensures once { IfOk result (λ singles. self.now.rule ≡ None → IsTimely (component_of self.now)
+            → AreInstancesFrom (alone (component_of self.now)) first_second (map (own_instance_at (component_of self.now)) singles.items)) }
     {
         if let Some(slot) = self.recurrence {
             return self.own_single(alloc, slot);
@@ -34,7 +34,7 @@ impl EventComponent {
 
     /// The one instance, which has that slot.
     fn own_single(&self, alloc: Global, slot: i64) -> Result<Vec<Single>, AllocError>
-        ensures { IfOk result (λ singles. (own : Single) × (singles.items ≡ own ∷ []) × IsMade (event_of self.now) slot self.now.times.instant own) }
+        ensures { IfOk result (λ singles. (own : Single) × (singles.items ≡ own ∷ []) × IsInstanceAt (component_of self.now) slot self.now.times.instant own) }
     {
         let mut singles = Vec::new(alloc);
         singles.push(self.single_at(slot, self.times.instant.instant()))?;
@@ -44,7 +44,7 @@ impl EventComponent {
     /// The instances at these starts.
     fn singles_at(&self, alloc: Global, starts: &[i64]) -> Result<Vec<Single>, AllocError>
         requires { (start : _) → Contains starts.now start → IsNearEpoch start }
-        ensures { IfOk result (λ singles. AllZip (λ start single. IsMade (event_of self.now) start start single) starts.now singles.items) }
+        ensures { IfOk result (λ singles. AllZip (λ start single. IsInstanceAt (component_of self.now) start start single) starts.now singles.items) }
     {
         let mut singles = Vec::new(alloc);
         for start in starts {
@@ -56,7 +56,7 @@ impl EventComponent {
     /// The instance of that slot at a start.
     fn single_at(&self, slot: i64, start: i64) -> Single
         requires { IsNearEpoch start }
-        ensures { IsMade (event_of self.now) slot start result }
+        ensures { IsInstanceAt (component_of self.now) slot start result }
     {
         Single {
             slot,

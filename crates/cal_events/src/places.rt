@@ -1,10 +1,10 @@
 //! Where the overrides of an event are among its instances, by start and then by slot, so that one is looked for by binary search.
 
 ghost use Rattle.std.specs.Prelude.{◌≡◌, None, IfOk, IfSome, IfNone};
-ghost use Rattle.cal_events.specs.Instances.{IsAt, IsSoonest};
+ghost use Rattle.cal_events.specs.Instances.{IsAtPlace, IsSoonest};
 
 use crate::component::EventComponent;
-use crate::instances::{Bound, Place};
+use crate::instances::{Bound, InstancePlace};
 use std::alloc::{AllocError, Global};
 use std::marker::Model;
 
@@ -21,7 +21,7 @@ impl Moved {
 
     /// That of an override, of this number. None where it has no RECURRENCE-ID.
     fn of(component: &EventComponent, which: usize) -> Option<Moved>
-        ensures found { IfSome result (λ moved. (moved.which ≡ which) × IsAt component.now (place_of moved)) }
+        ensures found { IfSome result (λ moved. (moved.which ≡ which) × IsAtPlace component.now (place_of moved)) }
         ensures none { IfNone result (component.now.recurrence ≡ None) }
     {
         let slot = component.recurrence?;
@@ -29,10 +29,10 @@ impl Moved {
         Some(Moved { start, slot, which })
     }
 
-    fn place(&self) -> Place
+    fn place(&self) -> InstancePlace
         ensures { result ≡ place_of self.now }
     {
-        Place {
+        InstancePlace {
             start: self.start,
             slot: self.slot,
         }
@@ -46,14 +46,14 @@ impl Moved {
     }
 
     /// Whether it is at a place.
-    fn is_at(&self, place: Place) -> bool
+    fn is_at(&self, place: InstancePlace) -> bool
         ensures { result ≡ is_there place self.now }
     {
         self.start == place.start && self.slot == place.slot
     }
 
     /// Whether it comes before a place.
-    fn is_left_of(&self, place: Place) -> bool
+    fn is_left_of(&self, place: InstancePlace) -> bool
         ensures { result ≡ is_left_of place self.now }
     {
         self.place().is_before(place)
@@ -97,7 +97,7 @@ impl Places {
     }
 
     /// The first that is to come.
-    pub(crate) fn first(&self, after: Bound) -> Option<Place>
+    pub(crate) fn first(&self, after: Bound) -> Option<InstancePlace>
         ensures { IsSoonest (IsPlaceToCome self.now after) result }
     {
         let at = self
@@ -110,7 +110,7 @@ impl Places {
     }
 
     /// Which override is at a place.
-    pub(crate) fn which(&self, place: Place) -> Option<usize>
+    pub(crate) fn which(&self, place: InstancePlace) -> Option<usize>
         ensures { IsWhichAt self.now place result }
     {
         let at = self.sorted.partition_point(|moved| moved.is_left_of(place));

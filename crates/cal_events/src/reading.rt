@@ -4,19 +4,19 @@ ghost use Rattle.std.specs.List.{AllZip};
 ghost use Rattle.ical_lines.specs.Fault.{RefusesOnly, RefusesBy};
 ghost use Rattle.ical_values.specs.Octets.{address_octets};
 ghost use Rattle.profile.specs.faults.Faults.{is_calendar_fault, is_meeting_event_fault};
-ghost use Rattle.profile.specs.checker.Instances.{Booked};
+ghost use Rattle.profile.specs.checker.Instances.{Instance};
 ghost use Rattle.profile.specs.checker.Calendars.{SaysCalendar, SpellsCalendar, IsConfirmedIn, CalendarFault, CalendarTextFault};
-ghost use Rattle.profile.specs.events.Events.{Event, EventFault, SaysEvent};
+ghost use Rattle.profile.specs.events.EventComponents.{EventComponent as SaidComponent, EventComponentFault, SaysEventComponent};
 ghost use Rattle.profile.specs.events.Confirmed.{Confirmed, IsConfirmed, IsInSeries, AreConfirmed};
 ghost use Rattle.profile.specs.text.Trees.{Tree};
 ghost use Rattle.ical_tree.specs.Tree.{component_lines, tree_of};
 ghost use Rattle.cal_events.specs.Zones.{object_of, AreRead};
-ghost use Rattle.cal_events.specs.Events.{IsFaultAmong, method_read, event_of, vevents_of};
+ghost use Rattle.cal_events.specs.Events.{IsFaultAmong, method_read, component_of, vevents_of};
 
 use crate::calendar::Calendar;
 use crate::component::{EventComponent, Purpose, one_event};
 use crate::draft::Draft;
-use crate::zones::Zones;
+use crate::zones::ZonesOfObject;
 use ical_lines::Fault;
 use ical_tree::{Component, Properties, one_tree};
 use ical_values::Address;
@@ -71,11 +71,11 @@ pub fn one_calendar_text()
 
 /// Of a calendar without series the singles are all confirmed instances, and each key is that of one of them.
 pub fn singles_are_confirmed()
-    ensures single { (room octets : List ℕ) (all : Confirmed) (instance : Booked)
+    ensures single { (room octets : List ℕ) (all : Confirmed) (instance : Instance)
         → SpellsCalendar room octets all → Contains all.singles instance → IsConfirmedIn room octets instance }
-    ensures all { (room octets : List ℕ) (all : Confirmed) (instance : Booked)
+    ensures all { (room octets : List ℕ) (all : Confirmed) (instance : Instance)
         → SpellsCalendar room octets all → all.series ≡ [] → IsConfirmedIn room octets instance → Contains all.singles instance }
-    ensures keys { (room octets : List ℕ) (all : Confirmed) (a b : Booked)
+    ensures keys { (room octets : List ℕ) (all : Confirmed) (a b : Instance)
         → SpellsCalendar room octets all → IsConfirmedIn room octets a → IsConfirmedIn room octets b → a.key ≡ b.key → a ≡ b }
 {
     one_tree();
@@ -85,11 +85,11 @@ pub fn singles_are_confirmed()
 /// Series and singles divide what is confirmed: each instance of a series is confirmed, and no single; each other one that is confirmed is a
 /// single.
 pub fn series_and_singles_divide()
-    ensures series { (room octets : List ℕ) (all : Confirmed) (instance : Booked)
+    ensures series { (room octets : List ℕ) (all : Confirmed) (instance : Instance)
         → SpellsCalendar room octets all → IsInSeries all.series instance → IsConfirmedIn room octets instance }
-    ensures apart { (room octets : List ℕ) (all : Confirmed) (instance : Booked)
+    ensures apart { (room octets : List ℕ) (all : Confirmed) (instance : Instance)
         → SpellsCalendar room octets all → IsInSeries all.series instance → Contains all.singles instance → ⊥ }
-    ensures single { (room octets : List ℕ) (all : Confirmed) (instance : Booked)
+    ensures single { (room octets : List ℕ) (all : Confirmed) (instance : Instance)
         → SpellsCalendar room octets all → IsConfirmedIn room octets instance
         → (IsInSeries all.series instance → ⊥) → Contains all.singles instance }
 {
@@ -101,14 +101,14 @@ pub fn series_and_singles_divide()
 /// Refused: as by `EventComponent::read`.
 pub(crate) fn read_event(
     alloc: Global,
-    zones: &Zones<'_, '_>,
+    zones: &ZonesOfObject<'_, '_>,
     component: &Component,
     purpose: Purpose,
 ) -> Result<EventComponent, Fault>
     requires zones { AreRead zones.now }
-    ensures says { IfOk result (λ event. SaysEvent (object_of zones.now) (method_read purpose) (component_lines component.now) (event_of event)) }
+    ensures says { IfOk result (λ event. SaysEventComponent (object_of zones.now) (method_read purpose) (component_lines component.now) (component_of event)) }
     ensures refuses { IfErr result (RefusesOnly is_meeting_event_fault) }
-    ensures fault { IfErr result (RefusesBy (EventFault (object_of zones.now) (method_read purpose) (component_lines component.now))) }
+    ensures fault { IfErr result (RefusesBy (EventComponentFault (object_of zones.now) (method_read purpose) (component_lines component.now))) }
 {
     let properties = Properties::of(alloc, component)?;
     EventComponent::read(alloc, zones, &properties, purpose)
@@ -121,11 +121,11 @@ pub fn read_events(
     object: &Component,
     purpose: Purpose,
 ) -> Result<Vec<EventComponent>, Fault>
-    ensures says { IfOk result (λ events. AllZip (SaysEvent (tree_of object.now) (method_read purpose)) (vevents_of object.now) (map event_of events.items)) }
+    ensures says { IfOk result (λ events. AllZip (SaysEventComponent (tree_of object.now) (method_read purpose)) (vevents_of object.now) (map component_of events.items)) }
     ensures refuses { IfErr result (RefusesOnly is_meeting_event_fault) }
     ensures fault { IfErr result (RefusesBy (IsFaultAmong (tree_of object.now) (method_read purpose) (vevents_of object.now))) }
 {
-    let zones = Zones::of(alloc, object)?;
+    let zones = ZonesOfObject::of(alloc, object)?;
     let mut events = Vec::new(alloc);
     for component in object.children() {
         if component.is_named("VEVENT") {

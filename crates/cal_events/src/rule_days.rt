@@ -4,7 +4,7 @@
 ghost use Rattle.std.specs.Prelude.{◌≡◌, ◌+◌, ℕ, ◌∷◌, Some, None, [], MatchOption};
 ghost use Rattle.std.specs.Iterator.{YieldsFirstBy};
 ghost use Rattle.profile.specs.series.Days.{day_index};
-ghost use Rattle.profile.specs.series.Rules.{Parts, IsNextDay};
+ghost use Rattle.profile.specs.series.Rules.{Rule as SaidRule, IsNextDay};
 ghost use Rattle.cal_events.specs.RuleDaysLeft.{AreDaysOf, days_to_come, rest_to_come, AreStepped};
 
 use cal_days::Day;
@@ -51,7 +51,7 @@ impl<'a> RuleDays<'a> {
 
     /// Takes the first.
     pub(crate) fn next(&mut self) -> Option<Day>
-        ensures { (rule : Parts) → AreDaysOf rule self.old → AreStepped rule self.old result self.new }
+        ensures { (rule : SaidRule) → AreDaysOf rule self.old → AreStepped rule self.old result self.new }
     {
         let day = self.take()?;
         self.from = day.index() + 1;
@@ -85,7 +85,7 @@ impl<'a> RuleDays<'a> {
     /// Puts back the day that was taken last, which starts then.
     pub(crate) fn put_back(&mut self, day: Day, start: i64)
         requires { self.old.first ≡ None }
-        ensures days { (rule : Parts) (from : ℕ) → AreDaysOf rule self.old → IsNextDay rule from (day_index day) → self.old.from ≡ day_index day + 1 → AreDaysOf rule self.new }
+        ensures days { (rule : SaidRule) (from : ℕ) → AreDaysOf rule self.old → IsNextDay rule from (day_index day) → self.old.from ≡ day_index day + 1 → AreDaysOf rule self.new }
         ensures from { self.new.from ≡ day_index day }
         ensures first { self.new.first ≡ Some day }
         ensures start { self.new.start ≡ start }
@@ -98,7 +98,7 @@ impl<'a> RuleDays<'a> {
     /// Passes the day that was put back.
     pub(crate) fn pass(&mut self, day: Day)
         requires { self.old.first ≡ Some day }
-        ensures days { (rule : Parts) → AreDaysOf rule self.old → self.old.from ≡ day_index day → AreDaysOf rule self.new }
+        ensures days { (rule : SaidRule) → AreDaysOf rule self.old → self.old.from ≡ day_index day → AreDaysOf rule self.new }
         ensures from { self.new.from ≡ day_index day + 1 }
         ensures first { self.new.first ≡ None }
     {

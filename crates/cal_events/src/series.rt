@@ -1,21 +1,21 @@
 //! A series: a master by its rule alone (RFC 5545 3.8.5.3). What RDATE adds belongs to none.
 ghost use Rattle.std.specs.Prelude.{◌≡◌, ◌≢◌, ◌↔◌, ◌≤ℤ◌, true, false, [], Some, is_some, map, option_map, filter, AllPairs, IfOk, MatchOption};
-ghost use Rattle.profile.specs.checker.Instances.{Booked};
-ghost use Rattle.profile.specs.events.Meetings.{is_master};
+ghost use Rattle.profile.specs.checker.Instances.{Instance as SaidInstance};
+ghost use Rattle.profile.specs.events.Events.{is_master};
 ghost use Rattle.profile.specs.events.Starts.{IsInstance, IsFirstOverlap, IsWidth};
 ghost use Rattle.profile.specs.events.Confirmed.{by_its_rule, has_series};
-ghost use Rattle.profile.specs.events.Events.{Event as Said, meeting_said};
+ghost use Rattle.profile.specs.events.EventComponents.{EventComponent as Said, meeting_said};
 ghost use Rattle.profile.specs.events.ZonedTimes.{clock_of};
 ghost use Rattle.cal_zones.specs.Kinds.{zone_of};
 ghost use Rattle.cal_events.specs.Calendars.{key_of, owned_key_of, instance_of};
 ghost use Rattle.cal_events.specs.Drafts.{IsSaid, AreInOrder};
-ghost use Rattle.cal_events.specs.Events.{event_of};
+ghost use Rattle.cal_events.specs.Events.{component_of};
 ghost use Rattle.cal_events.specs.Instances.{HasGoodClock};
 ghost use Rattle.cal_events.specs.Left.{IsLeft};
 ghost use Rattle.cal_events.specs.Overlapping.{HaveOneEnd};
 ghost use Rattle.cal_events.specs.OwnInstances.{IsTimely};
 ghost use Rattle.cal_events.specs.SaidMeetings.{said_meeting};
-ghost use Rattle.cal_events.specs.Ruled.{IsRuled, AreSlotsOf, IsByItsRule, cmp_to, is_of, ruled_without};
+ghost use Rattle.cal_events.specs.Ruled.{IsRuled, AreSlotsOf, IsByItsRule, cmp_to, is_key_of, ruled_without};
 
 use crate::component::EventComponent;
 use crate::draft::is_series;
@@ -40,7 +40,7 @@ pub struct Series {
 }
 
 impl Series {
-    ghost use Rattle.cal_events.specs.SaidSeries.{series_said, IsMasterOf, IsLeftOf};
+    ghost use Rattle.cal_events.specs.SaidSeries.{series_said, IsMasterOf, IsSeriesWithout};
 
     /// The series of a master, where overrides replace these instances, in order. It fails only when out of memory.
     pub(crate) fn of(
@@ -48,12 +48,12 @@ impl Series {
         master: EventComponent,
         overrides: &[InstanceKey<'_>],
     ) -> Result<Series, AllocError>
-        requires said { IsSaid (event_of master) }
-        requires master { is_master (event_of master) ≡ true }
+        requires said { IsSaid (component_of master) }
+        requires master { is_master (component_of master) ≡ true }
         requires rule { is_some master.rule ≡ true }
         requires sorted { AreInOrder overrides.now }
         requires differ { AllPairs ◌≢◌ (map key_of overrides.now) }
-        ensures { IfOk result (λ series. IsByItsRule (map key_of overrides.now) (event_of master) (series_said series)) }
+        ensures { IfOk result (λ series. IsByItsRule (map key_of overrides.now) (component_of master) (series_said series)) }
     {
         let replaced = replaced(alloc, &master, overrides)?;
         let master = by_its_rule(alloc, master, &replaced)?;
@@ -63,10 +63,10 @@ impl Series {
 
     /// That of a master by itself, without the instances at these starts. It fails only when out of memory.
     fn of_copy(alloc: Global, master: &EventComponent, starts: &[i64]) -> Result<Series, AllocError>
-        requires clock { HasGoodClock (event_of master.now) }
-        requires ends { HaveOneEnd (record { master = Some (ruled_without (event_of master.now) starts.now); overrides = [] }) }
+        requires clock { HasGoodClock (component_of master.now) }
+        requires ends { HaveOneEnd (record { master = Some (ruled_without (component_of master.now) starts.now); overrides = [] }) }
         requires rule { is_some master.now.rule ≡ true }
-        ensures { IfOk result (λ series. series_said series ≡ record { master = Some (ruled_without (event_of master.now) starts.now); overrides = [] }) }
+        ensures { IfOk result (λ series. series_said series ≡ record { master = Some (ruled_without (component_of master.now) starts.now); overrides = [] }) }
     {
         let master = ruled_copy(alloc, master, starts)?;
         let event = Event::of_master(alloc, master)?;
@@ -75,7 +75,7 @@ impl Series {
 
     /// The series without the instances at these starts, as if EXDATE named them. In time n log n. It fails only when out of memory.
     pub fn without(&self, alloc: Global, starts: &[i64]) -> Result<Series, AllocError>
-        ensures { IfOk result (λ left. IsLeftOf (series_said self.now) starts.now (series_said left)) }
+        ensures { IfOk result (λ left. IsSeriesWithout (series_said self.now) starts.now (series_said left)) }
     {
         Series::of_copy(alloc, self.master(), starts)
     }
@@ -83,7 +83,7 @@ impl Series {
     /// Its starts at an instant or later, in seconds from 1970-01-01T00:00:00Z, with their ends: ascending, each once. Takes no memory, and
     /// looks at nothing that comes before.
     pub fn starts(&self, from: i64) -> Instances<'_>
-        ensures left { (b : Booked) → IsLeft result b ↔ IsInstance (series_said self.now) b × (from ≤ℤ b.start) }
+        ensures left { (b : SaidInstance) → IsLeft result b ↔ IsInstance (series_said self.now) b × (from ≤ℤ b.start) }
         ensures of { said_meeting result.event.now ≡ series_said self.now }
     {
         self.event.instances(from)
@@ -124,7 +124,7 @@ impl Series {
 
     /// The key of its instance at a start, owned. It fails only when out of memory.
     pub fn key(&self, alloc: Global, start: i64) -> Result<OwnedKey, AllocError>
-        ensures { IfOk result (λ key. (b : Booked) → IsInstance (series_said self.now) b → b.start ≡ start → owned_key_of key ≡ b.key) }
+        ensures { IfOk result (λ key. (b : SaidInstance) → IsInstance (series_said self.now) b → b.start ≡ start → owned_key_of key ≡ b.key) }
     {
         let master = self.master();
         Ok(OwnedKey {
@@ -135,7 +135,7 @@ impl Series {
     }
 
     fn master(&self) -> &EventComponent
-        ensures master { IsMasterOf (series_said self.now) (event_of result.now) }
+        ensures master { IsMasterOf (series_said self.now) (component_of result.now) }
         ensures ruled { is_some result.now.rule ≡ true }
     {
         match &self.event.master {
@@ -152,8 +152,8 @@ impl EventComponent {
     /// has no RRULE, or is for one instance. It fails only when out of memory.
     pub fn series(&self, alloc: Global) -> Result<Option<Series>, AllocError>
         // of an event that some VEVENT says
-        requires { IsTimely (event_of self.now) }
-        ensures { IfOk result (λ found. MatchOption found (has_series (event_of self.now) ≡ false) (λ series. IsSeriesOf (event_of self.now) (series_said series))) }
+        requires { IsTimely (component_of self.now) }
+        ensures { IfOk result (λ found. MatchOption found (has_series (component_of self.now) ≡ false) (λ series. IsSeriesOf (component_of self.now) (series_said series))) }
     {
         if !is_series(self) {
             return Ok(None);
@@ -168,7 +168,7 @@ fn ruled_copy(
     master: &EventComponent,
     starts: &[i64],
 ) -> Result<EventComponent, AllocError>
-    ensures { IfOk result (λ copy. event_of copy ≡ ruled_without (event_of master.now) starts.now) }
+    ensures { IfOk result (λ copy. component_of copy ≡ ruled_without (component_of master.now) starts.now) }
 {
     let uid = master.uid.clone()?;
     let organiser = master.organiser.clone()?;
@@ -198,7 +198,7 @@ fn by_its_rule(
     master: EventComponent,
     replaced: &[i64],
 ) -> Result<EventComponent, AllocError>
-    ensures { IfOk result (λ ruled. event_of ruled ≡ by_its_rule (event_of master) replaced.now) }
+    ensures { IfOk result (λ ruled. component_of ruled ≡ by_its_rule (component_of master) replaced.now) }
 {
     let mut master = master;
     master.additions = Vec::new(alloc);
@@ -214,7 +214,7 @@ fn replaced(
 ) -> Result<Vec<i64>, AllocError>
     requires sorted { AreInOrder overrides.now }
     requires differ { AllPairs ◌≢◌ (map key_of overrides.now) }
-    ensures { IfOk result (λ slots. AreSlotsOf (map key_of overrides.now) (meeting_said (event_of master.now)) slots.items) }
+    ensures { IfOk result (λ slots. AreSlotsOf (map key_of overrides.now) (meeting_said (component_of master.now)) slots.items) }
 {
     let mut slots = Vec::new(alloc);
     for key in own_keys(overrides, master.organiser_text(), master.uid.as_str()) {
@@ -226,7 +226,7 @@ fn replaced(
 /// Those of the keys, in order, that are of one meeting. They are looked for by binary search.
 fn own_keys<'a>(keys: &'a [InstanceKey<'a>], organiser: &str, uid: &str) -> &'a [InstanceKey<'a>]
     requires sorted { AreInOrder keys.now }
-    ensures { result.now ≡ filter (is_of (organiser.now, uid.now)) keys.now }
+    ensures { result.now ≡ filter (is_key_of (organiser.now, uid.now)) keys.now }
 {
     let first = keys.partition_point(|key| cmp_meeting(key, organiser, uid).is_lt());
     let rest = &keys[first..];

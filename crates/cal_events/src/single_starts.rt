@@ -1,9 +1,9 @@
 //! The starts of a master that belong to no series (RFC 5545 3.8.5.2, 3.8.5.1).
 ghost use Rattle.std.specs.Prelude.{◌≡◌, ◌↔◌, ℤ, true, is_some, Contains, IsTrue, IfOk};
 ghost use Rattle.std.specs.List.Sorted.{IsPermutation};
-ghost use Rattle.cal_events.specs.Events.{event_of};
+ghost use Rattle.cal_events.specs.Events.{component_of};
 ghost use Rattle.cal_events.specs.Instances.{HasGoodClock};
-ghost use Rattle.cal_events.specs.Meetings.{IsNamed};
+ghost use Rattle.cal_events.specs.Meetings.{IsInEventDates};
 ghost use Rattle.cal_events.specs.SingleStarts.{AreSingleStarts, IsCandidate, IsLast, IsLeftOver, IsOnRule};
 
 use crate::component::EventComponent;
@@ -14,8 +14,8 @@ use std::alloc::{AllocError, Global};
 /// The starts of a master, by itself, that no rule gives: DTSTART where there is no rule, and RDATEs; ascending, each once. What EXDATE names
 /// isn't one. It fails only when out of memory.
 pub(crate) fn single_starts(alloc: Global, master: &EventComponent) -> Result<Vec<i64>, AllocError>
-    requires { is_some master.now.rule ≡ true → HasGoodClock (event_of master.now) }
-    ensures { IfOk result (λ starts. AreSingleStarts (event_of master.now) starts.items) }
+    requires { is_some master.now.rule ≡ true → HasGoodClock (component_of master.now) }
+    ensures { IfOk result (λ starts. AreSingleStarts (component_of master.now) starts.items) }
 {
     let hidden = Instants::of(copied(alloc, &master.exceptions)?);
     let candidates = candidates(alloc, master)?;
@@ -30,7 +30,7 @@ pub(crate) fn single_starts(alloc: Global, master: &EventComponent) -> Result<Ve
 
 /// DTSTART where there is no rule, and the RDATEs, in order.
 fn candidates(alloc: Global, master: &EventComponent) -> Result<Instants, AllocError>
-    ensures { IfOk result (λ found. (t : ℤ) → Contains found t ↔ IsCandidate (event_of master.now) t) }
+    ensures { IfOk result (λ found. (t : ℤ) → Contains found t ↔ IsCandidate (component_of master.now) t) }
 {
     let mut instants = copied(alloc, &master.additions)?;
     if master.rule.is_none() {
@@ -57,19 +57,19 @@ fn is_last(starts: &[i64], instant: i64) -> bool
 
 /// Whether a candidate is a start that no rule gives.
 fn is_single(master: &EventComponent, hidden: &Instants, instant: i64) -> bool
-    requires clock { is_some master.now.rule ≡ true → HasGoodClock (event_of master.now) }
+    requires clock { is_some master.now.rule ≡ true → HasGoodClock (component_of master.now) }
     requires hidden { IsPermutation master.now.exceptions.items hidden.now }
-    ensures { IsTrue result ↔ IsLeftOver (event_of master.now) instant }
+    ensures { IsTrue result ↔ IsLeftOver (component_of master.now) instant }
 {
     is_start(instant, hidden) && !is_on_rule(master, instant)
 }
 
 /// Whether the master's rule gives a start at an instant, which EXDATE doesn't name. Looks only at the days near it.
 fn is_on_rule(master: &EventComponent, instant: i64) -> bool
-    requires clock { is_some master.now.rule ≡ true → HasGoodClock (event_of master.now) }
-    requires named { IsNamed instant }
+    requires clock { is_some master.now.rule ≡ true → HasGoodClock (component_of master.now) }
+    requires named { IsInEventDates instant }
     requires not_excepted { Contains master.now.exceptions.items instant → ⊥ }
-    ensures { IsTrue result ↔ IsOnRule (event_of master.now) instant }
+    ensures { IsTrue result ↔ IsOnRule (component_of master.now) instant }
 {
     if master.rule.is_none() {
         return false;

@@ -2,7 +2,7 @@
 //! instant are dropped, the others sorted by start, and then only neighbours are compared.
 ghost use Rattle.std.specs.Prelude.{◌≡◌, length, IfOk, IfNone, IfSome};
 ghost use Rattle.std.specs.List.{AllAdjacentBelow};
-ghost use Rattle.cal_events.specs.Sweep.{IsOverlap, AreApart, AreNeighbours, placed_from, EndsBefore};
+ghost use Rattle.cal_events.specs.Sweep.{IsOverlap, AreSpansApart, AreNeighbours, placed_from, IsOverBefore};
 
 use crate::instance::HORIZON;
 use std::alloc::{AllocError, Global};
@@ -35,7 +35,7 @@ struct Placed {
 /// n log n. Fails only when out of memory.
 pub fn first_overlap(alloc: Global, spans: &[Span]) -> Result<Option<Overlap>, AllocError>
     ensures found { IfOk result (λ r. IfSome r (IsOverlap spans.now)) }
-    ensures none { IfOk result (λ r. IfNone r (AreApart spans.now)) }
+    ensures none { IfOk result (λ r. IfNone r (AreSpansApart spans.now)) }
 {
     let mut placed = placed_spans(alloc, spans)?;
     placed.sort_unstable_by_key(|span| span.start);
@@ -62,7 +62,7 @@ fn placed_spans(alloc: Global, spans: &[Span]) -> Result<Vec<Placed>, AllocError
 /// The first two neighbours of which the second starts before the first has ended.
 fn overlap_of_neighbours(sorted: &[Placed]) -> Option<Overlap>
     ensures found { IfSome result (AreNeighbours sorted.now) }
-    ensures none { IfNone result (AllAdjacentBelow EndsBefore sorted.now (length sorted.now)) }
+    ensures none { IfNone result (AllAdjacentBelow IsOverBefore sorted.now (length sorted.now)) }
 {
     for next in 1..sorted.len() {
         let earlier = sorted[next - 1];

@@ -16,11 +16,11 @@ pub(crate) struct Texts {
 
 impl Model for Texts {
     ghost use Rattle.std.specs.Prelude.{◌≡◌, ℕ, List, true, string_bytes};
-    ghost use Rattle.cal_events.specs.Texts.{pieces, are_pieces};
+    ghost use Rattle.cal_events.specs.Texts.{pieces_between, are_pieces};
 
     ghost Value = { List (List ℕ) };
 
-    ghost view = { λ texts. pieces (string_bytes texts.joined) 0 texts.ends.items };
+    ghost view = { λ texts. pieces_between (string_bytes texts.joined) 0 texts.ends.items };
 
     ghost invariant = { λ texts. are_pieces (string_bytes texts.joined) 0 texts.ends.items ≡ true };
 }

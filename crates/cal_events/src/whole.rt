@@ -1,8 +1,8 @@
 //! What the instances of an event are when they are taken to their end.
 
 ghost use Rattle.std.specs.Prelude.{ℕ, List, Contains, ℤ, ◌≡◌, ◌↔◌, ◌≤ℤ◌};
-ghost use Rattle.profile.specs.checker.Instances.{Booked};
-ghost use Rattle.profile.specs.events.Meetings.{SpellsMeeting};
+ghost use Rattle.profile.specs.checker.Instances.{Instance};
+ghost use Rattle.profile.specs.events.Events.{SpellsEvent};
 ghost use Rattle.profile.specs.events.Starts.{IsInstance, AreInstancesFrom};
 ghost use Rattle.cal_events.specs.GivenWhole.{GivesAll};
 ghost use Rattle.cal_events.specs.Left.{IsLeft};
@@ -15,8 +15,8 @@ use crate::event::one_instance;
 
 /// `Series::starts` gives all starts of a series at an instant or later, ascending, each once, if it is taken to its end.
 pub fn all_starts()
-    ensures { (series : Series) (from : ℤ) (instances : Instances) (all : List Booked) → said_meeting instances.event.now ≡ series_said series
-        → ((b : Booked) → IsLeft instances b ↔ (IsInstance (series_said series) b × (from ≤ℤ b.start)))
+    ensures { (series : Series) (from : ℤ) (instances : Instances) (all : List Instance) → said_meeting instances.event.now ≡ series_said series
+        → ((b : Instance) → IsLeft instances b ↔ (IsInstance (series_said series) b × (from ≤ℤ b.start)))
         → GivesAll instances all → AreInstancesFrom (series_said series) from all }
 {}
 
@@ -27,14 +27,14 @@ pub fn known_by_start()
 
 /// All instances of a series are the elements of some list: they start before year 10000.
 pub fn listed_series()
-    ensures { (series : Series) → (all : List Booked) × ((b : Booked) → Contains all b ↔ IsInstance (series_said series) b) }
+    ensures { (series : Series) → (all : List Instance) × ((b : Instance) → Contains all b ↔ IsInstance (series_said series) b) }
 {}
 
 /// Of an event that octets spell, `Event::instances` gives all instances that start at an instant or later, by start and then by slot, each
 /// once, if it is taken to its end.
 pub fn all_instances()
-    ensures { (octets : List ℕ) (from : ℤ) (instances : Instances) (all : List Booked) → SpellsMeeting octets (said_meeting instances.event.now)
-        → ((b : Booked) → IsLeft instances b ↔ (IsInstance (said_meeting instances.event.now) b × (from ≤ℤ b.start)))
+    ensures { (octets : List ℕ) (from : ℤ) (instances : Instances) (all : List Instance) → SpellsEvent octets (said_meeting instances.event.now)
+        → ((b : Instance) → IsLeft instances b ↔ (IsInstance (said_meeting instances.event.now) b × (from ≤ℤ b.start)))
         → GivesAll instances all → AreInstancesFrom (said_meeting instances.event.now) from all }
 {
     one_instance();

@@ -13,7 +13,7 @@ ghost use Rattle.cal_events.specs.Zones.{object_of, AreRead};
 ghost use Rattle.cal_events.specs.Events.{zone_said};
 
 use crate::component::{TimeKind, is_date, kind_of, read_time};
-use crate::zones::Zones;
+use crate::zones::ZonesOfObject;
 use cal_zones::{Zone, one_zone};
 use ical_lines::{Line, Refusal};
 use ical_values::local_time::one_local_time;
@@ -33,7 +33,7 @@ impl ZonedTime {
     /// Refused without TZID: 10, 11, 55 and 56, as a UTC time is.
     /// Refused with TZID: 11 for a text that isn't a local time, also where it ends in `Z`, 55 for a date, 56 where VALUE
     /// is PERIOD; 43 where no VTIMEZONE of the object has that name; 11, 13 and 40 to 42 for the first that has it.
-    pub(crate) fn read(line: Line<'_>, zones: &Zones<'_, '_>) -> Result<ZonedTime, Refusal>
+    pub(crate) fn read(line: Line<'_>, zones: &ZonesOfObject<'_, '_>) -> Result<ZonedTime, Refusal>
         requires zones { AreRead zones.now }
         ensures says { IfOk result (λ t. SaysZonedTime (object_of zones.now) (line_text line.entry) (zone_said t) t.local) }
         ensures fault { IfErr result (λ e. ZonedTimeFault (object_of zones.now) (line_text line.entry) e.number) }
@@ -45,7 +45,7 @@ impl ZonedTime {
     pub(crate) fn read_text(
         line: Line<'_>,
         text: &str,
-        zones: &Zones<'_, '_>,
+        zones: &ZonesOfObject<'_, '_>,
     ) -> Result<ZonedTime, Refusal>
         requires zones { AreRead zones.now }
         ensures says { IfOk result (λ t. SaysZonedText (object_of zones.now) (line_text line.entry) text.now (zone_said t) t.local) }
@@ -135,7 +135,7 @@ fn read_in_zone(
     line: Line<'_>,
     text: &str,
     name: &str,
-    zones: &Zones<'_, '_>,
+    zones: &ZonesOfObject<'_, '_>,
 ) -> Result<ZonedTime, Refusal>
     requires zones { AreRead zones.now }
     ensures says { IfOk result (λ t. (time_kind (line_text line.entry) ≡ DateTime)

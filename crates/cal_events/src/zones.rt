@@ -8,7 +8,7 @@ ghost use Rattle.ical_tree.specs.declared.component.Component.{Component};
 ghost use Rattle.profile.specs.events.Properties.{is_of};
 ghost use Rattle.profile.specs.events.ZonedTimes.{zone_named, SaysZoneOf, NamedFault};
 ghost use Rattle.cal_zones.specs.Kinds.{zone_of};
-ghost use Rattle.cal_events.specs.Zones.{AreZonesAmong, IsZoneRead, name_said, object_of, AreRead};
+ghost use Rattle.cal_events.specs.Zones.{AreZonesAmong, IsZoneRead, zone_name_said, object_of, AreRead};
 
 use cal_zones::Zone;
 use ical_lines::{Fault, Line, Refusal};
@@ -23,14 +23,17 @@ type ByName = IndexMap<String, Result<Zone, Refusal>>;
 /// The VTIMEZONEs of an object.
 // What they say is beside it as a premise and not as an invariant: that a zone is said can hold in several ways.
 #[derive(Drop)]
-pub(crate) struct Zones<'c, 'a> {
+pub(crate) struct ZonesOfObject<'c, 'a> {
     object: &'c Component<'a>,
     by_name: ByName,
 }
 
-impl<'c, 'a> Zones<'c, 'a> {
+impl<'c, 'a> ZonesOfObject<'c, 'a> {
     /// The VTIMEZONEs directly inside an object. It fails only when out of memory.
-    pub(crate) fn of(alloc: Global, object: &'c Component<'a>) -> Result<Zones<'c, 'a>, AllocError>
+    pub(crate) fn of(
+        alloc: Global,
+        object: &'c Component<'a>,
+    ) -> Result<ZonesOfObject<'c, 'a>, AllocError>
         ensures object { IfOk result (λ zones. zones.object.now ≡ object.now) }
         ensures read { IfOk result AreRead }
     {
@@ -38,7 +41,7 @@ impl<'c, 'a> Zones<'c, 'a> {
         for child in object.children() {
             add_zone(alloc, &mut by_name, child)?;
         }
-        Ok(Zones { object, by_name })
+        Ok(ZonesOfObject { object, by_name })
     }
 
     /// The zone that a name means: what the first VTIMEZONE of that name says. Names are compared octet by octet.
@@ -73,7 +76,7 @@ fn add_zone(alloc: Global, by_name: &mut ByName, component: &Component) -> Resul
 
 /// The name of a VTIMEZONE: its first TZID, a text with escapes. None for another component.
 fn zone_name(alloc: Global, component: &Component) -> Result<Option<String>, AllocError>
-    ensures { IfOk result (λ name. option_map string_bytes name ≡ name_said component.now) }
+    ensures { IfOk result (λ name. option_map string_bytes name ≡ zone_name_said component.now) }
 {
     if !component.is_named("VTIMEZONE") {
         return Ok(None);

@@ -3,14 +3,14 @@ use Rattle.std.proofs.Common.{◌≡◌, ◌∙◌, ap, refl, inl, inr, ℕ, zer
 use Rattle.std.specs.Prelude.{Contains, AllPairs, count_by, int_lt}
 use Rattle.std.proofs.lemmas.Int.{ints}
 use Rattle.std.proofs.lemmas.List.Sums.{sum_by-cons}
-use Rattle.profile.specs.checker.Instances.{Booked}
-use Rattle.profile.specs.events.Meetings.{Meeting}
+use Rattle.profile.specs.checker.Instances.{Instance}
+use Rattle.profile.specs.events.Events.{Event}
 use Rattle.profile.specs.events.Starts.{IsInstance, ComesBefore}
 use Rattle.cal_events.specs.SaidSeries.{AreKnownByStart}
 use Rattle.cal_events.proofs.InOneOrder.{later, none_in, head_pairs, tail_pairs}
 
-abbrev pub count_before : ℤ → List Booked → ℕ
-count_before t xs = count_by (λ (b : Booked). int_lt b.start t) xs
+abbrev pub count_before : ℤ → List Instance → ℕ
+count_before t xs = count_by (λ (b : Instance). int_lt b.start t) xs
 
 true_before : (x t : ℤ) → x <ℤ t → int_lt x t ≡ true
 true_before x t h = grind (arith, ints)
@@ -18,41 +18,41 @@ true_before x t h = grind (arith, ints)
 false_from : (x t : ℤ) → t ≤ℤ x → int_lt x t ≡ false
 false_from x t h = grind (arith, ints)
 
-with_first : (t : ℤ) (x : Booked) (xs : List Booked) → count_before t (x ∷ xs) ≡ cond (int_lt x.start t) 1 0 + count_before t xs
-with_first t x xs = sum_by-cons (λ (b : Booked). cond (int_lt b.start t) 1 0) x xs
+with_first : (t : ℤ) (x : Instance) (xs : List Instance) → count_before t (x ∷ xs) ≡ cond (int_lt x.start t) 1 0 + count_before t xs
+with_first t x xs = sum_by-cons (λ (b : Instance). cond (int_lt b.start t) 1 0) x xs
 
-one_more : (t : ℤ) (x : Booked) (xs : List Booked) → x.start <ℤ t → count_before t (x ∷ xs) ≡ count_before t xs + 1
+one_more : (t : ℤ) (x : Instance) (xs : List Instance) → x.start <ℤ t → count_before t (x ∷ xs) ≡ count_before t xs + 1
 one_more t x xs h =
     let e = with_first t x xs ∙ ap (λ (v : Bool). cond v 1 0 + count_before t xs) (true_before x.start t h) in omega (arith, e)
 
-no_more : (t : ℤ) (x : Booked) (xs : List Booked) → t ≤ℤ x.start → count_before t (x ∷ xs) ≡ count_before t xs
+no_more : (t : ℤ) (x : Instance) (xs : List Instance) → t ≤ℤ x.start → count_before t (x ∷ xs) ≡ count_before t xs
 no_more t x xs h =
     let e = with_first t x xs ∙ ap (λ (v : Bool). cond v 1 0 + count_before t xs) (false_from x.start t h) in omega (arith, e)
 
-pub count_none : (t : ℤ) (xs : List Booked) → ((y : Booked) → Contains xs y → t ≤ℤ y.start) → count_before t xs ≡ 0
+pub count_none : (t : ℤ) (xs : List Instance) → ((y : Instance) → Contains xs y → t ≤ℤ y.start) → count_before t xs ≡ 0
 count_none t [] h = refl
 count_none t (x ∷ xs) h = no_more t x xs (h x (zero, omega arith, refl)) ∙ count_none t xs (λ y c. h y (later x y xs c))
 
-pub count_all : (t : ℤ) (xs : List Booked) → ((y : Booked) → Contains xs y → y.start <ℤ t) → count_before t xs ≡ length xs
+pub count_all : (t : ℤ) (xs : List Instance) → ((y : Instance) → Contains xs y → y.start <ℤ t) → count_before t xs ≡ length xs
 count_all t [] h = refl
 count_all t (x ∷ xs) h =
     let a = one_more t x xs (h x (zero, omega arith, refl)) in
     let b = count_all t xs (λ y c. h y (later x y xs c)) in
     omega (arith, a, b)
 
-module _ (series : Meeting) (known : AreKnownByStart series) where
+module _ (series : Event) (known : AreKnownByStart series) where
   -- one that comes before another starts earlier
-  pub earlier : (a b : Booked) → IsInstance series a → IsInstance series b → ComesBefore a b → a.start <ℤ b.start
+  pub earlier : (a b : Instance) → IsInstance series a → IsInstance series b → ComesBefore a b → a.start <ℤ b.start
   earlier a b h k (inl l) = l
   earlier a b h k (inr (same, l)) = absurd (omega (arith, ints, known.slots a h, known.slots b k, same, l))
 
   -- past the one that starts there it is one more
-  pub count_past : (p q : ℤ) (i : Booked) (xs : List Booked) → i.start ≡ p → p <ℤ q → ((b : Booked) → IsInstance series b → p <ℤ b.start → q ≤ℤ b.start) → ((y : Booked) → Contains xs y → IsInstance series y)
+  pub count_past : (p q : ℤ) (i : Instance) (xs : List Instance) → i.start ≡ p → p <ℤ q → ((b : Instance) → IsInstance series b → p <ℤ b.start → q ≤ℤ b.start) → ((y : Instance) → Contains xs y → IsInstance series y)
       → AllPairs ComesBefore xs → Contains xs i → count_before q xs ≡ count_before p xs + 1
   count_past p q i [] at further none each ordered c = absurd (none_in i c)
   count_past p q i (x ∷ xs) at further none each ordered (zero, w, e) =
-      let start : x.start ≡ p = ap (λ (b : Booked). b.start) e ∙ at in
-      let after = λ (y : Booked) (c : Contains xs y). earlier x y (each x (zero, omega arith, refl)) (each y (later x y xs c)) (head_pairs ComesBefore x y xs ordered c) in
+      let start : x.start ≡ p = ap (λ (b : Instance). b.start) e ∙ at in
+      let after = λ (y : Instance) (c : Contains xs y). earlier x y (each x (zero, omega arith, refl)) (each y (later x y xs c)) (head_pairs ComesBefore x y xs ordered c) in
       let a = one_more q x xs (omega (arith, ints, start, further)) in
       let b = no_more p x xs (omega (arith, ints, start)) in
       let c = count_none q xs (λ y c. none y (each y (later x y xs c)) (omega (arith, ints, start, after y c))) in

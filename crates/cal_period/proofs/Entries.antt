@@ -4,14 +4,14 @@ use Rattle.std.specs.Prelude.{Some, None, option_map, ◌↔◌}
 use Rattle.std.specs.Int.{saturate_signed, int_max}
 use Rattle.std.proofs.lemmas.Bool.{cases_lt}
 use Rattle.std.proofs.lemmas.Int.{ints, by_lt_z}
-use Rattle.profile.specs.checker.Instances.{Booked, horizon}
+use Rattle.profile.specs.checker.Instances.{Instance as SaidInstance, horizon}
 use Rattle.profile.specs.series.Zones.{Zone, Means, IsBounds}
 use Rattle.profile.specs.events.ZonedTimes.{EventTimes, clock_of}
-use Rattle.profile.specs.events.Events.{Event as Said}
-use Rattle.profile.specs.events.Meetings.{Meeting}
+use Rattle.profile.specs.events.EventComponents.{EventComponent as Said}
+use Rattle.profile.specs.events.Events.{Event as SaidEvent}
 use Rattle.profile.specs.events.Starts.{IsInstance, EndsAt, IsWidth}
 use Rattle.cal_events.specs.Calendars.{instance_of}
-use Rattle.cal_events.specs.Events.{event_of}
+use Rattle.cal_events.specs.Events.{component_of}
 use Rattle.cal_events.specs.Left.{IsLeft, GivesFirst}
 use Rattle.cal_events.specs.SaidSeries.{series_said, IsMasterOf, AreKnownByStart}
 use Rattle.cal_events.specs.declared.instance.Instance.{Instance}
@@ -44,15 +44,15 @@ no_less times n (inl (none, is)) = omega (arith, ints, is)
 no_less times n (inr (some, (least, greatest, b, is))) = omega (arith, ints, b.ordered, is)
 
 module _ (series : Series) (n : ℤ) (width : (master : Said) → IsMasterOf (series_said series) master → IsWidth master.times n) where
-  its_width : (master : Said) × (((b : Booked) → IsInstance (series_said series) b → EndsAt master.times b.start b.end) × IsWidth master.times n)
+  its_width : (master : Said) × (((b : SaidInstance) → IsInstance (series_said series) b → EndsAt master.times b.start b.end) × IsWidth master.times n)
   its_width =
       let m = some_there series.event.master series.ruled.0 in
       let is = alone_said series.event series.ruled.1.1 m.0 m.1 in (
-        event_of m.0,
-        ((λ b h. (at_start (event_of m.0) b (subst (λ (w : Meeting). IsInstance w b) is h)).ends), width (event_of m.0) (ap (option_map event_of) m.1)),
+        component_of m.0,
+        ((λ b h. (at_start (component_of m.0) b (subst (λ (w : SaidEvent). IsInstance w b) is h)).ends), width (component_of m.0) (ap (option_map component_of) m.1)),
       )
 
-  pub series_lasts : (b : Booked) → IsInstance (series_said series) b → b.end ≤ℤ (b.start +ℤ n)
+  pub series_lasts : (b : SaidInstance) → IsInstance (series_said series) b → b.end ≤ℤ (b.start +ℤ n)
   series_lasts b is = within_width its_width.0.times n its_width.1.1 b.start b.end (its_width.1.0 b is)
 
   pub is_length : pos 0 ≤ℤ n
@@ -64,7 +64,7 @@ saturated : (z : ℤ) → (saturate_signed w64 z ≤ℤ z) ⊎ (saturate_signed 
 saturated (pos n) = inl (omega (arith, ints))
 saturated (negsuc n) = elim (cases_lt n 9_223_372_036_854_775_808) [ inl below ↦ inl (omega (arith, ints, below)) | inr from ↦ inr (omega (arith, ints, from)) ]
 
-pub entry_is : (series : Meeting) (by n entry : ℤ) → AreKnownByStart series → negsuc 9_223_372_036_854_775_807 ≤ℤ by → pos 0 ≤ℤ n → ((b : Booked) → IsInstance series b → b.end ≤ℤ (b.start +ℤ n))
+pub entry_is : (series : SaidEvent) (by n entry : ℤ) → AreKnownByStart series → negsuc 9_223_372_036_854_775_807 ≤ℤ by → pos 0 ≤ℤ n → ((b : SaidInstance) → IsInstance series b → b.end ≤ℤ (b.start +ℤ n))
     → entry ≡ saturate_signed w64 (by -ℤ n) → IsEntry series by entry
 entry_is series by n entry known fits length last is =
     elim (saturated (by -ℤ n)) [
@@ -72,23 +72,23 @@ entry_is series by n entry known fits length last is =
       | inr at ↦ (omega (arith, ints, at, is, fits), λ b h l. let d = (known.dates b h).0 in absurd (omega (arith, ints, at, is, l, d)))
     ]
 
-pub entered : (series : Meeting) (by entry : ℤ) (left : Instances) → by <ℤ horizon → IsEntry series by entry → ((b : Booked) → IsLeft left b ↔ (IsInstance series b × (entry ≤ℤ b.start))) → AreLeftFrom series by entry left
+pub entered : (series : SaidEvent) (by entry : ℤ) (left : Instances) → by <ℤ horizon → IsEntry series by entry → ((b : SaidInstance) → IsLeft left b ↔ (IsInstance series b × (entry ≤ℤ b.start))) → AreLeftFrom series by entry left
 entered series by entry left before is others = record { early = omega (arith, ints, before, is.0); before = is.1; others = others }
 
 -- ---- the first starts
 
-pub first_at : (series : Meeting) (old new : Instances) (first : Instance) → AreKnownByStart series → AreAllLeft series old → GivesFirst old (Some first) new → IsFirstStart series (Some first.start)
+pub first_at : (series : SaidEvent) (old new : Instances) (first : Instance) → AreKnownByStart series → AreAllLeft series old → GivesFirst old (Some first) new → IsFirstStart series (Some first.start)
 first_at series old new first known all given =
     let at = at_first series old new (Some first) known all given in
     ((λ b is. not_less first.start b.start (λ less. at.none b (is, less))), (instance_of first, at.is_walk.ahead.is, refl))
 
-pub none_at : (series : Meeting) (old new : Instances) → AreKnownByStart series → AreAllLeft series old → GivesFirst old None new → IsFirstStart series None
+pub none_at : (series : SaidEvent) (old new : Instances) → AreKnownByStart series → AreAllLeft series old → GivesFirst old None new → IsFirstStart series None
 none_at series old new known all given b is = given.1.0 b ((all b).1 is)
 
-begins_early : (series : Meeting) (t : ℤ) → AreKnownByStart series → IsFirstStart series (Some t) → t <ℤ horizon
+begins_early : (series : SaidEvent) (t : ℤ) → AreKnownByStart series → IsFirstStart series (Some t) → t <ℤ horizon
 begins_early series t known (none, (b, is, at)) = let d = (known.dates b is).1 in omega (arith, ints, d, at)
 
-pub later_start : (a b : Meeting) (s t m : ℤ) → AreKnownByStart a → AreKnownByStart b → IsFirstStart a (Some s) → IsFirstStart b (Some t) → m ≡ int_max s t → MeetFrom a b m
+pub later_start : (a b : SaidEvent) (s t m : ℤ) → AreKnownByStart a → AreKnownByStart b → IsFirstStart a (Some s) → IsFirstStart b (Some t) → m ≡ int_max s t → MeetFrom a b m
 later_start a b s t m known_a known_b f g is =
     by_lt_z t s
     (λ l. let e : m ≡ s = grind (arith, ints, is, l) in let d = begins_early a s known_a f in record { before = omega (arith, ints, e, d); begins = inl (λ x h. let n = f.0 x h in omega (arith, ints, e, n)) })

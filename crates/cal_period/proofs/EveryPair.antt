@@ -6,15 +6,15 @@ use Rattle.std.proofs.lemmas.Bool.{cases_lt}
 use Rattle.std.proofs.lemmas.Bool.Decides.{nat_tests}
 use Rattle.std.proofs.lemmas.Option.{same_Some, slice_get-get_or, slice_get-map}
 use Rattle.profile.specs.checker.Instances as instances
-use Rattle.profile.specs.checker.Instances.{Booked, AreClashing}
+use Rattle.profile.specs.checker.Instances.{Instance as SaidInstance, AreClashing}
 use Rattle.profile.specs.events.Properties.{first_second}
-use Rattle.profile.specs.events.Meetings.{Meeting}
+use Rattle.profile.specs.events.Events.{Event}
 use Rattle.profile.specs.events.Starts.{IsInstance, AreInstancesFrom}
 use Rattle.cal_events.specs.Calendars.{instance_of}
 use Rattle.cal_events.specs.SaidSeries.{series_said}
 use Rattle.cal_events.specs.declared.instance.Instance.{Instance}
 use Rattle.cal_events.specs.declared.series.Series.{Series}
-use Rattle.cal_period.specs.Clear.{AreClear, IsClear, ArePair, AreTwo}
+use Rattle.cal_period.specs.Clear.{AreSeriesClear, IsSeriesClear, ArePair, AreTwo}
 use Rattle.cal_period.specs.Swept.{IsPairSwept, IsAloneSwept, ArePairDrawn, AreAloneDrawn}
 use Rattle.cal_period.specs.Every.{IsPairClear, PairShares, IsAtSwept, IsRowClear, IsFoundInRow, IsFound, AreLists, pair_count, row_count, pairs_count, IsDrawn, IsAtDrawn}
 use Rattle.cal_period.specs.declared.sweep.Swept.{Swept}
@@ -49,17 +49,17 @@ pub said_at : (xs : List Series) (i : ℕ) (s : Series) → i < length xs → s 
 said_at xs i s w e = slice_get-map series_said xs i ∙ ap (option_map series_said) (slice_get-get_or xs i s w ∙ ap Some (sym e))
 
 -- two series are clear
-pub clear_pair : (a b : Meeting) → AreClear a b → instances.AreClear (IsInstance a) (IsInstance b)
+pub clear_pair : (a b : Event) → AreSeriesClear a b → instances.AreClear (IsInstance a) (IsInstance b)
 clear_pair a b clear x y t h k c = clear x y h k (record { instant = t; before = c.before; in_first = c.in_first; in_second = c.in_second })
 
-pub clear_alone : (a : Meeting) → IsClear a → instances.AreClear (IsInstance a) (IsInstance a)
+pub clear_alone : (a : Event) → IsSeriesClear a → instances.AreClear (IsInstance a) (IsInstance a)
 clear_alone a clear x y t h k c = clear x y h k c.differ (record { instant = t; before = c.before; in_first = c.in_first; in_second = c.in_second })
 
-module _ (all : List Meeting) (i j : ℕ) where
-  pub at_pair : (a b : Meeting) (swept : Swept) → slice_get all i ≡ Some a → slice_get all j ≡ Some b → (i ≡ j → ⊥) → IsPairSwept a b swept → IsAtSwept all i j swept
+module _ (all : List Event) (i j : ℕ) where
+  pub at_pair : (a b : Event) (swept : Swept) → slice_get all i ≡ Some a → slice_get all j ≡ Some b → (i ≡ j → ⊥) → IsPairSwept a b swept → IsAtSwept all i j swept
   at_pair a b swept at_i at_j apart s = go swept.shared s
     where
-      go : (o : Option (Instance × Instance)) → MatchOption o (AreClear a b) (λ p. ArePair a b (instance_of p.0) (instance_of p.1))
+      go : (o : Option (Instance × Instance)) → MatchOption o (AreSeriesClear a b) (λ p. ArePair a b (instance_of p.0) (instance_of p.1))
           → MatchOption o (IsPairClear all i j) (λ p. PairShares all i j (instance_of p.0) (instance_of p.1))
       go None clear = λ c d e f.
           let same : a ≡ c = same_Some a c (sym at_i ∙ e) in
@@ -67,13 +67,13 @@ module _ (all : List Meeting) (i j : ℕ) where
           subst (λ m. instances.AreClear (IsInstance m) (IsInstance d)) same (subst (λ m. instances.AreClear (IsInstance a) (IsInstance m)) same' (clear_pair a b clear))
       go (Some p) is = record { a = a; b = b; at_first = at_i; at_second = at_j; first = is.first; second = is.second; differ = λ e. absurd (apart e); shared = is.shared }
 
-  pub at_alone : (a : Meeting) (swept : Swept) → slice_get all i ≡ Some a → i ≡ j → IsAloneSwept a swept → IsAtSwept all i j swept
+  pub at_alone : (a : Event) (swept : Swept) → slice_get all i ≡ Some a → i ≡ j → IsAloneSwept a swept → IsAtSwept all i j swept
   at_alone a swept at_i same s = go swept.shared s
     where
       at_j : slice_get all j ≡ Some a
       at_j = sym (ap (slice_get all) same) ∙ at_i
 
-      go : (o : Option (Instance × Instance)) → MatchOption o (IsClear a) (λ p. AreTwo a (instance_of p.0) (instance_of p.1))
+      go : (o : Option (Instance × Instance)) → MatchOption o (IsSeriesClear a) (λ p. AreTwo a (instance_of p.0) (instance_of p.1))
           → MatchOption o (IsPairClear all i j) (λ p. PairShares all i j (instance_of p.0) (instance_of p.1))
       go None clear = λ c d e f.
           let one : a ≡ c = same_Some a c (sym at_i ∙ e) in
@@ -83,39 +83,39 @@ module _ (all : List Meeting) (i j : ℕ) where
 
 -- ---- a row
 
-pub row_start : (all : List Meeting) (i : ℕ) → IsRowClear all i i
+pub row_start : (all : List Event) (i : ℕ) → IsRowClear all i i
 row_start all i q l w = absurd (omega (arith, l, w))
 
-pub row_more : (all : List Meeting) (i j : ℕ) → IsRowClear all i j → IsPairClear all i j → IsRowClear all i (j + 1)
+pub row_more : (all : List Event) (i j : ℕ) → IsRowClear all i j → IsPairClear all i j → IsRowClear all i (j + 1)
 row_more all i j clear more q l w =
     elim (cases_lt q j) [
       | inl before ↦ clear q l before
       | inr from ↦ let here : j ≡ q = omega (arith, w, from) in subst (IsPairClear all i) here more
     ]
 
-pub row_all : (all : List Meeting) (i j : ℕ) → length all ≤ j → IsRowClear all i j → IsRowClear all i (length all)
+pub row_all : (all : List Event) (i j : ℕ) → length all ≤ j → IsRowClear all i j → IsRowClear all i (length all)
 row_all all i j past clear q l w = clear q l (omega (arith, w, past))
 
 -- ---- all rows
 
 -- the pairs of the series before a place are clear
-abbrev pub AreRowsClear : List Meeting → ℕ → Type 0
+abbrev pub AreRowsClear : List Event → ℕ → Type 0
 AreRowsClear all end = (p : ℕ) → p < end → IsRowClear all p (length all)
 
-pub rows_start : (all : List Meeting) → AreRowsClear all 0
+pub rows_start : (all : List Event) → AreRowsClear all 0
 rows_start all p w = absurd (omega (arith, w))
 
-pub rows_more : (all : List Meeting) (i : ℕ) → AreRowsClear all i → IsRowClear all i (length all) → AreRowsClear all (i + 1)
+pub rows_more : (all : List Event) (i : ℕ) → AreRowsClear all i → IsRowClear all i (length all) → AreRowsClear all (i + 1)
 rows_more all i clear more p w =
     elim (cases_lt p i) [
       | inl before ↦ clear p before
       | inr from ↦ let here : i ≡ p = omega (arith, w, from) in subst (λ k. IsRowClear all k (length all)) here more
     ]
 
-pub rows_all : (all : List Meeting) (i : ℕ) → length all ≤ i → AreRowsClear all i → (p q : ℕ) → p ≤ q → q < length all → IsPairClear all p q
+pub rows_all : (all : List Event) (i : ℕ) → length all ≤ i → AreRowsClear all i → (p q : ℕ) → p ≤ q → q < length all → IsPairClear all p q
 rows_all all i past clear p q l w = clear p (omega (arith, l, w, past)) q l w
 
-pub rows_found : (all : List Meeting) (i : ℕ) (s : Shared) → AreRowsClear all i → IsFoundInRow all i s → IsFound all s
+pub rows_found : (all : List Event) (i : ℕ) (s : Shared) → AreRowsClear all i → IsFoundInRow all i s → IsFound all s
 rows_found all i s clear f = record {
   order = subst (λ k. k ≤ s.j) (sym f.at) f.order;
   within = f.within;
@@ -161,15 +161,15 @@ pub rows_none : (counts : List ℕ) (i n : ℕ) → n ≤ i → pairs_count coun
 rows_none counts i n h = let none : n - i ≡ 0 = omega (arith, h) in ap (pairs_count counts i) none
 
 -- as many lists as series
-pub lists_long : (all : List Meeting) (lists : List (List Booked)) → AreLists all lists → length lists ≡ length all
+pub lists_long : (all : List Event) (lists : List (List SaidInstance)) → AreLists all lists → length lists ≡ length all
 lists_long [] [] z = refl
 lists_long [] (l ∷ ls) z = absurd z
 lists_long (a ∷ all) [] z = absurd z
 lists_long (a ∷ all) (l ∷ ls) z = ap (λ n. suc n) (lists_long all ls z.1)
 
 -- the list of the series at a place
-pub list_at : (all : List Meeting) (lists : List (List Booked)) (i : ℕ) (a : Meeting) → AreLists all lists → slice_get all i ≡ Some a
-    → (list : List Booked) × AreInstancesFrom a first_second list × (get_or (map length lists) i 0 ≡ length list)
+pub list_at : (all : List Event) (lists : List (List SaidInstance)) (i : ℕ) (a : Event) → AreLists all lists → slice_get all i ≡ Some a
+    → (list : List SaidInstance) × AreInstancesFrom a first_second list × (get_or (map length lists) i 0 ≡ length list)
 list_at [] lists i a z e = absurd (nothing e)
   where
     nothing : {X : Type 0} {x : X} → None ≡ Some x → ⊥
@@ -178,8 +178,8 @@ list_at (b ∷ all) [] i a z e = absurd z
 list_at (b ∷ all) (l ∷ ls) zero a z e = (l, subst (λ m. AreInstancesFrom m first_second l) (same_Some b a e) z.0, refl)
 list_at (b ∷ all) (l ∷ ls) (suc i) a z e = list_at all ls i a z.1 e
 
-module _ (all : List Meeting) (i j : ℕ) where
-  pub drawn_pair : (a b : Meeting) (swept : Swept) → slice_get all i ≡ Some a → slice_get all j ≡ Some b → (i ≡ j → ⊥) → ArePairDrawn a b swept → IsAtDrawn all i j swept
+module _ (all : List Event) (i j : ℕ) where
+  pub drawn_pair : (a b : Event) (swept : Swept) → slice_get all i ≡ Some a → slice_get all j ≡ Some b → (i ≡ j → ⊥) → ArePairDrawn a b swept → IsAtDrawn all i j swept
   drawn_pair a b swept at_i at_j apart d lists z =
       let x = list_at all lists i a z at_i in
       let y = list_at all lists j b z at_j in
@@ -188,21 +188,21 @@ module _ (all : List Meeting) (i j : ℕ) where
       ∙ ap (λ n. n + get_or (map length lists) j 0) x.2 ∙ ap (λ n. length x.0 + n) y.2) in
       subst (IsDrawn swept.shared swept.drawn) count (go swept.shared d x.0 y.0 x.1 y.1)
     where
-      go : (o : Option (Instance × Instance)) → MatchOption o ((xs ys : List Booked) → AreInstancesFrom a first_second xs → AreInstancesFrom b first_second ys → swept.drawn ≡ min (length xs + length ys) 18446744073709551615)
-          (λ _. (xs ys : List Booked) → AreInstancesFrom a first_second xs → AreInstancesFrom b first_second ys → swept.drawn ≤ length xs + length ys)
-          → (xs ys : List Booked) → AreInstancesFrom a first_second xs → AreInstancesFrom b first_second ys → IsDrawn o swept.drawn (length xs + length ys)
+      go : (o : Option (Instance × Instance)) → MatchOption o ((xs ys : List SaidInstance) → AreInstancesFrom a first_second xs → AreInstancesFrom b first_second ys → swept.drawn ≡ min (length xs + length ys) 18446744073709551615)
+          (λ _. (xs ys : List SaidInstance) → AreInstancesFrom a first_second xs → AreInstancesFrom b first_second ys → swept.drawn ≤ length xs + length ys)
+          → (xs ys : List SaidInstance) → AreInstancesFrom a first_second xs → AreInstancesFrom b first_second ys → IsDrawn o swept.drawn (length xs + length ys)
       go None f xs ys h k = f xs ys h k
       go (Some p) f xs ys h k = f xs ys h k
 
-  pub drawn_alone : (a : Meeting) (swept : Swept) → slice_get all i ≡ Some a → i ≡ j → AreAloneDrawn a swept → IsAtDrawn all i j swept
+  pub drawn_alone : (a : Event) (swept : Swept) → slice_get all i ≡ Some a → i ≡ j → AreAloneDrawn a swept → IsAtDrawn all i j swept
   drawn_alone a swept at_i same d lists z =
       let x = list_at all lists i a z at_i in
       let count : length x.0 ≡ pair_count (map length lists) i j =
       sym (ap (λ (k : Bool). cond k (get_or (map length lists) i 0) (get_or (map length lists) i 0 + get_or (map length lists) j 0)) (one_place i j same) ∙ x.2) in
       subst (IsDrawn swept.shared swept.drawn) count (go swept.shared d x.0 x.1)
     where
-      go : (o : Option (Instance × Instance)) → MatchOption o ((xs : List Booked) → AreInstancesFrom a first_second xs → swept.drawn ≡ min (length xs) 18446744073709551615)
-          (λ _. (xs : List Booked) → AreInstancesFrom a first_second xs → swept.drawn ≤ length xs)
-          → (xs : List Booked) → AreInstancesFrom a first_second xs → IsDrawn o swept.drawn (length xs)
+      go : (o : Option (Instance × Instance)) → MatchOption o ((xs : List SaidInstance) → AreInstancesFrom a first_second xs → swept.drawn ≡ min (length xs) 18446744073709551615)
+          (λ _. (xs : List SaidInstance) → AreInstancesFrom a first_second xs → swept.drawn ≤ length xs)
+          → (xs : List SaidInstance) → AreInstancesFrom a first_second xs → IsDrawn o swept.drawn (length xs)
       go None f xs h = f xs h
       go (Some p) f xs h = f xs h

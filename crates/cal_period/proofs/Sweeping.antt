@@ -4,9 +4,9 @@ use Rattle.std.specs.Prelude.{Option, Some, None, ◌↔◌, IfSome, int_lt, int
 use Rattle.std.proofs.lemmas.Int.{ints}
 use Rattle.std.proofs.lemmas.List.Elements.{All-contains}
 use Rattle.std.proofs.lemmas.List.Sums.{count_by-le-length}
-use Rattle.profile.specs.checker.Instances.{Booked, horizon}
+use Rattle.profile.specs.checker.Instances.{Instance as SaidInstance, horizon}
 use Rattle.profile.specs.events.Properties.{first_second}
-use Rattle.profile.specs.events.Meetings.{Meeting}
+use Rattle.profile.specs.events.Events.{Event}
 use Rattle.profile.specs.events.Starts.{IsInstance, SharesInstant}
 use Rattle.cal_events.specs.Calendars.{instance_of}
 use Rattle.cal_events.specs.Left.{IsLeft}
@@ -15,19 +15,19 @@ use Rattle.cal_events.specs.declared.instance.Instance.{Instance}
 use Rattle.cal_events.specs.declared.instances.Instances.{Instances}
 use Rattle.cal_period.specs.Clear.{ShareStart}
 use Rattle.cal_period.specs.Swept.{IsCountOf, IsAtMost}
-use Rattle.cal_period.specs.Walks.{place_of, AreAllLeft, IsAhead, IsBehind, IsLast, IsWalkOf, MeetsNone}
+use Rattle.cal_period.specs.Walks.{walk_place, AreAllLeft, IsAhead, IsBehind, IsLastBehind, IsWalkOf, MeetsNone}
 use Rattle.cal_period.specs.declared.walk.Walk.{Walk}
 use Rattle.cal_period.proofs.Counts.{count_all}
 
 -- ---- two instances
 
-abbrev pub Share : Booked → Booked → Type 0
+abbrev pub Share : SaidInstance → SaidInstance → Type 0
 Share x y = SharesInstant x.start x.end y.start y.end
 
-pub turned : (x y : Booked) → Share x y → Share y x
+pub turned : (x y : SaidInstance) → Share x y → Share y x
 turned x y s = record { instant = s.instant; before = s.before; in_first = s.in_second; in_second = s.in_first }
 
-pub start_turned : (x y : Booked) → ShareStart x y → ShareStart y x
+pub start_turned : (x y : SaidInstance) → ShareStart x y → ShareStart y x
 start_turned x y s = record {
   instant = s.instant;
   starts = elim s.starts [ inl e ↦ inr e | inr e ↦ inl e ];
@@ -37,15 +37,15 @@ start_turned x y s = record {
 }
 
 -- an instance shares nothing with what is behind where it doesn't with the one that ends last
-pub meets_none : (series : Meeting) (place : ℤ) (last : Option Instance) (other : Instance) → IsLast series place last → MeetsNone last other
-    → (x : Booked) → IsBehind series place x → Share x (instance_of other) → ⊥
+pub meets_none : (series : Event) (place : ℤ) (last : Option Instance) (other : Instance) → IsLastBehind series place last → MeetsNone last other
+    → (x : SaidInstance) → IsBehind series place x → Share x (instance_of other) → ⊥
 meets_none series place None other l m x h s = l x h
 meets_none series place (Some z) other l (inl none) x h s = omega (arith, ints, none, s.in_second)
 meets_none series place (Some z) other l (inr over) x h s = omega (arith, ints, over, l.1 x h, s.in_first, s.in_second)
 
 -- and the one that ends last is behind
-pub met_behind : (series : Meeting) (place : ℤ) (last : Option Instance) (z : Instance) → IsLast series place last → last ≡ Some z → IsBehind series place (instance_of z)
-met_behind series place last z l e = (subst (IsLast series place) e l).0
+pub met_behind : (series : Event) (place : ℤ) (last : Option Instance) (z : Instance) → IsLastBehind series place last → last ≡ Some z → IsBehind series place (instance_of z)
+met_behind series place last z l e = (subst (IsLastBehind series place) e l).0
 
 pub met_start : (z other : Instance) → z.start ≤ℤ other.start → other.start <ℤ horizon → other.start <ℤ other.end → other.start <ℤ z.end → ShareStart (instance_of z) (instance_of other)
 met_start z other early before long going = record {
@@ -59,16 +59,16 @@ met_start z other early before long going = record {
 -- ---- a walk
 
 -- what the walk begins with
-pub all_left : (series : Meeting) (from : ℤ) (left : Instances) → AreKnownByStart series → from ≤ℤ first_second → ((b : Booked) → IsLeft left b ↔ (IsInstance series b × (from ≤ℤ b.start))) → AreAllLeft series left
+pub all_left : (series : Event) (from : ℤ) (left : Instances) → AreKnownByStart series → from ≤ℤ first_second → ((b : SaidInstance) → IsLeft left b ↔ (IsInstance series b × (from ≤ℤ b.start))) → AreAllLeft series left
 all_left series from left known early h b = (
   (λ l. ((h b).0 l).0),
   λ is. (h b).1 (is, let d = (known.dates b is).0 in omega (arith, ints, d, early)),
 )
 
-pub next_is : (series : Meeting) (left : Instances) (o : Option Instance) (next : Instance) → IsAhead series left o → o ≡ Some next → IsInstance series (instance_of next)
+pub next_is : (series : Event) (left : Instances) (o : Option Instance) (next : Instance) → IsAhead series left o → o ≡ Some next → IsInstance series (instance_of next)
 next_is series left o next a e = subst (λ (p : Option Instance). IfSome p (λ i. IsInstance series (instance_of i))) e a.is
 
-pub place_within : (series : Meeting) (left : Instances) (next : Option Instance) → IsAhead series left next → place_of next ≤ℤ horizon
+pub place_within : (series : Event) (left : Instances) (next : Option Instance) → IsAhead series left next → walk_place next ≤ℤ horizon
 place_within series left None a = omega (arith, ints)
 place_within series left (Some i) a = let d = (a.known.dates (instance_of i) a.is).1 in omega (arith, ints, d)
 
@@ -77,36 +77,36 @@ none_is None h = refl
 none_is (Some i) h = absurd (h i refl)
 
 -- at its end all are behind
-pub all_behind : (series : Meeting) (left : Instances) (next : Option Instance) → IsAhead series left next → horizon ≤ℤ place_of next → (x : Booked) → IsInstance series x → IsBehind series (place_of next) x
+pub all_behind : (series : Event) (left : Instances) (next : Option Instance) → IsAhead series left next → horizon ≤ℤ walk_place next → (x : SaidInstance) → IsInstance series x → IsBehind series (walk_place next) x
 all_behind series left next a far x is = (is, let d = (a.known.dates x is).1 in omega (arith, ints, d, far))
 
 -- and all are counted
-pub all_counted : (series : Meeting) (left : Instances) (walk : Walk) → IsWalkOf series left walk → horizon ≤ℤ place_of walk.next → IsCountOf series walk.count
+pub all_counted : (series : Event) (left : Instances) (walk : Walk) → IsWalkOf series left walk → horizon ≤ℤ walk_place walk.next → IsCountOf series walk.count
 all_counted series left walk s far xs are =
     let n = s.count xs are in
-    let all = count_all (place_of walk.next) xs (λ y c. (all_behind series left walk.next s.ahead far y (All-contains (λ (b : Booked). IsInstance series b × (first_second ≤ℤ b.start)) xs y are.each c).0).1) in
+    let all = count_all (walk_place walk.next) xs (λ y c. (all_behind series left walk.next s.ahead far y (All-contains (λ (b : SaidInstance). IsInstance series b × (first_second ≤ℤ b.start)) xs y are.each c).0).1) in
     omega (arith, n, all)
 
 -- never more
-pub some_counted : (series : Meeting) (left : Instances) (walk : Walk) → IsWalkOf series left walk → IsAtMost series walk.count
+pub some_counted : (series : Event) (left : Instances) (walk : Walk) → IsWalkOf series left walk → IsAtMost series walk.count
 some_counted series left walk s xs are =
     let n = s.count xs are in
-    let most = count_by-le-length (λ (b : Booked). int_lt b.start (place_of walk.next)) xs in
+    let most = count_by-le-length (λ (b : SaidInstance). int_lt b.start (walk_place walk.next)) xs in
     omega (arith, n, most)
 
 -- how far it is to the horizon
 abbrev pub steps_left : Walk → ℕ
-steps_left walk = unsigned_abs (horizon -ℤ place_of walk.next)
+steps_left walk = unsigned_abs (horizon -ℤ walk_place walk.next)
 
 abs_is : (d : ℤ) → pos 0 ≤ℤ d → pos (unsigned_abs d) ≡ d
 abs_is (pos n) h = refl
 abs_is (negsuc n) h = absurd (omega (arith, ints, h))
 
-pub fewer_left : (series : Meeting) (left : Instances) (old new : Walk) → IsAhead series left new.next → place_of old.next <ℤ place_of new.next → steps_left new < steps_left old
+pub fewer_left : (series : Event) (left : Instances) (old new : Walk) → IsAhead series left new.next → walk_place old.next <ℤ walk_place new.next → steps_left new < steps_left old
 fewer_left series left old new ahead further =
     let within = place_within series left new.next ahead in
-    let a = abs_is (horizon -ℤ place_of new.next) (omega (arith, ints, within)) in
-    let b = abs_is (horizon -ℤ place_of old.next) (omega (arith, ints, within, further)) in
+    let a = abs_is (horizon -ℤ walk_place new.next) (omega (arith, ints, within)) in
+    let b = abs_is (horizon -ℤ walk_place old.next) (omega (arith, ints, within, further)) in
     omega (arith, ints, a, b, further)
 
 -- ---- two places

@@ -1,30 +1,30 @@
 -- What the search for a clash of two series says, and where it begins.
 use Rattle.std.specs.Prelude.{◌≡◌, ◌⊎◌, ℤ, ◌≤ℤ◌, ◌<ℤ◌, Option, MatchOption}
-use Rattle.profile.specs.checker.Instances.{Booked, horizon}
-use Rattle.profile.specs.events.Meetings.{Meeting}
+use Rattle.profile.specs.checker.Instances.{Instance as SaidInstance, horizon}
+use Rattle.profile.specs.events.Events.{Event}
 use Rattle.profile.specs.events.Starts.{IsInstance}
 use Rattle.cal_events.specs.Calendars.{instance_of}
 use Rattle.cal_events.specs.declared.instance.Instance.{Instance}
-use Rattle.cal_period.specs.Clear.{AreClear, ArePair}
+use Rattle.cal_period.specs.Clear.{AreSeriesClear, ArePair}
 
 -- two series are clear of each other, or these are an instance of each that share the later start
-abbrev pub IsSharedByPair : Meeting → Meeting → Option (Instance × Instance) → Type 0
-IsSharedByPair a b shared = MatchOption shared (AreClear a b) (λ s. ArePair a b (instance_of s.0) (instance_of s.1))
+abbrev pub IsSharedByPair : Event → Event → Option (Instance × Instance) → Type 0
+IsSharedByPair a b shared = MatchOption shared (AreSeriesClear a b) (λ s. ArePair a b (instance_of s.0) (instance_of s.1))
 
 -- no instance starts earlier
-abbrev pub AreNoneBefore : Meeting → ℤ → Type 0
-AreNoneBefore series instant = (b : Booked) → IsInstance series b → instant ≤ℤ b.start
+abbrev pub AreNoneBefore : Event → ℤ → Type 0
+AreNoneBefore series instant = (b : SaidInstance) → IsInstance series b → instant ≤ℤ b.start
 
 -- an instance of a series starts then, and none earlier; or it has none
-abbrev pub IsFirstStart : Meeting → Option ℤ → Type 0
+abbrev pub IsFirstStart : Event → Option ℤ → Type 0
 IsFirstStart series first =
-    MatchOption first ((b : Booked) → IsInstance series b → ⊥) (λ t. AreNoneBefore series t × ((b : Booked) × IsInstance series b × (b.start ≡ t)))
+    MatchOption first ((b : SaidInstance) → IsInstance series b → ⊥) (λ t. AreNoneBefore series t × ((b : SaidInstance) × IsInstance series b × (b.start ≡ t)))
 
 -- two series first meet then or later: one of them begins then
-pub record MeetFrom (a b : Meeting) (instant : ℤ) : Type 0 where
+pub record MeetFrom (a b : Event) (instant : ℤ) : Type 0 where
   pub before : instant <ℤ horizon
   pub begins : AreNoneBefore a instant ⊎ AreNoneBefore b instant
 
 -- what starts before the entry is over by an instant
-abbrev pub IsEntry : Meeting → ℤ → ℤ → Type 0
-IsEntry series by entry = (entry ≤ℤ by) × ((b : Booked) → IsInstance series b → b.start <ℤ entry → b.end ≤ℤ by)
+abbrev pub IsEntry : Event → ℤ → ℤ → Type 0
+IsEntry series by entry = (entry ≤ℤ by) × ((b : SaidInstance) → IsInstance series b → b.start <ℤ entry → b.end ≤ℤ by)

@@ -1,10 +1,10 @@
 //! A walk through the instances of a series, by start. Of those behind it remembers the one that ends last.
 ghost use Rattle.std.specs.Prelude.{◌≡◌, ◌≤ℤ◌, false, ℤ, Option, Some, IfSome, IfNone};
-ghost use Rattle.profile.specs.events.Meetings.{Meeting};
+ghost use Rattle.profile.specs.events.Events.{Event};
 ghost use Rattle.cal_events.specs.Left.{GivesFirst};
 ghost use Rattle.cal_events.specs.SaidSeries.{AreKnownByStart};
 ghost use Rattle.cal_events.specs.declared.instances.Instances.{Instances};
-ghost use Rattle.cal_period.specs.Walks.{place_of, AreAllLeft, AreLeftFrom, Begins, Enters, IsWalkOf, Tail, GoesPast, GoesOn, MeetsNone, Meets, EndsLater};
+ghost use Rattle.cal_period.specs.Walks.{walk_place, AreAllLeft, AreLeftFrom, BeginsWalk, EntersWalk, IsWalkOf, Tail, GoesPast, GoesOn, MeetsNone, MeetsInstance, EndsLater};
 
 use cal_events::{HORIZON, Instance};
 
@@ -22,10 +22,10 @@ pub(crate) struct Walk<'a> {
 impl<'a> Walk<'a> {
     /// A walk that is at the first instance, of all or of those from an entry on.
     pub(crate) fn to(first: Option<Instance<'a>>) -> Walk<'a>
-        ensures begins { (series : Meeting) (old new : Instances) → AreKnownByStart series → AreAllLeft series old
-            → GivesFirst old first.entry new → Begins series new result }
-        ensures enters { (series : Meeting) (by entry : ℤ) (old new : Instances) → AreKnownByStart series → AreLeftFrom series by entry old
-            → GivesFirst old first.entry new → Enters series by entry new result }
+        ensures begins { (series : Event) (old new : Instances) → AreKnownByStart series → AreAllLeft series old
+            → GivesFirst old first.entry new → BeginsWalk series new result }
+        ensures enters { (series : Event) (by entry : ℤ) (old new : Instances) → AreKnownByStart series → AreLeftFrom series by entry old
+            → GivesFirst old first.entry new → EntersWalk series by entry new result }
     {
         Walk {
             next: first,
@@ -36,7 +36,7 @@ impl<'a> Walk<'a> {
 
     /// Where it is: at the start of its next instance, or at the horizon where there is none.
     pub(crate) fn place(&self) -> i64
-        ensures { result ≡ place_of self.now.next }
+        ensures { result ≡ walk_place self.now.next }
     {
         match self.next {
             Some(next) => next.start,
@@ -46,7 +46,7 @@ impl<'a> Walk<'a> {
 
     /// The instance behind it that is still going on when another starts, if there is one. An instance of no length starts in none.
     pub(crate) fn met_by(&self, other: Instance<'_>) -> Option<Instance<'a>>
-        ensures meets { IfSome result (Meets self.now.last other.entry) }
+        ensures meets { IfSome result (MeetsInstance self.now.last other.entry) }
         ensures none { IfNone result (MeetsNone self.now.last other.entry) }
     {
         let last = self.last?;
@@ -69,9 +69,9 @@ impl<'a> Walk<'a> {
     /// Past its next instance, where another comes after that.
     pub(crate) fn past(&self, next: Instance<'a>, after: Option<Instance<'a>>) -> Walk<'a>
         requires { self.now.next ≡ Some next }
-        ensures is_walk { (series : Meeting) (old new : Instances) → IsWalkOf series old self.now → GivesFirst old after.entry new
+        ensures is_walk { (series : Event) (old new : Instances) → IsWalkOf series old self.now → GivesFirst old after.entry new
             → GoesPast series next.entry self.now new result }
-        ensures tail { (series : Meeting) (by : ℤ) (old new : Instances) → Tail series by old self.now → GivesFirst old after.entry new
+        ensures tail { (series : Event) (by : ℤ) (old new : Instances) → Tail series by old self.now → GivesFirst old after.entry new
             → GoesOn series by next.entry self.now new result }
     {
         Walk {

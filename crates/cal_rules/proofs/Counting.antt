@@ -2,21 +2,21 @@
 use Rattle.std.proofs.Common.{◌≡◌, ◌∙◌, sym, refl, inl, inr, ℕ, zero, suc, ◌+◌, ◌-◌, ◌<◌, ◌≤◌, min, max, Bool, true, false, ◌&&◌, nat_le, Some, None, arith}
 use Rattle.std.proofs.lemmas.Bool.{cases_lt, false≢true, and_cases, and_left, and_right}
 use Rattle.std.proofs.lemmas.Bool.Decides.{nat_tests}
-use Rattle.profile.specs.series.Rules.{Parts, count_days, is_rule_day, is_within_count, is_counted, is_base, is_placed, last_rule_day}
-use Rattle.cal_rules.specs.Counted.{NoneIn, IsFirstIn, NoneFrom, NoneBetween, IsNextCounted, EndsAt, is_chosen}
+use Rattle.profile.specs.series.Rules.{Rule, count_days, is_rule_day, is_within_count, is_counted, is_base, is_placed, last_rule_day}
+use Rattle.cal_rules.specs.Counted.{NoneIn, IsFirstIn, HasNoDayFrom, NoneBetween, IsNextCounted, RuleEndsAt, is_chosen}
 
 -- no such day before DTSTART
-pub counted_early : (r : Parts) (n : ℕ) → n < r.pattern.start → is_counted r n ≡ false
+pub counted_early : (r : Rule) (n : ℕ) → n < r.pattern.start → is_counted r n ≡ false
 unfolding is_counted
 counted_early r n h = grind (arith, nat_tests)
 
 -- nor past the last day
-pub counted_late : (r : Parts) (n : ℕ) → min r.last last_rule_day < n → is_counted r n ≡ false
+pub counted_late : (r : Rule) (n : ℕ) → min r.last last_rule_day < n → is_counted r n ≡ false
 unfolding is_counted
 counted_late r n h = grind (arith, nat_tests)
 
 -- nor without a set position
-counted_chosen : (r : Parts) (n : ℕ) → is_chosen r.pattern n ≡ false → is_counted r n ≡ false
+counted_chosen : (r : Rule) (n : ℕ) → is_chosen r.pattern n ≡ false → is_counted r n ≡ false
 unfolding is_counted
 counted_chosen r n h =
     let within = nat_le r.pattern.start n && nat_le n r.last && nat_le n last_rule_day in
@@ -26,7 +26,7 @@ counted_chosen r n h =
     ]
 
 -- between the first day and the last one
-pub counted_is : (r : Parts) (n : ℕ) → r.pattern.start ≤ n → n ≤ r.last → n ≤ last_rule_day → is_counted r n ≡ is_chosen r.pattern n
+pub counted_is : (r : Rule) (n : ℕ) → r.pattern.start ≤ n → n ≤ r.last → n ≤ last_rule_day → is_counted r n ≡ is_chosen r.pattern n
 unfolding is_counted
 counted_is r n a b c =
     let x : nat_le r.pattern.start n ≡ true = grind (arith, nat_tests) in
@@ -35,7 +35,7 @@ counted_is r n a b c =
     rw (x, y, z) refl
 
 -- the least of these days, by the first base day with a set position
-pub none_counted : (r : Parts) (from : ℕ) → NoneIn (is_chosen r.pattern) (max from r.pattern.start) (min r.last last_rule_day + 1) → NoneFrom r from
+pub none_counted : (r : Rule) (from : ℕ) → NoneIn (is_chosen r.pattern) (max from r.pattern.start) (min r.last last_rule_day + 1) → HasNoDayFrom r from
 none_counted r from h n a =
     elim (cases_lt n r.pattern.start) [
       | inl lt ↦ counted_early r n lt
@@ -45,7 +45,7 @@ none_counted r from h n a =
       ]
     ]
 
-pub first_counted : (r : Parts) (from day : ℕ) → IsFirstIn (is_chosen r.pattern) (max from r.pattern.start) (min r.last last_rule_day + 1) day → IsNextCounted r from day
+pub first_counted : (r : Rule) (from day : ℕ) → IsFirstIn (is_chosen r.pattern) (max from r.pattern.start) (min r.last last_rule_day + 1) day → IsNextCounted r from day
 first_counted r from day h =
     let low = h.not_before in
     let high = h.inside in
@@ -58,7 +58,7 @@ first_counted r from day h =
       ];
     }
 
-pub counted_bound : (r : Parts) (n : ℕ) → is_counted r n ≡ true → (r.pattern.start ≤ n) × (n ≤ last_rule_day)
+pub counted_bound : (r : Rule) (n : ℕ) → is_counted r n ≡ true → (r.pattern.start ≤ n) × (n ≤ last_rule_day)
 unfolding is_counted
 counted_bound r n h = (grind (arith, nat_tests), grind (arith, nat_tests))
 
@@ -92,7 +92,7 @@ count_less test from few many h =
     rw e at (count_more test from few (many - few))
 
 -- from one day that is counted to the day after the next one
-pub count_next : (r : Parts) (from found done : ℕ) → r.pattern.start ≤ from → from ≤ found → count_days (is_counted r) r.pattern.start (from - r.pattern.start) ≡ done → NoneBetween r from found → is_counted r found ≡ true → count_days (is_counted r) r.pattern.start (found + 1 - r.pattern.start) ≡ done + 1
+pub count_next : (r : Rule) (from found done : ℕ) → r.pattern.start ≤ from → from ≤ found → count_days (is_counted r) r.pattern.start (from - r.pattern.start) ≡ done → NoneBetween r from found → is_counted r found ≡ true → count_days (is_counted r) r.pattern.start (found + 1 - r.pattern.start) ≡ done + 1
 count_next r from found done low order so_far none here =
     let s = r.pattern.start in
     let gap : from - s + (found - from) ≡ found - s = omega arith in
@@ -104,12 +104,12 @@ count_next r from found done low order so_far none here =
 
 -- THE END
 
-within_is : (r : Parts) (count n : ℕ) → r.count ≡ Some count → is_within_count r n ≡ nat_le (count_days (is_counted r) r.pattern.start (n + 1 - r.pattern.start)) count
+within_is : (r : Rule) (count n : ℕ) → r.count ≡ Some count → is_within_count r n ≡ nat_le (count_days (is_counted r) r.pattern.start (n + 1 - r.pattern.start)) count
 unfolding is_within_count
 within_is r count n e = rw e refl
 
 -- where each day that is counted is within COUNT exactly up to the end
-from_counted : (r : Parts) (end n : ℕ) → (is_counted r n ≡ true → is_within_count r n ≡ nat_le n end) → is_rule_day r n ≡ (is_counted r n && nat_le n end)
+from_counted : (r : Rule) (end n : ℕ) → (is_counted r n ≡ true → is_within_count r n ≡ nat_le n end) → is_rule_day r n ≡ (is_counted r n && nat_le n end)
 unfolding is_rule_day
 from_counted r end n h =
     elim (is_counted r n) as (λ b. is_counted r n ≡ b → (b && is_within_count r n) ≡ (b && nat_le n end)) [
@@ -117,18 +117,18 @@ from_counted r end n h =
       | false ↦ λ e. refl
     ] refl
 
-no_count_within : (r : Parts) (n : ℕ) → r.count ≡ None → is_within_count r n ≡ true
+no_count_within : (r : Rule) (n : ℕ) → r.count ≡ None → is_within_count r n ≡ true
 unfolding is_within_count
 no_count_within r n e = rw e refl
 
-pub ends_never : (r : Parts) → r.count ≡ None → EndsAt r last_rule_day
+pub ends_never : (r : Rule) → r.count ≡ None → RuleEndsAt r last_rule_day
 ends_never r e n =
     from_counted r last_rule_day n (λ k.
     let bound = counted_bound r n k in
     let within : nat_le n last_rule_day ≡ true = grind (arith, nat_tests) in
     no_count_within r n e ∙ sym within)
 
-pub ends_early : (r : Parts) (count from : ℕ) → r.count ≡ Some count → r.pattern.start ≤ from → count_days (is_counted r) r.pattern.start (from - r.pattern.start) ≤ count → NoneFrom r from → EndsAt r last_rule_day
+pub ends_early : (r : Rule) (count from : ℕ) → r.count ≡ Some count → r.pattern.start ≤ from → count_days (is_counted r) r.pattern.start (from - r.pattern.start) ≤ count → HasNoDayFrom r from → RuleEndsAt r last_rule_day
 ends_early r count from e low so_far none n =
     from_counted r last_rule_day n (λ k.
     let s = r.pattern.start in
@@ -142,7 +142,7 @@ ends_early r count from e low so_far none n =
       | inr ge ↦ absurd (false≢true (sym (none n ge) ∙ k))
     ])
 
-pub ends_at : (r : Parts) (count from : ℕ) → r.count ≡ Some count → r.pattern.start ≤ from → 1 ≤ from → count_days (is_counted r) r.pattern.start (from - r.pattern.start) ≡ count → EndsAt r (from - 1)
+pub ends_at : (r : Rule) (count from : ℕ) → r.count ≡ Some count → r.pattern.start ≤ from → 1 ≤ from → count_days (is_counted r) r.pattern.start (from - r.pattern.start) ≡ count → RuleEndsAt r (from - 1)
 ends_at r count from e low first so_far n =
     from_counted r (from - 1) n (λ k.
     let s = r.pattern.start in

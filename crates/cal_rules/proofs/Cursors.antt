@@ -2,13 +2,13 @@
 use Rattle.std.proofs.Common.{◌≡◌, ◌∙◌, sym, refl, ℕ, ◌+◌, ◌-◌, ◌<◌, ◌≤◌, min, max, true, false, Option, Some, None, MatchOption, arith}
 use Rattle.std.proofs.lemmas.Bool.{false≢true}
 use Rattle.std.specs.List.{list_any, list_all}
-use Rattle.profile.specs.series.Rules.{Pattern, Parts, allows, is_nth, is_missing, passes, is_in_step, count_days, last_rule_day}
+use Rattle.profile.specs.series.Rules.{Pattern, Rule, allows, is_nth, is_missing, passes, is_in_step, count_days, last_rule_day}
 use Rattle.cal_rules.specs.declared.facts.DayFacts.{DayFacts}
 use Rattle.cal_rules.specs.declared.cursor.Cursor.{Cursor}
 use Rattle.cal_rules.specs.declared.cursor.PeriodDays.{PeriodDays}
-use Rattle.cal_rules.specs.Spans.{IsSpan}
+use Rattle.cal_rules.specs.Spans.{IsPeriodSpan}
 use Rattle.cal_rules.specs.Known.{AreFacts}
-use Rattle.cal_rules.specs.Counted.{NoneIn, NoneFrom, is_chosen}
+use Rattle.cal_rules.specs.Counted.{NoneIn, HasNoDayFrom, is_chosen}
 use Rattle.cal_rules.specs.Cursors.{is_from_first, is_among_last, IsCursorOf, IsPastFirst, IsPastNext}
 use Rattle.cal_rules.proofs.Periods.{span_of}
 use Rattle.cal_rules.proofs.Positions.{step_same, count_max, count_step, count_rest, chosen_by_place}
@@ -78,7 +78,7 @@ placed_is p c s inside some passed =
 -- FROM THE END
 
 -- where all set positions count from the last day, it isn't counted how many days pass before
-pub entered_from_end : (p : Pattern) (day depth : ℕ) (span : PeriodDays) (here : DayFacts) (later : ℕ) → IsSpan p.frequency p.week_start day span.first span.end → is_in_step p day ≡ true → span.end ≤ 3_653_155 → list_all (is_among_last depth) p.positions ≡ true → AreFacts here → day ≤ here.index → here.index ≤ span.end → later ≡ count_days (passes p) here.index (span.end - here.index) → IsCursorOf p (record { day = here; span = span; earlier = 0; later = later })
+pub entered_from_end : (p : Pattern) (day depth : ℕ) (span : PeriodDays) (here : DayFacts) (later : ℕ) → IsPeriodSpan p.frequency p.week_start day span.first span.end → is_in_step p day ≡ true → span.end ≤ 3_653_155 → list_all (is_among_last depth) p.positions ≡ true → AreFacts here → day ≤ here.index → here.index ≤ span.end → later ≡ count_days (passes p) here.index (span.end - here.index) → IsCursorOf p (record { day = here; span = span; earlier = 0; later = later })
 entered_from_end p day depth span here later s step high deep facts low inside count =
     let first = s.first_day in
     let place = s.not_before in
@@ -97,7 +97,7 @@ entered_from_end p day depth span here later s step high deep facts low inside c
 -- THE NEXT ONE
 
 -- the least rule day apart from COUNT
-pub past_next : (r : Parts) (from : ℕ) (answer : Option Cursor) → 366 ≤ from → MatchOption answer (NoneIn (is_chosen r.pattern) (max from r.pattern.start) (min r.last last_rule_day + 1)) (IsPastFirst r.pattern (max from r.pattern.start) (min r.last last_rule_day + 1)) → MatchOption answer (NoneFrom r from) (IsPastNext r from)
+pub past_next : (r : Rule) (from : ℕ) (answer : Option Cursor) → 366 ≤ from → MatchOption answer (NoneIn (is_chosen r.pattern) (max from r.pattern.start) (min r.last last_rule_day + 1)) (IsPastFirst r.pattern (max from r.pattern.start) (min r.last last_rule_day + 1)) → MatchOption answer (HasNoDayFrom r from) (IsPastNext r from)
 past_next r from None first h = none_counted r from h
 past_next r from (Some after) first h =
     let low = h.first.not_before in

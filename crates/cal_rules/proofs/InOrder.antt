@@ -7,7 +7,7 @@ use Rattle.std.proofs.lemmas.List.FromFn.{length-map-range_with_len, get_or-map-
 use Rattle.std.specs.List.{list_any, list_all, range_with_len}
 use Rattle.std.specs.Ordering.{int_eq}
 use Rattle.profile.specs.faults.Faults.{is_between}
-use Rattle.profile.specs.series.Rules.{RuleText, WeekdayNumber, Until, is_weekly, is_long, is_place, is_plain, is_entry, is_missing, is_short, is_in_range, go_together, IsAllowed}
+use Rattle.profile.specs.series.Rules.{RuleText, WeekdayNumber, Until, is_weekly, is_long, is_place, is_plain, is_entry, is_missing, has_few_entries, is_in_range, go_together, IsAllowed}
 use Rattle.profile.specs.series.RuleTexts.{months_from, numbers_from, entries_from, nth_number, nth_entry, is_same_entry, rule_text, as_written, HandsIn, SpellsRule}
 use Rattle.cal_rules.proofs.WholeRule.{Ranges, ranges, rule_back}
 use Rattle.cal_rules.proofs.ReadBack.{up_to, below}
@@ -207,20 +207,20 @@ months_missing zs all = kept_missing nat_eq (is_between 1 12) same_octet (range_
 le_test : (m n : ℕ) → n ≤ m → nat_le m 366 ≡ true → nat_le n 366 ≡ true
 le_test m n h e = grind (arith, nat_tests)
 
-months_ordered : (zs : List ℕ) → (list_all (is_between 1 12) zs && is_short zs) ≡ true → (list_all (is_between 1 12) (months_from 1 zs) && is_short (months_from 1 zs)) ≡ true
+months_ordered : (zs : List ℕ) → (list_all (is_between 1 12) zs && has_few_entries zs) ≡ true → (list_all (is_between 1 12) (months_from 1 zs) && has_few_entries (months_from 1 zs)) ≡ true
 months_ordered zs h =
-    let p = and_parts (list_all (is_between 1 12) zs) (is_short zs) h in
-    and_from (list_all (is_between 1 12) (months_from 1 zs)) (is_short (months_from 1 zs)) (months_test (is_between 1 12) zs p.0) (le_test (length zs) (length (months_from 1 zs)) (months_short zs) p.1)
+    let p = and_parts (list_all (is_between 1 12) zs) (has_few_entries zs) h in
+    and_from (list_all (is_between 1 12) (months_from 1 zs)) (has_few_entries (months_from 1 zs)) (months_test (is_between 1 12) zs p.0) (le_test (length zs) (length (months_from 1 zs)) (months_short zs) p.1)
 
-numbers_ordered : (most : ℕ) (zs : List ℤ) → (list_all (is_place most) zs && is_short zs) ≡ true → (list_all (is_place most) (numbers_from 0 zs) && is_short (numbers_from 0 zs)) ≡ true
+numbers_ordered : (most : ℕ) (zs : List ℤ) → (list_all (is_place most) zs && has_few_entries zs) ≡ true → (list_all (is_place most) (numbers_from 0 zs) && has_few_entries (numbers_from 0 zs)) ≡ true
 numbers_ordered most zs h =
-    let p = and_parts (list_all (is_place most) zs) (is_short zs) h in
-    and_from (list_all (is_place most) (numbers_from 0 zs)) (is_short (numbers_from 0 zs)) (numbers_test (is_place most) zs p.0) (le_test (length zs) (length (numbers_from 0 zs)) (numbers_short zs) p.1)
+    let p = and_parts (list_all (is_place most) zs) (has_few_entries zs) h in
+    and_from (list_all (is_place most) (numbers_from 0 zs)) (has_few_entries (numbers_from 0 zs)) (numbers_test (is_place most) zs p.0) (le_test (length zs) (length (numbers_from 0 zs)) (numbers_short zs) p.1)
 
-entries_ordered : (zs : List WeekdayNumber) → (list_all is_entry zs && is_short zs) ≡ true → (list_all is_entry (entries_from 0 zs) && is_short (entries_from 0 zs)) ≡ true
+entries_ordered : (zs : List WeekdayNumber) → (list_all is_entry zs && has_few_entries zs) ≡ true → (list_all is_entry (entries_from 0 zs) && has_few_entries (entries_from 0 zs)) ≡ true
 entries_ordered zs h =
-    let p = and_parts (list_all is_entry zs) (is_short zs) h in
-    and_from (list_all is_entry (entries_from 0 zs)) (is_short (entries_from 0 zs)) (entries_test is_entry zs p.0) (le_test (length zs) (length (entries_from 0 zs)) (entries_short zs) p.1)
+    let p = and_parts (list_all is_entry zs) (has_few_entries zs) h in
+    and_from (list_all is_entry (entries_from 0 zs)) (has_few_entries (entries_from 0 zs)) (entries_test is_entry zs p.0) (le_test (length zs) (length (entries_from 0 zs)) (entries_short zs) p.1)
 
 in_order_range : (t : RuleText) (end : Option Until) → Ranges t → is_in_range (as_written t end) ≡ true
 unfolding is_in_range
@@ -235,10 +235,10 @@ either_kept false b false d f e h = e ∙ h
 in_order_together : (t : RuleText) (end : Option Until) → Ranges t → go_together t ≡ true → go_together (as_written t end) ≡ true
 unfolding go_together
 in_order_together t end r h =
-    let months = months_missing t.months (and_parts (list_all (is_between 1 12) t.months) (is_short t.months) r.months).0 in
-    let days = numbers_missing 31 t.month_days (omega arith) (and_parts (list_all (is_place 31) t.month_days) (is_short t.month_days) r.month_days).0 in
-    let entries = entries_missing t.weekdays (and_parts (list_all is_entry t.weekdays) (is_short t.weekdays) r.weekdays).0 in
-    let places = numbers_missing 366 t.positions (omega arith) (and_parts (list_all (is_place 366) t.positions) (is_short t.positions) r.positions).0 in
+    let months = months_missing t.months (and_parts (list_all (is_between 1 12) t.months) (has_few_entries t.months) r.months).0 in
+    let days = numbers_missing 31 t.month_days (omega arith) (and_parts (list_all (is_place 31) t.month_days) (has_few_entries t.month_days) r.month_days).0 in
+    let entries = entries_missing t.weekdays (and_parts (list_all is_entry t.weekdays) (has_few_entries t.weekdays) r.weekdays).0 in
+    let places = numbers_missing 366 t.positions (omega arith) (and_parts (list_all (is_place 366) t.positions) (has_few_entries t.positions) r.positions).0 in
     let p = and_parts _ (is_missing t.positions || not (is_missing t.months && is_missing t.month_days && is_missing t.weekdays)) h in
     let q = and_parts (not (is_weekly t.frequency) || is_missing t.month_days) (list_all (λ entry. is_plain entry.number) t.weekdays || (is_long t.frequency && is_missing t.month_days)) p.0 in
     and_from _ _

@@ -3,7 +3,7 @@ use Rattle.std.proofs.Common.{◌≡◌, refl, ℕ, zero, suc, ◌+◌, ◌-◌,
 use Rattle.std.proofs.lemmas.Bool.{and_parts}
 use Rattle.std.proofs.lemmas.Bool.Decides.{nat_tests}
 use Rattle.std.specs.List.{range_with_len}
-use Rattle.profile.specs.series.Rules.{Parts, RuleText, is_in_range, is_rule_day, is_counted, rule_days_from, NoDayFrom, IsNextDay, last_rule_day}
+use Rattle.profile.specs.series.Rules.{Rule, RuleText, is_in_range, is_rule_day, is_counted, rule_days_from, NoDayFrom, IsNextDay, last_rule_day}
 use Rattle.cal_rules.proofs.Counting.{counted_bound}
 
 -- INTERVAL is at least 1
@@ -28,15 +28,15 @@ filter_next test from (suc gap) days least here =
     let out : test from ≡ false = least from (omega arith) (omega arith) in
     rw (e, k, out) (filter_next test (from + 1) gap days (λ n a b. least n (omega arith) (omega arith)) (rw k at here))
 
-pub no_days : (r : Parts) (from : ℕ) → NoDayFrom r from → rule_days_from r from ≡ []
+pub no_days : (r : Rule) (from : ℕ) → NoDayFrom r from → rule_days_from r from ≡ []
 unfolding rule_days_from
 no_days r from h = filter_none (is_rule_day r) from (last_rule_day + 1 - from) h
 
-counted_rule_day : (r : Parts) (n : ℕ) → is_rule_day r n ≡ true → is_counted r n ≡ true
+counted_rule_day : (r : Rule) (n : ℕ) → is_rule_day r n ≡ true → is_counted r n ≡ true
 unfolding is_rule_day
 counted_rule_day r n h = (and_parts _ _ h).0
 
-pub days_after : (r : Parts) (from day after : ℕ) → IsNextDay r from day → after ≡ day + 1 → rule_days_from r from ≡ day ∷ rule_days_from r after
+pub days_after : (r : Rule) (from day after : ℕ) → IsNextDay r from day → after ≡ day + 1 → rule_days_from r from ≡ day ∷ rule_days_from r after
 unfolding rule_days_from
 days_after r from day after h e =
     let low = h.not_before in

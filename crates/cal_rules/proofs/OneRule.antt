@@ -7,13 +7,13 @@ use Rattle.std.specs.List.{list_all}
 use Rattle.std.proofs.lemmas.Bool.{and_from, or_right}
 use Rattle.profile.specs.faults.Faults.{is_between}
 use Rattle.profile.specs.series.Days.{Frequency}
-use Rattle.profile.specs.series.Rules.{RuleText, WeekdayNumber, Until, is_place, is_plain, is_entry, is_count, is_short, is_in_range, go_together, has_one_end, IsAllowed}
-use Rattle.profile.specs.series.RuleTexts.{RuleKey, Interval, Count, EndsAt, WeekStart, ByMonth, ByMonthDay, ByDay, BySetPosition, rule_parts, key_word, values_of, frequency_word, SpellsBetween, SpellsPlace, SpellsEntry, SpellsList, SpellsWeekday, SpellsCount, SpellsUntil, IsGiven, SaysOr, SaysFrequency, IsKnownPart, IsBadValue, SaysParts, SpellsRule, RuleFault, unknown, bad_value, no_frequency, two_frequencies, twice, apart, two_ends, IsLeastRuleFault}
+use Rattle.profile.specs.series.Rules.{RuleText, WeekdayNumber, Until, is_place, is_plain, is_entry, is_count, has_few_entries, is_in_range, go_together, has_one_end, IsAllowed}
+use Rattle.profile.specs.series.RuleTexts.{RuleKey, Interval, Count, EndsAt, WeekStart, ByMonth, ByMonthDay, ByDay, BySetPosition, rule_parts, key_word, values_of, frequency_word, SpellsBetween, SpellsPlace, SpellsEntry, SpellsList, SpellsWeekday, SpellsCount, SpellsUntil, IsGivenPart, SaysOr, SaysFrequency, IsKnownPart, IsBadValue, SaysParts, SpellsRule, RuleFault, unknown, bad_value, no_frequency, two_frequencies, twice, apart, two_ends, IsLeastRuleFault}
 use Rattle.ical_lines.specs.declared.fault.Fault.{Fault}
 use Rattle.ical_lines.specs.declared.fault.Fault.TheVariants.{Refused, Memory}
 use Rattle.ical_lines.specs.declared.fault.Refusal.{Refusal}
 use Rattle.cal_rules.specs.declared.parts.Parts as rust
-use Rattle.cal_rules.specs.Taken.{Keeps, AreTaken}
+use Rattle.cal_rules.specs.Taken.{KeepsLeastFault, ArePartsTaken}
 use Rattle.cal_rules.proofs.Parted.{all_good, bad_there, twice_there}
 use Rattle.cal_rules.proofs.Numbers.{weekday_same, frequency_same, between_same, place_same, entry_same, until_same}
 use Rattle.cal_rules.proofs.Entered.{zip_same, zip_all}
@@ -25,7 +25,7 @@ says_test Is missing test m passes [] x s = ap test s ∙ m
 says_test Is missing test m passes (v ∷ []) x s = passes v x s
 says_test Is missing test m passes (v ∷ w ∷ vs) x s = absurd s
 
-count_ranges : (v : List ℕ) (x : Option ℕ) → IsGiven SpellsCount v x → is_count x ≡ true
+count_ranges : (v : List ℕ) (x : Option ℕ) → IsGivenPart SpellsCount v x → is_count x ≡ true
 count_ranges v None s = absurd s
 count_ranges v (Some n) s = s.1
 
@@ -38,7 +38,7 @@ weekday_ranges v n s = weekday_test n s.0
 fits : (n : ℕ) → n ≤ 366 → nat_le n 366 ≡ true
 fits n h = grind (arith, nat_tests)
 
-short : {A : Type 0} (xs : List A) → length xs ≤ 366 → is_short xs ≡ true
+short : {A : Type 0} (xs : List A) → length xs ≤ 366 → has_few_entries xs ≡ true
 short xs h = fits (length xs) h
 
 from_end : (most size : ℕ) → is_between 1 most size ≡ true → is_place most (neg_ℤ (pos size)) ≡ true
@@ -57,8 +57,8 @@ entry_ranges : (v : List ℕ) (x : WeekdayNumber) → SpellsEntry v x → is_ent
 entry_ranges v x (front, letters, e, w, n) =
     and_from (nat_lt x.weekday 7) (is_plain x.number || is_place 53 x.number) (weekday_test x.weekday w.0) (number_ranges front x.number n)
 
-list_ranges : {A : Type 0} (Is : List ℕ → A → Type 0) (test : A → Bool) → ((v : List ℕ) (x : A) → Is v x → test x ≡ true) → (v : List ℕ) (xs : List A) → SpellsList Is v xs → (list_all test xs && is_short xs) ≡ true
-list_ranges Is test passes v xs s = and_from (list_all test xs) (is_short xs) (zip_all Is test passes _ xs s.0) (short xs s.1)
+list_ranges : {A : Type 0} (Is : List ℕ → A → Type 0) (test : A → Bool) → ((v : List ℕ) (x : A) → Is v x → test x ≡ true) → (v : List ℕ) (xs : List A) → SpellsList Is v xs → (list_all test xs && has_few_entries xs) ≡ true
+list_ranges Is test passes v xs s = and_from (list_all test xs) (has_few_entries xs) (zip_all Is test passes _ xs s.0) (short xs s.1)
 
 between_ranges : (low high : ℕ) (v : List ℕ) (x : ℕ) → SpellsBetween low high v x → is_between low high x ≡ true
 between_ranges low high v x s = s.1
@@ -67,12 +67,12 @@ pub says_range : (text : List ℕ) (t : RuleText) → SaysParts text t → is_in
 unfolding is_in_range
 says_range text t s =
     let interval = says_test (SpellsBetween 1 9999) 1 (is_between 1 9999) refl (between_ranges 1 9999) _ t.interval s.interval in
-    let count = says_test (IsGiven SpellsCount) None is_count refl count_ranges _ t.count s.count in
+    let count = says_test (IsGivenPart SpellsCount) None is_count refl count_ranges _ t.count s.count in
     let week_start = says_test SpellsWeekday 0 (λ n. nat_lt n 7) refl weekday_ranges _ t.week_start s.week_start in
-    let months = says_test (SpellsList (SpellsBetween 1 12)) [] (λ xs. list_all (is_between 1 12) xs && is_short xs) refl (list_ranges (SpellsBetween 1 12) (is_between 1 12) (between_ranges 1 12)) _ t.months s.months in
-    let month_days = says_test (SpellsList (SpellsPlace 31)) [] (λ xs. list_all (is_place 31) xs && is_short xs) refl (list_ranges (SpellsPlace 31) (is_place 31) (place_ranges 31)) _ t.month_days s.month_days in
-    let weekdays = says_test (SpellsList SpellsEntry) [] (λ xs. list_all is_entry xs && is_short xs) refl (list_ranges SpellsEntry is_entry entry_ranges) _ t.weekdays s.weekdays in
-    let positions = says_test (SpellsList (SpellsPlace 366)) [] (λ xs. list_all (is_place 366) xs && is_short xs) refl (list_ranges (SpellsPlace 366) (is_place 366) (place_ranges 366)) _ t.positions s.positions in
+    let months = says_test (SpellsList (SpellsBetween 1 12)) [] (λ xs. list_all (is_between 1 12) xs && has_few_entries xs) refl (list_ranges (SpellsBetween 1 12) (is_between 1 12) (between_ranges 1 12)) _ t.months s.months in
+    let month_days = says_test (SpellsList (SpellsPlace 31)) [] (λ xs. list_all (is_place 31) xs && has_few_entries xs) refl (list_ranges (SpellsPlace 31) (is_place 31) (place_ranges 31)) _ t.month_days s.month_days in
+    let weekdays = says_test (SpellsList SpellsEntry) [] (λ xs. list_all is_entry xs && has_few_entries xs) refl (list_ranges SpellsEntry is_entry entry_ranges) _ t.weekdays s.weekdays in
+    let positions = says_test (SpellsList (SpellsPlace 366)) [] (λ xs. list_all (is_place 366) xs && has_few_entries xs) refl (list_ranges (SpellsPlace 366) (is_place 366) (place_ranges 366)) _ t.positions s.positions in
     and_from _ _ (and_from _ _ (and_from _ _ (and_from _ _ (and_from _ _ (and_from _ _ interval count) week_start) months) month_days) weekdays) positions
 
 pub is_allowed : (text : List ℕ) (t : RuleText) → SaysParts text t → go_together t ≡ true → has_one_end t ≡ true → IsAllowed t
@@ -85,7 +85,7 @@ says_same Is missing one [] x y s t = s ∙ sym t
 says_same Is missing one (v ∷ []) x y s t = one v x y s t
 says_same Is missing one (v ∷ w ∷ vs) x y s t = absurd s
 
-given_same : {A : Type 0} (Is : List ℕ → A → Type 0) → ((v : List ℕ) (x y : A) → Is v x → Is v y → x ≡ y) → (v : List ℕ) (x y : Option A) → IsGiven Is v x → IsGiven Is v y → x ≡ y
+given_same : {A : Type 0} (Is : List ℕ → A → Type 0) → ((v : List ℕ) (x y : A) → Is v x → Is v y → x ≡ y) → (v : List ℕ) (x y : Option A) → IsGivenPart Is v x → IsGivenPart Is v y → x ≡ y
 given_same Is one v None y s t = absurd s
 given_same Is one v (Some x) None s t = absurd t
 given_same Is one v (Some x) (Some y) s t = ap Some (one v x y s t)
@@ -126,8 +126,8 @@ same_parts text a b s t =
     (says_same (SpellsList (SpellsPlace 31)) [] (list_same (SpellsPlace 31) (place_same 31)) _ a.month_days b.month_days s.month_days t.month_days)
     (says_same (SpellsList SpellsEntry) [] (list_same SpellsEntry entry_same) _ a.weekdays b.weekdays s.weekdays t.weekdays)
     (says_same (SpellsList (SpellsPlace 366)) [] (list_same (SpellsPlace 366) (place_same 366)) _ a.positions b.positions s.positions t.positions)
-    (says_same (IsGiven SpellsCount) None (given_same SpellsCount (between_same 1 100_000)) _ a.count b.count s.count t.count)
-    (says_same (IsGiven SpellsUntil) None (given_same SpellsUntil until_same) _ a.until b.until s.until t.until)
+    (says_same (IsGivenPart SpellsCount) None (given_same SpellsCount (between_same 1 100_000)) _ a.count b.count s.count t.count)
+    (says_same (IsGivenPart SpellsUntil) None (given_same SpellsUntil until_same) _ a.until b.until s.until t.until)
 
 -- ---- faults of a text that says something
 
@@ -138,8 +138,8 @@ says_once Is missing x (v ∷ w ∷ vs) s h = s
 
 none_twice : (text : List ℕ) (t : RuleText) → SaysParts text t → (key : RuleKey) → 1 < length (values_of (key_word key) text) → ⊥
 none_twice text t s Interval h = says_once (SpellsBetween 1 9999) 1 t.interval _ s.interval h
-none_twice text t s Count h = says_once (IsGiven SpellsCount) None t.count _ s.count h
-none_twice text t s EndsAt h = says_once (IsGiven SpellsUntil) None t.until _ s.until h
+none_twice text t s Count h = says_once (IsGivenPart SpellsCount) None t.count _ s.count h
+none_twice text t s EndsAt h = says_once (IsGivenPart SpellsUntil) None t.until _ s.until h
 none_twice text t s WeekStart h = says_once SpellsWeekday 0 t.week_start _ s.week_start h
 none_twice text t s ByMonth h = says_once (SpellsList (SpellsBetween 1 12)) [] t.months _ s.months h
 none_twice text t s ByMonthDay h = says_once (SpellsList (SpellsPlace 31)) [] t.month_days _ s.month_days h
@@ -153,14 +153,14 @@ says_good Is missing x (v ∷ []) value s (zero, l, e) bad = bad x (rw e at s)
 says_good Is missing x (v ∷ []) value s (suc k, l, e) bad = omega arith
 says_good Is missing x (v ∷ w ∷ vs) value s c bad = s
 
-given_good : {A : Type 0} (Is : List ℕ → A → Type 0) (value : List ℕ) → ((y : A) → Is value y → ⊥) → (y : Option A) → IsGiven Is value y → ⊥
+given_good : {A : Type 0} (Is : List ℕ → A → Type 0) (value : List ℕ) → ((y : A) → Is value y → ⊥) → (y : Option A) → IsGivenPart Is value y → ⊥
 given_good Is value bad None h = h
 given_good Is value bad (Some y) h = bad y h
 
 none_bad : (text : List ℕ) (t : RuleText) → SaysParts text t → (key : RuleKey) (value : List ℕ) → Contains (values_of (key_word key) text) value → IsBadValue key value → ⊥
 none_bad text t s Interval value c bad = says_good (SpellsBetween 1 9999) 1 t.interval _ value s.interval c bad
-none_bad text t s Count value c bad = says_good (IsGiven SpellsCount) None t.count _ value s.count c (given_good SpellsCount value bad)
-none_bad text t s EndsAt value c bad = says_good (IsGiven SpellsUntil) None t.until _ value s.until c (given_good SpellsUntil value bad)
+none_bad text t s Count value c bad = says_good (IsGivenPart SpellsCount) None t.count _ value s.count c (given_good SpellsCount value bad)
+none_bad text t s EndsAt value c bad = says_good (IsGivenPart SpellsUntil) None t.until _ value s.until c (given_good SpellsUntil value bad)
 none_bad text t s WeekStart value c bad = says_good SpellsWeekday 0 t.week_start _ value s.week_start c bad
 none_bad text t s ByMonth value c bad = says_good (SpellsList (SpellsBetween 1 12)) [] t.months _ value s.months c bad
 none_bad text t s ByMonthDay value c bad = says_good (SpellsList (SpellsPlace 31)) [] t.month_days _ value s.month_days c bad
@@ -242,9 +242,9 @@ least_unknown text part (Refused r) there h = least_30 text r.number h.0 (unknow
 least_unknown text part Memory there h = tt
 
 -- the fault that was kept
-pub least_kept : (text : List ℕ) (p : rust.Parts) (f : Refusal) → AreTaken (rule_parts text) p → p.fault ≡ Some f → IsLeastRuleFault text f.number
+pub least_kept : (text : List ℕ) (p : rust.Parts) (f : Refusal) → ArePartsTaken (rule_parts text) p → p.fault ≡ Some f → IsLeastRuleFault text f.number
 least_kept text p f taken e =
-    elim (subst (Keeps (rule_parts text) p) e taken.kept) [
+    elim (subst (KeepsLeastFault (rule_parts text) p) e taken.kept) [
       | inl (n, part, there, bad) ↦ least_31 text f.number taken.known n (bad_there text part there bad)
       | inr (n, again, good) ↦ rw n (record { fault = twice_there text again; least = from_32 text taken.known (all_good text good) })
     ]

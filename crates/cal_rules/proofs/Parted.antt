@@ -6,7 +6,7 @@ use Rattle.std.proofs.lemmas.Str.Pattern.{IsSplitOnceResult, split_once_first, s
 use denote.Ref.{Bor}
 use Rattle.std.specs.List.{cons_option, before_first, position_or_len}
 use Rattle.profile.specs.series.RuleTexts.{RuleKey, Interval, Count, EndsAt, WeekStart, ByMonth, ByMonthDay, ByDay, BySetPosition, rule_parts, after_key, key_word, values_of, frequency_word, SpellsFrequency, SpellsNone, IsKnownPart, IsBadValue, RuleFault, bad_value, two_frequencies, twice}
-use Rattle.cal_rules.specs.Taken.{word, Said, Spells, HasBadValue, HasNoBadValue, HaveOneTwice}
+use Rattle.cal_rules.specs.Taken.{word, SaidPart, SpellsRulePart, HasBadValue, HasNoBadValue, HaveOneTwice}
 
 -- ---- what follows a key
 
@@ -187,7 +187,7 @@ named name part front value cut e =
 
 -- ---- what is judged of a part
 
-good_of : (key : RuleKey) (value : List ℕ) (x : Said (Some key)) → Spells (Some key) value x → IsBadValue key value → ⊥
+good_of : (key : RuleKey) (value : List ℕ) (x : SaidPart (Some key)) → SpellsRulePart (Some key) value x → IsBadValue key value → ⊥
 good_of Interval value x s bad = bad x s
 good_of Count value x s bad = bad x s
 good_of EndsAt value x s bad = bad x s
@@ -198,7 +198,7 @@ good_of ByDay value x s bad = bad x s
 good_of BySetPosition value x s bad = bad x s
 
 -- a value that spells something is that of a good part
-pub good_part : (name : Option RuleKey) (part value : List ℕ) (x : Said name) → after_key (word name) part ≡ Some value → Spells name value x → HasNoBadValue part
+pub good_part : (name : Option RuleKey) (part value : List ℕ) (x : SaidPart name) → after_key (word name) part ≡ Some value → SpellsRulePart name value x → HasNoBadValue part
 good_part None part value x e s = λ (key, w, f, bad).
     let no : Some key ≡ None = one_name None (Some key) part value w e f in cc
 good_part (Some k) part value x e s = λ (key, w, f, bad).
@@ -209,7 +209,7 @@ good_part (Some k) part value x e s = λ (key, w, f, bad).
     let v : w ≡ value = cc in
     good_of k value x s (rw v at (rw here at bad))
 
-pub known_part : (name : Option RuleKey) (part value : List ℕ) (x : Said name) → after_key (word name) part ≡ Some value → Spells name value x → IsKnownPart part
+pub known_part : (name : Option RuleKey) (part value : List ℕ) (x : SaidPart name) → after_key (word name) part ≡ Some value → SpellsRulePart name value x → IsKnownPart part
 known_part None part value x e s = inl (x, e ∙ ap Some s)
 known_part (Some key) part value x e s = inr (key, value, e)
 

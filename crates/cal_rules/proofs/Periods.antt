@@ -4,7 +4,7 @@ use Rattle.profile.specs.series.Days.{Frequency, Daily, Weekly, Monthly, Yearly,
 use Rattle.profile.specs.series.Rules.{reach}
 use Rattle.cal_days.proofs.Dates.{date_counts, in_month, in_year, month_length_max, month_range, year_begins, year_ends, year_length_max, year_start-is, year_start-step}
 use Rattle.cal_days.proofs.Growth.{Within, ascends, year_short}
-use Rattle.cal_rules.specs.Spans.{IsSpan}
+use Rattle.cal_rules.specs.Spans.{IsPeriodSpan}
 use Rattle.cal_rules.specs.Known.{AreFacts}
 use Rattle.cal_rules.specs.declared.facts.DayFacts.{DayFacts}
 use Rattle.cal_rules.proofs.Tomorrow.{same_month}
@@ -16,7 +16,7 @@ reach_max Monthly = omega arith
 reach_max Yearly = omega arith
 
 -- the same days are those of the period of each of them
-pub span_of : (frequency : Frequency) (week_start n first end m : ℕ) → IsSpan frequency week_start n first end → first ≤ m → m < end → IsSpan frequency week_start m first end
+pub span_of : (frequency : Frequency) (week_start n first end m : ℕ) → IsPeriodSpan frequency week_start n first end → first ≤ m → m < end → IsPeriodSpan frequency week_start m first end
 span_of frequency week_start n first end m s low high =
     let e = s.same m low high in
     record {
@@ -31,7 +31,7 @@ span_of frequency week_start n first end m s low high =
 
 -- DAYS AND WEEKS
 
-pub day_span : (week_start n : ℕ) → 366 ≤ n → IsSpan Daily week_start n n (n + 1)
+pub day_span : (week_start n : ℕ) → 366 ≤ n → IsPeriodSpan Daily week_start n n (n + 1)
 unfolding period_of
 day_span week_start n h =
     record {
@@ -44,7 +44,7 @@ day_span week_start n h =
       none_after = λ m high e. omega arith;
     }
 
-pub week_span : (week_start n : ℕ) → 366 ≤ n → week_start < 256 → IsSpan Weekly week_start n (max (n - (n + 12 - week_start) % 7) 366) (n + 7 - (n + 12 - week_start) % 7)
+pub week_span : (week_start n : ℕ) → 366 ≤ n → week_start < 256 → IsPeriodSpan Weekly week_start n (max (n - (n + 12 - week_start) % 7) 366) (n + 7 - (n + 12 - week_start) % 7)
 unfolding period_of
 week_span week_start n h w =
     record {
@@ -90,7 +90,7 @@ same_period n m e =
 in_period : (n m : ℕ) → 12 * year_of m + month_of m ≡ 12 * year_of n + month_of n → (n ≤ m + month_days_before n) × (m ≤ n + month_days_after n)
 in_period n m e = let same = same_period n m e in month_holds n m same.0 same.1
 
-pub month_span : (week_start n : ℕ) → 366 ≤ n → IsSpan Monthly week_start n (n - month_days_before n) (n + month_days_after n + 1)
+pub month_span : (week_start n : ℕ) → 366 ≤ n → IsPeriodSpan Monthly week_start n (n - month_days_before n) (n + month_days_after n + 1)
 unfolding period_of
 month_span week_start n h =
     let low = month_low n h in
@@ -126,7 +126,7 @@ year_end : (n : ℕ) → n + year_days_after n + 1 ≡ year_start (suc (year_of 
 unfolding year_days_after
 year_end n = omega (arith, in_year n, year_first n, year_before_max n, year_start-step (year_of n))
 
-years : (week_start n first end : ℕ) → 366 ≤ n → first ≡ year_start (year_of n) → end ≡ year_start (suc (year_of n)) → IsSpan Yearly week_start n first end
+years : (week_start n first end : ℕ) → 366 ≤ n → first ≡ year_start (year_of n) → end ≡ year_start (suc (year_of n)) → IsPeriodSpan Yearly week_start n first end
 unfolding period_of
 years week_start n first end h a b =
     let begins = year_begins n in
@@ -141,13 +141,13 @@ years week_start n first end h a b =
       none_after = λ m from e. let k = rw e at (year_ends m) in let l = rw b at from in omega arith;
     }
 
-pub year_span : (week_start n : ℕ) → 366 ≤ n → IsSpan Yearly week_start n (n - year_days_before n) (n + year_days_after n + 1)
+pub year_span : (week_start n : ℕ) → 366 ≤ n → IsPeriodSpan Yearly week_start n (n - year_days_before n) (n + year_days_after n + 1)
 year_span week_start n h = years week_start n _ _ h (year_first n) (year_end n)
 
 -- by what is known of a day
 
-pub month_of_facts : (week_start : ℕ) (f : DayFacts) → AreFacts f → 366 ≤ f.index → IsSpan Monthly week_start f.index (f.index - f.month_before) (f.index + f.month_after + 1)
+pub month_of_facts : (week_start : ℕ) (f : DayFacts) → AreFacts f → 366 ≤ f.index → IsPeriodSpan Monthly week_start f.index (f.index - f.month_before) (f.index + f.month_after + 1)
 month_of_facts week_start f h low = rw (h.month_before, h.month_after) (month_span week_start f.index low)
 
-pub year_of_facts : (week_start : ℕ) (f : DayFacts) → AreFacts f → 366 ≤ f.index → IsSpan Yearly week_start f.index (f.index - f.year_before) (f.index + f.year_after + 1)
+pub year_of_facts : (week_start : ℕ) (f : DayFacts) → AreFacts f → 366 ≤ f.index → IsPeriodSpan Yearly week_start f.index (f.index - f.year_before) (f.index + f.year_after + 1)
 year_of_facts week_start f h low = rw (h.year_before, h.year_after) (year_span week_start f.index low)

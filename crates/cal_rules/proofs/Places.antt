@@ -4,7 +4,7 @@ use Rattle.std.proofs.lemmas.Bool.{false≢true, and_parts}
 use Rattle.std.proofs.lemmas.Bool.Decides.{nat_tests}
 use Rattle.std.specs.List.{list_any, list_all}
 use Rattle.profile.specs.series.Rules.{Pattern, allows, is_nth, is_missing, passes, is_in_step, count_days}
-use Rattle.cal_rules.specs.Spans.{IsSpan}
+use Rattle.cal_rules.specs.Spans.{IsPeriodSpan}
 use Rattle.cal_rules.specs.Counted.{NoneIn, is_chosen}
 use Rattle.cal_rules.specs.Cursors.{is_from_first, is_among_last}
 use Rattle.cal_rules.proofs.Periods.{span_of}
@@ -52,7 +52,7 @@ count_tail test m here end low high =
     omega (arith, split)
 
 -- before a day from which this many days of its period pass, none has a set position
-pub before_last : (p : Pattern) (day here first end depth later : ℕ) → IsSpan p.frequency p.week_start day first end → is_in_step p day ≡ true → end ≤ 3_653_155 → is_missing p.positions ≡ false → list_all (is_among_last depth) p.positions ≡ true → here ≤ end → later ≡ count_days (passes p) here (end - here) → depth ≤ later → NoneIn (is_chosen p) day here
+pub before_last : (p : Pattern) (day here first end depth later : ℕ) → IsPeriodSpan p.frequency p.week_start day first end → is_in_step p day ≡ true → end ≤ 3_653_155 → is_missing p.positions ≡ false → list_all (is_among_last depth) p.positions ≡ true → here ≤ end → later ≡ count_days (passes p) here (end - here) → depth ≤ later → NoneIn (is_chosen p) day here
 before_last p day here first end depth later s step high some deep inside count many n from to =
     let low = s.not_before in
     elim (passes p n) as (λ t. passes p n ≡ t → is_chosen p n ≡ false) [

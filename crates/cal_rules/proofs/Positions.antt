@@ -4,7 +4,7 @@ use Rattle.std.proofs.lemmas.Bool.{cases_lt, and_left, and_right, ne_eqb, eq-eqb
 use Rattle.std.proofs.lemmas.Bool.Decides.{nat_tests}
 use Rattle.profile.specs.series.Days.{period_of}
 use Rattle.profile.specs.series.Rules.{Pattern, allows, is_nth, is_missing, passes, is_in_step, is_base, count_days, reach, is_mate, mates_before, mates_after, is_placed}
-use Rattle.cal_rules.specs.Spans.{IsSpan}
+use Rattle.cal_rules.specs.Spans.{IsPeriodSpan}
 use Rattle.cal_rules.specs.Counted.{NoneIn, is_chosen}
 use Rattle.cal_rules.proofs.Periods.{reach_max}
 
@@ -76,7 +76,7 @@ not_mate p n m h =
       | inr ge ↦ and_left _ _ (and_right _ _ (ne_eqb (period_of p.frequency p.week_start m) (period_of p.frequency p.week_start n) (h ge)))
     ]
 
-mate : (p : Pattern) (n first end m : ℕ) → IsSpan p.frequency p.week_start n first end → is_in_step p n ≡ true → first ≤ m → m < end → m ≤ 3_653_155 → is_mate p n m ≡ passes p m
+mate : (p : Pattern) (n first end m : ℕ) → IsPeriodSpan p.frequency p.week_start n first end → is_in_step p n ≡ true → first ≤ m → m < end → m ≤ 3_653_155 → is_mate p n m ≡ passes p m
 unfolding is_mate is_base
 mate p n first end m s step low high day =
     let e = s.same m low high in
@@ -87,7 +87,7 @@ mate p n first end m s step low high day =
     let stepped : is_in_step p m ≡ true = step_same p n m e ∙ step in
     rw (a, b, same, stepped) refl
 
-mates_before_is : (p : Pattern) (n first end : ℕ) → IsSpan p.frequency p.week_start n first end → is_in_step p n ≡ true → end ≤ 3_653_155 → mates_before p n ≡ count_days (passes p) first (n - first)
+mates_before_is : (p : Pattern) (n first end : ℕ) → IsPeriodSpan p.frequency p.week_start n first end → is_in_step p n ≡ true → end ≤ 3_653_155 → mates_before p n ≡ count_days (passes p) first (n - first)
 unfolding mates_before
 mates_before_is p n first end s step high =
     let width = reach_max p.frequency in
@@ -103,7 +103,7 @@ mates_before_is p n first end s step high =
     let split = count_split (is_mate p n) (n - reach p.frequency) (first - (n - reach p.frequency)) (n - first) in
     ap (λ k. count_days (is_mate p n) (n - reach p.frequency) k) whole ∙ split ∙ rw (none, place, some) (omega arith)
 
-mates_after_is : (p : Pattern) (n first end : ℕ) → IsSpan p.frequency p.week_start n first end → is_in_step p n ≡ true → end ≤ 3_653_155 → mates_after p n ≡ count_days (passes p) (n + 1) (end - (n + 1))
+mates_after_is : (p : Pattern) (n first end : ℕ) → IsPeriodSpan p.frequency p.week_start n first end → is_in_step p n ≡ true → end ≤ 3_653_155 → mates_after p n ≡ count_days (passes p) (n + 1) (end - (n + 1))
 unfolding mates_after
 mates_after_is p n first end s step high =
     let low = s.first_day in
@@ -117,7 +117,7 @@ mates_after_is p n first end s step high =
     ap (λ k. count_days (is_mate p n) (n + 1) k) whole ∙ split ∙ rw (none, some) (omega arith)
 
 -- in a period in step a day that passes each part is chosen by its place among those that do
-pub chosen_by_place : (p : Pattern) (n first end before rest : ℕ) → IsSpan p.frequency p.week_start n first end → is_in_step p n ≡ true → end ≤ 3_653_155 → passes p n ≡ true → before ≡ count_days (passes p) first (n - first) → rest ≡ count_days (passes p) (n + 1) (end - (n + 1)) → is_chosen p n ≡ allows (λ k. is_nth k before rest) p.positions
+pub chosen_by_place : (p : Pattern) (n first end before rest : ℕ) → IsPeriodSpan p.frequency p.week_start n first end → is_in_step p n ≡ true → end ≤ 3_653_155 → passes p n ≡ true → before ≡ count_days (passes p) first (n - first) → rest ≡ count_days (passes p) (n + 1) (end - (n + 1)) → is_chosen p n ≡ allows (λ k. is_nth k before rest) p.positions
 unfolding is_base is_placed
 chosen_by_place p n first end before rest s step high here a b =
     rw (step, here, mates_before_is p n first end s step high, mates_after_is p n first end s step high, a, b) refl
@@ -136,6 +136,6 @@ unfolding is_base
 chosen_step p n h = rw h refl
 
 -- in a period out of step there is none
-pub none_away : (p : Pattern) (n first end : ℕ) → IsSpan p.frequency p.week_start n first end → is_in_step p n ≡ false → NoneIn (is_chosen p) n end
+pub none_away : (p : Pattern) (n first end : ℕ) → IsPeriodSpan p.frequency p.week_start n first end → is_in_step p n ≡ false → NoneIn (is_chosen p) n end
 none_away p n first end s away m from to =
     chosen_step p m (step_same p n m (s.same m (omega (arith, s.not_before)) to) ∙ away)

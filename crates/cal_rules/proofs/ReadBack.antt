@@ -13,7 +13,7 @@ use Rattle.std.specs.List.{slice_split, list_all, AllZip}
 use Rattle.profile.specs.faults.Faults.{is_between}
 use Rattle.profile.specs.series.Rules.{WeekdayNumber, is_place, is_plain, is_entry}
 use Rattle.profile.specs.text.Values.{IsNumber}
-use Rattle.profile.specs.series.RuleTexts.{weekday_word, SpellsBetween, SpellsPlace, SpellsEntry, SpellsList, SpellsMonths, SpellsEntries, listed, entry_text}
+use Rattle.profile.specs.series.RuleTexts.{weekday_word, SpellsBetween, SpellsPlace, SpellsEntry, SpellsList, SpellsMonths, SpellsEntries, listed, weekday_number_text}
 
 pub number_back : (n : ℕ) → n < 2 ^ 64 → IsNumber (decimal n) n
 number_back n h = let d = decimal_is_IsNumeral n h in (d.0.0, d.0.1, d.1)
@@ -51,7 +51,7 @@ front_back : (number : ℤ) (plain : Bool) → is_plain number ≡ plain → (is
 front_back number true e h = inl (refl, plain_is_0 number e)
 front_back number false e h = inr (place_back 53 number (omega arith) (or_other (is_plain number) (is_place 53 number) h e))
 
-pub entry_back : (entry : WeekdayNumber) → is_entry entry ≡ true → SpellsEntry (entry_text entry) entry
+pub entry_back : (entry : WeekdayNumber) → is_entry entry ≡ true → SpellsEntry (weekday_number_text entry) entry
 entry_back entry e =
     let p = and_parts (nat_lt entry.weekday 7) (is_plain entry.number || is_place 53 entry.number) e in
     (cond (is_plain entry.number) [] (signed_decimal entry.number), weekday_word entry.weekday, refl, (below 7 entry.weekday p.0, refl), front_back entry.number (is_plain entry.number) refl p.1)
@@ -137,7 +137,7 @@ lacks_front : (mark : ℕ) → IsMark mark → (number : ℤ) (plain : Bool) →
 lacks_front mark m number true e h = refl
 lacks_front mark m number false e h = lacks_place mark m 53 number (omega arith) (or_other (is_plain number) (is_place 53 number) h e)
 
-pub lacks_entry : (mark : ℕ) → IsMark mark → (entry : WeekdayNumber) → is_entry entry ≡ true → lacks mark (entry_text entry) ≡ true
+pub lacks_entry : (mark : ℕ) → IsMark mark → (entry : WeekdayNumber) → is_entry entry ≡ true → lacks mark (weekday_number_text entry) ≡ true
 lacks_entry mark m entry e =
     let p = and_parts (nat_lt entry.weekday 7) (is_plain entry.number || is_place 53 entry.number) e in
     lacks_append mark (cond (is_plain entry.number) [] (signed_decimal entry.number)) (weekday_word entry.weekday) (lacks_front mark m entry.number (is_plain entry.number) refl p.1) (lacks_weekday mark m entry.weekday (below 7 entry.weekday p.0))
@@ -170,5 +170,5 @@ months_back = written_list (SpellsBetween 1 12) decimal (is_between 1 12) (λ n 
 pub places_back : (most : ℕ) (place : ℤ) (places : List ℤ) → most ≤ 366 → list_all (is_place most) (place ∷ places) ≡ true → length (place ∷ places) ≤ 366 → SpellsList (SpellsPlace most) (signed_decimal place ++ listed (codes ",") (map signed_decimal places)) (place ∷ places)
 places_back most place places h = written_list (SpellsPlace most) signed_decimal (is_place most) (λ z e. place_back most z h e) (λ z e. lacks_place 44 comma most z h e) place places
 
-pub entries_back : (entry : WeekdayNumber) (entries : List WeekdayNumber) → list_all is_entry (entry ∷ entries) ≡ true → length (entry ∷ entries) ≤ 366 → SpellsEntries (entry_text entry ++ listed (codes ",") (map entry_text entries)) (entry ∷ entries)
-entries_back = written_list SpellsEntry entry_text is_entry entry_back (lacks_entry 44 comma)
+pub entries_back : (entry : WeekdayNumber) (entries : List WeekdayNumber) → list_all is_entry (entry ∷ entries) ≡ true → length (entry ∷ entries) ≤ 366 → SpellsEntries (weekday_number_text entry ++ listed (codes ",") (map weekday_number_text entries)) (entry ∷ entries)
+entries_back = written_list SpellsEntry weekday_number_text is_entry entry_back (lacks_entry 44 comma)

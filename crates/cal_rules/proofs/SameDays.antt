@@ -5,7 +5,7 @@ use Rattle.std.specs.List.{list_any, list_all, range_with_len}
 use Rattle.std.specs.Ordering.{int_eq}
 use Rattle.profile.specs.faults.Faults.{is_between}
 use Rattle.profile.specs.series.Days.{month_of, month_days_before, month_days_after, weekday_of}
-use Rattle.profile.specs.series.Rules.{WeekdayNumber, Pattern, Parts, RuleText, Until, rule_of, is_missing, implies_month, implies_month_day, implies_weekday, counts_in_year, is_place, is_entry, is_short, IsAllowed, allows, is_nth, names_weekday, same_weekdays_before, same_weekdays_after, passes_month, passes_month_day, passes_weekday, passes, is_in_step, is_base, reach, is_mate, mates_before, mates_after, is_placed, is_counted, is_within_count, is_rule_day}
+use Rattle.profile.specs.series.Rules.{WeekdayNumber, Pattern, Rule, RuleText, Until, rule_of, is_missing, implies_month, implies_month_day, implies_weekday, counts_in_year, is_place, is_entry, has_few_entries, IsAllowed, allows, is_nth, names_weekday, same_weekdays_before, same_weekdays_after, passes_month, passes_month_day, passes_weekday, passes, is_in_step, is_base, reach, is_mate, mates_before, mates_after, is_placed, is_counted, is_within_count, is_rule_day}
 use Rattle.profile.specs.series.RuleTexts.{months_from, numbers_from, entries_from, nth_number, nth_entry, is_same_entry, as_written}
 use Rattle.cal_rules.proofs.Positions.{count_same}
 use Rattle.cal_rules.proofs.WholeRule.{ranges}
@@ -138,7 +138,7 @@ unfolding is_placed
 same_place p ms ds es ps n a =
     rw (same_before p ms ds es ps n a, same_after p ms ds es ps n a) (a.positions (λ k. is_nth k (mates_before p n) (mates_after p n)))
 
-abbrev parts : Pattern → Option ℕ → ℕ → Parts
+abbrev parts : Pattern → Option ℕ → ℕ → Rule
 parts p count last = record { pattern = p; count = count; last = last; until = None }
 
 same_counted : (p : Pattern) (ms : List ℕ) (ds : List ℤ) (es : List WeekdayNumber) (ps : List ℤ) (count : Option ℕ) (last n : ℕ) → Alike (with_lists p ms ds es ps) p → is_counted (parts (with_lists p ms ds es ps) count last) n ≡ is_counted (parts p count last) n
@@ -169,10 +169,10 @@ in_order : (t : RuleText) (start last : ℕ) → IsAllowed t → Alike (with_lis
 unfolding months_from numbers_from entries_from
 in_order t start last h =
     let r = ranges t h.0 in
-    let months = (and_parts (list_all (is_between 1 12) t.months) (is_short t.months) r.months).0 in
-    let days = (and_parts (list_all (is_place 31) t.month_days) (is_short t.month_days) r.month_days).0 in
-    let entries = (and_parts (list_all is_entry t.weekdays) (is_short t.weekdays) r.weekdays).0 in
-    let places = (and_parts (list_all (is_place 366) t.positions) (is_short t.positions) r.positions).0 in
+    let months = (and_parts (list_all (is_between 1 12) t.months) (has_few_entries t.months) r.months).0 in
+    let days = (and_parts (list_all (is_place 31) t.month_days) (has_few_entries t.month_days) r.month_days).0 in
+    let entries = (and_parts (list_all is_entry t.weekdays) (has_few_entries t.weekdays) r.weekdays).0 in
+    let places = (and_parts (list_all (is_place 366) t.positions) (has_few_entries t.positions) r.positions).0 in
     record {
       no_months = months_missing t.months months;
       no_month_days = numbers_missing 31 t.month_days (omega arith) days;

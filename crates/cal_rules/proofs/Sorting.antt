@@ -11,7 +11,7 @@ use Rattle.std.specs.Ordering.{int_eq}
 use Rattle.std.proofs.lemmas.Bool.{and_parts, and_from}
 use Rattle.std.proofs.lemmas.Simd.{map-map}
 use Rattle.profile.specs.faults.Faults.{is_between}
-use Rattle.profile.specs.series.Rules.{RuleText, WeekdayNumber, is_place, is_entry, is_short, is_in_range}
+use Rattle.profile.specs.series.Rules.{RuleText, WeekdayNumber, is_place, is_entry, has_few_entries, is_in_range}
 use Rattle.profile.specs.series.RuleTexts.{listed, months_from, numbers_from, entries_from, nth_number, nth_entry, is_same_entry}
 use Rattle.cal_rules.proofs.InOrder.{int_one, int_itself, number_apart, entry_one, entry_itself, entry_apart}
 use Rattle.cal_rules.proofs.Judging.{any_map}
@@ -199,13 +199,13 @@ all_wider (z ∷ zs) h =
     let p = and_parts (is_place 31 z) (list_all (is_place 31) zs) h in and_from (is_place 366 z) (list_all (is_place 366) zs) (wider z p.0) (all_wider zs p.1)
 
 pub months_ready : (t : RuleText) (months : List ℕ) → is_in_range t ≡ true → months ≡ t.months → list_all (is_between 1 12) months ≡ true
-months_ready t months h e = rw e (and_parts (list_all (is_between 1 12) t.months) (is_short t.months) (ranges t h).months).0
+months_ready t months h e = rw e (and_parts (list_all (is_between 1 12) t.months) (has_few_entries t.months) (ranges t h).months).0
 
 pub days_ready : (t : RuleText) (days : List ℤ) → is_in_range t ≡ true → days ≡ t.month_days → list_all (is_place 366) days ≡ true
-days_ready t days h e = rw e (all_wider t.month_days (and_parts (list_all (is_place 31) t.month_days) (is_short t.month_days) (ranges t h).month_days).0)
+days_ready t days h e = rw e (all_wider t.month_days (and_parts (list_all (is_place 31) t.month_days) (has_few_entries t.month_days) (ranges t h).month_days).0)
 
 pub entries_ready : (t : RuleText) (entries : List WeekdayNumber) → is_in_range t ≡ true → entries ≡ t.weekdays → list_all is_entry entries ≡ true
-entries_ready t entries h e = rw e (and_parts (list_all is_entry t.weekdays) (is_short t.weekdays) (ranges t h).weekdays).0
+entries_ready t entries h e = rw e (and_parts (list_all is_entry t.weekdays) (has_few_entries t.weekdays) (ranges t h).weekdays).0
 
 pub positions_ready : (t : RuleText) (positions : List ℤ) → is_in_range t ≡ true → positions ≡ t.positions → list_all (is_place 366) positions ≡ true
-positions_ready t positions h e = rw e (and_parts (list_all (is_place 366) t.positions) (is_short t.positions) (ranges t h).positions).0
+positions_ready t positions h e = rw e (and_parts (list_all (is_place 366) t.positions) (has_few_entries t.positions) (ranges t h).positions).0

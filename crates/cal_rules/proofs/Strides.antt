@@ -5,7 +5,7 @@ use Rattle.std.proofs.lemmas.Bool.{cases_lt, ne_eqb, eq-eqb}
 use Rattle.cal_days.specs.Views.{PeriodsAscend, PeriodsLast}
 use Rattle.profile.specs.series.Days.{period_of, shortest_period}
 use Rattle.profile.specs.series.Rules.{Pattern, is_in_step}
-use Rattle.cal_rules.specs.Spans.{IsSpan}
+use Rattle.cal_rules.specs.Spans.{IsPeriodSpan}
 use Rattle.cal_rules.specs.Counted.{NoneIn, is_chosen}
 use Rattle.cal_rules.proofs.Positions.{chosen_step}
 
@@ -58,7 +58,7 @@ unfolding is_in_step
 step_here p n e = eq-eqb _ _ e
 
 -- from a period to the next one in step
-pub beyond_none : (p : Pattern) (from n first end ahead : ℕ) → PeriodsAscend → PeriodsLast → IsSpan p.frequency p.week_start n first end → NoneIn (is_chosen p) from n → NoneIn (is_chosen p) n end → ((j : ℕ) → j < ahead → (period_of p.frequency p.week_start n % p.interval + j) % p.interval ≡ period_of p.frequency p.week_start p.start % p.interval → ⊥) → NoneIn (is_chosen p) from (end + shortest_period p.frequency * (ahead - 1))
+pub beyond_none : (p : Pattern) (from n first end ahead : ℕ) → PeriodsAscend → PeriodsLast → IsPeriodSpan p.frequency p.week_start n first end → NoneIn (is_chosen p) from n → NoneIn (is_chosen p) n end → ((j : ℕ) → j < ahead → (period_of p.frequency p.week_start n % p.interval + j) % p.interval ≡ period_of p.frequency p.week_start p.start % p.interval → ⊥) → NoneIn (is_chosen p) from (end + shortest_period p.frequency * (ahead - 1))
 beyond_none p from n first end zero ascend last s before here none m a b =
     elim (cases_lt m n) [
       | inl lt ↦ before m a lt

@@ -9,8 +9,8 @@ use Rattle.std.specs.List.{list_all, onto_first, cons_option}
 use Rattle.profile.specs.faults.Faults.{is_between}
 use Rattle.profile.specs.series.Days.{Frequency, Daily, Weekly, Monthly, Yearly, days_in_month}
 use Rattle.profile.specs.text.Values.{two_digits, four_digits, SpellsDate, SpellsTime, SpellsLocal}
-use Rattle.profile.specs.series.Rules.{RuleText, Until, UntilDay, UntilLocal, UntilInstant, is_place, is_entry, is_count, is_short, is_in_range, go_together, has_one_end}
-use Rattle.profile.specs.series.RuleTexts.{RuleKey, Interval, Count, EndsAt, WeekStart, ByMonth, ByMonthDay, ByDay, BySetPosition, rule_parts, after_key, key_word, values_of, frequency_word, weekday_word, SpellsBetween, SpellsPlace, SpellsEntry, SpellsList, SpellsWeekday, SpellsCount, SpellsUntil, SpellsInterval, SpellsMonths, SpellsMonthDays, SpellsEntries, SpellsPositions, IsGiven, SaysOr, IsKnownPart, SpellsRule, listed, months_from, numbers_from, entries_from, entry_text, count_text, until_text, rule_text, as_written, HandsIn}
+use Rattle.profile.specs.series.Rules.{RuleText, Until, UntilDay, UntilLocal, UntilInstant, is_place, is_entry, is_count, has_few_entries, is_in_range, go_together, has_one_end}
+use Rattle.profile.specs.series.RuleTexts.{RuleKey, Interval, Count, EndsAt, WeekStart, ByMonth, ByMonthDay, ByDay, BySetPosition, rule_parts, after_key, key_word, values_of, frequency_word, weekday_word, SpellsBetween, SpellsPlace, SpellsEntry, SpellsList, SpellsWeekday, SpellsCount, SpellsUntil, SpellsInterval, SpellsMonths, SpellsMonthDays, SpellsEntries, SpellsPositions, IsGivenPart, SaysOr, IsKnownPart, SpellsRule, listed, months_from, numbers_from, entries_from, weekday_number_text, count_text, until_text, rule_text, as_written, HandsIn}
 use Rattle.cal_rules.proofs.Parted.{after_append}
 use Rattle.cal_rules.proofs.ReadBack.{up_to, below, between_back, place_back, entry_back, written_list, month_small, comma, semicolon, lacks, lacks_append, lacks_all, lacks_decimal, lacks_place, lacks_weekday, lacks_entry}
 
@@ -303,10 +303,10 @@ short_enough : (n : ℕ) → nat_le n 366 ≡ true → n ≤ 366
 short_enough n e = grind (arith, nat_tests)
 
 pub list_says : {A : Type 0} (Is : List ℕ → A → Type 0) (f : A → List ℕ) (test : A → Bool) → ((x : A) → test x ≡ true → Is (f x) x) → ((x : A) → test x ≡ true → lacks 44 (f x) ≡ true)
-    → (xs : List A) → (list_all test xs && is_short xs) ≡ true → SaysOr (SpellsList Is) [] (list_values (map f xs)) xs
+    → (xs : List A) → (list_all test xs && has_few_entries xs) ≡ true → SaysOr (SpellsList Is) [] (list_values (map f xs)) xs
 list_says Is f test spells clean [] h = refl
 list_says Is f test spells clean (x ∷ xs) h =
-    let p = and_parts (list_all test (x ∷ xs)) (is_short (x ∷ xs)) h in
+    let p = and_parts (list_all test (x ∷ xs)) (has_few_entries (x ∷ xs)) h in
     written_list Is f test spells clean x xs p.0 (short_enough (length (x ∷ xs)) p.1)
 
 small : (high n : ℕ) → high ≤ 100_000 → is_between 1 high n ≡ true → n < 2 ^ 64
@@ -320,7 +320,7 @@ count_piece : (c : Option ℕ) → is_count c ≡ true → Piece (count_text c) 
 count_piece None e = absent Count
 count_piece (Some n) e = present Count (decimal n) (lacks_decimal 59 semicolon n (small 100_000 n (omega arith) e))
 
-count_says : (c : Option ℕ) → is_count c ≡ true → SaysOr (IsGiven SpellsCount) None (count_values c) c
+count_says : (c : Option ℕ) → is_count c ≡ true → SaysOr (IsGivenPart SpellsCount) None (count_values c) c
 count_says None e = refl
 count_says (Some n) e = between_back 1 100_000 n (small 100_000 n (omega arith) e) e
 
@@ -335,7 +335,7 @@ until_piece (Some u) None end h = absent EndsAt
 until_piece (Some u) (Some text) None h = absurd h
 until_piece (Some u) (Some text) (Some end) h = present EndsAt text (until_clean text end h)
 
-until_says : (u : Option Until) (text : Option (List ℕ)) (end : Option Until) → HandsIn u text end → SaysOr (IsGiven SpellsUntil) None (until_values u text) end
+until_says : (u : Option Until) (text : Option (List ℕ)) (end : Option Until) → HandsIn u text end → SaysOr (IsGivenPart SpellsUntil) None (until_values u text) end
 until_says None text end h = h
 until_says (Some u) None end h = h
 until_says (Some u) (Some text) None h = absurd h
@@ -363,7 +363,7 @@ abbrev rule_values : RuleText → Option (List ℕ) → List (RuleKey × List (L
 rule_values t until =
     (WeekStart, cond (t.week_start == 0) [] (weekday_word t.week_start ∷ []))
     ∷ (BySetPosition, list_values (map signed_decimal (numbers_from 0 t.positions)))
-    ∷ (ByDay, list_values (map entry_text (entries_from 0 t.weekdays)))
+    ∷ (ByDay, list_values (map weekday_number_text (entries_from 0 t.weekdays)))
     ∷ (ByMonthDay, list_values (map signed_decimal (numbers_from 0 t.month_days)))
     ∷ (ByMonth, list_values (map decimal (months_from 1 t.months)))
     ∷ (Interval, cond (t.interval == 1) [] (decimal t.interval ∷ []))
@@ -376,18 +376,18 @@ pub record Ranges (t : RuleText) : Type 0 where
   pub interval : is_between 1 9999 t.interval ≡ true
   pub count : is_count t.count ≡ true
   pub week : t.week_start < 7
-  pub months : (list_all (is_between 1 12) t.months && is_short t.months) ≡ true
-  pub month_days : (list_all (is_place 31) t.month_days && is_short t.month_days) ≡ true
-  pub weekdays : (list_all is_entry t.weekdays && is_short t.weekdays) ≡ true
-  pub positions : (list_all (is_place 366) t.positions && is_short t.positions) ≡ true
+  pub months : (list_all (is_between 1 12) t.months && has_few_entries t.months) ≡ true
+  pub month_days : (list_all (is_place 31) t.month_days && has_few_entries t.month_days) ≡ true
+  pub weekdays : (list_all is_entry t.weekdays && has_few_entries t.weekdays) ≡ true
+  pub positions : (list_all (is_place 366) t.positions && has_few_entries t.positions) ≡ true
 
 pub ranges : (t : RuleText) → is_in_range t ≡ true → Ranges t
 unfolding is_in_range
 ranges t h =
-    let p6 = and_parts _ (list_all (is_place 366) t.positions && is_short t.positions) h in
-    let p5 = and_parts _ (list_all is_entry t.weekdays && is_short t.weekdays) p6.0 in
-    let p4 = and_parts _ (list_all (is_place 31) t.month_days && is_short t.month_days) p5.0 in
-    let p3 = and_parts _ (list_all (is_between 1 12) t.months && is_short t.months) p4.0 in
+    let p6 = and_parts _ (list_all (is_place 366) t.positions && has_few_entries t.positions) h in
+    let p5 = and_parts _ (list_all is_entry t.weekdays && has_few_entries t.weekdays) p6.0 in
+    let p4 = and_parts _ (list_all (is_place 31) t.month_days && has_few_entries t.month_days) p5.0 in
+    let p3 = and_parts _ (list_all (is_between 1 12) t.months && has_few_entries t.months) p4.0 in
     let p2 = and_parts _ (nat_lt t.week_start 7) p3.0 in
     let p1 = and_parts (is_between 1 9999 t.interval) (is_count t.count) p2.0 in
     record {
@@ -402,17 +402,17 @@ ranges t h =
 
 built : (t : RuleText) (until : Option (List ℕ)) (end : Option Until) → Ranges (as_written t end) → HandsIn t.until until end → Built t.frequency (rule_text t until) (rule_values t until)
 built t until end r h =
-    let m = and_parts (list_all (is_between 1 12) (months_from 1 t.months)) (is_short (months_from 1 t.months)) r.months in
-    let d = and_parts (list_all (is_place 31) (numbers_from 0 t.month_days)) (is_short (numbers_from 0 t.month_days)) r.month_days in
-    let e = and_parts (list_all is_entry (entries_from 0 t.weekdays)) (is_short (entries_from 0 t.weekdays)) r.weekdays in
-    let p = and_parts (list_all (is_place 366) (numbers_from 0 t.positions)) (is_short (numbers_from 0 t.positions)) r.positions in
+    let m = and_parts (list_all (is_between 1 12) (months_from 1 t.months)) (has_few_entries (months_from 1 t.months)) r.months in
+    let d = and_parts (list_all (is_place 31) (numbers_from 0 t.month_days)) (has_few_entries (numbers_from 0 t.month_days)) r.month_days in
+    let e = and_parts (list_all is_entry (entries_from 0 t.weekdays)) (has_few_entries (entries_from 0 t.weekdays)) r.weekdays in
+    let p = and_parts (list_all (is_place 366) (numbers_from 0 t.positions)) (has_few_entries (numbers_from 0 t.positions)) r.positions in
     more _ _ WeekStart _ _ (more _ _ BySetPosition _ _ (more _ _ ByDay _ _ (more _ _ ByMonthDay _ _ (more _ _ ByMonth _ _ (more _ _ Interval _ _ (more _ _ EndsAt _ _ (more _ _ Count _ _ start
     (count_piece t.count r.count))
     (until_piece t.until until end h))
     (interval_piece t.interval (t.interval == 1) r.interval))
     (list_piece decimal (is_between 1 12) (λ n b. lacks_decimal 59 semicolon n (month_small n b)) ByMonth (months_from 1 t.months) m.0))
     (list_piece signed_decimal (is_place 31) (λ z b. lacks_place 59 semicolon 31 z (omega arith) b) ByMonthDay (numbers_from 0 t.month_days) d.0))
-    (list_piece entry_text is_entry (lacks_entry 59 semicolon) ByDay (entries_from 0 t.weekdays) e.0))
+    (list_piece weekday_number_text is_entry (lacks_entry 59 semicolon) ByDay (entries_from 0 t.weekdays) e.0))
     (list_piece signed_decimal (is_place 366) (λ z b. lacks_place 59 semicolon 366 z (omega arith) b) BySetPosition (numbers_from 0 t.positions) p.0))
     (week_piece t.week_start (t.week_start == 0) r.week)
 
@@ -430,12 +430,12 @@ rule_back t until end range together ends h =
       says = record {
         frequency = built_frequency t.frequency text (rule_values t until) b;
         interval = says_at SpellsInterval 1 t.interval _ _ (values Interval) (interval_says t.interval (t.interval == 1) refl r.interval);
-        count = says_at (IsGiven SpellsCount) None t.count _ _ (values Count) (count_says t.count r.count);
-        until = says_at (IsGiven SpellsUntil) None end _ _ (values EndsAt) (until_says t.until until end h);
+        count = says_at (IsGivenPart SpellsCount) None t.count _ _ (values Count) (count_says t.count r.count);
+        until = says_at (IsGivenPart SpellsUntil) None end _ _ (values EndsAt) (until_says t.until until end h);
         week_start = says_at SpellsWeekday 0 t.week_start _ _ (values WeekStart) (week_says t.week_start (t.week_start == 0) refl r.week);
         months = says_at SpellsMonths [] (months_from 1 t.months) _ _ (values ByMonth) (list_says (SpellsBetween 1 12) decimal (is_between 1 12) (λ n e. between_back 1 12 n (month_small n e) e) (λ n e. lacks_decimal 44 comma n (month_small n e)) (months_from 1 t.months) r.months);
         month_days = says_at SpellsMonthDays [] (numbers_from 0 t.month_days) _ _ (values ByMonthDay) (list_says (SpellsPlace 31) signed_decimal (is_place 31) (λ z e. place_back 31 z (omega arith) e) (λ z e. lacks_place 44 comma 31 z (omega arith) e) (numbers_from 0 t.month_days) r.month_days);
-        weekdays = says_at SpellsEntries [] (entries_from 0 t.weekdays) _ _ (values ByDay) (list_says SpellsEntry entry_text is_entry entry_back (lacks_entry 44 comma) (entries_from 0 t.weekdays) r.weekdays);
+        weekdays = says_at SpellsEntries [] (entries_from 0 t.weekdays) _ _ (values ByDay) (list_says SpellsEntry weekday_number_text is_entry entry_back (lacks_entry 44 comma) (entries_from 0 t.weekdays) r.weekdays);
         positions = says_at SpellsPositions [] (numbers_from 0 t.positions) _ _ (values BySetPosition) (list_says (SpellsPlace 366) signed_decimal (is_place 366) (λ z e. place_back 366 z (omega arith) e) (λ z e. lacks_place 44 comma 366 z (omega arith) e) (numbers_from 0 t.positions) r.positions);
       };
       together = together;

@@ -4,7 +4,7 @@ use Rattle.profile.specs.series.Days.{Frequency, period_of}
 use Rattle.profile.specs.series.Rules.{reach}
 
 -- from the first on and before the end are the days of the period of n, from 0001-01-01 on (RFC 5545 3.3.10, FREQ)
-pub record IsSpan (frequency : Frequency) (week_start n first end : ℕ) : Type 0 where
+pub record IsPeriodSpan (frequency : Frequency) (week_start n first end : ℕ) : Type 0 where
   pub first_day : 366 ≤ first
   pub not_before : first ≤ n
   pub not_after : n < end

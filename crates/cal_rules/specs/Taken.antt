@@ -4,10 +4,10 @@ use Rattle.std.specs.List.{filter_map}
 use Rattle.ical_lines.specs.declared.fault.Refusal.{Refusal}
 use Rattle.profile.specs.series.Days.{Frequency}
 use Rattle.profile.specs.series.Rules.{WeekdayNumber, Until}
-use Rattle.profile.specs.series.RuleTexts.{RuleKey, Interval, Count, EndsAt, WeekStart, ByMonth, ByMonthDay, ByDay, BySetPosition, key_word, after_key, SpellsFrequency, SpellsInterval, SpellsCount, SpellsUntil, SpellsWeekday, SpellsMonths, SpellsMonthDays, SpellsEntries, SpellsPositions, IsKnownPart, IsBadValue, IsGiven, SaysOr}
+use Rattle.profile.specs.series.RuleTexts.{RuleKey, Interval, Count, EndsAt, WeekStart, ByMonth, ByMonthDay, ByDay, BySetPosition, key_word, after_key, SpellsFrequency, SpellsInterval, SpellsCount, SpellsUntil, SpellsWeekday, SpellsMonths, SpellsMonthDays, SpellsEntries, SpellsPositions, IsKnownPart, IsBadValue, IsGivenPart, SaysOr}
 use Rattle.cal_days.specs.Views.{frequency_of}
 use Rattle.cal_rules.specs.declared.parts.Parts as rust
-use Rattle.cal_rules.specs.Views.{entry_of, until_of}
+use Rattle.cal_rules.specs.Views.{weekday_number_of, until_of}
 
 -- THE NAME OF A PART: NONE FOR FREQ, OR ONE OF THE OTHER KEYS
 
@@ -17,31 +17,31 @@ word None = codes "FREQ="
 word (Some key) = key_word key
 
 -- what its values are
-abbrev pub Said : Option RuleKey → Type 0
-Said None = Frequency
-Said (Some Interval) = ℕ
-Said (Some Count) = ℕ
-Said (Some EndsAt) = Until
-Said (Some WeekStart) = ℕ
-Said (Some ByMonth) = List ℕ
-Said (Some ByMonthDay) = List ℤ
-Said (Some ByDay) = List WeekdayNumber
-Said (Some BySetPosition) = List ℤ
+abbrev pub SaidPart : Option RuleKey → Type 0
+SaidPart None = Frequency
+SaidPart (Some Interval) = ℕ
+SaidPart (Some Count) = ℕ
+SaidPart (Some EndsAt) = Until
+SaidPart (Some WeekStart) = ℕ
+SaidPart (Some ByMonth) = List ℕ
+SaidPart (Some ByMonthDay) = List ℤ
+SaidPart (Some ByDay) = List WeekdayNumber
+SaidPart (Some BySetPosition) = List ℤ
 
 -- how they are spelled
-abbrev pub Spells : (name : Option RuleKey) → List ℕ → Said name → Type 0
-Spells None = SpellsFrequency
-Spells (Some Interval) = SpellsInterval
-Spells (Some Count) = SpellsCount
-Spells (Some EndsAt) = SpellsUntil
-Spells (Some WeekStart) = SpellsWeekday
-Spells (Some ByMonth) = SpellsMonths
-Spells (Some ByMonthDay) = SpellsMonthDays
-Spells (Some ByDay) = SpellsEntries
-Spells (Some BySetPosition) = SpellsPositions
+abbrev pub SpellsRulePart : (name : Option RuleKey) → List ℕ → SaidPart name → Type 0
+SpellsRulePart None = SpellsFrequency
+SpellsRulePart (Some Interval) = SpellsInterval
+SpellsRulePart (Some Count) = SpellsCount
+SpellsRulePart (Some EndsAt) = SpellsUntil
+SpellsRulePart (Some WeekStart) = SpellsWeekday
+SpellsRulePart (Some ByMonth) = SpellsMonths
+SpellsRulePart (Some ByMonthDay) = SpellsMonthDays
+SpellsRulePart (Some ByDay) = SpellsEntries
+SpellsRulePart (Some BySetPosition) = SpellsPositions
 
 -- the field that keeps its value
-abbrev pub field : (name : Option RuleKey) → rust.Parts → Option (Said name)
+abbrev pub field : (name : Option RuleKey) → rust.Parts → Option (SaidPart name)
 field None p = option_map frequency_of p.frequency
 field (Some Interval) p = p.interval
 field (Some Count) p = p.count
@@ -49,7 +49,7 @@ field (Some EndsAt) p = option_map until_of p.until
 field (Some WeekStart) p = p.week_start
 field (Some ByMonth) p = option_map (λ xs. xs.items) p.months
 field (Some ByMonthDay) p = option_map (λ xs. xs.items) p.month_days
-field (Some ByDay) p = option_map (λ xs. map entry_of xs.items) p.weekdays
+field (Some ByDay) p = option_map (λ xs. map weekday_number_of xs.items) p.weekdays
 field (Some BySetPosition) p = option_map (λ xs. xs.items) p.positions
 
 -- ONE PART
@@ -69,23 +69,23 @@ values_in name parts = filter_map (after_key (word name)) parts
 
 -- the fields say what the parts say: nothing yet, or its one value
 abbrev pub SayParts : List (List ℕ) → rust.Parts → Type 0
-SayParts parts p = (name : Option RuleKey) → SaysOr (IsGiven (Spells name)) None (values_in name parts) (field name p)
+SayParts parts p = (name : Option RuleKey) → SaysOr (IsGivenPart (SpellsRulePart name)) None (values_in name parts) (field name p)
 
 -- one of them occurs twice
 abbrev pub HaveOneTwice : List (List ℕ) → Type 0
 HaveOneTwice parts = (name : Option RuleKey) × (1 < length (values_in name parts))
 
 -- the least fault that they have, and the fields where there is none
-abbrev pub Keeps : List (List ℕ) → rust.Parts → Option Refusal → Type 0
-Keeps parts p None = All HasNoBadValue parts × SayParts parts p
-Keeps parts p (Some fault) =
+abbrev pub KeepsLeastFault : List (List ℕ) → rust.Parts → Option Refusal → Type 0
+KeepsLeastFault parts p None = All HasNoBadValue parts × SayParts parts p
+KeepsLeastFault parts p (Some fault) =
     ((fault.number ≡ 31) × (part : List ℕ) × Contains parts part × HasBadValue part)
     ⊎ ((fault.number ≡ 32) × HaveOneTwice parts × All HasNoBadValue parts)
 
 -- these parts were taken: all are known, and the fault is kept
-pub record AreTaken (parts : List (List ℕ)) (p : rust.Parts) : Type 0 where
+pub record ArePartsTaken (parts : List (List ℕ)) (p : rust.Parts) : Type 0 where
   pub known : All IsKnownPart parts
-  pub kept : Keeps parts p p.fault
+  pub kept : KeepsLeastFault parts p p.fault
 
 -- ONE PART MORE
 

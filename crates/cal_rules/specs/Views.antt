@@ -5,10 +5,10 @@ use Rattle.cal_rules.specs.declared.written.WeekdayNumber as rust_entry
 use Rattle.cal_rules.specs.declared.written.Written as rust
 use Rattle.cal_rules.specs.declared.written.Until as rust_until
 use Rattle.cal_rules.specs.declared.written.Until.TheVariants as the
-use Rattle.profile.specs.series.Rules.{WeekdayNumber, Pattern, Parts, RuleText, Until, UntilDay, UntilLocal, UntilInstant}
+use Rattle.profile.specs.series.Rules.{WeekdayNumber, Pattern, Rule, RuleText, Until, UntilDay, UntilLocal, UntilInstant}
 
-abbrev pub entry_of : rust_entry.WeekdayNumber → WeekdayNumber
-entry_of entry = record { number = entry.number; weekday = entry.weekday }
+abbrev pub weekday_number_of : rust_entry.WeekdayNumber → WeekdayNumber
+weekday_number_of entry = record { number = entry.number; weekday = entry.weekday }
 
 abbrev pub until_of : rust_until.Until → Until
 until_of (the.Date day) = UntilDay day
@@ -23,14 +23,14 @@ pattern_of written start = record {
   week_start = written.week_start;
   months = written.months.items;
   month_days = written.month_days.items;
-  weekdays = map entry_of written.weekdays.items;
+  weekdays = map weekday_number_of written.weekdays.items;
   positions = written.positions.items;
   start = start;
 }
 
 -- what is written, with the days of DTSTART and of UNTIL
-abbrev pub parts_of : rust.Written → ℕ → ℕ → Parts
-parts_of written start last = record {
+abbrev pub rule_said : rust.Written → ℕ → ℕ → Rule
+rule_said written start last = record {
   pattern = pattern_of written start;
   count = written.count;
   last = last;
@@ -38,14 +38,14 @@ parts_of written start last = record {
 }
 
 -- what is written
-abbrev pub text_of : rust.Written → RuleText
-text_of written = record {
+abbrev pub rule_text_said : rust.Written → RuleText
+rule_text_said written = record {
   frequency = frequency_of written.frequency;
   interval = written.interval;
   week_start = written.week_start;
   months = written.months.items;
   month_days = written.month_days.items;
-  weekdays = map entry_of written.weekdays.items;
+  weekdays = map weekday_number_of written.weekdays.items;
   positions = written.positions.items;
   count = written.count;
   until = option_map until_of written.until;

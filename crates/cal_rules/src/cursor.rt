@@ -5,7 +5,7 @@ ghost use Rattle.profile.specs.series.Rules.{Pattern};
 ghost use Rattle.cal_days.specs.Views.{frequency_of};
 ghost use Rattle.profile.specs.series.Days.{Weekly};
 ghost use Rattle.cal_rules.specs.Known.{AreFacts};
-ghost use Rattle.cal_rules.specs.Spans.{IsSpan};
+ghost use Rattle.cal_rules.specs.Spans.{IsPeriodSpan};
 
 use crate::facts::DayFacts;
 use cal_days::{FIRST_INDEX, Frequency};
@@ -76,7 +76,7 @@ impl PeriodDays {
     pub fn of(frequency: Frequency, week_start: u8, day: DayFacts) -> PeriodDays
         requires facts { AreFacts day }
         requires range { (366 ≤ day.index) × (day.index ≤ 3_652_424) }
-        ensures days { IsSpan (frequency_of frequency) week_start day.index result.first result.end }
+        ensures days { IsPeriodSpan (frequency_of frequency) week_start day.index result.first result.end }
         ensures range { result.end ≤ 3_652_790 }
     {
         match frequency {
@@ -100,7 +100,7 @@ impl PeriodDays {
 /// The week of the day of that index.
 fn week_of(week_start: u8, index: u32) -> PeriodDays
     requires { (366 ≤ index) × (index ≤ 3_652_424) }
-    ensures days { IsSpan Weekly week_start index result.first result.end }
+    ensures days { IsPeriodSpan Weekly week_start index result.first result.end }
     ensures range { result.end ≤ 3_652_431 }
 {
     let passed = (index + 12 - week_start as u32) % 7;

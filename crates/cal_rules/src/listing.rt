@@ -6,11 +6,11 @@ ghost use Rattle.std.specs.Prelude.{◌≡◌, ◌+◌, ◌-◌, ◌*◌, ◌%�
 ghost use Rattle.cal_days.specs.Views.{frequency_of};
 ghost use Rattle.profile.specs.series.Days.{day_index, period_of, shortest_period};
 ghost use Rattle.profile.specs.series.Rules.{is_counted, is_in_step, count_days, passes, is_missing};
-ghost use Rattle.cal_rules.specs.Views.{pattern_of, parts_of};
+ghost use Rattle.cal_rules.specs.Views.{pattern_of, rule_said};
 ghost use Rattle.cal_rules.specs.Known.{AreFacts};
-ghost use Rattle.cal_rules.specs.Counted.{NoneIn, NoneFrom, EndsAt, is_chosen};
+ghost use Rattle.cal_rules.specs.Counted.{NoneIn, HasNoDayFrom, RuleEndsAt, is_chosen};
 ghost use Rattle.cal_rules.specs.Cursors.{IsCursorOf, IsPastFirst, IsPastNext, is_among_last};
-ghost use Rattle.cal_rules.specs.Spans.{IsSpan};
+ghost use Rattle.cal_rules.specs.Spans.{IsPeriodSpan};
 ghost use Rattle.std.specs.List.{list_all};
 
 use crate::cursor::{Cursor, PeriodDays};
@@ -115,7 +115,7 @@ fn next_chosen(written: &Written, start: DayFacts, from: Cursor, last: u32) -> O
 pub(crate) fn is_counted(written: &Written, start: DayFacts, last: Day, day: Day) -> bool
     requires interval { 1 ≤ written.now.interval }
     requires start { AreFacts start }
-    ensures { result ≡ is_counted (parts_of written.now start.index (day_index last)) (day_index day) }
+    ensures { result ≡ is_counted (rule_said written.now start.index (day_index last)) (day_index day) }
 {
     let index = day.index();
     if index < start.index || index > last.index().min(LAST_INDEX) {
@@ -144,8 +144,8 @@ pub(crate) fn next_counted(
     requires interval { 1 ≤ written.now.interval }
     requires start { AreFacts start }
     requires is_cursor { IsCursorOf (pattern_of written.now start.index) from }
-    ensures { let parts = parts_of written.now start.index (day_index last) in
-        MatchOption result (NoneFrom parts from.day.index) (IsPastNext parts from.day.index) }
+    ensures { let parts = rule_said written.now start.index (day_index last) in
+        MatchOption result (HasNoDayFrom parts from.day.index) (IsPastNext parts from.day.index) }
 {
     let limit = last.index().min(LAST_INDEX);
     let begin = from.not_before(start);
@@ -156,7 +156,7 @@ pub(crate) fn next_counted(
 pub(crate) fn find_end(written: &Written, start: DayFacts, last: Day) -> u32
     requires interval { 1 ≤ written.now.interval }
     requires start { AreFacts start }
-    ensures { EndsAt (parts_of written.now start.index (day_index last)) result }
+    ensures { RuleEndsAt (rule_said written.now start.index (day_index last)) result }
 {
     let Some(count) = written.count else {
         return LAST_INDEX;
@@ -223,7 +223,7 @@ fn enter(written: &Written, start: DayFacts, day: DayFacts, span: PeriodDays) ->
     requires start { AreFacts start }
     requires day { AreFacts day }
     requires end { span.end ≤ 3_653_155 }
-    requires span { IsSpan (frequency_of written.now.frequency) written.now.week_start day.index span.first span.end }
+    requires span { IsPeriodSpan (frequency_of written.now.frequency) written.now.week_start day.index span.first span.end }
     requires in_step { is_in_step (pattern_of written.now start.index) day.index ≡ true }
     ensures not_before { day.index ≤ result.day.index }
     ensures span { result.span ≡ span }
@@ -307,7 +307,7 @@ fn first_in_period(
     requires start { AreFacts start }
     requires day { AreFacts day }
     requires end { span.end ≤ 3_652_790 }
-    requires span { IsSpan (frequency_of written.now.frequency) written.now.week_start day.index span.first span.end }
+    requires span { IsPeriodSpan (frequency_of written.now.frequency) written.now.week_start day.index span.first span.end }
     requires here { ahead ≡ 0 → is_in_step (pattern_of written.now start.index) day.index ≡ true }
     requires away { 1 ≤ ahead → is_in_step (pattern_of written.now start.index) day.index ≡ false }
     ensures { let p = pattern_of written.now start.index in MatchOption result
@@ -332,7 +332,7 @@ fn enter_from_end(
     requires start { AreFacts start }
     requires day { AreFacts day }
     requires end { span.end ≤ 3_653_155 }
-    requires span { IsSpan (frequency_of written.now.frequency) written.now.week_start day.index span.first span.end }
+    requires span { IsPeriodSpan (frequency_of written.now.frequency) written.now.week_start day.index span.first span.end }
     requires in_step { is_in_step (pattern_of written.now start.index) day.index ≡ true }
     requires some { is_missing (pattern_of written.now start.index).positions ≡ false }
     requires deep { list_all (is_among_last depth) (pattern_of written.now start.index).positions ≡ true }

@@ -4,8 +4,8 @@
 ghost use Rattle.std.specs.Prelude.{◌≡◌, ℕ, List, [], ◌∷◌, ◌++◌, None, Some, IfOk, IfErr, OnOk, MatchOption};
 ghost use Rattle.ical_lines.specs.Fault.{RefusesBy};
 ghost use Rattle.profile.specs.series.RuleTexts.{rule_parts, IsKnownPart, SaysParts, SpellsRule, IsLeastRuleFault};
-ghost use Rattle.cal_rules.specs.Views.{text_of};
-ghost use Rattle.cal_rules.specs.Taken.{SayParts, AreTaken, Enters, IsFaultOf, Puts, PutsRead};
+ghost use Rattle.cal_rules.specs.Views.{rule_text_said};
+ghost use Rattle.cal_rules.specs.Taken.{SayParts, ArePartsTaken, Enters, IsFaultOf, Puts, PutsRead};
 
 use crate::values::{
     read_count, read_entries, read_frequency, read_interval, read_months, read_places, read_until,
@@ -35,7 +35,7 @@ pub(crate) struct Parts {
 impl Parts {
     /// No part was taken yet.
     pub fn new() -> Parts
-        ensures { AreTaken [] result }
+        ensures { ArePartsTaken [] result }
     {
         Parts {
             frequency: None,
@@ -54,7 +54,7 @@ impl Parts {
     /// Takes the next part. Refused at once: an unknown part (30).
     pub fn take(&mut self, alloc: Global, part: &str) -> Result<(), Fault>
         ensures takes { OnOk result
-            ((parts : List (List ℕ)) → AreTaken parts self.old → AreTaken (parts ++ part.now ∷ []) self.new) }
+            ((parts : List (List ℕ)) → ArePartsTaken parts self.old → ArePartsTaken (parts ++ part.now ∷ []) self.new) }
         ensures refuses { IfErr result (RefusesBy (λ n. (n ≡ 30) × (IsKnownPart part.now → ⊥))) }
     {
         let Some(fault) = self.enter(alloc, part)? else {
@@ -101,9 +101,9 @@ impl Parts {
     /// don't go together (32), COUNT beside UNTIL (33).
     pub fn finish(self, alloc: Global) -> Result<Written, Refusal>
         ensures says { IfOk result
-            (λ written. (text : List ℕ) → AreTaken (rule_parts text) self → SpellsRule text (text_of written)) }
+            (λ written. (text : List ℕ) → ArePartsTaken (rule_parts text) self → SpellsRule text (rule_text_said written)) }
         ensures refuses { IfErr result
-            (λ e. (text : List ℕ) → AreTaken (rule_parts text) self → IsLeastRuleFault text e.number) }
+            (λ e. (text : List ℕ) → ArePartsTaken (rule_parts text) self → IsLeastRuleFault text e.number) }
     {
         if let Some(fault) = self.fault {
             return Err(fault);
@@ -122,7 +122,7 @@ impl Parts {
     /// The rule of that frequency: a part that is missing means its default.
     fn written(self, alloc: Global, frequency: Frequency) -> Written
         ensures { (text : List ℕ) → SayParts (rule_parts text) self → self.frequency ≡ Some frequency
-            → SaysParts text (text_of result) }
+            → SaysParts text (rule_text_said result) }
     {
         Written {
             frequency,

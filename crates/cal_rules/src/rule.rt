@@ -27,17 +27,17 @@ pub struct Rule {
 impl Model for Rule {
     ghost use Rattle.std.specs.Prelude.{◌≤◌};
     ghost use Rattle.profile.specs.series.Days.{day_index};
-    ghost use Rattle.profile.specs.series.Rules.{IsAllowed, Parts};
-    ghost use Rattle.cal_rules.specs.Views.{parts_of, text_of};
+    ghost use Rattle.profile.specs.series.Rules.{IsAllowed, Rule as SaidRule};
+    ghost use Rattle.cal_rules.specs.Views.{rule_said, rule_text_said};
     ghost use Rattle.cal_rules.specs.Known.{AreFacts};
-    ghost use Rattle.cal_rules.specs.Counted.{EndsAt};
+    ghost use Rattle.cal_rules.specs.Counted.{RuleEndsAt};
 
-    ghost Value = { Parts };
+    ghost Value = { SaidRule };
 
-    ghost view = { λ r. parts_of r.written r.start.index (day_index r.last) };
+    ghost view = { λ r. rule_said r.written r.start.index (day_index r.last) };
 
     ghost invariant = { λ r. (1 ≤ r.written.interval) × AreFacts r.start
-        × EndsAt (parts_of r.written r.start.index (day_index r.last)) r.end × IsAllowed (text_of r.written) };
+        × RuleEndsAt (rule_said r.written r.start.index (day_index r.last)) r.end × IsAllowed (rule_text_said r.written) };
 }
 
 impl Clone for Rule {
@@ -57,7 +57,7 @@ impl Clone for Rule {
 impl Rule {
     ghost use Rattle.std.specs.Prelude.{◌≡◌, ◌+◌, ◌++◌, true, false, map, option_map, MatchOption, IfOk, IfErr, OnOk, OnErr};
     ghost use Rattle.cal_days.specs.Views.{frequency_of};
-    ghost use Rattle.cal_rules.specs.Views.{entry_of, until_of};
+    ghost use Rattle.cal_rules.specs.Views.{weekday_number_of, until_of};
     ghost use Rattle.profile.specs.series.Days.{day_index};
     ghost use Rattle.profile.specs.series.Rules.{rule_of, text_in, is_rule_day, rule_days_from, NoDayFrom, IsNextDay};
     ghost use Rattle.profile.specs.series.RuleTexts as texts;
@@ -165,7 +165,7 @@ impl Rule {
 
     /// The entries of BYDAY, none where it isn't written.
     pub fn weekdays(&self) -> &[WeekdayNumber]
-        ensures { map entry_of result.now ≡ self.now.pattern.weekdays }
+        ensures { map weekday_number_of result.now ≡ self.now.pattern.weekdays }
     {
         &self.written.weekdays
     }

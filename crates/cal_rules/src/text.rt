@@ -4,7 +4,7 @@ ghost use Rattle.std.specs.Prelude.{◌≡◌, ℕ, List, map, option_map, IfOk,
 ghost use Rattle.ical_lines.specs.Fault.{RefusesBy};
 ghost use Rattle.profile.specs.series.RuleTexts.{SpellsRule, RuleFault, IsLeastRuleFault};
 ghost use Rattle.cal_days.specs.Views.{frequency_of};
-ghost use Rattle.cal_rules.specs.Views.{entry_of, until_of, text_of};
+ghost use Rattle.cal_rules.specs.Views.{weekday_number_of, until_of, rule_text_said};
 ghost use Rattle.profile.specs.series.Rules as rules;
 ghost use Rattle.profile.specs.series.RuleTexts as texts;
 
@@ -24,13 +24,13 @@ pub struct RuleText {
 
 impl Model for RuleText {
     ghost use Rattle.profile.specs.series.Rules as rules;
-    ghost use Rattle.cal_rules.specs.Views.{text_of};
+    ghost use Rattle.cal_rules.specs.Views.{rule_text_said};
 
     ghost Value = { rules.RuleText };
 
-    ghost view = { λ t. text_of t.written };
+    ghost view = { λ t. rule_text_said t.written };
 
-    ghost invariant = { λ t. rules.IsAllowed (text_of t.written) };
+    ghost invariant = { λ t. rules.IsAllowed (rule_text_said t.written) };
 }
 
 impl RuleText {
@@ -86,7 +86,7 @@ impl RuleText {
 
     /// The entries of BYDAY, none where it isn't written.
     pub fn weekdays(&self) -> &[WeekdayNumber]
-        ensures { map entry_of result.now ≡ self.now.weekdays }
+        ensures { map weekday_number_of result.now ≡ self.now.weekdays }
     {
         &self.written.weekdays
     }

@@ -7,7 +7,7 @@ ghost use Rattle.profile.specs.text.Values.{IsNumber};
 ghost use Rattle.profile.specs.series.RuleTexts.{SpellsFrequency, SpellsWeekday, SpellsBetween, SpellsInterval, SpellsCount, SpellsPlace, SpellsEntry, SpellsUntil, SpellsNone, SpellsList, SpellsMonths, SpellsEntries};
 ghost use Rattle.cal_days.specs.Views.{frequency_of};
 ghost use Rattle.cal_rules.specs.Lists.{IsNoList};
-ghost use Rattle.cal_rules.specs.Views.{entry_of, until_of};
+ghost use Rattle.cal_rules.specs.Views.{weekday_number_of, until_of};
 
 use crate::written::{Until, WeekdayNumber};
 use cal_days::Frequency;
@@ -115,7 +115,7 @@ pub(crate) fn read_place(most: u16, value: &str) -> Option<i16>
 
 /// An entry of BYDAY: a weekday, with a number before it or none.
 pub(crate) fn read_entry(value: &str) -> Option<WeekdayNumber>
-    ensures reads { IfSome result (λ entry. SpellsEntry value.now (entry_of entry)) }
+    ensures reads { IfSome result (λ entry. SpellsEntry value.now (weekday_number_of entry)) }
     ensures none { IfNone result (SpellsNone SpellsEntry value.now) }
 {
     if value.len() < 2 {
@@ -200,7 +200,7 @@ pub(crate) fn read_entries(
     value: &str,
 ) -> Result<Option<Vec<WeekdayNumber>>, AllocError>
     ensures reads { IfOk result
-        (λ read. IfSome read (λ entries. SpellsEntries value.now (map entry_of entries.items))) }
+        (λ read. IfSome read (λ entries. SpellsEntries value.now (map weekday_number_of entries.items))) }
     ensures none { IfOk result (λ read. IfNone read (SpellsNone SpellsEntries value.now)) }
 {
     read_list(alloc, value, read_entry)

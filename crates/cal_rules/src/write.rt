@@ -7,7 +7,7 @@ ghost use Rattle.std.specs.List.Sorted.{IsStrictlyIncreasing};
 ghost use Rattle.profile.specs.faults.Faults.{is_between};
 ghost use Rattle.profile.specs.series.Rules.{is_place, is_entry};
 ghost use Rattle.cal_days.specs.Views.{frequency_of};
-ghost use Rattle.cal_rules.specs.Views.{entry_of, text_of, until_of};
+ghost use Rattle.cal_rules.specs.Views.{weekday_number_of, rule_text_said, until_of};
 ghost use Rattle.profile.specs.series.Rules as rules;
 ghost use Rattle.profile.specs.series.RuleTexts as texts;
 
@@ -22,10 +22,10 @@ pub(crate) fn rule_text(
     written: &Written,
     until: Option<&str>,
 ) -> Result<String, AllocError>
-    requires { rules.is_in_range (text_of written.now) ≡ true }
+    requires { rules.is_in_range (rule_text_said written.now) ≡ true }
     ensures { IfOk result
         (λ text. string_bytes text
-        ≡ texts.rule_text (text_of written.now) (option_map (λ text. text.now) until.entry)) }
+        ≡ texts.rule_text (rule_text_said written.now) (option_map (λ text. text.now) until.entry)) }
 {
     let mut text = String::from_str(alloc, "FREQ=")?;
     text.push_str(frequency_word(written.frequency))?;
@@ -133,10 +133,10 @@ fn push_numbers(text: &mut String, name: &str, numbers: &[i16]) -> Result<(), Al
 
 /// Appends BYDAY.
 fn push_weekdays(text: &mut String, entries: &[WeekdayNumber]) -> Result<(), AllocError>
-    requires { list_all is_entry (map entry_of entries.now) ≡ true }
+    requires { list_all is_entry (map weekday_number_of entries.now) ≡ true }
     ensures { OnOk result
         (string_bytes text.new ≡ string_bytes text.old
-        ++ texts.listed (codes ";BYDAY=") (map texts.entry_text (texts.entries_from 0 (map entry_of entries.now)))) }
+        ++ texts.listed (codes ";BYDAY=") (map texts.weekday_number_text (texts.entries_from 0 (map weekday_number_of entries.now)))) }
 {
     let places = entries_in_order(*text.allocator(), entries)?;
     let mut is_first = true;
@@ -177,9 +177,9 @@ fn numbers_in_order(alloc: Global, numbers: &[i16]) -> Result<Vec<u16>, AllocErr
 
 /// The places of the entries in the order in which BYDAY is written: ascending, each once.
 fn entries_in_order(alloc: Global, entries: &[WeekdayNumber]) -> Result<Vec<u16>, AllocError>
-    requires { list_all is_entry (map entry_of entries.now) ≡ true }
+    requires { list_all is_entry (map weekday_number_of entries.now) ≡ true }
     ensures lists { IfOk result
-        (λ places. map texts.nth_entry places.items ≡ texts.entries_from 0 (map entry_of entries.now)) }
+        (λ places. map texts.nth_entry places.items ≡ texts.entries_from 0 (map weekday_number_of entries.now)) }
     ensures below { IfOk result (λ places. All (λ place. place < 749) places.items) }
 {
     let mut places = Vec::new(alloc);
@@ -210,8 +210,8 @@ fn place_of_number(number: i16) -> u16
 
 /// The place of an entry in the order in which BYDAY is written: by number, then from Monday on.
 fn place_of_entry(entry: WeekdayNumber) -> u16
-    requires { is_entry (entry_of entry) ≡ true }
-    ensures { (result < 749) × (texts.nth_entry result ≡ entry_of entry) }
+    requires { is_entry (weekday_number_of entry) ≡ true }
+    ensures { (result < 749) × (texts.nth_entry result ≡ weekday_number_of entry) }
 {
     (entry.number + 53) as u16 * 7 + entry.weekday as u16
 }
@@ -219,7 +219,7 @@ fn place_of_entry(entry: WeekdayNumber) -> u16
 /// The entry at a place in that order.
 fn nth_entry(place: u16) -> WeekdayNumber
     requires { place < 749 }
-    ensures { entry_of result ≡ texts.nth_entry place }
+    ensures { weekday_number_of result ≡ texts.nth_entry place }
 {
     WeekdayNumber {
         number: (place / 7) as i16 - 53,
@@ -229,7 +229,7 @@ fn nth_entry(place: u16) -> WeekdayNumber
 
 /// Appends an entry of BYDAY.
 fn push_entry(text: &mut String, entry: WeekdayNumber) -> Result<(), AllocError>
-    ensures { OnOk result (string_bytes text.new ≡ string_bytes text.old ++ texts.entry_text (entry_of entry)) }
+    ensures { OnOk result (string_bytes text.new ≡ string_bytes text.old ++ texts.weekday_number_text (weekday_number_of entry)) }
 {
     if entry.number != 0 {
         push_signed(text, entry.number)?;
@@ -311,7 +311,7 @@ pub fn values_read_back()
         (signed_decimal place ++ texts.listed (codes ",") (map signed_decimal places)) (place ∷ places) }
     ensures entries { (entry : rules.WeekdayNumber) (entries : List rules.WeekdayNumber)
         → list_all is_entry (entry ∷ entries) ≡ true → length (entry ∷ entries) ≤ 366
-        → texts.SpellsEntries (texts.entry_text entry ++ texts.listed (codes ",") (map texts.entry_text entries))
+        → texts.SpellsEntries (texts.weekday_number_text entry ++ texts.listed (codes ",") (map texts.weekday_number_text entries))
         (entry ∷ entries) }
 {}
 

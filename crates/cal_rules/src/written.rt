@@ -3,7 +3,7 @@
 ghost use Rattle.std.specs.Prelude.{◌≡◌, ◌&&◌, ◌||◌, not, map, ◌==◌};
 ghost use Rattle.std.specs.List.{list_all, list_any};
 ghost use Rattle.profile.specs.series.Rules.{is_weekly, is_long, is_missing, is_plain, go_together, has_one_end, is_nth, allows, names_weekday, same_weekdays_before, same_weekdays_after, names_no_day, implies_month, implies_month_day, implies_weekday, counts_in_year, passes_month, passes_month_day, passes_weekday, passes};
-ghost use Rattle.cal_rules.specs.Views.{entry_of, text_of, pattern_of};
+ghost use Rattle.cal_rules.specs.Views.{weekday_number_of, rule_text_said, pattern_of};
 ghost use Rattle.cal_days.specs.Views.{frequency_of};
 ghost use Rattle.profile.specs.series.Days.{day_index, period_of};
 ghost use Rattle.cal_rules.specs.Known.{AreFacts};
@@ -43,7 +43,7 @@ pub(crate) struct Written {
 }
 
 impl Clone for Written {
-    ghost is_clone = { λ written copy. text_of copy ≡ text_of written };
+    ghost is_clone = { λ written copy. rule_text_said copy ≡ rule_text_said written };
 
     fn clone(&self) -> Result<Written, AllocError> {
         let months = self.months.clone()?;
@@ -68,21 +68,21 @@ impl Written {
     /// Do the parts go together?
     #[tactic(auto, using(std::proofs::lemmas::Bool::Decides::nat_tests), unfolding(profile::specs::series::Rules::go_together))]
     pub fn go_together(&self) -> bool
-        ensures { result ≡ go_together (text_of self.now) }
+        ensures { result ≡ go_together (rule_text_said self.now) }
     {
         self.fits_month_days() && self.fits_numbers() && self.fits_positions()
     }
 
     /// No BYMONTHDAY in a WEEKLY rule?
     fn fits_month_days(&self) -> bool
-        ensures { result ≡ (not (is_weekly (text_of self.now).frequency) || is_missing (text_of self.now).month_days) }
+        ensures { result ≡ (not (is_weekly (rule_text_said self.now).frequency) || is_missing (rule_text_said self.now).month_days) }
     {
         self.frequency != Frequency::Weekly || self.month_days.is_empty()
     }
 
     /// Numbers in BYDAY only in MONTHLY and YEARLY rules without BYMONTHDAY?
     fn fits_numbers(&self) -> bool
-        ensures { let text = text_of self.now in
+        ensures { let text = rule_text_said self.now in
             result ≡ (list_all (λ entry. is_plain entry.number) text.weekdays
             || (is_long text.frequency && is_missing text.month_days)) }
     {
@@ -91,7 +91,7 @@ impl Written {
 
     /// BYSETPOS only beside another BY part?
     fn fits_positions(&self) -> bool
-        ensures { let text = text_of self.now in
+        ensures { let text = rule_text_said self.now in
             result ≡ (is_missing text.positions
             || not (is_missing text.months && is_missing text.month_days && is_missing text.weekdays)) }
     {
@@ -101,14 +101,14 @@ impl Written {
 
     /// Is there at most one of COUNT and UNTIL?
     pub fn has_one_end(&self) -> bool
-        ensures { result ≡ has_one_end (text_of self.now) }
+        ensures { result ≡ has_one_end (rule_text_said self.now) }
     {
         self.count.is_none() || self.until.is_none()
     }
 
     /// MONTHLY or YEARLY?
     fn is_long(&self) -> bool
-        ensures { result ≡ is_long (text_of self.now).frequency }
+        ensures { result ≡ is_long (rule_text_said self.now).frequency }
     {
         match self.frequency {
             Frequency::Daily | Frequency::Weekly => false,
@@ -217,14 +217,14 @@ impl Written {
 
 /// Are all entries without a number?
 fn all_plain(entries: &[WeekdayNumber]) -> bool
-    ensures { result ≡ list_all (λ entry. is_plain (entry_of entry).number) entries.now }
+    ensures { result ≡ list_all (λ entry. is_plain (weekday_number_of entry).number) entries.now }
 {
     entries.iter().all(|entry| entry.number == 0)
 }
 
 /// Are all entries without a number?
 fn are_plain(entries: &[WeekdayNumber]) -> bool
-    ensures { result ≡ list_all (λ entry. is_plain entry.number) (map entry_of entries.now) }
+    ensures { result ≡ list_all (λ entry. is_plain entry.number) (map weekday_number_of entries.now) }
 {
     all_plain(entries)
 }
@@ -264,14 +264,14 @@ pub(crate) fn allows_nth(numbers: &[i16], before: u32, after: u32) -> bool
 /// Does the entry of BYDAY name a day of that weekday, with this many of them before it and this many after
 /// it?
 fn names_weekday(entry: WeekdayNumber, weekday: u8, before: u32, after: u32) -> bool
-    ensures { result ≡ names_weekday weekday before after (entry_of entry) }
+    ensures { result ≡ names_weekday weekday before after (weekday_number_of entry) }
 {
     entry.weekday == weekday && (entry.number == 0 || is_nth(entry.number, before, after))
 }
 
 /// Does one of the entries of BYDAY name the day?
 fn any_weekday(entries: &[WeekdayNumber], weekday: u8, before: u32, after: u32) -> bool
-    ensures { result ≡ list_any (λ entry. names_weekday weekday before after (entry_of entry)) entries.now }
+    ensures { result ≡ list_any (λ entry. names_weekday weekday before after (weekday_number_of entry)) entries.now }
 {
     entries
         .iter()
@@ -280,7 +280,7 @@ fn any_weekday(entries: &[WeekdayNumber], weekday: u8, before: u32, after: u32) 
 
 /// Does one of the entries of BYDAY name the day, or is there none?
 fn allows_weekday(entries: &[WeekdayNumber], weekday: u8, before: u32, after: u32) -> bool
-    ensures { result ≡ allows (λ entry. names_weekday weekday before after (entry_of entry)) entries.now }
+    ensures { result ≡ allows (λ entry. names_weekday weekday before after (weekday_number_of entry)) entries.now }
 {
     entries.is_empty() || any_weekday(entries, weekday, before, after)
 }

@@ -7,10 +7,10 @@ use Rattle.std.specs.Int.Signed.{◌<ℤ◌}
 use Rattle.jiff_core.proofs.SignedLemmas.{signed_arith}
 use Rattle.profile.specs.series.Days.{year_of, days_before, days_in_month}
 use Rattle.profile.specs.series.Zones.{IsOnset, IsLatest, IsFirstOf, NoneBegun, IsOffsetAt, Means, begins_on, onset_at, local_time}
-use Rattle.cal_zones.specs.Shapes.{is_yearly, IsPlace}
+use Rattle.cal_zones.specs.Shapes.{occurs_yearly, IsPlaceInMonth}
 use Rattle.cal_zones.specs.Yearly.{IsDayOfYear}
 use Rattle.cal_zones.specs.Onsets.{observance_of}
-use Rattle.cal_zones.specs.Kinds.{AreEnds, IsOrdered, kind_of, zone_of}
+use Rattle.cal_zones.specs.Kinds.{AreEnds, IsOrdered, zone_of_form, zone_of}
 use Rattle.cal_zones.specs.declared.yearly.MonthDays.{MonthDays}
 use Rattle.cal_zones.specs.declared.yearly.MonthDays.TheVariants.{Day, FromStart, FromEnd, Week}
 use Rattle.cal_zones.specs.declared.yearly.Yearly.{Yearly}
@@ -30,7 +30,7 @@ weekday_there first least weekday h =
     let b = least + (weekday + 7 - (first + least + 5) % 7) % 7 in
     (b, omega arith, omega arith, omega arith)
 
-place_there : (month : ℕ) (days : MonthDays) (first length : ℕ) → is_yearly month days ≡ true → 28 ≤ length → (b : ℕ) × IsPlace days first length b
+place_there : (month : ℕ) (days : MonthDays) (first length : ℕ) → occurs_yearly month days ≡ true → 28 ≤ length → (b : ℕ) × IsPlaceInMonth days first length b
 place_there month (Day d) first length h long = (d - 1, grind (arith, nat_tests))
 place_there month (FromStart k w) first length h long =
     let there = weekday_there first (7 * (k - 1)) w (grind (arith, nat_tests)) in
@@ -167,7 +167,7 @@ begun o t = begun_by o t ((t +ℤ o.offset_from) -ℤ local_time 0 o.second) (om
 
 -- ---- an offset is in force, and a local time means an instant
 
-pub in_force : (k : rust.Form) (t : ℤ) → (offset : ℤ) × IsOffsetAt (kind_of k) t offset
+pub in_force : (k : rust.Form) (t : ℤ) → (offset : ℤ) × IsOffsetAt (zone_of_form k) t offset
 in_force (the.Constant f) t = (f.offset, refl)
 in_force (the.Single a) t =
     elim (begun a t) [
@@ -204,7 +204,7 @@ ordered from to =
     (λ lt. (from, to, inl (refl, refl, omega (arith, signed_arith))))
     (λ ge. (to, from, inr (refl, refl, ge)))
 
-ends_there : (k : rust.Form) → (least : ℤ) × (greatest : ℤ) × AreEnds (kind_of k) least greatest
+ends_there : (k : rust.Form) → (least : ℤ) × (greatest : ℤ) × AreEnds (zone_of_form k) least greatest
 ends_there (the.Constant f) = (f.offset, f.offset, (refl, refl))
 ends_there (the.Single a) = ordered a.offset_from a.offset_to
 ends_there (the.Pair p) = let o = ordered p.standard.offset_from p.standard.offset_to in (o.0, o.1, (o.2, p.there, p.back))

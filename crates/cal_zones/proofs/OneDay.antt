@@ -6,7 +6,7 @@ use Rattle.jiff_core.proofs.SignedLemmas.{signed_arith, one_part}
 use Rattle.profile.specs.series.Days.{days_before, days_in_month, year_start, year_of, month_of, month_days_before, IsDate, day_index, number_of_day}
 use Rattle.cal_days.proofs.Dates.{named, named_later, month_days_before_later, date_counts, year_begins, year_ends}
 use Rattle.cal_days.proofs.Bridge.{days_in_month-later}
-use Rattle.cal_zones.specs.Shapes.{is_yearly, IsPlace}
+use Rattle.cal_zones.specs.Shapes.{occurs_yearly, IsPlaceInMonth}
 use Rattle.cal_zones.specs.Yearly.{IsOn, IsDayOfYear, IsLatestDay, IsFirstDay, HasEarlier}
 use Rattle.cal_zones.specs.declared.yearly.MonthDays.{MonthDays}
 use Rattle.cal_zones.specs.declared.yearly.MonthDays.TheVariants.{Day, FromStart, FromEnd, Week}
@@ -20,14 +20,14 @@ count_of_number count number e = omega (arith, signed_arith, one_part (number +�
 pub month_least : (year month : ℕ) → (28 ≤ days_in_month year month) × (days_in_month 1 month ≤ days_in_month year month)
 month_least year month = (grind (arith, nat_tests), grind (arith, nat_tests))
 
-yearly_month : (month : ℕ) (days : MonthDays) → is_yearly month days ≡ true → (1 ≤ month) × (month ≤ 12)
+yearly_month : (month : ℕ) (days : MonthDays) → occurs_yearly month days ≡ true → (1 ≤ month) × (month ≤ 12)
 yearly_month month (Day d) h = (grind (arith, nat_tests), grind (arith, nat_tests))
 yearly_month month (FromStart k w) h = (grind (arith, nat_tests), grind (arith, nat_tests))
 yearly_month month (FromEnd k w) h = (grind (arith, nat_tests), grind (arith, nat_tests))
 yearly_month month (Week d w) h = (grind (arith, nat_tests), grind (arith, nat_tests))
 
 -- the day is in the month
-place_within : (month : ℕ) (days : MonthDays) (first length before : ℕ) → is_yearly month days ≡ true → 28 ≤ length → days_in_month 1 month ≤ length → IsPlace days first length before → before < length
+place_within : (month : ℕ) (days : MonthDays) (first length before : ℕ) → occurs_yearly month days ≡ true → 28 ≤ length → days_in_month 1 month ≤ length → IsPlaceInMonth days first length before → before < length
 place_within month (Day d) first length before h long least place = grind (arith, nat_tests)
 place_within month (FromStart k w) first length before h long least place =
     let few : k ≤ 4 = grind (arith, nat_tests) in
@@ -38,7 +38,7 @@ place_within month (Week d w) first length before h long least place =
     omega (arith, place)
 
 -- the day that is there in that month of that year
-pub placed_in : (r : Yearly) (year index length before : ℕ) → index ≡ days_before year r.month 1 → length ≡ days_in_month year r.month → IsPlace r.days index length before → IsDayOfYear r year (index + before)
+pub placed_in : (r : Yearly) (year index length before : ℕ) → index ≡ days_before year r.month 1 → length ≡ days_in_month year r.month → IsPlaceInMonth r.days index length before → IsDayOfYear r year (index + before)
 placed_in r year index length before i l place =
     let month = yearly_month r.month r.days r.yearly in
     let short = month_least year r.month in
@@ -49,7 +49,7 @@ placed_in r year index length before i l place =
     let back : index + before - before ≡ index = omega arith in
     record { on = (k.month, rw (there, back, k.year, k.month, sym l) place); in_year = k.year }
 
-pub placed : (r : Yearly) (year index length before : ℕ) (first : ℤ) → first ≡ number_of_day (pos year) r.month 1 → index ≡ day_index first → length ≡ days_in_month (year_of index) (month_of index) → IsPlace r.days index length before → IsDayOfYear r year (index + before)
+pub placed : (r : Yearly) (year index length before : ℕ) (first : ℤ) → first ≡ number_of_day (pos year) r.month 1 → index ≡ day_index first → length ≡ days_in_month (year_of index) (month_of index) → IsPlaceInMonth r.days index length before → IsDayOfYear r year (index + before)
 placed r year index length before first f i l place =
     let month = yearly_month r.month r.days r.yearly in
     let short = month_least year r.month in
@@ -72,7 +72,7 @@ year_monotone n k h =
     ]
 
 -- two days at one place of a month are one
-same_place : (days : MonthDays) (first length b c : ℕ) → IsPlace days first length b → IsPlace days first length c → b ≡ c
+same_place : (days : MonthDays) (first length b c : ℕ) → IsPlaceInMonth days first length b → IsPlaceInMonth days first length c → b ≡ c
 same_place (Day d) first length b c h k = omega (arith, h, k)
 same_place (FromStart j w) first length b c h k = omega (arith, h, k)
 same_place (FromEnd j w) first length b c h k = omega (arith, h, k)
@@ -95,13 +95,13 @@ one_a_year r n k h j e =
     omega (arith, month_within n, month_within k)
 
 -- it is the same 400 years later
-place_later : (days : MonthDays) (first length before : ℕ) → IsPlace days first length before → IsPlace days (first + 146_097) length before
+place_later : (days : MonthDays) (first length before : ℕ) → IsPlaceInMonth days first length before → IsPlaceInMonth days (first + 146_097) length before
 place_later (Day d) first length before h = h
 place_later (FromStart j w) first length before h = (omega (arith, h), h.1, h.2)
 place_later (FromEnd j w) first length before h = (omega (arith, h), h.1, h.2, h.3)
 place_later (Week d w) first length before h = (omega (arith, h), h.1, h.2)
 
-place_earlier : (days : MonthDays) (first length before : ℕ) → IsPlace days (first + 146_097) length before → IsPlace days first length before
+place_earlier : (days : MonthDays) (first length before : ℕ) → IsPlaceInMonth days (first + 146_097) length before → IsPlaceInMonth days first length before
 place_earlier (Day d) first length before h = h
 place_earlier (FromStart j w) first length before h = (omega (arith, h), h.1, h.2)
 place_earlier (FromEnd j w) first length before h = (omega (arith, h), h.1, h.2, h.3)

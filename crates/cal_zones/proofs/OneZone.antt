@@ -13,7 +13,7 @@ use Rattle.profile.specs.series.Rules.{RuleText}
 use Rattle.profile.specs.series.RuleTexts.{SpellsRule, RuleFault}
 use Rattle.profile.specs.events.Properties.{lines_named, OccursMoreThanOnce, IsMissing, BothOrNeither, Says, ends_in_z}
 use Rattle.profile.specs.series.Zones.{Zone, Constant, Single, Pair, Observance, local_time}
-use Rattle.profile.specs.series.ZoneTexts.{parts_by, is_part, is_standard, is_daylight, IsLocalLine, IsOffsetLine, SaysTimes, SaysOnce, SaysYearly, IsYearLine, YearRule, HasNoYearRule, TimesFault, PartsSay, PartsFault, OffsetsDiffer, HasForm, SaysZone, ZoneFault, Keeps, AreMatched, AreSpaced, AreClose, year_pattern, is_one_day, time_names, dates, missing, twice, fixed, bad_start, bad_from, bad_to, constant, single, pair, no_part, in_part, ruled, other_parts, unruled, unmatched, close}
+use Rattle.profile.specs.series.ZoneTexts.{parts_by, is_part, is_standard, is_daylight, IsLocalLine, IsOffsetLine, SaysPartTimes, SaysOnce, SaysYearly, IsYearLine, YearRule, HasNoYearRule, TimesFault, PartsSay, PartsFault, OffsetsDiffer, HasForm, SaysZone, ZoneFault, KeepsOffset, AreMatched, AreSpaced, AreClose, year_pattern, is_one_day, time_names, dates, missing, twice, fixed, bad_start, bad_from, bad_to, constant, single, pair, no_part, in_part, ruled, other_parts, unruled, unmatched, close}
 use Rattle.cal_zones.proofs.Named.{one_named, one_day_parts}
 use Rattle.cal_zones.proofs.PartLemmas.{in_more}
 use Rattle.ical_tree.proofs.OneLine.{IsFunctional, same_option, at_one, only_line}
@@ -166,7 +166,7 @@ module _ (local : OneLocal) (offset : OneOffset) (rules : OneRule) (sound : (tex
   offset_one : IsFunctional IsOffsetLine
   offset_one line a b h k = offset (line_value line) a b h k
 
-  times_same : (lines : Lines) (a b : Observance) → SaysTimes lines a → SaysTimes lines b → SameTimes a b
+  times_same : (lines : Lines) (a b : Observance) → SaysPartTimes lines a → SaysPartTimes lines b → SameTimes a b
   times_same lines a b s t =
       let start = said_same IsLocalLine (codes "DTSTART") lines (local_time a.day a.second) (local_time b.day b.second) local_one s.start t.start in
       record {
@@ -197,12 +197,12 @@ module _ (local : OneLocal) (offset : OneOffset) (rules : OneRule) (sound : (tex
 
   -- ---- the forms
 
-  keeps_one : (lines : Lines) (k : ℤ) (o : Observance) → Keeps k lines → SaysTimes lines o → (o.offset_from ≡ k) × (o.offset_to ≡ k)
+  keeps_one : (lines : Lines) (k : ℤ) (o : Observance) → KeepsOffset k lines → SaysPartTimes lines o → (o.offset_from ≡ k) × (o.offset_to ≡ k)
   keeps_one lines k o h s =
       let e = times_same lines o h.0 s h.1 in
       (e.from ∙ h.2, e.to ∙ h.3)
 
-  pub all_differ : (parts : List Lines) (k : ℤ) → ((other : Lines) → Contains parts other → Keeps k other) → OffsetsDiffer parts → ⊥
+  pub all_differ : (parts : List Lines) (k : ℤ) → ((other : Lines) → Contains parts other → KeepsOffset k other) → OffsetsDiffer parts → ⊥
   all_differ parts k all d =
       let here = keeps_one d.one k d.o (all d.one d.one_in) d.says in
       let there = keeps_one d.other k d.strays.0 (all d.other d.other_in) d.strays.1 in
@@ -235,14 +235,14 @@ module _ (local : OneLocal) (offset : OneOffset) (rules : OneRule) (sound : (tex
 
   -- ---- faults
 
-  part_says : (parts standards daylights : List Lines) (z : Zone) → AreParts parts standards daylights → HasForm parts standards daylights z → (x : Lines) → Contains parts x → (o : Observance) × SaysTimes x o
+  part_says : (parts standards daylights : List Lines) (z : Zone) → AreParts parts standards daylights → HasForm parts standards daylights z → (x : Lines) → Contains parts x → (o : Observance) × SaysPartTimes x o
   part_says ps ss ds z are (constant k p c all) x there = let h = all x there in (h.0, h.1)
   part_says ps ss ds z are (single p a differ e s) x there =
-      (a, subst (λ (l : Lines). SaysTimes l a) (at_one p x (subst (λ (ls : List Lines). Contains ls x) e there)) s.times)
+      (a, subst (λ (l : Lines). SaysPartTimes l a) (at_one p x (subst (λ (ls : List Lines). Contains ls x) e there)) s.times)
   part_says ps ss ds z are (pair p q a b differ e f s t) x there =
       elim (are.which x there) [
-        | inl h ↦ (a, subst (λ (l : Lines). SaysTimes l a) (at_one p x (subst (λ (ls : List Lines). Contains ls x) e h)) s.times)
-        | inr h ↦ (b, subst (λ (l : Lines). SaysTimes l b) (at_one q x (subst (λ (ls : List Lines). Contains ls x) f h)) t.times)
+        | inl h ↦ (a, subst (λ (l : Lines). SaysPartTimes l a) (at_one p x (subst (λ (ls : List Lines). Contains ls x) e h)) s.times)
+        | inr h ↦ (b, subst (λ (l : Lines). SaysPartTimes l b) (at_one q x (subst (λ (ls : List Lines). Contains ls x) f h)) t.times)
       ]
 
   each_name : (P : List ℕ → Type 0) (name : List ℕ) → Contains time_names name → P (codes "DTSTART") → P (codes "TZOFFSETFROM") → P (codes "TZOFFSETTO") → P name
@@ -251,7 +251,7 @@ module _ (local : OneLocal) (offset : OneOffset) (rules : OneRule) (sound : (tex
   each_name P name (suc (suc zero), w, e) a b c = subst P e c
   each_name P name (suc (suc (suc k)), w, e) a b c = absurd (omega arith)
 
-  times_sound : (lines : Lines) (o : Observance) (n : ℕ) → SaysTimes lines o → TimesFault lines n → ⊥
+  times_sound : (lines : Lines) (o : Observance) (n : ℕ) → SaysPartTimes lines o → TimesFault lines n → ⊥
   times_sound lines o n s (dates f) = f s.no_dates
   times_sound lines o n s (missing name c h) =
       each_name (λ x. IsMissing x lines → ⊥) name c (present IsLocalLine (codes "DTSTART") lines (local_time o.day o.second) s.start)

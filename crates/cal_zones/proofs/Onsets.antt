@@ -4,7 +4,7 @@ use Rattle.std.proofs.lemmas.Bool.Decides.{nat_tests}
 use Rattle.jiff_core.proofs.SignedLemmas.{signed_arith, one_part}
 use Rattle.profile.specs.series.Rules.{is_base}
 use Rattle.profile.specs.series.Zones.{IsOnset, IsLatest, IsFirstOf, onset_at, begins_on, local_time}
-use Rattle.cal_zones.specs.Shapes.{pattern_of}
+use Rattle.cal_zones.specs.Shapes.{yearly_pattern}
 use Rattle.cal_zones.specs.Yearly.{IsOn, IsLatestDay, IsFirstDay}
 use Rattle.cal_zones.specs.Onsets.{observance_of, IsFirstDayOf, IsLatestAfter}
 use Rattle.cal_zones.proofs.Bases.{base_is}
@@ -14,14 +14,14 @@ use Rattle.cal_zones.specs.declared.observance.Observance.{Observance}
 -- it begins on the days of its rule, from DTSTART's on
 pub begins_is : (o : Observance) (r : Yearly) (n : ℕ) → o.rule ≡ Some r → begins_on (observance_of o) n ≡ true → (o.day ≤ n) × IsOn r n
 begins_is o r n e h =
-    let t : (nat_le o.day n && is_base (pattern_of r.month r.days o.day) n) ≡ true = rw e at h in
-    let base : is_base (pattern_of r.month r.days o.day) n ≡ true = grind (arith, nat_tests) in
+    let t : (nat_le o.day n && is_base (yearly_pattern r.month r.days o.day) n) ≡ true = rw e at h in
+    let base : is_base (yearly_pattern r.month r.days o.day) n ≡ true = grind (arith, nat_tests) in
     (grind (arith, nat_tests), (base_is r o.day n).0 base)
 
 pub begins_back : (o : Observance) (r : Yearly) (n : ℕ) → o.rule ≡ Some r → o.day ≤ n → IsOn r n → begins_on (observance_of o) n ≡ true
 begins_back o r n e first on =
-    let base : is_base (pattern_of r.month r.days o.day) n ≡ true = (base_is r o.day n).1 on in
-    let t : (nat_le o.day n && is_base (pattern_of r.month r.days o.day) n) ≡ true = grind (arith, nat_tests) in
+    let base : is_base (yearly_pattern r.month r.days o.day) n ≡ true = (base_is r o.day n).1 on in
+    let t : (nat_le o.day n && is_base (yearly_pattern r.month r.days o.day) n) ≡ true = grind (arith, nat_tests) in
     rw e t
 
 pub first_by_rule : (o : Observance) (r : Yearly) (day : ℕ) → o.rule ≡ Some r → IsFirstDay r o.day day → IsFirstDayOf (observance_of o) day

@@ -9,10 +9,10 @@ use Rattle.ical_tree.specs.Tree.{tree_of}
 use Rattle.ical_tree.specs.declared.component.Component.{Component}
 use Rattle.profile.specs.series.Zones.{Zone, Single, Pair, Observance}
 use Rattle.profile.specs.events.Properties.{lines_named, OccursAtMostOnce, Says}
-use Rattle.profile.specs.series.ZoneTexts.{parts_by, is_part, is_standard, is_daylight, SaysTimes, SaysOnce, SaysYearly, TimesFault, PartsSay, PartsFault, OffsetsDiffer, SaysZone, ZoneFault, missing, twice, fixed, bad_start, bad_from, bad_to, time_names, single, pair, in_part, ruled, unruled, unmatched, close, HasNoYearRule, IsPairFault, IsSingleFault}
+use Rattle.profile.specs.series.ZoneTexts.{parts_by, is_part, is_standard, is_daylight, SaysPartTimes, SaysOnce, SaysYearly, TimesFault, PartsSay, PartsFault, OffsetsDiffer, SaysZone, ZoneFault, missing, twice, fixed, bad_start, bad_from, bad_to, time_names, single, pair, in_part, ruled, unruled, unmatched, close, HasNoYearRule, IsPairFault, IsSingleFault}
 use Rattle.cal_zones.specs.Read as read
-use Rattle.cal_zones.specs.Read.{parts_in, parts_of, standards_of, daylights_of, HasFault, SomeTimesFault, StartFault, IsNotOne, OffsetFault, YearlyFault, SaysSingle, SingleFault, SaysBoth, BothFault, in_times, has_rule, far, in_standard, in_daylight, no_match, no_space}
-use Rattle.cal_zones.specs.Onsets.{observance_of, rule_of}
+use Rattle.cal_zones.specs.Read.{parts_in, zone_parts, standards_of, daylights_of, HasZoneFault, SomeTimesFault, StartFault, IsNotOnce, OffsetFault, YearlyFault, SaysSingle, SingleFault, SaysBoth, BothFault, in_times, has_rule, far, in_standard, in_daylight, no_match, no_space}
+use Rattle.cal_zones.specs.Onsets.{observance_of, yearly_rule}
 use Rattle.cal_zones.specs.declared.yearly.Yearly.{Yearly}
 use Rattle.cal_zones.specs.declared.observance.Observance as rust
 use Rattle.cal_zones.proofs.PartLemmas.{parts_tree}
@@ -39,7 +39,7 @@ said R name lines line v once is = record { line = Some line; once = once; prese
 
 -- ---- faults of times
 
-pub not_one : (name : List ℕ) (lines : Lines) → Contains time_names name → IsNotOne name lines → TimesFault lines 40
+pub not_one : (name : List ℕ) (lines : Lines) → Contains time_names name → IsNotOnce name lines → TimesFault lines 40
 not_one name lines c (inl h) = missing name c h
 not_one name lines c (inr h) = twice name c h
 
@@ -56,7 +56,7 @@ to_fault lines n (inl (e, h)) = subst (TimesFault lines) (sym e) (not_one (codes
 to_fault lines n (inr (e, h)) = subst (TimesFault lines) (sym e) (bad_to h)
 
 -- the same times with another rule
-pub same_times : (lines : Lines) (a b : Observance) → a.day ≡ b.day → a.second ≡ b.second → a.offset_from ≡ b.offset_from → a.offset_to ≡ b.offset_to → SaysTimes lines a → SaysTimes lines b
+pub same_times : (lines : Lines) (a b : Observance) → a.day ≡ b.day → a.second ≡ b.second → a.offset_from ≡ b.offset_from → a.offset_to ≡ b.offset_to → SaysPartTimes lines a → SaysPartTimes lines b
 same_times lines a b d s f t h = record {
   start = rw (sym d, sym s) h.start;
   second = rw (sym s) h.second;
@@ -65,12 +65,12 @@ same_times lines a b d s f t h = record {
   no_dates = h.no_dates;
 }
 
-pub no_rule_there : (lines : Lines) → IsNotOne (codes "RRULE") lines → HasNoYearRule lines
+pub no_rule_there : (lines : Lines) → IsNotOnce (codes "RRULE") lines → HasNoYearRule lines
 no_rule_there lines (inl h) = inl h
 no_rule_there lines (inr h) = inr (inl h)
 
 -- where no rule is written there is none
-pub unwritten : (day : ℕ) (rule : Option Yearly) → rule_of day rule ≡ None → rule ≡ None
+pub unwritten : (day : ℕ) (rule : Option Yearly) → yearly_rule day rule ≡ None → rule ≡ None
 unwritten day None h = refl
 unwritten day (Some r) h = cc
 
@@ -84,7 +84,7 @@ both_refused p q a b n s t f g (inr (inr (e, h))) = subst (BothFault p q) (sym e
 
 -- a single part that is refused
 pub single_refused : (lines : Lines) (a : rust.Observance) (n : ℕ) → SaysOnce lines (observance_of a) → a.rule ≡ None → IsSingleFault n (observance_of a) → SingleFault lines n
-single_refused lines a n s none (inl (e, h)) = absurd (h (ap (rule_of a.day) none))
+single_refused lines a n s none (inl (e, h)) = absurd (h (ap (yearly_rule a.day) none))
 single_refused lines a n s none (inr (e, h)) = subst (SingleFault lines) (sym e) (far (observance_of a) s (λ near. absurd (omega arith)))
 
 -- ---- the zone
@@ -122,12 +122,12 @@ same_say a b c x y z zone e f g h = rw (e, f, g) h
 same_fault : (a b c x y z : List Lines) (n : ℕ) → a ≡ x → b ≡ y → c ≡ z → PartsFault x y z n → PartsFault a b c n
 same_fault a b c x y z n e f g h = rw (e, f, g) h
 
-pub says_there : (c : Component) (zone : Zone) → read.Says c zone → SaysZone (tree_of c) zone
+pub says_there : (c : Component) (zone : Zone) → read.SaysComponentZone c zone → SaysZone (tree_of c) zone
 says_there c zone h =
-    same_say (parts_by is_part (tree_of c)) (parts_by is_standard (tree_of c)) (parts_by is_daylight (tree_of c)) (parts_of c) (standards_of c) (daylights_of c) zone
+    same_say (parts_by is_part (tree_of c)) (parts_by is_standard (tree_of c)) (parts_by is_daylight (tree_of c)) (zone_parts c) (standards_of c) (daylights_of c) zone
     (parts_tree is_part c) (parts_tree is_standard c) (parts_tree is_daylight c) h
 
-pub fault_there : (c : Component) (n : ℕ) → HasFault c n → ZoneFault (tree_of c) n
+pub fault_there : (c : Component) (n : ℕ) → HasZoneFault c n → ZoneFault (tree_of c) n
 fault_there c n h =
-    same_fault (parts_by is_part (tree_of c)) (parts_by is_standard (tree_of c)) (parts_by is_daylight (tree_of c)) (parts_of c) (standards_of c) (daylights_of c) n
+    same_fault (parts_by is_part (tree_of c)) (parts_by is_standard (tree_of c)) (parts_by is_daylight (tree_of c)) (zone_parts c) (standards_of c) (daylights_of c) n
     (parts_tree is_part c) (parts_tree is_standard c) (parts_tree is_daylight c) h

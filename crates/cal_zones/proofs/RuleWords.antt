@@ -6,7 +6,7 @@ use Rattle.profile.specs.series.Rules.{is_plain}
 use Rattle.profile.specs.series.RuleTexts.{weekday_word}
 use Rattle.cal_zones.specs.declared.yearly.MonthDays.{MonthDays}
 use Rattle.cal_zones.specs.declared.yearly.MonthDays.TheVariants.{Day, FromStart, FromEnd, Week}
-use Rattle.cal_zones.specs.Shapes.{is_yearly}
+use Rattle.cal_zones.specs.Shapes.{occurs_yearly}
 use Rattle.cal_zones.specs.Written.{year_text, week_text}
 use Rattle.cal_zones.proofs.WrittenRules.{numbered, week}
 
@@ -35,19 +35,19 @@ pub day_words : (text : List ℕ) (month day : ℕ) (days : MonthDays) → days 
 day_words text month day days is e =
     subst (λ (d : MonthDays). text ≡ year_text month d) (sym is) (e ∙ one_list head (decimal month) (codes ";BYMONTHDAY=") (decimal day))
 
-pub start_words : (text : List ℕ) (month number weekday : ℕ) (word : List ℕ) (days : MonthDays) → days ≡ FromStart number weekday → is_yearly month days ≡ true → word ≡ weekday_word weekday
+pub start_words : (text : List ℕ) (month number weekday : ℕ) (word : List ℕ) (days : MonthDays) → days ≡ FromStart number weekday → occurs_yearly month days ≡ true → word ≡ weekday_word weekday
     → text ≡ head ++ (decimal month ++ (codes ";BYDAY=" ++ (decimal number ++ word))) → text ≡ year_text month days
 start_words text month number weekday word days is y w e =
-    let n = numbered month number weekday (subst (λ (d : MonthDays). is_yearly month d ≡ true) is y) in
+    let n = numbered month number weekday (subst (λ (d : MonthDays). occurs_yearly month d ≡ true) is y) in
     let here : text ≡ year_text month (FromStart number weekday) =
     e ∙ ap (λ x. head ++ (decimal month ++ (codes ";BYDAY=" ++ (decimal number ++ x)))) w ∙ one_entry head (decimal month) (codes ";BYDAY=") (decimal number) (weekday_word weekday)
     ∙ ap (λ x. head ++ (decimal month ++ []) ++ [] ++ (codes ";BYDAY=" ++ (x ++ weekday_word weekday) ++ [])) (sym (unsigned number n.low)) in
     subst (λ (d : MonthDays). text ≡ year_text month d) (sym is) here
 
-pub end_words : (text : List ℕ) (month number weekday : ℕ) (word : List ℕ) (days : MonthDays) → days ≡ FromEnd number weekday → is_yearly month days ≡ true → word ≡ weekday_word weekday
+pub end_words : (text : List ℕ) (month number weekday : ℕ) (word : List ℕ) (days : MonthDays) → days ≡ FromEnd number weekday → occurs_yearly month days ≡ true → word ≡ weekday_word weekday
     → text ≡ head ++ (decimal month ++ (codes ";BYDAY=-" ++ (decimal number ++ word))) → text ≡ year_text month days
 end_words text month number weekday word days is y w e =
-    let n = numbered month number weekday (subst (λ (d : MonthDays). is_yearly month d ≡ true) is y) in
+    let n = numbered month number weekday (subst (λ (d : MonthDays). occurs_yearly month d ≡ true) is y) in
     let back : number ≡ suc (number - 1) = omega (arith, n.low) in
     let here : text ≡ year_text month (FromEnd number weekday) =
     e ∙ ap (λ x. head ++ (decimal month ++ (codes ";BYDAY=-" ++ (decimal number ++ x)))) w ∙ one_entry head (decimal month) (codes ";BYDAY=-") (decimal number) (weekday_word weekday)
@@ -65,5 +65,5 @@ week_words text month first weekday days word kind is d w e =
     subst (λ (d : MonthDays). text ≡ year_text month d) (sym is) here
 
 -- the last of the seven days is one of a month
-pub week_first : (month first weekday : ℕ) (kind : MonthDays) → kind ≡ Week first weekday → is_yearly month kind ≡ true → first ≤ 25
-week_first month first weekday kind is y = (week month first weekday (subst (λ (d : MonthDays). is_yearly month d ≡ true) is y)).high
+pub week_first : (month first weekday : ℕ) (kind : MonthDays) → kind ≡ Week first weekday → occurs_yearly month kind ≡ true → first ≤ 25
+week_first month first weekday kind is y = (week month first weekday (subst (λ (d : MonthDays). occurs_yearly month d ≡ true) is y)).high

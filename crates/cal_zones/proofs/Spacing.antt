@@ -11,8 +11,8 @@ use Rattle.cal_days.proofs.Dates.{named_later, year_begins, year_ends}
 use Rattle.cal_zones.specs.Yearly.{IsOn, IsDayOfYear}
 use Rattle.profile.specs.series.Rules.{Pattern, is_base}
 use Rattle.profile.specs.series.ZoneTexts.{AreSpaced, AreClose}
-use Rattle.cal_zones.specs.Shapes.{pattern_of}
-use Rattle.cal_zones.specs.Onsets.{rule_of}
+use Rattle.cal_zones.specs.Shapes.{yearly_pattern}
+use Rattle.cal_zones.specs.Onsets.{yearly_rule}
 use Rattle.cal_zones.specs.Kinds.{pair_of}
 use Rattle.cal_zones.specs.Spaced.{IsApart, IsYearSpaced, IsSpaced, HasNear}
 use Rattle.cal_zones.specs.Apart.{NeverAtOnce}
@@ -138,10 +138,10 @@ never_at_once a b first second e f spaced x y h j same =
     absurd (omega (arith, signed_arith))
 
 -- as those who see the rules as they are written say it
-rule_day : (o : Observance) (r : Yearly) (parts : Pattern) (n : ℕ) → o.rule ≡ Some r → rule_of o.day o.rule ≡ Some parts → is_base parts n ≡ true → IsOn r n
+rule_day : (o : Observance) (r : Yearly) (parts : Pattern) (n : ℕ) → o.rule ≡ Some r → yearly_rule o.day o.rule ≡ Some parts → is_base parts n ≡ true → IsOn r n
 rule_day o r parts n e f b =
-    let g : rule_of o.day (Some r) ≡ Some parts = rw e at f in
-    let same : pattern_of r.month r.days o.day ≡ parts = same_Some _ _ g in
+    let g : yearly_rule o.day (Some r) ≡ Some parts = rw e at f in
+    let same : yearly_pattern r.month r.days o.day ≡ parts = same_Some _ _ g in
     (base_is r o.day n).0 (subst (λ (p : Pattern). is_base p n ≡ true) (sym same) b)
 
 pub pair_spaced : (a b : Observance) (first second : Yearly) → a.rule ≡ Some first → b.rule ≡ Some second → IsSpaced a b first second 801 → AreSpaced (pair_of a b)
@@ -152,7 +152,7 @@ pub pair_close : (a b : Observance) (first second : Yearly) → a.rule ≡ Some 
 pair_close a b first second e f (n, m, on, there, (x, y, g, h, near)) = (
   x,
   y,
-  record { parts = pattern_of first.month first.days a.day; rule = ap (rule_of a.day) e; day = n; on = (base_is first a.day n).1 on; read = g },
-  record { parts = pattern_of second.month second.days b.day; rule = ap (rule_of b.day) f; day = m; on = (base_is second b.day m).1 there; read = h },
+  record { parts = yearly_pattern first.month first.days a.day; rule = ap (yearly_rule a.day) e; day = n; on = (base_is first a.day n).1 on; read = g },
+  record { parts = yearly_pattern second.month second.days b.day; rule = ap (yearly_rule b.day) f; day = m; on = (base_is second b.day m).1 there; read = h },
   near,
 )

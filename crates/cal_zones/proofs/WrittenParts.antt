@@ -10,7 +10,7 @@ use Rattle.profile.specs.text.Values.{SpellsLocal, WritesLocal, SpellsOffset, Wr
 use Rattle.profile.specs.events.Properties.{IsMissing, lines_named}
 use Rattle.profile.specs.series.Rules.{Pattern}
 use Rattle.profile.specs.series.Zones.{Observance, local_time}
-use Rattle.profile.specs.series.ZoneTexts.{SaysTimes, SaysOnce, SaysYearly, YearRule, is_each_year, year_pattern}
+use Rattle.profile.specs.series.ZoneTexts.{SaysPartTimes, SaysOnce, SaysYearly, YearRule, is_each_year, year_pattern}
 use Rattle.profile.specs.written.WrittenZones.{rule_lines, WritesPart}
 use Rattle.ical_lines.proofs.CleanLines.{IsClean, is_shown, clean_shown, valued, start_line}
 use Rattle.ical_values.proofs.ShownValues.{shown_local, shown_offset}
@@ -33,7 +33,7 @@ own_of start rule from to = (codes "DTSTART:" ++ start) ∷ (rule_lines rule ++ 
 -- ---- what they say
 
 times_back : (day second : ℕ) (rule : Option Pattern) (a b : ℤ) (start from to : List ℕ) → SpellsLocal start (local_time day second) → second < 86_400 → SpellsOffset from a → SpellsOffset to b
-    → SaysTimes (own_of start rule from to) (record { day = day; second = second; rule = rule; offset_from = a; offset_to = b })
+    → SaysPartTimes (own_of start rule from to) (record { day = day; second = second; rule = rule; offset_from = a; offset_to = b })
 times_back day second None a b start from to s h f t = record {
   start = record { line = Some (codes "DTSTART:" ++ start); once = refl; present = λ _. refl; is = (refl, refl, s) };
   second = h;
@@ -49,9 +49,9 @@ times_back day second (Some p) a b start from to s h f t = record {
   no_dates = refl;
 }
 
-pub part_times : LocalBack → OffsetBack → (own : Lines) (o : Observance) → WritesPart own o → o.second < 86_400 → SaysTimes own o
+pub part_times : LocalBack → OffsetBack → (own : Lines) (o : Observance) → WritesPart own o → o.second < 86_400 → SaysPartTimes own o
 part_times local offset own o w h =
-    subst (λ (l : Lines). SaysTimes l o) (sym w.is)
+    subst (λ (l : Lines). SaysPartTimes l o) (sym w.is)
     (times_back o.day o.second o.rule o.offset_from o.offset_to w.start w.from w.to (local w.start _ w.writes_start) h (offset w.from _ w.writes_from) (offset w.to _ w.writes_to))
 
 pub part_once : LocalBack → OffsetBack → (own : Lines) (o : Observance) → WritesPart own o → o.second < 86_400 → o.rule ≡ None → SaysOnce own o

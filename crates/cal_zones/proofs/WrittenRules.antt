@@ -7,8 +7,8 @@ use Rattle.std.proofs.lemmas.Bool.{and_parts, and_from, or_left, or_right}
 use Rattle.std.proofs.lemmas.Bool.Decides.{nat_tests}
 use Rattle.profile.specs.faults.Faults.{is_between}
 use Rattle.profile.specs.series.Days.{Yearly, days_in_month}
-use Rattle.profile.specs.series.Rules.{WeekdayNumber, is_place, is_plain, is_entry, is_short, go_together}
-use Rattle.profile.specs.series.RuleTexts.{weekday_word, listed, entry_text}
+use Rattle.profile.specs.series.Rules.{WeekdayNumber, is_place, is_plain, is_entry, has_few_entries, go_together}
+use Rattle.profile.specs.series.RuleTexts.{weekday_word, listed, weekday_number_text}
 use Rattle.profile.specs.series.ZoneTexts.{MonthDays, OnDay, FromStart, FromEnd, InWeek, YearRule, month_days_of, weekdays_of, is_each_year, is_of_seven, names_days, SpellsYear}
 use Rattle.ical_lines.proofs.CleanLines.{is_shown, shown_append, shown_decimal}
 use Rattle.cal_rules.proofs.Parted.{same_octet}
@@ -71,7 +71,7 @@ days_there month (FromStart number weekday) h = refl
 days_there month (FromEnd number weekday) h = refl
 days_there month (InWeek first weekday) h = let w = week month first weekday h in seven_there first w.low w.high
 
-days_short : (days : MonthDays) → is_short (month_days_of days) ≡ true
+days_short : (days : MonthDays) → has_few_entries (month_days_of days) ≡ true
 days_short (OnDay day) = refl
 days_short (FromStart number weekday) = refl
 days_short (FromEnd number weekday) = refl
@@ -93,7 +93,7 @@ entries_there month (FromEnd number weekday) h =
     and_from _ _ (and_from _ _ (weekday_test weekday n.small) (back_there number n.high)) refl
 entries_there month (InWeek first weekday) h = let w = week month first weekday h in and_from _ _ (and_from _ _ (weekday_test weekday w.small) refl) refl
 
-entries_short : (days : MonthDays) → is_short (weekdays_of days) ≡ true
+entries_short : (days : MonthDays) → has_few_entries (weekdays_of days) ≡ true
 entries_short (OnDay day) = refl
 entries_short (FromStart number weekday) = refl
 entries_short (FromEnd number weekday) = refl
@@ -192,7 +192,7 @@ shown_number : (number : ℤ) (plain : Bool) → is_plain number ≡ plain → (
 shown_number number true e h = refl
 shown_number number false e h = shown_place 53 (omega arith) number (subst (λ (b : Bool). (b || is_place 53 number) ≡ true) e h)
 
-shown_entry : (entry : WeekdayNumber) → is_entry entry ≡ true → list_all is_shown (entry_text entry) ≡ true
+shown_entry : (entry : WeekdayNumber) → is_entry entry ≡ true → list_all is_shown (weekday_number_text entry) ≡ true
 shown_entry entry h =
     let p = and_parts (nat_lt entry.weekday 7) (is_plain entry.number || is_place 53 entry.number) h in
     shown_append (cond (is_plain entry.number) [] (signed_decimal entry.number)) (weekday_word entry.weekday) (shown_number entry.number (is_plain entry.number) refl p.1) (shown_weekday entry.weekday (below 7 entry.weekday p.0))
@@ -200,8 +200,8 @@ shown_entry entry h =
 pub shown_year : (r : YearRule) → is_each_year r.month r.days ≡ true → list_all is_shown (year_rule_text r) ≡ true
 shown_year r h =
     let m : list_all (is_between 1 12) (r.month ∷ []) ≡ true = and_from _ _ (month_there r.month r.days h) refl in
-    shown_append (codes "FREQ=YEARLY" ++ listed (codes ";BYMONTH=") (map decimal (r.month ∷ [])) ++ listed (codes ";BYMONTHDAY=") (map signed_decimal (month_days_of r.days))) (listed (codes ";BYDAY=") (map entry_text (weekdays_of r.days)))
+    shown_append (codes "FREQ=YEARLY" ++ listed (codes ";BYMONTH=") (map decimal (r.month ∷ [])) ++ listed (codes ";BYMONTHDAY=") (map signed_decimal (month_days_of r.days))) (listed (codes ";BYDAY=") (map weekday_number_text (weekdays_of r.days)))
     (shown_append (codes "FREQ=YEARLY" ++ listed (codes ";BYMONTH=") (map decimal (r.month ∷ []))) (listed (codes ";BYMONTHDAY=") (map signed_decimal (month_days_of r.days)))
     (shown_append (codes "FREQ=YEARLY") (listed (codes ";BYMONTH=") (map decimal (r.month ∷ []))) refl (shown_listed decimal (is_between 1 12) (λ n e. shown_decimal n (month_small n e)) (codes ";BYMONTH=") refl (r.month ∷ []) m))
     (shown_listed signed_decimal (is_place 31) (shown_place 31 (omega arith)) (codes ";BYMONTHDAY=") refl (month_days_of r.days) (days_there r.month r.days h)))
-    (shown_listed entry_text is_entry shown_entry (codes ";BYDAY=") refl (weekdays_of r.days) (entries_there r.month r.days h))
+    (shown_listed weekday_number_text is_entry shown_entry (codes ";BYDAY=") refl (weekdays_of r.days) (entries_there r.month r.days h))

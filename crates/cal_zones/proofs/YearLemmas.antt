@@ -4,7 +4,7 @@ use Rattle.std.specs.Prelude.{Option, Some, None, IfSome, IfNone, IsSome, ◌↔
 use Rattle.std.proofs.lemmas.Bool.{and_from, false≢true}
 use Rattle.profile.specs.series.Rules.{RuleText}
 use Rattle.profile.specs.series.ZoneTexts.{YearRule, are_only, names_days, is_each_year, is_plain_yearly, is_one_day}
-use Rattle.cal_zones.specs.Shapes.{days_of, rule_named, is_yearly}
+use Rattle.cal_zones.specs.Shapes.{days_of, rule_named, occurs_yearly}
 use Rattle.cal_zones.specs.declared.yearly.MonthDays.{MonthDays}
 use Rattle.cal_zones.specs.declared.yearly.Yearly.{Yearly}
 use Rattle.cal_zones.proofs.Named.{each_of}
@@ -26,7 +26,7 @@ year_found None rule month days p m d h = tt
 year_found (Some y) rule month days p m d h = one_day_from rule month days y p m d h
 
 pub year_none : (r : Option Yearly) (rule : RuleText) (month : ℕ) (days : MonthDays) → are_only (λ x. x == month) rule.months ≡ true
-    → names_days (days_of days) rule.month_days rule.weekdays ≡ true → IsSome r ↔ (is_yearly month days ≡ true)
+    → names_days (days_of days) rule.month_days rule.weekdays ≡ true → IsSome r ↔ (occurs_yearly month days ≡ true)
     → IfNone r ((q : YearRule) → is_one_day rule q ≡ true → ⊥)
 year_none (Some y) rule month days m d h = tt
 year_none None rule month days m d h = λ q o. false≢true (h.1 (each_of rule month (days_of days) q m d o))

@@ -13,8 +13,8 @@ use Rattle.profile.specs.series.Rules.{RuleText}
 use Rattle.profile.specs.events.Properties.{BothOrNeither}
 use Rattle.profile.specs.series.RuleTexts.{SpellsRule, RuleFault}
 use Rattle.profile.specs.series.Zones.{Zone, Constant, Single, Pair, Observance}
-use Rattle.profile.specs.series.ZoneTexts.{parts_by, is_part, is_standard, is_daylight, SaysTimes, SaysOnce, SaysYearly, IsYearLine, OffsetsDiffer, HasForm, PartsSay, SaysZone, Keeps, AreMatched, AreSpaced, is_plain_yearly, are_only, names_days, is_each_year, constant, single, pair}
-use Rattle.profile.specs.written.WrittenZones.{WritesPart, WritesParts, IsZoneText, IsTextName, ReadsAsZone, component_lines, keeping}
+use Rattle.profile.specs.series.ZoneTexts.{parts_by, is_part, is_standard, is_daylight, SaysPartTimes, SaysOnce, SaysYearly, IsYearLine, OffsetsDiffer, HasForm, PartsSay, SaysZone, KeepsOffset, AreMatched, AreSpaced, is_plain_yearly, are_only, names_days, is_each_year, constant, single, pair}
+use Rattle.profile.specs.written.WrittenZones.{WritesPart, WritesParts, IsZoneText, IsTextName, ReadsAsZone, lines_around, keeping}
 use Rattle.ical_lines.proofs.CleanLines.{IsClean, fixed}
 use Rattle.ical_values.proofs.EscapedText.{utf8_escaped, escaped_calm}
 use Rattle.ical_tree.proofs.TreeOfLemmas.{BodyT}
@@ -28,13 +28,13 @@ use Rattle.cal_zones.proofs.WrittenParts.{Lines, LocalBack, OffsetBack, part_tim
 framed : (begin end : List ℕ) (own : Lines) → is_content begin ≡ true → is_content end ≡ true → list_all is_content own ≡ true → list_all is_content (begin ∷ (own ++ end ∷ [])) ≡ true
 framed begin end own b e h = and_from _ _ b (list_all-append is_content own (end ∷ []) ∙ and_from _ _ h (and_from _ _ e refl))
 
-standard_content : (own : Lines) → list_all is_content own ≡ true → list_all is_content (component_lines (codes "STANDARD") own) ≡ true
+standard_content : (own : Lines) → list_all is_content own ≡ true → list_all is_content (lines_around (codes "STANDARD") own) ≡ true
 standard_content own = framed (codes "BEGIN:STANDARD") (codes "END:STANDARD") own (fixed (codes "BEGIN:STANDARD") refl refl refl refl) (fixed (codes "END:STANDARD") refl refl refl refl)
 
-daylight_content : (own : Lines) → list_all is_content own ≡ true → list_all is_content (component_lines (codes "DAYLIGHT") own) ≡ true
+daylight_content : (own : Lines) → list_all is_content own ≡ true → list_all is_content (lines_around (codes "DAYLIGHT") own) ≡ true
 daylight_content own = framed (codes "BEGIN:DAYLIGHT") (codes "END:DAYLIGHT") own (fixed (codes "BEGIN:DAYLIGHT") refl refl refl refl) (fixed (codes "END:DAYLIGHT") refl refl refl refl)
 
-zone_content : (own : Lines) → list_all is_content own ≡ true → list_all is_content (component_lines (codes "VTIMEZONE") own) ≡ true
+zone_content : (own : Lines) → list_all is_content own ≡ true → list_all is_content (lines_around (codes "VTIMEZONE") own) ≡ true
 zone_content own = framed (codes "BEGIN:VTIMEZONE") (codes "END:VTIMEZONE") own (fixed (codes "BEGIN:VTIMEZONE") refl refl refl refl) (fixed (codes "END:VTIMEZONE") refl refl refl refl)
 
 opens_standard : Opens (codes "BEGIN:STANDARD") (codes "STANDARD")
@@ -59,12 +59,12 @@ abbrev daylight_tree : Lines → Tree
 daylight_tree own = tree (codes "DAYLIGHT") own none
 
 one_body : (name : List ℕ) (own : Lines) (depth : ℕ) → list_all is_property own ≡ true
-    → BodyT (suc depth) (named name ∷ []) (standard_tree own ∷ []) (named name ∷ component_lines (codes "STANDARD") own)
+    → BodyT (suc depth) (named name ∷ []) (standard_tree own ∷ []) (named name ∷ lines_around (codes "STANDARD") own)
 one_body name own depth h =
     component (standard_tree own) (codes "BEGIN:STANDARD") (codes "END:STANDARD") own refl opens_standard closes_standard (own_body depth own h) (own_body (suc depth) (named name ∷ []) refl)
 
 two_body : (name : List ℕ) (own other : Lines) (depth : ℕ) → list_all is_property own ≡ true → list_all is_property other ≡ true
-    → BodyT (suc depth) (named name ∷ []) (standard_tree own ∷ daylight_tree other ∷ []) (named name ∷ (component_lines (codes "STANDARD") own ++ component_lines (codes "DAYLIGHT") other))
+    → BodyT (suc depth) (named name ∷ []) (standard_tree own ∷ daylight_tree other ∷ []) (named name ∷ (lines_around (codes "STANDARD") own ++ lines_around (codes "DAYLIGHT") other))
 two_body name own other depth h k =
     component (daylight_tree other) (codes "BEGIN:DAYLIGHT") (codes "END:DAYLIGHT") other refl opens_daylight closes_daylight (own_body depth other k) (one_body name own depth h)
 
@@ -85,7 +85,7 @@ abbrev pub ReadsLines : Type 0
 ReadsLines = (lines : Lines) → list_all is_content lines ≡ true → reads_as_lines false (flat_map folded lines) ≡ true
 
 -- a zone of one part, STANDARD
-one_back : (name : List ℕ) (zone : Zone) (own parts : Lines) (o : Observance) → WritesPart own o → IsRuled o → parts ≡ component_lines (codes "STANDARD") own → PartsSay (own ∷ []) (own ∷ []) [] zone → Back name zone parts
+one_back : (name : List ℕ) (zone : Zone) (own parts : Lines) (o : Observance) → WritesPart own o → IsRuled o → parts ≡ lines_around (codes "STANDARD") own → PartsSay (own ∷ []) (own ∷ []) [] zone → Back name zone parts
 one_back name zone own parts o w r e s = record {
   inside = more (standard_tree own) none;
   content = ap (list_all is_content) e ∙ standard_content own (part_content own o w r);
@@ -95,10 +95,10 @@ one_back name zone own parts o w r e s = record {
 
 -- a zone of two
 two_back : (name : List ℕ) (zone : Zone) (own other parts : Lines) (a b : Observance) → WritesPart own a → WritesPart other b → IsRuled a → IsRuled b
-    → parts ≡ component_lines (codes "STANDARD") own ++ component_lines (codes "DAYLIGHT") other → PartsSay (own ∷ other ∷ []) (own ∷ []) (other ∷ []) zone → Back name zone parts
+    → parts ≡ lines_around (codes "STANDARD") own ++ lines_around (codes "DAYLIGHT") other → PartsSay (own ∷ other ∷ []) (own ∷ []) (other ∷ []) zone → Back name zone parts
 two_back name zone own other parts a b w v r q e s = record {
   inside = more (standard_tree own) (more (daylight_tree other) none);
-  content = ap (list_all is_content) e ∙ list_all-append is_content (component_lines (codes "STANDARD") own) (component_lines (codes "DAYLIGHT") other) ∙ and_from _ _ (standard_content own (part_content own a w r)) (daylight_content other (part_content other b v q));
+  content = ap (list_all is_content) e ∙ list_all-append is_content (lines_around (codes "STANDARD") own) (lines_around (codes "DAYLIGHT") other) ∙ and_from _ _ (standard_content own (part_content own a w r)) (daylight_content other (part_content other b v q));
   spelled = λ depth. subst (λ (l : Lines). BodyT (suc depth) (named name ∷ []) (standard_tree own ∷ daylight_tree other ∷ []) (named name ∷ l)) (sym e) (two_body name own other depth (part_properties own a w) (part_properties other b v));
   says = s;
 }
@@ -120,14 +120,14 @@ in_two x y = (zero, omega arith, refl)
 module _ (local : OneLocal) (offset : OneOffset) (rules : OneRule) (sound : (text : List ℕ) (number : ℕ) (a : RuleText) → RuleFault text number → SpellsRule text a → ⊥) (start_back : LocalBack) (offset_back : OffsetBack) where
   constant_back : (name : List ℕ) (k : ℤ) (parts : Lines) → WritesParts parts (Constant k) → Back name (Constant k) parts
   constant_back name k parts (own, w, e) =
-      let says : SaysTimes own (keeping k) = part_times start_back offset_back own (keeping k) w (omega arith) in
-      let all : (other : Lines) → Contains (own ∷ []) other → Keeps k other = λ other c. subst (Keeps k) (at_one own other c) (keeping k, says, refl, refl) in
+      let says : SaysPartTimes own (keeping k) = part_times start_back offset_back own (keeping k) w (omega arith) in
+      let all : (other : Lines) → Contains (own ∷ []) other → KeepsOffset k other = λ other c. subst (KeepsOffset k) (at_one own other c) (keeping k, says, refl, refl) in
       one_back name (Constant k) own parts (keeping k) w refl e (record { form = constant k own (in_one own) all; matched = tt; spaced = tt })
 
   single_back : (name : List ℕ) (a : Observance) (ps : List Lines) (part parts : Lines) → OffsetsDiffer ps → ps ≡ part ∷ [] → SaysOnce part a → AreMatched (Single a) → WritesParts parts (Single a) → Back name (Single a) parts
   single_back name a ps part parts differ e s matched (own, w, is) =
       let once = part_once start_back offset_back own a w s.times.second s.is in
-      let changes : a.offset_to ≡ a.offset_from → ⊥ = λ same. all_differ local offset rules sound ps a.offset_from (λ x c. (a, subst (λ (l : Lines). SaysTimes l a) (at_one part x (subst (λ (ls : List Lines). Contains ls x) e c)) s.times, refl, same)) differ in
+      let changes : a.offset_to ≡ a.offset_from → ⊥ = λ same. all_differ local offset rules sound ps a.offset_from (λ x c. (a, subst (λ (l : Lines). SaysPartTimes l a) (at_one part x (subst (λ (ls : List Lines). Contains ls x) e c)) s.times, refl, same)) differ in
       let differ_too : OffsetsDiffer (own ∷ []) = record { one = own; other = own; o = a; one_in = in_one own; other_in = in_one own; says = once.times; strays = (a, once.times, λ p. changes p.1) } in
       one_back name (Single a) own parts a w (unruled a s.is) is (record { form = single own a differ_too refl once; matched = matched; spaced = tt })
 
@@ -138,8 +138,8 @@ module _ (local : OneLocal) (offset : OneOffset) (rules : OneRule) (sound : (tex
       let second = part_yearly start_back offset_back other b t.each v t.times.second t.is (each_year q b t) in
       let changes : a.offset_to ≡ a.offset_from → ⊥ = λ same. all_differ local offset rules sound ps a.offset_from (λ x c.
       elim (are.which x c) [
-        | inl h ↦ (a, subst (λ (l : Lines). SaysTimes l a) (at_one p x (subst (λ (ls : List Lines). Contains ls x) e h)) s.times, refl, same)
-        | inr h ↦ (b, subst (λ (l : Lines). SaysTimes l b) (at_one q x (subst (λ (ls : List Lines). Contains ls x) f h)) t.times, sym matched.0 ∙ same, matched.1)
+        | inl h ↦ (a, subst (λ (l : Lines). SaysPartTimes l a) (at_one p x (subst (λ (ls : List Lines). Contains ls x) e h)) s.times, refl, same)
+        | inr h ↦ (b, subst (λ (l : Lines). SaysPartTimes l b) (at_one q x (subst (λ (ls : List Lines). Contains ls x) f h)) t.times, sym matched.0 ∙ same, matched.1)
       ]) differ in
       let differ_too : OffsetsDiffer (own ∷ other ∷ []) = record { one = own; other = own; o = a; one_in = in_two own other; other_in = in_two own other; says = first.times; strays = (a, first.times, λ p. changes p.1) } in
       two_back name (Pair a b) own other parts a b w v (ruled a s.each s.is (each_year p a s)) (ruled b t.each t.is (each_year q b t)) is (record { form = pair own other a b differ_too refl refl first second; matched = matched; spaced = spaced })

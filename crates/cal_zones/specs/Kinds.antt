@@ -10,13 +10,13 @@ use Rattle.cal_zones.specs.declared.zone.Zone as kept
 abbrev pub pair_of : Observance → Observance → Zone
 pair_of a b = Pair (observance_of a) (observance_of b)
 
-abbrev pub kind_of : rust.Form → Zone
-kind_of (the.Constant k) = Constant k.offset
-kind_of (the.Single a) = Single (observance_of a)
-kind_of (the.Pair p) = pair_of p.standard p.daylight
+abbrev pub zone_of_form : rust.Form → Zone
+zone_of_form (the.Constant k) = Constant k.offset
+zone_of_form (the.Single a) = Single (observance_of a)
+zone_of_form (the.Pair p) = pair_of p.standard p.daylight
 
 abbrev pub zone_of : kept.Zone → Zone
-zone_of z = kind_of z.kind
+zone_of z = zone_of_form z.kind
 
 -- two numbers, the lesser first
 abbrev pub IsOrdered : ℤ → ℤ → ℤ → ℤ → Type 0

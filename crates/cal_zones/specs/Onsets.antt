@@ -2,22 +2,22 @@
 use Rattle.std.specs.Prelude.{◌≡◌, ℕ, ◌*◌, ◌≤◌, true, Option, Some, None, ℤ, pos, ◌+ℤ◌, ◌≤ℤ◌}
 use Rattle.profile.specs.series.Rules.{Pattern}
 use Rattle.profile.specs.series.Zones.{Observance, begins_on}
-use Rattle.cal_zones.specs.Shapes.{pattern_of}
+use Rattle.cal_zones.specs.Shapes.{yearly_pattern}
 use Rattle.cal_zones.specs.Yearly.{IsOn}
 use Rattle.cal_zones.specs.declared.yearly.Yearly.{Yearly}
 use Rattle.cal_zones.specs.declared.observance.Observance as rust
 
 -- the parts of its rule, as they are written
-abbrev pub rule_of : ℕ → Option Yearly → Option Pattern
-rule_of day None = None
-rule_of day (Some r) = Some (pattern_of r.month r.days day)
+abbrev pub yearly_rule : ℕ → Option Yearly → Option Pattern
+yearly_rule day None = None
+yearly_rule day (Some r) = Some (yearly_pattern r.month r.days day)
 
 -- what it represents
 abbrev pub observance_of : rust.Observance → Observance
 observance_of o = record {
   day = o.day;
   second = o.second;
-  rule = rule_of o.day o.rule;
+  rule = yearly_rule o.day o.rule;
   offset_from = o.offset_from;
   offset_to = o.offset_to;
 }

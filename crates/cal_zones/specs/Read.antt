@@ -13,8 +13,8 @@ use Rattle.profile.specs.series.ZoneTexts.{is_part, is_standard, is_daylight, Pa
 abbrev pub parts_in : (List ℕ → Bool) → List Component → List (List (List ℕ))
 parts_in test cs = map component_lines (filter (λ c. test (component_name c)) cs)
 
-abbrev pub parts_of : Component → List (List (List ℕ))
-parts_of c = parts_in is_part (component_children c)
+abbrev pub zone_parts : Component → List (List (List ℕ))
+zone_parts c = parts_in is_part (component_children c)
 
 abbrev pub standards_of : Component → List (List (List ℕ))
 standards_of c = parts_in is_standard (component_children c)
@@ -22,11 +22,11 @@ standards_of c = parts_in is_standard (component_children c)
 abbrev pub daylights_of : Component → List (List (List ℕ))
 daylights_of c = parts_in is_daylight (component_children c)
 
-abbrev pub Says : Component → Zone → Type 0
-Says c zone = PartsSay (parts_of c) (standards_of c) (daylights_of c) zone
+abbrev pub SaysComponentZone : Component → Zone → Type 0
+SaysComponentZone c zone = PartsSay (zone_parts c) (standards_of c) (daylights_of c) zone
 
-abbrev pub HasFault : Component → ℕ → Type 0
-HasFault c number = PartsFault (parts_of c) (standards_of c) (daylights_of c) number
+abbrev pub HasZoneFault : Component → ℕ → Type 0
+HasZoneFault c number = PartsFault (zone_parts c) (standards_of c) (daylights_of c) number
 
 -- a part's times are wrong
 abbrev pub SomeTimesFault : List (List (List ℕ)) → ℕ → Type 0
@@ -37,13 +37,13 @@ abbrev pub StartFault : List ℕ → ℕ → Type 0
 StartFault line number = ((number ≡ 40) × IsFixedLine line) ⊎ ((number ≡ 11) × IsNoLocalLine line)
 
 -- the property is missing, or occurs twice
-abbrev pub IsNotOne : List ℕ → List (List ℕ) → Type 0
-IsNotOne name lines = IsMissing name lines ⊎ OccursMoreThanOnce name lines
+abbrev pub IsNotOnce : List ℕ → List (List ℕ) → Type 0
+IsNotOnce name lines = IsMissing name lines ⊎ OccursMoreThanOnce name lines
 
 -- an offset of that name is wrong
 abbrev pub OffsetFault : List ℕ → List (List ℕ) → ℕ → Type 0
 OffsetFault name lines number =
-    ((number ≡ 40) × IsNotOne name lines) ⊎ ((number ≡ 13) × SomeLine name IsNoOffsetLine lines)
+    ((number ≡ 40) × IsNotOnce name lines) ⊎ ((number ≡ 13) × SomeLine name IsNoOffsetLine lines)
 
 -- a part that should begin every year is wrong
 abbrev pub YearlyFault : List (List ℕ) → ℕ → Type 0

@@ -18,20 +18,20 @@ abbrev pub rule_named : ℕ → MonthDays → YearRule
 rule_named month days = record { month = month; days = days_of days }
 
 -- every year has this day, once
-abbrev pub is_yearly : ℕ → MonthDays → Bool
-is_yearly month days = is_each_year month (days_of days)
+abbrev pub occurs_yearly : ℕ → MonthDays → Bool
+occurs_yearly month days = is_each_year month (days_of days)
 
 -- this many days of its month are before the day, in a month of that length whose first day has that index
-abbrev pub IsPlace : MonthDays → ℕ → ℕ → ℕ → Type 0
-IsPlace (Day day) first length before = before + 1 ≡ day
-IsPlace (FromStart number weekday) first length before =
+abbrev pub IsPlaceInMonth : MonthDays → ℕ → ℕ → ℕ → Type 0
+IsPlaceInMonth (Day day) first length before = before + 1 ≡ day
+IsPlaceInMonth (FromStart number weekday) first length before =
     ((first + before + 5) % 7 ≡ weekday) × (7 * (number - 1) ≤ before) × (before < 7 * number)
-IsPlace (FromEnd number weekday) first length before =
+IsPlaceInMonth (FromEnd number weekday) first length before =
     ((first + before + 5) % 7 ≡ weekday) × (7 * (number - 1) ≤ length - before - 1) × (length - before - 1 < 7 * number)
     × (before < length)
-IsPlace (Week earliest weekday) first length before =
+IsPlaceInMonth (Week earliest weekday) first length before =
     ((first + before + 5) % 7 ≡ weekday) × (earliest ≤ before + 1) × (before + 1 ≤ earliest + 6)
 
 -- the parts of FREQ=YEARLY with that BYMONTH, on from a DTSTART
-abbrev pub pattern_of : ℕ → MonthDays → ℕ → Pattern
-pattern_of month days start = year_pattern (rule_named month days) start
+abbrev pub yearly_pattern : ℕ → MonthDays → ℕ → Pattern
+yearly_pattern month days start = year_pattern (rule_named month days) start

@@ -2,10 +2,10 @@
 use Rattle.std.specs.Prelude.{◌≡◌, ℕ, ◌+◌, List, [], ◌∷◌, ◌++◌, map, codes, decimal}
 use Rattle.std.specs.Fmt.{signed_decimal}
 use Rattle.profile.specs.text.Lines.{folded, written}
-use Rattle.profile.specs.series.RuleTexts.{listed, entry_text}
+use Rattle.profile.specs.series.RuleTexts.{listed, weekday_number_text}
 use Rattle.profile.specs.series.Zones.{Observance}
 use Rattle.profile.specs.series.ZoneTexts.{month_days_of, weekdays_of}
-use Rattle.profile.specs.written.WrittenZones.{WritesPart, component_lines}
+use Rattle.profile.specs.written.WrittenZones.{WritesPart, lines_around}
 use Rattle.cal_zones.specs.Shapes.{days_of}
 use Rattle.cal_zones.specs.declared.yearly.MonthDays.{MonthDays}
 
@@ -13,7 +13,7 @@ use Rattle.cal_zones.specs.declared.yearly.MonthDays.{MonthDays}
 abbrev pub year_text : ℕ → MonthDays → List ℕ
 year_text month days =
     codes "FREQ=YEARLY" ++ listed (codes ";BYMONTH=") (decimal month ∷ []) ++ listed (codes ";BYMONTHDAY=") (map signed_decimal (month_days_of (days_of days)))
-    ++ listed (codes ";BYDAY=") (map entry_text (weekdays_of (days_of days)))
+    ++ listed (codes ";BYDAY=") (map weekday_number_text (weekdays_of (days_of days)))
 
 -- seven days in a row, with commas between
 abbrev pub week_text : ℕ → List ℕ
@@ -31,4 +31,4 @@ IsLineOf name IsValue octets = (value : List ℕ) × IsValue value × (octets �
 
 -- the lines of a part of that name
 abbrev pub IsPartText : List ℕ → Observance → List (List ℕ) → Type 0
-IsPartText kind o lines = (own : List (List ℕ)) × WritesPart own o × (lines ≡ component_lines kind own)
+IsPartText kind o lines = (own : List (List ℕ)) × WritesPart own o × (lines ≡ lines_around kind own)

@@ -1,14 +1,14 @@
 -- The one day a year of a rule.
 use Rattle.std.specs.Prelude.{◌≡◌, ℕ, ◌-◌, ◌≤◌, ◌⊎◌}
 use Rattle.profile.specs.series.Days.{year_of, month_of, month_days_before, days_in_month}
-use Rattle.cal_zones.specs.Shapes.{IsPlace}
+use Rattle.cal_zones.specs.Shapes.{IsPlaceInMonth}
 use Rattle.cal_zones.specs.declared.yearly.Yearly.{Yearly}
 
 -- it is the day of its year
 abbrev pub IsOn : Yearly → ℕ → Type 0
 IsOn r n =
     (month_of n ≡ r.month)
-    × IsPlace r.days (n - month_days_before n) (days_in_month (year_of n) (month_of n)) (month_days_before n)
+    × IsPlaceInMonth r.days (n - month_days_before n) (days_in_month (year_of n) (month_of n)) (month_days_before n)
 
 -- and of that year
 pub record IsDayOfYear (r : Yearly) (year day : ℕ) : Type 0 where

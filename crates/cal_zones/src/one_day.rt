@@ -4,7 +4,7 @@ ghost use Rattle.std.specs.Prelude.{◌≡◌, ℕ, ◌≤◌, true, false, map,
 ghost use Rattle.std.specs.List.{list_all, list_any};
 ghost use Rattle.std.specs.Ordering.{int_eq};
 ghost use Rattle.profile.specs.series.ZoneTexts.{YearRule, are_only, is_of_seven, are_seven, names_days, is_plain_yearly, is_one_day};
-ghost use Rattle.cal_rules.specs.Views.{entry_of};
+ghost use Rattle.cal_rules.specs.Views.{weekday_number_of};
 ghost use Rattle.cal_zones.specs.Shapes.{days_of, rule_named};
 ghost use Rattle.cal_zones.specs.Named.{NamesNone};
 
@@ -73,8 +73,8 @@ fn first_of_seven(numbers: &[i16]) -> Option<u8>
 
 /// The day of its month that BYMONTHDAY and the one entry of BYDAY name.
 fn weekday_named(numbers: &[i16], entry: WeekdayNumber) -> Option<MonthDays>
-    ensures found { IfSome result (λ days. names_days (days_of days) numbers.now (entry_of entry ∷ []) ≡ true) }
-    ensures none { IfNone result (NamesNone numbers.now (entry_of entry ∷ [])) }
+    ensures found { IfSome result (λ days. names_days (days_of days) numbers.now (weekday_number_of entry ∷ []) ≡ true) }
+    ensures none { IfNone result (NamesNone numbers.now (weekday_number_of entry ∷ [])) }
 {
     let WeekdayNumber { number, weekday } = entry;
     if number == 0 {
@@ -99,8 +99,8 @@ fn weekday_named(numbers: &[i16], entry: WeekdayNumber) -> Option<MonthDays>
 
 /// The day of its month that BYMONTHDAY and BYDAY name.
 fn days_named(numbers: &[i16], entries: &[WeekdayNumber]) -> Option<MonthDays>
-    ensures found { IfSome result (λ days. names_days (days_of days) numbers.now (map entry_of entries.now) ≡ true) }
-    ensures none { IfNone result (NamesNone numbers.now (map entry_of entries.now)) }
+    ensures found { IfSome result (λ days. names_days (days_of days) numbers.now (map weekday_number_of entries.now) ≡ true) }
+    ensures none { IfNone result (NamesNone numbers.now (map weekday_number_of entries.now)) }
 {
     if entries.is_empty() {
         let day = u8::try_from(only(numbers)?).ok()?;

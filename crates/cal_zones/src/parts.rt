@@ -4,8 +4,8 @@
 ghost use Rattle.std.specs.Prelude.{◌≡◌, ◌∷◌, [], length, find, option_map, IfSome, IfNone, true, false, None, Some, IfOk, IfErr};
 ghost use Rattle.ical_tree.specs.Tree.{component_name, component_lines, component_children};
 ghost use Rattle.profile.specs.text.Lines.{is_same_name};
-ghost use Rattle.profile.specs.series.ZoneTexts.{is_part, IsFixedLine, IsLocalLine, IsOffsetLine, SaysTimes, TimesFault};
-ghost use Rattle.cal_zones.specs.Read.{parts_in, parts_of, StartFault, OffsetFault};
+ghost use Rattle.profile.specs.series.ZoneTexts.{is_part, IsFixedLine, IsLocalLine, IsOffsetLine, SaysPartTimes, TimesFault};
+ghost use Rattle.cal_zones.specs.Read.{parts_in, zone_parts, StartFault, OffsetFault};
 ghost use Rattle.ical_lines.specs.Text.{line_text};
 ghost use Rattle.profile.specs.events.Properties.{Says, IsMissing, is_date_time};
 ghost use Rattle.cal_zones.specs.Onsets.{observance_of};
@@ -32,8 +32,8 @@ pub(crate) fn first_part<'c, 'a>(zone: &'c Component<'a>) -> Option<&'c Componen
 
 /// The one part, where there is exactly one.
 pub(crate) fn only_part<'c, 'a>(zone: &'c Component<'a>) -> Option<&'c Component<'a>>
-    ensures found { IfSome result (λ part. parts_of zone.now ≡ component_lines part.now ∷ []) }
-    ensures none { IfNone result (length (parts_of zone.now) ≡ 1 → ⊥) }
+    ensures found { IfSome result (λ part. zone_parts zone.now ≡ component_lines part.now ∷ []) }
+    ensures none { IfNone result (length (zone_parts zone.now) ≡ 1 → ⊥) }
 {
     let mut only = None;
     for child in zone.children() {
@@ -119,7 +119,7 @@ fn read_offset(properties: &Properties<'_>, name: &str) -> Result<UtcOffset, Ref
 /// the three is missing or occurs twice, or DTSTART isn't a local time without a zone; with 11 or 13 where a
 /// value isn't one.
 pub(crate) fn read_times(properties: &Properties<'_>) -> Result<Observance, Refusal>
-    ensures says { IfOk result (λ o. SaysTimes properties.now (observance_of o)) }
+    ensures says { IfOk result (λ o. SaysPartTimes properties.now (observance_of o)) }
     ensures no_rule { IfOk result (λ o. o.rule ≡ None) }
     ensures fault { IfErr result (λ e. TimesFault properties.now e.number) }
 {

@@ -5,11 +5,11 @@ ghost use Rattle.std.specs.Prelude.{◌≡◌, ℕ, List, true, false, length, C
 ghost use Rattle.ical_lines.specs.Fault.{RefusesBy};
 ghost use Rattle.ical_tree.specs.Tree.{component_lines};
 ghost use Rattle.profile.specs.text.Trees.{Tree};
-ghost use Rattle.profile.specs.series.ZoneTexts.{SaysZone, ZoneFault, SaysYearly, SpellsYear, SpellsNoYear, OffsetsDiffer, Keeps, Strays, SaysTimes, TimesFault};
+ghost use Rattle.profile.specs.series.ZoneTexts.{SaysZone, ZoneFault, SaysYearly, SpellsYear, SpellsNoYear, OffsetsDiffer, KeepsOffset, Strays, SaysPartTimes, TimesFault};
 ghost use Rattle.cal_zones.specs.Shapes.{rule_named};
 ghost use Rattle.cal_zones.specs.Onsets.{observance_of};
 ghost use Rattle.cal_zones.specs.Kinds.{zone_of};
-ghost use Rattle.cal_zones.specs.Read.{Says, HasFault, parts_of, SomeTimesFault, YearlyFault, IsShapeFault, SaysSingle, SingleFault};
+ghost use Rattle.cal_zones.specs.Read.{SaysComponentZone, HasZoneFault, zone_parts, SomeTimesFault, YearlyFault, IsShapeFault, SaysSingle, SingleFault};
 ghost use Rattle.profile.specs.series.Zones as zones;
 ghost use Rattle.profile.specs.events.Properties as lines;
 
@@ -38,8 +38,8 @@ pub fn one_zone()
 
 /// The zone that a VTIMEZONE says.
 pub(crate) fn read_zone(alloc: Global, zone: &Component) -> Result<Zone, Fault>
-    ensures says { IfOk result (λ z. Says zone.now (zone_of z)) }
-    ensures fault { IfErr result (RefusesBy (HasFault zone.now)) }
+    ensures says { IfOk result (λ z. SaysComponentZone zone.now (zone_of z)) }
+    ensures fault { IfErr result (RefusesBy (HasZoneFault zone.now)) }
 {
     let Some(part) = first_part(zone) else {
         return Err(Fault::Refused(Refusal::ZONE_SHAPE));
@@ -53,7 +53,7 @@ pub(crate) fn read_zone(alloc: Global, zone: &Component) -> Result<Zone, Fault>
 
 /// The times of a part. Refused where they are wrong.
 fn times_of(alloc: Global, part: &Component) -> Result<Observance, Fault>
-    ensures says { IfOk result (λ o. SaysTimes (component_lines part.now) (observance_of o)) }
+    ensures says { IfOk result (λ o. SaysPartTimes (component_lines part.now) (observance_of o)) }
     ensures fault { IfErr result (RefusesBy (TimesFault (component_lines part.now))) }
 {
     let properties = Properties::of(alloc, part)?;
@@ -62,7 +62,7 @@ fn times_of(alloc: Global, part: &Component) -> Result<Observance, Fault>
 
 /// Does a part say only that offset? Refused where its times are wrong.
 fn keeps(alloc: Global, part: &Component, offset: i32) -> Result<bool, Fault>
-    ensures yes { IfOk result (λ b. b ≡ true → Keeps offset (component_lines part.now)) }
+    ensures yes { IfOk result (λ b. b ≡ true → KeepsOffset offset (component_lines part.now)) }
     ensures no { IfOk result (λ b. b ≡ false → Strays offset (component_lines part.now)) }
     ensures fault { IfErr result (RefusesBy (TimesFault (component_lines part.now))) }
 {
@@ -73,10 +73,10 @@ fn keeps(alloc: Global, part: &Component, offset: i32) -> Result<bool, Fault>
 /// Do all parts say only that offset? Refused where the times of one are wrong.
 fn all_keep(alloc: Global, zone: &Component, offset: i32) -> Result<bool, Fault>
     ensures yes { IfOk result (λ b. b ≡ true
-        → (part : List (List ℕ)) → Contains (parts_of zone.now) part → Keeps offset part) }
+        → (part : List (List ℕ)) → Contains (zone_parts zone.now) part → KeepsOffset offset part) }
     ensures no { IfOk result (λ b. b ≡ false
-        → (part : List (List ℕ)) × Contains (parts_of zone.now) part × Strays offset part) }
-    ensures fault { IfErr result (RefusesBy (SomeTimesFault (parts_of zone.now))) }
+        → (part : List (List ℕ)) × Contains (zone_parts zone.now) part × Strays offset part) }
+    ensures fault { IfErr result (RefusesBy (SomeTimesFault (zone_parts zone.now))) }
 {
     for child in zone.children() {
         if is_part(child) {
@@ -90,9 +90,9 @@ fn all_keep(alloc: Global, zone: &Component, offset: i32) -> Result<bool, Fault>
 
 /// A zone whose offsets differ.
 fn read_changing(alloc: Global, zone: &Component) -> Result<Zone, Fault>
-    requires { OffsetsDiffer (parts_of zone.now) }
-    ensures says { IfOk result (λ z. Says zone.now (zone_of z)) }
-    ensures fault { IfErr result (RefusesBy (HasFault zone.now)) }
+    requires { OffsetsDiffer (zone_parts zone.now) }
+    ensures says { IfOk result (λ z. SaysComponentZone zone.now (zone_of z)) }
+    ensures fault { IfErr result (RefusesBy (HasZoneFault zone.now)) }
 {
     match only_part(zone) {
         Some(part) => read_single(alloc, part),
@@ -116,10 +116,10 @@ fn read_single(alloc: Global, part: &Component) -> Result<Zone, Fault>
 
 /// The zone of one STANDARD and one DAYLIGHT.
 fn read_pair(alloc: Global, zone: &Component) -> Result<Zone, Fault>
-    requires differ { OffsetsDiffer (parts_of zone.now) }
-    requires several { length (parts_of zone.now) ≡ 1 → ⊥ }
-    ensures says { IfOk result (λ z. Says zone.now (zone_of z)) }
-    ensures fault { IfErr result (RefusesBy (HasFault zone.now)) }
+    requires differ { OffsetsDiffer (zone_parts zone.now) }
+    requires several { length (zone_parts zone.now) ≡ 1 → ⊥ }
+    ensures says { IfOk result (λ z. SaysComponentZone zone.now (zone_of z)) }
+    ensures fault { IfErr result (RefusesBy (HasZoneFault zone.now)) }
 {
     let Some(standard) = only_named(zone, "STANDARD") else {
         return Err(Fault::Refused(Refusal::ZONE_SHAPE));

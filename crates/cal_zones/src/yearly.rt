@@ -2,7 +2,7 @@
 
 ghost use Rattle.std.specs.Prelude.{◌≡◌, ◌<◌, ◌≤◌, true, ◌+◌, ◌%◌};
 ghost use Rattle.profile.specs.series.Days.{days_in_month};
-ghost use Rattle.cal_zones.specs.Shapes.{is_yearly};
+ghost use Rattle.cal_zones.specs.Shapes.{occurs_yearly};
 
 use cal_days::{CYCLE, Day, FIRST_INDEX};
 use ical_values::DAY_SECONDS;
@@ -26,13 +26,13 @@ pub enum MonthDays {
 pub struct Yearly {
     pub(crate) month: u8,
     pub(crate) days: MonthDays,
-    ghost yearly: { is_yearly month days ≡ true },
+    ghost yearly: { occurs_yearly month days ≡ true },
 }
 
 impl Yearly {
     ghost use Rattle.std.specs.Prelude.{◌≡◌, ◌↔◌, ◌<◌, ◌≤◌, ◌+◌, true, IsSome, IfSome, negsuc, ◌≤ℤ◌};
     ghost use Rattle.profile.specs.series.ZoneTexts.{is_each_year};
-    ghost use Rattle.cal_zones.specs.Shapes.{days_of, IsPlace};
+    ghost use Rattle.cal_zones.specs.Shapes.{days_of, IsPlaceInMonth};
     ghost use Rattle.cal_zones.specs.Yearly.{IsOn, IsDayOfYear, IsLatestDay, IsFirstDay, HasEarlier};
     ghost use Rattle.cal_zones.specs.Onsets.{IsLatestAfter};
 
@@ -52,7 +52,7 @@ impl Yearly {
     fn place(self, first: u32, length: u32) -> u32
         requires first { first ≤ 4_000_000 }
         requires length { (28 ≤ length) × (length ≤ 31) }
-        ensures { IsPlace self.days first length result }
+        ensures { IsPlaceInMonth self.days first length result }
     {
         match self.days {
             MonthDays::Day(day) => day as u32 - 1,
@@ -141,7 +141,7 @@ impl Yearly {
 
 /// Does every year have that day?
 fn is_yearly(month: u8, days: MonthDays) -> bool
-    ensures { result ≡ is_yearly month days }
+    ensures { result ≡ occurs_yearly month days }
 {
     if month < 1 || month > 12 {
         return false;

@@ -11,9 +11,9 @@ use Rattle.std.proofs.lemmas.List.{length-map}
 use Rattle.std.specs.List.{slice_get}
 use Rattle.std.proofs.lemmas.Bool.{false≢true, cases_lt}
 use Rattle.std.proofs.lemmas.Option.{same_Some, slice_get-get_or, slice_get_within, get_or_from_slice_get}
-use Rattle.profile.specs.checker.Instances.{Key, Booked, IsClash, IsClear, AreClashing, AreClear, booked_cmp, key_cmp}
+use Rattle.profile.specs.checker.Instances.{Key, Instance as SaidInstance, IsClash, IsClear, AreClashing, AreClear, instance_cmp, key_cmp}
 use Rattle.profile.specs.checker.Certificates.{Claims, IsClaims, text_of, CertificateHoldsFor}
-use Rattle.profile.specs.events.Meetings.{Meeting}
+use Rattle.profile.specs.events.Events.{Event}
 use Rattle.profile.specs.events.Starts.{IsInstance, SharesInstant}
 use Rattle.profile.specs.events.Confirmed.{Confirmed, IsInSeries, IsOneOf}
 use Rattle.cal_events.specs.Calendars.{instance_of, owned_key_of, HaveOwnKeys}
@@ -30,8 +30,8 @@ use Rattle.clash_cert.specs.declared.making.Clash.{Clash}
 use Rattle.clash_cert.specs.Makings.{HasKeys, IsNamedClash, IsNamedAs, AreNamed, IsLaterStart}
 use Rattle.ical_values.proofs.Facts.{is_lt_true}
 
-booked_total : IsTotalOrder booked_cmp
-booked_total = then_total (on_total (λ (b : Booked). b.start) int_cmp_total) (on_total (λ (b : Booked). b.key) key_total)
+booked_total : IsTotalOrder instance_cmp
+booked_total = then_total (on_total (λ (b : SaidInstance). b.start) int_cmp_total) (on_total (λ (b : SaidInstance). b.key) key_total)
 
 then_equal : (r s : Ordering) → ordering_then r s ≡ Equal → s ≡ Equal
 then_equal Less s e = cc
@@ -47,29 +47,29 @@ not_after : (a b : ℤ) → (int_cmp a b ≡ Greater → ⊥) → a ≤ℤ b
 not_after a b h = grind (arith, ints)
 
 -- a clash the other way round
-pub turned : (a b : Booked) (t : ℤ) → AreClashing a b t → AreClashing b a t
+pub turned : (a b : SaidInstance) (t : ℤ) → AreClashing a b t → AreClashing b a t
 turned a b t h = record { differ = λ e. h.differ (sym e); before = h.before; in_first = h.in_second; in_second = h.in_first }
 
 -- what comes before is less
-pub less_from_before : (a b : Booked) → is_lt (booked_cmp a b) ≡ true → booked_cmp a b ≡ Less
-less_from_before a b h = is_lt_true (booked_cmp a b) h
+pub less_from_before : (a b : SaidInstance) → is_lt (instance_cmp a b) ≡ true → instance_cmp a b ≡ Less
+less_from_before a b h = is_lt_true (instance_cmp a b) h
 
-turned_less : (a b : Booked) → (a.key ≡ b.key → ⊥) → (r : Ordering) → booked_cmp b a ≡ r → is_lt r ≡ false → booked_cmp a b ≡ Less
+turned_less : (a b : SaidInstance) → (a.key ≡ b.key → ⊥) → (r : Ordering) → instance_cmp b a ≡ r → is_lt r ≡ false → instance_cmp a b ≡ Less
 turned_less a b differ Less e h = cc
 turned_less a b differ Equal e h = absurd (differ (sym (key_exact b.key a.key (then_equal (int_cmp b.start a.start) (key_cmp b.key a.key) e))))
 turned_less a b differ Greater e h = booked_total.antisymm a b ∙ ap ordering_reverse e
 
 -- of two keys that differ, what doesn't come after is less
-pub less_from_not_before : (a b : Booked) → (a.key ≡ b.key → ⊥) → is_lt (booked_cmp b a) ≡ false → booked_cmp a b ≡ Less
-less_from_not_before a b differ h = turned_less a b differ (booked_cmp b a) refl h
+pub less_from_not_before : (a b : SaidInstance) → (a.key ≡ b.key → ⊥) → is_lt (instance_cmp b a) ≡ false → instance_cmp a b ≡ Less
+less_from_not_before a b differ h = turned_less a b differ (instance_cmp b a) refl h
 
 -- ---- naming
 
-not_later : (a b : Booked) → booked_cmp a b ≡ Less → a.start ≤ℤ b.start
+not_later : (a b : SaidInstance) → instance_cmp a b ≡ Less → a.start ≤ℤ b.start
 not_later a b e = not_after a.start b.start (λ g. then_less (int_cmp a.start b.start) (key_cmp a.key b.key) e g)
 
 -- two instances that share an instant, named by their order, are a clash
-module _ (all : Confirmed) (a b : Booked) (clash : Clash) (in_a : IsOneOf all a) (in_b : IsOneOf all b) (differ : a.key ≡ b.key → ⊥) (s : SharesInstant a.start a.end b.start b.end) where
+module _ (all : Confirmed) (a b : SaidInstance) (clash : Clash) (in_a : IsOneOf all a) (in_b : IsOneOf all b) (differ : a.key ≡ b.key → ⊥) (s : SharesInstant a.start a.end b.start b.end) where
   clashing : IsLaterStart a b clash.instant → AreClashing a b clash.instant
   clashing l =
       let most : clash.instant ≤ℤ s.instant = elim l.2 [
@@ -83,7 +83,7 @@ module _ (all : Confirmed) (a b : Booked) (clash : Clash) (in_a : IsOneOf all a)
         in_second = (l.1, omega (arith, ints, most, s.in_second.1));
       }
 
-  go : (r : Ordering) → booked_cmp b a ≡ r → MatchBool (is_lt r) (HasKeys b a clash.instant clash) (HasKeys a b clash.instant clash) → IsLaterStart a b clash.instant → IsNamedClash all clash
+  go : (r : Ordering) → instance_cmp b a ≡ r → MatchBool (is_lt r) (HasKeys b a clash.instant clash) (HasKeys a b clash.instant clash) → IsLaterStart a b clash.instant → IsNamedClash all clash
   go Less e keys l =
       let before = not_later b a e in
       record {
@@ -98,7 +98,7 @@ module _ (all : Confirmed) (a b : Booked) (clash : Clash) (in_a : IsOneOf all a)
       }
   go Equal e keys l = absurd (differ (sym (key_exact b.key a.key (then_equal (int_cmp b.start a.start) (key_cmp b.key a.key) e))))
   go Greater e keys l =
-      let less : booked_cmp a b ≡ Less = booked_total.antisymm a b ∙ ap ordering_reverse e in
+      let less : instance_cmp a b ≡ Less = booked_total.antisymm a b ∙ ap ordering_reverse e in
       let before = not_later a b less in
       record {
         a = a;
@@ -112,106 +112,106 @@ module _ (all : Confirmed) (a b : Booked) (clash : Clash) (in_a : IsOneOf all a)
       }
 
   pub named_clash : IsNamedAs a b clash → IsNamedClash all clash
-  named_clash n = go (booked_cmp b a) refl n.0 n.1
+  named_clash n = go (instance_cmp b a) refl n.0 n.1
 
 -- the same of instances that are these
-pub named_by : (all : Confirmed) (a b x y : Booked) (clash : Clash) → x ≡ a → y ≡ b → IsOneOf all a → IsOneOf all b → (a.key ≡ b.key → ⊥) → SharesInstant a.start a.end b.start b.end
+pub named_by : (all : Confirmed) (a b x y : SaidInstance) (clash : Clash) → x ≡ a → y ≡ b → IsOneOf all a → IsOneOf all b → (a.key ≡ b.key → ⊥) → SharesInstant a.start a.end b.start b.end
     → IsNamedAs x y clash → IsNamedClash all clash
 named_by all a b x y clash ea eb in_a in_b differ s n =
     named_clash all a b clash in_a in_b differ s (subst (λ v. IsNamedAs a v clash) eb (subst (λ u. IsNamedAs u y clash) ea n))
 
 -- the lesser is named first
-pub named_first : (a b : Booked) (t : ℤ) (clash : Clash) (r : Bool) → is_lt (booked_cmp b a) ≡ r → MatchBool r (HasKeys b a t clash) (HasKeys a b t clash) → AreNamed a b t clash
+pub named_first : (a b : SaidInstance) (t : ℤ) (clash : Clash) (r : Bool) → is_lt (instance_cmp b a) ≡ r → MatchBool r (HasKeys b a t clash) (HasKeys a b t clash) → AreNamed a b t clash
 named_first a b t clash r e h = subst (λ v. MatchBool v (HasKeys b a t clash) (HasKeys a b t clash)) (sym e) h
 
 -- ---- singles by their places
 
 -- a place holds one
-pub there : {X : Type 0} (f : X → Booked) (all : List Booked) (i : ℕ) (o : Option X) → option_map f o ≡ slice_get all i → i < length all → is_some o ≡ true
+pub there : {X : Type 0} (f : X → SaidInstance) (all : List SaidInstance) (i : ℕ) (o : Option X) → option_map f o ≡ slice_get all i → i < length all → is_some o ≡ true
 there f all i (Some x) e w = refl
 there f all i None e w = absurd (false≢true (ap (λ r. is_some r) (e ∙ slice_get-get_or all i (some_of all w) w)))
   where
-    some_of : (xs : List Booked) → i < length xs → Booked
+    some_of : (xs : List SaidInstance) → i < length xs → SaidInstance
     some_of [] w = absurd (omega (arith, w))
     some_of (x ∷ xs) w = x
 
-pub key_there : {X : Type 0} (f : X → Key) (all : List Booked) (i : ℕ) (o : Option X) → option_map f o ≡ option_map (λ b. b.key) (slice_get all i) → i < length all → is_some o ≡ true
+pub key_there : {X : Type 0} (f : X → Key) (all : List SaidInstance) (i : ℕ) (o : Option X) → option_map f o ≡ option_map (λ b. b.key) (slice_get all i) → i < length all → is_some o ≡ true
 key_there f all i (Some x) e w = refl
-key_there f all i None e w = absurd (false≢true (ap (λ r. is_some r) (e ∙ ap (λ r. option_map (λ (b : Booked). b.key) r) (slice_get-get_or all i (some_of all w) w))))
+key_there f all i None e w = absurd (false≢true (ap (λ r. is_some r) (e ∙ ap (λ r. option_map (λ (b : SaidInstance). b.key) r) (slice_get-get_or all i (some_of all w) w))))
   where
-    some_of : (xs : List Booked) → i < length xs → Booked
+    some_of : (xs : List SaidInstance) → i < length xs → SaidInstance
     some_of [] w = absurd (omega (arith, w))
     some_of (x ∷ xs) w = x
 
 -- and that is what is there
-pub held : {X : Type 0} (f : X → Booked) (all : List Booked) (i : ℕ) (o : Option X) (x : X) (a : Booked) → option_map f o ≡ slice_get all i → o ≡ Some x → i < length all → get_or all i a ≡ a → f x ≡ a
+pub held : {X : Type 0} (f : X → SaidInstance) (all : List SaidInstance) (i : ℕ) (o : Option X) (x : X) (a : SaidInstance) → option_map f o ≡ slice_get all i → o ≡ Some x → i < length all → get_or all i a ≡ a → f x ≡ a
 held f all i o x a e is w at = same_Some (f x) a (sym (ap (option_map f) is) ∙ e ∙ slice_get-get_or all i a w ∙ ap Some at)
 
-pub key_held : {X : Type 0} (f : X → Key) (all : List Booked) (i : ℕ) (o : Option X) (x : X) (a : Booked) → option_map f o ≡ option_map (λ b. b.key) (slice_get all i) → o ≡ Some x → i < length all
+pub key_held : {X : Type 0} (f : X → Key) (all : List SaidInstance) (i : ℕ) (o : Option X) (x : X) (a : SaidInstance) → option_map f o ≡ option_map (λ b. b.key) (slice_get all i) → o ≡ Some x → i < length all
     → get_or all i a ≡ a → f x ≡ a.key
 key_held f all i o x a e is w at =
-    same_Some (f x) a.key (sym (ap (option_map f) is) ∙ e ∙ ap (option_map (λ (b : Booked). b.key)) (slice_get-get_or all i a w ∙ ap Some at))
+    same_Some (f x) a.key (sym (ap (option_map f) is) ∙ e ∙ ap (option_map (λ (b : SaidInstance). b.key)) (slice_get-get_or all i a w ∙ ap Some at))
 
 -- and this is its key
-pub own_key : (all : List Booked) (place : ℕ) (o : Option Instance) (i : Instance) (k : Option OwnedKey) (key : OwnedKey) → option_map instance_of o ≡ slice_get all place → o ≡ Some i
+pub own_key : (all : List SaidInstance) (place : ℕ) (o : Option Instance) (i : Instance) (k : Option OwnedKey) (key : OwnedKey) → option_map instance_of o ≡ slice_get all place → o ≡ Some i
     → option_map owned_key_of k ≡ option_map (λ b. b.key) (slice_get all place) → k ≡ Some key → owned_key_of key ≡ (instance_of i).key
 own_key all place o i k key e is f at =
     same_Some (owned_key_of key) (instance_of i).key
-    (sym (ap (option_map owned_key_of) at) ∙ f ∙ ap (option_map (λ (b : Booked). b.key)) (sym e ∙ ap (option_map instance_of) is))
+    (sym (ap (option_map owned_key_of) at) ∙ f ∙ ap (option_map (λ (b : SaidInstance). b.key)) (sym e ∙ ap (option_map instance_of) is))
 
 -- the instance at a place, as it was lent
-pub lent : (all : List Booked) (place : ℕ) (o : Option Instance) (i : Instance) (b : Booked) → option_map instance_of o ≡ slice_get all place → o ≡ Some i → slice_get all place ≡ Some b → instance_of i ≡ b
+pub lent : (all : List SaidInstance) (place : ℕ) (o : Option Instance) (i : Instance) (b : SaidInstance) → option_map instance_of o ≡ slice_get all place → o ≡ Some i → slice_get all place ≡ Some b → instance_of i ≡ b
 lent all place o i b e is at = same_Some (instance_of i) b (sym (ap (option_map instance_of) is) ∙ e ∙ at)
 
 -- ---- series by their places
 
 -- the series at a place of a slice
-pub series_there : (xs : List Series) (all : List Meeting) (i : ℕ) (s : Series) (m : Meeting) → map series_said xs ≡ all → i < length all → s ≡ get_or xs i s → slice_get all i ≡ Some m → m ≡ series_said s
+pub series_there : (xs : List Series) (all : List Event) (i : ℕ) (s : Series) (m : Event) → map series_said xs ≡ all → i < length all → s ≡ get_or xs i s → slice_get all i ≡ Some m → m ≡ series_said s
 series_there xs all i s m e w is at =
     let long = length-map xs series_said in
     let here : slice_get all i ≡ Some (series_said s) = ap (λ l. slice_get l i) (sym e) ∙ said_at xs i s (omega (arith, w, long, ap length e)) is in
     same_Some m (series_said s) (sym at ∙ here)
 
 -- two instances of series that share an instant have different keys
-pub keys_apart : (all : Confirmed) → HaveOwnKeys all → (i j : ℕ) (x y : Booked) → i ≤ j → j < length all.series → PairShares all.series i j x y → x.key ≢ y.key
+pub keys_apart : (all : Confirmed) → HaveOwnKeys all → (i j : ℕ) (x y : SaidInstance) → i ≤ j → j < length all.series → PairShares all.series i j x y → x.key ≢ y.key
 keys_apart all own i j x y l w s =
     elim (cases_lt i j) [
       | inl less ↦ λ same.
           own.0 i j s.b less w x y
-          (subst (λ (m : Meeting). IsInstance m x) (sym (get_or_from_slice_get all.series i s.a s.b s.at_first)) s.first)
-          (subst (λ (m : Meeting). IsInstance m y) (sym (get_or_from_slice_get all.series j s.b s.b s.at_second)) s.second) same
+          (subst (λ (m : Event). IsInstance m x) (sym (get_or_from_slice_get all.series i s.a s.b s.at_first)) s.first)
+          (subst (λ (m : Event). IsInstance m y) (sym (get_or_from_slice_get all.series j s.b s.b s.at_second)) s.second) same
       | inr from ↦ s.differ (omega (arith, l, from))
     ]
 
 -- the single at a place is one of what is confirmed
-pub single_in : (all : Confirmed) (place : ℕ) (b : Booked) → slice_get all.singles place ≡ Some b → IsOneOf all b
+pub single_in : (all : Confirmed) (place : ℕ) (b : SaidInstance) → slice_get all.singles place ≡ Some b → IsOneOf all b
 single_in all place b e = inl (place, slice_get_within all.singles place b e, get_or_from_slice_get all.singles place b b e)
 
 -- and so is an instance of the series at a place
-pub series_in : (all : Confirmed) (place : ℕ) (series : Meeting) (b : Booked) → slice_get all.series place ≡ Some series → IsInstance series b → IsOneOf all b
+pub series_in : (all : Confirmed) (place : ℕ) (series : Event) (b : SaidInstance) → slice_get all.series place ≡ Some series → IsInstance series b → IsOneOf all b
 series_in all place series b e h = inr (series, (place, slice_get_within all.series place series e, get_or_from_slice_get all.series place series series e), h)
 
 -- two instances of one list clash as two of what is confirmed
-pub shares : (all : List Booked) (a b : Booked) (t : ℤ) → IsClash all a b t → SharesInstant a.start a.end b.start b.end
+pub shares : (all : List SaidInstance) (a b : SaidInstance) (t : ℤ) → IsClash all a b t → SharesInstant a.start a.end b.start b.end
 shares all a b t c = record { instant = t; before = c.before; in_first = c.in_first; in_second = c.in_second }
 
 pub shares_turned : (start end from to : ℤ) → SharesInstant start end from to → SharesInstant from to start end
 shares_turned start end from to s = record { instant = s.instant; before = s.before; in_first = s.in_second; in_second = s.in_first }
 
-pub shares_start : (a b : Booked) → ShareStart a b → SharesInstant a.start a.end b.start b.end
+pub shares_start : (a b : SaidInstance) → ShareStart a b → SharesInstant a.start a.end b.start b.end
 shares_start a b s = record { instant = s.instant; before = s.before; in_first = s.in_first; in_second = s.in_second }
 
 -- ---- what is clear
 
 -- where two singles never clash, and no single shares an instant with a series, no single clashes
-pub singles_clear : (all : Confirmed) → IsClear all.singles → ((single : Booked) → Contains all.singles single → HasNoSharer all.series single.start single.end)
+pub singles_clear : (all : Confirmed) → IsClear all.singles → ((single : SaidInstance) → Contains all.singles single → HasNoSharer all.series single.start single.end)
     → AreClear (Contains all.singles) (IsOneOf all)
 singles_clear all clear apart a b t x (inl y) c = clear a b t (record { first = x; second = y; differ = c.differ; before = c.before; in_first = c.in_first; in_second = c.in_second })
 singles_clear all clear apart a b t x (inr y) c = apart a x b y (record { instant = t; before = c.before; in_first = c.in_second; in_second = c.in_first })
 
 -- and where all pairs of series are clear, all are
 module _ (all : Confirmed) (singles : AreClear (Contains all.singles) (IsOneOf all)) (pairs : (p q : ℕ) → p ≤ q → q < length all.series → IsPairClear all.series p q) where
-  series_clear : (a b : Booked) (t : ℤ) → IsInSeries all.series a → IsInSeries all.series b → AreClashing a b t → ⊥
+  series_clear : (a b : SaidInstance) (t : ℤ) → IsInSeries all.series a → IsInSeries all.series b → AreClashing a b t → ⊥
   series_clear a b t (m, (i, w, e), h) (n, (j, v, f), k) c =
       let at_m : slice_get all.series i ≡ Some m = slice_get-get_or all.series i m w ∙ ap Some e in
       let at_n : slice_get all.series j ≡ Some n = slice_get-get_or all.series j n v ∙ ap Some f in
@@ -237,7 +237,7 @@ certificate_holds all c h singles series clear = record {
 }
 
 -- of singles alone, without series, all are clear where the singles are
-pub singles_alone : (all : List Booked) → IsClear all → AreClear (IsOneOf (record { series = []; singles = all })) (IsOneOf (record { series = []; singles = all }))
+pub singles_alone : (all : List SaidInstance) → IsClear all → AreClear (IsOneOf (record { series = []; singles = all })) (IsOneOf (record { series = []; singles = all }))
 singles_alone all clear a b t (inl x) (inl y) c = clear a b t (record { first = x; second = y; differ = c.differ; before = c.before; in_first = c.in_first; in_second = c.in_second })
 singles_alone all clear a b t (inr (m, (k, w, e), h)) y c = absurd (omega (arith, w))
 singles_alone all clear a b t (inl x) (inr (m, (k, w, e), h)) c = absurd (omega (arith, w))

@@ -5,7 +5,7 @@ use Rattle.std.proofs.lemmas.Bool.{cases_order, true≢false}
 use Rattle.std.proofs.lemmas.List.{length-take-le, length-append, take_all}
 use Rattle.std.proofs.Math.Seq.{take-append_seam}
 use Rattle.std.proofs.lemmas.Fmt.{decimal_injective}
-use Rattle.profile.specs.checker.Certificates.{Claims, IsClaims, lines_of, pair_lines, entry_lines, spelled, Spells, BeginsWell, FirstWrong}
+use Rattle.profile.specs.checker.Certificates.{Claims, IsClaims, lines_of, pair_lines, entry_lines, spelled, SpellsCertificate, BeginsWell, FirstWrong}
 use Rattle.clash_cert.specs.Texts.{LacksLine, LacksCount, MissesLine, IsBroken}
 use Rattle.clash_cert.proofs.TextLemmas.{AreLines, AreLines-take, AreLines-append, AreLines-front, head_lines, head_are, entries_are, lines_are, one_rest, one_cut, one_line, cancel, spelled-take, spelled-take_suc, spelled-append, breaks, line_at}
 
@@ -19,7 +19,7 @@ begins_next text c n r h w e b =
     (AreLines-take n (lines_of c) (lines_are c h)) (AreLines-take n (lines_of b.c) (lines_are b.c b.claims)) (here ∙ sym there)
     (sym e ∙ b.is ∙ spelled-take_suc n (lines_of b.c) b.rest (omega (arith, b.within)))
 
-whole_begins : (text : List ℕ) (c : Claims) (n : ℕ) → n ≤ length (lines_of c) → Spells text c → BeginsWell text n
+whole_begins : (text : List ℕ) (c : Claims) (n : ℕ) → n ≤ length (lines_of c) → SpellsCertificate text c → BeginsWell text n
 whole_begins text c n w s = record {
   c = c;
   rest = spelled (drop n (lines_of c)) [];
@@ -117,7 +117,7 @@ module _ (text bytes : List ℕ) (c : Claims) (head : IsHeaded text bytes c) whe
         subst (λ (d : Claims). n ≤ length (entry_lines d)) s.0 (omega (arith, b.within)),
       )
 
-  whole : (d : Claims) → Spells text d → bytes ≡ spelled (entry_lines c) []
+  whole : (d : Claims) → SpellsCertificate text d → bytes ≡ spelled (entry_lines c) []
   whole d s = let r = same_rest d (spelled (entry_lines d) []) s.claims s.is in r.1 ∙ ap (λ (x : Claims). spelled (entry_lines x) []) r.0
 
   so_far : (n : ℕ) (rest : List ℕ) → n ≤ length (entry_lines c) → bytes ≡ spelled (take n (entry_lines c)) rest → BeginsWell text (suc (suc (suc (suc n))) - 1)
@@ -171,11 +171,11 @@ module _ (text bytes : List ℕ) (c : Claims) (head : IsHeaded text bytes c) whe
   wrong_entry rest line (inl m) at = subst (FirstWrong text) (sym (at ∙ ap (λ n. suc n) (number_there rest m))) (wrong_there rest m)
   wrong_entry rest line (inr (e, some)) at = subst (FirstWrong text) (sym (at ∙ ap (λ n. suc n) (number_behind rest e some))) (wrong_behind rest e some)
 
-  pub spells : bytes ≡ spelled (entry_lines c) [] → Spells text c
+  pub spells : bytes ≡ spelled (entry_lines c) [] → SpellsCertificate text c
   spells e = record { claims = head.claims; is = head.is ∙ ap (spelled (head_lines c)) e }
 
   -- a text is the certificate of one content
-  pub one_content : (d : Claims) → Spells text d → d ≡ c
+  pub one_content : (d : Claims) → SpellsCertificate text d → d ≡ c
   one_content d s = (same_rest d (spelled (entry_lines d) []) s.claims s.is).0
 
 take-take-le : (j k : ℕ) (ls : List (List ℕ)) → j ≤ k → take j (take k ls) ≡ take j ls

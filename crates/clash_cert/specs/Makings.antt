@@ -2,7 +2,7 @@
 use Rattle.std.specs.Prelude.{ℕ, ℤ, MatchBool, ◌≡◌, ◌⊎◌, ◌≤ℤ◌}
 use Rattle.std.specs.Ordering.{is_lt}
 use Rattle.std.specs.declared.cmp.Ordering.TheVariants.{Less}
-use Rattle.profile.specs.checker.Instances.{Booked, AreClashing, booked_cmp}
+use Rattle.profile.specs.checker.Instances.{Instance, AreClashing, instance_cmp}
 use Rattle.profile.specs.checker.Certificates.{text_of, CertificateHoldsFor}
 use Rattle.profile.specs.events.Confirmed.{Confirmed, IsOneOf}
 use Rattle.cal_events.specs.Calendars.{owned_key_of}
@@ -11,15 +11,15 @@ use Rattle.clash_cert.specs.declared.making.Made.{Made}
 use Rattle.clash_cert.specs.declared.making.Made.TheVariants as made
 
 -- it has the keys of these instances, and this instant
-pub record HasKeys (a b : Booked) (t : ℤ) (clash : Clash) : Type 0 where
+pub record HasKeys (a b : Instance) (t : ℤ) (clash : Clash) : Type 0 where
   pub first : owned_key_of clash.first ≡ a.key
   pub second : owned_key_of clash.second ≡ b.key
   pub instant : clash.instant ≡ t
 
 -- two instances of what is confirmed have its keys, and clash in its instant
 pub record IsClashIn (all : Confirmed) (clash : Clash) : Type 0 where
-  pub a : Booked
-  pub b : Booked
+  pub a : Instance
+  pub b : Instance
   pub keys : HasKeys a b clash.instant clash
   pub first : IsOneOf all a
   pub second : IsOneOf all b
@@ -27,13 +27,13 @@ pub record IsClashIn (all : Confirmed) (clash : Clash) : Type 0 where
 
 -- and it names them as a reply does: the lesser by start, organiser, UID and slot first, and the later start
 pub record IsNamedClash (all : Confirmed) (clash : Clash) : Type 0 where
-  pub a : Booked
-  pub b : Booked
+  pub a : Instance
+  pub b : Instance
   pub keys : HasKeys a b clash.instant clash
   pub first : IsOneOf all a
   pub second : IsOneOf all b
   pub is : AreClashing a b clash.instant
-  pub less : booked_cmp a b ≡ Less
+  pub less : instance_cmp a b ≡ Less
   pub later : clash.instant ≡ b.start
 
 -- a certificate that holds for what is confirmed, else a clash of two
@@ -47,18 +47,18 @@ IsCertificate (made.Clear c) = Unit {0}
 IsCertificate (made.Clash clash) = ⊥
 
 -- a certificate has these counts of singles and series
-abbrev pub HasCounts : ℕ → ℕ → Made → Type 0
-HasCounts singles series (made.Clear c) = (c.singles ≡ singles) × (c.series ≡ series)
-HasCounts singles series (made.Clash clash) = Unit {0}
+abbrev pub MadeHasCounts : ℕ → ℕ → Made → Type 0
+MadeHasCounts singles series (made.Clear c) = (c.singles ≡ singles) × (c.series ≡ series)
+MadeHasCounts singles series (made.Clash clash) = Unit {0}
 
 -- it names the two, the lesser first
-abbrev pub AreNamed : Booked → Booked → ℤ → Clash → Type 0
-AreNamed a b t clash = MatchBool (is_lt (booked_cmp b a)) (HasKeys b a t clash) (HasKeys a b t clash)
+abbrev pub AreNamed : Instance → Instance → ℤ → Clash → Type 0
+AreNamed a b t clash = MatchBool (is_lt (instance_cmp b a)) (HasKeys b a t clash) (HasKeys a b t clash)
 
 -- an instant is the later start of two
-abbrev pub IsLaterStart : Booked → Booked → ℤ → Type 0
+abbrev pub IsLaterStart : Instance → Instance → ℤ → Type 0
 IsLaterStart a b t = (a.start ≤ℤ t) × (b.start ≤ℤ t) × ((t ≡ a.start) ⊎ (t ≡ b.start))
 
 -- so it names them, with that
-abbrev pub IsNamedAs : Booked → Booked → Clash → Type 0
+abbrev pub IsNamedAs : Instance → Instance → Clash → Type 0
 IsNamedAs a b clash = AreNamed a b clash.instant clash × IsLaterStart a b clash.instant

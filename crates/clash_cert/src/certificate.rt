@@ -2,7 +2,7 @@
 //! `PAIR i j END`, and `DONE`, with nothing after. Numbers are decimal, of 64 bits, without leading zeros.
 ghost use Rattle.std.specs.Prelude.{ℕ, List, [], ◌≡◌, ◌^◌, ◌<◌, ◌≤◌, ◌-◌, ◌+◌, ◌∷◌, ◌++◌, suc, take, length, decimal, position, ◌==◌, IfOk, IfErr, OnOk, OnErr, MatchOption, MatchResult};
 ghost use Rattle.std.specs.List.{count_by};
-ghost use Rattle.profile.specs.checker.Certificates.{Claims, FirstWrong, Spells, text_of, entry_of, pair_line, row_lines, pair_lines, entry_lines, spelled};
+ghost use Rattle.profile.specs.checker.Certificates.{Claims, FirstWrong, SpellsCertificate, text_of, entry_of, pair_line, row_lines, pair_lines, entry_lines, spelled};
 ghost use Rattle.clash_cert.specs.Texts.{IsCertFault, Lacks, LacksLine, LacksCount, LacksLf, IsCutAtLf, IsNoNumber, IsBroken, MissesLine, entry_said};
 
 use itoa::Buffer;
@@ -58,8 +58,8 @@ impl Certificate {
 
     /// The certificate that the octets spell; else the number of the first wrong or missing line. It takes the time of the lines up to that.
     pub fn read(_alloc: Global, bytes: &[u8]) -> Result<Certificate, CertFault>
-        ensures found { IfOk result (λ c. Spells bytes.now c) }
-        ensures only { IfOk result (λ c. (d : Claims) → Spells bytes.now d → d ≡ c) }
+        ensures found { IfOk result (λ c. SpellsCertificate bytes.now c) }
+        ensures only { IfOk result (λ c. (d : Claims) → SpellsCertificate bytes.now d → d ≡ c) }
         ensures fault { IfErr result (IsCertFault bytes.now) }
     {
         let Some(rest) = after_line(bytes, b"ROOMCERT 1") else {

@@ -1,13 +1,13 @@
 //! Making: a certificate where what is confirmed is clear, else a clash.
 ghost use Rattle.std.specs.Prelude.{◌≡◌, ◌↔◌, length, IfOk, IfSome, IfNone};
 ghost use Rattle.std.specs.Ordering.{is_lt};
-ghost use Rattle.profile.specs.checker.Instances.{AreClear, booked_cmp};
+ghost use Rattle.profile.specs.checker.Instances.{AreClear, instance_cmp};
 ghost use Rattle.profile.specs.events.Confirmed.{Confirmed as SaidConfirmed, IsOneOf};
 ghost use Rattle.cal_events.specs.Calendars.{instance_of, owned_key_of};
 ghost use Rattle.cal_events.specs.Clashes.{Names};
 ghost use Rattle.cal_period.specs.Besides.{IsBeside};
 ghost use Rattle.cal_period.specs.Every.{IsFound};
-ghost use Rattle.clash_cert.specs.Makings.{IsCertificate, IsMadeFor, IsNamedClash, IsNamedAs, IsLaterStart, HasCounts};
+ghost use Rattle.clash_cert.specs.Makings.{IsCertificate, IsMadeFor, IsNamedClash, IsNamedAs, IsLaterStart, MadeHasCounts};
 
 use crate::certificate::Certificate;
 use cal_events::{Calendar, Instance, Overlap, OwnedKey};
@@ -80,7 +80,7 @@ impl Confirmed for Calendar {
 pub fn make<C: Confirmed>(alloc: Global, confirmed: &C) -> Result<Made, AllocError>
     ensures made { IfOk result (IsMadeFor (C.confirmed confirmed.now)) }
     ensures clear { IfOk result (λ made. IsCertificate made ↔ AreClear (IsOneOf (C.confirmed confirmed.now)) (IsOneOf (C.confirmed confirmed.now))) }
-    ensures counted { IfOk result (HasCounts (length (C.confirmed confirmed.now).singles) (length (C.confirmed confirmed.now).series)) }
+    ensures counted { IfOk result (MadeHasCounts (length (C.confirmed confirmed.now).singles) (length (C.confirmed confirmed.now).series)) }
 {
     if let Some(clash) = confirmed.clash(alloc)? {
         return Ok(Made::Clash(clash));
@@ -157,7 +157,7 @@ fn later_start(a: &Instance<'_>, b: &Instance<'_>) -> i64
 
 /// Is the first less by start, organiser, UID, slot?
 fn is_before(a: &Instance<'_>, b: &Instance<'_>) -> bool
-    ensures { result ≡ is_lt (booked_cmp (instance_of a.now) (instance_of b.now)) }
+    ensures { result ≡ is_lt (instance_cmp (instance_of a.now) (instance_of b.now)) }
 {
     a.start.cmp(&b.start).then(a.key.cmp(&b.key)).is_lt()
 }

@@ -5,11 +5,11 @@ use Rattle.std.specs.List.{slice_get}
 use Rattle.std.proofs.lemmas.Bool.{cases_lt, true≢false}
 use Rattle.std.proofs.Math.Nat.{le-mul_of_pos_right}
 use Rattle.std.proofs.lemmas.Option.{slice_get_within, get_or_from_slice_get}
-use Rattle.profile.specs.checker.Instances.{Booked, AreClear, HasClash, IsClear}
-use Rattle.profile.specs.events.Meetings.{Meeting}
+use Rattle.profile.specs.checker.Instances.{Instance, AreClear, HasClash, IsClear}
+use Rattle.profile.specs.events.Events.{Event}
 use Rattle.profile.specs.events.Starts.{IsInstance}
 use Rattle.profile.specs.events.Confirmed.{Confirmed, IsInSeries, IsOneOf}
-use Rattle.profile.specs.checker.Certificates.{Claims, End, IsPair, IsPairBefore, Spells, FirstWrong, HasCounts, EntryFails, EntriesHold, CertificateHoldsFor, IsWrongText, IsWrongCount, HasFailingEntry, HasClashes}
+use Rattle.profile.specs.checker.Certificates.{Claims, End, IsPair, IsPairBefore, SpellsCertificate, FirstWrong, HasCounts, EntryFails, EntriesHold, CertificateHoldsFor, IsWrongText, IsWrongCount, HasFailingEntry, HasClashes}
 use Rattle.profile.specs.checker.Calendars.{SpellsCalendar, CalendarTextFault, CertificateHolds}
 use Rattle.cal_events.specs.Calendars.{instance_of, HaveDifferentKeys, HaveOwnKeys}
 use Rattle.cal_events.specs.Clashes.{Names}
@@ -29,7 +29,7 @@ no_is_not_yes : (why : Why) → No why ≡ Yes → ⊥
 no_is_not_yes why e = cc
 
 -- none of the reasons holds of a certificate that holds
-fails : (all : Confirmed) (text : List ℕ) (claims : Claims) (number line second : ℕ) → ((d : Claims) → Spells text d → d ≡ claims)
+fails : (all : Confirmed) (text : List ℕ) (claims : Claims) (number line second : ℕ) → ((d : Claims) → SpellsCertificate text d → d ≡ claims)
     → ((second ≡ 0) × (IsWrongText text number line ⊎ IsWrongCount all text number line ⊎ HasClashes all text number line)) ⊎ HasFailingEntry all text number line second
     → CertificateHoldsFor all text → ⊥
 fails all text claims number line second only (inr f) s =
@@ -45,7 +45,7 @@ fails all text claims number line second only (inl h) s =
       ]
     ]
 
-pub yes_iff : (all : Confirmed) (text : List ℕ) (claims : Claims) (v : Verdict) → ((d : Claims) → Spells text d → d ≡ claims)
+pub yes_iff : (all : Confirmed) (text : List ℕ) (claims : Claims) (v : Verdict) → ((d : Claims) → SpellsCertificate text d → d ≡ claims)
     → IsVerdict all text v → (v ≡ Yes) ↔ CertificateHoldsFor all text
 yes_iff all text claims Yes only h = (λ e. h, λ s. refl)
 yes_iff all text claims (No why) only h = (λ e. absurd (no_is_not_yes why e), λ s. absurd (fails all text claims why.number why.first why.second only h s))
@@ -55,12 +55,12 @@ pub no_iff : (all : Confirmed) (text : List ℕ) (line : ℕ) (v : Verdict) → 
 no_iff all text line Yes h w = absurd h
 no_iff all text line (No why) h w = (λ e. absurd (no_is_not_yes why e), λ s. absurd (w.none s.c s.spells))
 
-pub verdict_of : (all : Confirmed) (text : List ℕ) (claims : Claims) {E : Type 0} (r : Result Checked E) → Spells text claims
-    → IfOk r (λ checked. (t : List ℕ) → Spells t claims → IsVerdict all t checked.verdict) → IfOk r (λ checked. IsVerdict all text checked.verdict)
+pub verdict_of : (all : Confirmed) (text : List ℕ) (claims : Claims) {E : Type 0} (r : Result Checked E) → SpellsCertificate text claims
+    → IfOk r (λ checked. (t : List ℕ) → SpellsCertificate t claims → IsVerdict all t checked.verdict) → IfOk r (λ checked. IsVerdict all text checked.verdict)
 verdict_of all text claims (Ok checked) s h = h text s
 verdict_of all text claims (Err e) s h = h
 
-pub yes_of : (all : Confirmed) (text : List ℕ) (claims : Claims) {E : Type 0} (r : Result Checked E) → ((d : Claims) → Spells text d → d ≡ claims)
+pub yes_of : (all : Confirmed) (text : List ℕ) (claims : Claims) {E : Type 0} (r : Result Checked E) → ((d : Claims) → SpellsCertificate text d → d ≡ claims)
     → IfOk r (λ checked. IsVerdict all text checked.verdict) → IfOk r (λ checked. (checked.verdict ≡ Yes) ↔ CertificateHoldsFor all text)
 yes_of all text claims (Ok checked) only h = yes_iff all text claims checked.verdict only h
 yes_of all text claims (Err e) only h = h
@@ -105,7 +105,7 @@ entries_hold all c counts clear i j pair m n at_m at_n =
     clear (i - 1) (j - 1) (omega (arith, pair.0, pair.1)) (omega (arith, pair.0, pair.1, pair.2, counts.series)) m n at_m at_n
 
 -- an instance of each of two series that share an instant clash
-pub entry_fails : (all : Confirmed) → HaveOwnKeys all → (i j : ℕ) (x y : Booked) → i ≤ j → j < length all.series → PairShares all.series i j x y → EntryFails all (i + 1) (j + 1) End
+pub entry_fails : (all : Confirmed) → HaveOwnKeys all → (i j : ℕ) (x y : Instance) → i ≤ j → j < length all.series → PairShares all.series i j x y → EntryFails all (i + 1) (j + 1) End
 entry_fails all own i j x y l w s =
     let first : i ≡ i + 1 - 1 = omega arith in
     let second : j ≡ j + 1 - 1 = omega arith in (
@@ -129,7 +129,7 @@ entry_fails all own i j x y l w s =
     )
 
 -- the first pair that isn't clear is the first entry that fails
-pub failing_entry : (all : Confirmed) (text : List ℕ) (c : Claims) → HaveOwnKeys all → Spells text c → HasCounts all c → (f : Shared) → IsFound all.series f
+pub failing_entry : (all : Confirmed) (text : List ℕ) (c : Claims) → HaveOwnKeys all → SpellsCertificate text c → HasCounts all c → (f : Shared) → IsFound all.series f
     → HasFailingEntry all text 83 (f.i + 1) (f.j + 1)
 failing_entry all text c own spells counts f found = record {
   is = refl;
@@ -227,8 +227,8 @@ no_singles all text (No why) h f =
 
 -- of the counts of the calendar
 pub of_counts : (all : Confirmed) (claims : Claims) {E : Type 0} (r : Result Checked E) → HasCounts all claims
-    → IfOk r (λ checked. (text : List ℕ) (c : Claims) → Spells text c → HasCounts all c → IsVerdict all text checked.verdict)
-    → IfOk r (λ checked. (text : List ℕ) → Spells text claims → IsVerdict all text checked.verdict)
+    → IfOk r (λ checked. (text : List ℕ) (c : Claims) → SpellsCertificate text c → HasCounts all c → IsVerdict all text checked.verdict)
+    → IfOk r (λ checked. (text : List ℕ) → SpellsCertificate text claims → IsVerdict all text checked.verdict)
 of_counts all claims (Ok checked) counts h = λ text s. h text claims s counts
 of_counts all claims (Err e) counts h = h
 

@@ -1,6 +1,6 @@
 -- What the checker's answers say.
 use Rattle.std.specs.Prelude.{ℕ, ℤ, List, ◌≡◌, ◌+◌, ◌*◌, ◌-◌, ◌^◌, ◌≤◌, ◌<ℤ◌, ◌⊎◌, length, min}
-use Rattle.profile.specs.checker.Instances.{Booked, horizon, IsWithin}
+use Rattle.profile.specs.checker.Instances.{Instance as SaidInstance, horizon, IsWithin}
 use Rattle.profile.specs.faults.Faults.{is_calendar_fault, is_object_fault}
 use Rattle.profile.specs.checker.Calendars.{SpellsCalendar, CalendarTextFault}
 use Rattle.profile.specs.checker.Certificates.{CertificateHoldsFor, IsWrongText, IsWrongCount, HasFailingEntry, HasClashes}
@@ -32,9 +32,9 @@ singles_count all = (length all.series * 8 + 1) * length all.singles
 -- all of both series for each pair, and those for the singles, as far as 64 bits go; a no takes no more, and none for a text or a count
 -- that is wrong
 abbrev pub MakesFewFor : Confirmed → ℕ → Verdict → Type 0
-MakesFewFor all made Yes = (lists : List (List Booked)) → AreLists all.series lists → made ≡ min (all_count lists + singles_count all) (2 ^ 64 - 1)
+MakesFewFor all made Yes = (lists : List (List SaidInstance)) → AreLists all.series lists → made ≡ min (all_count lists + singles_count all) (2 ^ 64 - 1)
 MakesFewFor all made (No why) =
-    (why.number ≤ 82 → made ≡ 0) × ((lists : List (List Booked)) → AreLists all.series lists → made ≤ all_count lists + singles_count all)
+    (why.number ≤ 82 → made ≡ 0) × ((lists : List (List SaidInstance)) → AreLists all.series lists → made ≤ all_count lists + singles_count all)
 
 abbrev pub MakesFew : Confirmed → Checked → Type 0
 MakesFew all checked = MakesFewFor all checked.made checked.verdict
@@ -57,5 +57,5 @@ abbrev pub HasThatKey : OwnedKey → Instance → Type 0
 HasThatKey key i = key_of i.key ≡ owned_key_of key
 
 -- both hold the room in the second t, before the horizon
-abbrev pub Share : Booked → Booked → ℤ → Type 0
-Share a b t = (t <ℤ horizon) × IsWithin a.start a.end t × IsWithin b.start b.end t
+abbrev pub ShareInstant : SaidInstance → SaidInstance → ℤ → Type 0
+ShareInstant a b t = (t <ℤ horizon) × IsWithin a.start a.end t × IsWithin b.start b.end t

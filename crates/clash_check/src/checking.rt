@@ -1,15 +1,15 @@
 //! Checking: a certificate's text against a calendar, and a clash against a calendar.
 ghost use Rattle.std.specs.Prelude.{ℕ, List, ◌≡◌, ◌-◌, ◌^◌, ◌<ℤ◌, ◌≤ℤ◌, ◌↔◌, ◌⊎◌, IsTrue, IfOk, IfNone, IfSome, Contains, MatchBool, map, min};
-ghost use Rattle.profile.specs.checker.Instances.{Booked, AreClear, HasClash, IsWithin};
+ghost use Rattle.profile.specs.checker.Instances.{Instance as SaidInstance, AreClear, HasClash, IsWithin};
 ghost use Rattle.profile.specs.events.Starts.{IsInstance};
 ghost use Rattle.profile.specs.events.Confirmed.{Confirmed, IsInSeries, IsOneOf};
 ghost use Rattle.profile.specs.checker.Calendars.{CertificateHolds};
-ghost use Rattle.profile.specs.checker.Certificates.{Claims, CertificateHoldsFor, HasCounts, Spells};
+ghost use Rattle.profile.specs.checker.Certificates.{Claims, CertificateHoldsFor, HasCounts, SpellsCertificate};
 ghost use Rattle.ical_values.specs.Octets.{address_octets};
 ghost use Rattle.cal_events.specs.Calendars.{instance_of, owned_key_of};
 ghost use Rattle.cal_events.specs.SaidSeries.{series_said};
 ghost use Rattle.clash_cert.specs.Makings.{IsClashIn};
-ghost use Rattle.clash_check.specs.Verdicts.{IsVerdict, MakesFew, IsRefusedCalendar, IsJudgement, HasThatKey, Share, singles_count};
+ghost use Rattle.clash_check.specs.Verdicts.{IsVerdict, MakesFew, IsRefusedCalendar, IsJudgement, HasThatKey, ShareInstant, singles_count};
 
 use crate::verdict::{Checked, Verdict, Why};
 use cal_events::{
@@ -67,7 +67,7 @@ fn judge(
     calendar: &Calendar,
     certificate: Certificate,
 ) -> Result<Checked, AllocError>
-    ensures verdict { IfOk result (λ checked. (text : List ℕ) → Spells text certificate → IsVerdict calendar.now text checked.verdict) }
+    ensures verdict { IfOk result (λ checked. (text : List ℕ) → SpellsCertificate text certificate → IsVerdict calendar.now text checked.verdict) }
     ensures made { IfOk result (MakesFew calendar.now) }
 {
     if certificate.singles() != calendar.single_count()
@@ -80,7 +80,7 @@ fn judge(
 
 /// Does a certificate of the calendar's counts hold? Its entries all say END, so each pair of series is looked through up to the horizon.
 fn judge_counted(alloc: Global, calendar: &Calendar) -> Result<Checked, AllocError>
-    ensures verdict { IfOk result (λ checked. (text : List ℕ) (c : Claims) → Spells text c → HasCounts calendar.now c → IsVerdict calendar.now text checked.verdict) }
+    ensures verdict { IfOk result (λ checked. (text : List ℕ) (c : Claims) → SpellsCertificate text c → HasCounts calendar.now c → IsVerdict calendar.now text checked.verdict) }
     ensures made { IfOk result (MakesFew calendar.now) }
 {
     let swept = sweep_all(calendar.series());
@@ -146,7 +146,7 @@ pub fn check_clash(calendar: &Calendar, clash: &Clash) -> bool
 
 /// Do both hold the room in that second, before the horizon?
 fn share(first: &Instance<'_>, second: &Instance<'_>, instant: i64) -> bool
-    ensures { IsTrue result ↔ Share (instance_of first.now) (instance_of second.now) instant }
+    ensures { IsTrue result ↔ ShareInstant (instance_of first.now) (instance_of second.now) instant }
 {
     instant < HORIZON && is_during(first, instant) && is_during(second, instant)
 }
@@ -154,7 +154,7 @@ fn share(first: &Instance<'_>, second: &Instance<'_>, instant: i64) -> bool
 /// The confirmed instance of that key: a single, or one of a series.
 fn confirmed_of<'a>(calendar: &'a Calendar, key: &OwnedKey) -> Option<Instance<'a>>
     ensures found { IfSome result (λ i. IsOneOf calendar.now (instance_of i) × HasThatKey key.now i) }
-    ensures none { IfNone result ((b : Booked) → IsOneOf calendar.now b → b.key ≡ owned_key_of key.now → ⊥) }
+    ensures none { IfNone result ((b : SaidInstance) → IsOneOf calendar.now b → b.key ≡ owned_key_of key.now → ⊥) }
 {
     match single_of(calendar, key) {
         Some(single) => Some(single),
@@ -165,7 +165,7 @@ fn confirmed_of<'a>(calendar: &'a Calendar, key: &OwnedKey) -> Option<Instance<'
 /// The instance of that key of one of the series.
 fn of_series<'a>(series: &'a [Series], key: &OwnedKey) -> Option<Instance<'a>>
     ensures found { IfSome result (λ i. IsInSeries (map series_said series.now) (instance_of i) × HasThatKey key.now i) }
-    ensures none { IfNone result ((b : Booked) → IsInSeries (map series_said series.now) b → b.key ≡ owned_key_of key.now → ⊥) }
+    ensures none { IfNone result ((b : SaidInstance) → IsInSeries (map series_said series.now) b → b.key ≡ owned_key_of key.now → ⊥) }
 {
     for place in 0..series.len() {
         if let Some(instance) = at_slot(&series[place], key) {
@@ -178,7 +178,7 @@ fn of_series<'a>(series: &'a [Series], key: &OwnedKey) -> Option<Instance<'a>>
 /// The instance of that key of a series: the first that starts at its slot or later, if it is that.
 fn at_slot<'a>(series: &'a Series, key: &OwnedKey) -> Option<Instance<'a>>
     ensures found { IfSome result (λ i. IsInstance (series_said series.now) (instance_of i) × HasThatKey key.now i) }
-    ensures none { IfNone result ((b : Booked) → IsInstance (series_said series.now) b → b.key ≡ owned_key_of key.now → ⊥) }
+    ensures none { IfNone result ((b : SaidInstance) → IsInstance (series_said series.now) b → b.key ≡ owned_key_of key.now → ⊥) }
 {
     known_by_start();
     let mut starts = series.starts(key.slot);
@@ -193,7 +193,7 @@ fn at_slot<'a>(series: &'a Series, key: &OwnedKey) -> Option<Instance<'a>>
 /// The single of that key.
 fn single_of<'a>(calendar: &'a Calendar, key: &OwnedKey) -> Option<Instance<'a>>
     ensures found { IfSome result (λ i. Contains calendar.now.singles (instance_of i) × HasThatKey key.now i) }
-    ensures none { IfNone result ((b : Booked) → Contains calendar.now.singles b → b.key ≡ owned_key_of key.now → ⊥) }
+    ensures none { IfNone result ((b : SaidInstance) → Contains calendar.now.singles b → b.key ≡ owned_key_of key.now → ⊥) }
 {
     for place in 0..calendar.single_count() as usize {
         if let Some(single) = calendar.single(place) {

@@ -7,8 +7,8 @@ use Rattle.std.proofs.lemmas.List.{drop_more, drop_all}
 use Rattle.profile.specs.text.Lines.{is_filled, is_continuation, without_return, physical_lines, gather, unfolded}
 use Rattle.profile.specs.text.Objects.{is_begun}
 use Rattle.ical_lines.specs.declared.object_end.Cutter.{Cutter}
-use Rattle.ical_lines.specs.declared.object_end.Place.{Place}
-use Rattle.ical_lines.specs.declared.object_end.Place.TheVariants.{Mark, Line, Return, Break}
+use Rattle.ical_lines.specs.declared.object_end.CutPlace.{CutPlace}
+use Rattle.ical_lines.specs.declared.object_end.CutPlace.TheVariants.{Mark, Line, Return, Break}
 use Rattle.ical_lines.specs.declared.object_end.Seen.{Seen}
 use Rattle.ical_lines.specs.declared.object_end.Seen.TheVariants.{First, Other}
 use Rattle.ical_lines.specs.Breaks.{is_break}
@@ -26,7 +26,7 @@ cond_begun false x y h k = k
 line_begun : (t : Cutter) (b : ℕ) → t.begun ≡ true → (after_line t b).begun ≡ true
 line_begun t b h = cond_begun (eqb b 10) (mk Break t.seen t.begun) (cond (eqb b 13) (mk Return t.seen t.begun) (mk Line (next_seen t.seen b) true)) h (cond_begun (eqb b 13) (mk Return t.seen t.begun) (mk Line (next_seen t.seen b) true) h refl)
 
-from_begun : (p : Place) (t : Cutter) (b : ℕ) → t.begun ≡ true → (step_from p t b).begun ≡ true
+from_begun : (p : CutPlace) (t : Cutter) (b : ℕ) → t.begun ≡ true → (step_from p t b).begun ≡ true
 from_begun (Mark k) t b h =
     cond_begun (eqb k 0 && eqb b 0xEF) (mk (Mark 1) (next_seen t.seen b) true) (cond (eqb k 1 && eqb b 0xBB) (mk (Mark 2) (next_seen t.seen b) true) (cond (eqb k 2 && eqb b 0xBF) (mk Line (First 0) t.begun) (after_line t b))) refl (cond_begun (eqb k 1 && eqb b 0xBB) (mk (Mark 2) (next_seen t.seen b) true) (cond (eqb k 2 && eqb b 0xBF) (mk Line (First 0) t.begun) (after_line t b)) refl (cond_begun (eqb k 2 && eqb b 0xBF) (mk Line (First 0) t.begun) (after_line t b) h (line_begun t b h)))
 from_begun Line t b h = line_begun t b h

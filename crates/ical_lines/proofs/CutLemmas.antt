@@ -10,8 +10,8 @@ use Rattle.std.proofs.lemmas.List.Splits.{join_with_byte-slice_split}
 use Rattle.profile.specs.text.Lines.{is_continuation, without_return}
 use Rattle.profile.specs.text.Objects.{is_last, parts_after, octets_after, after_object}
 use Rattle.ical_lines.specs.declared.object_end.Cutter.{Cutter}
-use Rattle.ical_lines.specs.declared.object_end.Place.{Place}
-use Rattle.ical_lines.specs.declared.object_end.Place.TheVariants.{Mark, Line, Return, Break}
+use Rattle.ical_lines.specs.declared.object_end.CutPlace.{CutPlace}
+use Rattle.ical_lines.specs.declared.object_end.CutPlace.TheVariants.{Mark, Line, Return, Break}
 use Rattle.ical_lines.specs.declared.object_end.Seen.{Seen}
 use Rattle.ical_lines.specs.declared.object_end.Seen.TheVariants.{First, Other}
 use Rattle.ical_lines.specs.Breaks.{is_break}
@@ -87,7 +87,7 @@ inside line rest = octets_after line (slice_split is_break rest)
 abbrev broken : List ℕ → List ℕ → List ℕ
 broken line rest = join_with_byte 10 (parts_after line (slice_split is_break rest))
 
-abbrev pub mk : Place → Seen → Bool → Cutter
+abbrev pub mk : CutPlace → Seen → Bool → Cutter
 mk p s b = record { place = p; seen = s; begun = b }
 
 record Claims (rest : List ℕ) : Type 0 where

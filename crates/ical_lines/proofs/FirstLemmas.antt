@@ -6,7 +6,7 @@ use Rattle.std.proofs.lemmas.Bool.{ltb-false, ltb-true, lt-ltb, or_parts, and_pa
 use Rattle.std.proofs.lemmas.Bool.Decides.{Decides-eqb}
 use Rattle.std.specs.Str.{is_utf8}
 use Rattle.profile.specs.text.Lines.{ended, logical_lines, reads_as_lines, line_has, is_faulty, lacks_colon, has_bad_name, has_bad_quote, has_control}
-use Rattle.profile.specs.faults.First.{least_fault, judged, fault_of, lines_fault, text_fault, is_number, comes_after}
+use Rattle.profile.specs.faults.First.{least_fault, judged, fault_of, lines_fault, text_fault, is_number, is_first_fault}
 use Rattle.ical_lines.specs.Fault.{RefusesOnly}
 use Rattle.ical_lines.specs.declared.fault.Fault.{Fault}
 use Rattle.ical_lines.specs.declared.fault.Fault.TheVariants.{Refused, Memory}
@@ -103,6 +103,6 @@ reads_fine b octets h =
     let k = neither_bound b (ltb 1048576 (length octets)) (ltb 65536 (length lines)) (not-true bound p.1) in
     rw (k.0, q.1, none_judged b lines (not-true (list_any is_faulty lines) q.0), k.1) refl
 
-pub comes_after_lines : (b : Bool) (octets : List ℕ) (fault : Fault) → reads_as_lines b octets ≡ true → RefusesOnly (comes_after (text_fault b octets)) fault
+pub comes_after_lines : (b : Bool) (octets : List ℕ) (fault : Fault) → reads_as_lines b octets ≡ true → RefusesOnly (is_first_fault (text_fault b octets)) fault
 comes_after_lines b octets Memory h = tt
 comes_after_lines b octets (Refused r) h = rw (reads_fine b octets h) refl

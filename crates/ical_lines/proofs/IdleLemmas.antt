@@ -5,8 +5,8 @@ use Rattle.std.proofs.lemmas.Bool.Decides.{nat_tests}
 use Rattle.std.specs.Prelude.{unwrap_or}
 use Rattle.memchr.specs.Find.{IsFirstByte, is_byte2}
 use Rattle.ical_lines.specs.declared.object_end.Cutter.{Cutter}
-use Rattle.ical_lines.specs.declared.object_end.Place.{Place}
-use Rattle.ical_lines.specs.declared.object_end.Place.TheVariants.{Line}
+use Rattle.ical_lines.specs.declared.object_end.CutPlace.{CutPlace}
+use Rattle.ical_lines.specs.declared.object_end.CutPlace.TheVariants.{Line}
 use Rattle.ical_lines.specs.declared.object_end.Seen.{Seen}
 use Rattle.ical_lines.specs.declared.object_end.Seen.TheVariants.{Other}
 use Rattle.ical_lines.specs.Cut.{ChangeNothing, step, rest_after, begun_after}
@@ -40,7 +40,7 @@ found : (xs : List ℕ) (r : Option ℕ) → IsFirstByte (is_byte2 13 10) xs r �
 found xs (Some i) h = front xs i (λ k l in_range. false_from_ne_true (is_byte2 13 10 (get_or xs k 0)) (h.0.before k (omega arith) l))
 found xs None h = front xs (length xs) (λ k l in_range. false_from_ne_true (is_byte2 13 10 (get_or xs k 0)) (h k (omega arith) in_range))
 
-abbrev of : Place → Seen → Bool → Cutter
+abbrev of : CutPlace → Seen → Bool → Cutter
 of place seen begun = record { place = place; seen = seen; begun = begun }
 
 pub idle_front : (s : Cutter) (xs : List ℕ) (r : Option ℕ) (n : ℕ) → s.place ≡ Line → s.seen ≡ Other → s.begun ≡ true → IsFirstByte (is_byte2 13 10) xs r → n ≡ unwrap_or r (length xs) → ChangeNothing s (take n xs)

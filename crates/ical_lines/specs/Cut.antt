@@ -2,8 +2,8 @@
 use Rattle.std.specs.Prelude.{◌≡◌, ◌++◌, ℕ, ◌+◌, Bool, true, false, not, ◌&&◌, ◌||◌, ◌==◌, nat_lt, List, [], ◌∷◌, slice_index, codes, if◌then◌else◌}
 use Rattle.std.specs.Char.{to_ascii_lowercase}
 use Rattle.ical_lines.specs.declared.object_end.Cutter.{Cutter}
-use Rattle.ical_lines.specs.declared.object_end.Place.{Place}
-use Rattle.ical_lines.specs.declared.object_end.Place.TheVariants.{Mark, Line, Return, Break}
+use Rattle.ical_lines.specs.declared.object_end.CutPlace.{CutPlace}
+use Rattle.ical_lines.specs.declared.object_end.CutPlace.TheVariants.{Mark, Line, Return, Break}
 use Rattle.ical_lines.specs.declared.object_end.Seen.{Seen}
 use Rattle.ical_lines.specs.declared.object_end.Seen.TheVariants.{First, Other}
 
@@ -20,7 +20,7 @@ is_whole Other = false
 abbrev pub added : Cutter → ℕ → Cutter
 added s b = record { place = s.place; seen = next_seen s.seen b; begun = true }
 
-abbrev pub at_place : Place → Cutter → Cutter
+abbrev pub at_place : CutPlace → Cutter → Cutter
 at_place p s = record { place = p; seen = s.seen; begun = s.begun }
 
 abbrev pub at_start : Cutter → Cutter
@@ -49,7 +49,7 @@ after_mark k s b =
     else after_line s b))
 
 -- the cutter after one more octet
-abbrev pub step_from : Place → Cutter → ℕ → Cutter
+abbrev pub step_from : CutPlace → Cutter → ℕ → Cutter
 step_from (Mark k) s b = after_mark k s b
 step_from Line s b = after_line s b
 step_from Return s b = after_return s b
@@ -58,7 +58,7 @@ step_from Break s b = after_break s b
 abbrev pub step : Cutter → ℕ → Cutter
 step s b = step_from s.place s b
 
-abbrev pub ends_from : Place → Cutter → ℕ → Bool
+abbrev pub ends_from : CutPlace → Cutter → ℕ → Bool
 ends_from Break s b = not (is_blank b) && is_whole s.seen
 ends_from _ s b = false
 

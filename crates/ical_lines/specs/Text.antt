@@ -7,8 +7,8 @@ use Rattle.ical_lines.specs.declared.line.Line.{Line}
 use Rattle.ical_lines.specs.declared.param.Param.{Param}
 use Rattle.ical_lines.specs.declared.param.Params.{Params}
 use Rattle.ical_lines.specs.declared.text.Lines.{Lines}
-use Rattle.ical_lines.specs.declared.unfold.Text.{Text}
-use Rattle.ical_lines.specs.declared.unfold.Text.TheVariants.{Lent, Owned}
+use Rattle.ical_lines.specs.declared.unfold.UnfoldedText.{UnfoldedText}
+use Rattle.ical_lines.specs.declared.unfold.UnfoldedText.TheVariants.{Lent, Owned}
 use Rattle.ical_lines.specs.Breaks.{lines_of}
 
 -- the octets of a line
@@ -31,6 +31,6 @@ abbrev pub lines_left : Lines → List (List ℕ)
 lines_left s = lines_of s.rest.now
 
 -- the octets of a text, whoever holds them
-abbrev pub text_octets : Text → List ℕ
-text_octets (Lent text) = text.now
-text_octets (Owned text) = string_bytes text
+abbrev pub unfolded_octets : UnfoldedText → List ℕ
+unfolded_octets (Lent text) = text.now
+unfolded_octets (Owned text) = string_bytes text

@@ -39,7 +39,7 @@ enum Seen {
 
 /// Where the octets so far have come to.
 #[derive(Clone, Copy)]
-enum Place {
+enum CutPlace {
     /// This many octets of a byte order mark were seen, and nothing else.
     Mark(u8),
     /// Inside a physical line.
@@ -59,7 +59,7 @@ enum Place {
 /// says whether the octets so far are an object; if not, they are only empty lines, which aren't an object.
 #[derive(Clone, Copy)]
 pub struct Cutter {
-    place: Place,
+    place: CutPlace,
     seen: Seen,
     begun: bool,
 }
@@ -70,7 +70,7 @@ impl Cutter {
         ensures { result ≡ fresh }
     {
         Cutter {
-            place: Place::Mark(0),
+            place: CutPlace::Mark(0),
             seen: Seen::First(0),
             begun: false,
         }
@@ -96,7 +96,7 @@ impl Cutter {
         ensures idle { ChangeNothing self.now (take result octets.now) }
     {
         match (self.place, self.seen) {
-            (Place::Line, Seen::Other) if self.begun => {
+            (CutPlace::Line, Seen::Other) if self.begun => {
                 memchr2(b'\r', b'\n', octets).unwrap_or(octets.len())
             }
             _ => 0,
@@ -115,7 +115,7 @@ impl Cutter {
         ensures { result ≡ ends_before self.now octet }
     {
         match self.place {
-            Place::Break => !is_blank(octet) && is_whole(self.seen),
+            CutPlace::Break => !is_blank(octet) && is_whole(self.seen),
             _ => false,
         }
     }
@@ -125,10 +125,10 @@ impl Cutter {
         ensures { result ≡ step self.now octet }
     {
         match self.place {
-            Place::Mark(count) => self.after_mark(count, octet),
-            Place::Line => self.after_line(octet),
-            Place::Return => self.after_return(octet),
-            Place::Break => self.after_break(octet),
+            CutPlace::Mark(count) => self.after_mark(count, octet),
+            CutPlace::Line => self.after_line(octet),
+            CutPlace::Return => self.after_return(octet),
+            CutPlace::Break => self.after_break(octet),
         }
     }
 
@@ -137,11 +137,11 @@ impl Cutter {
         ensures { result ≡ after_mark count self.now octet }
     {
         if count == 0 && octet == 0xEF {
-            self.added(octet).at(Place::Mark(1))
+            self.added(octet).at(CutPlace::Mark(1))
         } else if count == 1 && octet == 0xBB {
-            self.added(octet).at(Place::Mark(2))
+            self.added(octet).at(CutPlace::Mark(2))
         } else if count == 2 && octet == 0xBF {
-            self.at_start().at(Place::Line)
+            self.at_start().at(CutPlace::Line)
         } else {
             self.after_line(octet)
         }
@@ -152,11 +152,11 @@ impl Cutter {
         ensures { result ≡ after_line self.now octet }
     {
         if octet == b'\n' {
-            self.at(Place::Break)
+            self.at(CutPlace::Break)
         } else if octet == b'\r' {
-            self.at(Place::Return)
+            self.at(CutPlace::Return)
         } else {
-            self.added(octet).at(Place::Line)
+            self.added(octet).at(CutPlace::Line)
         }
     }
 
@@ -176,7 +176,7 @@ impl Cutter {
         ensures { result ≡ after_break self.now octet }
     {
         if is_blank(octet) {
-            self.at(Place::Line)
+            self.at(CutPlace::Line)
         } else {
             self.at_start().after_line(octet)
         }
@@ -194,7 +194,7 @@ impl Cutter {
     }
 
     /// The same at another place.
-    fn at(&self, place: Place) -> Cutter
+    fn at(&self, place: CutPlace) -> Cutter
         ensures { result ≡ at_place place self.now }
     {
         Cutter {

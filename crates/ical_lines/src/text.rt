@@ -29,7 +29,7 @@ ghost use Rattle.ical_lines.specs.Limits.{is_bounded};
 use crate::fault::{Fault, Refusal};
 use crate::limits::Limits;
 use crate::line::Line;
-use crate::unfold::Text;
+use crate::unfold::UnfoldedText;
 use memchr::memchr;
 use std::alloc::Global;
 use std::marker::Model;
@@ -38,17 +38,17 @@ use std::marker::Model;
 /// It borrows the octets; where something in them is folded it keeps its own copy, unfolded.
 #[derive(Drop)]
 pub struct Unfolded<'a> {
-    text: Text<'a>,
+    text: UnfoldedText<'a>,
 }
 
 impl<'a> Model for Unfolded<'a> {
     ghost use Rattle.std.specs.Prelude.{List, ℕ};
     ghost use Rattle.ical_lines.specs.Breaks.{lines_of};
-    ghost use Rattle.ical_lines.specs.Text.{text_octets};
+    ghost use Rattle.ical_lines.specs.Text.{unfolded_octets};
 
     ghost Value = { List (List ℕ) };
 
-    ghost view = { λ u. lines_of (text_octets u.text) };
+    ghost view = { λ u. lines_of (unfolded_octets u.text) };
 }
 
 impl<'a> Unfolded<'a> {
@@ -74,7 +74,7 @@ impl<'a> Unfolded<'a> {
         if limits.exceeds_octets(bytes.len()) {
             return Err(Fault::Refused(Refusal::TOO_LONG));
         }
-        let text = Text::of(alloc, bytes)?;
+        let text = UnfoldedText::of(alloc, bytes)?;
         check_lines(text.as_str(), limits)?;
         Ok(Unfolded { text })
     }

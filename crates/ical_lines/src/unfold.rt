@@ -25,20 +25,20 @@ use std::alloc::{AllocError, Global};
 
 /// A text whose lines are the logical lines of some octets.
 #[derive(Drop)]
-pub enum Text<'a> {
+pub enum UnfoldedText<'a> {
     /// The octets themselves, where nothing is folded.
     Lent(&'a str),
     /// The logical lines, each ended by CRLF.
     Owned(String),
 }
 
-impl<'a> Text<'a> {
-    ghost use Rattle.ical_lines.specs.Text.{text_octets};
+impl<'a> UnfoldedText<'a> {
+    ghost use Rattle.ical_lines.specs.Text.{unfolded_octets};
 
     /// Unfolds octets. It refuses those that aren't UTF-8 once they are unfolded (5).
     /// It takes memory only where something is folded.
-    pub fn of(alloc: Global, octets: &'a [u8]) -> Result<Text<'a>, Fault>
-        ensures lines { IfOk result (λ text. lines_of (text_octets text) ≡ logical_lines octets.now) }
+    pub fn of(alloc: Global, octets: &'a [u8]) -> Result<UnfoldedText<'a>, Fault>
+        ensures lines { IfOk result (λ text. lines_of (unfolded_octets text) ≡ logical_lines octets.now) }
         ensures refuses { IfErr result (RefusesBy (λ n. (n ≡ 5) × (is_utf8 (ended (logical_lines octets.now)) ≡ false))) }
     {
         let unmarked = without_mark(octets);
@@ -46,21 +46,21 @@ impl<'a> Text<'a> {
             let Ok(text) = String::from_utf8(unfold(alloc, unmarked)?) else {
                 return Err(Fault::Refused(Refusal::NOT_UTF8));
             };
-            return Ok(Text::Owned(text));
+            return Ok(UnfoldedText::Owned(text));
         }
         let Ok(text) = str::from_utf8(unmarked) else {
             return Err(Fault::Refused(Refusal::NOT_UTF8));
         };
-        Ok(Text::Lent(text))
+        Ok(UnfoldedText::Lent(text))
     }
 
     /// The whole text.
     pub fn as_str(&self) -> &str
-        ensures { result.now ≡ text_octets self.now }
+        ensures { result.now ≡ unfolded_octets self.now }
     {
         match self {
-            Text::Lent(text) => text,
-            Text::Owned(text) => text.as_str(),
+            UnfoldedText::Lent(text) => text,
+            UnfoldedText::Owned(text) => text.as_str(),
         }
     }
 }

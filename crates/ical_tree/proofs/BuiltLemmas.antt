@@ -3,11 +3,11 @@ use Rattle.std.proofs.Common.{◌≡◌, ℕ, zero, suc, ◌-◌, ◌<◌, ◌�
 use Rattle.std.proofs.lemmas.List.{append_assoc, append-nil, reverse-append, length-reverse, length-map, nil_from_length}
 use Rattle.std.proofs.lemmas.Bool.{not-true, false≢true}
 use Rattle.profile.specs.text.Lines.{line_value, is_same_name}
-use Rattle.profile.specs.text.Objects.{SpellsBody, Opens, Closes, is_begin, is_none, is_property, is_end, is_calendar_name, may_begin}
+use Rattle.profile.specs.text.Objects.{Opens, Closes, is_begin, is_none, is_property, is_end, is_calendar_name, may_begin}
 use Rattle.profile.specs.text.Objects.SpellsBody.{nothing, property, component}
 use Rattle.ical_tree.specs.declared.component.Component.{Component}
-use Rattle.ical_tree.specs.Tree.{component_name, component_lines, component_children}
-use Rattle.ical_tree.specs.Reading.{Built, Open, open_of, with_lines, names_of}
+use Rattle.ical_tree.specs.Tree.{component_name, component_lines, component_children, SpellsParts}
+use Rattle.ical_tree.specs.Reading.{Built, Open, open_of, with_lines, open_names}
 
 abbrev Lines : Type 0
 Lines = List (List ℕ)
@@ -36,7 +36,7 @@ with_moved items c d run n k l =
     ∙ (rw (n, k, l, append-nil (component_lines c ++ run)) refl
     ∙ sym (ap (with_lines run) (opens-push items c)))
 
-pub names-with : (cs : List Open) (run : Lines) → names_of (with_lines run cs) ≡ names_of cs
+pub names-with : (cs : List Open) (run : Lines) → open_names (with_lines run cs) ≡ open_names cs
 names-with [] run = refl
 names-with (c ∷ cs) run = refl
 
@@ -48,12 +48,12 @@ outermost None false h = cc
 outermost (Some c) true h = cc
 outermost (Some c) false h = cc
 
-begun_in : (around : List Open) (c : Component) (closed : Option Component) (done : Lines) (line : List ℕ) → Opens line (component_name c) → component_lines c ≡ [] → component_children c ≡ [] → may_begin (names_of around) (is_some closed) (component_name c) ≡ true → length around ≤ 7 → Built around closed done → Built (open_of c ∷ around) closed (done ++ line ∷ [])
+begun_in : (around : List Open) (c : Component) (closed : Option Component) (done : Lines) (line : List ℕ) → Opens line (component_name c) → component_lines c ≡ [] → component_children c ≡ [] → may_begin (open_names around) (is_some closed) (component_name c) ≡ true → length around ≤ 7 → Built around closed done → Built (open_of c ∷ around) closed (done ++ line ∷ [])
 begun_in around c closed done line o l k h n b =
-    let empty : SpellsBody component_name component_lines component_children (7 - length around) (component_lines c) (component_children c) [] = rw (l, k) nothing in
+    let empty : SpellsParts (7 - length around) (component_lines c) (component_children c) [] = rw (l, k) nothing in
     (done, record { begin = line; body = []; are = refl; opens = o; holds = empty }, b, n, h)
 
-pub begun : (items : List Component) (run : Lines) (c : Component) (closed : Option Component) (done : Lines) (line : List ℕ) → run ≡ [] → Opens line (component_name c) → component_lines c ≡ [] → component_children c ≡ [] → may_begin (names_of (with_lines run (opens items))) (is_some closed) (component_name c) ≡ true → length items ≤ 7 → Built (with_lines run (opens items)) closed done → Built (with_lines run (opens (items ++ c ∷ []))) closed (done ++ line ∷ [])
+pub begun : (items : List Component) (run : Lines) (c : Component) (closed : Option Component) (done : Lines) (line : List ℕ) → run ≡ [] → Opens line (component_name c) → component_lines c ≡ [] → component_children c ≡ [] → may_begin (open_names (with_lines run (opens items))) (is_some closed) (component_name c) ≡ true → length items ≤ 7 → Built (with_lines run (opens items)) closed done → Built (with_lines run (opens (items ++ c ∷ []))) closed (done ++ line ∷ [])
 begun items run c closed done line e o l k h n b =
     let old : with_lines run (opens items) ≡ opens items = with_none (opens items) run e in
     let new : with_lines run (opens (items ++ c ∷ [])) ≡ open_of c ∷ opens items = with_none (opens (items ++ c ∷ [])) run e ∙ opens-push items c in
@@ -72,7 +72,7 @@ added (c ∷ around) run more closed done line l e p h =
         body = h.1.body ++ line ∷ [];
         are = ap (λ z. z ++ line ∷ []) h.1.are ∙ append_assoc h.0 (h.1.begin ∷ h.1.body) (line ∷ []);
         opens = h.1.opens;
-        holds = subst (λ (ls : Lines). SpellsBody component_name component_lines component_children (7 - length around) ls c.inside (h.1.body ++ line ∷ [])) own (property line p h.1.holds);
+        holds = subst (λ (ls : Lines). SpellsParts (7 - length around) ls c.inside (h.1.body ++ line ∷ [])) own (property line p h.1.holds);
       },
       h.2,
       h.3,
@@ -85,7 +85,7 @@ ended_in : (around : List Open) (p q c : Component) (closed : Option Component) 
 ended_in around p q c closed done line e s n l k h =
     let g = h.2 in
     let deep : 7 - length around ≡ suc (7 - length (open_of p ∷ around)) = omega (arith, h.3) in
-    let outer : SpellsBody component_name component_lines component_children (suc (7 - length (open_of p ∷ around))) (component_lines p) (component_children p) g.1.body = subst (λ d. SpellsBody component_name component_lines component_children d (component_lines p) (component_children p) g.1.body) deep g.1.holds in
+    let outer : SpellsParts (suc (7 - length (open_of p ∷ around))) (component_lines p) (component_children p) g.1.body = subst (λ d. SpellsParts d (component_lines p) (component_children p) g.1.body) deep g.1.holds in
     let closes : Closes line (component_name c) = record { ends = e; names = s } in
     let all : done ++ line ∷ [] ≡ g.0 ++ g.1.begin ∷ (g.1.body ++ h.1.begin ∷ (h.1.body ++ line ∷ [])) = ap (λ z. z ++ line ∷ []) (h.1.are ∙ ap (λ z. z ++ h.1.begin ∷ h.1.body) g.1.are) ∙ (append_assoc (g.0 ++ g.1.begin ∷ g.1.body) (h.1.begin ∷ h.1.body) (line ∷ []) ∙ append_assoc g.0 (g.1.begin ∷ g.1.body) (h.1.begin ∷ (h.1.body ++ line ∷ []))) in (
       g.0,
@@ -132,12 +132,12 @@ ended_only old rest after run c closed done line r e s p l a b =
 
 -- ---- the names of the open components
 
-pub names-push : (xs : List Component) (x : Component) → names_of (opens (xs ++ x ∷ [])) ≡ component_name x ∷ names_of (opens xs)
-names-push xs x = ap names_of (opens-push xs x)
+pub names-push : (xs : List Component) (x : Component) → open_names (opens (xs ++ x ∷ [])) ≡ component_name x ∷ open_names (opens xs)
+names-push xs x = ap open_names (opens-push xs x)
 
 -- ---- small facts of the reader
 
-pub some_open : (cs : List Open) (run : Lines) → is_none (names_of (with_lines run cs)) ≡ false → 0 < length cs
+pub some_open : (cs : List Open) (run : Lines) → is_none (open_names (with_lines run cs)) ≡ false → 0 < length cs
 some_open [] run h = cc
 some_open (c ∷ cs) run h = omega arith
 

@@ -133,7 +133,7 @@ nothing_wrong n lines m o l =
     (ap (λ b. eqb n 23 && b) l ∙ and-false (eqb n 23))
 
 -- lines that spell an object have no fault in how they pair up
-pub pairs_up : (bounded : Bool) (t : Tree) (lines : Lines) (n : ℕ) → IsObject tree_name tree_own tree_inside bounded t lines → lines_have n lines ≡ true → ⊥
+pub pairs_up : (bounded : Bool) (t : Tree) (lines : Lines) (n : ℕ) → IsObject bounded t lines → lines_have n lines ≡ true → ⊥
 pairs_up bounded t lines n object h =
     let s = object.spelled in
     let all = s.begin ∷ (s.body ++ s.end ∷ []) in

@@ -12,12 +12,12 @@ use Rattle.std.proofs.lemmas.List.Folds.{list_all-append}
 use Rattle.std.proofs.lemmas.Str.{IsUtf8-from_ascii, is_utf8-from_IsUtf8, IsUtf8-from_is_utf8, IsUtf8-drop, IsUtf8-nil, IsCharBoundary-after_ascii}
 use Rattle.std.proofs.lemmas.Str.Ascii.{IsAscii-cons, IsAscii-nil}
 use Rattle.profile.specs.text.Lines.{outside_from, outside, line_value, is_same_name, is_control, has_control, lacks_colon, has_bad_name, has_bad_quote, is_faulty, is_content, logical_lines, reads_as_lines}
-use Rattle.profile.specs.text.Objects.{SpellsBody, nothing, property, component, is_property, Opens, Closes, has_version}
+use Rattle.profile.specs.text.Objects.{nothing, property, component, is_property, Opens, Closes, has_version}
 use Rattle.profile.specs.text.Trees.{tree_own}
 use Rattle.ical_lines.proofs.ContentLemmas.{lines_back, lines_fine, read_content, read_fine}
 use Rattle.ical_lines.proofs.ReadBackLemmas.{property_utf8}
 use Rattle.ical_tree.specs.declared.component.Component.{Component}
-use Rattle.ical_tree.specs.Tree.{component_name, component_lines, component_children, IsObjectOf, written_lines, written, tree_of}
+use Rattle.ical_tree.specs.Tree.{component_name, component_lines, component_children, IsObjectOf, written_lines, written, tree_of, SpellsParts}
 use Rattle.ical_tree.specs.Reading.{SpellsOf, ObjectHas, calendar_has}
 use Rattle.ical_tree.specs.ReadsBack.{ReadsBack}
 use Rattle.ical_tree.proofs.OneTree.{one_tree, pairs_up}
@@ -28,7 +28,7 @@ abbrev Lines : Type 0
 Lines = List (List ℕ)
 
 abbrev BodyC : ℕ → Lines → List Component → Lines → Type 0
-BodyC = SpellsBody component_name component_lines component_children
+BodyC = SpellsParts
 
 -- the lines of components that are written one after another
 abbrev all_written : List Component → Lines

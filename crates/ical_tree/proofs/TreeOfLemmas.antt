@@ -7,7 +7,7 @@ use Rattle.profile.specs.text.Objects.{SpellsBody, nothing, property, component,
 use Rattle.profile.specs.text.Trees.{Tree, tree, trees_list, tree_name, tree_own, tree_inside}
 use Rattle.ical_tree.specs.declared.component.Component.{Component}
 use Rattle.ical_tree.specs.declared.component.Component.TheFolds.{fold_out-Component}
-use Rattle.ical_tree.specs.Tree.{component_name, component_lines, component_children, IsObjectOf, trees_of, tree_step, tree_of}
+use Rattle.ical_tree.specs.Tree.{component_name, component_lines, component_children, IsObjectOf, trees_of, tree_step, tree_of, SpellsParts, count_children}
 use Rattle.ical_tree.specs.Reading.{SpellsOf}
 
 abbrev Lines : Type 0
@@ -31,10 +31,10 @@ tree_of-inside c = ap tree_inside (tree_out c) ∙ trees_back (map tree_of (comp
 
 -- bodies and components whose parts are trees
 abbrev pub BodyT : ℕ → Lines → List Tree → Lines → Type 0
-BodyT = SpellsBody tree_name tree_own tree_inside
+BodyT = SpellsBody
 
 abbrev pub SpellsT : ℕ → Tree → Lines → Type 0
-SpellsT = SpellsTree tree_name tree_own tree_inside
+SpellsT = SpellsTree
 
 opens_tree : (line : List ℕ) (c : Component) → Opens line (component_name c) → Opens line (tree_name (tree_of c))
 opens_tree line c o = subst (Opens line) (sym (tree_of-name c)) o
@@ -46,7 +46,7 @@ holds_tree : (depth : ℕ) (c : Component) (body : Lines) → BodyT depth (compo
 holds_tree depth c body b =
     subst (λ (own : Lines). BodyT depth own (tree_inside (tree_of c)) body) (sym (tree_of-own c)) (subst (λ (ts : List Tree). BodyT depth (component_lines c) ts body) (sym (tree_of-inside c)) b)
 
-body_tree : {depth : ℕ} {own : Lines} {parts : List Component} {body : Lines} → SpellsBody component_name component_lines component_children depth own parts body → BodyT depth own (map tree_of parts) body
+body_tree : {depth : ℕ} {own : Lines} {parts : List Component} {body : Lines} → SpellsParts depth own parts body → BodyT depth own (map tree_of parts) body
 body_tree nothing = nothing
 body_tree (property line h b) = property line h (body_tree b)
 body_tree (component {depth = d} {lines = own} {parts = ps} {body = body} part begin end inner v o e b rest) =
@@ -69,12 +69,12 @@ counted kind [] n = refl
 counted kind (c ∷ cs) n =
     counted kind cs (n + cond (is_same_name (tree_name (tree_of c)) kind) 1 0) ∙ ap (λ x. fold (λ (a : ℕ) (d : Component). a + cond (is_same_name (component_name d) kind) 1 0) (n + cond (is_same_name x kind) 1 0) cs) (tree_of-name c)
 
-pub count_tree : (kind : List ℕ) (c : Component) → count_inside tree_name tree_own tree_inside kind (tree_of c) ≡ count_inside component_name component_lines component_children kind c
+pub count_tree : (kind : List ℕ) (c : Component) → count_inside kind (tree_of c) ≡ count_children kind c
 count_tree kind c =
     ap (λ (ts : List Tree). count_by (λ t. is_same_name (tree_name t) kind) ts) (tree_of-inside c) ∙ counted kind (component_children c) 0
 
 -- an object that lines spell as a component they spell as its tree
-pub object_tree : (bounded : Bool) (c : Component) (lines : Lines) → IsObjectOf bounded c lines → IsObject tree_name tree_own tree_inside bounded (tree_of c) lines
+pub object_tree : (bounded : Bool) (c : Component) (lines : Lines) → IsObjectOf bounded c lines → IsObject bounded (tree_of c) lines
 object_tree bounded c lines object = record {
   spelled = spells_tree 7 c lines object.spelled;
   calendar = ap is_calendar_name (tree_of-name c) ∙ object.calendar;

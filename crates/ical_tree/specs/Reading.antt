@@ -1,19 +1,19 @@
 -- What the lines so far have spelled.
 use Rattle.std.specs.Prelude.{◌≡◌, ◌⊎◌, ◌&&◌, ◌||◌, ◌==◌, ℕ, ◌-◌, ◌≤◌, Bool, true, not, nat_lt, map, reverse, IsTrue, List, [], ◌∷◌, ◌++◌, Option, None, Some, is_some, length, slice_index, codes}
 use Rattle.profile.specs.text.Lines.{logical_lines, text_has}
-use Rattle.profile.specs.text.Objects.{SpellsBody, SpellsTree, Opens, is_calendar_name, may_begin, has_version, count_inside, lines_have}
+use Rattle.profile.specs.text.Objects.{Opens, is_calendar_name, may_begin, has_version, lines_have}
 use Rattle.ical_lines.specs.Fault.{RefusesBy}
 use Rattle.ical_lines.specs.declared.fault.Fault.{Fault}
 use Rattle.ical_tree.specs.declared.component.Component.{Component}
 use Rattle.ical_tree.specs.declared.read.Reader.{Reader}
 use Rattle.ical_tree.specs.Runs.{run_lines}
-use Rattle.ical_tree.specs.Tree.{component_name, component_lines, component_children}
+use Rattle.ical_tree.specs.Tree.{component_name, component_lines, component_children, SpellsComponent, SpellsParts, count_children}
 
 abbrev pub BodyOf : ℕ → Component → List (List ℕ) → Type 0
-BodyOf depth c body = SpellsBody component_name component_lines component_children depth (component_lines c) (component_children c) body
+BodyOf depth c body = SpellsParts depth (component_lines c) (component_children c) body
 
 abbrev pub SpellsOf : ℕ → Component → List (List ℕ) → Type 0
-SpellsOf depth c lines = SpellsTree component_name component_lines component_children depth c lines
+SpellsOf depth c lines = SpellsComponent depth c lines
 
 abbrev pub IsCalendar : Component → Type 0
 IsCalendar c = is_calendar_name (component_name c) ≡ true
@@ -42,8 +42,8 @@ abbrev pub open_view : Reader → List Open
 open_view reader = with_lines (run_lines reader.run) (map open_of (reverse reader.open.items))
 
 -- the names of the open components, from the innermost on
-abbrev pub names_of : List Open → List (List ℕ)
-names_of cs = map (λ c. c.name) cs
+abbrev pub open_names : List Open → List (List ℕ)
+open_names cs = map (λ c. c.name) cs
 
 -- the lines of an open component, after those of the components around it
 pub record OpenLines (c : Open) (depth : ℕ) (before done : List (List ℕ)) : Type 0 where
@@ -51,20 +51,20 @@ pub record OpenLines (c : Open) (depth : ℕ) (before done : List (List ℕ)) : 
   pub body : List (List ℕ)
   pub are : done ≡ before ++ begin ∷ body
   pub opens : Opens begin c.name
-  pub holds : SpellsBody component_name component_lines component_children depth c.own c.inside body
+  pub holds : SpellsParts depth c.own c.inside body
 
 -- the open components, from the innermost on, and the closed one are what the lines so far spell
 abbrev pub Built : List Open → Option Component → List (List ℕ) → Type 0
 Built [] None done = done ≡ []
 Built [] (Some c) done = SpellsOf 7 c done × IsCalendar c
 Built (c ∷ around) closed done =
-    (before : List (List ℕ)) × OpenLines c (7 - length around) before done × Built around closed before × (length around ≤ 7) × IsTrue (may_begin (names_of around) (is_some closed) c.name)
+    (before : List (List ℕ)) × OpenLines c (7 - length around) before done × Built around closed before × (length around ≤ 7) × IsTrue (may_begin (open_names around) (is_some closed) c.name)
 
 -- a VCALENDAR that the lines spell has the fault of this number: 24, or 25 where it doesn't have 24
 abbrev pub calendar_has : Bool → ℕ → Component → Bool
 calendar_has bounded number c =
     is_calendar_name (component_name c)
-    && ((number == 24 && not (has_version (component_lines c))) || (number == 25 && (bounded && nat_lt 200 (count_inside component_name component_lines component_children (codes "VEVENT") c) && has_version (component_lines c))))
+    && ((number == 24 && not (has_version (component_lines c))) || (number == 25 && (bounded && nat_lt 200 (count_children (codes "VEVENT") c) && has_version (component_lines c))))
 
 -- there is a fault of this number in how the lines pair up, or in the object that they spell
 abbrev pub TreeHas : Bool → ℕ → List (List ℕ) → Type 0

@@ -10,8 +10,8 @@ abbrev pub run_lines : Run → List (List ℕ)
 run_lines r = take r.count (text.lines_left r.from)
 
 -- the lines of the text after a run
-abbrev pub lines_after : Run → List (List ℕ)
-lines_after r = drop r.count (text.lines_left r.from)
+abbrev pub lines_after_run : Run → List (List ℕ)
+lines_after_run r = drop r.count (text.lines_left r.from)
 
 -- the own lines that are still to come
 abbrev pub lines_left : OwnLines → List (List ℕ)

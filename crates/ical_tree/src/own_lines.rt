@@ -14,12 +14,12 @@ pub(crate) struct Run<'a> {
 impl<'a> Run<'a> {
     ghost use Rattle.std.specs.Prelude.{ℕ, List, ◌≡◌, ◌++◌, ◌∷◌, [], ◌<◌, length, drop, MatchOption, true};
     ghost use Rattle.ical_lines.specs.Text.{line_text, lines_left};
-    ghost use Rattle.ical_tree.specs.Runs.{run_lines, lines_after};
+    ghost use Rattle.ical_tree.specs.Runs.{run_lines, lines_after_run};
 
     /// No lines yet, but these may follow.
     pub(crate) fn empty(from: Lines<'a>) -> Run<'a>
         ensures lines { run_lines result ≡ [] }
-        ensures after { lines_after result ≡ lines_left from.entry }
+        ensures after { lines_after_run result ≡ lines_left from.entry }
     {
         Run { from, count: 0 }
     }
@@ -33,10 +33,10 @@ impl<'a> Run<'a> {
 
     /// Takes the next line of the text in.
     pub(crate) fn grow(&mut self)
-        requires { 0 < length (lines_after self.old) }
-        ensures lines { (line : List ℕ) (rest : List (List ℕ)) → lines_after self.old ≡ line ∷ rest
+        requires { 0 < length (lines_after_run self.old) }
+        ensures lines { (line : List ℕ) (rest : List (List ℕ)) → lines_after_run self.old ≡ line ∷ rest
             → run_lines self.new ≡ run_lines self.old ++ line ∷ [] }
-        ensures after { lines_after self.new ≡ drop 1 (lines_after self.old) }
+        ensures after { lines_after_run self.new ≡ drop 1 (lines_after_run self.old) }
     {
         self.count += 1;
     }

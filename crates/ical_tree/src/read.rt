@@ -27,14 +27,14 @@ ghost use Rattle.std.specs.Prelude.{
 };
 ghost use Rattle.profile.specs.faults.Faults.{is_object_fault};
 ghost use Rattle.profile.specs.text.Lines.{line_value};
-ghost use Rattle.profile.specs.text.Objects.{is_end, is_property, is_calendar_name, has_version, count_inside, may_begin, Opens, is_none, now_open, misplaced, misplaced_begin, misplaced_end, misplaced_property};
+ghost use Rattle.profile.specs.text.Objects.{is_end, is_property, is_calendar_name, has_version, may_begin, Opens, is_none, now_open, misplaced, misplaced_begin, misplaced_end, misplaced_property};
 ghost use Rattle.ical_lines.specs.Breaks.{is_one_line};
 ghost use Rattle.ical_lines.specs.Fault.{RefusesOnly, RefusesBy};
 ghost use Rattle.ical_lines.specs.Limits.{is_bounded};
 ghost use Rattle.ical_lines.specs.Text.{line_text, lines_left};
-ghost use Rattle.ical_tree.specs.Runs.{lines_after, run_lines};
-ghost use Rattle.ical_tree.specs.Tree.{IsObjectOf, component_name, component_lines, component_children};
-ghost use Rattle.ical_tree.specs.Reading.{Built, SpellsOf, IsCalendar, TreeHas, calendar_has, may_pair, names_of, open_view};
+ghost use Rattle.ical_tree.specs.Runs.{lines_after_run, run_lines};
+ghost use Rattle.ical_tree.specs.Tree.{IsObjectOf, component_lines, count_children};
+ghost use Rattle.ical_tree.specs.Reading.{Built, SpellsOf, IsCalendar, TreeHas, calendar_has, may_pair, open_names, open_view};
 
 use crate::component::Component;
 use crate::own_lines::Run;
@@ -90,7 +90,7 @@ impl<'a> Reader<'a> {
     fn new(alloc: Global, lines: Lines<'a>) -> Reader<'a>
         ensures open { result.open.items ≡ [] }
         ensures closed { result.closed ≡ None }
-        ensures follows { lines_after result.run ≡ lines_left lines.entry }
+        ensures follows { lines_after_run result.run ≡ lines_left lines.entry }
     {
         Reader {
             open: Vec::new(alloc),
@@ -102,13 +102,13 @@ impl<'a> Reader<'a> {
     /// Takes the next line; `rest` are the lines after it. After an error the reader is spent.
     fn take(&mut self, alloc: Global, text: &'a str, rest: Lines<'a>) -> Result<(), Fault>
         requires one_line { is_one_line text.now ≡ true }
-        requires next { lines_after self.old.run ≡ text.now ∷ lines_left rest }
-        ensures follows { OnOk result (lines_after self.new.run ≡ lines_left rest.entry) }
+        requires next { lines_after_run self.old.run ≡ text.now ∷ lines_left rest }
+        ensures follows { OnOk result (lines_after_run self.new.run ≡ lines_left rest.entry) }
         ensures built { OnOk result ((done : List (List ℕ))
             → Built (open_view self.old) self.old.closed done
             → Built (open_view self.new) self.new.closed (done ++ text.now ∷ [])) }
-        ensures names { OnOk result (names_of (open_view self.new) ≡ now_open (names_of (open_view self.old)) text.now) }
-        ensures fault { IfErr result (RefusesOnly (λ n. misplaced n (names_of (open_view self.old)) (is_some self.old.closed) text.now)) }
+        ensures names { OnOk result (open_names (open_view self.new) ≡ now_open (open_names (open_view self.old)) text.now) }
+        ensures fault { IfErr result (RefusesOnly (λ n. misplaced n (open_names (open_view self.old)) (is_some self.old.closed) text.now)) }
         ensures refuses { IfErr result (RefusesOnly is_object_fault) }
     {
         match paired_line(text) {
@@ -120,13 +120,13 @@ impl<'a> Reader<'a> {
 
     /// Opens a component; `rest` are the lines after its BEGIN.
     fn begin(&mut self, alloc: Global, name: &'a str, rest: Lines<'a>) -> Result<(), Fault>
-        ensures follows { OnOk result (lines_after self.new.run ≡ lines_left rest.entry) }
+        ensures follows { OnOk result (lines_after_run self.new.run ≡ lines_left rest.entry) }
         ensures built { OnOk result ((done : List (List ℕ)) (line : List ℕ)
             → Opens line name.now
             → Built (open_view self.old) self.old.closed done
             → Built (open_view self.new) self.new.closed (done ++ line ∷ [])) }
-        ensures names { OnOk result (names_of (open_view self.new) ≡ name.now ∷ names_of (open_view self.old)) }
-        ensures fault { IfErr result (RefusesOnly (λ n. misplaced_begin n (names_of (open_view self.old)) (is_some self.old.closed) name.now)) }
+        ensures names { OnOk result (open_names (open_view self.new) ≡ name.now ∷ open_names (open_view self.old)) }
+        ensures fault { IfErr result (RefusesOnly (λ n. misplaced_begin n (open_names (open_view self.old)) (is_some self.old.closed) name.now)) }
         ensures refuses { IfErr result (RefusesOnly is_object_fault) }
     {
         if self.open.len() >= MAX_DEPTH {
@@ -142,7 +142,7 @@ impl<'a> Reader<'a> {
 
     /// Whether a component of this name may begin here: a VCALENDAR first of all, any other inside another.
     fn may_begin(&self, name: &str) -> bool
-        ensures { result ≡ may_begin (names_of (open_view self.now)) (is_some self.now.closed) name.now }
+        ensures { result ≡ may_begin (open_names (open_view self.now)) (is_some self.now.closed) name.now }
     {
         if self.is_outside() {
             is_calendar(name) && self.closed.is_none()
@@ -153,21 +153,21 @@ impl<'a> Reader<'a> {
 
     /// Whether no component is open.
     fn is_outside(&self) -> bool
-        ensures { result ≡ is_none (names_of (open_view self.now)) }
+        ensures { result ≡ is_none (open_names (open_view self.now)) }
     {
         self.open.is_empty()
     }
 
     /// Closes the innermost component; `rest` are the lines after its END.
     fn end(&mut self, name: &str, rest: Lines<'a>) -> Result<(), Fault>
-        ensures follows { OnOk result (lines_after self.new.run ≡ lines_left rest.entry) }
+        ensures follows { OnOk result (lines_after_run self.new.run ≡ lines_left rest.entry) }
         ensures built { OnOk result ((done : List (List ℕ)) (line : List ℕ)
             → is_end line ≡ true
             → line_value line ≡ name.now
             → Built (open_view self.old) self.old.closed done
             → Built (open_view self.new) self.new.closed (done ++ line ∷ [])) }
-        ensures names { OnOk result (names_of (open_view self.new) ≡ drop 1 (names_of (open_view self.old))) }
-        ensures fault { IfErr result (RefusesOnly (λ n. misplaced_end n (names_of (open_view self.old)) name.now)) }
+        ensures names { OnOk result (open_names (open_view self.new) ≡ drop 1 (open_names (open_view self.old))) }
+        ensures fault { IfErr result (RefusesOnly (λ n. misplaced_end n (open_names (open_view self.old)) name.now)) }
         ensures refuses { IfErr result (RefusesOnly is_object_fault) }
     {
         self.end_run(rest)?;
@@ -189,7 +189,7 @@ impl<'a> Reader<'a> {
     /// Gives the innermost component its properties since the last BEGIN or END. Those to come are among `rest`.
     fn end_run(&mut self, rest: Lines<'a>) -> Result<(), AllocError>
         ensures view { OnOk result (open_view self.new ≡ open_view self.old) }
-        ensures follows { OnOk result (lines_after self.new.run ≡ lines_left rest.entry) }
+        ensures follows { OnOk result (lines_after_run self.new.run ≡ lines_left rest.entry) }
         ensures closed { self.new.closed ≡ self.old.closed }
         ensures empty { OnOk result (run_lines self.new.run ≡ []) }
         ensures open { OnOk result (length self.new.open.items ≡ length self.old.open.items) }
@@ -206,15 +206,15 @@ impl<'a> Reader<'a> {
 
     /// Adds the next line, a property, to the innermost component.
     fn add(&mut self) -> Result<(), Refusal>
-        requires { 0 < length (lines_after self.old.run) }
-        ensures follows { OnOk result (lines_after self.new.run ≡ drop 1 (lines_after self.old.run)) }
+        requires { 0 < length (lines_after_run self.old.run) }
+        ensures follows { OnOk result (lines_after_run self.new.run ≡ drop 1 (lines_after_run self.old.run)) }
         ensures built { OnOk result ((done : List (List ℕ)) (line : List ℕ) (rest : List (List ℕ))
             → is_property line ≡ true
-            → lines_after self.old.run ≡ line ∷ rest
+            → lines_after_run self.old.run ≡ line ∷ rest
             → Built (open_view self.old) self.old.closed done
             → Built (open_view self.new) self.new.closed (done ++ line ∷ [])) }
-        ensures names { OnOk result (names_of (open_view self.new) ≡ names_of (open_view self.old)) }
-        ensures fault { IfErr result (λ e. IsTrue (misplaced_property e.number (names_of (open_view self.old)))) }
+        ensures names { OnOk result (open_names (open_view self.new) ≡ open_names (open_view self.old)) }
+        ensures fault { IfErr result (λ e. IsTrue (misplaced_property e.number (open_names (open_view self.old)))) }
         ensures refuses { IfErr result (λ e. IsTrue (is_object_fault e.number)) }
     {
         if self.is_outside() {
@@ -229,8 +229,8 @@ impl<'a> Reader<'a> {
         ensures spelled { IfOk result (λ c. (done : List (List ℕ))
             → Built (open_view self.entry) self.entry.closed done
             → SpellsOf 7 c done × IsCalendar c) }
-        ensures fault { IfErr result (λ r. IsTrue ((r.number == 21 && not (is_none (names_of (open_view self.entry))))
-            || (r.number == 23 && (is_none (names_of (open_view self.entry)) && not (is_some self.entry.closed))))) }
+        ensures fault { IfErr result (λ r. IsTrue ((r.number == 21 && not (is_none (open_names (open_view self.entry))))
+            || (r.number == 23 && (is_none (open_names (open_view self.entry)) && not (is_some self.entry.closed))))) }
         ensures refuses { IfErr result (λ r. IsTrue (is_object_fault r.number)) }
     {
         if !self.open.is_empty() {
@@ -262,7 +262,7 @@ fn is_calendar(name: &str) -> bool
 fn check_calendar(alloc: Global, calendar: &Component, limits: Limits) -> Result<(), Fault>
     requires { IsCalendar calendar.now }
     ensures version { OnOk result (has_version (component_lines calendar.now) ≡ true) }
-    ensures events { OnOk result ((is_bounded limits && nat_lt 200 (count_inside component_name component_lines component_children (codes "VEVENT") calendar.now)) ≡ false) }
+    ensures events { OnOk result ((is_bounded limits && nat_lt 200 (count_children (codes "VEVENT") calendar.now)) ≡ false) }
     ensures fault { IfErr result (RefusesOnly (λ n. calendar_has (is_bounded limits) n calendar.now)) }
     ensures refuses { IfErr result (RefusesOnly is_object_fault) }
 {
@@ -288,7 +288,7 @@ fn has_version(properties: &Properties<'_>) -> bool
 
 /// Whether the VEVENTs directly inside are more than the limits allow.
 fn exceeds_events(calendar: &Component, limits: Limits) -> bool
-    ensures { result ≡ (is_bounded limits && nat_lt 200 (count_inside component_name component_lines component_children (codes "VEVENT") calendar.now)) }
+    ensures { result ≡ (is_bounded limits && nat_lt 200 (count_children (codes "VEVENT") calendar.now)) }
 {
     match limits {
         Limits::Message => {

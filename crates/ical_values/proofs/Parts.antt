@@ -10,7 +10,7 @@ use Rattle.std.proofs.lemmas.Str.Parse.{digit_from_value, digit_at}
 use Rattle.std.specs.Int.{IsInRange}
 use Rattle.std.specs.Str.Parse.{AllDigits, digits_value}
 use Rattle.profile.specs.text.Values.{IsNumber, SpellsPart, SpellsExact, SpellsDays, SpellsCounts, SpellsUnsigned}
-use Rattle.ical_values.specs.Counts.{capped, Begins, Takes, TakesOrSkips, CountsExact, CountsDays, CountsUnsigned}
+use Rattle.ical_values.specs.Counts.{capped, BeginsNumber, TakesCapped, TakesOrSkips, CountsExact, CountsDays, CountsUnsigned}
 
 pub head : (a b : ℕ) (xs ys : List ℕ) → a ∷ xs ≡ b ∷ ys → a ≡ b
 head a b xs ys e = ap (λ x. get_or x 0 0) e
@@ -31,26 +31,26 @@ split_same (c ∷ cs) (a ∷ as') l k r s p q low high h =
     (rw (first, rest.0) refl, rest.1, rest.2)
 
 -- a text begins with one number and one letter
-pub begins_same : (l k : ℕ) (text : List ℕ) (m n : ℕ) (r s : List ℕ) → 57 < l → 57 < k → Begins l text m r → Begins k text n s → (l ≡ k) × (m ≡ n) × (r ≡ s)
+pub begins_same : (l k : ℕ) (text : List ℕ) (m n : ℕ) (r s : List ℕ) → 57 < l → 57 < k → BeginsNumber l text m r → BeginsNumber k text n s → (l ≡ k) × (m ≡ n) × (r ≡ s)
 begins_same l k text m n r s low high p q =
     let same = split_same p.digits q.digits l k r s p.number.1 q.number.1 low high (sym p.spelled ∙ q.spelled) in
     (same.1, sym p.number.2 ∙ ap (digits_value 10) same.0 ∙ q.number.2, same.2)
 
-pub begins_nothing : (l n : ℕ) (rest : List ℕ) → Begins l [] n rest → ⊥
+pub begins_nothing : (l n : ℕ) (rest : List ℕ) → BeginsNumber l [] n rest → ⊥
 begins_nothing l n rest b =
     absurd (omega (arith, ap length b.spelled, length-append b.digits (l ∷ rest)))
 
-pub part_begins : (l : ℕ) (digits rest : List ℕ) (n : ℕ) → IsNumber digits n → Begins l ((digits ++ l ∷ []) ++ rest) n rest
+pub part_begins : (l : ℕ) (digits rest : List ℕ) (n : ℕ) → IsNumber digits n → BeginsNumber l ((digits ++ l ∷ []) ++ rest) n rest
 part_begins l digits rest n h = record { digits = digits; number = h; spelled = append_assoc digits (l ∷ []) rest }
 
 -- another part in front: still no such beginning
-pub begins_later : (l k : ℕ) (part rest : List ℕ) (m : ℕ) → 57 < l → 57 < k → l ≢ k → SpellsPart k part m → ((n : ℕ) (end : List ℕ) → Begins l rest n end → ⊥) → (n : ℕ) (end : List ℕ) → Begins l (part ++ rest) n end → ⊥
+pub begins_later : (l k : ℕ) (part rest : List ℕ) (m : ℕ) → 57 < l → 57 < k → l ≢ k → SpellsPart k part m → ((n : ℕ) (end : List ℕ) → BeginsNumber l rest n end → ⊥) → (n : ℕ) (end : List ℕ) → BeginsNumber l (part ++ rest) n end → ⊥
 begins_later l k part rest m low high other (inl p) f n end b = f n end (rw p.0 at b)
 begins_later l k part rest m low high other (inr (digits, number, e)) f n end b =
     other (begins_same l k ((digits ++ k ∷ []) ++ rest) n m end rest low high (rw e at b) (part_begins k digits rest m number)).0
 
 -- what is taken at the front is the part that is there
-pub part_fixed : (l : ℕ) (text part rest : List ℕ) (n count : ℕ) (left : List ℕ) → 57 < l → SpellsPart l part n → text ≡ part ++ rest → ((m : ℕ) (end : List ℕ) → Begins l rest m end → ⊥) → TakesOrSkips l text count left → (left ≡ rest) × (count ≡ capped n)
+pub part_fixed : (l : ℕ) (text part rest : List ℕ) (n count : ℕ) (left : List ℕ) → 57 < l → SpellsPart l part n → text ≡ part ++ rest → ((m : ℕ) (end : List ℕ) → BeginsNumber l rest m end → ⊥) → TakesOrSkips l text count left → (left ≡ rest) × (count ≡ capped n)
 part_fixed l text part rest n count left low (inl p) e f (inl t) =
     let bare : text ≡ rest = e ∙ ap (λ x. x ++ rest) p.0 in
     absurd (f t.0 left (rw bare at t.1))
@@ -69,7 +69,7 @@ part_fixed l text part rest n count left low (inr (digits, number, q)) e f (inr 
 -- READING A NUMBER
 
 -- the digits at the front are counted to the letter
-pub front_count : (letter : ℕ) (text : List ℕ) (count n : ℕ) (rest : List ℕ) → 57 < letter → AllDigits 10 (take count text) → (count < length text → IsInRange 48 57 (get_or text count 0) → ⊥) → (b : Begins letter text n rest) → count ≡ length b.digits
+pub front_count : (letter : ℕ) (text : List ℕ) (count n : ℕ) (rest : List ℕ) → 57 < letter → AllDigits 10 (take count text) → (count < length text → IsInRange 48 57 (get_or text count 0) → ⊥) → (b : BeginsNumber letter text n rest) → count ≡ length b.digits
 front_count letter text count n rest low digits last b =
     let long : length text ≡ length b.digits + (length rest + 1) = ap length b.spelled ∙ length-append b.digits (letter ∷ rest) ∙ omega arith in
     elim (cases_order count (length b.digits)) [
@@ -85,24 +85,24 @@ front_count letter text count n rest low digits last b =
     ]
 
 -- so no text begins with a number and this letter where the digits at the front fill it
-pub no_letter_left : (letter : ℕ) (text : List ℕ) (count : ℕ) → 57 < letter → AllDigits 10 (take count text) → (count < length text → IsInRange 48 57 (get_or text count 0) → ⊥) → length text ≤ count → (n : ℕ) (rest : List ℕ) → Begins letter text n rest → ⊥
+pub no_letter_left : (letter : ℕ) (text : List ℕ) (count : ℕ) → 57 < letter → AllDigits 10 (take count text) → (count < length text → IsInRange 48 57 (get_or text count 0) → ⊥) → length text ≤ count → (n : ℕ) (rest : List ℕ) → BeginsNumber letter text n rest → ⊥
 no_letter_left letter text count low digits last end n rest b =
     let long : length text ≡ length b.digits + (length rest + 1) = ap length b.spelled ∙ length-append b.digits (letter ∷ rest) ∙ omega arith in
     absurd (omega (arith, front_count letter text count n rest low digits last b))
 
 -- or where another octet comes after them
-pub no_such_letter : (letter : ℕ) (text : List ℕ) (count : ℕ) → 57 < letter → AllDigits 10 (take count text) → (count < length text → IsInRange 48 57 (get_or text count 0) → ⊥) → get_or text count 0 ≢ letter → (n : ℕ) (rest : List ℕ) → Begins letter text n rest → ⊥
+pub no_such_letter : (letter : ℕ) (text : List ℕ) (count : ℕ) → 57 < letter → AllDigits 10 (take count text) → (count < length text → IsInRange 48 57 (get_or text count 0) → ⊥) → get_or text count 0 ≢ letter → (n : ℕ) (rest : List ℕ) → BeginsNumber letter text n rest → ⊥
 no_such_letter letter text count low digits last other n rest b =
     let count_is = front_count letter text count n rest low digits last b in
     let at_letter : get_or text (length b.digits) 0 ≡ letter = ap (λ t. get_or t (length b.digits) 0) b.spelled ∙ get_or-append_seam b.digits letter rest 0 in
     other (rw count_is at_letter)
 
 -- or where no digit is at the front
-pub no_digits : (letter : ℕ) (text : List ℕ) (count : ℕ) → 57 < letter → AllDigits 10 (take count text) → (count < length text → IsInRange 48 57 (get_or text count 0) → ⊥) → count ≡ 0 → (n : ℕ) (rest : List ℕ) → Begins letter text n rest → ⊥
+pub no_digits : (letter : ℕ) (text : List ℕ) (count : ℕ) → 57 < letter → AllDigits 10 (take count text) → (count < length text → IsInRange 48 57 (get_or text count 0) → ⊥) → count ≡ 0 → (n : ℕ) (rest : List ℕ) → BeginsNumber letter text n rest → ⊥
 no_digits letter text count low digits last none n rest b = absurd (omega (arith, none, b.number.0, front_count letter text count n rest low digits last b))
 
 -- the digits at the front, the letter and what follows it
-pub part_taken : (letter : ℕ) (text : List ℕ) (count number : ℕ) → count ≢ 0 → count < length text → AllDigits 10 (take count text) → number ≡ capped (digits_value 10 (take count text)) → get_or text count 0 ≡ letter → Takes letter text number (take (length text - (count + 1)) (drop (count + 1) text))
+pub part_taken : (letter : ℕ) (text : List ℕ) (count number : ℕ) → count ≢ 0 → count < length text → AllDigits 10 (take count text) → number ≡ capped (digits_value 10 (take count text)) → get_or text count 0 ≡ letter → TakesCapped letter text number (take (length text - (count + 1)) (drop (count + 1) text))
 part_taken letter text count number some inside digits value at =
     let long : length (take count text) ≡ count = omega (arith, length-take count text) in
     let rest : drop count text ≡ letter ∷ take (length text - (count + 1)) (drop (count + 1) text) = drop_more text count 0 inside ∙ (ap (λ z. z ∷ drop (count + 1) text) at ∙ ap (λ z. letter ∷ z) (sym (take_rest text (count + 1)))) in (
@@ -177,25 +177,25 @@ digits_no_letter (c ∷ cs) rest more text l some all e f =
     absurd (omega (arith, head c 84 (cs ++ l ∷ rest) more (sym e ∙ f), digit_from_value c all.0))
 
 -- no number and letter begin an exact part
-pub exact_begins : (l : ℕ) (text rest : List ℕ) (n total : ℕ) → SpellsExact text total → Begins l text n rest → ⊥
+pub exact_begins : (l : ℕ) (text rest : List ℕ) (n total : ℕ) → SpellsExact text total → BeginsNumber l text n rest → ⊥
 exact_begins l text rest n total s b =
     digits_no_letter b.digits rest ((s.hour_part ++ s.minute_part) ++ s.second_part) text l b.number.0 b.number.1 b.spelled s.spelled
 
 -- DAYS AND WEEKS
 
-pub days_alone : (text rest : List ℕ) (count : ℕ) → Takes 68 text count rest → length rest ≡ 0 → CountsDays text count 0
+pub days_alone : (text rest : List ℕ) (count : ℕ) → TakesCapped 68 text count rest → length rest ≡ 0 → CountsDays text count 0
 days_alone text rest count (n, b, e) end =
     (n, 0, inl (b.digits, b.number, rw (nil_from_length rest end) at b.spelled, refl), e, refl)
 
 pub days_of_time : (text : List ℕ) (count : ℕ) → CountsExact text count → CountsDays text 0 count
 days_of_time text count (total, s, e) = (0, total, inr (inl (s, refl)), refl, e)
 
-pub days_none : (text : List ℕ) → ((n : ℕ) (rest : List ℕ) → Begins 68 text n rest → ⊥) → ((total : ℕ) → SpellsExact text total → ⊥) → (days seconds : ℕ) → SpellsDays text days seconds → ⊥
+pub days_none : (text : List ℕ) → ((n : ℕ) (rest : List ℕ) → BeginsNumber 68 text n rest → ⊥) → ((total : ℕ) → SpellsExact text total → ⊥) → (days seconds : ℕ) → SpellsDays text days seconds → ⊥
 days_none text f g days seconds (inl (digits, number, e, z)) = f days [] (record { digits = digits; number = number; spelled = e })
 days_none text f g days seconds (inr (inl (s, z))) = g seconds s
 days_none text f g days seconds (inr (inr (digits, exact, number, s, e))) = f days exact (record { digits = digits; number = number; spelled = e })
 
-pub days_rest_none : (text rest : List ℕ) (n : ℕ) → Begins 68 text n rest → length rest ≢ 0 → ((total : ℕ) → SpellsExact rest total → ⊥) → (days seconds : ℕ) → SpellsDays text days seconds → ⊥
+pub days_rest_none : (text rest : List ℕ) (n : ℕ) → BeginsNumber 68 text n rest → length rest ≢ 0 → ((total : ℕ) → SpellsExact rest total → ⊥) → (days seconds : ℕ) → SpellsDays text days seconds → ⊥
 days_rest_none text rest n b some g days seconds (inl (digits, number, e, z)) =
     let same = begins_same 68 68 text n days rest [] (omega arith) (omega arith) b (record { digits = digits; number = number; spelled = e }) in
     some (ap length same.2)
@@ -205,7 +205,7 @@ days_rest_none text rest n b some g days seconds (inr (inr (digits, exact, numbe
     g seconds (rw (← same.2) at s)
 
 -- a text that begins with days spells no weeks
-pub days_begin : (text rest : List ℕ) (n days seconds : ℕ) → Begins 87 text n rest → SpellsDays text days seconds → ⊥
+pub days_begin : (text rest : List ℕ) (n days seconds : ℕ) → BeginsNumber 87 text n rest → SpellsDays text days seconds → ⊥
 days_begin text rest n days seconds b (inl (digits, number, e, z)) =
     absurd (omega (arith, (begins_same 87 68 text n days rest [] (omega arith) (omega arith) b (record { digits = digits; number = number; spelled = e })).0))
 days_begin text rest n days seconds b (inr (inl (s, z))) = exact_begins 87 text rest n seconds s b
@@ -217,7 +217,7 @@ days_begin text rest n days seconds b (inr (inr (digits, exact, number, s, e))) 
 unsigned_of : (text body : List ℕ) (days seconds : ℕ) → text ≡ 80 ∷ body → SpellsUnsigned text days seconds → SpellsCounts body days seconds
 unsigned_of text body days seconds e (counts, h, f) = rw (tail 80 80 counts body (sym f ∙ e)) at h
 
-pub unsigned_weeks : (text body rest : List ℕ) (count product : ℕ) → text ≡ 80 ∷ body → Takes 87 body count rest → length rest ≡ 0 → product ≡ min (count * 7) 18_446_744_073_709_551_615 → CountsUnsigned text product 0
+pub unsigned_weeks : (text body rest : List ℕ) (count product : ℕ) → text ≡ 80 ∷ body → TakesCapped 87 body count rest → length rest ≡ 0 → product ≡ min (count * 7) 18_446_744_073_709_551_615 → CountsUnsigned text product 0
 unsigned_weeks text body rest count product e (n, b, f) end g =
     (7 * n, 0, (body, inl (b.digits, n, b.number, rw (nil_from_length rest end) at b.spelled, refl, refl), e), omega (arith, f, g), refl)
 
@@ -227,14 +227,14 @@ unsigned_days text body d s e (days, seconds, h, f, g) = (days, seconds, (body, 
 pub unsigned_none : (text : List ℕ) → ((rest : List ℕ) → text ≡ 80 ∷ rest → ⊥) → (days seconds : ℕ) → SpellsUnsigned text days seconds → ⊥
 unsigned_none text f days seconds (counts, h, e) = f counts e
 
-pub unsigned_no_weeks : (text body : List ℕ) → text ≡ 80 ∷ body → ((n : ℕ) (rest : List ℕ) → Begins 87 body n rest → ⊥) → ((days seconds : ℕ) → SpellsDays body days seconds → ⊥) → (days seconds : ℕ) → SpellsUnsigned text days seconds → ⊥
+pub unsigned_no_weeks : (text body : List ℕ) → text ≡ 80 ∷ body → ((n : ℕ) (rest : List ℕ) → BeginsNumber 87 body n rest → ⊥) → ((days seconds : ℕ) → SpellsDays body days seconds → ⊥) → (days seconds : ℕ) → SpellsUnsigned text days seconds → ⊥
 unsigned_no_weeks text body e f g days seconds u =
     elim (unsigned_of text body days seconds e u) [
       | inl (digits, weeks, number, h, x, y) ↦ f weeks [] (record { digits = digits; number = number; spelled = h })
       | inr h ↦ g days seconds h
     ]
 
-pub unsigned_weeks_rest : (text body rest : List ℕ) (n : ℕ) → text ≡ 80 ∷ body → Begins 87 body n rest → length rest ≢ 0 → (days seconds : ℕ) → SpellsUnsigned text days seconds → ⊥
+pub unsigned_weeks_rest : (text body rest : List ℕ) (n : ℕ) → text ≡ 80 ∷ body → BeginsNumber 87 body n rest → length rest ≢ 0 → (days seconds : ℕ) → SpellsUnsigned text days seconds → ⊥
 unsigned_weeks_rest text body rest n e b some days seconds u =
     elim (unsigned_of text body days seconds e u) [
       | inl (digits, weeks, number, h, x, y) ↦

@@ -4,10 +4,10 @@ use Rattle.std.proofs.lemmas.List.{append-nil}
 use Rattle.std.proofs.lemmas.Bool.Decides.{nat_tests}
 use Rattle.std.proofs.lemmas.Fmt.{decimal_is_IsNumeral}
 use Rattle.profile.specs.text.Values.{IsNumber, SpellsPart, SpellsExact, SpellsDays, SpellsCounts, SpellsUnsigned, SpellsDuration, SpellsNegative, duration_text}
-use Rattle.ical_values.specs.Counts.{Begins}
+use Rattle.ical_values.specs.Counts.{BeginsNumber}
 use Rattle.ical_values.proofs.Parts.{begins_same, begins_nothing, begins_later, part_begins, exact_begins, days_begin}
 
-part_same : (l : ℕ) (p q r s : List ℕ) (m n : ℕ) → 57 < l → SpellsPart l p m → SpellsPart l q n → p ++ r ≡ q ++ s → ((k : ℕ) (end : List ℕ) → Begins l r k end → ⊥) → ((k : ℕ) (end : List ℕ) → Begins l s k end → ⊥) → (m ≡ n) × (r ≡ s)
+part_same : (l : ℕ) (p q r s : List ℕ) (m n : ℕ) → 57 < l → SpellsPart l p m → SpellsPart l q n → p ++ r ≡ q ++ s → ((k : ℕ) (end : List ℕ) → BeginsNumber l r k end → ⊥) → ((k : ℕ) (end : List ℕ) → BeginsNumber l s k end → ⊥) → (m ≡ n) × (r ≡ s)
 part_same l p q r s m n low (inl (x, a)) (inl (y, b)) e f g =
     let bare : r ≡ s = ap (λ w. w ++ r) (sym x) ∙ e ∙ ap (λ w. w ++ s) y in
     (a ∙ sym b, bare)
@@ -42,7 +42,7 @@ abbrev Rest : List ℕ → ℕ → Type 0
 Rest rest seconds = ((rest ≡ []) × (seconds ≡ 0)) ⊎ SpellsExact rest seconds
 
 abbrev Shape : List ℕ → ℕ → ℕ → Type 0
-Shape text days seconds = ((rest : List ℕ) × Begins 68 text days rest × Rest rest seconds) ⊎ (SpellsExact text seconds × (days ≡ 0))
+Shape text days seconds = ((rest : List ℕ) × BeginsNumber 68 text days rest × Rest rest seconds) ⊎ (SpellsExact text seconds × (days ≡ 0))
 
 shape : (text : List ℕ) (days seconds : ℕ) → SpellsDays text days seconds → Shape text days seconds
 shape text days seconds (inl (digits, number, e, z)) = inl ([], record { digits = digits; number = number; spelled = e }, inl (refl, z))

@@ -7,20 +7,20 @@ abbrev pub capped : ℕ → ℕ
 capped n = min n 18_446_744_073_709_551_615
 
 -- a text is a number, the letter, and a rest
-pub record Begins (letter : ℕ) (text : List ℕ) (n : ℕ) (rest : List ℕ) : Type 0 where
+pub record BeginsNumber (letter : ℕ) (text : List ℕ) (n : ℕ) (rest : List ℕ) : Type 0 where
   pub digits : List ℕ
   pub number : IsNumber digits n
   pub spelled : text ≡ digits ++ letter ∷ rest
 
 -- the same, by the capped number
-abbrev pub Takes : ℕ → List ℕ → ℕ → List ℕ → Type 0
-Takes letter text count rest = (n : ℕ) × Begins letter text n rest × (count ≡ capped n)
+abbrev pub TakesCapped : ℕ → List ℕ → ℕ → List ℕ → Type 0
+TakesCapped letter text count rest = (n : ℕ) × BeginsNumber letter text n rest × (count ≡ capped n)
 
 -- or nothing of it, where it doesn't begin so
 abbrev pub TakesOrSkips : ℕ → List ℕ → ℕ → List ℕ → Type 0
 TakesOrSkips letter text count rest =
-    Takes letter text count rest
-    ⊎ ((count ≡ 0) × (rest ≡ text) × ((n : ℕ) (end : List ℕ) → Begins letter text n end → ⊥))
+    TakesCapped letter text count rest
+    ⊎ ((count ≡ 0) × (rest ≡ text) × ((n : ℕ) (end : List ℕ) → BeginsNumber letter text n end → ⊥))
 
 -- the spellings with their capped counts
 abbrev pub CountsExact : List ℕ → ℕ → Type 0

@@ -5,7 +5,7 @@ ghost use Rattle.std.specs.Prelude.{◌≡◌, ◌+◌, ◌*◌, ◌<◌, ◌≤
 ghost use Rattle.std.specs.Int.{IsInRange};
 ghost use Rattle.std.specs.Str.Parse.{AllDigits, digits_value};
 ghost use Rattle.profile.specs.text.Values.{duration_text, SpellsDuration, SpellsNegative, SpellsLong, SpellsUnsigned, SpellsDays, SpellsExact};
-ghost use Rattle.ical_values.specs.Counts.{capped, Begins, Takes, TakesOrSkips, CountsExact, CountsDays, CountsUnsigned, SpellsLongBody};
+ghost use Rattle.ical_values.specs.Counts.{capped, BeginsNumber, TakesCapped, TakesOrSkips, CountsExact, CountsDays, CountsUnsigned, SpellsLongBody};
 
 use crate::append::append_all;
 use ical_lines::Refusal;
@@ -187,8 +187,8 @@ fn part_or_zero(text: &[u8], letter: u8) -> (u64, &[u8])
 /// The number at the front, which the letter follows, and the rest after the letter.
 fn take_part(text: &[u8], letter: u8) -> Option<(u64, &[u8])>
     requires { 57 < letter }
-    ensures found { IfSome result (λ r. Takes letter text.now r.0 r.1.now) }
-    ensures none { IfNone result ((n : ℕ) (rest : List ℕ) → Begins letter text.now n rest → ⊥) }
+    ensures found { IfSome result (λ r. TakesCapped letter text.now r.0 r.1.now) }
+    ensures none { IfNone result ((n : ℕ) (rest : List ℕ) → BeginsNumber letter text.now n rest → ⊥) }
 {
     let (number, count) = leading_number(text);
     if count == 0 {

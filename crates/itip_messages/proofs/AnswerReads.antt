@@ -4,14 +4,14 @@ use Rattle.std.specs.List.{AllZip}
 use Rattle.std.specs.Prelude.{option_to_list}
 use Rattle.std.proofs.lemmas.List.{same_from_push}
 use Rattle.std.proofs.lemmas.List.Elements.{filter-append}
-use Rattle.profile.specs.events.Events.{IsAttendee}
+use Rattle.profile.specs.events.EventComponents.{IsAttendee}
 use Rattle.profile.specs.events.Properties.{Says, IsStampLine, lines_named, is_of}
 use Rattle.profile.specs.rooms.Revisions.{Part, Slot, Whole, At}
 use Rattle.profile.specs.text.Values.{IsUid, SpellsStamp, escaped}
 use Rattle.profile.specs.rooms.Messages.{Outcome, Accept, Busy, SeriesLimit, SinglesLimit, TellsSlot, TellsOutcome, partstat, IsReplyEvent}
 use Rattle.ical_values.proofs.Escapes.{read_back}
 use Rattle.ical_values.proofs.Readings.{stamp_written, sequence_written}
-use Rattle.itip_messages.specs.ReadBack.{IsReadAddress, IsVevent, SaysAnswer, participation_of, instance_of}
+use Rattle.itip_messages.specs.ReadBack.{IsReadAddress, IsVevent, SaysAnswer, participation_answered, instant_of_slot}
 use Rattle.itip_messages.proofs.ObjectTree.{Lines}
 
 -- ---- the lines of the slot
@@ -23,7 +23,7 @@ record SlotNamed (slot : Slot) (lines : Lines) : Type 0 where
   sequence : lines_named (codes "SEQUENCE") lines ≡ []
   stamp : lines_named (codes "DTSTAMP") lines ≡ []
   attendee : lines_named (codes "ATTENDEE") lines ≡ []
-  instance : Says (codes "RECURRENCE-ID") false IsStampLine lines (instance_of slot)
+  instance : Says (codes "RECURRENCE-ID") false IsStampLine lines (instant_of_slot slot)
 
 slot_named : (slot : Slot) (lines : Lines) → TellsSlot slot lines → SlotNamed slot lines
 slot_named Whole lines e = subst (SlotNamed Whole) (sym e) (record {
@@ -66,7 +66,7 @@ room_named SeriesLimit room status e =
 room_named SinglesLimit room status e =
     subst (λ (s : Lines). RoomNamed (room_line SinglesLimit room) (room_line SinglesLimit room ∷ s)) (sym e) (record { uid = refl; organiser = refl; sequence = refl; stamp = refl; instance = refl; attendee = refl })
 
-room_says : (outcome : Outcome) (room : List ℕ) → IsReadAddress room → IsAttendee (room_line outcome room) (record { address = room; participation = participation_of outcome; scheduled = true })
+room_says : (outcome : Outcome) (room : List ℕ) → IsReadAddress room → IsAttendee (room_line outcome room) (record { address = room; participation = participation_answered outcome; scheduled = true })
 room_says Accept room r = record { address = (r.address, sym r.lower); participation = refl; scheduled = refl }
 room_says (Busy a b t) room r = record { address = (r.address, sym r.lower); participation = refl; scheduled = refl }
 room_says SeriesLimit room r = record { address = (r.address, sym r.lower); participation = refl; scheduled = refl }
@@ -85,7 +85,7 @@ module _ (room : List ℕ) (part : Part) (moment : ℤ) (outcome : Outcome) (slo
   abbrev own : Lines
   own = (codes "UID:" ++ escaped part.uid) ∷ (slot ++ after)
 
-  instance_said : Says (codes "RECURRENCE-ID") false IsStampLine own (instance_of part.slot)
+  instance_said : Says (codes "RECURRENCE-ID") false IsStampLine own (instant_of_slot part.slot)
   instance_said = record {
     line = s.instance.line;
     once = both_named (codes "RECURRENCE-ID") slot after (option_to_list s.instance.line) [] s.instance.once r.instance ∙ none_after s.instance.line;
@@ -124,7 +124,7 @@ module _ (room : List ℕ) (part : Part) (moment : ℤ) (outcome : Outcome) (slo
       is = at;
     };
     instance = instance_said;
-    attendees = subst (λ (l : Lines). AllZip IsAttendee l (record { address = room; participation = participation_of outcome; scheduled = true } ∷ [])) (sym (both_named (codes "ATTENDEE") slot after [] _ s.attendee r.attendee)) (room_says outcome room home, tt);
+    attendees = subst (λ (l : Lines). AllZip IsAttendee l (record { address = room; participation = participation_answered outcome; scheduled = true } ∷ [])) (sym (both_named (codes "ATTENDEE") slot after [] _ s.attendee r.attendee)) (room_says outcome room home, tt);
   }
 
 -- the VEVENT's own lines

@@ -2,7 +2,7 @@
 use Rattle.std.proofs.Common.{◌≡◌, ◌∙◌, ℕ, List, take, drop, Option, None, Some, refl, ap}
 use Rattle.std.specs.Str.{IsUtf8}
 use Rattle.std.specs.Str.Lines.{lines}
-use Rattle.profile.specs.events.Events.{Event}
+use Rattle.profile.specs.events.EventComponents.{EventComponent}
 use Rattle.profile.specs.rooms.Messages.{Content, IsContent, canonical}
 use Rattle.itip_messages.specs.Bodies.{zone_octets, zone_place}
 use Rattle.itip_messages.proofs.ZonePlaces.{content_utf8, cut_at_zone, lines_body, zone_behind}
@@ -17,7 +17,7 @@ pub record IsBodyOf (content : Content) (octets : List ℕ) : Type 0 where
   pub read : content_in octets ≡ content
   pub utf8 : IsUtf8 octets
 
-pub body_of : (content : Content) (event : Event) → IsContent content event → IsBodyOf content (canonical content)
+pub body_of : (content : Content) (event : EventComponent) → IsContent content event → IsBodyOf content (canonical content)
 body_of content event c =
     let octets = canonical content in
     let cut = cut_at_zone content event c (zone_place octets) refl in

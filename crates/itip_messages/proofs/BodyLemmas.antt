@@ -17,7 +17,7 @@ use Rattle.profile.specs.text.Lines.{folded, written}
 use Rattle.profile.specs.rooms.Messages.{AreAscending, IsZoneRest, zone_text}
 use Rattle.profile.specs.written.WrittenZones.{IsZoneText}
 use Rattle.profile.specs.text.Values.{IsClockSeconds, WritesStamp}
-use Rattle.cal_events.specs.Meetings.{IsNamed}
+use Rattle.cal_events.specs.Meetings.{IsInEventDates}
 use Rattle.cal_events.proofs.EventLemmas.{push_zip}
 use Rattle.itip_messages.specs.Bodies.{AppendsOthers, crlf_lines}
 use Rattle.itip_messages.proofs.CleanBodies.{Lines, crlf_both}
@@ -95,5 +95,5 @@ body_written start duration r a e zone i0 i1 i2 i3 i4 i5 i6 h0 h1 h2 h3 h4 h5 h6
 
 -- ---- instants that a stamp writes
 
-pub clock_named : (t : ℤ) → IsNamed t → IsClockSeconds t
+pub clock_named : (t : ℤ) → IsInEventDates t → IsClockSeconds t
 clock_named t n = (omega (arith, ints, n.0), omega (arith, ints, n.1))

@@ -9,9 +9,9 @@ use Rattle.std.proofs.lemmas.Bool.Decides.{nat_tests}
 use Rattle.std.proofs.lemmas.Slice.Eq.{bytes_eq-Decides}
 use Rattle.profile.specs.text.Lines.{is_content, is_too_long, logical_lines, reads_as_lines, written}
 use Rattle.profile.specs.text.Objects.{IsObject}
-use Rattle.profile.specs.text.Trees.{Tree, tree_name, tree_own, tree_inside}
+use Rattle.profile.specs.text.Trees.{Tree}
 use Rattle.profile.specs.text.Values.{SpellsStamp, escaped}
-use Rattle.profile.specs.events.Events.{Event, IsAttendee, SaysEvent, Cancel, first_text, meeting_said}
+use Rattle.profile.specs.events.EventComponents.{EventComponent, IsAttendee, SaysEventComponent, Cancel, first_text, meeting_said}
 use Rattle.profile.specs.events.EventRules.{GivesBeside}
 use Rattle.profile.specs.events.Occurrences.{SaysStatus, IsInside, Lists, entries_of}
 use Rattle.profile.specs.events.Properties.{is_of, lines_named}
@@ -84,7 +84,7 @@ module _ (organiser uid : List ℕ) (revision : Revision) (to : List (List ℕ))
   abbrev own : Bool → Lines
   own called_off = own_lines organiser uid revision.sequence stamp called_off to
 
-  abbrev said : Bool → Event
+  abbrev said : Bool → EventComponent
   said called_off = cancel_event organiser uid revision called_off to
 
   -- what is named nowhere in the lines
@@ -147,7 +147,7 @@ module _ (organiser uid : List ℕ) (revision : Revision) (to : List (List ℕ))
     attendees = all_named to;
   }
 
-  own_says : (called_off : Bool) → SaysEvent object (Some Cancel) (own called_off) (said called_off)
+  own_says : (called_off : Bool) → SaysEventComponent object (Some Cancel) (own called_off) (said called_off)
   own_says called_off =
       let l = lacks called_off in
       let h = has called_off in
@@ -193,7 +193,7 @@ module _ (organiser uid : List ℕ) (revision : Revision) (to : List (List ℕ))
 cancel_method : IsMethod (Some (codes "CANCEL"))
 cancel_method = let m : is_content (codes "METHOD:CANCEL") ≡ true = fixed (codes "METHOD:CANCEL") refl refl refl refl in and_from _ _ m refl
 
-only_one : (event a : Event) → Contains (event ∷ []) a → a ≡ event
+only_one : (event a : EventComponent) → Contains (event ∷ []) a → a ≡ event
 only_one event a c = elim (in_cons event [] a c) [
   | inl here ↦ sym here
   | inr there ↦ absurd (none_in_nil a there)
@@ -222,7 +222,7 @@ cancel_spells back reads organiser uid revision called_off to octets n f c short
     record {
       lines = bounded_reads octets (ap (reads_as_lines false) whole ∙ reads lines content) short;
       tree = whole_tree;
-      object = subst (IsObject tree_name tree_own tree_inside true whole_tree) (sym logical) (record { spelled = object.spelled; calendar = object.calendar; version = object.version; events = refl });
+      object = subst (IsObject true whole_tree) (sym logical) (record { spelled = object.spelled; calendar = object.calendar; version = object.version; events = refl });
       says = record {
         method = record { line = codes "METHOD:CANCEL"; once = refl; named = refl };
         says = record {
@@ -273,7 +273,7 @@ cancel_tells organiser uid revision called_off to room c =
     let all : parts_for room (cancel_message organiser uid revision called_off to) ≡ event ∷ [] = ap (λ b. cond (b || false) (cond b (event ∷ []) []) []) named in
     record {
       events = event ∷ [];
-      are = subst (λ (l : List Event). AreBySlot l (event ∷ [])) (sym all) (record { exact = λ e. (λ k. k, λ k. k); order = λ i j d l w. absurd (omega (arith, l, w)) });
+      are = subst (λ (l : List EventComponent). AreBySlot l (event ∷ [])) (sym all) (record { exact = λ e. (λ k. k, λ k. k); order = λ i j d l w. absurd (omega (arith, l, w)) });
       each = ((no_content, record { organiser = refl; uid = refl; slot = refl; revision = sym (later_same revision); body = (refl, refl) }), tt);
     }
 
@@ -288,6 +288,6 @@ cancel_others organiser uid revision called_off first more room f =
     let none : parts_for room (cancel_message organiser uid revision called_off (first ∷ more)) ≡ [] = ap (λ b. cond (b || false) (cond b (event ∷ []) []) []) unnamed in
     record {
       events = [];
-      are = subst (λ (l : List Event). AreBySlot l []) (sym none) (record { exact = λ e. (λ k. k, λ k. k); order = λ i j d l w. absurd (omega (arith, l)) });
+      are = subst (λ (l : List EventComponent). AreBySlot l []) (sym none) (record { exact = λ e. (λ k. k, λ k. k); order = λ i j d l w. absurd (omega (arith, l)) });
       each = tt;
     }

@@ -11,7 +11,7 @@ use Rattle.std.proofs.lemmas.Slice.Eq.{bytes_eq-Decides}
 use Rattle.ical_values.specs.Octets.{address_octets}
 use Rattle.cal_events.specs.declared.component.Attendee.{Attendee as Line}
 use Rattle.cal_events.specs.Events.{attendee_of}
-use Rattle.profile.specs.events.Events.{Attendee}
+use Rattle.profile.specs.events.EventComponents.{Attendee}
 use Rattle.itip_messages.specs.Attendees.{line_said}
 use Rattle.profile.specs.organisers.Objects.{counted}
 use Rattle.itip_messages.proofs.ZoneSets.{either_way}

@@ -9,7 +9,7 @@ use Rattle.std.proofs.lemmas.List.Elements.{Contains-append_left, Contains-appen
 use Rattle.std.proofs.lemmas.List.Folds.{list_any-append}
 use Rattle.std.proofs.lemmas.Str.{IsUtf8-take, IsUtf8-drop, IsUtf8-nil, IsUtf8-from_is_utf8, IsCharBoundary-before_ascii, IsCharBoundary-after_ascii}
 use Rattle.profile.specs.text.Lines.{outside_from, outside, line_value, is_control, is_faulty, has_control, ended, logical_lines, reads_as_lines}
-use Rattle.profile.specs.text.Trees.{Tree, tree_name, tree_own, tree_inside, vevents}
+use Rattle.profile.specs.text.Trees.{Tree, tree_own, tree_inside, vevents}
 use Rattle.profile.specs.text.Objects.{SpellsBody, IsObject}
 use Rattle.profile.specs.text.Objects.SpellsBody.{nothing, property, component}
 use Rattle.cal_events.proofs.InOneOrder.{of_mapped}
@@ -132,13 +132,13 @@ holds_component own parts body part begin end inner i h = record {
       ];
 }
 
-holds : {depth : ℕ} {own : Lines} {parts : List Tree} {body : Lines} → SpellsBody tree_name tree_own tree_inside depth own parts body → Holds own parts body
+holds : {depth : ℕ} {own : Lines} {parts : List Tree} {body : Lines} → SpellsBody depth own parts body → Holds own parts body
 holds nothing = holds_none
 holds (property {lines = own} {parts = parts} {body = body} line p b) = holds_property own parts body line (holds b)
 holds (component {lines = own} {parts = parts} {body = body} part begin end inner v o e b rest) = holds_component own parts body part begin end inner (holds b).of_own (holds rest)
 
 -- the lines of a VEVENT are among the lines of its object
-pub vevent_among : (bounded : Bool) (whole : Tree) (lines own : Lines) → IsObject tree_name tree_own tree_inside bounded whole lines → Contains (vevents whole) own → HasLine lines own
+pub vevent_among : (bounded : Bool) (whole : Tree) (lines own : Lines) → IsObject bounded whole lines → Contains (vevents whole) own → HasLine lines own
 vevent_among bounded whole lines own object c line k =
     let found = of_mapped tree_own _ own c in
     let part = (filter_at _ (tree_inside whole) found.0 found.1).0 in

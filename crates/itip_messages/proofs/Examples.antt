@@ -1,7 +1,7 @@
 -- Worked examples of the definitions of messages and replies, computed.
 use Rattle.std.proofs.Common.{◌≡◌, ℕ, pos, true, false, List, [], ◌∷◌, Some, None, refl, codes}
-use Rattle.profile.specs.events.Events.{Event, NeedsAction}
-use Rattle.profile.specs.events.Meetings.{is_same_meeting}
+use Rattle.profile.specs.events.EventComponents.{EventComponent, NeedsAction}
+use Rattle.profile.specs.events.Events.{is_same_meeting}
 use Rattle.profile.specs.rooms.Messages.{word, object_lines, is_method, names_room}
 
 -- ---- words of a status
@@ -51,7 +51,7 @@ publish_asks_for_nothing = refl
 -- ---- meetings
 
 -- an hour on 2025-03-10 that Ann asks of one room
-meeting : List ℕ → List ℕ → Event
+meeting : List ℕ → List ℕ → EventComponent
 meeting uid organiser = record {
   uid = uid;
   organiser = Some organiser;

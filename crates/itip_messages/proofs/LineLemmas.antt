@@ -12,8 +12,8 @@ use Rattle.profile.specs.rooms.Messages.{TellsSlot, opening_lines}
 use Rattle.ical_values.specs.Written.{Appends}
 use Rattle.itip_messages.specs.declared.refresh.Refresh.{Refresh}
 use Rattle.itip_messages.specs.declared.reply.ReplyEvent.{ReplyEvent}
-use Rattle.itip_messages.specs.Refreshes.{IsEventOf, IsRefreshText}
-use Rattle.itip_messages.specs.Replies.{IsStampLine, WritesLines, WritesEvents, IsWrittenEvent, IsReplyText}
+use Rattle.itip_messages.specs.Refreshes.{IsRefreshLines, IsRefreshText}
+use Rattle.itip_messages.specs.Replies.{IsWrittenStampLine, WritesLines, WritesEvents, IsWrittenEvent, IsReplyText}
 
 -- one line
 pub one_line : (old new line : List ℕ) → new ≡ old ++ folded line → new ≡ old ++ written (line ∷ [])
@@ -23,7 +23,7 @@ pub that_line : (old new line : List ℕ) → new ≡ old ++ folded line → Wri
 that_line old new line e = (line ∷ [], refl, one_line old new line e)
 
 -- RECURRENCE-ID
-pub slot_line : (old new : List ℕ) (instant : ℤ) → Appends old new (IsStampLine (codes "RECURRENCE-ID:") instant) → WritesLines old new (TellsSlot (At instant))
+pub slot_line : (old new : List ℕ) (instant : ℤ) → Appends old new (IsWrittenStampLine (codes "RECURRENCE-ID:") instant) → WritesLines old new (TellsSlot (At instant))
 slot_line old new instant a =
     let text = a.1.0 in
     ((codes "RECURRENCE-ID:" ++ text) ∷ [], (text, a.1.1, refl), one_line old new _ (a.2 ∙ ap (λ x. old ++ x) a.1.2))
@@ -103,7 +103,7 @@ reply_written events empty opened mid closed e0 e1 w e2 = record {
 }
 
 -- the whole refresh
-pub refresh_written : (refresh : Refresh) (empty opened mid closed : List ℕ) → empty ≡ [] → opened ≡ empty ++ written (opening_lines (Some (codes "REFRESH"))) → WritesLines opened mid (IsEventOf refresh) → closed ≡ mid ++ folded (codes "END:VCALENDAR") → IsRefreshText refresh closed
+pub refresh_written : (refresh : Refresh) (empty opened mid closed : List ℕ) → empty ≡ [] → opened ≡ empty ++ written (opening_lines (Some (codes "REFRESH"))) → WritesLines opened mid (IsRefreshLines refresh) → closed ≡ mid ++ folded (codes "END:VCALENDAR") → IsRefreshText refresh closed
 refresh_written refresh empty opened mid closed e0 e1 w e2 = record {
   lines = w.0;
   shows = w.1;

@@ -9,7 +9,7 @@ use Rattle.ical_values.specs.Written.{Appends}
 use Rattle.itip_order.specs.Parts.{slot_of, revision_of}
 use Rattle.profile.specs.text.Lines.{written, folded}
 use Rattle.profile.specs.text.Values.{escaped}
-use Rattle.profile.specs.events.Events.{Attendee, Event}
+use Rattle.profile.specs.events.EventComponents.{Attendee, EventComponent}
 use Rattle.profile.specs.rooms.Revisions.{Slot, At}
 use Rattle.profile.specs.rooms.Messages.{Content, IsContent, TellsSlot, opening_lines}
 use Rattle.profile.specs.rooms.Kept.{each_once, zone_texts}
@@ -21,7 +21,7 @@ use Rattle.itip_messages.specs.BodyTexts.{WritesBody, WritesSlot, content_in}
 use Rattle.itip_messages.specs.Meetings.{IsTextOf, IsWrittenComponent, WritesComponent, WritesComponents, WritesLine, zone_in}
 use Rattle.itip_messages.specs.Messages.{IsDated}
 use Rattle.itip_messages.specs.OrganiserObjects.{SaysObjectComponent}
-use Rattle.itip_messages.specs.Replies.{IsStampLine, WritesLines}
+use Rattle.itip_messages.specs.Replies.{IsWrittenStampLine, WritesLines}
 use Rattle.itip_messages.specs.Zoning.{is_new, with_zones}
 use Rattle.itip_messages.proofs.BodyContents.{body_of}
 use Rattle.itip_messages.proofs.LineLemmas.{one_line}
@@ -30,7 +30,7 @@ use Rattle.itip_messages.proofs.ZonesOnce.{named_still, with_more, with_zones_ar
 
 -- ---- RECURRENCE-ID
 
-pub slot_written : (instant stamp : ℤ) (old new : List ℕ) → stamp ≡ instant → Appends old new (IsStampLine (codes "RECURRENCE-ID:") stamp) → WritesSlot (At instant) old new
+pub slot_written : (instant stamp : ℤ) (old new : List ℕ) → stamp ≡ instant → Appends old new (IsWrittenStampLine (codes "RECURRENCE-ID:") stamp) → WritesSlot (At instant) old new
 slot_written instant stamp old new is a = record {
   lines = (codes "RECURRENCE-ID:" ++ a.1.0) ∷ [];
   tells = λ _. subst (λ t. TellsSlot (At t) ((codes "RECURRENCE-ID:" ++ a.1.0) ∷ [])) is (a.1.0, a.1.1, refl);
@@ -117,12 +117,12 @@ module _ (IsLine : Slot → Attendee → List ℕ → Type 0) (meeting : Meeting
 -- ---- all VEVENTs
 
 -- a VEVENT and its event
-paired : List Event → List ObjectComponent → List Component
+paired : List EventComponent → List ObjectComponent → List Component
 paired [] cs = []
 paired (event ∷ events) [] = []
 paired (event ∷ events) (component ∷ cs) = (event, content_in component.canonical.items) ∷ paired events cs
 
-are_paired : (events : List Event) (cs : List ObjectComponent) → AllZip SaysObjectComponent events cs → AllZip IsComponentOf events (paired events cs)
+are_paired : (events : List EventComponent) (cs : List ObjectComponent) → AllZip SaysObjectComponent events cs → AllZip IsComponentOf events (paired events cs)
 unfolding paired
 are_paired [] [] z = tt
 are_paired [] (c ∷ cs) z = absurd z
@@ -132,7 +132,7 @@ are_paired (e ∷ es) (c ∷ cs) z =
     let read : content_in c.canonical.items ≡ said.content = ap content_in said.is ∙ (body_of said.content e said.when).read in
     ((refl, subst (λ (x : Content). IsContent x e) (sym read) said.when), are_paired es cs z.1)
 
-zones_paired : (events : List Event) (cs : List ObjectComponent) → AllZip SaysObjectComponent events cs → flat_map (λ component. option_to_list component.1.zone) (paired events cs) ≡ flat_map zone_in cs
+zones_paired : (events : List EventComponent) (cs : List ObjectComponent) → AllZip SaysObjectComponent events cs → flat_map (λ component. option_to_list component.1.zone) (paired events cs) ≡ flat_map zone_in cs
 unfolding paired
 zones_paired [] [] z = refl
 zones_paired [] (c ∷ cs) z = absurd z
@@ -184,7 +184,7 @@ module _ (IsLine : Slot → Attendee → List ℕ → Type 0) (meeting : Meeting
         is = push_lines old now new (flat_map (λ l. l) a.texts) b.lines a.is b.is ∙ ap (λ l. old ++ written l) (sym (flat_push (λ l. l) a.texts b.lines));
       }
 
-  texts_paired : (zones : List (List ℕ)) (events : List Event) (cs : List ObjectComponent) (texts : List (List (List ℕ))) → AllZip SaysObjectComponent events cs → AllZip (IsWrittenComponent IsLine meeting zones) cs texts
+  texts_paired : (zones : List (List ℕ)) (events : List EventComponent) (cs : List ObjectComponent) (texts : List (List (List ℕ))) → AllZip SaysObjectComponent events cs → AllZip (IsWrittenComponent IsLine meeting zones) cs texts
       → AllZip (IsText zones) (paired events cs) texts
   unfolding paired
   texts_paired zones [] [] texts z w = w

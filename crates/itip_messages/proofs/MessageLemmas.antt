@@ -13,10 +13,10 @@ use Rattle.ical_lines.specs.declared.fault.Fault.TheVariants.{Refused, Memory}
 use Rattle.ical_lines.specs.declared.fault.Refusal.{Refusal}
 use Rattle.profile.specs.text.Lines.{line_value}
 use Rattle.profile.specs.text.Trees.{Tree, tree_own}
-use Rattle.profile.specs.events.Events as events
-use Rattle.profile.specs.events.Events.{Event}
+use Rattle.profile.specs.events.EventComponents as events
+use Rattle.profile.specs.events.EventComponents.{EventComponent as SaidComponent}
 use Rattle.profile.specs.events.Confirmed.{has_series}
-use Rattle.profile.specs.events.Meetings.{Meeting, events_of, SaysMeeting, MeetingFault}
+use Rattle.profile.specs.events.Events.{Event, components_of, SaysEvent, EventFault}
 use Rattle.profile.specs.rooms.Messages as profile
 use Rattle.profile.specs.rooms.Messages.{NamesMethod, MethodFault, bad_method, MessageFault, in_meeting, for_organiser, is_method}
 use Rattle.profile.specs.organisers.Objects.{Operation, NamesOperation}
@@ -26,7 +26,7 @@ use Rattle.profile.specs.events.Properties.{OccursAtMostOnce}
 use Rattle.cal_events.specs.declared.component.EventComponent.{EventComponent}
 use Rattle.cal_events.specs.declared.component.Purpose.{Purpose}
 use Rattle.cal_events.specs.declared.meeting_components.MeetingComponents.{MeetingComponents}
-use Rattle.cal_events.specs.Events.{event_of, method_read}
+use Rattle.cal_events.specs.Events.{component_of, method_read}
 use Rattle.cal_events.specs.OneMeeting.{meeting_of}
 use Rattle.cal_events.specs.SaidSeries.{IsSeriesOf, series_said}
 use Rattle.cal_events.specs.declared.series.Series.{Series}
@@ -39,7 +39,7 @@ use Rattle.itip_messages.specs.declared.room_message.MessageComponent.{MessageCo
 use Rattle.itip_messages.specs.declared.room_message.Method.{Method}
 use Rattle.itip_messages.specs.declared.room_message.Method.TheVariants.{Request, Add, Cancel}
 use Rattle.itip_messages.specs.Bodies.{IsReady}
-use Rattle.itip_messages.specs.Messages.{method_said, purpose_of, IsDated, IsOfMessage, SaysComponent, event_slot, RepresentsMessage, component_names, is_for, is_part_of, has_part, part_for}
+use Rattle.itip_messages.specs.Messages.{method_said, purpose_of, IsDated, IsOfMessage, SaysComponent, event_slot, RepresentsMessage, component_names, is_component_for, is_part_of, has_part, part_for}
 use Rattle.itip_messages.specs.OrganiserObjects.{IsOrganiserFault}
 use Rattle.itip_messages.specs.Readings.{WordFault}
 use Rattle.itip_messages.proofs.BySlot.{kept_by_slot}
@@ -64,12 +64,12 @@ read_for Request = refl
 read_for Add = refl
 read_for Cancel = refl
 
-pub in_message : (object : Tree) (method : Method) (purpose : Purpose) (meeting : Meeting) → purpose ≡ purpose_of method → SaysMeeting object (method_read purpose) meeting
-    → SaysMeeting object (Some (method_said method)) meeting
-in_message object method purpose meeting e says = subst (λ (m : Option events.Method). SaysMeeting object m meeting) (ap method_read e ∙ read_for method) says
+pub in_message : (object : Tree) (method : Method) (purpose : Purpose) (meeting : Event) → purpose ≡ purpose_of method → SaysEvent object (method_read purpose) meeting
+    → SaysEvent object (Some (method_said method)) meeting
+in_message object method purpose meeting e says = subst (λ (m : Option events.Method). SaysEvent object m meeting) (ap method_read e ∙ read_for method) says
 
 -- what the VEVENTs of a message are refused for
-pub meeting_refuses : (object : Tree) (method : events.Method) (f : Fault) → NamesMethod (tree_own object) method → RefusesBy (MeetingFault object (Some method)) f → RefusesBy (MessageFault object) f
+pub meeting_refuses : (object : Tree) (method : events.Method) (f : Fault) → NamesMethod (tree_own object) method → RefusesBy (EventFault object (Some method)) f → RefusesBy (MessageFault object) f
 meeting_refuses object method Memory named s = tt
 meeting_refuses object method (Refused r) named s = in_meeting method named s
 
@@ -87,24 +87,24 @@ pub some_of_map : {A B : Type 0} (f : A → B) (o : Option A) → is_some (optio
 some_of_map f None h = cc
 some_of_map f (Some x) h = refl
 
-module _ (meeting : Meeting) (m : IsOfMessage meeting) (events : List EventComponent) (are : map event_of events ≡ events_of meeting) where
-  pub there : (e : EventComponent) → Contains events e → Contains (events_of meeting) (event_of e)
-  there e c = subst (λ (l : List Event). Contains l (event_of e)) are (in_mapped event_of events e c)
+module _ (meeting : Event) (m : IsOfMessage meeting) (events : List EventComponent) (are : map component_of events ≡ components_of meeting) where
+  pub there : (e : EventComponent) → Contains events e → Contains (components_of meeting) (component_of e)
+  there e c = subst (λ (l : List SaidComponent). Contains l (component_of e)) are (in_mapped component_of events e c)
 
   pub stamp_given : (e : EventComponent) → Contains events e → IsSome e.stamp
-  stamp_given e c = some_itself e.stamp (All-contains (λ (x : Event). is_some x.stamp ≡ true) (events_of meeting) (event_of e) m.stamped (there e c))
+  stamp_given e c = some_itself e.stamp (All-contains (λ (x : SaidComponent). is_some x.stamp ≡ true) (components_of meeting) (component_of e) m.stamped (there e c))
 
   pub slot_dated : (e : EventComponent) → Contains events e → IsDated (event_slot e)
-  slot_dated e c = All-contains (λ (x : Event). IsDated (profile.slot_of x)) (events_of meeting) (event_of e) m.dated (there e c)
+  slot_dated e c = All-contains (λ (x : SaidComponent). IsDated (profile.slot_of x)) (components_of meeting) (component_of e) m.dated (there e c)
 
-  pub event_is_ready : (e : EventComponent) → Contains events e → IsReady (event_of e)
-  event_is_ready e c = All-contains IsReady (events_of meeting) (event_of e) m.ready (there e c)
+  pub event_is_ready : (e : EventComponent) → Contains events e → IsReady (component_of e)
+  event_is_ready e c = All-contains IsReady (components_of meeting) (component_of e) m.ready (there e c)
 
   pub organiser_given : (e : EventComponent) → Contains events e → IsSome e.organiser
-  organiser_given e c = some_of_map _ e.organiser (All-contains (λ (x : Event). is_some x.organiser ≡ true) (events_of meeting) (event_of e) m.organised (there e c))
+  organiser_given e c = some_of_map _ e.organiser (All-contains (λ (x : SaidComponent). is_some x.organiser ≡ true) (components_of meeting) (component_of e) m.organised (there e c))
 
   pub some_event : 0 < length events
-  some_event = let l = ap length are in let some : 0 < length (events_of meeting) = m.some in omega (arith, l, length-map events event_of, some)
+  some_event = let l = ap length are in let some : 0 < length (components_of meeting) = m.some in omega (arith, l, length-map events component_of, some)
 
 -- ---- a loop over VEVENTs
 
@@ -114,13 +114,13 @@ next_there all yielded left rest event whole next =
     subst (λ (l : List EventComponent). Contains l event) (sym (whole ∙ ap (λ l. yielded ++ l) next)) (Contains-append_right yielded (event ∷ rest) event (0, omega arith, refl))
 
 -- and is said too
-pub said_more : {C : Type 0} (Says : Event → C → Type 0) (all yielded left rest : List EventComponent) (event : EventComponent) (items new : List C) (component : C)
-    → all ≡ yielded ++ left → left ≡ event ∷ rest → AllZip Says (map event_of yielded) items → Says (event_of event) component → new ≡ items ++ component ∷ []
-    → (all ≡ (yielded ++ event ∷ []) ++ rest) × AllZip Says (map event_of (yielded ++ event ∷ [])) new
+pub said_more : {C : Type 0} (Says : SaidComponent → C → Type 0) (all yielded left rest : List EventComponent) (event : EventComponent) (items new : List C) (component : C)
+    → all ≡ yielded ++ left → left ≡ event ∷ rest → AllZip Says (map component_of yielded) items → Says (component_of event) component → new ≡ items ++ component ∷ []
+    → (all ≡ (yielded ++ event ∷ []) ++ rest) × AllZip Says (map component_of (yielded ++ event ∷ [])) new
 said_more Says all yielded left rest event items new component whole next said one pushed =
-    let more = push_zip Says (map event_of yielded) items (event_of event) component said one in (
+    let more = push_zip Says (map component_of yielded) items (component_of event) component said one in (
       whole ∙ ap (λ l. yielded ++ l) next ∙ sym (append_assoc yielded (event ∷ []) rest),
-      subst (λ (l : List Event). AllZip Says l new) (sym (map-append event_of yielded (event ∷ []))) (subst (AllZip Says (map event_of yielded ++ event_of event ∷ [])) (sym pushed) more),
+      subst (λ (l : List SaidComponent). AllZip Says l new) (sym (map-append component_of yielded (event ∷ []))) (subst (AllZip Says (map component_of yielded ++ component_of event ∷ [])) (sym pushed) more),
     )
 
 -- ---- the names of a meeting
@@ -128,19 +128,19 @@ said_more Says all yielded left rest event items new component whole next said o
 -- the master's
 pub master_stamp : (components : MeetingComponents) → IsOfMessage (meeting_of components) → (e : EventComponent) → components.master ≡ Some e → IsSome e.stamp
 master_stamp components m e is =
-    let master : option_map event_of components.master ≡ Some (event_of e) = ap (option_map event_of) is in
-    let first : Contains (events_of (meeting_of components)) (event_of e) = subst (λ (o : Option Event). Contains (option_to_list o ++ map event_of components.overrides.items) (event_of e)) (sym master) (0, omega arith, refl) in
-    some_itself e.stamp (All-contains (λ (x : Event). is_some x.stamp ≡ true) (events_of (meeting_of components)) (event_of e) m.stamped first)
+    let master : option_map component_of components.master ≡ Some (component_of e) = ap (option_map component_of) is in
+    let first : Contains (components_of (meeting_of components)) (component_of e) = subst (λ (o : Option SaidComponent). Contains (option_to_list o ++ map component_of components.overrides.items) (component_of e)) (sym master) (0, omega arith, refl) in
+    some_itself e.stamp (All-contains (λ (x : SaidComponent). is_some x.stamp ≡ true) (components_of (meeting_of components)) (component_of e) m.stamped first)
 
 -- one organiser, one UID
-module _ (meeting : Meeting) (m : IsOfMessage meeting) (a e : Event) (c : Contains (events_of meeting) a) (d : Contains (events_of meeting) e) where
+module _ (meeting : Event) (m : IsOfMessage meeting) (a e : SaidComponent) (c : Contains (components_of meeting) a) (d : Contains (components_of meeting) e) where
   organiser_there : (o p : Option (List ℕ)) (x : List ℕ) → o ≡ Some x → is_some p ≡ true → unwrap_or p [] ≡ unwrap_or o [] → p ≡ Some x
   organiser_there o None x h s e = absurd (true≢false (sym s))
   organiser_there o (Some y) x h s e = ap Some (e ∙ ap (λ z. unwrap_or z []) h)
 
   pub one_organiser : (x : List ℕ) → a.organiser ≡ Some x → e.organiser ≡ Some x
   one_organiser x h =
-      organiser_there a.organiser e.organiser x h (All-contains (λ (x : Event). is_some x.organiser ≡ true) (events_of meeting) e m.organised d)
+      organiser_there a.organiser e.organiser x h (All-contains (λ (x : SaidComponent). is_some x.organiser ≡ true) (components_of meeting) e m.organised d)
       (ap (λ (p : List ℕ × List ℕ). p.0) (m.one e a d c))
 
   pub one_uid : (x : List ℕ) → a.uid ≡ x → x ≡ e.uid
@@ -149,21 +149,21 @@ module _ (meeting : Meeting) (m : IsOfMessage meeting) (a e : Event) (c : Contai
 -- ---- parts
 
 -- a component names the room where its event does
-names_said : (room : List ℕ) (method : events.Method) (whole : Option revisions.Revision) (event : Event) (component : MessageComponent) → SaysComponent method whole event component → component_names room component ≡ names_room room event
+names_said : (room : List ℕ) (method : events.Method) (whole : Option revisions.Revision) (event : SaidComponent) (component : MessageComponent) → SaysComponent method whole event component → component_names room component ≡ names_room room event
 names_said room method whole event component s = ap (list_any (λ a. bytes_eq a.address room)) s.attendees
 
 module _ (room : List ℕ) (message : RoomMessage) (said : profile.Message) (same : method_said message.method ≡ said.method) (whole : Option revisions.Revision) where
-  abbrev Says : Event → MessageComponent → Type 0
+  abbrev Says : SaidComponent → MessageComponent → Type 0
   Says = SaysComponent said.method whole
 
   -- it addresses the room where that does
-  for_said : (event : Event) (component : MessageComponent) → Says event component → is_for room message component ≡ profile.is_for room said.method event
+  for_said : (event : SaidComponent) (component : MessageComponent) → Says event component → is_component_for room message component ≡ profile.is_for room said.method event
   for_said event component s =
       ap₂ (λ a b. a || b) (names_said room said.method whole event component s)
       (ap₂ (λ m n. is_cancel m && n) same (ap (λ l. eqb (length l) 0) s.attendees))
 
   -- and is a part where that is
-  part_is : (event : Event) (component : MessageComponent) → Says event component → has_part room message component ≡ is_part_for room said.method event
+  part_is : (event : SaidComponent) (component : MessageComponent) → Says event component → has_part room message component ≡ is_part_for room said.method event
   part_is event component s = by_method message.method same
     where
       by_method : (m : Method) → method_said m ≡ said.method → is_part_of m (component_names room component || eqb (length component.attendees) 0) ≡ is_part_for room said.method event
@@ -172,13 +172,13 @@ module _ (room : List ℕ) (message : RoomMessage) (said : profile.Message) (sam
       by_method Cancel e =
           ap₂ (λ a b. a || b) (names_said room said.method whole event component s) (ap (λ l. eqb (length l) 0) s.attendees) ∙ ap (λ k. is_part_for room k event) e
 
-  any_said : (events : List Event) (components : List MessageComponent) → AllZip Says events components → list_any (is_for room message) components ≡ list_any (profile.is_for room said.method) events
+  any_said : (events : List SaidComponent) (components : List MessageComponent) → AllZip Says events components → list_any (is_component_for room message) components ≡ list_any (profile.is_for room said.method) events
   any_said [] [] z = refl
   any_said [] (c ∷ cs) z = absurd z
   any_said (e ∷ es) [] z = absurd z
   any_said (e ∷ es) (c ∷ cs) z = ap₂ (λ a b. a || b) (for_said e c z.0) (any_said es cs z.1)
 
-  kept_zip : (events : List Event) (components : List MessageComponent) → AllZip Says events components
+  kept_zip : (events : List SaidComponent) (components : List MessageComponent) → AllZip Says events components
       → AllZip Says (filter (is_part_for room said.method) events) (filter (has_part room message) components)
   kept_zip [] [] z = tt
   kept_zip [] (c ∷ cs) z = absurd z
@@ -194,7 +194,7 @@ module _ (room : List ℕ) (message : RoomMessage) (said : profile.Message) (sam
       one_kept false false h r rest = rest
 
 -- the part that a component is
-body_said : (room : List ℕ) (method : events.Method) (event : Event) (content : Content) (octets : List ℕ) (b n : Bool) → cancels method event ≡ b → names_room room event ≡ n → IsContent content event → octets ≡ canonical content
+body_said : (room : List ℕ) (method : events.Method) (event : SaidComponent) (content : Content) (octets : List ℕ) (b n : Bool) → cancels method event ≡ b → names_room room event ≡ n → IsContent content event → octets ≡ canonical content
     → IsBody room method event (cond b no_content (cond n content no_content)) (cond b revisions.Cancelled (cond n (revisions.Set octets) revisions.Absent))
 body_said room method event content octets true n h k when is = (h, refl)
 body_said room method event content octets false true h k when is = (h, k, when, is)
@@ -204,18 +204,18 @@ module _ (room : List ℕ) (message : RoomMessage) (said : profile.Message) (s :
   abbrev whole_of : Option revisions.Revision
   whole_of = option_map own_revision said.meeting.master
 
-  abbrev IsPartOf : Event → revisions.Part → Type 0
+  abbrev IsPartOf : SaidComponent → revisions.Part → Type 0
   IsPartOf event part = (content : Content) × IsPart room said event content part
 
-  abbrev content_of : (event : Event) (component : MessageComponent) → SaysComponent said.method whole_of event component → Content
+  abbrev content_of : (event : SaidComponent) (component : MessageComponent) → SaysComponent said.method whole_of event component → Content
   content_of event component says = cond (cancels said.method event) no_content (cond (names_room room event) says.canonical.content no_content)
 
-  pub body_is : (event : Event) (component : MessageComponent) (says : SaysComponent said.method whole_of event component)
+  pub body_is : (event : SaidComponent) (component : MessageComponent) (says : SaysComponent said.method whole_of event component)
       → (part_for room message component).body ≡ cond (cancels said.method event) revisions.Cancelled (cond (names_room room event) (revisions.Set (canonical says.canonical.content)) revisions.Absent)
   body_is event component says =
       (λ i. cond (says.cancelled i) revisions.Cancelled (cond (names_said room said.method whole_of event component says i) (revisions.Set (says.canonical.is i)) revisions.Absent))
 
-  pub part_said : (event : Event) (component : MessageComponent) → Contains (events_of said.meeting) event → (says : SaysComponent said.method whole_of event component)
+  pub part_said : (event : SaidComponent) (component : MessageComponent) → Contains (components_of said.meeting) event → (says : SaysComponent said.method whole_of event component)
       → IsPart room said event (content_of event component says) (part_for room message component)
   part_said event component c says = record {
     organiser = s.organiser event c;
@@ -226,7 +226,7 @@ module _ (room : List ℕ) (message : RoomMessage) (said : profile.Message) (s :
         (body_said room said.method event says.canonical.content (canonical says.canonical.content) (cancels said.method event) (names_room room event) refl refl says.canonical.when refl);
   }
 
-  parts_zip : (events : List Event) (components : List MessageComponent) → ((e : Event) → Contains events e → Contains (events_of said.meeting) e) → AllZip (SaysComponent said.method whole_of) events components
+  parts_zip : (events : List SaidComponent) (components : List MessageComponent) → ((e : SaidComponent) → Contains events e → Contains (components_of said.meeting) e) → AllZip (SaysComponent said.method whole_of) events components
       → AllZip IsPartOf events (map (part_for room message) components)
   parts_zip [] [] f z = tt
   parts_zip [] (c ∷ cs) f z = absurd z
@@ -234,7 +234,7 @@ module _ (room : List ℕ) (message : RoomMessage) (said : profile.Message) (s :
   parts_zip (e ∷ es) (c ∷ cs) f z =
       ((content_of e c z.0, part_said e c (f e (zero, omega arith, refl)) z.0), parts_zip es cs (λ x k. f x (suc k.0, omega (arith, k.1), k.2)) z.1)
 
-  any_same : (p : Event → Bool) (xs ys : List Event) → ((e : Event) → Contains xs e ↔ Contains ys e) → list_any p xs ≡ list_any p ys
+  any_same : (p : SaidComponent → Bool) (xs ys : List SaidComponent) → ((e : SaidComponent) → Contains xs e ↔ Contains ys e) → list_any p xs ≡ list_any p ys
   any_same p xs ys h = go (list_any p xs) (list_any p ys) refl refl
     where
       go : (a b : Bool) → list_any p xs ≡ a → list_any p ys ≡ b → a ≡ b
@@ -245,37 +245,37 @@ module _ (room : List ℕ) (message : RoomMessage) (said : profile.Message) (s :
           let found = any_at p ys f in absurd (true≢false (sym (any_from p xs found.0 ((h found.0).1 found.1) found.2) ∙ e))
       go false false e f = refl
 
-  pub addressed : list_any (is_for room message) message.components.items ≡ is_addressed room said
+  pub addressed : list_any (is_component_for room message) message.components.items ≡ is_addressed room said
   addressed =
       any_said room message said s.method whole_of s.events message.components.items s.each
-      ∙ any_same (profile.is_for room said.method) s.events (events_of said.meeting) s.by_slot.exact
+      ∙ any_same (profile.is_for room said.method) s.events (components_of said.meeting) s.by_slot.exact
 
   -- the events that are parts, by their slots, and the components that say them
   pub kept_said : is_addressed room said ≡ true → AreBySlot (parts_for room said) (filter (is_part_for room said.method) s.events)
   kept_said h =
-      subst (λ (l : List Event). AreBySlot l (filter (is_part_for room said.method) s.events)) (sym (ap (λ b. cond b (filter (is_part_for room said.method) (events_of said.meeting)) []) h))
-      (kept_by_slot (is_part_for room said.method) (events_of said.meeting) s.events s.by_slot)
+      subst (λ (l : List SaidComponent). AreBySlot l (filter (is_part_for room said.method) s.events)) (sym (ap (λ b. cond b (filter (is_part_for room said.method) (components_of said.meeting)) []) h))
+      (kept_by_slot (is_part_for room said.method) (components_of said.meeting) s.events s.by_slot)
 
   pub kept_components : AllZip (SaysComponent said.method whole_of) (filter (is_part_for room said.method) s.events) (filter (has_part room message) message.components.items)
   kept_components = kept_zip room message said s.method whole_of s.events message.components.items s.each
 
-  pub kept_among : (e : Event) → Contains (filter (is_part_for room said.method) s.events) e → Contains (events_of said.meeting) e
+  pub kept_among : (e : SaidComponent) → Contains (filter (is_part_for room said.method) s.events) e → Contains (components_of said.meeting) e
   kept_among e c = (s.by_slot.exact e).0 (of_filtered (is_part_for room said.method) s.events e c).0
 
   -- not addressed: no parts
   pub no_events : is_addressed room said ≡ false → AreBySlot (parts_for room said) []
   no_events h =
-      subst (λ (l : List Event). AreBySlot l []) (sym (ap (λ b. cond b (filter (is_part_for room said.method) (events_of said.meeting)) []) h))
+      subst (λ (l : List SaidComponent). AreBySlot l []) (sym (ap (λ b. cond b (filter (is_part_for room said.method) (components_of said.meeting)) []) h))
       (record { exact = λ e. ((λ c. c), λ c. c); order = λ i j d l w. absurd (omega (arith, l, w)) })
 
-  pub no_parts : (parts : List revisions.Part) (b : Bool) → b ≡ list_any (is_for room message) message.components.items → b ≡ false → parts ≡ [] → AreParts room said parts
+  pub no_parts : (parts : List revisions.Part) (b : Bool) → b ≡ list_any (is_component_for room message) message.components.items → b ≡ false → parts ≡ [] → AreParts room said parts
   no_parts parts b is off none = record {
     events = [];
     are = no_events (sym addressed ∙ sym is ∙ off);
     each = subst (λ (ps : List revisions.Part). AllZip IsPartOf [] ps) (sym none) tt;
   }
 
-  pub all_parts : (parts : List revisions.Part) (b : Bool) → b ≡ list_any (is_for room message) message.components.items → b ≡ true
+  pub all_parts : (parts : List revisions.Part) (b : Bool) → b ≡ list_any (is_component_for room message) message.components.items → b ≡ true
       → parts ≡ map (part_for room message) (filter (has_part room message) message.components.items) → AreParts room said parts
   all_parts parts b is on are = record {
     events = filter (is_part_for room said.method) s.events;
@@ -287,7 +287,7 @@ module _ (room : List ℕ) (message : RoomMessage) (said : profile.Message) (s :
 -- ---- series
 
 -- what has a series is the whole meeting
-pub series_of_whole : (method : events.Method) (whole : Option revisions.Revision) (event : Event) (component : MessageComponent) → SaysComponent method whole event component
+pub series_of_whole : (method : events.Method) (whole : Option revisions.Revision) (event : SaidComponent) (component : MessageComponent) → SaysComponent method whole event component
     → (series : Series) → component.series ≡ Some series → slot_of component.slot ≡ revisions.Whole
 series_of_whole method whole event component s series is =
     let of : IsSeriesOf event (series_said series) = subst (λ (o : Option Series). MatchOption o (has_series event ≡ false) (λ x. IsSeriesOf event (series_said x))) is s.series in

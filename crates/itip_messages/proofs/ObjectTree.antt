@@ -6,7 +6,7 @@ use Rattle.std.proofs.lemmas.Bool.{and_parts}
 use Rattle.ical_tree.proofs.TreeOfLemmas.{BodyT}
 use Rattle.ical_tree.proofs.PropertyLemmas.{own_body}
 use Rattle.profile.specs.text.Lines.{is_same_name}
-use Rattle.profile.specs.text.Trees.{Tree, Trees, tree, none, more, trees_list, tree_name, tree_own, tree_inside, vevents}
+use Rattle.profile.specs.text.Trees.{Tree, Trees, tree, none, more, trees_list, tree_name, tree_own, vevents}
 use Rattle.profile.specs.text.Objects.{is_property, has_version, Opens, Closes, IsObject}
 use Rattle.profile.specs.text.Objects.SpellsBody.{component}
 use Rattle.profile.specs.rooms.Messages.{method_lines, object_lines}
@@ -67,7 +67,7 @@ own_version None = refl
 own_version (Some name) = refl
 
 -- the whole object
-pub object_spelled : (method : Option (List ℕ)) (owns : List Lines) → list_all (list_all is_property) owns ≡ true → IsObject tree_name tree_own tree_inside false (calendar_tree method owns) (object_lines method (flat_map vevent_lines owns))
+pub object_spelled : (method : Option (List ℕ)) (owns : List Lines) → list_all (list_all is_property) owns ≡ true → IsObject false (calendar_tree method owns) (object_lines method (flat_map vevent_lines owns))
 object_spelled method owns h = record {
   spelled = record {
     begin = codes "BEGIN:VCALENDAR";

@@ -10,10 +10,10 @@ use Rattle.ical_lines.proofs.ContentLemmas.{read_fine}
 use Rattle.ical_tree.proofs.OneLine.{at_one}
 use Rattle.profile.specs.text.Lines.{logical_lines, reads_as_lines, line_value, is_same_name}
 use Rattle.profile.specs.text.Objects.{IsObject}
-use Rattle.profile.specs.text.Trees.{Tree, tree_name, tree_own, tree_inside, vevents}
-use Rattle.profile.specs.events.Events.{Method, Request, Add, Cancel, NamesWord, Event, SaysEvent, meeting_said}
+use Rattle.profile.specs.text.Trees.{Tree, tree_own, vevents}
+use Rattle.profile.specs.events.EventComponents.{Method, Request, Add, Cancel, NamesWord, EventComponent, SaysEventComponent, meeting_said}
 use Rattle.profile.specs.events.Properties.{IsMissing}
-use Rattle.profile.specs.events.Meetings.{SaysMeeting, MeetingFault, taken_by, is_master, is_override}
+use Rattle.profile.specs.events.Events.{SaysEvent, EventFault, taken_by, is_master, is_override}
 use Rattle.profile.specs.organisers.Objects.{Operation, Store, Reply, Refresh, NamesOperation, read_as, has_one_attendee, OrganiserObject, SaysOrganiserObject, in_meeting, not_one}
 use Rattle.profile.specs.rooms.Messages as messages
 use Rattle.profile.specs.rooms.Messages.{Message, method_word, NamesMethod, SaysMessage, MethodFault, two_methods, bad_method, MessageFault, in_method, for_organiser, is_method}
@@ -29,8 +29,8 @@ abbrev Lines : Type 0
 Lines = List (List ℕ)
 
 -- its VEVENTs say one list of events
-one_list : OneEvent → (object : Tree) (m : Option Method) (xs ys : List Event) → AllZip (SaysEvent object m) (vevents object) xs → AllZip (SaysEvent object m) (vevents object) ys → xs ≡ ys
-one_list one object m xs ys h k = zip_one (SaysEvent object m) (λ lines a b s t. one object m lines a b s t) (vevents object) xs ys h k
+one_list : OneEvent → (object : Tree) (m : Option Method) (xs ys : List EventComponent) → AllZip (SaysEventComponent object m) (vevents object) xs → AllZip (SaysEventComponent object m) (vevents object) ys → xs ≡ ys
+one_list one object m xs ys h k = zip_one (SaysEventComponent object m) (λ lines a b s t. one object m lines a b s t) (vevents object) xs ys h k
 
 -- ---- METHOD
 
@@ -113,21 +113,21 @@ no_operation_fault own Refresh n = is_taken (codes "REFRESH") (λ x e. rw e refl
 one_message : OneEvent → (object : Tree) (a b : Message) → SaysMessage object a → SaysMessage object b → a ≡ b
 one_message one object a b s t =
     let method = same_method (tree_own object) a.method b.method s.method t.method in
-    let meeting = one_meeting one object (Some b.method) a.meeting b.meeting (subst (λ (m : Method). SaysMeeting object (Some m) a.meeting) method s.says) t.says in
+    let meeting = one_meeting one object (Some b.method) a.meeting b.meeting (subst (λ (m : Method). SaysEvent object (Some m) a.meeting) method s.says) t.says in
     λ i. record { method = method i; meeting = meeting i }
 
 no_message_fault : OneEvent → NoFault → (object : Tree) (a : Message) (n : ℕ) → SaysMessage object a → MessageFault object n → ⊥
 no_message_fault one sound object a n s (in_method h) = no_method_fault (tree_own object) a.method n s.method h
 no_message_fault one sound object a n s (messages.in_meeting method named h) =
     let same = same_method (tree_own object) method a.method named s.method in
-    no_meeting_fault one sound object (Some a.method) a.meeting n s.says (subst (λ (m : Method). MeetingFault object (Some m) n) same h)
+    no_meeting_fault one sound object (Some a.method) a.meeting n s.says (subst (λ (m : Method). EventFault object (Some m) n) same h)
 no_message_fault one sound object a n s (for_organiser (in_meeting operation named h)) = apart (tree_own object) a.method operation s.method named
 no_message_fault one sound object a n s (for_organiser (not_one operation named speaks events says h)) = apart (tree_own object) a.method operation s.method named
 
 -- ---- what it says to an organiser
 
 -- of a list of one or none the element
-only : (events : List Event) → length events ≤ 1 → (one : Option Event) × (events ≡ option_to_list one)
+only : (events : List EventComponent) → length events ≤ 1 → (one : Option EventComponent) × (events ≡ option_to_list one)
 only [] h = (None, refl)
 only (e ∷ []) h = (Some e, refl)
 only (e ∷ f ∷ rest) h = absurd (omega (arith, h))
@@ -137,10 +137,10 @@ module _ (object : Tree) (a : OrganiserObject) (s : SaysOrganiserObject object a
   none : taken_by (Some (read_as a.operation)) a.events ≡ a.events
   none = none_added a.operation a.events
 
-  master : (one : Option Event) × (filter is_master a.events ≡ option_to_list one)
+  master : (one : Option EventComponent) × (filter is_master a.events ≡ option_to_list one)
   master = only (filter is_master a.events) s.are.masters
 
-  a_meeting : SaysMeeting object (Some (read_as a.operation)) (record { master = master.0; overrides = filter is_override a.events })
+  a_meeting : SaysEvent object (Some (read_as a.operation)) (record { master = master.0; overrides = filter is_override a.events })
   a_meeting = record {
     events = a.events;
     says = s.says;
@@ -152,18 +152,18 @@ module _ (object : Tree) (a : OrganiserObject) (s : SaysOrganiserObject object a
   }
 
 -- the first event has the names
-names_of : (a : OrganiserObject) (events : List Event) → a.events ≡ events → 0 < length events → ((e : Event) → Contains a.events e → meeting_said e ≡ (a.organiser, a.uid))
-    → (e : Event) × Contains events e × (meeting_said e ≡ (a.organiser, a.uid))
+names_of : (a : OrganiserObject) (events : List EventComponent) → a.events ≡ events → 0 < length events → ((e : EventComponent) → Contains a.events e → meeting_said e ≡ (a.organiser, a.uid))
+    → (e : EventComponent) × Contains events e × (meeting_said e ≡ (a.organiser, a.uid))
 names_of a [] is h of = absurd (omega (arith, h))
-names_of a (e ∷ rest) is h of = (e, (0, omega arith, refl), of e (subst (λ (l : List Event). Contains l e) (sym is) (0, omega arith, refl)))
+names_of a (e ∷ rest) is h of = (e, (0, omega arith, refl), of e (subst (λ (l : List EventComponent). Contains l e) (sym is) (0, omega arith, refl)))
 
 one_object : OneEvent → (object : Tree) (a b : OrganiserObject) → SaysOrganiserObject object a → SaysOrganiserObject object b → a ≡ b
 one_object one object a b s t =
     let operation = same_operation (tree_own object) a.operation b.operation s.operation t.operation in
-    let says = subst (λ (o : Operation). AllZip (SaysEvent object (Some (read_as o))) (vevents object) a.events) operation s.says in
+    let says = subst (λ (o : Operation). AllZip (SaysEventComponent object (Some (read_as o))) (vevents object) a.events) operation s.says in
     let events = one_list one object (Some (read_as b.operation)) a.events b.events says t.says in
     let first = names_of a a.events refl s.are.some s.are.of_it in
-    let names = sym first.2 ∙ t.are.of_it first.0 (subst (λ (l : List Event). Contains l first.0) events first.1) in
+    let names = sym first.2 ∙ t.are.of_it first.0 (subst (λ (l : List EventComponent). Contains l first.0) events first.1) in
     let organiser : a.organiser ≡ b.organiser = ap (λ p. p.0) names in
     let uid : a.uid ≡ b.uid = ap (λ p. p.1) names in
     λ i. record { operation = operation i; organiser = organiser i; uid = uid i; events = events i }
@@ -173,17 +173,17 @@ no_object_fault one sound object a n s (in_method h) = no_operation_fault (tree_
 no_object_fault one sound object a n s (messages.in_meeting method named h) = apart (tree_own object) method a.operation named s.operation
 no_object_fault one sound object a n s (for_organiser (in_meeting operation named h)) =
     let same = same_operation (tree_own object) operation a.operation named s.operation in
-    no_meeting_fault one sound object (Some (read_as a.operation)) _ n (a_meeting object a s) (subst (λ (o : Operation). MeetingFault object (Some (read_as o)) n) same h)
+    no_meeting_fault one sound object (Some (read_as a.operation)) _ n (a_meeting object a s) (subst (λ (o : Operation). EventFault object (Some (read_as o)) n) same h)
 no_object_fault one sound object a n s (for_organiser (not_one operation named speaks events says h)) =
     let same = same_operation (tree_own object) operation a.operation named s.operation in
-    let spoken = subst (λ (o : Operation). AllZip (SaysEvent object (Some (read_as o))) (vevents object) events) same says in
+    let spoken = subst (λ (o : Operation). AllZip (SaysEventComponent object (Some (read_as o))) (vevents object) events) same says in
     let these = one_list one object (Some (read_as a.operation)) a.events events s.says spoken in
     true≢false (sym (s.one_each (rw same at speaks)) ∙ ap (list_all has_one_attendee) these ∙ h)
 
 -- ---- octets
 
-one_tree : OneTree → (octets : List ℕ) (a b : Tree) → IsObject tree_name tree_own tree_inside true a (logical_lines octets)
-    → IsObject tree_name tree_own tree_inside true b (logical_lines octets) → a ≡ b
+one_tree : OneTree → (octets : List ℕ) (a b : Tree) → IsObject true a (logical_lines octets)
+    → IsObject true b (logical_lines octets) → a ≡ b
 one_tree tree octets a b s t = tree 7 7 (logical_lines octets) a b s.spelled t.spelled
 
 pub one_spelled : OneTree → OneEvent → (octets : List ℕ) (a b : Said) → Spells octets a → Spells octets b → a ≡ b
@@ -201,7 +201,7 @@ one_spelled tree one octets (ToOrganiser a) (ToOrganiser b) s t =
     ap ToOrganiser (one_object one t.tree a b (subst (λ (x : Tree). SaysOrganiserObject x a) same s.says) t.says)
 
 -- octets that are an object without a fault of a message have no fault
-none_in_text : OneTree → PairsUp → (octets : List ℕ) (t : Tree) (n : ℕ) → reads_as_lines true octets ≡ true → IsObject tree_name tree_own tree_inside true t (logical_lines octets)
+none_in_text : OneTree → PairsUp → (octets : List ℕ) (t : Tree) (n : ℕ) → reads_as_lines true octets ≡ true → IsObject true t (logical_lines octets)
     → (MessageFault t n → ⊥) → ObjectFault n octets → ⊥
 none_in_text tree pairs octets t n lines object free (inl h) = true≢false (sym h ∙ read_fine true octets n lines)
 none_in_text tree pairs octets t n lines object free (inr (inl h)) = pairs true t (logical_lines octets) n object h

@@ -8,13 +8,13 @@ use Rattle.std.proofs.Math.Bool.{and-false}
 use Rattle.profile.specs.text.Trees.{Tree}
 use Rattle.profile.specs.text.Values.{SpellsStamp, SpellsSequence, SpellsDuration, unescaped, IsAddress, IsUid, lower_case}
 use Rattle.profile.specs.rooms.Revisions.{Revision}
-use Rattle.profile.specs.events.Events.{Attendee, Event, IsAttendee, Request, SaysEvent, first_text, summary_of}
+use Rattle.profile.specs.events.EventComponents.{Attendee, EventComponent, IsAttendee, Request, SaysEventComponent, first_text, summary_of}
 use Rattle.itip_messages.proofs.SentTexts.{none_passes}
 use Rattle.profile.specs.events.Occurrences.{SaysStatus, IsListed, IsInside, entries_of, entries_named, most_entries}
 use Rattle.profile.specs.events.Properties.{is_of, lines_named, length_seconds, longest}
 use Rattle.profile.specs.events.ZonedTimes.{EventTimes, SaysEventTimes, IsInDates, clock_of}
 use Rattle.profile.specs.rooms.Messages.{WritesTimes}
-use Rattle.profile.specs.series.Rules.{Parts, RuleText}
+use Rattle.profile.specs.series.Rules.{Rule, RuleText}
 use Rattle.profile.specs.series.RuleTexts.{SpellsRule}
 use Rattle.profile.specs.series.Zones.{Means, Zone}
 use Rattle.profile.specs.events.EventRules.{GivesBeside, GivesRule, SaysEventRule}
@@ -44,7 +44,7 @@ abbrev pub own_lines : (recurrence : Option (List ℕ)) (uid sequence stamp : Li
 own_lines recurrence uid sequence stamp when behind = own_front recurrence uid sequence stamp ++ when ++ behind
 
 -- the event that is said of an event, in this revision, with its instants ascending; in UTC the local time is the instant
-abbrev pub event_again : Event → Option ℤ → List ℕ → Revision → Option Parts → List ℤ → List ℤ → Bool → List ℕ → List Attendee → Event
+abbrev pub event_again : EventComponent → Option ℤ → List ℕ → Revision → Option Rule → List ℤ → List ℤ → Bool → List ℕ → List Attendee → EventComponent
 event_again event recurrence organiser revision rule additions exceptions cancelled summary attendees = record event {
   organiser = Some organiser;
   stamp = Some revision.stamp;
@@ -94,13 +94,13 @@ IsAlone None rules additions = Unit {0}
 IsAlone (Some t) rules additions = (rules ≡ []) × (additions ≡ [])
 
 -- the lines are one RRULE that gives this rule to a start at that local time, or none where there is no rule
-abbrev pub SpellRule : Zone → ℤ → Lines → Option Parts → Type 0
+abbrev pub SpellRule : Zone → ℤ → Lines → Option Rule → Type 0
 SpellRule clock local rules None = rules ≡ []
 SpellRule clock local rules (Some back) =
     (value : List ℕ) × (rules ≡ (codes "RRULE:" ++ value) ∷ []) × (list_all is_shown value ≡ true) × ((text : RuleText) × SpellsRule value text × GivesRule clock local text back)
 
 -- when it is
-pub record SpellWhen (name : List ℕ) (event : Event) (slot : Option ℤ) (start duration : List ℕ) (rules additions exceptions : Lines) (back : Option Parts) (added taken : List ℤ) : Type 0 where
+pub record SpellWhen (name : List ℕ) (event : EventComponent) (slot : Option ℤ) (start duration : List ℕ) (rules additions exceptions : Lines) (back : Option Rule) (added taken : List ℤ) : Type 0 where
   pub starts : StartsAs name event.times.zone event.times start
   pub plain : IsPlainFor name event.times.zone
   pub means : Means (clock_of event.times.zone) (local_written event.times.zone event.times) event.times.start
@@ -117,7 +117,7 @@ pub record SpellWhen (name : List ℕ) (event : Event) (slot : Option ℤ) (star
 
 -- ---- what is named in the lines
 
-module _ (name : List ℕ) (event : Event) (slot : Option ℤ) (start duration : List ℕ) (rules additions exceptions : Lines) (back : Option Parts) (added taken : List ℤ)
+module _ (name : List ℕ) (event : EventComponent) (slot : Option ℤ) (start duration : List ℕ) (rules additions exceptions : Lines) (back : Option Rule) (added taken : List ℤ)
     (w : SpellWhen name event slot start duration rules additions exceptions back added taken) (front back_lines : Lines) where
   abbrev whole : Lines
   whole = front ++ when_lines start duration rules additions exceptions ++ back_lines
@@ -132,14 +132,14 @@ module _ (name : List ℕ) (event : Event) (slot : Option ℤ) (start duration :
   rules_unnamed : (other : List ℕ) → ((v : List ℕ) → is_of other (codes "RRULE:" ++ v) ≡ false) → lines_named other rules ≡ []
   rules_unnamed other u = go back w.recurs
     where
-      go : (b : Option Parts) → SpellRule (clock_of event.times.zone) (local_written event.times.zone event.times) rules b → lines_named other rules ≡ []
+      go : (b : Option Rule) → SpellRule (clock_of event.times.zone) (local_written event.times.zone event.times) rules b → lines_named other rules ≡ []
       go None none = ap (lines_named other) none
       go (Some b) (value, are, _, _) = ap (lines_named other) are ∙ ap (λ (t : Bool). cond t ((codes "RRULE:" ++ value) ∷ []) []) (u value)
 
   rules_same : lines_named (codes "RRULE") rules ≡ rules
   rules_same = go back w.recurs
     where
-      go : (b : Option Parts) → SpellRule (clock_of event.times.zone) (local_written event.times.zone event.times) rules b → lines_named (codes "RRULE") rules ≡ rules
+      go : (b : Option Rule) → SpellRule (clock_of event.times.zone) (local_written event.times.zone event.times) rules b → lines_named (codes "RRULE") rules ≡ rules
       go None none = ap (lines_named (codes "RRULE")) none ∙ sym none
       go (Some b) (value, are, _, _) = ap (lines_named (codes "RRULE")) are ∙ sym are
 
@@ -237,8 +237,8 @@ elsewhere_recurrence = record { status = refl; summary = λ v. refl; organiser =
 -- ---- what they say
 
 -- the lines whose names occur nowhere but in front, after, or as the duration
-module _ (name : List ℕ) (event : Event) (recurrence : Option (List ℕ)) (slot : Option ℤ) (revision : Revision) (uid sequence stamp start duration organiser : List ℕ) (behind : Lines) (is_cancelled : Bool) (about : List ℕ) (said : List Attendee)
-    (rules additions exceptions : Lines) (back : Option Parts) (added taken : List ℤ) (s : SpellPart event.uid revision uid sequence stamp organiser) (b : IsBehind behind organiser is_cancelled about said)
+module _ (name : List ℕ) (event : EventComponent) (recurrence : Option (List ℕ)) (slot : Option ℤ) (revision : Revision) (uid sequence stamp start duration organiser : List ℕ) (behind : Lines) (is_cancelled : Bool) (about : List ℕ) (said : List Attendee)
+    (rules additions exceptions : Lines) (back : Option Rule) (added taken : List ℤ) (s : SpellPart event.uid revision uid sequence stamp organiser) (b : IsBehind behind organiser is_cancelled about said)
     (w : SpellWhen name event slot start duration rules additions exceptions back added taken) where
   none_behind : (other : List ℕ) → IsElsewhere other → lines_named other behind ≡ []
   none_behind other e = b.elsewhere other e
@@ -305,7 +305,7 @@ module _ (name : List ℕ) (event : Event) (recurrence : Option (List ℕ)) (slo
           sym (start_once name event slot start duration rules additions exceptions back added taken w (own_front r uid sequence stamp) behind
           ∙ (λ i. (no_start i ++ start ∷ []) ++ none_behind (codes "DTSTART") elsewhere_start i))
 
-      go : (o : Option Parts) → SpellRule (clock_of event.times.zone) (local_written event.times.zone event.times) rules o → SaysEventRule (own r) times o
+      go : (o : Option Rule) → SpellRule (clock_of event.times.zone) (local_written event.times.zone event.times) rules o → SaysEventRule (own r) times o
       go None none = record {
         text = None;
         spells = record { line = None; once = rules_of r lacks ∙ none; present = λ h. absurd (false≢true h); is = tt };
@@ -318,10 +318,10 @@ module _ (name : List ℕ) (event : Event) (recurrence : Option (List ℕ)) (slo
       }
 
   pub own_says : SpellSlot recurrence slot → (object : Tree) → MeansZone object name event.times.zone
-      → SaysEvent object (Some Request) (own_lines recurrence uid sequence stamp (when_lines start duration rules additions exceptions) behind) (event_again event slot organiser revision back w.adds.ascending w.takes.ascending is_cancelled about said)
+      → SaysEventComponent object (Some Request) (own_lines recurrence uid sequence stamp (when_lines start duration rules additions exceptions) behind) (event_again event slot organiser revision back w.adds.ascending w.takes.ascending is_cancelled about said)
   own_says spells object m = go recurrence slot spells w.alone
     where
-      go : (r : Option (List ℕ)) (o : Option ℤ) → SpellSlot r o → IsAlone o rules additions → SaysEvent object (Some Request) (own r) (event_again event o organiser revision back w.adds.ascending w.takes.ascending is_cancelled about said)
+      go : (r : Option (List ℕ)) (o : Option ℤ) → SpellSlot r o → IsAlone o rules additions → SaysEventComponent object (Some Request) (own r) (event_again event o organiser revision back w.adds.ascending w.takes.ascending is_cancelled about said)
       go None (Some i) q a = absurd q
       go (Some text) None q a = absurd q
       go None None q a = record {
@@ -365,7 +365,7 @@ module _ (name : List ℕ) (event : Event) (recurrence : Option (List ℕ)) (slo
       }
 
 -- an object without METHOD needs no more than a REQUEST does
-pub as_event : (object : Tree) (lines : Lines) (event : Event) → SaysEvent object (Some Request) lines event → SaysEvent object None lines event
+pub as_event : (object : Tree) (lines : Lines) (event : EventComponent) → SaysEventComponent object (Some Request) lines event → SaysEventComponent object None lines event
 as_event object lines event s = record {
   uid = s.uid;
   organiser = record { line = s.organiser.line; once = s.organiser.once; present = λ h. s.organiser.present refl; is = s.organiser.is };

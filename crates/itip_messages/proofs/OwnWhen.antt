@@ -9,11 +9,11 @@ use Rattle.profile.specs.text.Lines.{is_content, line_param, line_value}
 use Rattle.profile.specs.text.Objects.{is_property}
 use Rattle.profile.specs.text.Trees.{Tree}
 use Rattle.profile.specs.text.Values.{WritesStamp, duration_text}
-use Rattle.profile.specs.events.Events.{Event, Method, Request, Add, Cancel, SaysEvent, adds_instances, may_lack_start}
-use Rattle.profile.specs.events.Occurrences.{Entry, IsInside, SaysOccurrences, entries_of, IsRecurrenceLine, entries_named, most_entries}
+use Rattle.profile.specs.events.EventComponents.{EventComponent, Method, Request, Add, Cancel, SaysEventComponent, adds_instances, may_lack_start}
+use Rattle.profile.specs.events.Occurrences.{ListedTime, IsInside, SaysOccurrences, entries_of, IsRecurrenceLine, entries_named, most_entries}
 use Rattle.profile.specs.events.Properties.{Says, BothOrNeither, is_of, lines_named, length_seconds, longest}
 use Rattle.profile.specs.events.ZonedTimes.{EventTimes, SaysEventTimes, SaysTimes, SpellsZoned, IsInDates, is_in_zone, clock_of}
-use Rattle.profile.specs.series.Rules.{Parts, RuleText}
+use Rattle.profile.specs.series.Rules.{Rule, RuleText}
 use Rattle.profile.specs.series.RuleTexts.{SpellsRule}
 use Rattle.profile.specs.events.EventRules.{GivesRule, SaysEventRule}
 use Rattle.profile.specs.rooms.Messages.{Content, IsContent, WritesRule, WritesTimes, cancels, is_in_dates, list_lines}
@@ -38,11 +38,11 @@ Lines = List (List ℕ)
 -- ---- what is known of an event that was said
 
 -- a text gives this rule to an event with these times, where there is one
-abbrev pub IsRuled : EventTimes → Option Parts → Type 0
+abbrev pub IsRuled : EventTimes → Option Rule → Type 0
 IsRuled times None = Unit {0}
 IsRuled times (Some rule) = (value : List ℕ) × (text : RuleText) × SpellsRule value text × GivesRule (clock_of times.zone) times.local text rule
 
-pub record EventFacts (event : Event) (added : Bool) : Type 0 where
+pub record EventFacts (event : EventComponent) (added : Bool) : Type 0 where
   pub local : local_written event.times.zone event.times ≡ event.times.local
   pub means : Means (clock_of event.times.zone) (local_written event.times.zone event.times) event.times.start
   pub dated : IsInDates (is_some event.times.zone) (local_written event.times.zone event.times) event.times.start
@@ -75,14 +75,14 @@ dated_written : (zone : Option Zone) (times : EventTimes) → Means (clock_of zo
 dated_written None times m d = (d.1, d.1, d.2)
 dated_written (Some z) times m d = d
 
-inside_each : (object : Tree) (entries : List Entry) (instants : List ℤ) → AllZip (IsInside object) entries instants → (i : ℤ) → Contains instants i → IsStart i
+inside_each : (object : Tree) (entries : List ListedTime) (instants : List ℤ) → AllZip (IsInside object) entries instants → (i : ℤ) → Contains instants i → IsStart i
 inside_each object [] [] z i c = absurd (omega (arith, c.1))
 inside_each object [] (j ∷ js) z i c = absurd z
 inside_each object (e ∷ es) [] z i c = absurd z
 inside_each object (e ∷ es) (j ∷ js) z i (zero, l, is) = subst IsStart is (z.0.4.1, z.0.4.2)
 inside_each object (e ∷ es) (j ∷ js) z i (suc k, l, is) = inside_each object es js z.1 i (k, omega (arith, l), is)
 
-none_entries : (R : Entry → ℤ → Type 0) (entries : List Entry) (instants : List ℤ) → AllZip R entries instants → entries ≡ [] → instants ≡ []
+none_entries : (R : ListedTime → ℤ → Type 0) (entries : List ListedTime) (instants : List ℤ) → AllZip R entries instants → entries ≡ [] → instants ≡ []
 none_entries R [] [] z e = refl
 none_entries R [] (i ∷ is) z e = absurd z
 none_entries R (x ∷ xs) is z e = cc
@@ -133,21 +133,21 @@ first_there {X = X} p q (x ∷ xs) h =
     let here = or_parts (p x) (q x) both.0 in
     ap (λ b. cond b (x ∷ filter p xs) (filter p xs)) here.0 ∙ first_there p q xs both.1
 
-no_rule_line : (added : Bool) (object : Tree) (lines : Lines) (times : EventTimes) (rule : Option Parts) (recurrence : Option ℤ) (additions exceptions : List ℤ) → SaysEventRule lines times rule
+no_rule_line : (added : Bool) (object : Tree) (lines : Lines) (times : EventTimes) (rule : Option Rule) (recurrence : Option ℤ) (additions exceptions : List ℤ) → SaysEventRule lines times rule
     → SaysOccurrences added object lines recurrence additions exceptions → (added || is_some recurrence) ≡ true → rule ≡ None
 no_rule_line added object lines times rule recurrence additions exceptions r s h =
     let there : (added || list_any (is_of (codes "RECURRENCE-ID")) lines) ≡ true = either_way added (is_some recurrence) (list_any (is_of (codes "RECURRENCE-ID")) lines) (recurrence_there object lines recurrence s.is) h in
     no_rule lines times rule r (first_there (is_of (codes "RRULE")) (is_of (codes "RDATE")) lines (and_second _ _ s.alone there))
 
-ruled : (lines : Lines) (times : EventTimes) (rule : Option Parts) → SaysEventRule lines times rule → IsRuled times rule
+ruled : (lines : Lines) (times : EventTimes) (rule : Option Rule) → SaysEventRule lines times rule → IsRuled times rule
 ruled lines times rule s = go rule refl
   where
-    go : (o : Option Parts) → rule ≡ o → IsRuled times o
+    go : (o : Option Rule) → rule ≡ o → IsRuled times o
     go None e = tt
     go (Some r) e = let found = rule_found lines times rule s r e in (line_value found.line, found.text, found.spelled, found.gives)
 
 -- an event that was said with its start
-pub said_facts : (added : Bool) (object : Tree) (lines : Lines) (event : Event) → SaysEventTimes object lines event.times → SaysEventRule lines event.times event.rule
+pub said_facts : (added : Bool) (object : Tree) (lines : Lines) (event : EventComponent) → SaysEventTimes object lines event.times → SaysEventRule lines event.times event.rule
     → SaysOccurrences added object lines event.recurrence event.additions event.exceptions → EventFacts event added
 said_facts added object lines event t r o =
     let zoned : is_in_zone t.line ≡ is_some event.times.zone = zone_there object (line_param (codes "TZID") t.line) (line_value t.line) event.times.zone event.times.local t.says.1 in
@@ -164,13 +164,13 @@ said_facts added object lines event t r o =
       recurs = ruled lines event.times event.rule r;
     }
 
-start_needed : (method : Method) (event : Event) → cancels method event ≡ false → may_lack_start (Some method) ≡ false
+start_needed : (method : Method) (event : EventComponent) → cancels method event ≡ false → may_lack_start (Some method) ≡ false
 start_needed Request event h = refl
 start_needed Add event h = refl
 start_needed Cancel event h = absurd (true≢false h)
 
 -- one of a message, that isn't cancelled
-pub event_facts : (object : Tree) (method : Method) (lines : Lines) (event : Event) → SaysEvent object (Some method) lines event → cancels method event ≡ false → EventFacts event (adds_instances (Some method))
+pub event_facts : (object : Tree) (method : Method) (lines : Lines) (event : EventComponent) → SaysEventComponent object (Some method) lines event → cancels method event ≡ false → EventFacts event (adds_instances (Some method))
 event_facts object method lines event s h = go s.times
   where
     go : SaysTimes (may_lack_start (Some method)) object lines event.times → EventFacts event (adds_instances (Some method))
@@ -178,7 +178,7 @@ event_facts object method lines event s h = go s.times
     go (inr lacks) = absurd (true≢false (sym lacks.0 ∙ start_needed method event h))
 
 -- and one of a store, where DTSTART is required
-pub stored_facts : (object : Tree) (lines : Lines) (event : Event) → SaysEvent object (Some Request) lines event → EventFacts event false
+pub stored_facts : (object : Tree) (lines : Lines) (event : EventComponent) → SaysEventComponent object (Some Request) lines event → EventFacts event false
 stored_facts object lines event s = go s.times
   where
     go : SaysTimes false object lines event.times → EventFacts event false
@@ -196,26 +196,26 @@ lists_none name [] ascending z e = refl
 lists_none name (t ∷ ts) [] z e = absurd z
 lists_none name (t ∷ ts) (a ∷ more) z e = cc
 
-abbrev pub duration_of : Event → List ℕ
+abbrev pub duration_of : EventComponent → List ℕ
 duration_of event = duration_text event.times.length.days event.times.length.seconds
 
-alone_lists : (slot : Option ℤ) (event : Event) (clock : Zone) (rules additions : Lines) → (is_some slot ≡ true → event.rule ≡ None) → WritesRule clock event.rule rules → (is_some slot ≡ true → event.additions ≡ [])
+alone_lists : (slot : Option ℤ) (event : EventComponent) (clock : Zone) (rules additions : Lines) → (is_some slot ≡ true → event.rule ≡ None) → WritesRule clock event.rule rules → (is_some slot ≡ true → event.additions ≡ [])
     → WritesTimes (codes "RDATE") event.additions additions → IsAlone slot rules additions
 alone_lists None event clock rules additions r u f w = tt
 alone_lists (Some i) event clock rules additions r u f w = (
-  subst (λ (o : Option Parts). WritesRule clock o rules) (r refl) u,
+  subst (λ (o : Option Rule). WritesRule clock o rules) (r refl) u,
   w.is ∙ lists_none (codes "RDATE") w.texts w.ascending w.each (ascending_none event.additions w.ascending (ascending_short event.additions w.ascending w.are) (f refl)),
 )
 
 -- ---- its rule, as it is written
 
-pub record WrittenRule (clock : Zone) (local : ℤ) (rule : Option Parts) (rules : Lines) : Type 0 where
-  pub back : Option Parts
+pub record WrittenRule (clock : Zone) (local : ℤ) (rule : Option Rule) (rules : Lines) : Type 0 where
+  pub back : Option Rule
   pub spells : SpellRule clock local rules back
   pub same : IsSameRule rule back
   pub writes : (other : Lines) → WritesRule clock rule other ↔ WritesRule clock back other
 
-pub written_rule : (times : EventTimes) (local : ℤ) → local ≡ times.local → IsOneMeaning (clock_of times.zone) → (rule : Option Parts) (rules : Lines) → IsRuled times rule → WritesRule (clock_of times.zone) rule rules
+pub written_rule : (times : EventTimes) (local : ℤ) → local ≡ times.local → IsOneMeaning (clock_of times.zone) → (rule : Option Rule) (rules : Lines) → IsRuled times rule → WritesRule (clock_of times.zone) rule rules
     → WrittenRule (clock_of times.zone) local rule rules
 written_rule times local e one None rules r w = record { back = None; spells = w; same = tt; writes = λ other. (λ h. h, λ h. h) }
 written_rule times local e one (Some rule) rules (value, text, spelled, gives) w =
@@ -224,7 +224,7 @@ written_rule times local e one (Some rule) rules (value, text, spelled, gives) w
     record { back = Some b.back; spells = (b.value, b.are, early_shown b.value b.early, (b.text, b.spelled, gives_local)); same = b.same; writes = b.writes }
 
 -- the lines of the content, under the zone's name, say when the event is
-pub when_of : (name : List ℕ) (content : Content) (event : Event) (c : IsContent content event) (n : AreNamed name content event c) → IsPlainFor name event.times.zone → (added : Bool) → EventFacts event added
+pub when_of : (name : List ℕ) (content : Content) (event : EventComponent) (c : IsContent content event) (n : AreNamed name content event c) → IsPlainFor name event.times.zone → (added : Bool) → EventFacts event added
     → (k : WrittenRule (clock_of event.times.zone) (local_written event.times.zone event.times) event.rule c.rule) → (slot : Option ℤ) → (is_some slot ≡ true → (added || is_some event.recurrence) ≡ true)
     → SpellWhen name event slot n.start (duration_of event) c.rule c.additions c.exceptions k.back event.additions (filter is_in_dates event.exceptions)
 when_of name content event c n plain added f k slot single = record {
@@ -260,7 +260,7 @@ duration_content v c = valued (codes "DURATION:") v (lt-ltb 8 (length (codes "DU
 rule_line : (v : List ℕ) → IsClean v → is_content (codes "RRULE:" ++ v) ≡ true
 rule_line v c = valued (codes "RRULE:") v (lt-ltb 5 (length (codes "RRULE:" ++ v)) (omega arith)) refl refl refl c
 
-pub duration_clean : (event : Event) → IsClean (duration_of event)
+pub duration_clean : (event : EventComponent) → IsClean (duration_of event)
 duration_clean event = clean_shown (duration_of event) (duration_passes is_shown shown_digits refl event.times.length.days event.times.length.seconds)
 
 -- the text of a RECURRENCE-ID, if there is one
@@ -279,12 +279,12 @@ front_properties (Some text) uid sequence stamp = refl
 three_pass : (p : List ℕ → Bool) (a b d : Lines) → list_all p a ≡ true → list_all p b ≡ true → list_all p d ≡ true → list_all p (a ++ b ++ d) ≡ true
 three_pass p a b d x y z = list_all-append p (a ++ b) d ∙ and_from _ _ (list_all-append p a b ∙ and_from _ _ x y) z
 
-module _ (name : List ℕ) (event : Event) (slot : Option ℤ) (start duration : List ℕ) (rules additions exceptions : Lines) (back : Option Parts) (added taken : List ℤ) (w : SpellWhen name event slot start duration rules additions exceptions back added taken) where
-  rules_content : (b : Option Parts) → SpellRule (clock_of event.times.zone) (local_written event.times.zone event.times) rules b → list_all is_content rules ≡ true
+module _ (name : List ℕ) (event : EventComponent) (slot : Option ℤ) (start duration : List ℕ) (rules additions exceptions : Lines) (back : Option Rule) (added taken : List ℤ) (w : SpellWhen name event slot start duration rules additions exceptions back added taken) where
+  rules_content : (b : Option Rule) → SpellRule (clock_of event.times.zone) (local_written event.times.zone event.times) rules b → list_all is_content rules ≡ true
   rules_content None none = ap (list_all is_content) none
   rules_content (Some b) (value, are, shown, _) = ap (list_all is_content) are ∙ and_from _ _ (rule_line value (clean_shown value shown)) refl
 
-  rules_properties : (b : Option Parts) → SpellRule (clock_of event.times.zone) (local_written event.times.zone event.times) rules b → list_all is_property rules ≡ true
+  rules_properties : (b : Option Rule) → SpellRule (clock_of event.times.zone) (local_written event.times.zone event.times) rules b → list_all is_property rules ≡ true
   rules_properties None none = ap (list_all is_property) none
   rules_properties (Some b) (value, are, _, _) = ap (list_all is_property) are
 

@@ -3,7 +3,7 @@ use Rattle.std.proofs.Common.{◌≡◌, ◌∙◌, ◌++◌, ◌∷◌, [], ℕ
 use Rattle.std.specs.List.{flat_map, Contains, AllZip}
 use Rattle.profile.specs.text.Lines.{logical_lines, reads_as_lines, written}
 use Rattle.profile.specs.text.Objects.{IsObject}
-use Rattle.profile.specs.text.Trees.{tree_name, tree_own, tree_inside}
+use Rattle.profile.specs.text.Trees.{tree_own}
 use Rattle.profile.specs.events.Properties.{lines_named}
 use Rattle.profile.specs.rooms.Messages.{object_lines}
 use Rattle.itip_messages.specs.ReadBack.{IsTextAddress, IsAnswer, IsVevent, ReadsAs}
@@ -21,7 +21,7 @@ object_reads back reads word events octets fine all named is =
     let content = object_content method all.owns fine all.content in
     let whole : octets ≡ written lines = is ∙ ap (λ l. written (object_lines method l)) all.are in
     let logical : logical_lines octets ≡ lines = ap logical_lines whole ∙ back lines content in
-    let P : Lines → Type 0 = IsObject tree_name tree_own tree_inside false (calendar_tree method all.owns) in
+    let P : Lines → Type 0 = IsObject false (calendar_tree method all.owns) in
     record {
       reads = ap (reads_as_lines false) whole ∙ reads lines content;
       lines = logical ∙ ap (object_lines method) (sym all.are);

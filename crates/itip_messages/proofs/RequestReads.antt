@@ -5,8 +5,8 @@ use Rattle.std.specs.List.{AllZip}
 use Rattle.std.proofs.lemmas.Bool.{and_from}
 use Rattle.profile.specs.text.Lines.{is_content, is_too_long}
 use Rattle.ical_lines.proofs.CleanLines.{IsClean, fixed, valued}
-use Rattle.profile.specs.events.Events.{Attendee, Event, NamesWord}
-use Rattle.profile.specs.events.Meetings.{events_of}
+use Rattle.profile.specs.events.EventComponents.{Attendee, EventComponent, NamesWord}
+use Rattle.profile.specs.events.Events.{components_of}
 use Rattle.profile.specs.organisers.Objects.{counted, OrganiserObject, SpellsOrganiserObject, Store}
 use Rattle.profile.specs.organisers.Sent.{IsAsked, IsRequest}
 use Rattle.profile.specs.rooms.Messages.{Content, IsContent, slot_of}
@@ -58,7 +58,7 @@ none_answered slot (a ∷ attendees) (s ∷ said) z = λ i. z.0 i ∷ none_answe
 -- ---- the parts
 
 module _ (revision : Revision) where
-  sent_alike : (event sent : Event) → IsSentAs revision event sent → IsAlike sent (revised revision event)
+  sent_alike : (event sent : EventComponent) → IsSentAs revision event sent → IsAlike sent (revised revision event)
   sent_alike event sent s = record {
     organiser = s.organiser;
     uid = s.uid;
@@ -69,10 +69,10 @@ module _ (revision : Revision) where
     content = λ content c. again event content ((s.content content).1 c);
   }
     where
-      again : (event : Event) (content : Content) → IsContent content event → IsContent content (revised revision event)
+      again : (event : EventComponent) (content : Content) → IsContent content event → IsContent content (revised revision event)
       again event content c = record { start = c.start; starts = c.starts; rule = c.rule; recurs = c.recurs; additions = c.additions; adds = c.adds; exceptions = c.exceptions; takes = c.takes; are = c.are; in_zone = c.in_zone }
 
-  alike_sent : (event sent : Event) → IsSentAs revision event sent → IsAlike (revised revision event) sent
+  alike_sent : (event sent : EventComponent) → IsSentAs revision event sent → IsAlike (revised revision event) sent
   alike_sent event sent s = record {
     organiser = sym s.organiser;
     uid = sym s.uid;
@@ -83,30 +83,30 @@ module _ (revision : Revision) where
     content = λ content c. (s.content content).0 (again event content c);
   }
     where
-      again : (event : Event) (content : Content) → IsContent content (revised revision event) → IsContent content event
+      again : (event : EventComponent) (content : Content) → IsContent content (revised revision event) → IsContent content event
       again event content c = record { start = c.start; starts = c.starts; rule = c.rule; recurs = c.recurs; additions = c.additions; adds = c.adds; exceptions = c.exceptions; takes = c.takes; are = c.are; in_zone = c.in_zone }
 
-  all_alike : (events sent : List Event) → AllZip (IsSentAs revision) events sent → AllZip IsAlike sent (map (revised revision) events)
+  all_alike : (events sent : List EventComponent) → AllZip (IsSentAs revision) events sent → AllZip IsAlike sent (map (revised revision) events)
   all_alike [] [] z = tt
   all_alike [] (s ∷ sent) z = absurd z
   all_alike (e ∷ events) [] z = absurd z
   all_alike (e ∷ events) (s ∷ sent) z = (sent_alike e s z.0, all_alike events sent z.1)
 
-  alike_all : (events sent : List Event) → AllZip (IsSentAs revision) events sent → AllZip IsAlike (map (revised revision) events) sent
+  alike_all : (events sent : List EventComponent) → AllZip (IsSentAs revision) events sent → AllZip IsAlike (map (revised revision) events) sent
   alike_all [] [] z = tt
   alike_all [] (s ∷ sent) z = absurd z
   alike_all (e ∷ events) [] z = absurd z
   alike_all (e ∷ events) (s ∷ sent) z = (alike_sent e s z.0, alike_all events sent z.1)
 
   -- each is of another instance
-  abbrev IsSameSlot : Event → Event → Type 0
+  abbrev IsSameSlot : EventComponent → EventComponent → Type 0
   IsSameSlot a b = a.recurrence ≡ b.recurrence
 
-  all_revised : (events : List Event) → AllZip IsSameSlot events (map (revised revision) events)
+  all_revised : (events : List EventComponent) → AllZip IsSameSlot events (map (revised revision) events)
   all_revised [] = tt
   all_revised (e ∷ events) = (refl, all_revised events)
 
-  apart_by : (R : Event → Event → Type 0) → ((a b : Event) → R a b → a.recurrence ≡ b.recurrence) → (organiser uid : List ℕ) (events others : List Event) → AreStored organiser uid events → AllZip R events others → AreApart (events_of (meeting_of others))
+  apart_by : (R : EventComponent → EventComponent → Type 0) → ((a b : EventComponent) → R a b → a.recurrence ≡ b.recurrence) → (organiser uid : List ℕ) (events others : List EventComponent) → AreStored organiser uid events → AllZip R events others → AreApart (components_of (meeting_of others))
   apart_by R slots organiser uid events others f z = apart others (masters_few R slots events others z f.masters) (overrides_differ R slots events others z f.differ)
 
 pub request_reads : LinesBack → ReadsLines → ZoneBack → (stored : List ℕ) (said : OrganiserObject) (revision : Revision) (octets : List ℕ) → SpellsOrganiserObject stored said → said.operation ≡ Store → revision.sequence < 2 ^ 31

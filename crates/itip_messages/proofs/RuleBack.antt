@@ -9,8 +9,8 @@ use Rattle.profile.specs.checker.Instances.{horizon}
 use Rattle.profile.specs.text.Lines.{line_value}
 use Rattle.profile.specs.text.Values.{SpellsDate, WritesStamp}
 use Rattle.profile.specs.series.Days.{days_before, year_of, year_start}
-use Rattle.profile.specs.series.Rules.{Parts, RuleText, Until, UntilDay, UntilLocal, UntilInstant, is_rule_day, rule_of, text_in}
-use Rattle.profile.specs.series.RuleTexts.{HandsIn, IsGiven, SaysOr, SpellsRule, SpellsUntil, as_written, rule_text, until_text, values_of}
+use Rattle.profile.specs.series.Rules.{Rule, RuleText, Until, UntilDay, UntilLocal, UntilInstant, is_rule_day, rule_of, text_in}
+use Rattle.profile.specs.series.RuleTexts.{HandsIn, IsGivenPart, SaysOr, SpellsRule, SpellsUntil, as_written, rule_text, until_text, values_of}
 use Rattle.profile.specs.series.Zones.{IsLastDay, IsOneMeaning, Means, Zone}
 use Rattle.profile.specs.events.Properties.{BothOrNeither, first_second}
 use Rattle.profile.specs.events.EventRules.{GivesRule, IsLastAllowed, SaysEventRule, as_end}
@@ -90,22 +90,22 @@ end_back clock second one (Some until) None last w a = absurd w
 -- ---- the rule
 
 -- the lines are one RRULE, of printable octets, and from this local time on these clocks it gives a rule of the same days
-pub record RuleBack (clock : Zone) (local : ℤ) (rule : Parts) (lines : List (List ℕ)) : Type 0 where
+pub record RuleBack (clock : Zone) (local : ℤ) (rule : Rule) (lines : List (List ℕ)) : Type 0 where
   pub value : List ℕ
   pub are : lines ≡ (codes "RRULE:" ++ value) ∷ []
   pub early : list_all is_early value ≡ true
   pub text : RuleText
   pub spelled : SpellsRule value text
-  pub back : Parts
+  pub back : Rule
   pub gives : GivesRule clock local text back
   pub same : (day : ℕ) → is_rule_day back day ≡ is_rule_day rule day
   -- and the same is written of both
   pub writes : (other : List (List ℕ)) → WritesRule clock (Some rule) other ↔ WritesRule clock (Some back) other
 
-pub rule_back : (clock : Zone) (local : ℤ) → IsOneMeaning clock → (value : List ℕ) (text : RuleText) (rule : Parts) (lines : List (List ℕ)) → SpellsRule value text → GivesRule clock local text rule → WritesRule clock (Some rule) lines
+pub rule_back : (clock : Zone) (local : ℤ) → IsOneMeaning clock → (value : List ℕ) (text : RuleText) (rule : Rule) (lines : List (List ℕ)) → SpellsRule value text → GivesRule clock local text rule → WritesRule clock (Some rule) lines
     → RuleBack clock local rule lines
 rule_back clock local one value text rule lines spelled g (end, told, e) =
-    let same_until : rule.until ≡ text.until = ap (λ (r : Parts). r.until) g.is in
+    let same_until : rule.until ≡ text.until = ap (λ (r : Rule). r.until) g.is in
     let same_text : text_in rule ≡ text = ap text_in g.is in
     let told_text : BothOrNeither (WritesEnd clock) text.until end = subst (λ (u : Option Until). BothOrNeither (WritesEnd clock) u end) same_until told in
     let b = end_back clock g.second one text.until end g.last told_text g.allowed in
@@ -113,7 +113,7 @@ rule_back clock local one value text rule lines spelled g (end, told, e) =
     λ e. ap (λ (t : RuleText). (codes "RRULE:" ++ rule_text t e) ∷ []) same_text ∙ ap (λ v. (codes "RRULE:" ++ v) ∷ []) (sym (text_twice text b.end e (b.same e))) in
     let allowed = is_allowed value text spelled.says spelled.together spelled.one_end in
     let back = rule_of (as_written text b.end) g.day g.last in
-    let same : (day : ℕ) → is_rule_day back day ≡ is_rule_day rule day = λ day. same_days text b.end g.day g.last day allowed ∙ ap (λ (r : Parts). is_rule_day r day) (sym g.is) in
+    let same : (day : ℕ) → is_rule_day back day ≡ is_rule_day rule day = λ day. same_days text b.end g.day g.last day allowed ∙ ap (λ (r : Rule). is_rule_day r day) (sym g.is) in
     record {
       value = rule_text text end;
       are = e ∙ ap (λ (t : RuleText). (codes "RRULE:" ++ rule_text t end) ∷ []) same_text;
@@ -141,7 +141,7 @@ date_high text number d =
     let is : number ≡ pos n -ℤ pos 719_528 = d.counted in
     omega (arith, ints, is, few)
 
-told : (values : List (List ℕ)) (until : Option Until) → SaysOr (IsGiven SpellsUntil) None values until → (end : Until) → until ≡ Some end → IsTold end
+told : (values : List (List ℕ)) (until : Option Until) → SaysOr (IsGivenPart SpellsUntil) None values until → (end : Until) → until ≡ Some end → IsTold end
 told [] None s end e = absurd (true≢false (ap (λ (o : Option Until). elim o [ None ↦ true | Some _ ↦ false ]) e))
 told [] (Some until) s end e = absurd (true≢false (ap (λ (o : Option Until). elim o [ None ↦ false | Some _ ↦ true ]) s))
 told (value ∷ []) None s end e = absurd s
@@ -153,7 +153,7 @@ told (value ∷ []) (Some until) s end e = subst IsTold (same_Some until end e) 
     one (UntilInstant instant) d = tt
 told (value ∷ other ∷ values) until s end e = absurd s
 
-pub rule_told : (lines : List (List ℕ)) (times : EventTimes) (rule : Option Parts) → SaysEventRule lines times rule → EndIsTold rule
+pub rule_told : (lines : List (List ℕ)) (times : EventTimes) (rule : Option Rule) → SaysEventRule lines times rule → EndIsTold rule
 rule_told lines times rule s said is end e =
     let found = rule_found lines times rule s said is in
-    told (values_of (codes "UNTIL=") (line_value found.line)) found.text.until found.spelled.says.until end (sym (ap (λ (p : Parts). p.until) found.gives.is) ∙ e)
+    told (values_of (codes "UNTIL=") (line_value found.line)) found.text.until found.spelled.says.until end (sym (ap (λ (p : Rule). p.until) found.gives.is) ∙ e)

@@ -5,7 +5,7 @@ use Rattle.std.specs.Fmt.{signed_decimal}
 use Rattle.std.specs.List.{list_any, range_with_len}
 use Rattle.std.specs.Ordering.{int_eq}
 use Rattle.profile.specs.series.Rules.{RuleText, Until, WeekdayNumber}
-use Rattle.profile.specs.series.RuleTexts.{as_written, count_text, entries_from, entry_text, frequency_word, is_same_entry, listed, months_from, nth_entry, nth_number, numbers_from, rule_text, until_text, weekday_word}
+use Rattle.profile.specs.series.RuleTexts.{as_written, count_text, entries_from, weekday_number_text, frequency_word, is_same_entry, listed, months_from, nth_entry, nth_number, numbers_from, rule_text, until_text, weekday_word}
 use Rattle.cal_events.proofs.InOneOrder.{in_filtered, of_filtered}
 use Rattle.cal_rules.proofs.InOrder.{entry_itself, entry_one, int_itself, int_one, kept, nat_one}
 use Rattle.cal_rules.proofs.Parted.{same_octet}
@@ -52,6 +52,6 @@ text_twice t end text e = λ i.
     ++ (if t.interval == 1 then [] else codes ";INTERVAL=" ++ decimal t.interval)
     ++ listed (codes ";BYMONTH=") (map decimal (months_twice t.months i))
     ++ listed (codes ";BYMONTHDAY=") (map signed_decimal (numbers_twice t.month_days i))
-    ++ listed (codes ";BYDAY=") (map entry_text (entries_twice t.weekdays i))
+    ++ listed (codes ";BYDAY=") (map weekday_number_text (entries_twice t.weekdays i))
     ++ listed (codes ";BYSETPOS=") (map signed_decimal (numbers_twice t.positions i))
     ++ (if t.week_start == 0 then [] else codes ";WKST=" ++ weekday_word t.week_start)

@@ -7,7 +7,7 @@ use Rattle.std.proofs.lemmas.List.Elements.{filter-append}
 use Rattle.profile.specs.text.Lines.{is_content, is_same_name, line_value}
 use Rattle.profile.specs.text.Objects.{is_property}
 use Rattle.profile.specs.text.Values.{escaped}
-use Rattle.profile.specs.events.Events.{Attendee, IsAttendee, first_text}
+use Rattle.profile.specs.events.EventComponents.{Attendee, IsAttendee, first_text}
 use Rattle.profile.specs.events.Properties.{is_of, lines_named}
 use Rattle.profile.specs.organisers.Sent.{status_lines}
 use Rattle.ical_lines.proofs.CleanLines.{IsClean, valued}

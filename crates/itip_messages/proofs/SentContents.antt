@@ -1,7 +1,7 @@
 -- An event that is said again has the same content.
 use Rattle.std.proofs.Common.{◌≡◌, ◌∙◌, sym, ap, subst, ℤ, List, ◌∷◌, ◌++◌, ℕ, codes, filter}
 use Rattle.std.specs.Prelude.{◌↔◌, Contains}
-use Rattle.profile.specs.events.Events.{Event}
+use Rattle.profile.specs.events.EventComponents.{EventComponent}
 use Rattle.profile.specs.events.Properties.{BothOrNeither}
 use Rattle.profile.specs.events.ZonedTimes.{EventTimes, clock_of}
 use Rattle.profile.specs.rooms.Messages.{AreAscending, Content, IsContent, IsZoneRest, StartsIn, WritesRule, WritesTimes, is_in_dates}
@@ -36,10 +36,10 @@ dates_same xs ys a i = (
   λ c. (a.exact i).0 (of_filtered is_in_dates ys i c).0,
 )
 
-abbrev WritesSame : Event → Event → Type 0
+abbrev WritesSame : EventComponent → EventComponent → Type 0
 WritesSame event other = (lines : Lines) → WritesRule (clock_of event.times.zone) event.rule lines → WritesRule (clock_of event.times.zone) other.rule lines
 
-one_way : (event other : Event) → event.times ≡ other.times → SameItems event.additions other.additions → SameItems (filter is_in_dates event.exceptions) (filter is_in_dates other.exceptions) → WritesSame event other
+one_way : (event other : EventComponent) → event.times ≡ other.times → SameItems event.additions other.additions → SameItems (filter is_in_dates event.exceptions) (filter is_in_dates other.exceptions) → WritesSame event other
     → (content : Content) → IsContent content event → IsContent content other
 one_way event other times adds takes rule content c = record {
   start = c.start;
@@ -54,7 +54,7 @@ one_way event other times adds takes rule content c = record {
   in_zone = subst (λ (t : EventTimes). BothOrNeither IsZoneRest t.zone content.zone) times c.in_zone;
 }
 
-pub same_content : (event sent : Event) → sent.times ≡ event.times → AreAscending event.additions sent.additions → AreAscending (filter is_in_dates event.exceptions) sent.exceptions
+pub same_content : (event sent : EventComponent) → sent.times ≡ event.times → AreAscending event.additions sent.additions → AreAscending (filter is_in_dates event.exceptions) sent.exceptions
     → ((lines : Lines) → WritesRule (clock_of event.times.zone) event.rule lines ↔ WritesRule (clock_of event.times.zone) sent.rule lines) → (content : Content) → IsContent content event ↔ IsContent content sent
 same_content event sent times adds takes rule content =
     let items = ascending_same event.additions sent.additions adds in

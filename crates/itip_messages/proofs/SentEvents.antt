@@ -3,13 +3,13 @@ use Rattle.std.proofs.Common.{◌≡◌, ◌∙◌, refl, sym, ap, subst, ℕ, �
 use Rattle.std.specs.Prelude.{Contains}
 use Rattle.std.specs.List.{AllZip}
 use Rattle.std.specs.Str.{bytes_eq}
-use Rattle.profile.specs.events.Events.{Attendee, Event, Request, SaysEvent}
+use Rattle.profile.specs.events.EventComponents.{Attendee, EventComponent, Request, SaysEventComponent}
 use Rattle.profile.specs.organisers.Objects.{counted}
 use Rattle.profile.specs.organisers.Sent.{Component, IsComponentOf, IsComponentText, status_lines}
 use Rattle.profile.specs.rooms.Messages.{Content, IsContent, TellsSlot, slot_named, slot_of}
 use Rattle.profile.specs.rooms.Revisions.{Revision, Slot}
 use Rattle.profile.specs.text.Values.{IsUid, escaped}
-use Rattle.cal_events.specs.Meetings.{IsNamed}
+use Rattle.cal_events.specs.Meetings.{IsInEventDates}
 use Rattle.cal_events.proofs.InOneOrder.{of_filtered}
 use Rattle.ical_lines.proofs.CleanLines.{clean_shown, shown_decimal}
 use Rattle.ical_values.proofs.Escapes.{read_back}
@@ -39,7 +39,7 @@ record SlotTold (recurrence : Option ℤ) (lines : Lines) : Type 0 where
   spells : SpellSlot text recurrence
   clean : IsCleanSlot text
 
-slot_told : (o : Option ℤ) (lines : Lines) → TellsSlot (slot_named o) lines → ((t : ℤ) → o ≡ Some t → IsNamed t) → SlotTold o lines
+slot_told : (o : Option ℤ) (lines : Lines) → TellsSlot (slot_named o) lines → ((t : ℤ) → o ≡ Some t → IsInEventDates t) → SlotTold o lines
 slot_told None lines e dated = record { text = None; are = e; spells = tt; clean = tt }
 slot_told (Some t) lines (text, w, e) dated = record {
   text = Some text;
@@ -74,16 +74,16 @@ counted_among (b ∷ more) a c = elim (in_cons b _ a c) [
 
 -- ---- one VEVENT
 
-pub record OneBack (word : Option (List ℕ)) (IsSuch : Slot → Attendee → Attendee → Type 0) (zones : List (List ℕ)) (revision : Revision) (event : Event) (lines : Lines) : Type 0 where
+pub record OneBack (word : Option (List ℕ)) (IsSuch : Slot → Attendee → Attendee → Type 0) (zones : List (List ℕ)) (revision : Revision) (event : EventComponent) (lines : Lines) : Type 0 where
   pub own : Lines
-  pub said : Event
+  pub said : EventComponent
   pub are : lines ≡ vevent_lines own
   pub good : AreOwn own
-  pub says : (all : List Lines) (k : IsZonedTree word zones all) → SaysEvent k.whole (Some Request) own said
+  pub says : (all : List Lines) (k : IsZonedTree word zones all) → SaysEventComponent k.whole (Some Request) own said
   pub is : IsSaidAgain IsSuch revision event said
 
 module _ (word : Option (List ℕ)) (IsLine : Slot → Attendee → List ℕ → Type 0) (IsSuch : Slot → Attendee → Attendee → Type 0) (back : ReadsLine IsLine IsSuch) (organiser uid : List ℕ) (revision : Revision) (small : revision.sequence < 2 ^ 31) (zones : List (List ℕ)) where
-  event_back : (event : Event) (content : Content) (lines : Lines) → IsStored organiser uid event → IsContent content event → IsComponentText organiser uid revision zones IsLine (event, content) lines → OneBack word IsSuch zones revision event lines
+  event_back : (event : EventComponent) (content : Content) (lines : Lines) → IsStored organiser uid event → IsContent content event → IsComponentText organiser uid revision zones IsLine (event, content) lines → OneBack word IsSuch zones revision event lines
   event_back event content lines f c t =
       let d = t.tells_revision in
       let told = slot_told event.recurrence t.slot t.tells_slot f.dated in
@@ -138,6 +138,6 @@ module _ (word : Option (List ℕ)) (IsLine : Slot → Attendee → List ℕ →
         };
       }
 
-  pub one_back : (event : Event) (component : Component) (lines : Lines) → IsStored organiser uid event → IsComponentOf event component → IsComponentText organiser uid revision zones IsLine component lines → OneBack word IsSuch zones revision event lines
+  pub one_back : (event : EventComponent) (component : Component) (lines : Lines) → IsStored organiser uid event → IsComponentOf event component → IsComponentText organiser uid revision zones IsLine component lines → OneBack word IsSuch zones revision event lines
   one_back event component lines f (same, c) t =
-      subst (λ (e : Event). OneBack word IsSuch zones revision e lines) same (event_back component.0 component.1 lines (subst (IsStored organiser uid) (sym same) f) (subst (IsContent component.1) (sym same) c) t)
+      subst (λ (e : EventComponent). OneBack word IsSuch zones revision e lines) same (event_back component.0 component.1 lines (subst (IsStored organiser uid) (sym same) f) (subst (IsContent component.1) (sym same) c) t)

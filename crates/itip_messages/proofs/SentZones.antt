@@ -5,7 +5,7 @@ use Rattle.std.specs.Option.{option_to_list}
 use Rattle.std.specs.List.{flat_map, AllZip}
 use Rattle.std.specs.Str.{bytes_eq}
 use Rattle.std.proofs.lemmas.List.Elements.{Contains-append_cases}
-use Rattle.profile.specs.events.Events.{Event}
+use Rattle.profile.specs.events.EventComponents.{EventComponent}
 use Rattle.profile.specs.events.Properties.{BothOrNeither}
 use Rattle.profile.specs.organisers.Sent.{Component, IsComponentOf, zones_of}
 use Rattle.profile.specs.rooms.Kept.{each_once}
@@ -33,10 +33,10 @@ in_content (Some zone) (Some rest) s w z c = elim (in_cons rest [] z c) [
   | inr there ↦ absurd (none_in_nil z there)
 ]
 
-of_one : (event : Event) (component : Component) → IsSaid event.times.zone → IsComponentOf event component → (z : List ℕ) → Contains (option_to_list component.1.zone) z → IsZone z
+of_one : (event : EventComponent) (component : Component) → IsSaid event.times.zone → IsComponentOf event component → (z : List ℕ) → Contains (option_to_list component.1.zone) z → IsZone z
 of_one event component said (same, c) z k = in_content event.times.zone component.1.zone said c.in_zone z k
 
-of_all : (events : List Event) (components : List Component) → ((event : Event) → Contains events event → IsSaid event.times.zone) → AllZip IsComponentOf events components
+of_all : (events : List EventComponent) (components : List Component) → ((event : EventComponent) → Contains events event → IsSaid event.times.zone) → AllZip IsComponentOf events components
     → (z : List ℕ) → Contains (flat_map (λ component. option_to_list component.1.zone) components) z → IsZone z
 of_all [] [] f a z c = absurd (none_in_nil z c)
 of_all [] (x ∷ components) f a z c = absurd a
@@ -46,5 +46,5 @@ of_all (e ∷ events) (x ∷ components) f a z c = elim (Contains-append_cases (
   | inr there ↦ of_all events components (λ y k. f y (in_tail e events y k)) a.1 z there
 ]
 
-pub sent_zones : (events : List Event) (components : List Component) → ((event : Event) → Contains events event → IsSaid event.times.zone) → AllZip IsComponentOf events components → (z : List ℕ) → Contains (zones_of components) z → IsZone z
+pub sent_zones : (events : List EventComponent) (components : List Component) → ((event : EventComponent) → Contains events event → IsSaid event.times.zone) → AllZip IsComponentOf events components → (z : List ℕ) → Contains (zones_of components) z → IsZone z
 sent_zones events components f a z c = of_all events components f a z (once_from (flat_map (λ component. option_to_list component.1.zone) components) z c)

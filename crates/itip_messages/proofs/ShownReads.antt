@@ -5,7 +5,7 @@ use Rattle.std.specs.Str.{bytes_eq}
 use Rattle.profile.specs.text.Lines.{is_content, is_too_long}
 use Rattle.profile.specs.text.Objects.{is_property}
 use Rattle.profile.specs.text.Trees.{Tree}
-use Rattle.profile.specs.events.Events.{Accepted, Attendee, Declined, Delegated, Event, IsAttendee, NeedsAction, Participation, Request, SaysEvent, Tentative}
+use Rattle.profile.specs.events.EventComponents.{Accepted, Attendee, Declined, Delegated, EventComponent, IsAttendee, NeedsAction, Participation, Request, SaysEventComponent, Tentative}
 use Rattle.profile.specs.events.Properties.{is_of}
 use Rattle.profile.specs.organisers.Objects.{OrganiserObject, SpellsOrganiserObject, Store}
 use Rattle.profile.specs.organisers.Organisers.{OrganiserBook, ShowsSeen, Stored, participation_word, scheduled_in, sent_status}
@@ -110,7 +110,7 @@ shown_reads_line organiser book stored slot attendee line s (answer, seen, e) =
 
 -- ---- an object without METHOD
 
-as_events : (object : Tree) (vs : List Lines) (events : List Event) → AllZip (SaysEvent object (Some Request)) vs events → AllZip (SaysEvent object None) vs events
+as_events : (object : Tree) (vs : List Lines) (events : List EventComponent) → AllZip (SaysEventComponent object (Some Request)) vs events → AllZip (SaysEventComponent object None) vs events
 as_events object [] [] z = tt
 as_events object [] (e ∷ events) z = absurd z
 as_events object (v ∷ vs) [] z = absurd z
@@ -119,7 +119,7 @@ as_events object (v ∷ vs) (e ∷ events) z = (as_event object v e z.0, as_even
 pub shown_reads : LinesBack → ReadsLines → ZoneBack → (read : List ℕ) (said : OrganiserObject) (book : OrganiserBook) (stored : Stored) (octets : List ℕ) → SpellsOrganiserObject read said → said.operation ≡ Store → stored.events ≡ said.events
     → stored.revision.sequence < 2 ^ 31 → IsMeetingText None said.organiser said.uid stored.revision (ShowsSeen said.organiser book stored) stored.events octets → is_too_long octets ≡ false → SpellsShown book stored octets
 shown_reads back reads zone_back read said book stored octets s store same small t short =
-    let f = subst (λ (events : List Event). AreStored said.organiser said.uid events) (sym same) (stored_events read said s store) in
+    let f = subst (λ (events : List EventComponent). AreStored said.organiser said.uid events) (sym same) (stored_events read said s store) in
     let b = written_back back reads zone_back None no_method (ShowsSeen said.organiser book stored) (HasAnswered book stored) (shown_reads_line said.organiser book stored) said.organiser said.uid stored.revision stored.events octets f small t short in
     record {
       shown = b.saids;

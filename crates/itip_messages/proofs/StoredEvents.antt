@@ -14,12 +14,12 @@ use Rattle.profile.specs.rooms.Revisions.{Revision}
 use Rattle.profile.specs.text.Values.{IsUid}
 use Rattle.profile.specs.series.Zones.{IsOneMeaning, Zone}
 use Rattle.profile.specs.series.ZoneTexts.{SaysZone}
-use Rattle.profile.specs.events.Events.{Attendee, Event, IsAttendee, Request, SaysEvent, first_text, meeting_said}
-use Rattle.profile.specs.events.Meetings.{InstancesDiffer, is_master, is_override}
+use Rattle.profile.specs.events.EventComponents.{Attendee, EventComponent, IsAttendee, Request, SaysEventComponent, first_text, meeting_said}
+use Rattle.profile.specs.events.Events.{InstancesDiffer, is_master, is_override}
 use Rattle.profile.specs.events.Properties.{BothOrNeither, IsAddressLine, IsUidLine, Says, OccursAtMostOnce, is_of, lines_named}
 use Rattle.profile.specs.events.ZonedTimes.{EventTimes, SaysTimes, SaysZoneOf, SpellsZoned, clock_of, zone_named}
 use Rattle.profile.specs.organisers.Objects.{Operation, OrganiserObject, SpellsOrganiserObject, Store, read_as}
-use Rattle.cal_events.specs.Meetings.{IsNamed}
+use Rattle.cal_events.specs.Meetings.{IsInEventDates}
 use Rattle.cal_events.proofs.OneInstance.{event_sound}
 use Rattle.cal_events.proofs.Zips.{zip_length}
 use Rattle.ical_lines.proofs.CleanLines.{IsClean}
@@ -35,7 +35,7 @@ use Rattle.itip_messages.proofs.OwnWhen.{EventFacts, stored_facts}
 use Rattle.itip_messages.proofs.ZonedStarts.{IsSaid}
 
 -- one of the events, of this meeting
-pub record IsStored (organiser uid : List ℕ) (event : Event) : Type 0 where
+pub record IsStored (organiser uid : List ℕ) (event : EventComponent) : Type 0 where
   pub organised : event.organiser ≡ Some organiser
   pub address : IsSentAddress organiser
   pub named : event.uid ≡ uid
@@ -45,12 +45,12 @@ pub record IsStored (organiser uid : List ℕ) (event : Event) : Type 0 where
   pub attendees : (attendee : Attendee) → Contains event.attendees attendee → IsSentAddress attendee.address
   pub facts : EventFacts event false
   pub meaning : IsOneMeaning (clock_of event.times.zone)
-  pub dated : (t : ℤ) → event.recurrence ≡ Some t → IsNamed t
+  pub dated : (t : ℤ) → event.recurrence ≡ Some t → IsInEventDates t
   pub zone : IsSaid event.times.zone
 
 -- all of them
-pub record AreStored (organiser uid : List ℕ) (events : List Event) : Type 0 where
-  pub each : (event : Event) → Contains events event → IsStored organiser uid event
+pub record AreStored (organiser uid : List ℕ) (events : List EventComponent) : Type 0 where
+  pub each : (event : EventComponent) → Contains events event → IsStored organiser uid event
   pub some : 0 < length events
   pub few : length events ≤ most_events
   pub masters : length (filter is_master events) ≤ 1
@@ -118,7 +118,7 @@ attendees_there (line ∷ named) (b ∷ more) z f a c = elim (in_cons b more a c
   | inr there ↦ attendees_there named more z.1 (λ l k. f l (in_tail line named l k)) a there
 ]
 
-stored_one : (object : Tree) (lines : Lines) (event : Event) (organiser uid : List ℕ) → AreCleanIn lines → SaysEvent object (Some Request) lines event → meeting_said event ≡ (organiser, uid) → IsStored organiser uid event
+stored_one : (object : Tree) (lines : Lines) (event : EventComponent) (organiser uid : List ℕ) → AreCleanIn lines → SaysEventComponent object (Some Request) lines event → meeting_said event ≡ (organiser, uid) → IsStored organiser uid event
 stored_one object lines event organiser uid clean s meeting =
     let o = organiser_there lines clean event.organiser s.organiser organiser (ap (λ (m : List ℕ × List ℕ). m.0) meeting) in
     let same : event.uid ≡ uid = ap (λ (m : List ℕ × List ℕ). m.1) meeting in
@@ -140,8 +140,8 @@ stored_one object lines event organiser uid clean s meeting =
 
 -- ---- all of them
 
-stored_from : (object : Tree) (vs : List Lines) (events : List Event) (organiser uid : List ℕ) → ((lines : Lines) → Contains vs lines → AreCleanIn lines) → AllZip (SaysEvent object (Some Request)) vs events
-    → ((event : Event) → Contains events event → meeting_said event ≡ (organiser, uid)) → (event : Event) → Contains events event → IsStored organiser uid event
+stored_from : (object : Tree) (vs : List Lines) (events : List EventComponent) (organiser uid : List ℕ) → ((lines : Lines) → Contains vs lines → AreCleanIn lines) → AllZip (SaysEventComponent object (Some Request)) vs events
+    → ((event : EventComponent) → Contains events event → meeting_said event ≡ (organiser, uid)) → (event : EventComponent) → Contains events event → IsStored organiser uid event
 stored_from object vs [] organiser uid clean z f event c = absurd (none_in_nil event c)
 stored_from object [] (e ∷ events) organiser uid clean z f event c = absurd z
 stored_from object (lines ∷ vs) (e ∷ events) organiser uid clean z f event c = elim (in_cons e events event c) [
@@ -158,10 +158,10 @@ at_most a b h = omega (arith, nat_le_from a b h)
 pub stored_events : (octets : List ℕ) (said : OrganiserObject) → SpellsOrganiserObject octets said → said.operation ≡ Store → AreStored said.organiser said.uid said.events
 stored_events octets said s store =
     let whole = s.tree in
-    let says : AllZip (SaysEvent whole (Some Request)) (vevents whole) said.events = subst (λ (o : Operation). AllZip (SaysEvent whole (Some (read_as o))) (vevents whole) said.events) store s.says.says in
+    let says : AllZip (SaysEventComponent whole (Some Request)) (vevents whole) said.events = subst (λ (o : Operation). AllZip (SaysEventComponent whole (Some (read_as o))) (vevents whole) said.events) store s.says.says in
     let inside = filter (λ part. is_same_name (tree_name part) (codes "VEVENT")) (tree_inside whole) in
     let count : length said.events ≡ count_by (λ part. is_same_name (tree_name part) (codes "VEVENT")) (tree_inside whole) =
-    sym (zip_length (SaysEvent whole (Some Request)) (vevents whole) said.events says) ∙ length-map inside tree_own ∙ length-filter (λ part. is_same_name (tree_name part) (codes "VEVENT")) (tree_inside whole) in
+    sym (zip_length (SaysEventComponent whole (Some Request)) (vevents whole) said.events says) ∙ length-map inside tree_own ∙ length-filter (λ part. is_same_name (tree_name part) (codes "VEVENT")) (tree_inside whole) in
     record {
       each =
           stored_from whole (vevents whole) said.events said.organiser said.uid
@@ -182,9 +182,9 @@ stored_name octets said revision s store small =
     let is = f.each one.0 one.1 in
     record { address = is.address; is_uid = is.is_uid; text = is.text; small = small }
   where
-    first_of : (events : List Event) → 0 < length events → (event : Event) × Contains events event
+    first_of : (events : List EventComponent) → 0 < length events → (event : EventComponent) × Contains events event
     first_of [] h = absurd (omega (arith, h))
     first_of (e ∷ events) h = (e, in_head e events)
 
-pub stored_attendee : (octets : List ℕ) (said : OrganiserObject) (event : Event) (attendee : Attendee) → SpellsOrganiserObject octets said → said.operation ≡ Store → Contains said.events event → Contains event.attendees attendee → IsSentAddress attendee.address
+pub stored_attendee : (octets : List ℕ) (said : OrganiserObject) (event : EventComponent) (attendee : Attendee) → SpellsOrganiserObject octets said → said.operation ≡ Store → Contains said.events event → Contains event.attendees attendee → IsSentAddress attendee.address
 stored_attendee octets said event attendee s store c k = ((stored_events octets said s store).each event c).attendees attendee k

@@ -14,7 +14,7 @@ use Rattle.std.proofs.lemmas.Map.Keys.{IsDistinct-from_apart}
 use Rattle.std.proofs.lemmas.Map.Made.{length-le_from_is_member, is_member-Decides}
 use Rattle.profile.specs.checker.Instances.{horizon}
 use Rattle.profile.specs.events.Properties.{first_second, is_of, lines_named, time_kind, DateTime}
-use Rattle.profile.specs.events.Occurrences.{Entry, entries_of, entries_named, is_period, IsListed, IsInside}
+use Rattle.profile.specs.events.Occurrences.{ListedTime, entries_of, entries_named, is_period, IsListed, IsInside}
 use Rattle.profile.specs.events.ZonedTimes.{SpellsZoned, SaysZonedText, is_in_zone, IsInDates}
 use Rattle.profile.specs.rooms.Messages.{AreAscending, WritesTimes, is_in_dates, list_lines}
 use Rattle.profile.specs.series.Zones.{Constant, Means}
@@ -137,7 +137,7 @@ texts_pass test t (x ∷ xs) (i ∷ is) z = and_from _ _ (stamp_passes test t x 
 -- ---- what they read back as
 
 -- the entries of the one line
-abbrev pub list_entries : List ℕ → Lines → List Entry
+abbrev pub list_entries : List ℕ → Lines → List ListedTime
 list_entries name texts = map (λ text. (list_line name texts, text)) texts
 
 -- the texts of the property's lines are those that were written
@@ -200,11 +200,11 @@ inside_on object name n v (x ∷ xs) (i ∷ is) z h =
 -- the texts list the instants that they write
 pub list_back : (object : Tree) (name : List ℕ) → IsListName name → (texts : Lines) (instants : List ℤ) → AllZip WritesStamp texts instants → AllZip (IsListed object name) (entries_named name (list_lines name texts)) instants
 list_back object name n texts instants z =
-    subst (λ (e : List Entry). AllZip (IsListed object name) e instants) (sym (entries_back name n texts instants z)) (listed_on object name n (list_value texts) texts instants z)
+    subst (λ (e : List ListedTime). AllZip (IsListed object name) e instants) (sym (entries_back name n texts instants z)) (listed_on object name n (list_value texts) texts instants z)
 
 pub list_inside : (object : Tree) (name : List ℕ) → IsListName name → (texts : Lines) (instants : List ℤ) → AllZip WritesStamp texts instants → AreStarts instants → AllZip (IsInside object) (entries_named name (list_lines name texts)) instants
 list_inside object name n texts instants z h =
-    subst (λ (e : List Entry). AllZip (IsInside object) e instants) (sym (entries_back name n texts instants z)) (inside_on object name n (list_value texts) texts instants z h)
+    subst (λ (e : List ListedTime). AllZip (IsInside object) e instants) (sym (entries_back name n texts instants z)) (inside_on object name n (list_value texts) texts instants z h)
 
 -- each is where the instants are that it was made of
 pub starts_from : (instants : List ℤ) → ((i : ℤ) → Contains instants i → IsStart i) → AreStarts instants

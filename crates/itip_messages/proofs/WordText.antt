@@ -8,7 +8,7 @@ use Rattle.std.proofs.lemmas.Bool.Decides.{nat_tests}
 use Rattle.std.proofs.lemmas.List.Folds.{list_all-append}
 use lib.Utf8.{encode, encodes, scalars}
 use Rattle.profile.specs.checker.Instances.{Key}
-use Rattle.profile.specs.rooms.Messages.{is_plain, hexadecimal, word_octet, word, IsKeyText}
+use Rattle.profile.specs.rooms.Messages.{is_word_octet, hexadecimal, word_octet, word, IsKeyText}
 use Rattle.ical_lines.proofs.CleanLines.{is_shown, shown_append}
 use Rattle.ical_values.proofs.ShownValues.{shown_stamp}
 
@@ -46,7 +46,7 @@ octets_utf8 text u = rw (← u.1.1) (octets_all u.0 u.1.0)
 
 -- ---- words
 
-shown_plain : (c : ℕ) → is_plain c ≡ true → is_shown c ≡ true
+shown_plain : (c : ℕ) → is_word_octet c ≡ true → is_shown c ≡ true
 shown_plain c h = grind (arith, nat_tests)
 
 shown_hexadecimal : (n : ℕ) → n < 16 → is_shown (hexadecimal n) ≡ true
@@ -60,7 +60,7 @@ shown_octets : (text : List ℕ) → list_all is_octet text ≡ true → list_al
 shown_octets [] h = refl
 shown_octets (c ∷ cs) h =
     let both = and_parts (is_octet c) (list_all is_octet cs) h in
-    shown_append (word_octet c) (word cs) (shown_octet_by (is_plain c) c (ltb-true c 256 both.0) (shown_plain c)) (shown_octets cs both.1)
+    shown_append (word_octet c) (word cs) (shown_octet_by (is_word_octet c) c (ltb-true c 256 both.0) (shown_plain c)) (shown_octets cs both.1)
 
 shown_word : (text : List ℕ) → IsUtf8 text → list_all is_shown (word text) ≡ true
 shown_word text u = shown_octets text (octets_utf8 text u)

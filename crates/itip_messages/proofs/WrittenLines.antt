@@ -8,7 +8,7 @@ use Rattle.profile.specs.text.Lines.{written, folded}
 use Rattle.profile.specs.rooms.Revisions.{Revision}
 use Rattle.profile.specs.organisers.Sent.{TellsRevision}
 use Rattle.itip_messages.proofs.LineLemmas.{one_line}
-use Rattle.itip_messages.specs.Replies.{IsStampLine, WritesLines}
+use Rattle.itip_messages.specs.Replies.{IsWrittenStampLine, WritesLines}
 
 -- one more element
 pub flat_push : {X Y : Type 0} (f : X → List Y) (xs : List X) (x : X) → flat_map f (xs ++ x ∷ []) ≡ flat_map f xs ++ f x
@@ -28,7 +28,7 @@ pub no_lines : (old : List ℕ) → old ≡ old ++ written []
 no_lines old = sym (append-nil old)
 
 -- SEQUENCE and DTSTAMP
-pub revision_written : (revision : Revision) (old now new : List ℕ) → now ≡ old ++ folded (codes "SEQUENCE:" ++ decimal revision.sequence) → Appends now new (IsStampLine (codes "DTSTAMP:") revision.stamp)
+pub revision_written : (revision : Revision) (old now new : List ℕ) → now ≡ old ++ folded (codes "SEQUENCE:" ++ decimal revision.sequence) → Appends now new (IsWrittenStampLine (codes "DTSTAMP:") revision.stamp)
     → WritesLines old new (TellsRevision revision)
 revision_written revision old now new h a =
     let stamp = a.1.0 in

@@ -6,9 +6,9 @@ use Rattle.std.specs.List.{list_all, flat_map, AllZip}
 use Rattle.std.proofs.lemmas.Bool.{and_from}
 use Rattle.profile.specs.text.Lines.{is_content, is_too_long, logical_lines, reads_as_lines, written}
 use Rattle.profile.specs.text.Objects.{IsObject, is_property}
-use Rattle.profile.specs.text.Trees.{Tree, tree_inside, tree_name, tree_own, vevents}
-use Rattle.profile.specs.events.Events.{Attendee, Event, Request, SaysEvent, meeting_said}
-use Rattle.profile.specs.events.Meetings.{AreOfOne, InstancesDiffer, is_master, is_override}
+use Rattle.profile.specs.text.Trees.{Tree, tree_own, vevents}
+use Rattle.profile.specs.events.EventComponents.{Attendee, EventComponent, Request, SaysEventComponent, meeting_said}
+use Rattle.profile.specs.events.Events.{AreOfOne, InstancesDiffer, is_master, is_override}
 use Rattle.profile.specs.organisers.Sent.{Component, IsComponentOf, IsComponentText, IsMeetingText, zones_of}
 use Rattle.profile.specs.rooms.Kept.{zone_texts}
 use Rattle.profile.specs.rooms.Messages.{opening_lines}
@@ -27,17 +27,17 @@ use Rattle.itip_messages.proofs.ZonedObjects.{IsZonedTree, ZoneBack, bounded_obj
 
 -- ---- all VEVENTs
 
-record AllBack (word : Option (List ℕ)) (IsSuch : Slot → Attendee → Attendee → Type 0) (zones : List (List ℕ)) (revision : Revision) (events : List Event) (texts : List Lines) : Type 0 where
+record AllBack (word : Option (List ℕ)) (IsSuch : Slot → Attendee → Attendee → Type 0) (zones : List (List ℕ)) (revision : Revision) (events : List EventComponent) (texts : List Lines) : Type 0 where
   owns : List Lines
-  saids : List Event
+  saids : List EventComponent
   are : flat_map (λ lines. lines) texts ≡ flat_map vevent_lines owns
   properties : list_all (list_all is_property) owns ≡ true
   content : list_all (list_all is_content) owns ≡ true
-  says : (all : List Lines) (k : IsZonedTree word zones all) → AllZip (SaysEvent k.whole (Some Request)) owns saids
+  says : (all : List Lines) (k : IsZonedTree word zones all) → AllZip (SaysEventComponent k.whole (Some Request)) owns saids
   each : AllZip (IsSaidAgain IsSuch revision) events saids
 
 module _ (word : Option (List ℕ)) (IsLine : Slot → Attendee → List ℕ → Type 0) (IsSuch : Slot → Attendee → Attendee → Type 0) (reads_line : ReadsLine IsLine IsSuch) (organiser uid : List ℕ) (revision : Revision) (small : revision.sequence < 2 ^ 31) (zones : List (List ℕ)) where
-  all_back : (events : List Event) (components : List Component) (texts : List Lines) → ((event : Event) → Contains events event → IsStored organiser uid event)
+  all_back : (events : List EventComponent) (components : List Component) (texts : List Lines) → ((event : EventComponent) → Contains events event → IsStored organiser uid event)
       → AllZip IsComponentOf events components → AllZip (IsComponentText organiser uid revision zones IsLine) components texts → AllBack word IsSuch zones revision events texts
   all_back [] [] [] f a z = record { owns = []; saids = []; are = refl; properties = refl; content = refl; says = λ all k. tt; each = tt }
   all_back [] [] (lines ∷ texts) f a z = absurd z
@@ -59,36 +59,36 @@ module _ (word : Option (List ℕ)) (IsLine : Slot → Attendee → List ℕ →
 
 -- ---- all are of the meeting
 
-of_meeting : (IsSuch : Slot → Attendee → Attendee → Type 0) (organiser uid : List ℕ) (revision : Revision) (events saids : List Event) → ((event : Event) → Contains events event → IsStored organiser uid event) → AllZip (IsSaidAgain IsSuch revision) events saids
-    → (said : Event) → Contains saids said → meeting_said said ≡ (organiser, uid)
+of_meeting : (IsSuch : Slot → Attendee → Attendee → Type 0) (organiser uid : List ℕ) (revision : Revision) (events saids : List EventComponent) → ((event : EventComponent) → Contains events event → IsStored organiser uid event) → AllZip (IsSaidAgain IsSuch revision) events saids
+    → (said : EventComponent) → Contains saids said → meeting_said said ≡ (organiser, uid)
 of_meeting IsSuch organiser uid revision events [] f z said c = absurd (none_in_nil said c)
 of_meeting IsSuch organiser uid revision [] (s ∷ saids) f z said c = absurd z
 of_meeting IsSuch organiser uid revision (e ∷ events) (s ∷ saids) f z said c = elim (in_cons s saids said c) [
   | inl here ↦
       let stored = f e (in_head e events) in
       let is : meeting_said s ≡ (organiser, uid) = λ i. (unwrap_or ((z.0.organiser ∙ stored.organised) i) [], (z.0.uid ∙ stored.named) i) in
-      subst (λ (x : Event). meeting_said x ≡ (organiser, uid)) here is
+      subst (λ (x : EventComponent). meeting_said x ≡ (organiser, uid)) here is
   | inr there ↦ of_meeting IsSuch organiser uid revision events saids (λ x k. f x (in_tail e events x k)) z.1 said there
 ]
 
 -- ---- the octets
 
 -- they are one object with this METHOD, or with none, and its VEVENTs are those of one meeting
-pub record WrittenBack (word : Option (List ℕ)) (IsSuch : Slot → Attendee → Attendee → Type 0) (revision : Revision) (events : List Event) (octets : List ℕ) : Type 0 where
-  pub saids : List Event
+pub record WrittenBack (word : Option (List ℕ)) (IsSuch : Slot → Attendee → Attendee → Type 0) (revision : Revision) (events : List EventComponent) (octets : List ℕ) : Type 0 where
+  pub saids : List EventComponent
   pub each : AllZip (IsSaidAgain IsSuch revision) events saids
   pub lines : reads_as_lines true octets ≡ true
   pub whole : Tree
-  pub object : IsObject tree_name tree_own tree_inside true whole (logical_lines octets)
+  pub object : IsObject true whole (logical_lines octets)
   pub own : tree_own whole ≡ calendar_own word
-  pub says : AllZip (SaysEvent whole (Some Request)) (vevents whole) saids
+  pub says : AllZip (SaysEventComponent whole (Some Request)) (vevents whole) saids
   pub some : 0 < length saids
   pub one : AreOfOne saids
   pub master : filter is_master saids ≡ option_to_list (meeting_of saids).master
   pub differ : InstancesDiffer (filter is_override saids)
 
 pub written_back : LinesBack → ReadsLines → ZoneBack → (word : Option (List ℕ)) → IsMethod word → (IsLine : Slot → Attendee → List ℕ → Type 0) (IsSuch : Slot → Attendee → Attendee → Type 0) → ReadsLine IsLine IsSuch
-    → (organiser uid : List ℕ) (revision : Revision) (events : List Event) (octets : List ℕ) → AreStored organiser uid events → revision.sequence < 2 ^ 31
+    → (organiser uid : List ℕ) (revision : Revision) (events : List EventComponent) (octets : List ℕ) → AreStored organiser uid events → revision.sequence < 2 ^ 31
     → IsMeetingText word organiser uid revision IsLine events octets → is_too_long octets ≡ false → WrittenBack word IsSuch revision events octets
 written_back back reads zone_back word method IsLine IsSuch reads_line organiser uid revision events octets f small m short =
     let zones = zones_of m.components in
@@ -100,8 +100,8 @@ written_back back reads zone_back word method IsLine IsSuch reads_line organiser
     ∙ k.text in
     let logical : logical_lines octets ≡ k.lines = ap logical_lines whole ∙ back k.lines k.content in
     let says = b.says b.owns k in
-    let slots : (e s : Event) → IsSaidAgain IsSuch revision e s → e.recurrence ≡ s.recurrence = λ e s h. sym h.recurrence in
-    let count : length b.owns ≡ length b.saids = zip_length (SaysEvent k.whole (Some Request)) b.owns b.saids says in
+    let slots : (e s : EventComponent) → IsSaidAgain IsSuch revision e s → e.recurrence ≡ s.recurrence = λ e s h. sym h.recurrence in
+    let count : length b.owns ≡ length b.saids = zip_length (SaysEventComponent k.whole (Some Request)) b.owns b.saids says in
     let same : length events ≡ length b.saids = zip_length (IsSaidAgain IsSuch revision) events b.saids b.each in
     let object = bounded_object k.whole k.lines b.owns k.object k.events (few_there (length b.owns) (length b.saids) (length events) count same f.few) in
     let of_it = of_meeting IsSuch organiser uid revision events b.saids f.each b.each in
@@ -110,9 +110,9 @@ written_back back reads zone_back word method IsLine IsSuch reads_line organiser
       each = b.each;
       lines = bounded_reads octets (ap (reads_as_lines false) whole ∙ reads k.lines k.content) short;
       whole = k.whole;
-      object = subst (IsObject tree_name tree_own tree_inside true k.whole) (sym logical) object;
+      object = subst (IsObject true k.whole) (sym logical) object;
       own = k.own;
-      says = subst (λ (vs : List Lines). AllZip (SaysEvent k.whole (Some Request)) vs b.saids) (sym k.events) says;
+      says = subst (λ (vs : List Lines). AllZip (SaysEventComponent k.whole (Some Request)) vs b.saids) (sym k.events) says;
       some = omega (arith, f.some, same);
       one = λ x y p q. of_it x p ∙ sym (of_it y q);
       master = first_alone _ (masters_few (IsSaidAgain IsSuch revision) slots events b.saids b.each f.masters);

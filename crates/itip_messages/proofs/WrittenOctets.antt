@@ -8,7 +8,7 @@ use Rattle.std.proofs.lemmas.Bool.Decides.{nat_tests}
 use Rattle.std.proofs.lemmas.List.Folds.{list_all-append}
 use Rattle.profile.specs.series.Days.{Frequency, Daily, Weekly, Monthly, Yearly, IsDate, is_leap_year}
 use Rattle.profile.specs.series.Rules.{Pattern, RuleText, Until, UntilDay, UntilLocal, UntilInstant, WeekdayNumber, is_plain}
-use Rattle.profile.specs.series.RuleTexts.{count_text, entries_from, entry_text, frequency_word, listed, months_from, numbers_from, rule_text, until_text, weekday_word}
+use Rattle.profile.specs.series.RuleTexts.{count_text, entries_from, weekday_number_text, frequency_word, listed, months_from, numbers_from, rule_text, until_text, weekday_word}
 use Rattle.profile.specs.series.Zones.{Zone}
 use Rattle.profile.specs.text.Values.{two_digits, four_digits, duration_text, SpellsDate, SpellsTime, WritesLocal, WritesStamp}
 use Rattle.profile.specs.events.Properties.{BothOrNeither}
@@ -156,7 +156,7 @@ unless_early : (b : Bool) (text : List ℕ) → list_all is_early text ≡ true 
 unless_early true text h = refl
 unless_early false text h = h
 
-entry_early : (e : WeekdayNumber) → list_all is_early (entry_text e) ≡ true
+entry_early : (e : WeekdayNumber) → list_all is_early (weekday_number_text e) ≡ true
 entry_early e =
     both_pass is_early (cond (is_plain e.number) [] (signed_decimal e.number)) (weekday_word e.weekday) (unless_early (is_plain e.number) (signed_decimal e.number) (signed_early e.number)) (weekday_early e.weekday)
 
@@ -171,8 +171,8 @@ months_early months = listed_early decimal decimal_early (codes ";BYMONTH=") mon
 days_early : (days : List ℤ) → list_all is_early (listed (codes ";BYMONTHDAY=") (map signed_decimal days)) ≡ true
 days_early days = listed_early signed_decimal signed_early (codes ";BYMONTHDAY=") days refl
 
-weekdays_early : (weekdays : List WeekdayNumber) → list_all is_early (listed (codes ";BYDAY=") (map entry_text weekdays)) ≡ true
-weekdays_early weekdays = listed_early entry_text entry_early (codes ";BYDAY=") weekdays refl
+weekdays_early : (weekdays : List WeekdayNumber) → list_all is_early (listed (codes ";BYDAY=") (map weekday_number_text weekdays)) ≡ true
+weekdays_early weekdays = listed_early weekday_number_text entry_early (codes ";BYDAY=") weekdays refl
 
 -- ---- the rule of an event
 
@@ -207,7 +207,7 @@ rule_text_early clock rule text w =
     let r4 = r3 ++ cond (rule.interval == 1) [] interval in
     let r5 = r4 ++ listed (codes ";BYMONTH=") (map decimal (months_from 1 rule.months)) in
     let r6 = r5 ++ listed (codes ";BYMONTHDAY=") (map signed_decimal (numbers_from 0 rule.month_days)) in
-    let r7 = r6 ++ listed (codes ";BYDAY=") (map entry_text (entries_from 0 rule.weekdays)) in
+    let r7 = r6 ++ listed (codes ";BYDAY=") (map weekday_number_text (entries_from 0 rule.weekdays)) in
     let r8 = r7 ++ listed (codes ";BYSETPOS=") (map signed_decimal (numbers_from 0 rule.positions)) in
     let p1 : list_all is_early r1 ≡ true = both_pass is_early (codes "FREQ=") (frequency_word rule.frequency) refl (frequency_early rule.frequency) in
     let p2 : list_all is_early r2 ≡ true = both_pass is_early r1 (count_text rule.count) p1 (count_early rule.count) in
@@ -215,7 +215,7 @@ rule_text_early clock rule text w =
     let p4 : list_all is_early r4 ≡ true = both_pass is_early r3 (cond (rule.interval == 1) [] interval) p3 (unless_early (rule.interval == 1) interval (both_pass is_early (codes ";INTERVAL=") (decimal rule.interval) refl (decimal_early rule.interval))) in
     let p5 : list_all is_early r5 ≡ true = both_pass is_early r4 (listed (codes ";BYMONTH=") (map decimal (months_from 1 rule.months))) p4 (months_early (months_from 1 rule.months)) in
     let p6 : list_all is_early r6 ≡ true = both_pass is_early r5 (listed (codes ";BYMONTHDAY=") (map signed_decimal (numbers_from 0 rule.month_days))) p5 (days_early (numbers_from 0 rule.month_days)) in
-    let p7 : list_all is_early r7 ≡ true = both_pass is_early r6 (listed (codes ";BYDAY=") (map entry_text (entries_from 0 rule.weekdays))) p6 (weekdays_early (entries_from 0 rule.weekdays)) in
+    let p7 : list_all is_early r7 ≡ true = both_pass is_early r6 (listed (codes ";BYDAY=") (map weekday_number_text (entries_from 0 rule.weekdays))) p6 (weekdays_early (entries_from 0 rule.weekdays)) in
     let places = listed (codes ";BYSETPOS=") (map signed_decimal (numbers_from 0 rule.positions)) in
     let p8 : list_all is_early r8 ≡ true = both_pass is_early r7 places p7 (listed_early signed_decimal signed_early (codes ";BYSETPOS=") (numbers_from 0 rule.positions) refl) in
     both_pass is_early r8 (cond (rule.week_start == 0) [] start) p8 (unless_early (rule.week_start == 0) start (both_pass is_early (codes ";WKST=") (weekday_word rule.week_start) refl (weekday_early rule.week_start)))
@@ -224,13 +224,13 @@ rule_text_early clock rule text w =
 
 -- a rule of a zone, after `RRULE:`
 abbrev pub rule_value : Pattern → List ℕ
-rule_value p = codes "FREQ=YEARLY" ++ listed (codes ";BYMONTH=") (map decimal p.months) ++ listed (codes ";BYMONTHDAY=") (map signed_decimal p.month_days) ++ listed (codes ";BYDAY=") (map entry_text p.weekdays)
+rule_value p = codes "FREQ=YEARLY" ++ listed (codes ";BYMONTH=") (map decimal p.months) ++ listed (codes ";BYMONTHDAY=") (map signed_decimal p.month_days) ++ listed (codes ";BYDAY=") (map weekday_number_text p.weekdays)
 
 pub rule_shown : (p : Pattern) → list_all is_shown (rule_value p) ≡ true
 rule_shown p =
     let months = listed (codes ";BYMONTH=") (map decimal p.months) in
     let days = listed (codes ";BYMONTHDAY=") (map signed_decimal p.month_days) in
-    let weekdays = listed (codes ";BYDAY=") (map entry_text p.weekdays) in
+    let weekdays = listed (codes ";BYDAY=") (map weekday_number_text p.weekdays) in
     early_shown (rule_value p)
     (both_pass is_early (codes "FREQ=YEARLY" ++ months ++ days) weekdays
     (both_pass is_early (codes "FREQ=YEARLY" ++ months) days (both_pass is_early (codes "FREQ=YEARLY") months refl (months_early p.months)) (days_early p.month_days)) (weekdays_early p.weekdays))

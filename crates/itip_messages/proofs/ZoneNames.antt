@@ -10,7 +10,7 @@ use Rattle.std.proofs.lemmas.Fmt.{decimal_injective, length-decimal-le}
 use Rattle.std.proofs.lemmas.Slice.Eq.{bytes_eq-Decides}
 use Rattle.profile.specs.events.Properties.{is_of, Says, BothOrNeither}
 use Rattle.profile.specs.events.ZonedTimes.{has_zone_name}
-use Rattle.profile.specs.rooms.Kept.{zone_name}
+use Rattle.profile.specs.rooms.Kept.{kept_zone_name}
 use Rattle.profile.specs.text.Lines.{is_control, line_value}
 use Rattle.profile.specs.text.Values.{escaped, escaped_octet, unescaped}
 use Rattle.profile.specs.written.WrittenZones.{IsTextName, IsNameLine}
@@ -42,30 +42,30 @@ bare_digit n h = grind (arith, nat_tests)
 calm_digit : (n : ℕ) → n < 10 → is_calm (48 + n) ≡ true
 calm_digit n h = grind (arith, nat_tests)
 
-pub name_shown : (place : ℕ) → list_all is_shown (zone_name place) ≡ true
+pub name_shown : (place : ℕ) → list_all is_shown (kept_zone_name place) ≡ true
 name_shown place = decimal_shown (place + 1)
 
-pub name_clean : (place : ℕ) → IsClean (zone_name place)
-name_clean place = clean_shown (zone_name place) (name_shown place)
+pub name_clean : (place : ℕ) → IsClean (kept_zone_name place)
+name_clean place = clean_shown (kept_zone_name place) (name_shown place)
 
-pub name_text : (place : ℕ) → IsTextName (zone_name place)
+pub name_text : (place : ℕ) → IsTextName (kept_zone_name place)
 name_text place = record { calm = decimal_passes is_calm calm_digit (place + 1); utf8 = (name_clean place).utf8 }
 
-pub name_itself : (place : ℕ) → escaped (zone_name place) ≡ zone_name place
-name_itself place = bare_itself (zone_name place) (decimal_passes is_bare bare_digit (place + 1))
+pub name_itself : (place : ℕ) → escaped (kept_zone_name place) ≡ kept_zone_name place
+name_itself place = bare_itself (kept_zone_name place) (decimal_passes is_bare bare_digit (place + 1))
 
-pub name_short : (place : ℕ) → place + 1 < 2 ^ 64 → length (zone_name place) ≤ 21
+pub name_short : (place : ℕ) → place + 1 < 2 ^ 64 → length (kept_zone_name place) ≤ 21
 name_short place h = omega (arith, length-decimal-le 20 (place + 1) (omega arith) (omega (arith, h)) h)
 
 -- each place has its own
-pub one_place : (a b : ℕ) → a + 1 < 2 ^ 64 → b + 1 < 2 ^ 64 → zone_name a ≡ zone_name b → a ≡ b
+pub one_place : (a b : ℕ) → a + 1 < 2 ^ 64 → b + 1 < 2 ^ 64 → kept_zone_name a ≡ kept_zone_name b → a ≡ b
 one_place a b p q e = omega (arith, decimal_injective (a + 1) (b + 1) p q (ap (drop 1) e))
 
-pub other_place : (a b : ℕ) → a + 1 < 2 ^ 64 → b + 1 < 2 ^ 64 → (a ≡ b → ⊥) → bytes_eq (zone_name a) (zone_name b) ≡ false
-other_place a b p q differ = go (bytes_eq (zone_name a) (zone_name b)) refl
+pub other_place : (a b : ℕ) → a + 1 < 2 ^ 64 → b + 1 < 2 ^ 64 → (a ≡ b → ⊥) → bytes_eq (kept_zone_name a) (kept_zone_name b) ≡ false
+other_place a b p q differ = go (bytes_eq (kept_zone_name a) (kept_zone_name b)) refl
   where
-    go : (t : Bool) → bytes_eq (zone_name a) (zone_name b) ≡ t → t ≡ false
-    go true e = absurd (differ (one_place a b p q ((bytes_eq-Decides (zone_name a) (zone_name b)).0 e)))
+    go : (t : Bool) → bytes_eq (kept_zone_name a) (kept_zone_name b) ≡ t → t ≡ false
+    go true e = absurd (differ (one_place a b p q ((bytes_eq-Decides (kept_zone_name a) (kept_zone_name b)).0 e)))
     go false e = refl
 
 pub same_bytes : (xs : List ℕ) → bytes_eq xs xs ≡ true

@@ -10,16 +10,16 @@ use Rattle.std.proofs.lemmas.List.{length-append, take_at, drop_at, map-append}
 use Rattle.std.proofs.lemmas.List.Sums.{position_or_len_is}
 use Rattle.std.proofs.lemmas.Str.{IsUtf8-append}
 use Rattle.memchr.specs.Find.{IsFirstByte, is_byte}
-use Rattle.profile.specs.events.Events.{Event}
+use Rattle.profile.specs.events.EventComponents.{EventComponent}
 use Rattle.profile.specs.events.Properties.{BothOrNeither}
 use Rattle.profile.specs.events.ZonedTimes.{EventTimes, clock_of}
-use Rattle.profile.specs.series.Rules.{Parts, text_in}
+use Rattle.profile.specs.series.Rules.{Rule, text_in}
 use Rattle.profile.specs.series.RuleTexts.{rule_text}
 use Rattle.profile.specs.series.Zones.{Zone, Observance, Constant, Single, Pair, local_time}
 use Rattle.profile.specs.text.Lines.{folded}
 use Rattle.ical_lines.proofs.FoldLemmas.{part_written}
 use Rattle.profile.specs.text.Values.{WritesLocal, WritesStamp, duration_text}
-use Rattle.profile.specs.written.WrittenZones.{WritesPart, WritesParts, component_lines, keeping, rule_lines}
+use Rattle.profile.specs.written.WrittenZones.{WritesPart, WritesParts, lines_around, keeping, rule_lines}
 use Rattle.profile.specs.rooms.Messages.{Content, IsContent, IsZoneRest, StartsIn, WritesRule, WritesTimes, list_lines, canonical, zone_text}
 use Rattle.profile.specs.rooms.Kept.{renamed}
 use Rattle.ical_lines.proofs.CleanLines.{is_shown, shown_append, clean_shown}
@@ -55,22 +55,22 @@ early_times : (name : List ℕ) → list_all is_early name ≡ true → (instant
 early_times name h instants lines w = ap are_early w.is ∙ early_list name h w.texts w.ascending w.each
 
 -- what says the duration
-abbrev pub duration_line : Event → List ℕ
+abbrev pub duration_line : EventComponent → List ℕ
 duration_line event = codes "DURATION:" ++ duration_text event.times.length.days event.times.length.seconds
 
-early_duration : (event : Event) → list_all is_early (duration_line event) ≡ true
+early_duration : (event : EventComponent) → list_all is_early (duration_line event) ≡ true
 early_duration event =
     let days = event.times.length.days in
     let seconds = event.times.length.seconds in
     both_pass is_early (codes "DURATION:") (duration_text days seconds) refl (duration_passes is_early early_time.digit refl days seconds)
 
-early_rule : (clock : Zone) (rule : Option Parts) (lines : Lines) → WritesRule clock rule lines → are_early lines ≡ true
+early_rule : (clock : Zone) (rule : Option Rule) (lines : Lines) → WritesRule clock rule lines → are_early lines ≡ true
 early_rule clock None lines w = ap are_early w
 early_rule clock (Some rule) lines (end, told, e) =
     ap are_early e ∙ and_from _ _ (both_pass is_early (codes "RRULE:") (rule_text (text_in rule) end) refl (rule_text_early clock (text_in rule) end told)) refl
 
 -- each octet of the lines is printable, and no `G`
-pub early_lines : (content : Content) (event : Event) → IsContent content event → list_all (list_all is_early) content.lines ≡ true
+pub early_lines : (content : Content) (event : EventComponent) → IsContent content event → list_all (list_all is_early) content.lines ≡ true
 early_lines content event c =
     ap are_early c.are
     ∙ and_from _ _ (early_start event.times.zone event.times c.start c.starts) (and_from _ _ (early_duration event)
@@ -81,10 +81,10 @@ all_early_shown : (lines : Lines) → are_early lines ≡ true → list_all (lis
 all_early_shown [] h = refl
 all_early_shown (line ∷ lines) h = let both = and_parts (list_all is_early line) (are_early lines) h in and_from _ _ (early_shown line both.0) (all_early_shown lines both.1)
 
-pub shown_lines : (content : Content) (event : Event) → IsContent content event → list_all (list_all is_shown) content.lines ≡ true
+pub shown_lines : (content : Content) (event : EventComponent) → IsContent content event → list_all (list_all is_shown) content.lines ≡ true
 shown_lines content event c = all_early_shown content.lines (early_lines content event c)
 
-pub clean_lines : (content : Content) (event : Event) → IsContent content event → AreClean content.lines
+pub clean_lines : (content : Content) (event : EventComponent) → IsContent content event → AreClean content.lines
 clean_lines content event c = clean_each_shown content.lines (shown_lines content event c)
 
 -- ---- the zone
@@ -99,7 +99,7 @@ part_shown own o w =
     ∙ and_from _ _ (rule_lines_shown o.rule) (and_from _ _ from (and_from _ _ to refl)))
 
 -- a component with a printable kind
-component_shown : (kind : List ℕ) (own : Lines) → list_all is_shown kind ≡ true → list_all (list_all is_shown) own ≡ true → list_all (list_all is_shown) (component_lines kind own) ≡ true
+component_shown : (kind : List ℕ) (own : Lines) → list_all is_shown kind ≡ true → list_all (list_all is_shown) own ≡ true → list_all (list_all is_shown) (lines_around kind own) ≡ true
 component_shown kind own k h =
     let begin = shown_append (codes "BEGIN:") kind refl k in
     let end = shown_append (codes "END:") kind refl k in
@@ -110,7 +110,7 @@ parts_shown (Constant k) parts (own, w, e) = ap (list_all (list_all is_shown)) e
 parts_shown (Single a) parts (own, w, e) = ap (list_all (list_all is_shown)) e ∙ component_shown (codes "STANDARD") own refl (part_shown own a w)
 parts_shown (Pair a b) parts (own, other, w, v, e) =
     ap (list_all (list_all is_shown)) e
-    ∙ list_all-append (list_all is_shown) (component_lines (codes "STANDARD") own) (component_lines (codes "DAYLIGHT") other)
+    ∙ list_all-append (list_all is_shown) (lines_around (codes "STANDARD") own) (lines_around (codes "DAYLIGHT") other)
     ∙ and_from _ _ (component_shown (codes "STANDARD") own refl (part_shown own a w)) (component_shown (codes "DAYLIGHT") other refl (part_shown other b v))
 
 -- what comes after TZID is text
@@ -188,7 +188,7 @@ after_front (c ∷ front) rest zero e = absurd (omega (arith, e))
 after_front (c ∷ front) rest (suc n) e = after_front front rest n (omega (arith, e))
 
 -- the zone begins two octets before the first `G`, and where there is no `G` there is no zone
-module _ (content : Content) (event : Event) (c : IsContent content event) where
+module _ (content : Content) (event : EventComponent) (c : IsContent content event) where
   abbrev front : List ℕ
   front = crlf_lines content.lines
 
@@ -212,7 +212,7 @@ module _ (content : Content) (event : Event) (c : IsContent content event) where
   pub zone_begins : zone_place (canonical content) ≡ length front
   zone_begins = zone_begins_at content.zone refl
 
-pub cut_at_zone : (content : Content) (event : Event) → IsContent content event → (place : ℕ) → place ≡ zone_place (canonical content) → IsCutAtZone content place
+pub cut_at_zone : (content : Content) (event : EventComponent) → IsContent content event → (place : ℕ) → place ≡ zone_place (canonical content) → IsCutAtZone content place
 cut_at_zone content event c place e =
     let a = crlf_lines content.lines in
     let z = zone_octets content.zone in
@@ -241,16 +241,16 @@ place_lacking xs h =
 
 -- ---- as text
 
-pub lines_body : (content : Content) (event : Event) → IsContent content event → IsBodyOf content.lines (crlf_lines content.lines)
+pub lines_body : (content : Content) (event : EventComponent) → IsContent content event → IsBodyOf content.lines (crlf_lines content.lines)
 lines_body content event c = body_ended content.lines (clean_lines content event c)
 
-pub beginning_body : (content : Content) (event : Event) → IsContent content event → (n : ℕ) → IsBodyOf (take n content.lines) (crlf_lines (take n content.lines))
+pub beginning_body : (content : Content) (event : EventComponent) → IsContent content event → (n : ℕ) → IsBodyOf (take n content.lines) (crlf_lines (take n content.lines))
 beginning_body content event c n = body_ended (take n content.lines) (clean_take n content.lines (clean_lines content event c))
 
-pub zone_utf8 : (content : Content) (event : Event) → IsContent content event → IsUtf8 (zone_octets content.zone)
+pub zone_utf8 : (content : Content) (event : EventComponent) → IsContent content event → IsUtf8 (zone_octets content.zone)
 zone_utf8 content event c = zone_utf8_by event.times.zone content.zone c.in_zone
 
-pub content_utf8 : (content : Content) (event : Event) → IsContent content event → IsUtf8 (canonical content)
+pub content_utf8 : (content : Content) (event : EventComponent) → IsContent content event → IsUtf8 (canonical content)
 content_utf8 content event c = IsUtf8-append (crlf_lines content.lines) (zone_octets content.zone) (lines_body content event c).utf8 (zone_utf8 content event c)
 
 -- ---- under the name of its zone
@@ -261,7 +261,7 @@ StartsAs name None times line = (text : List ℕ) × WritesStamp text times.star
 StartsAs name (Some zone) times line = (text : List ℕ) × WritesLocal text times.local × (line ≡ codes "DTSTART;TZID=" ++ name ++ codes ":" ++ text)
 
 -- the lines, with the start under that name
-pub record AreNamed (name : List ℕ) (content : Content) (event : Event) (c : IsContent content event) : Type 0 where
+pub record AreNamed (name : List ℕ) (content : Content) (event : EventComponent) (c : IsContent content event) : Type 0 where
   pub start : List ℕ
   pub starts : StartsAs name event.times.zone event.times start
   pub are : map (renamed (codes "DTSTART;TZID=Z") (codes "DTSTART;TZID=" ++ name)) content.lines ≡ start ∷ duration_line event ∷ (c.rule ++ (c.additions ++ c.exceptions))
@@ -281,11 +281,11 @@ named_exceptions : (name : List ℕ) (texts : List (List ℕ)) → map (named na
 named_exceptions name [] = refl
 named_exceptions name (t ∷ ts) = refl
 
-named_rule : (name : List ℕ) (clock : Zone) (rule : Option Parts) (lines : Lines) → WritesRule clock rule lines → map (named name) lines ≡ lines
+named_rule : (name : List ℕ) (clock : Zone) (rule : Option Rule) (lines : Lines) → WritesRule clock rule lines → map (named name) lines ≡ lines
 named_rule name clock None lines w = ap (map (named name)) w ∙ sym w
 named_rule name clock (Some rule) lines (end, told, e) = ap (map (named name)) e ∙ sym e
 
-pub named_lines : (name : List ℕ) (content : Content) (event : Event) (c : IsContent content event) → AreNamed name content event c
+pub named_lines : (name : List ℕ) (content : Content) (event : EventComponent) (c : IsContent content event) → AreNamed name content event c
 named_lines name content event c =
     let adds : map (named name) c.additions ≡ c.additions = ap (map (named name)) c.adds.is ∙ named_additions name c.adds.texts ∙ sym c.adds.is in
     let takes : map (named name) c.exceptions ≡ c.exceptions = ap (map (named name)) c.takes.is ∙ named_exceptions name c.takes.texts ∙ sym c.takes.is in

@@ -11,7 +11,7 @@ use Rattle.std.proofs.lemmas.Grind.{flat_map-append}
 use Rattle.std.proofs.lemmas.List.Elements.{filter-append}
 use Rattle.std.proofs.lemmas.List.Folds.{list_all-append}
 use Rattle.profile.specs.events.ZonedTimes.{has_zone_name, vtimezones, zone_named, SaysZoneOf}
-use Rattle.profile.specs.rooms.Kept.{zone_name, zone_texts}
+use Rattle.profile.specs.rooms.Kept.{kept_zone_name, zone_texts}
 use Rattle.profile.specs.rooms.Messages.{IsZoneRest, opening_lines, zone_text}
 use Rattle.profile.specs.series.Rules.{Pattern}
 use Rattle.profile.specs.series.Zones.{Zone, Constant, Single, Pair}
@@ -21,7 +21,7 @@ use Rattle.profile.specs.text.Objects.{is_property, is_calendar_name, most_event
 use Rattle.profile.specs.text.Objects.SpellsBody.{component}
 use Rattle.profile.specs.text.Trees.{Tree, tree, trees_list, tree_name, tree_own, tree_inside, vevents}
 use Rattle.profile.specs.text.Values.{escaped}
-use Rattle.profile.specs.written.WrittenZones.{WritesParts, WritesZone, IsZoneText, IsTextName, ReadsAsZone, component_lines, keeping, rule_lines}
+use Rattle.profile.specs.written.WrittenZones.{WritesParts, WritesZone, IsZoneText, IsTextName, ReadsAsZone, lines_around, keeping, rule_lines}
 use Rattle.ical_lines.proofs.CleanLines.{IsClean, clean_shown, valued, fixed}
 use Rattle.ical_tree.specs.Tree.{trees_of}
 use Rattle.ical_tree.proofs.TreeOfLemmas.{BodyT, SpellsT}
@@ -42,13 +42,13 @@ ZoneBack = (t : Tree) (zone : Zone) (name octets : List ℕ) → SaysZone t zone
 framed : (begin end : List ℕ) (own : Lines) → is_content begin ≡ true → is_content end ≡ true → list_all is_content own ≡ true → list_all is_content (begin ∷ (own ++ end ∷ [])) ≡ true
 framed begin end own b e h = and_from _ _ b (list_all-append is_content own (end ∷ []) ∙ and_from _ _ h (and_from _ _ e refl))
 
-standard_content : (own : Lines) → list_all is_content own ≡ true → list_all is_content (component_lines (codes "STANDARD") own) ≡ true
+standard_content : (own : Lines) → list_all is_content own ≡ true → list_all is_content (lines_around (codes "STANDARD") own) ≡ true
 standard_content own = framed (codes "BEGIN:STANDARD") (codes "END:STANDARD") own (fixed (codes "BEGIN:STANDARD") refl refl refl refl) (fixed (codes "END:STANDARD") refl refl refl refl)
 
-daylight_content : (own : Lines) → list_all is_content own ≡ true → list_all is_content (component_lines (codes "DAYLIGHT") own) ≡ true
+daylight_content : (own : Lines) → list_all is_content own ≡ true → list_all is_content (lines_around (codes "DAYLIGHT") own) ≡ true
 daylight_content own = framed (codes "BEGIN:DAYLIGHT") (codes "END:DAYLIGHT") own (fixed (codes "BEGIN:DAYLIGHT") refl refl refl refl) (fixed (codes "END:DAYLIGHT") refl refl refl refl)
 
-zone_content : (own : Lines) → list_all is_content own ≡ true → list_all is_content (component_lines (codes "VTIMEZONE") own) ≡ true
+zone_content : (own : Lines) → list_all is_content own ≡ true → list_all is_content (lines_around (codes "VTIMEZONE") own) ≡ true
 zone_content own = framed (codes "BEGIN:VTIMEZONE") (codes "END:VTIMEZONE") own (fixed (codes "BEGIN:VTIMEZONE") refl refl refl refl) (fixed (codes "END:VTIMEZONE") refl refl refl refl)
 
 rule_content : (rule : Option Pattern) → list_all is_content (rule_lines rule) ≡ true
@@ -62,7 +62,7 @@ parts_content (Constant k) parts (own, w, e) = ap (list_all is_content) e ∙ st
 parts_content (Single a) parts (own, w, e) = ap (list_all is_content) e ∙ standard_content own (part_content own a w (rule_content a.rule))
 parts_content (Pair a b) parts (own, other, w, v, e) =
     ap (list_all is_content) e
-    ∙ list_all-append is_content (component_lines (codes "STANDARD") own) (component_lines (codes "DAYLIGHT") other)
+    ∙ list_all-append is_content (lines_around (codes "STANDARD") own) (lines_around (codes "DAYLIGHT") other)
     ∙ and_from _ _ (standard_content own (part_content own a w (rule_content a.rule))) (daylight_content other (part_content other b v (rule_content b.rule)))
 
 -- of a name that is written as it is
@@ -78,26 +78,26 @@ IsZone rest = (zone : Zone) × (t : Tree) × SaysZone t zone × IsZoneRest zone 
 
 -- the lines of a VTIMEZONE of a place, with these parts
 abbrev lines_at : ℕ → Lines → Lines
-lines_at place parts = component_lines (codes "VTIMEZONE") ((codes "TZID:" ++ zone_name place) ∷ parts)
+lines_at place parts = lines_around (codes "VTIMEZONE") ((codes "TZID:" ++ kept_zone_name place) ∷ parts)
 
 -- the octets of the place's VTIMEZONE are these lines, and spell this tree
 pub record IsBack (place : ℕ) (rest : List ℕ) : Type 0 where
   pub lines : Lines
-  pub text : zone_text (zone_name place) rest ≡ written lines
+  pub text : zone_text (kept_zone_name place) rest ≡ written lines
   pub content : list_all is_content lines ≡ true
   pub part : Tree
   pub kind : tree_name part ≡ codes "VTIMEZONE"
   pub spelled : SpellsT 6 part lines
-  pub named : (name : List ℕ) → has_zone_name name (tree_own part) ≡ bytes_eq (zone_name place) name
+  pub named : (name : List ℕ) → has_zone_name name (tree_own part) ≡ bytes_eq (kept_zone_name place) name
   pub says : (zone : Zone) (t : Tree) → SaysZone t zone → IsZoneRest zone rest → SaysZone part zone
 
-text_at : (place : ℕ) (rest : List ℕ) (parts : Lines) → rest ≡ written (parts ++ codes "END:VTIMEZONE" ∷ []) → zone_text (zone_name place) rest ≡ written (lines_at place parts)
+text_at : (place : ℕ) (rest : List ℕ) (parts : Lines) → rest ≡ written (parts ++ codes "END:VTIMEZONE" ∷ []) → zone_text (kept_zone_name place) rest ≡ written (lines_at place parts)
 text_at place rest parts e =
-    ap (zone_text (zone_name place)) e
-    ∙ sym (flat_map-append folded (codes "BEGIN:VTIMEZONE" ∷ (codes "TZID:" ++ zone_name place) ∷ []) (parts ++ codes "END:VTIMEZONE" ∷ []))
+    ap (zone_text (kept_zone_name place)) e
+    ∙ sym (flat_map-append folded (codes "BEGIN:VTIMEZONE" ∷ (codes "TZID:" ++ kept_zone_name place) ∷ []) (parts ++ codes "END:VTIMEZONE" ∷ []))
 
-writes_at : (place : ℕ) (zone : Zone) (parts : Lines) → WritesParts parts zone → WritesZone (lines_at place parts) (zone_name place) zone
-writes_at place zone parts w = (parts, w, ap (λ n. component_lines (codes "VTIMEZONE") ((codes "TZID:" ++ n) ∷ parts)) (sym (name_itself place)))
+writes_at : (place : ℕ) (zone : Zone) (parts : Lines) → WritesParts parts zone → WritesZone (lines_at place parts) (kept_zone_name place) zone
+writes_at place zone parts w = (parts, w, ap (λ n. lines_around (codes "VTIMEZONE") ((codes "TZID:" ++ n) ∷ parts)) (sym (name_itself place)))
 
 tail_content : (zone : Zone) (parts : Lines) → WritesParts parts zone → list_all is_content (parts ++ codes "END:VTIMEZONE" ∷ []) ≡ true
 tail_content zone parts w = list_all-append is_content parts (codes "END:VTIMEZONE" ∷ []) ∙ and_from _ _ (parts_content zone parts w) (and_from _ _ (fixed (codes "END:VTIMEZONE") refl refl refl refl) refl)
@@ -109,11 +109,11 @@ module _ (lines_back : LinesBack) (zone_back : ZoneBack) where
       sym (lines_back (p ++ codes "END:VTIMEZONE" ∷ []) (tail_content a p v)) ∙ ap logical_lines (sym e ∙ d) ∙ lines_back (q ++ codes "END:VTIMEZONE" ∷ []) (tail_content b q w)
 
   -- what the lines of a place read back as, where they write this zone
-  reads_at : (place : ℕ) (parts : Lines) (zone : Zone) (t : Tree) → SaysZone t zone → WritesParts parts zone → ReadsAsZone (written (lines_at place parts)) (zone_name place) zone
-  reads_at place parts zone t s w = zone_back t zone (zone_name place) (written (lines_at place parts)) s (name_text place) (lines_at place parts, writes_at place zone parts w, refl)
+  reads_at : (place : ℕ) (parts : Lines) (zone : Zone) (t : Tree) → SaysZone t zone → WritesParts parts zone → ReadsAsZone (written (lines_at place parts)) (kept_zone_name place) zone
+  reads_at place parts zone t s w = zone_back t zone (kept_zone_name place) (written (lines_at place parts)) s (name_text place) (lines_at place parts, writes_at place zone parts w, refl)
 
   content_at : (place : ℕ) (parts : Lines) (zone : Zone) → WritesParts parts zone → list_all is_content (lines_at place parts) ≡ true
-  content_at place parts zone w = written_content (zone_name place) zone (lines_at place parts) (subst IsClean (sym (name_itself place)) (name_clean place)) (writes_at place zone parts w)
+  content_at place parts zone w = written_content (kept_zone_name place) zone (lines_at place parts) (subst IsClean (sym (name_itself place)) (name_clean place)) (writes_at place zone parts w)
 
   spelled_at : (place : ℕ) (parts : Lines) (zone : Zone) (t : Tree) (s : SaysZone t zone) (w : WritesParts parts zone) → SpellsT 6 (reads_at place parts zone t s w).tree (lines_at place parts)
   spelled_at place parts zone t s w =
@@ -130,10 +130,10 @@ module _ (lines_back : LinesBack) (zone_back : ZoneBack) where
         part = r.tree;
         kind = r.kind;
         spelled = spelled_at place parts zone t s w;
-        named = λ name. has_its_name (tree_own r.tree) (zone_name place) name r.named;
+        named = λ name. has_its_name (tree_own r.tree) (kept_zone_name place) name r.named;
         says = λ other u q v.
             let a = reads_at place v.0 other u q v.1 in
-            let lines_same : lines_at place v.0 ≡ lines_at place parts = ap (λ l. codes "BEGIN:VTIMEZONE" ∷ (codes "TZID:" ++ zone_name place) ∷ l) (one_rest rest other zone v.0 parts v.1 w v.2 e) in
+            let lines_same : lines_at place v.0 ≡ lines_at place parts = ap (λ l. codes "BEGIN:VTIMEZONE" ∷ (codes "TZID:" ++ kept_zone_name place) ∷ l) (one_rest rest other zone v.0 parts v.1 w v.2 e) in
             let spelled_too : SpellsT 6 a.tree (lines_at place parts) = subst (λ (l : Lines). SpellsT 6 a.tree l) lines_same (spelled_at place v.0 other u q v.1) in
             let same : a.tree ≡ r.tree = one_tree 6 6 (lines_at place parts) a.tree r.tree spelled_too (spelled_at place parts zone t s w) in
             subst (λ (x : Tree). SaysZone x other) same a.says;
@@ -251,14 +251,14 @@ events_no_zones (own ∷ owns) = events_no_zones owns
 
 -- the trees hold the one of this place first of those that have its name
 find_at : (from : ℕ) (zones : List (List ℕ)) (b : AreBack from zones) (k place : ℕ) (z : List ℕ) → from + length zones < 2 ^ 64 → from + k ≡ place → slice_get zones k ≡ Some z
-    → (part : IsBack place z) × (find (λ part. has_zone_name (zone_name place) (tree_own part)) (zone_trees from zones b) ≡ Some part.part)
+    → (part : IsBack place z) × (find (λ part. has_zone_name (kept_zone_name place) (tree_own part)) (zone_trees from zones b) ≡ Some part.part)
 find_at from [] b k place z few p e = cc
 find_at from (x ∷ zones) b zero place z few p e =
     let here : from ≡ place = omega (arith, p) in
     let it : x ≡ z = one_there x z e in
-    subst (λ (q : ℕ). (part : IsBack q z) × (find (λ part. has_zone_name (zone_name q) (tree_own part)) (zone_trees from (x ∷ zones) b) ≡ Some part.part)) here
-    (subst (λ (y : List ℕ). (part : IsBack from y) × (find (λ part. has_zone_name (zone_name from) (tree_own part)) (zone_trees from (x ∷ zones) b) ≡ Some part.part)) it
-    (b.0, ap (λ t. cond t (Some b.0.part) (find (λ part. has_zone_name (zone_name from) (tree_own part)) (zone_trees (from + 1) zones b.1))) (b.0.named (zone_name from) ∙ same_bytes (zone_name from))))
+    subst (λ (q : ℕ). (part : IsBack q z) × (find (λ part. has_zone_name (kept_zone_name q) (tree_own part)) (zone_trees from (x ∷ zones) b) ≡ Some part.part)) here
+    (subst (λ (y : List ℕ). (part : IsBack from y) × (find (λ part. has_zone_name (kept_zone_name from) (tree_own part)) (zone_trees from (x ∷ zones) b) ≡ Some part.part)) it
+    (b.0, ap (λ t. cond t (Some b.0.part) (find (λ part. has_zone_name (kept_zone_name from) (tree_own part)) (zone_trees (from + 1) zones b.1))) (b.0.named (kept_zone_name from) ∙ same_bytes (kept_zone_name from))))
   where
     one_there : (x z : List ℕ) → Some x ≡ Some z → x ≡ z
     one_there x z e = ap (λ (o : Option (List ℕ)). or_that x o) e
@@ -269,9 +269,9 @@ find_at from (x ∷ zones) b zero place z few p e =
 find_at from (x ∷ zones) b (suc k) place z few p e =
     let rest = find_at (from + 1) zones b.1 k place z (omega (arith, few)) (omega (arith, p)) e in
     let inside : k < length zones = got_inside zones k z e in
-    let differs : bytes_eq (zone_name from) (zone_name place) ≡ false = other_place from place (omega (arith, few)) (omega (arith, few, p, inside)) (λ same. omega (arith, p, same)) in
-    let no : has_zone_name (zone_name place) (tree_own b.0.part) ≡ false = b.0.named (zone_name place) ∙ differs in
-    (rest.0, ap (λ t. cond t (Some b.0.part) (find (λ part. has_zone_name (zone_name place) (tree_own part)) (zone_trees (from + 1) zones b.1))) no ∙ rest.1)
+    let differs : bytes_eq (kept_zone_name from) (kept_zone_name place) ≡ false = other_place from place (omega (arith, few)) (omega (arith, few, p, inside)) (λ same. omega (arith, p, same)) in
+    let no : has_zone_name (kept_zone_name place) (tree_own b.0.part) ≡ false = b.0.named (kept_zone_name place) ∙ differs in
+    (rest.0, ap (λ t. cond t (Some b.0.part) (find (λ part. has_zone_name (kept_zone_name place) (tree_own part)) (zone_trees (from + 1) zones b.1))) no ∙ rest.1)
   where
     got_inside : (zs : List (List ℕ)) (k : ℕ) (z : List ℕ) → slice_get zs k ≡ Some z → k < length zs
     got_inside [] k z e = cc
@@ -289,10 +289,10 @@ pub record IsZonedTree (method : Option (List ℕ)) (zones : List (List ℕ)) (o
   pub text : object_octets method zones owns ≡ written lines
   pub content : list_all is_content lines ≡ true
   pub whole : Tree
-  pub object : IsObject tree_name tree_own tree_inside false whole lines
+  pub object : IsObject false whole lines
   pub own : tree_own whole ≡ calendar_own method
   pub events : vevents whole ≡ owns
-  pub says : (place : ℕ) (rest : List ℕ) → slice_get zones place ≡ Some rest → (zone : Zone) (t : Tree) → SaysZone t zone → IsZoneRest zone rest → SaysZoneOf (zone_named (zone_name place) whole) zone
+  pub says : (place : ℕ) (rest : List ℕ) → slice_get zones place ≡ Some rest → (zone : Zone) (t : Tree) → SaysZone t zone → IsZoneRest zone rest → SaysZoneOf (zone_named (kept_zone_name place) whole) zone
 
 joined : (opening zones events : Lines) (text : List ℕ) → text ≡ written zones → written opening ++ text ++ written events ≡ written ((opening ++ zones) ++ events)
 joined opening zones events text e =
@@ -345,12 +345,12 @@ zoned_spelled lines_back zone_back method fine zones owns f few properties conte
           ∙ and_from _ _ (list_all-append is_content (opening_lines method) inner ∙ and_from _ _ opening (zones_content 0 zones b)) ending;
       says = λ place rest e zone t s w.
           let found = find_at 0 zones b place place rest (omega (arith, few)) (omega arith) e in
-          let means : zone_named (zone_name place) (object_tree method parts) ≡ Some found.0.part = ap (find (λ part. has_zone_name (zone_name place) (tree_own part))) zones_in ∙ found.1 in
+          let means : zone_named (kept_zone_name place) (object_tree method parts) ≡ Some found.0.part = ap (find (λ part. has_zone_name (kept_zone_name place) (tree_own part))) zones_in ∙ found.1 in
           subst (λ (o : Option Tree). SaysZoneOf o zone) (sym means) (found.0.says zone t s w);
     }
 
 -- with at most 200 VEVENTs it is one that a message may be
-pub bounded_object : (whole : Tree) (lines : Lines) (owns : List Lines) → IsObject tree_name tree_own tree_inside false whole lines → vevents whole ≡ owns → length owns ≤ most_events → IsObject tree_name tree_own tree_inside true whole lines
+pub bounded_object : (whole : Tree) (lines : Lines) (owns : List Lines) → IsObject false whole lines → vevents whole ≡ owns → length owns ≤ most_events → IsObject true whole lines
 bounded_object whole lines owns o are few = record {
   spelled = o.spelled;
   calendar = o.calendar;

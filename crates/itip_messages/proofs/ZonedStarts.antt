@@ -9,9 +9,9 @@ use Rattle.std.proofs.Math.Bool.{and-false}
 use Rattle.std.proofs.Math.Seq.{take-length}
 use Rattle.profile.specs.events.Properties.{BothOrNeither, is_of, time_kind, kind_named, DateTime}
 use Rattle.profile.specs.events.ZonedTimes.{EventTimes, is_in_zone, zone_named, SaysZoneOf, SpellsZoned, SaysZonedTime}
-use Rattle.profile.specs.events.Events.{Event}
+use Rattle.profile.specs.events.EventComponents.{EventComponent}
 use Rattle.profile.specs.rooms.Messages.{Content, IsContent, IsZoneRest}
-use Rattle.profile.specs.rooms.Kept.{zone_name, IsNamed}
+use Rattle.profile.specs.rooms.Kept.{kept_zone_name, IsNamed}
 use Rattle.profile.specs.series.Zones.{Zone}
 use Rattle.profile.specs.series.ZoneTexts.{SaysZone}
 use Rattle.profile.specs.text.Lines.{is_content, is_name, is_same_name, is_quote, is_item, is_badly_quoted, lacks_name, has_bad_name, has_bad_quote, has_stop, outside_from, front, back, pieces_from, line_head, line_name, line_value, line_params, line_param, first_value, param_name, unquoted}
@@ -107,7 +107,7 @@ is_plain_name name = list_all is_bare name && list_all is_shown name
 bare_digit : (n : ℕ) → n < 10 → is_bare (48 + n) ≡ true
 bare_digit n h = grind (arith, nat_tests)
 
-pub plain_zone_name : (place : ℕ) → is_plain_name (zone_name place) ≡ true
+pub plain_zone_name : (place : ℕ) → is_plain_name (kept_zone_name place) ≡ true
 plain_zone_name place = and_from _ _ (decimal_passes is_bare bare_digit (place + 1)) (name_shown place)
 
 abbrev pub zoned_start : List ℕ → List ℕ → List ℕ
@@ -240,7 +240,7 @@ IsSaid None = Unit {0}
 IsSaid (Some zone) = (t : Tree) × SaysZone t zone
 
 -- the name that is given to the zone of a content is plain
-pub name_plain : (zones : List (List ℕ)) (content : Content) (event : Event) → IsContent content event → (name : List ℕ) → IsNamed zones content.zone name → IsPlainFor name event.times.zone
+pub name_plain : (zones : List (List ℕ)) (content : Content) (event : EventComponent) → IsContent content event → (name : List ℕ) → IsNamed zones content.zone name → IsPlainFor name event.times.zone
 name_plain zones content event c name named = go event.times.zone content.zone c.in_zone named
   where
     go : (zone : Option Zone) (rest : Option (List ℕ)) → BothOrNeither IsZoneRest zone rest → IsNamed zones rest name → IsPlainFor name zone
@@ -249,7 +249,7 @@ name_plain zones content event c name named = go event.times.zone content.zone c
     go (Some zone) (Some rest) w n = subst (λ (m : List ℕ). is_plain_name m ≡ true) (sym n.2) (plain_zone_name n.0)
 
 -- and means the zone of its event
-pub name_means : (method : Option (List ℕ)) (zones : List (List ℕ)) (owns : List Lines) (k : IsZonedTree method zones owns) (content : Content) (event : Event) → IsContent content event → IsSaid event.times.zone → (name : List ℕ) → IsNamed zones content.zone name
+pub name_means : (method : Option (List ℕ)) (zones : List (List ℕ)) (owns : List Lines) (k : IsZonedTree method zones owns) (content : Content) (event : EventComponent) → IsContent content event → IsSaid event.times.zone → (name : List ℕ) → IsNamed zones content.zone name
     → MeansZone k.whole name event.times.zone
 name_means method zones owns k content event c said name named = go event.times.zone content.zone said c.in_zone named
   where
@@ -257,5 +257,5 @@ name_means method zones owns k content event c said name named = go event.times.
     go None rest s w n = tt
     go (Some zone) None s w n = absurd w
     go (Some zone) (Some rest) s w n =
-        let means : SaysZoneOf (zone_named (zone_name n.0) k.whole) zone = k.says n.0 rest n.1 zone s.0 s.1 w in
+        let means : SaysZoneOf (zone_named (kept_zone_name n.0) k.whole) zone = k.says n.0 rest n.1 zone s.0 s.1 w in
         subst (λ (m : List ℕ). SaysZoneOf (zone_named m k.whole) zone) (sym n.2) means

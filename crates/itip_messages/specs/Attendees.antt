@@ -2,7 +2,7 @@
 use Rattle.std.specs.Prelude.{ℕ, List}
 use Rattle.ical_values.specs.Octets.{address_octets}
 use denote.Ref.{Bor}
-use Rattle.profile.specs.events.Events as events
+use Rattle.profile.specs.events.EventComponents as events
 use Rattle.cal_events.specs.declared.component.Attendee.{Attendee}
 use Rattle.cal_events.specs.Events.{attendee_of}
 

@@ -4,11 +4,11 @@ use Rattle.std.specs.List.{flat_map, AllZip, position_or_len}
 use Rattle.profile.specs.text.Values.{WritesStamp}
 use Rattle.profile.specs.events.Properties.{BothOrNeither}
 use Rattle.profile.specs.events.ZonedTimes.{EventTimes}
-use Rattle.profile.specs.series.Rules.{Parts, Until, UntilDay, UntilLocal, UntilInstant}
+use Rattle.profile.specs.series.Rules.{Rule, Until, UntilDay, UntilLocal, UntilInstant}
 use Rattle.profile.specs.series.Zones.{Zone}
-use Rattle.profile.specs.events.Events.{Event}
+use Rattle.profile.specs.events.EventComponents.{EventComponent}
 use Rattle.profile.specs.rooms.Messages.{Content, IsContent, IsZoneRest, StartsIn, WritesRule, WritesTimes, canonical, zone_text}
-use Rattle.cal_events.specs.Meetings.{IsNamed}
+use Rattle.cal_events.specs.Meetings.{IsInEventDates}
 use Rattle.cal_events.specs.OwnInstances.{IsTimely}
 
 -- these lines, unfolded and each ended by CRLF
@@ -26,7 +26,7 @@ pub record IsCutAtZone (content : Content) (place : ℕ) : Type 0 where
   pub after : drop place (canonical content) ≡ zone_octets content.zone
 
 -- the octets are the event's content, in its one form
-pub record IsCanonical (octets : List ℕ) (event : Event) : Type 0 where
+pub record IsCanonical (octets : List ℕ) (event : EventComponent) : Type 0 where
   pub content : Content
   pub when : IsContent content event
   pub is : octets ≡ canonical content
@@ -44,7 +44,7 @@ abbrev pub AppendsStart : EventTimes → List ℕ → List ℕ → Type 0
 AppendsStart times old new = (line : List ℕ) × StartsIn times.zone times line × (new ≡ old ++ crlf_lines (line ∷ []))
 
 -- new is old and RRULE after it, where there is a rule
-abbrev pub AppendsRule : Zone → Option Parts → List ℕ → List ℕ → Type 0
+abbrev pub AppendsRule : Zone → Option Rule → List ℕ → List ℕ → Type 0
 AppendsRule clock rule old new = (lines : List (List ℕ)) × WritesRule clock rule lines × (new ≡ old ++ crlf_lines lines)
 
 -- new is old and the VTIMEZONE after it, where there is a zone
@@ -70,12 +70,12 @@ IsTold (UntilLocal local) = Unit {0}
 IsTold (UntilInstant instant) = Unit {0}
 
 -- the end of a rule, where it has one
-abbrev pub EndIsTold : Option Parts → Type 0
-EndIsTold rule = (said : Parts) → rule ≡ Some said → (end : Until) → said.until ≡ Some end → IsTold end
+abbrev pub EndIsTold : Option Rule → Type 0
+EndIsTold rule = (said : Rule) → rule ≡ Some said → (end : Until) → said.until ≡ Some end → IsTold end
 
 -- what a message's VEVENT says of when its event is: the end of its rule can be written, and its start and all that is added are in the
 -- dates that an event may name
-pub record IsReady (event : Event) : Type 0 where
+pub record IsReady (event : EventComponent) : Type 0 where
   pub ends : EndIsTold event.rule
   pub timely : IsTimely event
-  pub listed : (instant : ℤ) → Contains event.additions instant → IsNamed instant
+  pub listed : (instant : ℤ) → Contains event.additions instant → IsInEventDates instant

@@ -4,8 +4,8 @@ use Rattle.std.specs.Option.{option_to_list}
 use Rattle.std.specs.List.{flat_map, AllZip}
 use Rattle.profile.specs.text.Lines.{folded, written}
 use Rattle.profile.specs.text.Values.{escaped}
-use Rattle.profile.specs.events.Events.{Event}
-use Rattle.profile.specs.events.Events as events
+use Rattle.profile.specs.events.EventComponents.{EventComponent}
+use Rattle.profile.specs.events.EventComponents as events
 use Rattle.profile.specs.rooms.Revisions as revisions
 use Rattle.profile.specs.organisers.Sent.{IsMeetingText, IsRequest, IsCancel, IsComponentText, TellsRevision, status_lines}
 use Rattle.ical_values.specs.Octets.{text_octets, address_octets}
@@ -18,7 +18,7 @@ use Rattle.itip_messages.specs.declared.meeting_text.MeetingText.{MeetingText}
 use Rattle.itip_messages.specs.declared.cancel.Cancel.{Cancel}
 
 -- the components of a meeting represent these events
-abbrev pub AreWritten : MeetingText → List Event → Type 0
+abbrev pub AreWritten : MeetingText → List EventComponent → Type 0
 AreWritten meeting events = AllZip SaysObjectComponent events meeting.components.now
 
 -- one line was written, and it is such a one
@@ -28,7 +28,7 @@ WritesLine IsLine old new = (line : List ℕ) × IsLine line × (new ≡ old ++ 
 -- octets are an object of a meeting with this METHOD, or with none, whose attendees have such lines
 abbrev pub IsTextOf : Option (List ℕ) → (revisions.Slot → events.Attendee → List ℕ → Type 0) → MeetingText → List ℕ → Type 0
 IsTextOf method IsLine meeting octets =
-    (said : List Event) → AreWritten meeting said
+    (said : List EventComponent) → AreWritten meeting said
     → IsMeetingText method (address_octets meeting.organiser.now) (text_octets meeting.uid.now) (revision_of meeting.revision) IsLine said octets
 
 -- the zone that a component needs
@@ -38,7 +38,7 @@ zone_in component = option_to_list (content_in component.canonical.items).zone
 -- the lines are the VEVENT of a component of the meeting, whichever event it represents, where these are the zones
 abbrev pub IsWrittenComponent : (revisions.Slot → events.Attendee → List ℕ → Type 0) → MeetingText → List (List ℕ) → ObjectComponent → List (List ℕ) → Type 0
 IsWrittenComponent IsLine meeting zones component lines =
-    (event : Event) → SaysObjectComponent event component
+    (event : EventComponent) → SaysObjectComponent event component
     → IsComponentText (address_octets meeting.organiser.now) (text_octets meeting.uid.now) (revision_of meeting.revision) zones IsLine (event, content_in component.canonical.items) lines
 
 -- the zone of a component is after the zones if it is new; and new is old and after it, written, its VEVENT
@@ -59,7 +59,7 @@ pub record WritesComponents (IsLine : revisions.Slot → events.Attendee → Lis
 
 abbrev pub IsRequestOf : MeetingText → List ℕ → Type 0
 IsRequestOf meeting octets =
-    (said : List Event) → AreWritten meeting said
+    (said : List EventComponent) → AreWritten meeting said
     → IsRequest (address_octets meeting.organiser.now) (text_octets meeting.uid.now) (revision_of meeting.revision) said octets
 
 abbrev pub IsCancelOf : Cancel → List ℕ → Type 0

@@ -2,15 +2,15 @@
 use Rattle.std.specs.Prelude.{◌≡◌, ◌≢◌, ℕ, ◌<◌, ◌||◌, ◌&&◌, ◌==◌, Bool, true, false, List, [], length, map, filter, Contains, All, AllPairs, MatchOption, Option, Some, is_some, option_map, if◌then◌else◌}
 use Rattle.std.specs.List.{list_any, AllZip}
 use Rattle.std.specs.Str.{bytes_eq}
-use Rattle.profile.specs.events.Events.{Event}
+use Rattle.profile.specs.events.EventComponents.{EventComponent as SaidComponent}
 use Rattle.profile.specs.events.Confirmed.{AreApart, has_series}
-use Rattle.cal_events.specs.OwnInstances.{booked_at}
+use Rattle.cal_events.specs.OwnInstances.{own_instance_at}
 use Rattle.cal_events.specs.SaidSeries.{IsSeriesOf, series_said}
 use Rattle.itip_messages.specs.Bodies.{IsCanonical, IsReady}
 use Rattle.profile.specs.rooms.Messages as profile
 use Rattle.profile.specs.rooms.Messages.{IsContent, canonical, cancels, is_cancel, raised_to, own_revision, AreBySlot}
-use Rattle.profile.specs.events.Events as events
-use Rattle.profile.specs.events.Meetings.{Meeting, AreOfOne, events_of}
+use Rattle.profile.specs.events.EventComponents as events
+use Rattle.profile.specs.events.Events.{Event, AreOfOne, components_of}
 use Rattle.profile.specs.text.Values.{IsClockSeconds}
 use Rattle.profile.specs.rooms.Revisions as revisions
 use Rattle.ical_values.specs.Octets.{text_octets, address_octets}
@@ -19,7 +19,7 @@ use Rattle.itip_messages.specs.declared.room_message.MessageComponent.{MessageCo
 use Rattle.cal_events.specs.declared.component.EventComponent.{EventComponent}
 use Rattle.cal_events.specs.declared.component.Purpose.{Purpose}
 use Rattle.cal_events.specs.declared.component.Purpose.TheVariants as purposes
-use Rattle.cal_events.specs.Events.{event_of}
+use Rattle.cal_events.specs.Events.{component_of}
 use Rattle.itip_messages.specs.declared.room_message.Method.{Method}
 use Rattle.itip_messages.specs.declared.room_message.Method.TheVariants.{Request, Add, Cancel}
 use Rattle.itip_messages.specs.declared.room_message.RoomMessage.{RoomMessage}
@@ -38,7 +38,7 @@ purpose_of Cancel = purposes.Cancel
 
 -- the slot of a VEVENT
 abbrev pub event_slot : EventComponent → revisions.Slot
-event_slot event = profile.slot_of (event_of event)
+event_slot event = profile.slot_of (component_of event)
 
 -- the slot can be written as a stamp
 abbrev pub IsDated : revisions.Slot → Type 0
@@ -46,12 +46,12 @@ IsDated revisions.Whole = Unit {0}
 IsDated (revisions.At t) = IsClockSeconds t
 
 -- the component is what an event of such a message says, where the whole meeting in it has this revision
-pub record SaysComponent (method : events.Method) (whole : Option revisions.Revision) (event : Event) (component : MessageComponent) : Type 0 where
+pub record SaysComponent (method : events.Method) (whole : Option revisions.Revision) (event : SaidComponent) (component : MessageComponent) : Type 0 where
   pub slot : slot_of component.slot ≡ profile.slot_of event
   pub dated : IsDated (profile.slot_of event)
   pub revision : revision_of component.revision ≡ raised_to whole (own_revision event)
   pub ready : IsReady event
-  pub singles : AreApart event (map (booked_at event) component.singles.items)
+  pub singles : AreApart event (map (own_instance_at event) component.singles.items)
   pub series : MatchOption component.series (has_series event ≡ false) (λ series. IsSeriesOf event (series_said series))
   pub cancelled : component.cancelled ≡ cancels method event
   pub canonical : IsCanonical component.canonical.items event
@@ -60,21 +60,21 @@ pub record SaysComponent (method : events.Method) (whole : Option revisions.Revi
 -- it is that message: its components are the events by their slots
 pub record RepresentsMessage (message : RoomMessage) (said : profile.Message) : Type 0 where
   pub method : method_said message.method ≡ said.method
-  pub organiser : (event : Event) → Contains (events_of said.meeting) event → event.organiser ≡ Some (address_octets message.organiser)
-  pub uid : (event : Event) → Contains (events_of said.meeting) event → text_octets message.uid ≡ event.uid
-  pub events : List Event
-  pub by_slot : AreBySlot (events_of said.meeting) events
+  pub organiser : (event : SaidComponent) → Contains (components_of said.meeting) event → event.organiser ≡ Some (address_octets message.organiser)
+  pub uid : (event : SaidComponent) → Contains (components_of said.meeting) event → text_octets message.uid ≡ event.uid
+  pub events : List SaidComponent
+  pub by_slot : AreBySlot (components_of said.meeting) events
   pub each : AllZip (SaysComponent said.method (option_map own_revision said.meeting.master)) events message.components.items
 
 -- the meeting is one that a message says
-pub record IsOfMessage (meeting : Meeting) : Type 0 where
-  pub some : 0 < length (events_of meeting)
-  pub one : AreOfOne (events_of meeting)
-  pub organised : All (λ event. is_some event.organiser ≡ true) (events_of meeting)
-  pub stamped : All (λ event. is_some event.stamp ≡ true) (events_of meeting)
-  pub dated : All (λ event. IsDated (profile.slot_of event)) (events_of meeting)
-  pub ready : All IsReady (events_of meeting)
-  pub differ : AllPairs ◌≢◌ (map profile.slot_of (events_of meeting))
+pub record IsOfMessage (meeting : Event) : Type 0 where
+  pub some : 0 < length (components_of meeting)
+  pub one : AreOfOne (components_of meeting)
+  pub organised : All (λ event. is_some event.organiser ≡ true) (components_of meeting)
+  pub stamped : All (λ event. is_some event.stamp ≡ true) (components_of meeting)
+  pub dated : All (λ event. IsDated (profile.slot_of event)) (components_of meeting)
+  pub ready : All IsReady (components_of meeting)
+  pub differ : AllPairs ◌≢◌ (map profile.slot_of (components_of meeting))
 
 -- an ATTENDEE line of the component has the room's address
 abbrev pub component_names : List ℕ → MessageComponent → Bool
@@ -85,8 +85,8 @@ abbrev pub cancels_for_all : RoomMessage → MessageComponent → Bool
 cancels_for_all message component = is_cancel (method_said message.method) && (length component.attendees == 0)
 
 -- the component addresses the message to a room
-abbrev pub is_for : List ℕ → RoomMessage → MessageComponent → Bool
-is_for room message component = component_names room component || cancels_for_all message component
+abbrev pub is_component_for : List ℕ → RoomMessage → MessageComponent → Bool
+is_component_for room message component = component_names room component || cancels_for_all message component
 
 -- where it is addressed to the room, the component is a part for it: of a CANCEL one that addresses it, of another message each
 abbrev pub is_part_of : Method → Bool → Bool
@@ -108,6 +108,6 @@ part_for room message component = record {
 }
 
 -- the parts that its components are, where one of them addresses the room
-abbrev pub parts_for : List ℕ → RoomMessage → List revisions.Part
-parts_for room message =
-    if list_any (is_for room message) message.components.items then map (part_for room message) (filter (has_part room message) message.components.items) else []
+abbrev pub message_parts_for : List ℕ → RoomMessage → List revisions.Part
+message_parts_for room message =
+    if list_any (is_component_for room message) message.components.items then map (part_for room message) (filter (has_part room message) message.components.items) else []

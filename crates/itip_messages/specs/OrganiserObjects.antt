@@ -2,7 +2,7 @@
 use Rattle.std.specs.Prelude.{◌≡◌, ℕ, true, false, List}
 use Rattle.std.specs.List.{AllZip, list_all}
 use Rattle.profile.specs.text.Trees.{Tree, tree_own}
-use Rattle.profile.specs.events.Events.{Event}
+use Rattle.profile.specs.events.EventComponents.{EventComponent}
 use Rattle.profile.specs.organisers.Objects as profile
 use Rattle.profile.specs.organisers.Objects.{AreOfMeeting, has_one_attendee, is_of_attendee, read_as}
 use Rattle.profile.specs.rooms.Messages.{own_revision}
@@ -24,13 +24,13 @@ operation_said Reply = profile.Reply
 operation_said Refresh = profile.Refresh
 
 -- what its VEVENTs are read for
-abbrev pub purpose_of : Operation → Purpose
-purpose_of Store = purposes.Request
-purpose_of Reply = purposes.Cancel
-purpose_of Refresh = purposes.Cancel
+abbrev pub operation_purpose : Operation → Purpose
+operation_purpose Store = purposes.Request
+operation_purpose Reply = purposes.Cancel
+operation_purpose Refresh = purposes.Cancel
 
 -- the component is what an event says
-pub record SaysObjectComponent (event : Event) (component : ObjectComponent) : Type 0 where
+pub record SaysObjectComponent (event : EventComponent) (component : ObjectComponent) : Type 0 where
   pub slot : slot_of component.slot ≡ messages.slot_of event
   pub dated : IsDated (messages.slot_of event)
   pub revision : revision_of component.revision ≡ own_revision event
@@ -49,13 +49,13 @@ pub record RepresentsObject (object : OrganiserObject) (said : profile.Organiser
   pub each : AllZip SaysObjectComponent said.events object.components.items
 
 -- the object, where it asks for this, says something to an organiser, and it is that
-abbrev pub IsObjectOf : Tree → profile.Operation → OrganiserObject → Type 0
-IsObjectOf object operation message =
+abbrev pub IsOrganiserObjectOf : Tree → profile.Operation → OrganiserObject → Type 0
+IsOrganiserObjectOf object operation message =
     (said : profile.OrganiserObject) × (said.operation ≡ operation) × RepresentsObject message said
     × (profile.NamesOperation (tree_own object) operation → profile.SaysOrganiserObject object said)
 
 -- an attendee speaks, and one of the events doesn't have one attendee
-abbrev pub IsNotOneEach : profile.Operation → List Event → ℕ → Type 0
+abbrev pub IsNotOneEach : profile.Operation → List EventComponent → ℕ → Type 0
 IsNotOneEach operation events n = (n ≡ 64) × (is_of_attendee operation ≡ true) × (list_all has_one_attendee events ≡ false)
 
 -- what can be wrong with the VEVENTs of an object, where it asks for this

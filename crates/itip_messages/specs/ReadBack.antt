@@ -4,9 +4,9 @@ use Rattle.std.specs.List.{flat_map, list_all, AllZip}
 use Rattle.std.specs.Str.{IsUtf8}
 use Rattle.profile.specs.text.Lines.{is_control, logical_lines, reads_as_lines}
 use Rattle.profile.specs.text.Objects.{IsObject}
-use Rattle.profile.specs.text.Trees.{Tree, tree_name, tree_own, tree_inside, vevents}
+use Rattle.profile.specs.text.Trees.{Tree, tree_own, vevents}
 use Rattle.profile.specs.text.Values.{IsAddress, lower_case}
-use Rattle.profile.specs.events.Events.{IsAttendee, Participation, NeedsAction, Accepted, Declined}
+use Rattle.profile.specs.events.EventComponents.{IsAttendee, Participation, NeedsAction, Accepted, Declined}
 use Rattle.profile.specs.events.Properties.{Says, IsUidLine, IsAddressLine, IsSequenceLine, IsStampLine, lines_named}
 use Rattle.profile.specs.checker.Instances.{Key}
 use Rattle.profile.specs.rooms.Revisions.{Part, Slot, Whole, At}
@@ -65,7 +65,7 @@ pub record ReadsAs (word octets : List ℕ) (events : List (List (List ℕ))) : 
   pub reads : reads_as_lines false octets ≡ true
   pub lines : logical_lines octets ≡ object_lines (Some word) (flat_map (λ lines. lines) events)
   pub tree : Tree
-  pub object : IsObject tree_name tree_own tree_inside false tree (logical_lines octets)
+  pub object : IsObject false tree (logical_lines octets)
   pub method : lines_named (codes "METHOD") (tree_own tree) ≡ (codes "METHOD:" ++ word) ∷ []
   pub each : AllZip IsVevent (vevents tree) events
 
@@ -77,16 +77,16 @@ pub record IsReadAddress (text : List ℕ) : Type 0 where
   pub lower : lower_case text ≡ text
 
 -- what an outcome answers (RFC 5545 3.2.12)
-abbrev pub participation_of : Outcome → Participation
-participation_of Accept = Accepted
-participation_of (Busy a b t) = Declined
-participation_of SeriesLimit = Declined
-participation_of SinglesLimit = Declined
+abbrev pub participation_answered : Outcome → Participation
+participation_answered Accept = Accepted
+participation_answered (Busy a b t) = Declined
+participation_answered SeriesLimit = Declined
+participation_answered SinglesLimit = Declined
 
 -- the start that RECURRENCE-ID names, where one instance is answered
-abbrev pub instance_of : Slot → Option ℤ
-instance_of Whole = None
-instance_of (At t) = Some t
+abbrev pub instant_of_slot : Slot → Option ℤ
+instant_of_slot Whole = None
+instant_of_slot (At t) = Some t
 
 -- the own lines of a VEVENT say a room's answer to a part: each property once, and the room as the one attendee (RFC 5546 3.2.3)
 pub record SaysAnswer (room : List ℕ) (part : Part) (moment : ℤ) (outcome : Outcome) (own : List (List ℕ)) : Type 0 where
@@ -94,8 +94,8 @@ pub record SaysAnswer (room : List ℕ) (part : Part) (moment : ℤ) (outcome : 
   pub organiser : Says (codes "ORGANIZER") true IsAddressLine own (Some part.organiser)
   pub sequence : Says (codes "SEQUENCE") true IsSequenceLine own (Some part.revision.sequence)
   pub stamp : Says (codes "DTSTAMP") true IsStampLine own (Some moment)
-  pub instance : Says (codes "RECURRENCE-ID") false IsStampLine own (instance_of part.slot)
-  pub attendees : AllZip IsAttendee (lines_named (codes "ATTENDEE") own) (record { address = room; participation = participation_of outcome; scheduled = true } ∷ [])
+  pub instance : Says (codes "RECURRENCE-ID") false IsStampLine own (instant_of_slot part.slot)
+  pub attendees : AllZip IsAttendee (lines_named (codes "ATTENDEE") own) (record { address = room; participation = participation_answered outcome; scheduled = true } ∷ [])
 
 -- the own lines of a VEVENT ask for a meeting: each property once, and the room as the one attendee (RFC 5546 3.2.6)
 pub record SaysRefresh (room organiser uid : List ℕ) (moment : ℤ) (own : List (List ℕ)) : Type 0 where

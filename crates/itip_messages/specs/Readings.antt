@@ -13,8 +13,8 @@ use Rattle.itip_messages.specs.Messages.{RepresentsMessage, method_said}
 use Rattle.itip_messages.specs.OrganiserObjects.{RepresentsObject, operation_said}
 use Rattle.itip_messages.specs.declared.message.Message.{Message}
 use Rattle.itip_messages.specs.declared.message.Message.TheVariants.{ToRooms, ToOrganiser}
-use Rattle.itip_messages.specs.declared.message.Kind.{Kind}
-use Rattle.itip_messages.specs.declared.message.Kind.TheVariants as kinds
+use Rattle.itip_messages.specs.declared.message.Addressee.{Addressee}
+use Rattle.itip_messages.specs.declared.message.Addressee.TheVariants as kinds
 
 -- the object says a message, and it is that
 abbrev pub IsMessageOf : Tree → Message → Type 0
@@ -31,7 +31,7 @@ abbrev pub ReadFault : List ℕ → Fault → Type 0
 ReadFault octets fault = IsRefusalOf true octets fault ⊎ RefusesBy (MessageTextFault octets) fault
 
 -- METHOD among the properties of a VCALENDAR says that it is of this kind
-abbrev pub NamesKind : List (List ℕ) → Kind → Type 0
+abbrev pub NamesKind : List (List ℕ) → Addressee → Type 0
 NamesKind own (kinds.ToRooms method) = NamesMethod own (method_said method)
 NamesKind own (kinds.ToOrganiser operation) = NamesOperation own (operation_said operation)
 
@@ -42,7 +42,7 @@ IsOperationWord objects.Reply word = is_same_name word (codes "REPLY") ≡ true
 IsOperationWord objects.Refresh word = is_same_name word (codes "REFRESH") ≡ true
 
 -- the word of METHOD says that it is of this kind
-abbrev pub IsKindWord : List ℕ → Kind → Type 0
+abbrev pub IsKindWord : List ℕ → Addressee → Type 0
 IsKindWord word (kinds.ToRooms method) = is_same_name word (method_word (method_said method)) ≡ true
 IsKindWord word (kinds.ToOrganiser operation) = IsOperationWord (operation_said operation) word
 

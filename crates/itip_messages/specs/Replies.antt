@@ -19,31 +19,31 @@ abbrev pub text_now : Bor (List ℕ) → List ℕ
 text_now text = text.now
 
 -- a written line of a name with its colon, and a stamp of this instant
-abbrev pub IsStampLine : List ℕ → ℤ → List ℕ → Type 0
-IsStampLine name instant octets = (text : List ℕ) × WritesStamp text instant × (octets ≡ folded (name ++ text))
+abbrev pub IsWrittenStampLine : List ℕ → ℤ → List ℕ → Type 0
+IsWrittenStampLine name instant octets = (text : List ℕ) × WritesStamp text instant × (octets ≡ folded (name ++ text))
 
-abbrev pub key_of : ConflictKey → Key
-key_of key = record { organiser = key.organiser.now; uid = key.uid.now; slot = key.slot }
+abbrev pub conflict_key : ConflictKey → Key
+conflict_key key = record { organiser = key.organiser.now; uid = key.uid.now; slot = key.slot }
 
 -- a decline for these two instances
 abbrev pub busy : Conflict → messages.Outcome
-busy conflict = messages.Busy (key_of conflict.first) (key_of conflict.second) conflict.instant
+busy conflict = messages.Busy (conflict_key conflict.first) (conflict_key conflict.second) conflict.instant
 
 -- the conflict is of these instances, at this instant
 abbrev pub IsConflict : ℤ → Key → Key → Conflict → Type 0
 IsConflict instant first second conflict =
-    (conflict.instant ≡ instant) × (key_of conflict.first ≡ first) × (key_of conflict.second ≡ second)
+    (conflict.instant ≡ instant) × (conflict_key conflict.first ≡ first) × (conflict_key conflict.second ≡ second)
 
-abbrev pub outcome_of : Decision → messages.Outcome
-outcome_of Accepted = messages.Accept
-outcome_of (Busy conflict) = busy conflict
-outcome_of SeriesLimit = messages.SeriesLimit
-outcome_of SinglesLimit = messages.SinglesLimit
+abbrev pub decision_outcome : Decision → messages.Outcome
+decision_outcome Accepted = messages.Accept
+decision_outcome (Busy conflict) = busy conflict
+decision_outcome SeriesLimit = messages.SeriesLimit
+decision_outcome SinglesLimit = messages.SinglesLimit
 
 -- one instance, or the whole meeting
-abbrev pub slot_of : Option ℤ → revisions.Slot
-slot_of None = revisions.Whole
-slot_of (Some instant) = revisions.At instant
+abbrev pub slot_at : Option ℤ → revisions.Slot
+slot_at None = revisions.Whole
+slot_at (Some instant) = revisions.At instant
 
 -- new is old and lines of that kind after it, written
 abbrev pub WritesLines : List ℕ → List ℕ → (List (List ℕ) → Type 0) → Type 0
@@ -52,19 +52,19 @@ WritesLines old new AreLines = (lines : List (List ℕ)) × AreLines lines × (n
 -- the room's ATTENDEE line
 abbrev pub attendee_line : ReplyEvent → List ℕ
 attendee_line event =
-    codes "ATTENDEE;PARTSTAT=" ++ messages.partstat (outcome_of event.decision) ++ codes ":" ++ address_octets event.room.now
+    codes "ATTENDEE;PARTSTAT=" ++ messages.partstat (decision_outcome event.decision) ++ codes ":" ++ address_octets event.room.now
 
 -- the event answers this part
-pub record Answers (event : ReplyEvent) (part : revisions.Part) : Type 0 where
+pub record AnswersPart (event : ReplyEvent) (part : revisions.Part) : Type 0 where
   pub organiser : address_octets event.organiser.now ≡ part.organiser
   pub uid : text_octets event.uid.now ≡ part.uid
-  pub slot : slot_of event.recurrence ≡ part.slot
+  pub slot : slot_at event.recurrence ≡ part.slot
   pub sequence : event.sequence ≡ part.revision.sequence
 
 -- the lines of the event's VEVENT, to whichever part it answers
 abbrev pub IsWrittenEvent : ReplyEvent → List (List ℕ) → Type 0
 IsWrittenEvent event lines =
-    (part : revisions.Part) → Answers event part → messages.IsReplyEvent (address_octets event.room.now) part event.moment (outcome_of event.decision) lines
+    (part : revisions.Part) → AnswersPart event part → messages.IsReplyEvent (address_octets event.room.now) part event.moment (decision_outcome event.decision) lines
 
 -- new is old and the VEVENTs of these events after it, written
 abbrev pub WritesEvents : List ReplyEvent → List ℕ → List ℕ → Type 0

@@ -2,10 +2,10 @@
 use Rattle.std.specs.Prelude.{◌≡◌, ◌↔◌, ◌∷◌, filter, ℕ, ◌<◌, ◌^◌, Bool, true, List, [], map, Option, Some, None, pos}
 use Rattle.std.specs.List.{AllZip}
 use Rattle.std.specs.Str.{IsUtf8}
-use Rattle.profile.specs.series.Rules.{Parts, is_rule_day}
+use Rattle.profile.specs.series.Rules.{Rule, is_rule_day}
 use Rattle.profile.specs.text.Values.{IsUid}
-use Rattle.profile.specs.events.Events.{Attendee, Event, Participation, Request, Cancel, NeedsAction}
-use Rattle.profile.specs.events.Meetings.{Meeting, SpellsMeeting, is_master, is_override}
+use Rattle.profile.specs.events.EventComponents.{Attendee, EventComponent, Participation, Request, Cancel, NeedsAction}
+use Rattle.profile.specs.events.Events.{Event, SpellsEvent, is_master, is_override}
 use Rattle.profile.specs.events.ZonedTimes.{EventTimes}
 use Rattle.profile.specs.organisers.Objects.{counted}
 use Rattle.profile.specs.organisers.Organisers.{IsSeenOf, OrganiserBook, Stored}
@@ -38,7 +38,7 @@ abbrev pub no_times : EventTimes
 no_times = record { zone = None; local = pos 0; start = pos 0; length = record { days = 0; seconds = 0 } }
 
 -- the event of a CANCEL: whose it is, which revision, whether it is called off, and whom it is for
-abbrev pub cancel_event : (organiser uid : List ℕ) → Revision → Bool → List (List ℕ) → Event
+abbrev pub cancel_event : (organiser uid : List ℕ) → Revision → Bool → List (List ℕ) → EventComponent
 cancel_event organiser uid revision called_off to = record {
   uid = uid;
   organiser = Some organiser;
@@ -65,7 +65,7 @@ cancel_part organiser uid revision = record { organiser = organiser; uid = uid; 
 -- ---- a meeting again
 
 -- both are missing, or both have the same days
-abbrev pub IsSameRule : Option Parts → Option Parts → Type 0
+abbrev pub IsSameRule : Option Rule → Option Rule → Type 0
 IsSameRule None None = Unit {0}
 IsSameRule (Some rule) (Some back) = (day : ℕ) → is_rule_day back day ≡ is_rule_day rule day
 IsSameRule None (Some back) = ⊥
@@ -73,7 +73,7 @@ IsSameRule (Some rule) None = ⊥
 
 -- the event that is said of an event of a store, in this revision: what is added and taken away is ascending, and of what is taken away that
 -- counts which is where a start may be; each attendee occurs once, as such a one
-pub record IsSaidAgain (IsSuch : Slot → Attendee → Attendee → Type 0) (revision : Revision) (event said : Event) : Type 0 where
+pub record IsSaidAgain (IsSuch : Slot → Attendee → Attendee → Type 0) (revision : Revision) (event said : EventComponent) : Type 0 where
   pub uid : said.uid ≡ event.uid
   pub organiser : said.organiser ≡ event.organiser
   pub stamp : said.stamp ≡ Some revision.stamp
@@ -94,31 +94,31 @@ abbrev pub HasNoAnswer : Slot → Attendee → Attendee → Type 0
 HasNoAnswer slot attendee said = said ≡ attendee_at attendee.address
 
 -- as it is sent
-abbrev pub IsSentAs : Revision → Event → Event → Type 0
+abbrev pub IsSentAs : Revision → EventComponent → EventComponent → Type 0
 IsSentAs = IsSaidAgain HasNoAnswer
 
 -- the first of these, if there is one
-abbrev pub first_of : List Event → Option Event
+abbrev pub first_of : List EventComponent → Option EventComponent
 first_of [] = None
 first_of (event ∷ events) = Some event
 
 -- the meeting of these events
-abbrev pub meeting_of : List Event → Meeting
+abbrev pub meeting_of : List EventComponent → Event
 meeting_of events = record { master = first_of (filter is_master events); overrides = filter is_override events }
 
 -- ---- a REQUEST
 
 -- that of a meeting with these events
-abbrev pub request_of : List Event → Message
+abbrev pub request_of : List EventComponent → Message
 request_of events = record { method = Request; meeting = meeting_of events }
 
 -- the event in this revision
-abbrev pub revised : Revision → Event → Event
+abbrev pub revised : Revision → EventComponent → EventComponent
 revised revision event = record event { sequence = revision.sequence; stamp = Some revision.stamp }
 
 -- the octets spell the REQUEST of such events, which says to each room what these events say in this revision
-pub record SpellsRequest (revision : Revision) (events : List Event) (octets : List ℕ) : Type 0 where
-  pub sent : List Event
+pub record SpellsRequest (revision : Revision) (events : List EventComponent) (octets : List ℕ) : Type 0 where
+  pub sent : List EventComponent
   pub each : AllZip (IsSentAs revision) events sent
   pub spells : SpellsMessage octets (request_of sent)
   pub parts : (room : List ℕ) (parts : List Part) → AreParts room (request_of sent) parts ↔ AreParts room (request_of (map (revised revision) events)) parts
@@ -133,6 +133,6 @@ HasAnswered book stored slot attendee said =
 
 -- the octets spell an event with its instances: that of the store, with the answers that are seen
 pub record SpellsShown (book : OrganiserBook) (stored : Stored) (octets : List ℕ) : Type 0 where
-  pub shown : List Event
+  pub shown : List EventComponent
   pub each : AllZip (IsSaidAgain (HasAnswered book stored) stored.revision) stored.events shown
-  pub spells : SpellsMeeting octets (meeting_of shown)
+  pub spells : SpellsEvent octets (meeting_of shown)

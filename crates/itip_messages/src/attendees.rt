@@ -33,7 +33,7 @@ impl Model for Attendees {
     ghost use Rattle.std.specs.Ordering.{nat_cmp};
     ghost use Rattle.std.specs.Cmp.Lexicographic.{slice_cmp};
     ghost use Rattle.ical_values.specs.Octets.{address_octets};
-    ghost use Rattle.profile.specs.events.Events as events;
+    ghost use Rattle.profile.specs.events.EventComponents as events;
     ghost use Rattle.cal_events.specs.Events.{attendee_of};
     ghost use Rattle.itip_messages.specs.Attendees.{octets_of};
 

@@ -5,13 +5,13 @@ ghost use Rattle.std.specs.Prelude.{◌≡◌, ◌≤◌, ◌≤ℤ◌, pos, ◌
 ghost use Rattle.std.specs.List.{AllZip};
 ghost use Rattle.ical_values.specs.Written.{Appends};
 ghost use Rattle.profile.specs.text.Values.{IsClockSeconds, SpellsDate, WritesStamp, duration_text};
-ghost use Rattle.profile.specs.events.Events.{Event};
+ghost use Rattle.profile.specs.events.EventComponents.{EventComponent as SaidComponent};
 ghost use Rattle.profile.specs.series.Rules as rules;
 ghost use Rattle.profile.specs.events.Properties.{BothOrNeither};
 ghost use Rattle.profile.specs.rooms.Messages.{AreAscending, Content, IsContent, WritesEnd, canonical, is_in_dates, list_lines};
 ghost use Rattle.cal_rules.specs.Views.{until_of};
 ghost use Rattle.cal_zones.specs.Kinds.{zone_of};
-ghost use Rattle.cal_events.specs.Events.{event_of, times_of};
+ghost use Rattle.cal_events.specs.Events.{component_of, times_of};
 ghost use Rattle.itip_messages.specs.Bodies.{AppendsOthers, AppendsRule, AppendsStart, AppendsTimes, AppendsZone, EndIsTold, IsCanonical, IsCutAtZone, IsReady, IsTold, crlf_lines, zone_place};
 
 use cal_days::Day;
@@ -31,7 +31,7 @@ const FIRST_SECOND: i64 = -86_400;
 pub fn zone_lines(body: &[u8]) -> usize
     ensures place { result ≡ zone_place body.now }
     ensures inside { result ≤ length body.now }
-    ensures cut { (content : Content) (event : Event) → IsContent content event → body.now ≡ canonical content → IsCutAtZone content result }
+    ensures cut { (content : Content) (event : SaidComponent) → IsContent content event → body.now ≡ canonical content → IsCutAtZone content result }
 {
     let Some(third) = memchr(b'G', body) else {
         return body.len();
@@ -46,8 +46,8 @@ pub fn zone_lines(body: &[u8]) -> usize
 
 /// The body of a VEVENT. It fails only when out of memory.
 pub(crate) fn canonical_body(alloc: Global, event: &EventComponent) -> Result<Vec<u8>, AllocError>
-    requires { IsReady (event_of event.now) }
-    ensures { IfOk result (λ body. IsCanonical body.items (event_of event.now)) }
+    requires { IsReady (component_of event.now) }
+    ensures { IfOk result (λ body. IsCanonical body.items (component_of event.now)) }
 {
     let mut body = Vec::new(alloc);
     write_start(&mut body, &event.times)?;

@@ -2,7 +2,7 @@
 //! zones come first, each once under the names `Z1`, `Z2`, .., and then the VEVENTs in their order.
 ghost use Rattle.std.specs.Prelude.{◌≡◌, ◌++◌, ℕ, List, OnOk, OnErr, option_map};
 ghost use Rattle.std.specs.List.{AllZip};
-ghost use Rattle.profile.specs.events.Events as events;
+ghost use Rattle.profile.specs.events.EventComponents as events;
 ghost use Rattle.profile.specs.rooms.Revisions as revisions;
 ghost use Rattle.profile.specs.organisers.Objects.{counted};
 ghost use Rattle.profile.specs.organisers.Sent.{IsAsked};

@@ -47,11 +47,11 @@ impl Message {
         ensures fault { IfErr result (RefusesBy (MessageFault (tree_of object.now))) }
     {
         let properties = Properties::of(alloc, object)?;
-        match Kind::of(&properties)? {
-            Kind::ToRooms(method) => Ok(Message::ToRooms(RoomMessage::read(
+        match Addressee::of(&properties)? {
+            Addressee::ToRooms(method) => Ok(Message::ToRooms(RoomMessage::read(
                 alloc, object, method,
             )?)),
-            Kind::ToOrganiser(operation) => Ok(Message::ToOrganiser(OrganiserObject::read(
+            Addressee::ToOrganiser(operation) => Ok(Message::ToOrganiser(OrganiserObject::read(
                 alloc, object, operation,
             )?)),
         }
@@ -60,47 +60,47 @@ impl Message {
 
 /// What METHOD says that a message is.
 #[derive(Clone, Copy)]
-enum Kind {
+enum Addressee {
     ToRooms(Method),
     ToOrganiser(Operation),
 }
 
-impl Kind {
+impl Addressee {
     /// By the properties of an object; without METHOD it is a store.
     /// Refused: 60 for a word that names no supported method, or for two lines.
-    fn of(properties: &Properties<'_>) -> Result<Kind, Refusal>
+    fn of(properties: &Properties<'_>) -> Result<Addressee, Refusal>
         ensures named { IfOk result (NamesKind properties.now) }
         ensures refuses { IfErr result (λ e. IsTrue (is_message_fault e.number)) }
         ensures fault { IfErr result (λ e. MethodFault properties.now e.number) }
     {
         match properties.optional("METHOD", Refusal::BAD_METHOD)? {
-            Some(line) => Kind::named(line),
-            None => Ok(Kind::ToOrganiser(Operation::Store)),
+            Some(line) => Addressee::named(line),
+            None => Ok(Addressee::ToOrganiser(Operation::Store)),
         }
     }
 
     /// By the word of METHOD.
     /// Refused: 60 for one that isn't supported.
-    fn named(line: Line<'_>) -> Result<Kind, Refusal>
+    fn named(line: Line<'_>) -> Result<Addressee, Refusal>
         ensures named { IfOk result (IsKindWord (line_value (line_text line.entry))) }
         ensures refuses { IfErr result (λ e. IsTrue (is_message_fault e.number)) }
         ensures fault { IfErr result (λ e. WordFault (line_value (line_text line.entry)) e.number) }
     {
         let word = line.value();
         if word.eq_ignore_ascii_case("REQUEST") {
-            return Ok(Kind::ToRooms(Method::Request));
+            return Ok(Addressee::ToRooms(Method::Request));
         }
         if word.eq_ignore_ascii_case("ADD") {
-            return Ok(Kind::ToRooms(Method::Add));
+            return Ok(Addressee::ToRooms(Method::Add));
         }
         if word.eq_ignore_ascii_case("CANCEL") {
-            return Ok(Kind::ToRooms(Method::Cancel));
+            return Ok(Addressee::ToRooms(Method::Cancel));
         }
         if word.eq_ignore_ascii_case("REPLY") {
-            return Ok(Kind::ToOrganiser(Operation::Reply));
+            return Ok(Addressee::ToOrganiser(Operation::Reply));
         }
         if word.eq_ignore_ascii_case("REFRESH") {
-            return Ok(Kind::ToOrganiser(Operation::Refresh));
+            return Ok(Addressee::ToOrganiser(Operation::Refresh));
         }
         Err(Refusal::BAD_METHOD)
     }

@@ -8,11 +8,11 @@ ghost use Rattle.ical_tree.specs.Tree.{tree_of};
 ghost use Rattle.profile.specs.faults.Faults.{is_message_fault};
 ghost use Rattle.profile.specs.organisers.Objects.{has_one_attendee, is_of_attendee};
 ghost use Rattle.ical_values.specs.Octets.{address_octets};
-ghost use Rattle.cal_events.specs.Events.{event_of};
+ghost use Rattle.cal_events.specs.Events.{component_of};
 ghost use Rattle.cal_events.specs.declared.component.EventComponent.{EventComponent};
 ghost use Rattle.itip_messages.specs.Bodies.{IsReady};
 ghost use Rattle.itip_messages.specs.Messages.{IsDated, event_slot};
-ghost use Rattle.itip_messages.specs.OrganiserObjects.{IsNotOneEach, IsObjectOf, IsOrganiserFault, SaysObjectComponent, operation_said, purpose_of};
+ghost use Rattle.itip_messages.specs.OrganiserObjects.{IsNotOneEach, IsOrganiserObjectOf, IsOrganiserFault, SaysObjectComponent, operation_said, operation_purpose};
 
 use crate::attendees::Attendees;
 use crate::body::canonical_body;
@@ -38,7 +38,7 @@ pub enum Operation {
 impl Operation {
     /// What a VEVENT of such an object is read for: DTSTART is required only in a store.
     fn purpose(self) -> Purpose
-        ensures { result ≡ purpose_of self }
+        ensures { result ≡ operation_purpose self }
     {
         match self {
             Operation::Store => Purpose::Request,
@@ -76,8 +76,8 @@ impl ObjectComponent {
     fn of(alloc: Global, event: EventComponent) -> Result<ObjectComponent, AllocError>
         requires stamp { IsSome event.stamp }
         requires dated { IsDated (event_slot event) }
-        requires ready { IsReady (event_of event) }
-        ensures { IfOk result (SaysObjectComponent (event_of event)) }
+        requires ready { IsReady (component_of event) }
+        ensures { IfOk result (SaysObjectComponent (component_of event)) }
     {
         let canonical = canonical_body(alloc, &event)?;
         let slot = slot_in(&event);
@@ -115,7 +115,7 @@ impl OrganiserObject {
         object: &Component,
         operation: Operation,
     ) -> Result<OrganiserObject, Fault>
-        ensures says { IfOk result (IsObjectOf (tree_of object.now) (operation_said operation)) }
+        ensures says { IfOk result (IsOrganiserObjectOf (tree_of object.now) (operation_said operation)) }
         ensures refuses { IfErr result (RefusesOnly is_message_fault) }
         ensures fault { IfErr result (RefusesBy (IsOrganiserFault (tree_of object.now) (operation_said operation))) }
     {
@@ -135,8 +135,8 @@ impl OrganiserObject {
 /// Refuses VEVENTs in which an attendee speaks, where one doesn't have one attendee.
 /// Refused: 64 for such a VEVENT.
 fn judge_attendees(operation: Operation, events: &[EventComponent]) -> Result<(), Refusal>
-    ensures each { OnOk result (is_of_attendee (operation_said operation) ≡ true → list_all has_one_attendee (map event_of events.now) ≡ true) }
-    ensures fault { IfErr result (λ e. IsNotOneEach (operation_said operation) (map event_of events.now) e.number) }
+    ensures each { OnOk result (is_of_attendee (operation_said operation) ≡ true → list_all has_one_attendee (map component_of events.now) ≡ true) }
+    ensures fault { IfErr result (λ e. IsNotOneEach (operation_said operation) (map component_of events.now) e.number) }
 {
     if operation.is_of_attendee() && !all_have_one(events) {
         return Err(Refusal::NOT_ONE_ATTENDEE);
@@ -146,14 +146,14 @@ fn judge_attendees(operation: Operation, events: &[EventComponent]) -> Result<()
 
 /// Whether each of some VEVENTs has one attendee.
 fn all_have_one(events: &[EventComponent]) -> bool
-    ensures { result ≡ list_all (λ event. has_one_attendee (event_of event)) events.now }
+    ensures { result ≡ list_all (λ event. has_one_attendee (component_of event)) events.now }
 {
     events.iter().all(has_one_attendee)
 }
 
 /// Whether a VEVENT has one attendee; several lines of one address are one.
 fn has_one_attendee(event: &EventComponent) -> bool
-    ensures { result ≡ has_one_attendee (event_of event.now) }
+    ensures { result ≡ has_one_attendee (component_of event.now) }
 {
     match event.attendees.split_first() {
         Some((first, others)) => are_all(first, others),
@@ -175,8 +175,8 @@ fn components_of(
 ) -> Result<Vec<ObjectComponent>, AllocError>
     requires stamped { (event : EventComponent) → Contains events.items event → IsSome event.stamp }
     requires dated { (event : EventComponent) → Contains events.items event → IsDated (event_slot event) }
-    requires ready { (event : EventComponent) → Contains events.items event → IsReady (event_of event) }
-    ensures { IfOk result (λ components. AllZip SaysObjectComponent (map event_of events.items) components.items) }
+    requires ready { (event : EventComponent) → Contains events.items event → IsReady (component_of event) }
+    ensures { IfOk result (λ components. AllZip SaysObjectComponent (map component_of events.items) components.items) }
 {
     let mut components = Vec::new(alloc);
     for event in events {

@@ -6,7 +6,7 @@ ghost use Rattle.ical_values.specs.Octets.{address_octets};
 ghost use Rattle.itip_order.specs.Parts.{part_of, parts_of};
 ghost use Rattle.profile.specs.rooms.Messages as profile;
 ghost use Rattle.profile.specs.rooms.Messages.{AreParts};
-ghost use Rattle.itip_messages.specs.Messages.{RepresentsMessage, component_names, has_part, is_for, part_for, parts_for};
+ghost use Rattle.itip_messages.specs.Messages.{RepresentsMessage, component_names, has_part, is_component_for, part_for, message_parts_for};
 
 use crate::room_message::{MessageComponent, Method, RoomMessage};
 use ical_values::Address;
@@ -18,7 +18,7 @@ impl RoomMessage {
     /// A component that is cancelled has a Cancelled body. Another one that doesn't name the room has an Absent body:
     /// for this room it isn't on.
     pub fn parts(&self, alloc: Global, room: &Address) -> Result<Vec<Part>, AllocError>
-        ensures parts { IfOk result (λ parts. parts_of parts.items ≡ parts_for (address_octets room.now) self.now) }
+        ensures parts { IfOk result (λ parts. parts_of parts.items ≡ message_parts_for (address_octets room.now) self.now) }
         ensures message { IfOk result (λ parts. (said : profile.Message) → RepresentsMessage self.now said
             → AreParts (address_octets room.now) said (parts_of parts.items)) }
     {
@@ -76,7 +76,7 @@ impl RoomMessage {
 
     /// Whether any of the components names the room as ATTENDEE; of a CANCEL also where one names nobody.
     pub fn is_addressed_to(&self, room: &Address) -> bool
-        ensures { result ≡ list_any (is_for (address_octets room.now) self.now) self.now.components.items }
+        ensures { result ≡ list_any (is_component_for (address_octets room.now) self.now) self.now.components.items }
     {
         self.components()
             .iter()
@@ -85,7 +85,7 @@ impl RoomMessage {
 
     /// Whether a component addresses the message to a room.
     fn is_for(&self, component: &MessageComponent, room: &Address) -> bool
-        ensures { result ≡ is_for (address_octets room.now) self.now component.now }
+        ensures { result ≡ is_component_for (address_octets room.now) self.now component.now }
     {
         component.names(room) || (self.method().is_cancel() && component.names_nobody())
     }

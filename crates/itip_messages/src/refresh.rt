@@ -2,7 +2,7 @@
 ghost use Rattle.std.specs.Prelude.{◌≡◌, OnOk, OnErr};
 ghost use Rattle.ical_values.specs.Written.{Appends};
 ghost use Rattle.itip_messages.specs.Replies.{WritesLines};
-ghost use Rattle.itip_messages.specs.Refreshes.{IsRefreshText, IsEventOf};
+ghost use Rattle.itip_messages.specs.Refreshes.{IsRefreshText, IsRefreshLines};
 
 use crate::writer::ObjectWriter;
 use ical_values::{Address, Stamp, Text};
@@ -36,7 +36,7 @@ pub fn write_refresh(refresh: &Refresh<'_>, out: &mut Vec<u8>) -> Result<(), All
 
 /// Its one VEVENT. On an error some of its lines may have been written.
 fn write_event(object: &mut ObjectWriter, refresh: &Refresh<'_>) -> Result<(), AllocError>
-    ensures { OnOk result (WritesLines object.old object.new (IsEventOf refresh.now)) }
+    ensures { OnOk result (WritesLines object.old object.new (IsRefreshLines refresh.now)) }
 {
     object.line("BEGIN:VEVENT")?;
     object.uid(refresh.uid)?;

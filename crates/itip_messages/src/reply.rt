@@ -2,10 +2,10 @@
 ghost use Rattle.std.specs.Prelude.{◌≡◌, ◌↔◌, ◌++◌, ◌∷◌, [], ◌<◌, true, string_bytes, IsSome, IfSome, OnOk, OnErr};
 ghost use Rattle.profile.specs.text.Lines.{folded};
 ghost use Rattle.profile.specs.text.Values.{IsClockSeconds, WritesStamp};
-ghost use Rattle.profile.specs.rooms.Messages.{TellsSlot, TellsOutcome, IsKeyText, word, word_octet, is_plain, hexadecimal};
+ghost use Rattle.profile.specs.rooms.Messages.{TellsSlot, TellsOutcome, IsKeyText, word, word_octet, is_word_octet, hexadecimal};
 ghost use Rattle.cal_events.specs.Calendars.{key_of as instance_key};
 ghost use Rattle.ical_values.specs.Written.{Appends};
-ghost use Rattle.itip_messages.specs.Replies.{IsConflict, IsReplyText, IsWrittenEvent, WritesEvents, WritesLines, attendee_line, busy, key_of, outcome_of, slot_of};
+ghost use Rattle.itip_messages.specs.Replies.{IsConflict, IsReplyText, IsWrittenEvent, WritesEvents, WritesLines, attendee_line, busy, conflict_key, decision_outcome, slot_at};
 
 use crate::writer::ObjectWriter;
 use cal_events::InstanceKey;
@@ -124,7 +124,7 @@ pub fn write_event(object: &mut ObjectWriter, event: &ReplyEvent<'_>) -> Result<
 }
 
 fn write_recurrence(object: &mut ObjectWriter, recurrence: Option<Stamp>) -> Result<(), AllocError>
-    ensures { OnOk result (WritesLines object.old object.new (TellsSlot (slot_of recurrence))) }
+    ensures { OnOk result (WritesLines object.old object.new (TellsSlot (slot_at recurrence))) }
 {
     match recurrence {
         Some(stamp) => object.stamp("RECURRENCE-ID:", stamp),
@@ -144,7 +144,7 @@ fn write_attendee(object: &mut ObjectWriter, event: &ReplyEvent<'_>) -> Result<(
 }
 
 fn write_decision(object: &mut ObjectWriter, decision: &Decision<'_>) -> Result<(), AllocError>
-    ensures { OnOk result (WritesLines object.old object.new (TellsOutcome (outcome_of decision.now))) }
+    ensures { OnOk result (WritesLines object.old object.new (TellsOutcome (decision_outcome decision.now))) }
 {
     match decision {
         Decision::Accepted => object.line("REQUEST-STATUS:2.0;Success"),
@@ -180,7 +180,7 @@ fn put_conflict(alloc: Global, line: &mut String, conflict: &Conflict<'_>) -> Re
 
 /// A key in three words: slot, organiser, UID.
 fn put_key(alloc: Global, line: &mut String, key: &ConflictKey<'_>) -> Result<(), AllocError>
-    ensures { OnOk result (Appends (string_bytes line.old) (string_bytes line.new) (λ text. IsKeyText text (key_of key.now))) }
+    ensures { OnOk result (Appends (string_bytes line.old) (string_bytes line.new) (λ text. IsKeyText text (conflict_key key.now))) }
 {
     put_stamp(alloc, line, key.slot)?;
     line.push_str(" ")?;
@@ -219,7 +219,7 @@ fn put_octet(line: &mut String, octet: u8) -> Result<(), AllocError>
 }
 
 fn is_plain(octet: u8) -> bool
-    ensures value { result ≡ is_plain octet }
+    ensures value { result ≡ is_word_octet octet }
     ensures ascii { result ≡ true → octet < 128 }
 {
     octet.is_ascii_alphanumeric() || matches!(octet, b'-' | b'.' | b'_' | b'~' | b'@' | b':')

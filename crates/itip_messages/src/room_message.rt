@@ -7,10 +7,10 @@ ghost use Rattle.ical_lines.specs.Fault.{RefusesOnly, RefusesBy};
 ghost use Rattle.ical_tree.specs.Tree.{tree_of};
 ghost use Rattle.ical_values.specs.Octets.{address_octets, text_octets};
 ghost use Rattle.profile.specs.faults.Faults.{is_message_fault};
-ghost use Rattle.profile.specs.events.Meetings.{Meeting, MeetingFault, SaysMeeting};
+ghost use Rattle.profile.specs.events.Events.{Event, EventFault, SaysEvent};
 ghost use Rattle.profile.specs.rooms.Messages.{cancels, is_add, is_cancel, later_of, own_revision, raised_to};
 ghost use Rattle.profile.specs.rooms.Revisions.{slot_cmp};
-ghost use Rattle.cal_events.specs.Events.{event_of};
+ghost use Rattle.cal_events.specs.Events.{component_of};
 ghost use Rattle.cal_events.specs.OneMeeting.{meeting_of};
 ghost use Rattle.cal_events.specs.declared.component.EventComponent.{EventComponent};
 ghost use Rattle.itip_order.specs.Parts.{slot_of, revision_of};
@@ -65,7 +65,7 @@ impl Method {
 
     /// Whether such a message cancels what a VEVENT of it says: by METHOD, or by STATUS.
     fn cancels(self, event: &EventComponent) -> bool
-        ensures { result ≡ cancels (method_said self) (event_of event.now) }
+        ensures { result ≡ cancels (method_said self) (component_of event.now) }
     {
         self.is_cancel() || event.cancelled
     }
@@ -100,8 +100,8 @@ impl MessageComponent {
     ) -> Result<MessageComponent, AllocError>
         requires stamp { IsSome event.stamp }
         requires dated { IsDated (event_slot event) }
-        requires ready { IsReady (event_of event) }
-        ensures { IfOk result (SaysComponent (method_said method) (option_map revision_of whole) (event_of event)) }
+        requires ready { IsReady (component_of event) }
+        ensures { IfOk result (SaysComponent (method_said method) (option_map revision_of whole) (component_of event)) }
     {
         let canonical = canonical_body(alloc, &event)?;
         let slot = slot_in(&event);
@@ -153,10 +153,10 @@ impl RoomMessage {
         object: &Component,
         method: Method,
     ) -> Result<RoomMessage, Fault>
-        ensures says { IfOk result (λ message. (meeting : Meeting) × SaysMeeting (tree_of object.now) (Some (method_said method)) meeting
+        ensures says { IfOk result (λ message. (meeting : Event) × SaysEvent (tree_of object.now) (Some (method_said method)) meeting
             × RepresentsMessage message (record { method = method_said method; meeting = meeting })) }
         ensures refuses { IfErr result (RefusesOnly is_message_fault) }
-        ensures fault { IfErr result (RefusesBy (MeetingFault (tree_of object.now) (Some (method_said method)))) }
+        ensures fault { IfErr result (RefusesBy (EventFault (tree_of object.now) (Some (method_said method)))) }
     {
         let meeting = MeetingComponents::read(alloc, object, method.purpose())?;
         Ok(RoomMessage::of(alloc, method, meeting)?)
@@ -234,7 +234,7 @@ fn sort_by_slot(events: &mut Vec<EventComponent>)
 /// SEQUENCE and DTSTAMP of a VEVENT.
 pub(crate) fn own_revision(event: &EventComponent) -> Revision
     requires { IsSome event.now.stamp }
-    ensures { revision_of result ≡ own_revision (event_of event.now) }
+    ensures { revision_of result ≡ own_revision (component_of event.now) }
 {
     let Some(stamp) = event.stamp else {
         unreachable!()
@@ -248,7 +248,7 @@ pub(crate) fn own_revision(event: &EventComponent) -> Revision
 /// Those of the whole meeting, if that is in the message.
 fn whole_revision(master: &Option<EventComponent>) -> Option<Revision>
     requires { (event : EventComponent) → master.now ≡ Some event → IsSome event.stamp }
-    ensures { option_map revision_of result ≡ option_map own_revision (option_map event_of master.now) }
+    ensures { option_map revision_of result ≡ option_map own_revision (option_map component_of master.now) }
 {
     match master {
         Some(event) => Some(own_revision(event)),
@@ -281,7 +281,7 @@ pub(crate) fn name_of(events: &[EventComponent]) -> Result<(Address, Text), Allo
     requires some { 0 < length events.now }
     requires organised { (event : EventComponent) → Contains events.now event → IsSome event.organiser }
     ensures { IfOk result (λ name. (event : EventComponent) × Contains events.now event
-        × ((event_of event).organiser ≡ Some (address_octets name.0)) × ((event_of event).uid ≡ text_octets name.1)) }
+        × ((component_of event).organiser ≡ Some (address_octets name.0)) × ((component_of event).uid ≡ text_octets name.1)) }
 {
     let Some(first) = events.first() else {
         unreachable!()
@@ -303,8 +303,8 @@ fn components_of(
 ) -> Result<Vec<MessageComponent>, AllocError>
     requires stamped { (event : EventComponent) → Contains events.items event → IsSome event.stamp }
     requires dated { (event : EventComponent) → Contains events.items event → IsDated (event_slot event) }
-    requires ready { (event : EventComponent) → Contains events.items event → IsReady (event_of event) }
-    ensures { IfOk result (λ components. AllZip (SaysComponent (method_said method) (option_map revision_of whole)) (map event_of events.items) components.items) }
+    requires ready { (event : EventComponent) → Contains events.items event → IsReady (component_of event) }
+    ensures { IfOk result (λ components. AllZip (SaysComponent (method_said method) (option_map revision_of whole)) (map component_of events.items) components.items) }
 {
     let mut components = Vec::new(alloc);
     for event in events {

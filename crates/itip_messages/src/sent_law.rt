@@ -1,6 +1,6 @@
 //! What an organiser writes reads back: the message that its octets spell, and what that says to each room.
 ghost use Rattle.std.specs.Prelude.{◌≡◌, ℕ, List, [], ◌∷◌, Contains, Bool, false, None, ◌<◌, ◌^◌};
-ghost use Rattle.profile.specs.events.Events.{Attendee, Event};
+ghost use Rattle.profile.specs.events.EventComponents.{Attendee, EventComponent};
 ghost use Rattle.profile.specs.organisers.Objects.{OrganiserObject, SpellsOrganiserObject, Store};
 ghost use Rattle.profile.specs.organisers.Sent.{IsCancel, IsMeetingText, IsRequest};
 ghost use Rattle.profile.specs.organisers.Organisers.{OrganiserBook, ShowsSeen, Stored};
@@ -13,7 +13,7 @@ ghost use Rattle.itip_messages.specs.SentBack.{IsSentAddress, IsSentName, Spells
 pub fn stored_texts_can_be_sent()
     ensures name { (stored : List ℕ) (said : OrganiserObject) (revision : Revision)
         → SpellsOrganiserObject stored said → said.operation ≡ Store → revision.sequence < 2 ^ 31 → IsSentName said.organiser said.uid revision }
-    ensures attendees { (stored : List ℕ) (said : OrganiserObject) (event : Event) (attendee : Attendee)
+    ensures attendees { (stored : List ℕ) (said : OrganiserObject) (event : EventComponent) (attendee : Attendee)
         → SpellsOrganiserObject stored said → said.operation ≡ Store → Contains said.events event → Contains event.attendees attendee
         → IsSentAddress attendee.address }
 {}

@@ -5,7 +5,7 @@ ghost use Rattle.profile.specs.text.Values.{escaped};
 ghost use Rattle.profile.specs.rooms.Messages.{opening_lines, method_lines};
 ghost use Rattle.ical_values.specs.Octets.{text_octets};
 ghost use Rattle.ical_values.specs.Written.{Appends};
-ghost use Rattle.itip_messages.specs.Replies.{IsStampLine, text_now};
+ghost use Rattle.itip_messages.specs.Replies.{IsWrittenStampLine, text_now};
 
 use ical_lines::fold::{write_line, write_pieces};
 use ical_values::shown::{escaped_text, sequence_text, stamp_text};
@@ -152,7 +152,7 @@ impl ObjectWriter {
 
     /// A line of a name with its colon, and a UTC stamp.
     pub fn stamp(&mut self, name: &str, stamp: Stamp) -> Result<(), AllocError>
-        ensures ok { OnOk result (Appends self.old self.new (IsStampLine name.now stamp)) }
+        ensures ok { OnOk result (Appends self.old self.new (IsWrittenStampLine name.now stamp)) }
         ensures err { OnErr result (self.new ≡ self.old) }
     {
         let text = stamp_text(self.alloc(), stamp)?;

@@ -1,6 +1,6 @@
 //! The zones of an object that is written (RFC 5545 3.6.5): each once, in order of first use, under the names `Z1`, `Z2`, ..
 ghost use Rattle.std.specs.Prelude.{◌≡◌, [], ◌++◌, ◌+◌, ◌<◌, ◌^◌, ℕ, List, Some, length, map, slice_get, IfOk, OnOk};
-ghost use Rattle.profile.specs.rooms.Kept.{zone_name, zone_texts};
+ghost use Rattle.profile.specs.rooms.Kept.{kept_zone_name, zone_texts};
 ghost use Rattle.profile.specs.rooms.Messages.{zone_text};
 ghost use Rattle.itip_messages.specs.Zoning.{with_zone};
 
@@ -75,7 +75,7 @@ impl Zones {
 
 /// The VTIMEZONE with this after its name, under a number.
 fn write_zone(object: &mut ObjectWriter, number: usize, rest: &[u8]) -> Result<(), AllocError>
-    ensures { (place : ℕ) → number ≡ place + 1 → OnOk result (object.new ≡ object.old ++ zone_text (zone_name place) rest.now) }
+    ensures { (place : ℕ) → number ≡ place + 1 → OnOk result (object.new ≡ object.old ++ zone_text (kept_zone_name place) rest.now) }
 {
     let mut digits = Buffer::new();
     object.line("BEGIN:VTIMEZONE")?;

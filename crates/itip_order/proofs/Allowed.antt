@@ -6,7 +6,7 @@ use Rattle.std.specs.Ordering.{ordering_then, is_eq, is_lt, is_gt}
 use Rattle.std.specs.Cmp.{both_ways}
 use Rattle.std.specs.List.{Contains}
 use Rattle.std.proofs.lemmas.Bool.{and_parts, true≢false, or_left, or_right, and_from}
-use Rattle.profile.specs.rooms.Revisions.{Whole, Part, place_cmp, same_meeting, same_place, is_whole, stays_beside, allows}
+use Rattle.profile.specs.rooms.Revisions.{Whole, Part, place_cmp, same_meeting, same_place, is_whole, stays_beside, leaves_in_view}
 use Rattle.itip_order.specs.Registers.{is_ascending, is_allowed_by, at_slot, IsRegister, HasNoRegister}
 use Rattle.itip_order.proofs.Lists.{all_at, all_from, in_cons, none_in_nil}
 use Rattle.itip_order.proofs.Order.{then_equal, is_eq_true}
@@ -48,21 +48,21 @@ at_whole : (x p : Part) → (is_whole x && same_meeting x p) ≡ true → same_p
 at_whole x p e = let both = and_parts _ _ e in eq_then _ _ both.1 both.0
 
 pub allowed_whole : (R : List Part) (p : Part) → is_whole p ≡ true → true ≡ is_allowed_by R p
-allowed_whole R p whole = sym (all_from (λ w. allows w p) R (λ x c. or_left _ _ whole))
+allowed_whole R p whole = sym (all_from (λ w. leaves_in_view w p) R (λ x c. or_left _ _ whole))
 
 or_right_of : (a b : Bool) → a ≡ false → (a || b) ≡ true → b ≡ true
 or_right_of true b p q = absurd (true≢false p)
 or_right_of false b p q = q
 
 pub allowed_absent : (R : List Part) (p : Part) → HasNoRegister R (at_slot p Whole) → true ≡ is_allowed_by R p
-allowed_absent R p none = sym (all_from (λ w. allows w p) R (λ x c.
+allowed_absent R p none = sym (all_from (λ w. leaves_in_view w p) R (λ x c.
     or_right (is_whole p) _ (implies_from _ _ (λ whole. absurd (none x c (is_eq_true _ (at_whole x p whole)))))))
 
 pub allowed_found : (R : List Part) (p w : Part) → is_ascending R ≡ true → is_whole p ≡ false → IsRegister R (at_slot p Whole) w → stays_beside w p ≡ is_allowed_by R p
 allowed_found R p w a other found =
     let both = then_equal _ _ found.1 in
     both_ways (stays_beside w p) (is_allowed_by R p)
-    (λ stays. all_from (λ v. allows v p) R (λ x c. or_right (is_whole p) _ (implies_from _ _ (λ whole.
+    (λ stays. all_from (λ v. leaves_in_view v p) R (λ x c. or_right (is_whole p) _ (implies_from _ _ (λ whole.
     let same = ascending_unique R x w a c found.0 (place_trans x (at_slot p Whole) w (at_whole x p whole) (place_sym w (at_slot p Whole) (ap is_eq found.1))) in
     subst (λ (z : Part). stays_beside z p ≡ true) (sym same) stays))))
-    (λ allowed. implies_at _ _ (or_right_of (is_whole p) _ other (all_at (λ v. allows v p) R w allowed found.0)) (and_from _ _ (ap is_eq both.1) (ap is_eq both.0)))
+    (λ allowed. implies_at _ _ (or_right_of (is_whole p) _ other (all_at (λ v. leaves_in_view v p) R w allowed found.0)) (and_from _ _ (ap is_eq both.1) (ap is_eq both.0)))

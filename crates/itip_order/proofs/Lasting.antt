@@ -7,7 +7,7 @@ use Rattle.std.specs.List.{Contains}
 use Rattle.std.proofs.lemmas.Bool.{and_parts, and_from, true≢false, or_cases, or_left, or_right, not_from_false, not-true, cases_Bool, false_from_ne_true, true_from_ne_false}
 use Rattle.std.proofs.lemmas.Cmp.{upto, tied_back}
 use Rattle.std.proofs.lemmas.List.Elements.{Contains-append_left}
-use Rattle.profile.specs.rooms.Revisions.{Whole, Revision, Body, Set, Absent, Cancelled, Part, revision_cmp, body_cmp, part_cmp, same_place, implies, is_greatest, stays_beside, allows, in_view}
+use Rattle.profile.specs.rooms.Revisions.{Whole, Revision, Body, Set, Absent, Cancelled, Part, revision_cmp, body_cmp, part_cmp, same_place, implies, is_greatest, stays_beside, leaves_in_view, in_view}
 use Rattle.itip_order.proofs.Lists.{all_at, all_from, in_cons, in_head, in_tail, none_in_nil}
 use Rattle.itip_order.proofs.Order.{slot_total, meeting_total, revision_total, part_total, is_eq_true, then_equal}
 use Rattle.itip_order.proofs.Registers.{Greatest, greatest_at, greatest_from, greatest_unique, implies_at, implies_from, eq_refl, place_sym, place_trans, part_le_refl, part_le_trans}
@@ -140,7 +140,7 @@ stays_lower w v p le stays =
     ]
 
 -- and so with what a Whole leaves in the view
-allows_lower : (w v p : Part) → same_place v w ≡ true → is_le (part_cmp w v) ≡ true → allows v p ≡ true → allows w p ≡ true
+allows_lower : (w v p : Part) → same_place v w ≡ true → is_le (part_cmp w v) ≡ true → leaves_in_view v p ≡ true → leaves_in_view w p ≡ true
 allows_lower w v p place le allowed =
     let places = then_equal _ _ (is_eq_true _ place) in
     elim (or_cases _ _ allowed) [
@@ -159,9 +159,9 @@ gone_for_good h more p c gone = false_from_ne_true _ (λ v.
     let g = greatest_at (h ++ more) p both.0 in
     let allowed = λ (w : Part) (d : Contains h w).
     let top = greatest_of (h ++ more) w (Contains-append_left h more w d) in
-    let by_top = implies_at _ _ (all_at (λ whole. implies (is_greatest (h ++ more) whole) (allows whole p)) (h ++ more) top.0 both.1 top.1.taken) (greatest_from (h ++ more) top.0 top.1) in
+    let by_top = implies_at _ _ (all_at (λ whole. implies (is_greatest (h ++ more) whole) (leaves_in_view whole p)) (h ++ more) top.0 both.1 top.1.taken) (greatest_from (h ++ more) top.0 top.1) in
     allows_lower w top.0 p top.2 (top.1.top w (Contains-append_left h more w d) (place_sym top.0 w top.2)) by_top in
     let back : in_view h p ≡ true =
     and_from _ _ (greatest_from h p record { taken = c; top = λ y d e. g.top y (Contains-append_left h more y d) e })
-    (all_from (λ whole. implies (is_greatest h whole) (allows whole p)) h (λ w d. implies_from (is_greatest h w) (allows w p) (λ _. allowed w d))) in
+    (all_from (λ whole. implies (is_greatest h whole) (leaves_in_view whole p)) h (λ w d. implies_from (is_greatest h w) (leaves_in_view w p) (λ _. allowed w d))) in
     true≢false (sym back ∙ gone))

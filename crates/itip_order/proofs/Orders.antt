@@ -5,7 +5,7 @@ use Rattle.std.specs.Cmp.{both_ways}
 use Rattle.std.specs.List.{list_any, Contains}
 use Rattle.std.proofs.lemmas.Bool.{and_parts, and_from, true≢false}
 use Rattle.std.proofs.lemmas.Cmp.{tied_itself}
-use Rattle.profile.specs.rooms.Revisions.{Part, place_cmp, part_cmp, same_place, is_greatest, implies, allows, in_view}
+use Rattle.profile.specs.rooms.Revisions.{Part, place_cmp, part_cmp, same_place, is_greatest, implies, leaves_in_view, in_view}
 use Rattle.itip_order.specs.Registers.{is_ascending, RepresentsHistory, SameParts}
 use Rattle.itip_order.proofs.Lists.{all_at, all_from, any_from, in_cons, in_head, in_tail, none_in_nil}
 use Rattle.itip_order.proofs.Order.{place_total}
@@ -67,9 +67,9 @@ view_along : (xs ys : List Part) (x : Part) → SameParts xs ys → in_view xs x
 view_along xs ys x same v =
     let both = and_parts _ _ v in
     and_from _ _ (greatest_from ys x (greatest_along xs ys x same (greatest_at xs x both.0)))
-    (all_from (λ whole. implies (is_greatest ys whole) (allows whole x)) ys (λ w c. implies_from _ _ (λ g.
+    (all_from (λ whole. implies (is_greatest ys whole) (leaves_in_view whole x)) ys (λ w c. implies_from _ _ (λ g.
     let back = greatest_from xs w (greatest_along ys xs w (same_back xs ys same) (greatest_at ys w g)) in
-    implies_at _ _ (all_at (λ whole. implies (is_greatest xs whole) (allows whole x)) xs w both.1 ((same w).1 c)) back)))
+    implies_at _ _ (all_at (λ whole. implies (is_greatest xs whole) (leaves_in_view whole x)) xs w both.1 ((same w).1 c)) back)))
 
 pub same_view : (xs ys : List Part) → SameParts xs ys → (x : Part) → in_view xs x ≡ in_view ys x
 same_view xs ys same x = both_ways _ _ (view_along xs ys x same) (view_along ys xs x (same_back xs ys same))

@@ -7,7 +7,7 @@ use Rattle.std.specs.List.{list_all, list_any, Contains, filter}
 use Rattle.std.proofs.lemmas.Bool.{and_parts, and_from, true≢false, both_ways, cases_Bool}
 use Rattle.std.proofs.lemmas.Cmp.{upto, tied_itself, tied_back}
 use Rattle.std.proofs.lemmas.List.Elements.{Contains-append_left, Contains-push, Contains-push_cases}
-use Rattle.profile.specs.rooms.Revisions.{Whole, Part, place_cmp, part_cmp, same_place, same_part, is_whole, implies, is_greatest, allows, in_view}
+use Rattle.profile.specs.rooms.Revisions.{Whole, Part, place_cmp, part_cmp, same_place, same_part, is_whole, implies, is_greatest, leaves_in_view, in_view}
 use Rattle.itip_order.specs.Registers.{is_ascending, RepresentsHistory, IsView, shown}
 use Rattle.itip_order.proofs.Lists.{all_at, all_from, any_at, any_from, filter_at, filter_from}
 use Rattle.itip_order.proofs.Order.{slot_total, place_total, part_total, part_same, is_eq_true, then_equal}
@@ -91,7 +91,7 @@ allows_cases true b c d f = refl
 allows_cases false true c d f = absurd (true≢false (sym (f refl)))
 allows_cases false false c d f = refl
 
-pub allows_same_place : (w x : Part) → same_place w x ≡ true → allows w x ≡ true
+pub allows_same_place : (w x : Part) → same_place w x ≡ true → leaves_in_view w x ≡ true
 allows_same_place w x e =
     let slots = (then_equal _ _ (is_eq_true _ e)).1 in
     allows_cases (is_whole x) (is_whole w) _ _ (λ whole. ap is_eq (sym (slot_total.congr w.slot x.slot Whole slots)) ∙ whole)
@@ -113,21 +113,21 @@ module _ (R h : List Part) (s : RepresentsHistory R h) where
 
   -- each register of the meeting lets the part show
   abbrev Allowed : Part → Type 0
-  Allowed x = list_all (λ whole. allows whole x) R ≡ true
+  Allowed x = list_all (λ whole. leaves_in_view whole x) R ≡ true
 
   pub in_view_from : (x : Part) → Contains R x → Allowed x → in_view h x ≡ true
   in_view_from x c a =
       and_from _ _ (greatest_from h x (register_greatest x c))
-      (all_from (λ whole. implies (is_greatest h whole) (allows whole x)) h (λ w _. implies_from _ _ (λ g.
-      all_at (λ whole. allows whole x) R w a (greatest_register w (greatest_at h w g)))))
+      (all_from (λ whole. implies (is_greatest h whole) (leaves_in_view whole x)) h (λ w _. implies_from _ _ (λ g.
+      all_at (λ whole. leaves_in_view whole x) R w a (greatest_register w (greatest_at h w g)))))
 
   pub in_view_at : (x : Part) → in_view h x ≡ true → Contains R x × Allowed x
   in_view_at x v =
       let both = and_parts _ _ v in (
         greatest_register x (greatest_at h x both.0),
-        all_from (λ whole. allows whole x) R (λ w c.
+        all_from (λ whole. leaves_in_view whole x) R (λ w c.
             let g = register_greatest w c in
-            implies_at _ _ (all_at (λ whole. implies (is_greatest h whole) (allows whole x)) h w both.1 g.taken) (greatest_from h w g)),
+            implies_at _ _ (all_at (λ whole. implies (is_greatest h whole) (leaves_in_view whole x)) h w both.1 g.taken) (greatest_from h w g)),
       )
 
 -- a filter of ascending parts ascends
@@ -149,8 +149,8 @@ pub view_of_registers : (R h : List Part) → RepresentsHistory R h → IsView (
 view_of_registers R h s = record {
   ascending = ascending_filter _ R s.ascending;
   exact = λ x. (
-    λ c. (let both = filter_at (λ part. list_all (λ whole. allows whole part) R) R x c in in_view_from R h s x both.0 both.1),
-    λ v. (let both = in_view_at R h s x v in filter_from (λ part. list_all (λ whole. allows whole part) R) R x both.0 both.1),
+    λ c. (let both = filter_at (λ part. list_all (λ whole. leaves_in_view whole part) R) R x c in in_view_from R h s x both.0 both.1),
+    λ v. (let both = in_view_at R h s x v in filter_from (λ part. list_all (λ whole. leaves_in_view whole part) R) R x both.0 both.1),
   );
 }
 

@@ -10,7 +10,7 @@ use Rattle.std.proofs.lemmas.Cmp.{alike_right, tied_itself}
 use Rattle.std.proofs.lemmas.List.{take-append-drop, set_split}
 use Rattle.std.proofs.Math.Seq.{drop-cons}
 use Rattle.std.proofs.lemmas.List.Elements.{Contains-append_left, Contains-append_right, Contains-append_cases}
-use Rattle.profile.specs.rooms.Revisions.{Part, place_cmp, part_cmp, same_place, allows, in_view}
+use Rattle.profile.specs.rooms.Revisions.{Part, place_cmp, part_cmp, same_place, leaves_in_view, in_view}
 use Rattle.itip_order.specs.declared.held.Freshness.TheVariants.{Fresh, Same, Stale}
 use Rattle.itip_order.specs.Freshness.{IsFreshness}
 use Rattle.itip_order.specs.Registers.{is_ascending, is_allowed_by, is_known, RepresentsHistory, IsAt, IsGap}
@@ -153,15 +153,15 @@ puts_set R p r at a found is greater =
     (subst (λ (xs : List Part). Puts xs (take at R ++ p ∷ drop (suc at) R) p) e (puts_over (take at R) r (drop (suc at) R) p (rw e a) place greater))
 
 allowed_after : (R R' : List Part) (p : Part) → Puts R R' p → is_allowed_by R p ≡ true → is_allowed_by R' p ≡ true
-allowed_after R R' p u a = all_from (λ whole. allows whole p) R' (λ x c. elim (u.others x c) [
+allowed_after R R' p u a = all_from (λ whole. leaves_in_view whole p) R' (λ x c. elim (u.others x c) [
   | inl itself ↦ allows_same_place x p (ap is_eq (subst (λ (z : Part). place_cmp z p ≡ Equal) itself (tied_itself place_total p)))
-  | inr other ↦ all_at (λ whole. allows whole p) R x a other.0
+  | inr other ↦ all_at (λ whole. leaves_in_view whole p) R x a other.0
 ])
 
 allowed_before : (R R' : List Part) (p : Part) → Puts R R' p → is_allowed_by R' p ≡ true → is_allowed_by R p ≡ true
-allowed_before R R' p u a = all_from (λ whole. allows whole p) R (λ x c. elim (cases_Bool (same_place x p)) [
+allowed_before R R' p u a = all_from (λ whole. leaves_in_view whole p) R (λ x c. elim (cases_Bool (same_place x p)) [
   | inl here ↦ allows_same_place x p here
-  | inr there ↦ all_at (λ whole. allows whole p) R' x a (u.kept x c there)
+  | inr there ↦ all_at (λ whole. leaves_in_view whole p) R' x a (u.kept x c there)
 ])
 
 -- a part that was put wasn't a register before

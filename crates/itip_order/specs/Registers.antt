@@ -4,7 +4,7 @@ use Rattle.std.specs.declared.cmp.Ordering.{Ordering}
 use Rattle.std.specs.declared.cmp.Ordering.TheVariants.{Less, Equal, Greater}
 use Rattle.std.specs.List.{list_all, list_any}
 use Rattle.std.specs.Ordering.{is_lt, is_gt}
-use Rattle.profile.specs.rooms.Revisions.{Slot, Part, place_cmp, part_cmp, same_place, is_greatest, in_view, allows}
+use Rattle.profile.specs.rooms.Revisions.{Slot, Part, place_cmp, part_cmp, same_place, is_greatest, in_view, leaves_in_view}
 
 -- each part's place is below those of all later ones: by organiser, UID, slot
 abbrev pub is_ascending : List Part → Bool
@@ -48,7 +48,7 @@ is_known history part = list_any (λ taken. same_place taken part) history
 
 -- each Whole register of its meeting leaves the part in the view
 abbrev pub is_allowed_by : List Part → Part → Bool
-is_allowed_by registers part = list_all (λ whole. allows whole part) registers
+is_allowed_by registers part = list_all (λ whole. leaves_in_view whole part) registers
 
 -- those of the parts that the registers leave in the view
 abbrev pub allowed_by : List Part → List Part → List Part

@@ -11,8 +11,8 @@ use Rattle.ical_values.specs.Octets.{text_octets}
 use Rattle.ical_values.specs.declared.text.Text.{Text}
 use Rattle.profile.specs.rooms.Revisions.{Slot, slot_cmp}
 use Rattle.profile.specs.organisers.Organisers.{Heard, OrganiserBook, Stored, answers_store, last_store}
-use Rattle.organiser_books.specs.declared.meeting.Meeting.{Meeting}
-use Rattle.organiser_books.specs.Representation.{answer_in, same_text, AreSeen, LatestOf, Represents, RepresentsAt}
+use Rattle.organiser_books.specs.declared.meeting.StoredMeeting.{StoredMeeting}
+use Rattle.organiser_books.specs.Representation.{answer_in, same_text, AreSeen, LatestOf, RepresentsStored, RepresentsAt}
 use Rattle.itip_order.specs.Parts.{revision_of}
 use Rattle.itip_messages.specs.OrganiserObjects.{SaysObjectComponent}
 use Rattle.organiser_books.specs.Attending.{lists_said, AreAttending}
@@ -20,7 +20,7 @@ use Rattle.organiser_books.proofs.Latest.{latest_turned}
 use Rattle.organiser_books.proofs.Lines.{same_back, same_is, same_itself}
 
 -- an organiser's meetings, by their UIDs, keep a book
-abbrev pub KeepsAll : (Text → Option Meeting) → OrganiserBook → Type 0
+abbrev pub KeepsAll : (Text → Option StoredMeeting) → OrganiserBook → Type 0
 KeepsAll meetings book = (uid : Text) → RepresentsAt book (text_octets uid) (meetings uid) (last_store (text_octets uid) book)
 
 some_is : {X : Type 0} (a b : X) → Some a ≡ Some b → a ≡ b
@@ -39,7 +39,7 @@ stored_own uid (s ∷ ss) stored e = by (bytes_eq s.uid uid) refl e (stored_own 
     by false f e h = h e
 
 -- what is at a UID that is known, and at one that isn't
-pub represented_known : (book : OrganiserBook) (uid : List ℕ) (m : Meeting) (r : Option Stored) → RepresentsAt book uid (Some m) r → (stored : Stored) × (r ≡ Some stored) × Represents m book stored
+pub represented_known : (book : OrganiserBook) (uid : List ℕ) (m : StoredMeeting) (r : Option Stored) → RepresentsAt book uid (Some m) r → (stored : Stored) × (r ≡ Some stored) × RepresentsStored m book stored
 represented_known book uid m None h = absurd h
 represented_known book uid m (Some stored) h = (stored, refl, h)
 
@@ -68,13 +68,13 @@ none_answer stored slot q (h ∷ hs) old =
         let same = eqb-true h.revision.sequence stored.revision.sequence four.1 in
         absurd (omega (arith, below, same))
 
-module _ (meetings after : Text → Option Meeting) (book : OrganiserBook) (uid : Text) (meeting : Meeting) (stored : Stored) (own : stored.uid ≡ text_octets uid)
-    (represents : Represents meeting (record book { stores = stored ∷ book.stores }) stored)
+module _ (meetings after : Text → Option StoredMeeting) (book : OrganiserBook) (uid : Text) (meeting : StoredMeeting) (stored : Stored) (own : stored.uid ≡ text_octets uid)
+    (represents : RepresentsStored meeting (record book { stores = stored ∷ book.stores }) stored)
     (put : (q : Text) → after q ≡ cond (same_text uid q) (Some meeting) (meetings q)) (keeps : KeepsAll meetings book) where
   abbrev next : OrganiserBook
   next = record book { stores = stored ∷ book.stores }
 
-  other_represented : (q : List ℕ) (m : Option Meeting) (r : Option Stored) → RepresentsAt book q m r → RepresentsAt next q m r
+  other_represented : (q : List ℕ) (m : Option StoredMeeting) (r : Option Stored) → RepresentsAt book q m r → RepresentsAt next q m r
   other_represented q None None h = h
   other_represented q None (Some s) h = h
   other_represented q (Some m) None h = h
@@ -116,7 +116,7 @@ module _ (book : OrganiserBook) (heard : List Heard) (uid : List ℕ) (of_it : (
           let same = (and_parts u a (and_parts (u && a) t (and_parts (u && a && t) (h.revision.sequence == stored.revision.sequence) e).0).0).0 in
           both_ways _ n (subst (λ u. bytes_eq u stored.uid ≡ true) (own h (in_head h hs)) same)
 
-  other_heard : (q : List ℕ) → bytes_eq uid q ≡ false → (m : Option Meeting) (r : Option Stored) → ((s : Stored) → r ≡ Some s → s.uid ≡ q) → RepresentsAt book q m r → RepresentsAt heard_too q m r
+  other_heard : (q : List ℕ) → bytes_eq uid q ≡ false → (m : Option StoredMeeting) (r : Option Stored) → ((s : Stored) → r ≡ Some s → s.uid ≡ q) → RepresentsAt book q m r → RepresentsAt heard_too q m r
   other_heard q n None None own h = λ x c. elim (Contains-append_cases heard book.replies x c) [
     | inl new ↦ subst (λ u. bytes_eq u q ≡ false) (sym (of_it x new)) n
     | inr old ↦ h x old
@@ -139,8 +139,8 @@ module _ (book : OrganiserBook) (heard : List Heard) (uid : List ℕ) (of_it : (
       apart = subst (λ u. bytes_eq uid u ≡ false) (sym (own s refl)) n
 
   -- the meeting that they answer, with all of them heard
-  pub own_heard : (m n : Meeting) (stored : Stored) → n.revision ≡ m.revision → n.components ≡ m.components → n.attending ≡ m.attending → n.object ≡ m.object
-      → ((h : Heard) → Contains heard h → h.revision.sequence ≤ stored.revision.sequence) → AreSeen n stored (book.replies ++ heard) → Represents m book stored → Represents n heard_too stored
+  pub own_heard : (m n : StoredMeeting) (stored : Stored) → n.revision ≡ m.revision → n.components ≡ m.components → n.attending ≡ m.attending → n.object ≡ m.object
+      → ((h : Heard) → Contains heard h → h.revision.sequence ≤ stored.revision.sequence) → AreSeen n stored (book.replies ++ heard) → RepresentsStored m book stored → RepresentsStored n heard_too stored
   own_heard m n stored r c a o sent seen h = record {
     revision = ap revision_of r ∙ h.revision;
     components = subst (λ l. AllZip SaysObjectComponent stored.events l.items) (sym c) h.components;
@@ -150,8 +150,8 @@ module _ (book : OrganiserBook) (heard : List Heard) (uid : List ℕ) (of_it : (
     sent = λ x k same. elim (Contains-append_cases heard book.replies x k) [ inl new ↦ sent x new | inr old ↦ h.sent x old same ];
   }
 
-  module _ (meetings after : Text → Option Meeting) (own : Text) (is_own : uid ≡ text_octets own) (m : Meeting) (put : (q : Text) → after q ≡ cond (same_text own q) (Some m) (meetings q))
-      (stored : Stored) (last : last_store uid book ≡ Some stored) (represents : Represents m heard_too stored) (keeps : KeepsAll meetings book) where
+  module _ (meetings after : Text → Option StoredMeeting) (own : Text) (is_own : uid ≡ text_octets own) (m : StoredMeeting) (put : (q : Text) → after q ≡ cond (same_text own q) (Some m) (meetings q))
+      (stored : Stored) (last : last_store uid book ≡ Some stored) (represents : RepresentsStored m heard_too stored) (keeps : KeepsAll meetings book) where
     pub keeps_heard : KeepsAll after heard_too
     keeps_heard q = by (same_text own q) refl
       where

@@ -14,18 +14,18 @@ use Rattle.ical_values.specs.Octets.{address_octets}
 use Rattle.ical_values.specs.declared.address.Address.{Address}
 use Rattle.profile.specs.rooms.Revisions.{Slot, Whole, At, slot_cmp}
 use Rattle.profile.specs.organisers.Organisers.{Heard, Stored, answers_store}
-use Rattle.profile.specs.events.Events as events
+use Rattle.profile.specs.events.EventComponents as events
 use Rattle.cal_events.specs.declared.component.Attendee.{Attendee}
 use Rattle.cal_events.specs.Events.{attendee_of}
-use Rattle.organiser_books.specs.declared.answers.Answer.{Answer}
+use Rattle.organiser_books.specs.declared.answers.AttendeeAnswer.{AttendeeAnswer}
 use Rattle.organiser_books.specs.declared.answers.AnswerKey.{AnswerKey}
-use Rattle.organiser_books.specs.Answers.{key_at, later_answer, same_key}
+use Rattle.organiser_books.specs.Answers.{answer_key_at, later_answer, same_answer_key}
 use Rattle.organiser_books.specs.Attending.{is_address}
-use Rattle.organiser_books.specs.Representation.{answer_at, IsAnswer, LatestOf}
+use Rattle.organiser_books.specs.Representation.{answer_at, IsHeardAnswer, LatestOf}
 use Rattle.std.specs.List.{list_any, Contains}
 use Rattle.std.proofs.lemmas.List.Elements.{Contains-get_or}
 use Rattle.itip_order.proofs.Lists.{any_from}
-use Rattle.organiser_books.specs.declared.meeting.Meeting.{Meeting}
+use Rattle.organiser_books.specs.declared.meeting.StoredMeeting.{StoredMeeting}
 use Rattle.organiser_books.specs.Attending.{attendance_of}
 use Rattle.organiser_books.specs.Representation.{is_unknown}
 use Rattle.organiser_books.proofs.Latest.{latest_more}
@@ -33,7 +33,7 @@ use Rattle.organiser_books.proofs.Lines.{same_is, same_itself}
 use Rattle.organiser_books.proofs.Loops.{filter_no, filter_yes}
 
 abbrev pub Kept : Type 0
-Kept = List (AnswerKey × Answer)
+Kept = List (AnswerKey × AttendeeAnswer)
 
 -- these have the latest of those answers to a store
 abbrev pub Seen : List Address → Stored → List Heard → Kept → Type 0
@@ -41,13 +41,13 @@ Seen keys stored replies answers = (slot : Slot) (attendee : List ℕ) → Lates
 
 -- ---- keys
 
-key_parts : (p q : ℕ) (s t : Slot) → same_key (key_at p s) (key_at q t) ≡ true → (p ≡ q) × (s ≡ t)
+key_parts : (p q : ℕ) (s t : Slot) → same_answer_key (answer_key_at p s) (answer_key_at q t) ≡ true → (p ≡ q) × (s ≡ t)
 key_parts p q Whole Whole e = (eqb-true p q (and_parts _ _ e).0, refl)
 key_parts p q Whole (At b) e = absurd (true≢false (sym (and_parts _ _ e).1))
 key_parts p q (At a) Whole e = absurd (true≢false (sym (and_parts _ _ e).1))
 key_parts p q (At a) (At b) e = (eqb-true p q (and_parts _ _ e).0, ap At ((Decides-int_eq a b).0 (and_parts _ _ e).1))
 
-key_itself : (p : ℕ) (s : Slot) → same_key (key_at p s) (key_at p s) ≡ true
+key_itself : (p : ℕ) (s : Slot) → same_answer_key (answer_key_at p s) (answer_key_at p s) ≡ true
 key_itself p Whole = and_from _ _ (eq-eqb p p refl) refl
 key_itself p (At a) = and_from _ _ (eq-eqb p p refl) ((Decides-int_eq a a).1 refl)
 
@@ -90,19 +90,19 @@ module _ (keys : List Address) (stored : Stored) (replies : List Heard) where
       subst (λ l. LatestOf l (answer_at (position (is_address q) keys) slot answers)) (sym (filter_no (answers_store stored slot q) replies h (and_right (bytes_eq h.uid stored.uid && bytes_eq h.attendee q && is_eq (slot_cmp h.slot slot)) _ n))) (seen slot q)
 
   -- to this one
-  module _ (d : Address) (h : Heard) (place : ℕ) (new : Answer) (answers more : Kept) (own : bytes_eq h.uid stored.uid ≡ true) (now : (h.revision.sequence == stored.revision.sequence) ≡ true)
-      (found : position (is_address h.attendee) keys ≡ Some place) (is : IsAnswer h new)
-      (put : (other : AnswerKey) → lookup (same_key other) more ≡ cond (same_key (key_at place h.slot) other) (Some (later_answer (lookup (same_key (key_at place h.slot)) answers) new)) (lookup (same_key other) answers))
+  module _ (d : Address) (h : Heard) (place : ℕ) (new : AttendeeAnswer) (answers more : Kept) (own : bytes_eq h.uid stored.uid ≡ true) (now : (h.revision.sequence == stored.revision.sequence) ≡ true)
+      (found : position (is_address h.attendee) keys ≡ Some place) (is : IsHeardAnswer h new)
+      (put : (other : AnswerKey) → lookup (same_answer_key other) more ≡ cond (same_answer_key (answer_key_at place h.slot) other) (Some (later_answer (lookup (same_answer_key (answer_key_at place h.slot)) answers) new)) (lookup (same_answer_key other) answers))
       (seen : Seen keys stored replies answers) where
     abbrev key : AnswerKey
-    key = key_at place h.slot
+    key = answer_key_at place h.slot
 
     own_slot : is_eq (slot_cmp h.slot h.slot) ≡ true
     own_slot = ap is_eq (tied_itself slot_total h.slot)
 
     own_answer : answer_at (position (is_address h.attendee) keys) h.slot more ≡ Some (later_answer (answer_at (position (is_address h.attendee) keys) h.slot answers) new)
     own_answer =
-        ap (λ p. answer_at p h.slot more) found ∙ put key ∙ ap (λ b. cond b (Some (later_answer (lookup (same_key key) answers) new)) (lookup (same_key key) answers)) (key_itself place h.slot)
+        ap (λ p. answer_at p h.slot more) found ∙ put key ∙ ap (λ b. cond b (Some (later_answer (lookup (same_answer_key key) answers) new)) (lookup (same_answer_key key) answers)) (key_itself place h.slot)
         ∙ ap (λ p. Some (later_answer (answer_at p h.slot answers) new)) (sym found)
 
     at_own : LatestOf (filter (answers_store stored h.slot h.attendee) (replies ++ h ∷ [])) (answer_at (position (is_address h.attendee) keys) h.slot more)
@@ -115,8 +115,8 @@ module _ (keys : List Address) (stored : Stored) (replies : List Heard) where
     other_answer : (slot : Slot) (q : List ℕ) → ((h.attendee ≡ q) → (h.slot ≡ slot) → ⊥) → (p : Option ℕ) → position (is_address q) keys ≡ p → answer_at p slot more ≡ answer_at p slot answers
     other_answer slot q apart None e = refl
     other_answer slot q apart (Some p) e =
-        put (key_at p slot)
-        ∙ ap (λ b. cond b (Some (later_answer (lookup (same_key key) answers) new)) (lookup (same_key (key_at p slot)) answers))
+        put (answer_key_at p slot)
+        ∙ ap (λ b. cond b (Some (later_answer (lookup (same_answer_key key) answers) new)) (lookup (same_answer_key (answer_key_at p slot)) answers))
         (false_from_ne_true _ (λ same. let parts = key_parts place p h.slot slot same in apart (one_place keys d h.attendee q p (found ∙ ap Some parts.0) e) parts.1))
 
     at_other : (slot : Slot) (q : List ℕ) → ((h.attendee ≡ q) → (h.slot ≡ slot) → ⊥) → (bytes_eq h.attendee q && is_eq (slot_cmp h.slot slot)) ≡ false
@@ -142,7 +142,7 @@ module _ (keys : List Address) (stored : Stored) (replies : List Heard) where
 -- ---- those who speak
 
 -- who is an attendee depends on the attendees alone
-pub unknown_same : (m n : Meeting) → m.attending ≡ n.attending → (lines : List events.Attendee) → is_unknown m lines ≡ is_unknown n lines
+pub unknown_same : (m n : StoredMeeting) → m.attending ≡ n.attending → (lines : List events.Attendee) → is_unknown m lines ≡ is_unknown n lines
 unknown_same m n e [] = refl
 unknown_same m n e (a ∷ rest) = ap (λ k. not (is_some (attendance_of a.address k.entries))) e
 

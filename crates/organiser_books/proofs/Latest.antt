@@ -9,12 +9,12 @@ use Rattle.std.proofs.lemmas.Bool.{true≢false}
 use Rattle.std.proofs.lemmas.Cmp.{int_cmp_total, nat_cmp_total, on_total, then_total, tied_itself, upto}
 use Rattle.std.proofs.lemmas.List.Elements.{Contains-append_left, Contains-append_right, Contains-append_cases, Contains-push, filter-append}
 use Rattle.itip_order.proofs.Lists.{all_at, all_from, in_cons, in_head, in_tail, none_in_nil}
-use Rattle.profile.specs.events.Events.{NeedsAction, Participation}
+use Rattle.profile.specs.events.EventComponents.{NeedsAction, Participation}
 use Rattle.profile.specs.organisers.Organisers.{Heard, IsLatestOf, heard_cmp, rank}
 use Rattle.cal_events.specs.Events.{participation_of}
-use Rattle.organiser_books.specs.declared.answers.Answer.{Answer}
+use Rattle.organiser_books.specs.declared.answers.AttendeeAnswer.{AttendeeAnswer}
 use Rattle.organiser_books.specs.Answers.{answer_cmp, later_answer}
-use Rattle.organiser_books.specs.Representation.{answered, IsAnswer, IsLatest, LatestOf}
+use Rattle.organiser_books.specs.Representation.{answered, IsHeardAnswer, IsLatestHeard, LatestOf}
 
 heard_total : IsTotalOrder heard_cmp
 heard_total = then_total (on_total (λ (h : Heard). h.revision.stamp) int_cmp_total) (on_total (λ (h : Heard). rank h.answer) nat_cmp_total)
@@ -44,12 +44,12 @@ le_back : (a b : Heard) → is_le (heard_cmp a b) ≡ false → is_le (heard_cmp
 le_back a b n = turned (heard_cmp b a) (ap is_le (sym (heard_total.antisymm a b)) ∙ n)
 
 -- answers are compared as what was heard
-cmp_is : (h g : Heard) (x y : Answer) → IsAnswer h x → IsAnswer g y → answer_cmp x y ≡ heard_cmp h g
+cmp_is : (h g : Heard) (x y : AttendeeAnswer) → IsHeardAnswer h x → IsHeardAnswer g y → answer_cmp x y ≡ heard_cmp h g
 cmp_is h g x y a b = λ i. ordering_then (int_cmp (a.stamp i) (b.stamp i)) (nat_cmp (rank (a.status i)) (rank (b.status i)))
 
 -- one more
-pub latest_more : (all : List Heard) (h : Heard) (old : Option Answer) (new : Answer) → IsAnswer h new → LatestOf all old → LatestOf (all ++ h ∷ []) (Some (later_answer old new))
-latest_more all h None new a none = subst (λ l. IsLatest (l ++ h ∷ []) new) (sym none) record {
+pub latest_more : (all : List Heard) (h : Heard) (old : Option AttendeeAnswer) (new : AttendeeAnswer) → IsHeardAnswer h new → LatestOf all old → LatestOf (all ++ h ∷ []) (Some (later_answer old new))
+latest_more all h None new a none = subst (λ l. IsLatestHeard (l ++ h ∷ []) new) (sym none) record {
   heard = h;
   among = in_head h [];
   is = a;
@@ -66,7 +66,7 @@ latest_more all h (Some held) new a s = by (is_le (answer_cmp new held)) refl
       | inr last ↦ elim (in_cons h [] x last) [ inl here ↦ subst (λ z. is_le (heard_cmp z g) ≡ true) here le | inr there ↦ absurd (none_in_nil x there) ]
     ])
 
-    by : (b : Bool) → is_le (answer_cmp new held) ≡ b → IsLatest (all ++ h ∷ []) (cond b held new)
+    by : (b : Bool) → is_le (answer_cmp new held) ≡ b → IsLatestHeard (all ++ h ∷ []) (cond b held new)
     by true e = record {
       heard = s.heard;
       among = Contains-append_left all (h ∷ []) s.heard s.among;
@@ -83,7 +83,7 @@ latest_more all h (Some held) new a s = by (is_le (answer_cmp new held)) refl
         }
 
 -- in another order
-pub latest_same : (xs ys : List Heard) (r : Option Answer) → ((h : Heard) → Contains xs h → Contains ys h) → ((h : Heard) → Contains ys h → Contains xs h) → LatestOf xs r → LatestOf ys r
+pub latest_same : (xs ys : List Heard) (r : Option AttendeeAnswer) → ((h : Heard) → Contains xs h → Contains ys h) → ((h : Heard) → Contains ys h → Contains xs h) → LatestOf xs r → LatestOf ys r
 latest_same xs [] None f g none = refl
 latest_same xs (y ∷ ys) None f g none = absurd (none_in_nil y (subst (λ l. Contains l y) none (g y (in_head y ys))))
 latest_same xs ys (Some a) f g s = record {
@@ -97,13 +97,13 @@ latest_same xs ys (Some a) f g s = record {
 turn : {X : Type 0} (xs ys : List X) (x : X) → Contains (xs ++ ys) x → Contains (ys ++ xs) x
 turn xs ys x c = elim (Contains-append_cases xs ys x c) [ inl left ↦ Contains-append_right ys xs x left | inr right ↦ Contains-append_left ys xs x right ]
 
-pub latest_turned : (f : Heard → Bool) (xs ys : List Heard) (r : Option Answer) → LatestOf (filter f (xs ++ ys)) r → LatestOf (filter f (ys ++ xs)) r
+pub latest_turned : (f : Heard → Bool) (xs ys : List Heard) (r : Option AttendeeAnswer) → LatestOf (filter f (xs ++ ys)) r → LatestOf (filter f (ys ++ xs)) r
 latest_turned f xs ys r s =
     subst (λ l. LatestOf l r) (sym (filter-append f ys xs))
     (latest_same (filter f xs ++ filter f ys) (filter f ys ++ filter f xs) r (turn (filter f xs) (filter f ys)) (turn (filter f ys) (filter f xs)) (subst (λ l. LatestOf l r) (filter-append f xs ys) s))
 
 -- what it says is the answer that is seen
-pub latest_is : (all : List Heard) (r : Option Answer) → LatestOf all r → IsLatestOf all (answered r)
+pub latest_is : (all : List Heard) (r : Option AttendeeAnswer) → LatestOf all r → IsLatestOf all (answered r)
 latest_is all None none = subst (λ l. IsLatestOf l NeedsAction) (sym none) refl
 latest_is [] (Some a) s = absurd (none_in_nil s.heard s.among)
 latest_is (x ∷ xs) (Some a) s = (s.heard, s.among, s.is.status, s.latest)

@@ -6,10 +6,10 @@ use Rattle.std.proofs.lemmas.Bool.{true≢false, or_parts, or_from}
 use Rattle.std.proofs.lemmas.List.Elements.{filter-append}
 use Rattle.std.proofs.lemmas.List.Folds.{list_any-append}
 use Rattle.std.proofs.lemmas.Slice.Eq.{bytes_eq-Decides}
-use Rattle.profile.specs.events.Events.{Attendee}
+use Rattle.profile.specs.events.EventComponents.{Attendee}
 use Rattle.profile.specs.organisers.Objects.{counted}
 use Rattle.profile.specs.rooms.Kept.{each_once}
-use Rattle.organiser_books.specs.Attending.{addresses_in, names, schedules}
+use Rattle.organiser_books.specs.Attending.{addresses_in, names, schedules_line}
 use Rattle.organiser_books.proofs.Loops.{any_flat, any_map, any_push}
 
 -- ---- addresses
@@ -89,7 +89,7 @@ none_say q x e (y ∷ ys) = by (bytes_eq x.address y.address) refl (none_say q x
     by true f h = h
     by false f h = or_from _ _ (ap (λ c. c && y.scheduled) (same_back y.address q ∙ subst (λ z. bytes_eq z y.address ≡ false) (same_is x.address q e) f)) h
 
-first_is : (q : List ℕ) (lines : List Attendee) → schedules q lines ≡ first_says q lines
+first_is : (q : List ℕ) (lines : List Attendee) → schedules_line q lines ≡ first_says q lines
 first_is q [] = refl
 first_is q (x ∷ xs) = by (bytes_eq x.address q) refl (first_is q xs)
   where
@@ -106,19 +106,19 @@ first_is q (x ∷ xs) = by (bytes_eq x.address q) refl (first_is q xs)
 pub names_push : (q : List ℕ) (own : List Attendee) (a : Attendee) → names q (own ++ a ∷ []) ≡ (names q own || bytes_eq a.address q)
 names_push q own a = any_push (λ x. bytes_eq x.address q) own a
 
-pub unnamed : (q : List ℕ) (own : List Attendee) → names q own ≡ false → schedules q own ≡ false
+pub unnamed : (q : List ℕ) (own : List Attendee) → names q own ≡ false → schedules_line q own ≡ false
 unnamed q own n = first_is q own ∙ at_lines own n
   where
     at_lines : (xs : List Attendee) → names q xs ≡ false → first_says q xs ≡ false
     at_lines [] n = refl
     at_lines (x ∷ xs) n = let both = or_parts _ _ n in ap (λ b. cond b x.scheduled (first_says q xs)) both.0 ∙ at_lines xs both.1
 
-pub all_unnamed : (q : List ℕ) (lists : List (List Attendee)) → list_any (names q) lists ≡ false → list_any (schedules q) lists ≡ false
+pub all_unnamed : (q : List ℕ) (lists : List (List Attendee)) → list_any (names q) lists ≡ false → list_any (schedules_line q) lists ≡ false
 all_unnamed q [] n = refl
 all_unnamed q (l ∷ lists) n = let both = or_parts _ _ n in or_from _ _ (unnamed q l both.0) (all_unnamed q lists both.1)
 
 -- of another address
-pub schedules_other : (q : List ℕ) (own : List Attendee) (a : Attendee) → bytes_eq a.address q ≡ false → schedules q (own ++ a ∷ []) ≡ schedules q own
+pub schedules_other : (q : List ℕ) (own : List Attendee) (a : Attendee) → bytes_eq a.address q ≡ false → schedules_line q (own ++ a ∷ []) ≡ schedules_line q own
 schedules_other q own a n = first_is q (own ++ a ∷ []) ∙ at_lines own ∙ sym (first_is q own)
   where
     at_lines : (xs : List Attendee) → first_says q (xs ++ a ∷ []) ≡ first_says q xs
@@ -126,7 +126,7 @@ schedules_other q own a n = first_is q (own ++ a ∷ []) ∙ at_lines own ∙ sy
     at_lines (x ∷ xs) = ap (λ b. cond (bytes_eq x.address q) x.scheduled b) (at_lines xs)
 
 -- of this one
-pub schedules_own : (q : List ℕ) (own : List Attendee) (a : Attendee) → bytes_eq a.address q ≡ true → schedules q (own ++ a ∷ []) ≡ cond (names q own) (schedules q own) a.scheduled
+pub schedules_own : (q : List ℕ) (own : List Attendee) (a : Attendee) → bytes_eq a.address q ≡ true → schedules_line q (own ++ a ∷ []) ≡ cond (names q own) (schedules_line q own) a.scheduled
 schedules_own q own a e = first_is q (own ++ a ∷ []) ∙ at_lines own ∙ ap (λ b. cond (names q own) b a.scheduled) (sym (first_is q own))
   where
     by : (b n r : Bool) (s t : Bool) → r ≡ cond n t a.scheduled → cond b s r ≡ cond (b || n) (cond b s t) a.scheduled

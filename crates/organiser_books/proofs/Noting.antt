@@ -8,10 +8,10 @@ use Rattle.std.specs.Str.{bytes_eq}
 use Rattle.std.proofs.lemmas.Bool.{true≢false, or_parts, or_from, or_left, or_right, cases_Bool, eq-eqb, ne_eqb, both_ways}
 use Rattle.ical_values.specs.Octets.{address_octets}
 use Rattle.ical_values.specs.declared.address.Address.{Address}
-use Rattle.profile.specs.events.Events.{Attendee}
+use Rattle.profile.specs.events.EventComponents.{Attendee}
 use Rattle.profile.specs.rooms.Kept.{each_once}
 use Rattle.organiser_books.specs.declared.attending.Attendance.{Attendance}
-use Rattle.organiser_books.specs.Attending.{Entries, addresses_in, attendance_of, is_address, names, noted_too, schedules, Attends, IsAttending, AreAttending, IsNoted, Noted, AreNoted}
+use Rattle.organiser_books.specs.Attending.{Entries, addresses_in, attendance_of, is_address, names, noted_too, schedules_line, Attends, IsAttending, AreAttending, IsNoted, Noted, AreNoted}
 use Rattle.organiser_books.proofs.Loops.{any_push, flat_push}
 use Rattle.organiser_books.proofs.Lines.{among_lines, all_unnamed, names_push, once_push, same_is, same_itself, schedules_other, schedules_own, unnamed}
 
@@ -59,11 +59,11 @@ push_other q k v (x ∷ es) n = ap (cond (is_address q x.0) (Some x.1)) (push_ot
 
 -- where nothing changes for an address
 noted_same : (done : List (List Attendee)) (place : ℕ) (own more : List Attendee) (q : List ℕ) (r : Option Attendance)
-    → names q more ≡ names q own → schedules q more ≡ schedules q own → Noted done place own q r → Noted done place more q r
+    → names q more ≡ names q own → schedules_line q more ≡ schedules_line q own → Noted done place own q r → Noted done place more q r
 noted_same done place own more q None n s h = ap (λ b. list_any (names q) done || b) n ∙ h
 noted_same done place own more q (Some a) n s h = record {
   named = ap (λ b. list_any (names q) done || b) n ∙ h.named;
-  scheduled = h.scheduled ∙ ap (λ b. list_any (schedules q) done || b) (sym s);
+  scheduled = h.scheduled ∙ ap (λ b. list_any (schedules_line q) done || b) (sym s);
   last = h.last ∙ sym n;
   up_to = h.up_to;
 }
@@ -93,14 +93,14 @@ module _ (done : List (List Attendee)) (place : ℕ) (own : List Attendee) (a : 
       by : (b : Bool) → (known.component == place) ≡ b → IsNoted done place more a.address (cond b known (record { scheduled = known.scheduled || a.scheduled; component = place }))
       by true e = record {
         named = or_right _ _ own_named;
-        scheduled = h.scheduled ∙ ap (λ b. list_any (schedules a.address) done || b) (sym (schedules_own a.address own a (same_itself a.address) ∙ ap (λ b. cond b (schedules a.address own) a.scheduled) (sym h.last ∙ e)));
+        scheduled = h.scheduled ∙ ap (λ b. list_any (schedules_line a.address) done || b) (sym (schedules_own a.address own a (same_itself a.address) ∙ ap (λ b. cond b (schedules_line a.address own) a.scheduled) (sym h.last ∙ e)));
         last = e ∙ sym own_named;
         up_to = h.up_to;
       }
       by false e =
           let none : names a.address own ≡ false = sym h.last ∙ e in
-          let before : known.scheduled ≡ list_any (schedules a.address) done = h.scheduled ∙ ap (λ b. list_any (schedules a.address) done || b) (unnamed a.address own none) ∙ or_false _ in
-          let now : schedules a.address more ≡ a.scheduled = schedules_own a.address own a (same_itself a.address) ∙ ap (λ b. cond b (schedules a.address own) a.scheduled) none in
+          let before : known.scheduled ≡ list_any (schedules_line a.address) done = h.scheduled ∙ ap (λ b. list_any (schedules_line a.address) done || b) (unnamed a.address own none) ∙ or_false _ in
+          let now : schedules_line a.address more ≡ a.scheduled = schedules_own a.address own a (same_itself a.address) ∙ ap (λ b. cond b (schedules_line a.address own) a.scheduled) none in
           record {
             named = or_right _ _ own_named;
             scheduled = λ i. before i || sym now i;
@@ -112,8 +112,8 @@ module _ (done : List (List Attendee)) (place : ℕ) (own : List Attendee) (a : 
   new_noted : Noted done place own a.address None → IsNoted done place more a.address (record { scheduled = a.scheduled; component = place })
   new_noted h =
       let both = or_parts _ _ h in
-      let before : list_any (schedules a.address) done ≡ false = all_unnamed a.address done both.0 in
-      let now : schedules a.address more ≡ a.scheduled = schedules_own a.address own a (same_itself a.address) ∙ ap (λ b. cond b (schedules a.address own) a.scheduled) both.1 in
+      let before : list_any (schedules_line a.address) done ≡ false = all_unnamed a.address done both.0 in
+      let now : schedules_line a.address more ≡ a.scheduled = schedules_own a.address own a (same_itself a.address) ∙ ap (λ b. cond b (schedules_line a.address own) a.scheduled) both.1 in
       record {
         named = or_right _ _ own_named;
         scheduled = λ i. sym before i || sym now i;
@@ -185,7 +185,7 @@ next_noted done place own es h = record {
     at_entry q None n = or_false _ ∙ any_push (names q) done own ∙ n
     at_entry q (Some a) n = record {
       named = or_false _ ∙ any_push (names q) done own ∙ n.named;
-      scheduled = n.scheduled ∙ sym (or_false _ ∙ any_push (schedules q) done own);
+      scheduled = n.scheduled ∙ sym (or_false _ ∙ any_push (schedules_line q) done own);
       last = ne_eqb a.component (place + 1) (λ e. let up = n.up_to in omega (arith, e, up));
       up_to = let up = n.up_to in omega (arith, up);
     }

@@ -11,11 +11,11 @@ use Rattle.std.proofs.lemmas.Map.Views.{any-filter_same, lookup-from_Contains}
 use Rattle.itip_order.proofs.Lists.{any_at, any_from, filter_at, filter_from, in_cons, in_head, in_tail, none_in_nil}
 use Rattle.ical_values.specs.Octets.{address_octets}
 use Rattle.ical_values.specs.declared.address.Address.{Address}
-use Rattle.profile.specs.events.Events.{Attendee}
+use Rattle.profile.specs.events.EventComponents.{Attendee}
 use Rattle.profile.specs.rooms.Kept.{each_once}
 use Rattle.profile.specs.organisers.Organisers.{without}
 use Rattle.organiser_books.specs.declared.attending.Attendance.{Attendance}
-use Rattle.organiser_books.specs.Attending.{Entries, addresses_in, attendance_of, gone_in, is_other, is_sent, is_sent_in, names, scheduled_among, schedules, sent_among, sent_in, Attends, AreAttending}
+use Rattle.organiser_books.specs.Attending.{Entries, addresses_in, attendance_of, gone_in, is_no_organiser, is_sent, is_sent_in, names, scheduled_among, schedules_line, sent_among, sent_in, Attends, AreAttending}
 use Rattle.organiser_books.proofs.Loops.{any_flat, any_map, filter_both, filter_no, filter_of_map, filter_yes, same_filter}
 use Rattle.organiser_books.proofs.Lines.{all_unnamed, among_lines, same_back, same_is, same_itself}
 use Rattle.organiser_books.proofs.Noting.{same_address}
@@ -50,13 +50,13 @@ same_address_laws = record {
 }
 
 -- the server sends messages to those who are scheduled
-pub sent_where : (lists : List (List Attendee)) (q : List ℕ) (r : Option Attendance) → Attends lists q r → is_sent_in r ≡ list_any (schedules q) lists
+pub sent_where : (lists : List (List Attendee)) (q : List ℕ) (r : Option Attendance) → Attends lists q r → is_sent_in r ≡ list_any (schedules_line q) lists
 sent_where lists q None h = sym (all_unnamed q lists h)
 sent_where lists q (Some a) h = h.scheduled
 
 module _ (lists : List (List Attendee)) (es : Entries) (are : AreAttending lists es) where
   abbrev test : List ℕ → Bool
-  test q = list_any (schedules q) lists
+  test q = list_any (schedules_line q) lists
 
   pub is_sent_is : (q : List ℕ) → is_sent q es ≡ test q
   is_sent_is q = sent_where lists q (attendance_of q es) (are.each q)
@@ -92,13 +92,13 @@ once_any q (x ∷ xs) e = by (bytes_eq x q) refl e (once_any q xs)
     by false s h r = in_tail x _ q (filter_from (λ o. not (bytes_eq x o)) (each_once xs) q (r h) (ap not s))
 
 -- an address is among those whom the server sends messages where one of the components leaves it to the server
-pub among_scheduled : (lists : List (List Attendee)) (q : List ℕ) → list_any (bytes_eq q) (scheduled_among lists) ≡ list_any (schedules q) lists
+pub among_scheduled : (lists : List (List Attendee)) (q : List ℕ) → list_any (bytes_eq q) (scheduled_among lists) ≡ list_any (schedules_line q) lists
 among_scheduled lists q = same_tests _ _
     (λ e. let r = any_at (bytes_eq q) (scheduled_among lists) e in
-    subst (λ z. list_any (schedules z) lists ≡ true) (sym (same_is q r.0 r.2)) (filter_at (λ a. list_any (schedules a) lists) (each_once (flat_map addresses_in lists)) r.0 r.1).1)
-    (λ e. any_from (bytes_eq q) (scheduled_among lists) q (filter_from (λ a. list_any (schedules a) lists) (each_once (flat_map addresses_in lists)) q (once_any q (flat_map addresses_in lists) (named e)) e) (same_itself q))
+    subst (λ z. list_any (schedules_line z) lists ≡ true) (sym (same_is q r.0 r.2)) (filter_at (λ a. list_any (schedules_line a) lists) (each_once (flat_map addresses_in lists)) r.0 r.1).1)
+    (λ e. any_from (bytes_eq q) (scheduled_among lists) q (filter_from (λ a. list_any (schedules_line a) lists) (each_once (flat_map addresses_in lists)) q (once_any q (flat_map addresses_in lists) (named e)) e) (same_itself q))
   where
-    named : list_any (schedules q) lists ≡ true → list_any (λ y. bytes_eq y q) (flat_map addresses_in lists) ≡ true
+    named : list_any (schedules_line q) lists ≡ true → list_any (λ y. bytes_eq y q) (flat_map addresses_in lists) ≡ true
     named e = elim (cases_Bool (list_any (names q) lists)) [
       | inl there ↦ any_flat (λ y. bytes_eq y q) addresses_in lists ∙ same_any lists ∙ there
       | inr none ↦ absurd (both_ways _ (all_unnamed q lists none) e)
@@ -129,7 +129,7 @@ pub gone_is : (organiser : List ℕ) (before lists : List (List Attendee)) (last
     → gone_in organiser last now ≡ without (sent_among organiser before) (sent_among organiser lists)
 unfolding others octets
 gone_is organiser before lists last now was are distinct =
-    ap (map octets) (same_filter (λ (e : Entry). is_other organiser e.0 && (e.1.scheduled && not (is_sent (octets e) now))) (λ e. e.1.scheduled && (others organiser (octets e) && not (is_sent (octets e) now)))
+    ap (map octets) (same_filter (λ (e : Entry). is_no_organiser organiser e.0 && (e.1.scheduled && not (is_sent (octets e) now))) (λ e. e.1.scheduled && (others organiser (octets e) && not (is_sent (octets e) now)))
     (λ e. swapped (others organiser (octets e)) e.1.scheduled (not (is_sent (octets e) now))) last)
     ∙ sent_and before last was distinct (λ q. others organiser q && not (is_sent q now))
     ∙ same_filter (λ q. others organiser q && not (is_sent q now)) (λ q. others organiser q && not (list_any (bytes_eq q) (sent_among organiser lists)))

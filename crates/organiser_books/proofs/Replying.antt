@@ -12,7 +12,7 @@ use Rattle.ical_lines.specs.declared.fault.Fault.{Fault}
 use Rattle.ical_lines.specs.declared.fault.Fault.TheVariants.{Memory, Refused}
 use Rattle.ical_values.specs.Octets.{address_octets, text_octets}
 use Rattle.ical_values.specs.declared.text.Text.{Text}
-use Rattle.profile.specs.events.Events.{Attendee, Event}
+use Rattle.profile.specs.events.EventComponents.{Attendee, EventComponent}
 use Rattle.profile.specs.rooms.Messages.{own_revision}
 use Rattle.profile.specs.rooms.Revisions.{Revision}
 use Rattle.profile.specs.organisers.Objects as objects
@@ -21,10 +21,10 @@ use Rattle.profile.specs.organisers.Organisers.{Heard, OrganiserBook, Stored, af
 use Rattle.itip_order.specs.Parts.{revision_of}
 use Rattle.itip_messages.specs.OrganiserObjects.{SaysObjectComponent, RepresentsObject}
 use Rattle.itip_messages.specs.declared.organiser_object.OrganiserObject.{OrganiserObject}
-use Rattle.organiser_books.specs.declared.meeting.Meeting.{Meeting}
+use Rattle.organiser_books.specs.declared.meeting.StoredMeeting.{StoredMeeting}
 use Rattle.organiser_books.specs.Attending.{is_address, lists_said, AreAttending}
 use Rattle.organiser_books.specs.Calls.{MayTake}
-use Rattle.organiser_books.specs.Representation.{answer_at, answer_in, heard_of, is_ahead, is_strange, same_text, AreSeen, LatestOf, Represents, RepresentsAt}
+use Rattle.organiser_books.specs.Representation.{answer_at, answer_in, heard_said, is_ahead, is_strange, same_text, AreSeen, LatestOf, RepresentsStored, RepresentsAt}
 use Rattle.organiser_books.proofs.Books.{keeps_heard, own_heard, represented_known, stored_own, KeepsAll}
 use Rattle.organiser_books.proofs.Lines.{same_is}
 use Rattle.organiser_books.proofs.Said.{heard_are, uids_are}
@@ -38,14 +38,14 @@ fault_exit (Err f) P Q (Refused x) g h p = subst (RefusesBy P) (sym h) (g x.numb
 
 -- ---- what was heard is of one of the events
 
-pub of_event : (events : List Event) (h : Heard) → Contains (heard_in events) h → (e : Event) × Contains events e × (h.uid ≡ e.uid) × (h.revision ≡ own_revision e)
+pub of_event : (events : List EventComponent) (h : Heard) → Contains (heard_in events) h → (e : EventComponent) × Contains events e × (h.uid ≡ e.uid) × (h.revision ≡ own_revision e)
 of_event [] h c = absurd (none_in_nil h c)
 of_event (e ∷ es) h c = elim (Contains-append_cases (profile.heard_of e e.attendees) (heard_in es) h c) [
   | inl here ↦ at_lines e.attendees here
   | inr there ↦ let r = of_event es h there in (r.0, in_tail e es r.0 r.1, r.2, r.3)
 ]
   where
-    at_lines : (lines : List Attendee) → Contains (profile.heard_of e lines) h → (x : Event) × Contains (e ∷ es) x × (h.uid ≡ x.uid) × (h.revision ≡ own_revision x)
+    at_lines : (lines : List Attendee) → Contains (profile.heard_of e lines) h → (x : EventComponent) × Contains (e ∷ es) x × (h.uid ≡ x.uid) × (h.revision ≡ own_revision x)
     at_lines [] k = absurd (none_in_nil h k)
     at_lines (a ∷ rest) k = elim (in_cons _ [] h k) [
       | inl is ↦ (e, in_head e es, ap (λ (x : Heard). x.uid) (sym is), ap (λ (x : Heard). x.revision) (sym is))
@@ -54,16 +54,16 @@ of_event (e ∷ es) h c = elim (Contains-append_cases (profile.heard_of e e.atte
 
 -- ---- a REPLY that is taken
 
-module _ (address : List ℕ) (object : OrganiserObject) (said : objects.OrganiserObject) (is : RepresentsObject object said) (book : OrganiserBook) (meetings after : Text → Option Meeting) (keeps : KeepsAll meetings book)
-    (m n : Meeting) (found : Some m ≡ meetings object.uid) (put : (q : Text) → after q ≡ cond (same_text object.uid q) (Some n) (meetings q))
+module _ (address : List ℕ) (object : OrganiserObject) (said : objects.OrganiserObject) (is : RepresentsObject object said) (book : OrganiserBook) (meetings after : Text → Option StoredMeeting) (keeps : KeepsAll meetings book)
+    (m n : StoredMeeting) (found : Some m ≡ meetings object.uid) (put : (q : Text) → after q ≡ cond (same_text object.uid q) (Some n) (meetings q))
     (revision : n.revision ≡ m.revision) (components : n.components ≡ m.components) (attending : n.attending ≡ m.attending) (octets : n.object ≡ m.object) where
   abbrev uid : List ℕ
   uid = text_octets object.uid
 
   represents : RepresentsAt book uid (Some m) (last_store uid book)
-  represents = subst (λ (o : Option Meeting). RepresentsAt book uid o (last_store uid book)) (sym found) (keeps object.uid)
+  represents = subst (λ (o : Option StoredMeeting). RepresentsAt book uid o (last_store uid book)) (sym found) (keeps object.uid)
 
-  abbrev known : (stored : Stored) × (last_store uid book ≡ Some stored) × Represents m book stored
+  abbrev known : (stored : Stored) × (last_store uid book ≡ Some stored) × RepresentsStored m book stored
   known = represented_known book uid m (last_store uid book) represents
 
   abbrev stored : Stored
@@ -80,16 +80,16 @@ module _ (address : List ℕ) (object : OrganiserObject) (said : objects.Organis
       let e = of_event said.events h c in
       let same : h.revision.sequence ≡ e.0.sequence = ap (λ (r : Revision). r.sequence) e.3 in
       elim (cases_lt stored.revision.sequence e.0.sequence) [
-        | inl above ↦ absurd (both_ways _ (sym (ahead_is address object said is book m represents) ∙ none) (any_from (λ (x : Event). nat_lt stored.revision.sequence x.sequence) said.events e.0 e.1 (lt-ltb _ _ above)))
+        | inl above ↦ absurd (both_ways _ (sym (ahead_is address object said is book m represents) ∙ none) (any_from (λ (x : EventComponent). nat_lt stored.revision.sequence x.sequence) said.events e.0 e.1 (lt-ltb _ _ above)))
         | inr below ↦ omega (arith, same, below)
       ]
 
   pub replied : said.operation ≡ objects.Reply → said.organiser ≡ address → is_ahead m object.components.items ≡ false → is_strange m object.components.items ≡ false
-      → ((s : Stored) (replies : List Heard) → revision_of m.revision ≡ s.revision → AreSeen m s replies → AreSeen n s (replies ++ flat_map (heard_of s.uid) object.components.items))
+      → ((s : Stored) (replies : List Heard) → revision_of m.revision ≡ s.revision → AreSeen m s replies → AreSeen n s (replies ++ flat_map (heard_said s.uid) object.components.items))
       → MayTake objects.Reply address said book × KeepsAll after (after_reply said book)
   replied kind organiser sent names seen =
-      let heard : flat_map (heard_of stored.uid) object.components.items ≡ heard_in said.events =
-      ap (λ u. flat_map (heard_of u) object.components.items) (stored_own said.uid book.stores stored last) ∙ heard_is address object said is book in (
+      let heard : flat_map (heard_said stored.uid) object.components.items ≡ heard_in said.events =
+      ap (λ u. flat_map (heard_said u) object.components.items) (stored_own said.uid book.stores stored last) ∙ heard_is address object said is book in (
         may_take address object said is book m represents objects.Reply kind refl (λ e. sent) names organiser,
         keeps_heard book (heard_in said.events) said.uid heard_own meetings after object.uid (sym is.uid) n put stored last
             (own_heard book (heard_in said.events) said.uid heard_own m n stored revision components attending octets (heard_sent sent)
@@ -100,10 +100,10 @@ module _ (address : List ℕ) (object : OrganiserObject) (said : objects.Organis
 -- ---- one that isn't
 
 -- the same meeting, with the same answers
-same_seen : (m n : Meeting) (s : Stored) (replies : List Heard) → n.attending ≡ m.attending → n.answers.entries ≡ m.answers.entries → AreSeen m s replies → AreSeen n s replies
+same_seen : (m n : StoredMeeting) (s : Stored) (replies : List Heard) → n.attending ≡ m.attending → n.answers.entries ≡ m.answers.entries → AreSeen m s replies → AreSeen n s replies
 same_seen m n s replies a e seen slot q = subst (LatestOf _) (λ i. answer_at (position (is_address q) (keys_of (sym a i).entries)) slot (sym e i)) (seen slot q)
 
-pub keeps_same : (book : OrganiserBook) (uid : Text) (meetings after : Text → Option Meeting) (m n : Meeting) → Some m ≡ meetings uid → ((q : Text) → after q ≡ cond (same_text uid q) (Some n) (meetings q))
+pub keeps_same : (book : OrganiserBook) (uid : Text) (meetings after : Text → Option StoredMeeting) (m n : StoredMeeting) → Some m ≡ meetings uid → ((q : Text) → after q ≡ cond (same_text uid q) (Some n) (meetings q))
     → n.revision ≡ m.revision → n.components ≡ m.components → n.attending ≡ m.attending → n.object ≡ m.object → n.answers.entries ≡ m.answers.entries → KeepsAll meetings book → KeepsAll after book
 keeps_same book uid meetings after m n found put r c a o e keeps q = by (same_text uid q) refl
   where

@@ -4,8 +4,8 @@ use Rattle.std.specs.Prelude.{nat_lt, unwrap_or}
 use Rattle.std.specs.List.{AllZip, flat_map, filter, list_any, Contains}
 use Rattle.std.specs.Str.{bytes_eq}
 use Rattle.itip_order.proofs.Lists.{in_head, in_tail}
-use Rattle.profile.specs.events.Events.{Attendee, Event, meeting_said}
-use Rattle.profile.specs.events.Meetings.{is_master}
+use Rattle.profile.specs.events.EventComponents.{Attendee, EventComponent, meeting_said}
+use Rattle.profile.specs.events.Events.{is_master}
 use Rattle.profile.specs.rooms.Revisions as Revisions
 use Rattle.profile.specs.rooms.Messages.{names_room, own_revision, slot_named}
 use Rattle.profile.specs.rooms.Messages as messages
@@ -19,32 +19,32 @@ use Rattle.itip_order.specs.declared.part.Slot.TheVariants.{Whole, At}
 use Rattle.itip_order.specs.Parts.{revision_of, slot_of}
 use Rattle.itip_messages.specs.OrganiserObjects.{SaysObjectComponent}
 use Rattle.itip_messages.specs.declared.organiser_object.ObjectComponent.{ObjectComponent}
-use Rattle.organiser_books.specs.Attending.{addresses_in, attendance_of, lists_of, lists_said, names, scheduled_among, schedules, sent_among, Attends, AreAttending, Entries}
+use Rattle.organiser_books.specs.Attending.{addresses_in, attendance_of, lists_of, lists_said, names, scheduled_among, schedules_line, sent_among, Attends, AreAttending, Entries}
 use Rattle.organiser_books.specs.declared.attending.Attendance.{Attendance}
-use Rattle.organiser_books.specs.declared.meeting.Meeting.{Meeting}
-use Rattle.organiser_books.specs.Representation.{heard_by, heard_of, is_unknown}
-use Rattle.organiser_books.specs.Storing.{cancels_whole, calls_off, is_whole, own_in}
+use Rattle.organiser_books.specs.declared.meeting.StoredMeeting.{StoredMeeting}
+use Rattle.organiser_books.specs.Representation.{heard_by, heard_said, is_unknown}
+use Rattle.organiser_books.specs.Storing.{cancels_whole, calls_off, is_whole_slot, own_in}
 use Rattle.organiser_books.proofs.Loops.{any_flat, any_map, flat_of_map}
 
 -- ---- events and their lines
 
-pub attendees_are : (events : List Event) → attendees_of events ≡ each_once (flat_map addresses_in (lists_said events))
-attendees_are events = ap each_once (sym (flat_of_map addresses_in (λ (e : Event). e.attendees) events))
+pub attendees_are : (events : List EventComponent) → attendees_of events ≡ each_once (flat_map addresses_in (lists_said events))
+attendees_are events = ap each_once (sym (flat_of_map addresses_in (λ (e : EventComponent). e.attendees) events))
 
-pub left_are : (events : List Event) → left_to_server events ≡ scheduled_among (lists_said events)
+pub left_are : (events : List EventComponent) → left_to_server events ≡ scheduled_among (lists_said events)
 left_are events =
-    same_filters (λ a. list_any (profile.schedules a) events) (λ a. list_any (schedules a) (lists_said events)) (λ a. sym (any_map (schedules a) (λ (e : Event). e.attendees) events)) (attendees_of events)
-    ∙ ap (filter (λ a. list_any (schedules a) (lists_said events))) (attendees_are events)
+    same_filters (λ a. list_any (profile.schedules a) events) (λ a. list_any (schedules_line a) (lists_said events)) (λ a. sym (any_map (schedules_line a) (λ (e : EventComponent). e.attendees) events)) (attendees_of events)
+    ∙ ap (filter (λ a. list_any (schedules_line a) (lists_said events))) (attendees_are events)
   where
     same_filters : {X : Type 0} (p q : X → Bool) → ((y : X) → p y ≡ q y) → (xs : List X) → filter p xs ≡ filter q xs
     same_filters p q h [] = refl
     same_filters p q h (x ∷ xs) = (λ i. cond (h x i) (x ∷ same_filters p q h xs i) (same_filters p q h xs i))
 
-pub scheduled_are : (organiser : List ℕ) (events : List Event) → scheduled_in organiser events ≡ sent_among organiser (lists_said events)
+pub scheduled_are : (organiser : List ℕ) (events : List EventComponent) → scheduled_in organiser events ≡ sent_among organiser (lists_said events)
 scheduled_are organiser events = ap (filter (λ address. not (bytes_eq address organiser))) (left_are events)
 
-pub attendee_is : (q : List ℕ) (events : List Event) → is_attendee q events ≡ list_any (names q) (lists_said events)
-attendee_is q events = sym (any_map (names q) (λ (e : Event). e.attendees) events)
+pub attendee_is : (q : List ℕ) (events : List EventComponent) → is_attendee q events ≡ list_any (names q) (lists_said events)
+attendee_is q events = sym (any_map (names q) (λ (e : EventComponent). e.attendees) events)
 
 -- one who is known in memory is an attendee
 pub known_is : (lists : List (List Attendee)) (es : Entries) (q : List ℕ) → AreAttending lists es → is_some (attendance_of q es) ≡ list_any (names q) lists
@@ -56,19 +56,19 @@ known_is lists es q are = by (attendance_of q es) (are.each q)
 
 -- ---- components and their events
 
-pub lists_are : (events : List Event) (components : List ObjectComponent) → AllZip SaysObjectComponent events components → lists_of components ≡ lists_said events
+pub lists_are : (events : List EventComponent) (components : List ObjectComponent) → AllZip SaysObjectComponent events components → lists_of components ≡ lists_said events
 lists_are [] [] z = refl
 lists_are [] (c ∷ cs) z = absurd z
 lists_are (e ∷ es) [] z = absurd z
 lists_are (e ∷ es) (c ∷ cs) z = λ i. z.0.attendees i ∷ lists_are es cs z.1 i
 
 -- one reply's answer
-one_heard : (uid : List ℕ) (e : Event) (c : ObjectComponent) → SaysObjectComponent e c → e.uid ≡ uid → (lines : List Attendee) → heard_by uid c lines ≡ profile.heard_of e lines
+one_heard : (uid : List ℕ) (e : EventComponent) (c : ObjectComponent) → SaysObjectComponent e c → e.uid ≡ uid → (lines : List Attendee) → heard_by uid c lines ≡ profile.heard_of e lines
 one_heard uid e c says u [] = refl
 one_heard uid e c says u (a ∷ rest) = λ i. record { uid = sym u i; attendee = a.address; slot = says.slot i; revision = says.revision i; answer = a.participation } ∷ []
 
-pub heard_are : (uid : List ℕ) (events : List Event) (components : List ObjectComponent) → AllZip SaysObjectComponent events components → ((e : Event) → Contains events e → e.uid ≡ uid)
-    → flat_map (heard_of uid) components ≡ heard_in events
+pub heard_are : (uid : List ℕ) (events : List EventComponent) (components : List ObjectComponent) → AllZip SaysObjectComponent events components → ((e : EventComponent) → Contains events e → e.uid ≡ uid)
+    → flat_map (heard_said uid) components ≡ heard_in events
 heard_are uid [] [] z own = refl
 heard_are uid [] (c ∷ cs) z own = absurd z
 heard_are uid (e ∷ es) [] z own = absurd z
@@ -77,29 +77,29 @@ heard_are uid (e ∷ es) (c ∷ cs) z own =
     let rest = heard_are uid es cs z.1 (λ x k. own x (in_tail e es x k)) in
     λ i. one i ++ rest i
 
-sequence_is : (e : Event) (c : ObjectComponent) → SaysObjectComponent e c → c.revision.sequence ≡ e.sequence
+sequence_is : (e : EventComponent) (c : ObjectComponent) → SaysObjectComponent e c → c.revision.sequence ≡ e.sequence
 sequence_is e c says = ap (λ (r : Revisions.Revision). r.sequence) says.revision
 
-pub ahead_are : (n : ℕ) (events : List Event) (components : List ObjectComponent) → AllZip SaysObjectComponent events components
-    → list_any (λ (c : ObjectComponent). nat_lt n c.revision.sequence) components ≡ list_any (λ (e : Event). nat_lt n e.sequence) events
+pub ahead_are : (n : ℕ) (events : List EventComponent) (components : List ObjectComponent) → AllZip SaysObjectComponent events components
+    → list_any (λ (c : ObjectComponent). nat_lt n c.revision.sequence) components ≡ list_any (λ (e : EventComponent). nat_lt n e.sequence) events
 ahead_are n [] [] z = refl
 ahead_are n [] (c ∷ cs) z = absurd z
 ahead_are n (e ∷ es) [] z = absurd z
 ahead_are n (e ∷ es) (c ∷ cs) z = λ i. nat_lt n (sequence_is e c z.0 i) || ahead_are n es cs z.1 i
 
-pub own_are : (events : List Event) (components : List ObjectComponent) → AllZip SaysObjectComponent events components → own_in components ≡ own_sequence events
+pub own_are : (events : List EventComponent) (components : List ObjectComponent) → AllZip SaysObjectComponent events components → own_in components ≡ own_sequence events
 own_are [] [] z = refl
 own_are [] (c ∷ cs) z = absurd z
 own_are (e ∷ es) [] z = absurd z
 own_are (e ∷ es) (c ∷ cs) z = λ i. max (sequence_is e c z.0 i) (own_are es cs z.1 i)
 
-whole_is : (slot : Slot) (recurrence : Option ℤ) → slot_of slot ≡ slot_named recurrence → is_whole slot ≡ not (is_some recurrence)
+whole_is : (slot : Slot) (recurrence : Option ℤ) → slot_of slot ≡ slot_named recurrence → is_whole_slot slot ≡ not (is_some recurrence)
 whole_is Whole None e = refl
 whole_is Whole (Some t) e = absurd (cc)
 whole_is (At a) None e = absurd (cc)
 whole_is (At a) (Some t) e = refl
 
-pub off_are : (events : List Event) (components : List ObjectComponent) → AllZip SaysObjectComponent events components → calls_off components ≡ is_called_off events
+pub off_are : (events : List EventComponent) (components : List ObjectComponent) → AllZip SaysObjectComponent events components → calls_off components ≡ is_called_off events
 off_are [] [] z = refl
 off_are [] (c ∷ cs) z = absurd z
 off_are (e ∷ es) [] z = absurd z
@@ -108,7 +108,7 @@ off_are (e ∷ es) (c ∷ cs) z = λ i. (whole_is c.slot e.recurrence z.0.slot i
 -- ---- those who speak
 
 -- those of a component who aren't attendees
-one_stranger : (events : List Event) (m : Meeting) → AreAttending (lists_said events) m.attending.entries → (uid : List ℕ) (c : ObjectComponent) (lines : List Attendee)
+one_stranger : (events : List EventComponent) (m : StoredMeeting) → AreAttending (lists_said events) m.attending.entries → (uid : List ℕ) (c : ObjectComponent) (lines : List Attendee)
     → is_unknown m lines ≡ list_any (λ (h : Heard). not (is_attendee h.attendee events)) (heard_by uid c lines)
 one_stranger events m are uid c [] = refl
 one_stranger events m are uid c (a ∷ rest) =
@@ -118,14 +118,14 @@ one_stranger events m are uid c (a ∷ rest) =
     or_false true = refl
     or_false false = refl
 
-pub strangers_are : (events : List Event) (m : Meeting) → AreAttending (lists_said events) m.attending.entries → (uid : List ℕ) (cs : List ObjectComponent)
-    → list_any (λ (c : ObjectComponent). is_unknown m c.attendees) cs ≡ list_any (λ (h : Heard). not (is_attendee h.attendee events)) (flat_map (heard_of uid) cs)
-strangers_are events m are uid cs = each cs ∙ sym (any_flat (λ (h : Heard). not (is_attendee h.attendee events)) (heard_of uid) cs)
+pub strangers_are : (events : List EventComponent) (m : StoredMeeting) → AreAttending (lists_said events) m.attending.entries → (uid : List ℕ) (cs : List ObjectComponent)
+    → list_any (λ (c : ObjectComponent). is_unknown m c.attendees) cs ≡ list_any (λ (h : Heard). not (is_attendee h.attendee events)) (flat_map (heard_said uid) cs)
+strangers_are events m are uid cs = each cs ∙ sym (any_flat (λ (h : Heard). not (is_attendee h.attendee events)) (heard_said uid) cs)
   where
-    each : (xs : List ObjectComponent) → list_any (λ (c : ObjectComponent). is_unknown m c.attendees) xs ≡ list_any (λ c. list_any (λ (h : Heard). not (is_attendee h.attendee events)) (heard_of uid c)) xs
+    each : (xs : List ObjectComponent) → list_any (λ (c : ObjectComponent). is_unknown m c.attendees) xs ≡ list_any (λ c. list_any (λ (h : Heard). not (is_attendee h.attendee events)) (heard_said uid c)) xs
     each [] = refl
     each (x ∷ xs) = λ i. one_stranger events m are uid x x.attendees i || each xs i
 
 -- all events are of the meeting
-pub uids_are : (organiser uid : List ℕ) (events : List Event) → AreOfMeeting organiser uid events → (e : Event) → Contains events e → e.uid ≡ uid
+pub uids_are : (organiser uid : List ℕ) (events : List EventComponent) → AreOfMeeting organiser uid events → (e : EventComponent) → Contains events e → e.uid ≡ uid
 uids_are organiser uid events are e c = ap (λ (p : List ℕ × List ℕ). p.1) (are.of_it e c)

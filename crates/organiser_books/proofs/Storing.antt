@@ -6,7 +6,7 @@ use Rattle.std.specs.Str.{bytes_eq}
 use Rattle.std.proofs.lemmas.Bool.{true≢false, both_ways}
 use Rattle.ical_values.specs.Octets.{address_octets, text_octets}
 use Rattle.ical_values.specs.declared.text.Text.{Text}
-use Rattle.profile.specs.events.Events.{Attendee, Event}
+use Rattle.profile.specs.events.EventComponents.{Attendee, EventComponent}
 use Rattle.profile.specs.rooms.Revisions.{Revision, Slot}
 use Rattle.profile.specs.organisers.Objects as objects
 use Rattle.profile.specs.organisers.Objects.{is_of_attendee}
@@ -16,21 +16,21 @@ use Rattle.itip_order.specs.Parts.{revision_of}
 use Rattle.itip_messages.specs.OrganiserObjects.{SaysObjectComponent, RepresentsObject}
 use Rattle.itip_messages.specs.declared.organiser_object.ObjectComponent.{ObjectComponent}
 use Rattle.itip_messages.specs.declared.organiser_object.OrganiserObject.{OrganiserObject}
-use Rattle.organiser_books.specs.declared.answers.Answer.{Answer}
+use Rattle.organiser_books.specs.declared.answers.AttendeeAnswer.{AttendeeAnswer}
 use Rattle.organiser_books.specs.declared.answers.AnswerKey.{AnswerKey}
-use Rattle.organiser_books.specs.declared.meeting.Meeting.{Meeting}
+use Rattle.organiser_books.specs.declared.meeting.StoredMeeting.{StoredMeeting}
 use Rattle.organiser_books.specs.Attending.{is_address, lists_of, lists_said, sent_among, AreAttending}
 use Rattle.organiser_books.specs.Calls.{CallFault, MayTake}
 use Rattle.organiser_books.specs.Calls.CallFault.{in_state}
-use Rattle.organiser_books.specs.Representation.{answer_at, answer_in, same_text, LatestOf, Represents, RepresentsAt}
+use Rattle.organiser_books.specs.Representation.{answer_at, answer_in, same_text, LatestOf, RepresentsStored, RepresentsAt}
 use Rattle.organiser_books.specs.Storing.{calls_off, own_in, sequence_then, LastAttends, SendsObject, SendsTo}
 use Rattle.organiser_books.proofs.Books.{keeps_stored, none_answer, stored_own, KeepsAll}
 use Rattle.organiser_books.proofs.Said.{lists_are, off_are, own_are, scheduled_are}
 
 -- ---- beside what was there
 
-module _ (book : OrganiserBook) (uid : List ℕ) (events : List Event) (components : List ObjectComponent) (each : AllZip SaysObjectComponent events components) where
-  sequence_same : (o : Option Meeting) (r : Option Stored) → RepresentsAt book uid o r → sequence_then o components ≡ sequence_after r events
+module _ (book : OrganiserBook) (uid : List ℕ) (events : List EventComponent) (components : List ObjectComponent) (each : AllZip SaysObjectComponent events components) where
+  sequence_same : (o : Option StoredMeeting) (r : Option Stored) → RepresentsAt book uid o r → sequence_then o components ≡ sequence_after r events
   sequence_same None None h = own_are events components each
   sequence_same None (Some s) h = absurd h
   sequence_same (Some m) None h = absurd h
@@ -38,13 +38,13 @@ module _ (book : OrganiserBook) (uid : List ℕ) (events : List Event) (componen
       let same : m.revision.sequence ≡ s.revision.sequence = ap (λ (x : Revision). x.sequence) h.revision in
       λ i. max (own_are events components each i) (same i + 1)
 
-  last_attends : (o : Option Meeting) (r : Option Stored) → RepresentsAt book uid o r → LastAttends (lists_said (last_events r)) o
+  last_attends : (o : Option StoredMeeting) (r : Option Stored) → RepresentsAt book uid o r → LastAttends (lists_said (last_events r)) o
   last_attends None None h = refl
   last_attends None (Some s) h = absurd h
   last_attends (Some m) None h = absurd h
   last_attends (Some m) (Some s) h = h.attending
 
-  all_below : (o : Option Meeting) (r : Option Stored) → ((s : Stored) → r ≡ Some s → s.uid ≡ uid) → RepresentsAt book uid o r
+  all_below : (o : Option StoredMeeting) (r : Option Stored) → ((s : Stored) → r ≡ Some s → s.uid ≡ uid) → RepresentsAt book uid o r
       → (h : Heard) → Contains book.replies h → bytes_eq h.uid uid ≡ true → h.revision.sequence < sequence_after r events
   all_below None None own represents h c same = absurd (both_ways _ (represents h c) same)
   all_below None (Some s) own represents h c same = absurd represents
@@ -57,7 +57,7 @@ sends_store : (b : Bool) (organiser : List ℕ) (stored : Stored) (gone : List (
 sends_store true organiser stored gone sent h = h
 sends_store false organiser stored gone sent h = h
 
-no_answer : (p : Option ℕ) (slot : Slot) (answers : List (AnswerKey × Answer)) → answers ≡ [] → answer_at p slot answers ≡ None
+no_answer : (p : Option ℕ) (slot : Slot) (answers : List (AnswerKey × AttendeeAnswer)) → answers ≡ [] → answer_at p slot answers ≡ None
 no_answer None slot answers e = refl
 no_answer (Some p) slot answers e = ap (answer_at (Some p) slot) e
 
@@ -66,7 +66,7 @@ store_reply e = absurd (cc)
 
 -- ---- a store
 
-module _ (address : List ℕ) (object : OrganiserObject) (said : objects.OrganiserObject) (is : RepresentsObject object said) (book : OrganiserBook) (meetings : Text → Option Meeting) (keeps : KeepsAll meetings book) where
+module _ (address : List ℕ) (object : OrganiserObject) (said : objects.OrganiserObject) (is : RepresentsObject object said) (book : OrganiserBook) (meetings : Text → Option StoredMeeting) (keeps : KeepsAll meetings book) where
   abbrev last : Option Stored
   last = last_store said.uid book
 
@@ -80,7 +80,7 @@ module _ (address : List ℕ) (object : OrganiserObject) (said : objects.Organis
   pub spent_fault : said.operation ≡ objects.Store → said.organiser ≡ address → most_sequence < sequence_then (meetings object.uid) object.components.items → CallFault objects.Store address said book 72
   spent_fault kind own most = in_state kind own (spent kind (subst (λ n. most_sequence < n) sequence_is most))
 
-  module _ (moment : ℤ) (meeting : Meeting) (sequence : meeting.revision.sequence ≡ sequence_then (meetings object.uid) object.components.items) (stamp : meeting.revision.stamp ≡ moment) where
+  module _ (moment : ℤ) (meeting : StoredMeeting) (sequence : meeting.revision.sequence ≡ sequence_then (meetings object.uid) object.components.items) (stamp : meeting.revision.stamp ≡ moment) where
     abbrev stored : Stored
     stored = record { uid = said.uid; events = said.events; revision = record { sequence = sequence_after last said.events; stamp = moment }; object = meeting.object.items }
 
@@ -94,7 +94,7 @@ module _ (address : List ℕ) (object : OrganiserObject) (said : objects.Organis
     below = all_below book said.uid said.events object.components.items is.each (meetings object.uid) last (λ s e. stored_own said.uid book.stores s e) represents
 
     -- the meeting represents it
-    meeting_represented : meeting.components.items ≡ object.components.items → AreAttending (lists_of object.components.items) meeting.attending.entries → meeting.answers.entries ≡ [] → Represents meeting next stored
+    meeting_represented : meeting.components.items ≡ object.components.items → AreAttending (lists_of object.components.items) meeting.attending.entries → meeting.answers.entries ≡ [] → RepresentsStored meeting next stored
     meeting_represented components attending none = record {
       revision = revision_is;
       components = subst (AllZip SaysObjectComponent said.events) (sym components) is.each;
@@ -108,7 +108,7 @@ module _ (address : List ℕ) (object : OrganiserObject) (said : objects.Organis
     scheduled_is = ap (sent_among said.organiser) (lists_are said.events object.components.items is.each) ∙ sym (scheduled_are said.organiser said.events)
 
     -- what is sent
-    is_sent : (sent : List Sent) → ((events : List Event) (before : List (List Attendee)) → AllZip SaysObjectComponent events object.components.items → LastAttends before (meetings object.uid)
+    is_sent : (sent : List Sent) → ((events : List EventComponent) (before : List (List Attendee)) → AllZip SaysObjectComponent events object.components.items → LastAttends before (meetings object.uid)
         → SendsObject said.organiser object meeting.revision events before meeting.object.items sent)
         → SendsStore (is_called_off said.events) said.organiser stored (without (scheduled_in said.organiser (last_events last)) (scheduled_in said.organiser said.events)) sent
     is_sent sent sends =
@@ -133,10 +133,10 @@ module _ (address : List ℕ) (object : OrganiserObject) (said : objects.Organis
     no_fault kind fits n (spent store most) = let same = sequence ∙ sequence_is in absurd (omega (arith, most, fits, same))
     no_fault kind fits n (stranger speaks s e strange) = true≢false (sym speaks ∙ ap is_of_attendee kind)
 
-    pub is_stored : (after : Text → Option Meeting) → ((q : Text) → after q ≡ cond (same_text object.uid q) (Some meeting) (meetings q)) → (sent : List Sent)
+    pub is_stored : (after : Text → Option StoredMeeting) → ((q : Text) → after q ≡ cond (same_text object.uid q) (Some meeting) (meetings q)) → (sent : List Sent)
         → said.operation ≡ objects.Store → said.organiser ≡ address → meeting.revision.sequence ≤ most_sequence
         → meeting.components.items ≡ object.components.items → AreAttending (lists_of object.components.items) meeting.attending.entries → meeting.answers.entries ≡ []
-        → ((events : List Event) (before : List (List Attendee)) → AllZip SaysObjectComponent events object.components.items → LastAttends before (meetings object.uid)
+        → ((events : List EventComponent) (before : List (List Attendee)) → AllZip SaysObjectComponent events object.components.items → LastAttends before (meetings object.uid)
         → SendsObject address object meeting.revision events before meeting.object.items sent)
         → MayTake objects.Store address said book × ((x : OrganiserBook) × IsStore moment said book sent x × KeepsAll after x)
     is_stored after put sent kind organiser fits components attending none sends = (

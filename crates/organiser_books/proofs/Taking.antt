@@ -7,7 +7,7 @@ use Rattle.std.proofs.lemmas.Bool.{true≢false, both_ways, cases_lt, lt-ltb, le
 use Rattle.std.proofs.lemmas.List.Elements.{Contains-get_or}
 use Rattle.itip_order.proofs.Lists.{any_from}
 use Rattle.ical_values.specs.Octets.{address_octets, text_octets}
-use Rattle.profile.specs.events.Events.{Attendee, Event, Participation}
+use Rattle.profile.specs.events.EventComponents.{Attendee, EventComponent, Participation}
 use Rattle.profile.specs.rooms.Revisions.{Revision, Slot}
 use Rattle.profile.specs.organisers.Objects as objects
 use Rattle.profile.specs.organisers.Objects.{is_of_attendee}
@@ -20,12 +20,12 @@ use Rattle.itip_messages.specs.declared.organiser_object.Operation.{Operation}
 use Rattle.itip_messages.specs.declared.organiser_object.Operation.TheVariants.{Store, Reply, Refresh}
 use Rattle.itip_messages.specs.declared.organiser_object.OrganiserObject.{OrganiserObject}
 use Rattle.itip_messages.specs.contracts.organiser_object.OperationPartialEq.TheImpl as operations
-use Rattle.organiser_books.specs.declared.meeting.Meeting.{Meeting}
+use Rattle.organiser_books.specs.declared.meeting.StoredMeeting.{StoredMeeting}
 use Rattle.organiser_books.specs.Attending.{attendance_of, is_sent, lists_said}
 use Rattle.organiser_books.specs.Calls.{CallFault, MayTake}
 use Rattle.organiser_books.specs.Calls.CallFault.{in_state}
 use Rattle.organiser_books.specs.Shown.{ShowsAnswered}
-use Rattle.organiser_books.specs.Representation.{answer_in, answered, heard_of, is_ahead, is_strange, AreSeen, IsReplyFault, Represents, RepresentsAt}
+use Rattle.organiser_books.specs.Representation.{answer_in, answered, heard_said, is_ahead, is_strange, AreSeen, IsReplyFault, RepresentsStored, RepresentsAt}
 use Rattle.organiser_books.proofs.Books.{represented_known, represented_unknown}
 use Rattle.organiser_books.proofs.Latest.{latest_is}
 use Rattle.organiser_books.proofs.Picking.{among_sent}
@@ -67,18 +67,18 @@ module _ (address : List ℕ) (object : OrganiserObject) (said : objects.Organis
   pub unknown_fault : (op : objects.Operation) → said.operation ≡ op → said.organiser ≡ address → is_of_attendee op ≡ true → RepresentsAt book uid None (last_store uid book) → CallFault op address said book 71
   unknown_fault op kind own speaks found = in_state kind own (unknown (ap is_of_attendee kind ∙ speaks) (last_is ∙ represented_unknown book uid (last_store uid book) found))
 
-  pub heard_is : flat_map (heard_of said.uid) object.components.items ≡ heard_in said.events
+  pub heard_is : flat_map (heard_said said.uid) object.components.items ≡ heard_in said.events
   heard_is = heard_are said.uid said.events object.components.items is.each (uids_are said.organiser said.uid said.events is.are)
 
-  module _ (m : Meeting) (found : RepresentsAt book uid (Some m) (last_store uid book)) where
-    abbrev known : (stored : Stored) × (last_store uid book ≡ Some stored) × Represents m book stored
+  module _ (m : StoredMeeting) (found : RepresentsAt book uid (Some m) (last_store uid book)) where
+    abbrev known : (stored : Stored) × (last_store uid book ≡ Some stored) × RepresentsStored m book stored
     known = represented_known book uid m (last_store uid book) found
 
     sequence_is : m.revision.sequence ≡ known.0.revision.sequence
     sequence_is = ap (λ (r : Revision). r.sequence) known.2.revision
 
-    pub ahead_is : is_ahead m object.components.items ≡ list_any (λ (e : Event). nat_lt known.0.revision.sequence e.sequence) said.events
-    ahead_is = ahead_are m.revision.sequence said.events object.components.items is.each ∙ ap (λ n. list_any (λ (e : Event). nat_lt n e.sequence) said.events) sequence_is
+    pub ahead_is : is_ahead m object.components.items ≡ list_any (λ (e : EventComponent). nat_lt known.0.revision.sequence e.sequence) said.events
+    ahead_is = ahead_are m.revision.sequence said.events object.components.items is.each ∙ ap (λ n. list_any (λ (e : EventComponent). nat_lt n e.sequence) said.events) sequence_is
 
     strange_is : is_strange m object.components.items ≡ list_any (λ (h : Heard). not (is_attendee h.attendee known.0.events)) (heard_in said.events)
     strange_is = strangers_are known.0.events m known.2.attending said.uid object.components.items ∙ ap (list_any (λ (h : Heard). not (is_attendee h.attendee known.0.events))) heard_is
@@ -102,7 +102,7 @@ module _ (address : List ℕ) (object : OrganiserObject) (said : objects.Organis
       no_fault n (unknown a none) = some_none known.0 (sym (last_is ∙ known.1) ∙ none)
       no_fault n (ahead reply stored last before) =
           let same = some_is stored known.0 (sym last ∙ last_is ∙ known.1) in
-          both_ways _ (sym ahead_is ∙ sent (sym kind ∙ reply)) (subst (λ (s : Stored). list_any (λ (e : Event). nat_lt s.revision.sequence e.sequence) said.events ≡ true) same before)
+          both_ways _ (sym ahead_is ∙ sent (sym kind ∙ reply)) (subst (λ (s : Stored). list_any (λ (e : EventComponent). nat_lt s.revision.sequence e.sequence) said.events ≡ true) same before)
       no_fault n (spent store most) = true≢false (sym speaks ∙ ap is_of_attendee (sym kind ∙ store))
       no_fault n (stranger a stored last strange) =
           let same = some_is stored known.0 (sym last ∙ last_is ∙ known.1) in
@@ -113,8 +113,8 @@ module _ (address : List ℕ) (object : OrganiserObject) (said : objects.Organis
 
 -- ---- what is seen
 
-module _ (book : OrganiserBook) (uid : List ℕ) (m : Meeting) (found : RepresentsAt book uid (Some m) (last_store uid book)) (slot : Slot) (q : List ℕ) where
-  abbrev last : (stored : Stored) × (last_store uid book ≡ Some stored) × Represents m book stored
+module _ (book : OrganiserBook) (uid : List ℕ) (m : StoredMeeting) (found : RepresentsAt book uid (Some m) (last_store uid book)) (slot : Slot) (q : List ℕ) where
+  abbrev last : (stored : Stored) × (last_store uid book ≡ Some stored) × RepresentsStored m book stored
   last = represented_known book uid m (last_store uid book) found
 
   attends : is_attendee q last.0.events ≡ is_some (attendance_of q m.attending.entries)
@@ -136,7 +136,7 @@ zip_lift R S f (x ∷ xs) (y ∷ ys) z = (f x y z.0, zip_lift R S f xs ys z.1)
 
 -- where each line is also such a one
 pub text_lift : (method : Option (List ℕ)) (organiser uid : List ℕ) (revision : Revision) (R S : Slot → Attendee → List ℕ → Type 0) → ((slot : Slot) (a : Attendee) (line : List ℕ) → R slot a line → S slot a line)
-    → (events : List Event) (octets : List ℕ) → IsMeetingText method organiser uid revision R events octets → IsMeetingText method organiser uid revision S events octets
+    → (events : List EventComponent) (octets : List ℕ) → IsMeetingText method organiser uid revision R events octets → IsMeetingText method organiser uid revision S events octets
 text_lift method organiser uid revision R S f events octets t = record {
   components = t.components;
   are = t.are;
@@ -161,7 +161,7 @@ text_lift method organiser uid revision R S f events octets t = record {
 abbrev shown : List ℕ → Participation → Bool → List ℕ
 shown address p b = codes "ATTENDEE;PARTSTAT=" ++ participation_word p ++ sent_status b ++ codes ":" ++ address
 
-pub shows_seen : (organiser : List ℕ) (m : Meeting) (book : OrganiserBook) (stored : Stored) → Represents m book stored → (slot : Slot) (a : Attendee) (line : List ℕ) → ShowsAnswered organiser m slot a line → ShowsSeen organiser book stored slot a line
+pub shows_seen : (organiser : List ℕ) (m : StoredMeeting) (book : OrganiserBook) (stored : Stored) → RepresentsStored m book stored → (slot : Slot) (a : Attendee) (line : List ℕ) → ShowsAnswered organiser m slot a line → ShowsSeen organiser book stored slot a line
 shows_seen organiser m book stored h slot a line is = (
   answered (answer_in m slot a.address),
   latest_is _ (answer_in m slot a.address) (h.seen slot a.address),

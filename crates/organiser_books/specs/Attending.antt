@@ -5,7 +5,7 @@ use Rattle.std.specs.Map.{lookup, keys_of}
 use Rattle.std.specs.Str.{bytes_eq}
 use Rattle.ical_values.specs.Octets.{address_octets}
 use Rattle.ical_values.specs.declared.address.Address.{Address}
-use Rattle.profile.specs.events.Events.{Attendee, Event}
+use Rattle.profile.specs.events.EventComponents.{Attendee, EventComponent}
 use Rattle.profile.specs.organisers.Objects.{counted}
 use Rattle.profile.specs.rooms.Kept.{each_once}
 use Rattle.itip_messages.specs.declared.organiser_object.ObjectComponent.{ObjectComponent}
@@ -15,7 +15,7 @@ use Rattle.organiser_books.specs.declared.attending.Attendance.{Attendance}
 abbrev pub lists_of : List ObjectComponent → List (List Attendee)
 lists_of components = map (λ component. component.attendees) components
 
-abbrev pub lists_said : List Event → List (List Attendee)
+abbrev pub lists_said : List EventComponent → List (List Attendee)
 lists_said events = map (λ event. event.attendees) events
 
 abbrev pub addresses_in : List Attendee → List (List ℕ)
@@ -26,12 +26,12 @@ abbrev pub names : List ℕ → List Attendee → Bool
 names address lines = list_any (λ a. bytes_eq a.address address) lines
 
 -- the server is to send it messages, by the first of its lines
-abbrev pub schedules : List ℕ → List Attendee → Bool
-schedules address lines = list_any (λ attendee. bytes_eq attendee.address address && attendee.scheduled) (counted lines)
+abbrev pub schedules_line : List ℕ → List Attendee → Bool
+schedules_line address lines = list_any (λ attendee. bytes_eq attendee.address address && attendee.scheduled) (counted lines)
 
 -- those of whom it is left to the server
 abbrev pub scheduled_among : List (List Attendee) → List (List ℕ)
-scheduled_among lists = filter (λ address. list_any (schedules address) lists) (each_once (flat_map addresses_in lists))
+scheduled_among lists = filter (λ address. list_any (schedules_line address) lists) (each_once (flat_map addresses_in lists))
 
 -- and without the organiser
 abbrev pub sent_among : List ℕ → List (List Attendee) → List (List ℕ)
@@ -52,7 +52,7 @@ attendance_of address entries = lookup (is_address address) entries
 -- what is known of one who is an attendee of these components
 pub record IsAttending (lists : List (List Attendee)) (address : List ℕ) (attendance : Attendance) : Type 0 where
   pub named : list_any (names address) lists ≡ true
-  pub scheduled : attendance.scheduled ≡ list_any (schedules address) lists
+  pub scheduled : attendance.scheduled ≡ list_any (schedules_line address) lists
 
 abbrev pub Attends : List (List Attendee) → List ℕ → Option Attendance → Type 0
 Attends lists address None = list_any (names address) lists ≡ false
@@ -66,7 +66,7 @@ pub record AreAttending (lists : List (List Attendee)) (entries : Entries) : Typ
 -- the same on the way: all lines of the components before a place were noted, and some of its own
 pub record IsNoted (done : List (List Attendee)) (place : ℕ) (own : List Attendee) (address : List ℕ) (attendance : Attendance) : Type 0 where
   pub named : (list_any (names address) done || names address own) ≡ true
-  pub scheduled : attendance.scheduled ≡ (list_any (schedules address) done || schedules address own)
+  pub scheduled : attendance.scheduled ≡ (list_any (schedules_line address) done || schedules_line address own)
   pub last : (attendance.component == place) ≡ names address own
   pub up_to : attendance.component ≤ place
 
@@ -91,15 +91,15 @@ abbrev pub is_sent : List ℕ → Entries → Bool
 is_sent address entries = is_sent_in (attendance_of address entries)
 
 -- it isn't the organiser
-abbrev pub is_other : List ℕ → Address → Bool
-is_other organiser address = not (bytes_eq (address_octets address) organiser)
+abbrev pub is_no_organiser : List ℕ → Address → Bool
+is_no_organiser organiser address = not (bytes_eq (address_octets address) organiser)
 
 -- those of them except the organiser
 abbrev pub sent_in : List ℕ → Entries → List (List ℕ)
-sent_in organiser entries = map (λ entry. address_octets entry.0) (filter (λ entry. entry.1.scheduled && is_other organiser entry.0) entries)
+sent_in organiser entries = map (λ entry. address_octets entry.0) (filter (λ entry. entry.1.scheduled && is_no_organiser organiser entry.0) entries)
 
 -- those of the first whom the server no longer sends messages by the second
 abbrev pub gone_in : List ℕ → Entries → Entries → List (List ℕ)
 gone_in organiser last now =
     map (λ entry. address_octets entry.0)
-    (filter (λ entry. is_other organiser entry.0 && (entry.1.scheduled && not (is_sent (address_octets entry.0) now))) last)
+    (filter (λ entry. is_no_organiser organiser entry.0 && (entry.1.scheduled && not (is_sent (address_octets entry.0) now))) last)

@@ -8,17 +8,17 @@ use Rattle.indexmap.specs.IndexMap.{get}
 use Rattle.ical_values.specs.Octets.{address_octets, text_octets}
 use Rattle.ical_values.specs.declared.text.Text.{Text}
 use Rattle.profile.specs.rooms.Revisions.{Slot}
-use Rattle.profile.specs.events.Events.{Attendee, Participation, NeedsAction}
+use Rattle.profile.specs.events.EventComponents.{Attendee, Participation, NeedsAction}
 use Rattle.profile.specs.organisers.Organisers.{OrganiserBook, Stored, Heard, last_store, answers_store, heard_cmp}
 use Rattle.cal_events.specs.Events.{participation_of}
 use Rattle.itip_order.specs.Parts.{revision_of, slot_of}
 use Rattle.itip_messages.specs.OrganiserObjects.{SaysObjectComponent}
 use Rattle.itip_messages.specs.declared.organiser_object.ObjectComponent.{ObjectComponent}
-use Rattle.organiser_books.specs.declared.answers.Answer.{Answer}
+use Rattle.organiser_books.specs.declared.answers.AttendeeAnswer.{AttendeeAnswer}
 use Rattle.organiser_books.specs.declared.answers.AnswerKey.{AnswerKey}
-use Rattle.organiser_books.specs.declared.meeting.Meeting.{Meeting}
+use Rattle.organiser_books.specs.declared.meeting.StoredMeeting.{StoredMeeting}
 use Rattle.organiser_books.specs.declared.organiser.Organiser.{Organiser}
-use Rattle.organiser_books.specs.Answers.{same_key, key_at}
+use Rattle.organiser_books.specs.Answers.{same_answer_key, answer_key_at}
 use Rattle.organiser_books.specs.Attending.{is_address, lists_said, AreAttending, attendance_of}
 
 abbrev pub address_of : Organiser → List ℕ
@@ -31,37 +31,37 @@ same_text a b = bytes_eq (text_octets a) (text_octets b)
 -- ---- answers
 
 -- the answer for a slot by the attendee in a place
-abbrev pub answer_at : Option ℕ → Slot → List (AnswerKey × Answer) → Option Answer
+abbrev pub answer_at : Option ℕ → Slot → List (AnswerKey × AttendeeAnswer) → Option AttendeeAnswer
 answer_at None slot answers = None
-answer_at (Some place) slot answers = lookup (same_key (key_at place slot)) answers
+answer_at (Some place) slot answers = lookup (same_answer_key (answer_key_at place slot)) answers
 
 -- what a meeting has as an attendee's answer for a slot
-abbrev pub answer_in : Meeting → Slot → List ℕ → Option Answer
+abbrev pub answer_in : StoredMeeting → Slot → List ℕ → Option AttendeeAnswer
 answer_in meeting slot attendee = answer_at (position (is_address attendee) (keys_of meeting.attending.entries)) slot meeting.answers.entries
 
 -- it is what was heard
-pub record IsAnswer (heard : Heard) (answer : Answer) : Type 0 where
+pub record IsHeardAnswer (heard : Heard) (answer : AttendeeAnswer) : Type 0 where
   pub stamp : answer.stamp ≡ heard.revision.stamp
   pub status : participation_of answer.status ≡ heard.answer
 
 -- it is the latest of these
-pub record IsLatest (all : List Heard) (answer : Answer) : Type 0 where
+pub record IsLatestHeard (all : List Heard) (answer : AttendeeAnswer) : Type 0 where
   pub heard : Heard
   pub among : Contains all heard
-  pub is : IsAnswer heard answer
+  pub is : IsHeardAnswer heard answer
   pub latest : list_all (λ other. is_le (heard_cmp other heard)) all ≡ true
 
-abbrev pub LatestOf : List Heard → Option Answer → Type 0
+abbrev pub LatestOf : List Heard → Option AttendeeAnswer → Type 0
 LatestOf all None = all ≡ []
-LatestOf all (Some answer) = IsLatest all answer
+LatestOf all (Some answer) = IsLatestHeard all answer
 
 -- the meeting has the latest of these answers to a store, for each slot and of each attendee
-abbrev pub AreSeen : Meeting → Stored → List Heard → Type 0
+abbrev pub AreSeen : StoredMeeting → Stored → List Heard → Type 0
 AreSeen meeting stored replies =
     (slot : Slot) (attendee : List ℕ) → LatestOf (filter (answers_store stored slot attendee) replies) (answer_in meeting slot attendee)
 
 -- what an answer says, NEEDS-ACTION where there is none
-abbrev pub answered : Option Answer → Participation
+abbrev pub answered : Option AttendeeAnswer → Participation
 answered None = NeedsAction
 answered (Some answer) = participation_of answer.status
 
@@ -72,30 +72,30 @@ heard_by uid component [] = []
 heard_by uid component (attendee ∷ others) =
     record { uid = uid; attendee = attendee.address; slot = slot_of component.slot; revision = revision_of component.revision; answer = attendee.participation } ∷ []
 
-abbrev pub heard_of : List ℕ → ObjectComponent → List Heard
-heard_of uid component = heard_by uid component component.attendees
+abbrev pub heard_said : List ℕ → ObjectComponent → List Heard
+heard_said uid component = heard_by uid component component.attendees
 
 -- who speaks in it isn't an attendee of the meeting
-abbrev pub is_unknown : Meeting → List Attendee → Bool
+abbrev pub is_unknown : StoredMeeting → List Attendee → Bool
 is_unknown meeting [] = false
 is_unknown meeting (attendee ∷ others) = not (is_some (attendance_of attendee.address meeting.attending.entries))
 
 -- one of these components answers a SEQUENCE that wasn't sent yet
-abbrev pub is_ahead : Meeting → List ObjectComponent → Bool
+abbrev pub is_ahead : StoredMeeting → List ObjectComponent → Bool
 is_ahead meeting components = list_any (λ component. nat_lt meeting.revision.sequence component.revision.sequence) components
 
 -- one who isn't an attendee speaks in one of them
-abbrev pub is_strange : Meeting → List ObjectComponent → Bool
+abbrev pub is_strange : StoredMeeting → List ObjectComponent → Bool
 is_strange meeting components = list_any (λ component. is_unknown meeting component.attendees) components
 
 -- what can be wrong with the components of a REPLY
-abbrev pub IsReplyFault : Meeting → List ObjectComponent → ℕ → Type 0
+abbrev pub IsReplyFault : StoredMeeting → List ObjectComponent → ℕ → Type 0
 IsReplyFault meeting components n = ((n ≡ 71) × (is_ahead meeting components ≡ true)) ⊎ ((n ≡ 73) × (is_strange meeting components ≡ true))
 
 -- ---- meetings
 
 -- the meeting is the last store, and has what was answered to it. No answer was taken that is to a later SEQUENCE
-pub record Represents (meeting : Meeting) (book : OrganiserBook) (stored : Stored) : Type 0 where
+pub record RepresentsStored (meeting : StoredMeeting) (book : OrganiserBook) (stored : Stored) : Type 0 where
   pub revision : revision_of meeting.revision ≡ stored.revision
   pub components : AllZip SaysObjectComponent stored.events meeting.components.items
   pub attending : AreAttending (lists_said stored.events) meeting.attending.entries
@@ -103,11 +103,11 @@ pub record Represents (meeting : Meeting) (book : OrganiserBook) (stored : Store
   pub seen : AreSeen meeting stored book.replies
   pub sent : (heard : Heard) → Contains book.replies heard → bytes_eq heard.uid stored.uid ≡ true → heard.revision.sequence ≤ stored.revision.sequence
 
-abbrev pub RepresentsAt : OrganiserBook → List ℕ → Option Meeting → Option Stored → Type 0
+abbrev pub RepresentsAt : OrganiserBook → List ℕ → Option StoredMeeting → Option Stored → Type 0
 RepresentsAt book uid None None = (heard : Heard) → Contains book.replies heard → bytes_eq heard.uid uid ≡ false
 RepresentsAt book uid None (Some stored) = ⊥
 RepresentsAt book uid (Some meeting) None = ⊥
-RepresentsAt book uid (Some meeting) (Some stored) = Represents meeting book stored
+RepresentsAt book uid (Some meeting) (Some stored) = RepresentsStored meeting book stored
 
 -- the organiser keeps this book: of each UID the last store
 pub record Keeps (organiser : Organiser) (book : OrganiserBook) : Type 0 where

@@ -2,7 +2,7 @@
 use Rattle.std.specs.Prelude.{◌≡◌, ℕ, ◌+◌, Bool, true, false, ◌&&◌, max, List, [], ◌∷◌, ◌++◌, Option, None, Some}
 use Rattle.std.specs.List.{list_any}
 use Rattle.ical_values.specs.Octets.{address_octets, text_octets}
-use Rattle.profile.specs.events.Events.{Attendee, Event}
+use Rattle.profile.specs.events.EventComponents.{Attendee, EventComponent}
 use Rattle.profile.specs.organisers.Organisers.{Sent, Sends, Stored, without}
 use Rattle.profile.specs.organisers.Sent.{IsCancel, IsRequest}
 use Rattle.itip_order.specs.Parts.{revision_of}
@@ -12,7 +12,7 @@ use Rattle.itip_messages.specs.declared.meeting_text.MeetingText.{MeetingText}
 use Rattle.itip_messages.specs.declared.organiser_object.ObjectComponent.{ObjectComponent}
 use Rattle.itip_order.specs.declared.part.Revision.{Revision}
 use Rattle.itip_messages.specs.declared.organiser_object.OrganiserObject.{OrganiserObject}
-use Rattle.organiser_books.specs.declared.meeting.Meeting.{Meeting}
+use Rattle.organiser_books.specs.declared.meeting.StoredMeeting.{StoredMeeting}
 use Rattle.organiser_books.specs.Attending.{lists_of, sent_among, AreAttending}
 
 -- the greatest SEQUENCE of these components
@@ -21,23 +21,23 @@ own_in [] = 0
 own_in (component ∷ components) = max component.revision.sequence (own_in components)
 
 -- the SEQUENCE of what is sent after a last store
-abbrev pub sequence_then : Option Meeting → List ObjectComponent → ℕ
+abbrev pub sequence_then : Option StoredMeeting → List ObjectComponent → ℕ
 sequence_then None components = own_in components
 sequence_then (Some last) components = max (own_in components) (last.revision.sequence + 1)
 
 -- the component cancels the whole meeting
-abbrev pub is_whole : Slot → Bool
-is_whole Whole = true
-is_whole (At instant) = false
+abbrev pub is_whole_slot : Slot → Bool
+is_whole_slot Whole = true
+is_whole_slot (At instant) = false
 
 abbrev pub cancels_whole : ObjectComponent → Bool
-cancels_whole component = is_whole component.slot && component.cancelled
+cancels_whole component = is_whole_slot component.slot && component.cancelled
 
 abbrev pub calls_off : List ObjectComponent → Bool
 calls_off components = list_any cancels_whole components
 
 -- the store of a meeting that is written, with what was made of it
-abbrev pub stored_of : MeetingText → List Event → List ℕ → Stored
+abbrev pub stored_of : MeetingText → List EventComponent → List ℕ → Stored
 stored_of meeting events object = record { uid = text_octets meeting.uid.now; events = events; revision = revision_of meeting.revision; object = object }
 
 -- an object that is sent to these, where there are some
@@ -56,12 +56,12 @@ SendsTo false organiser stored to gone sent =
     × Sends (IsCancel organiser stored.uid stored.revision false gone) gone cancels × (sent ≡ requests ++ cancels)
 
 -- the attendees of a last store, where there is one
-abbrev pub LastAttends : List (List Attendee) → Option Meeting → Type 0
+abbrev pub LastAttends : List (List Attendee) → Option StoredMeeting → Type 0
 LastAttends lists None = lists ≡ []
 LastAttends lists (Some last) = AreAttending lists last.attending.entries
 
 -- what is made of these events by an object that is stored with this revision
-abbrev pub SendsObject : List ℕ → OrganiserObject → Revision → List Event → List (List Attendee) → List ℕ → List Sent → Type 0
+abbrev pub SendsObject : List ℕ → OrganiserObject → Revision → List EventComponent → List (List Attendee) → List ℕ → List Sent → Type 0
 SendsObject organiser object revision events before octets sent =
     SendsTo (calls_off object.components.items) (address_octets object.organiser)
     (record { uid = text_octets object.uid; events = events; revision = revision_of revision; object = octets })

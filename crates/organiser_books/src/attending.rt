@@ -2,10 +2,10 @@
 
 ghost use Rattle.std.specs.Prelude.{◌≡◌, ◌&&◌, not, ◌++◌, ◌∷◌, [], ℕ, List, map, IfOk, OnOk};
 ghost use Rattle.ical_values.specs.Octets.{address_octets};
-ghost use Rattle.profile.specs.events.Events as events;
+ghost use Rattle.profile.specs.events.EventComponents as events;
 ghost use Rattle.profile.specs.organisers.Organisers.{without};
 ghost use Rattle.cal_events.specs.Events.{attendee_of};
-ghost use Rattle.organiser_books.specs.Attending.{lists_of, is_other, is_sent, sent_among, AreAttending, AreNoted};
+ghost use Rattle.organiser_books.specs.Attending.{lists_of, is_no_organiser, is_sent, sent_among, AreAttending, AreNoted};
 
 use cal_events::Attendee;
 use ical_values::Address;
@@ -134,14 +134,14 @@ pub(crate) fn gone(
 
 /// Whether the server of this organiser sends messages to an attendee.
 fn is_sent_to(organiser: &Address, address: &Address, attendance: &Attendance) -> bool
-    ensures { result ≡ (attendance.now.scheduled && is_other (address_octets organiser.now) address.now) }
+    ensures { result ≡ (attendance.now.scheduled && is_no_organiser (address_octets organiser.now) address.now) }
 {
     attendance.scheduled && address != organiser
 }
 
 /// Whether it sent messages to this attendee of the last store, and no longer does.
 fn is_gone(organiser: &Address, address: &Address, attendance: &Attendance, now: &Attending) -> bool
-    ensures { result ≡ (is_other (address_octets organiser.now) address.now && (attendance.now.scheduled && not (is_sent (address_octets address.now) now.now.entries))) }
+    ensures { result ≡ (is_no_organiser (address_octets organiser.now) address.now && (attendance.now.scheduled && not (is_sent (address_octets address.now) now.now.entries))) }
 {
     address != organiser && (attendance.scheduled && !is_sent(now, address))
 }

@@ -9,11 +9,11 @@ ghost use Rattle.profile.specs.organisers.Organisers.{Heard, Stored};
 ghost use Rattle.cal_events.specs.Events.{participation_of};
 ghost use Rattle.itip_order.specs.Parts.{revision_of, slot_of};
 ghost use Rattle.organiser_books.specs.Attending.{attendance_of, is_sent};
-ghost use Rattle.organiser_books.specs.Representation.{answer_in, answered, heard_of, is_ahead, is_strange, is_unknown, AreSeen, IsReplyFault};
+ghost use Rattle.organiser_books.specs.Representation.{answer_in, answered, heard_said, is_ahead, is_strange, is_unknown, AreSeen, IsReplyFault};
 
-use crate::answers::{Answer, AnswerKey, Answers, put};
+use crate::answers::{AnswerKey, AttendeeAnswer, AttendeeAnswers, put};
 use crate::attending::{Attending, is_sent};
-use cal_events::ParticipationStatus;
+use cal_events::PartStat;
 use ical_lines::{Fault, Refusal};
 use ical_values::Address;
 use itip_messages::ObjectComponent;
@@ -22,7 +22,7 @@ use std::alloc::AllocError;
 
 /// A meeting of an organiser.
 #[derive(Drop)]
-pub(crate) struct Meeting {
+pub(crate) struct StoredMeeting {
     /// SEQUENCE and DTSTAMP of what was sent.
     pub revision: Revision,
     /// Its VEVENTs in the order of the text.
@@ -31,10 +31,10 @@ pub(crate) struct Meeting {
     /// The octets that were made of it: its REQUEST, or its CANCEL where it was called off.
     pub object: Vec<u8>,
     /// What was answered to this SEQUENCE.
-    pub answers: Answers,
+    pub answers: AttendeeAnswers,
 }
 
-impl Meeting {
+impl StoredMeeting {
     /// Whether this is one of its attendees.
     pub fn has_attendee(&self, address: &Address) -> bool
         ensures { result ≡ is_some (attendance_of (address_octets address.now) self.now.attending.entries) }
@@ -50,15 +50,15 @@ impl Meeting {
     }
 
     /// What an attendee answered for a slot.
-    pub fn answered(&self, slot: Slot, attendee: &Address) -> ParticipationStatus
+    pub fn answered(&self, slot: Slot, attendee: &Address) -> PartStat
         ensures { participation_of result ≡ answered (answer_in self.now (slot_of slot) (address_octets attendee.now)) }
     {
         let Some(place) = self.attending.get_index_of(attendee) else {
-            return ParticipationStatus::NeedsAction;
+            return PartStat::NeedsAction;
         };
         match self.answers.get(&AnswerKey::at(place, slot)) {
             Some(answer) => answer.status,
-            None => ParticipationStatus::NeedsAction,
+            None => PartStat::NeedsAction,
         }
     }
 
@@ -98,7 +98,7 @@ impl Meeting {
         ensures sent { OnOk result (is_ahead self.old components.now ≡ false) }
         ensures known { OnOk result (is_strange self.old components.now ≡ false) }
         ensures seen { OnOk result ((stored : Stored) (replies : List Heard) → revision_of self.old.revision ≡ stored.revision → AreSeen self.old stored replies
-            → AreSeen self.new stored (replies ++ flat_map (heard_of stored.uid) components.now)) }
+            → AreSeen self.new stored (replies ++ flat_map (heard_said stored.uid) components.now)) }
         ensures refuses { IfErr result (RefusesBy (IsReplyFault self.old components.now)) }
         ensures err { OnErr result (self.new.answers.entries ≡ self.old.answers.entries) }
     {
@@ -120,7 +120,7 @@ impl Meeting {
         ensures object { self.new.object ≡ self.old.object }
         ensures seen { OnOk result ((stored : Stored) (replies : List Heard) → revision_of self.old.revision ≡ stored.revision → AreSeen self.old stored replies
             → is_strange self.old components.now ≡ false
-            → AreSeen self.new stored (replies ++ flat_map (heard_of stored.uid) components.now)) }
+            → AreSeen self.new stored (replies ++ flat_map (heard_said stored.uid) components.now)) }
         ensures err { OnErr result (self.new.answers.entries ≡ self.old.answers.entries) }
     {
         self.answers.reserve(components.len())?;
@@ -139,7 +139,7 @@ impl Meeting {
         ensures object { self.new.object ≡ self.old.object }
         ensures seen { (stored : Stored) (replies : List Heard) → revision_of self.old.revision ≡ stored.revision → AreSeen self.old stored replies
             → is_unknown self.old component.now.attendees ≡ false
-            → AreSeen self.new stored (replies ++ heard_of stored.uid component.now) }
+            → AreSeen self.new stored (replies ++ heard_said stored.uid component.now) }
         ensures spare { spare self.old.answers ≤ spare self.new.answers + 1 }
     {
         if component.revision.sequence != self.revision.sequence {
@@ -151,7 +151,7 @@ impl Meeting {
         let Some(place) = self.attending.get_index_of(&attendee.address) else {
             return;
         };
-        let answer = Answer {
+        let answer = AttendeeAnswer {
             stamp: component.revision.stamp,
             status: attendee.status,
         };

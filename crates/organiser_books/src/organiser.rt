@@ -5,7 +5,7 @@ ghost use Rattle.std.specs.List.{AllZip};
 ghost use Rattle.indexmap.specs.IndexMap.{get};
 ghost use Rattle.ical_lines.specs.Fault.{RefusesOnly, RefusesBy};
 ghost use Rattle.ical_values.specs.Octets.{address_octets, text_octets};
-ghost use Rattle.profile.specs.events.Events.{Attendee, Event};
+ghost use Rattle.profile.specs.events.EventComponents.{Attendee, EventComponent};
 ghost use Rattle.profile.specs.organisers.Objects as profile;
 ghost use Rattle.profile.specs.organisers.Organisers.{OrganiserBook, empty_organiser, after_reply, without, IsSeen, IsShown, IsStore};
 ghost use Rattle.cal_events.specs.Events.{participation_of};
@@ -17,12 +17,12 @@ ghost use Rattle.organiser_books.specs.Storing.{LastAttends, SendsObject};
 ghost use Rattle.organiser_books.specs.Calls.{AnswersRefresh, CallFault, MayTake, is_call_fault, sent_of};
 
 use crate::attending::{Attending, attending, gone, sent};
-use crate::meeting::Meeting;
+use crate::meeting::StoredMeeting;
 use crate::outgoing::Outgoing;
 use crate::sending::{Sending, send};
 use crate::sequence::sequence_after;
 use crate::shown::Shown;
-use cal_events::ParticipationStatus;
+use cal_events::PartStat;
 use ical_lines::{Fault, Refusal};
 use ical_values::{Address, Stamp, Text};
 use indexmap::IndexMap;
@@ -36,19 +36,19 @@ pub struct Organiser {
     alloc: Global,
     address: Address,
     /// The last store of each meeting, by its UID.
-    meetings: Meetings,
+    meetings: StoredMeetings,
 }
 
 /// What is made of an object that is stored.
 #[derive(Drop)]
-struct Made {
+struct Composed {
     attending: Attending,
     object: Vec<u8>,
     sent: Vec<Outgoing>,
 }
 
 /// The meetings of an organiser.
-pub(crate) type Meetings = IndexMap<Text, Meeting>;
+pub(crate) type StoredMeetings = IndexMap<Text, StoredMeeting>;
 
 impl Organiser {
     /// One that has stored nothing.
@@ -94,7 +94,7 @@ impl Organiser {
             sequence,
             stamp: now,
         };
-        let Made {
+        let Composed {
             attending,
             object: octets,
             sent,
@@ -105,7 +105,7 @@ impl Organiser {
             uid,
             components,
         } = object;
-        let meeting = Meeting {
+        let meeting = StoredMeeting {
             revision,
             components,
             attending,
@@ -158,7 +158,7 @@ impl Organiser {
 
     /// What is seen of an attendee's answers to the last store, for a slot of the meeting; None for a meeting that isn't known and for one
     /// who isn't an attendee of it (RFC 6638 4.2).
-    pub fn seen(&self, uid: &Text, slot: Slot, attendee: &Address) -> Option<ParticipationStatus>
+    pub fn seen(&self, uid: &Text, slot: Slot, attendee: &Address) -> Option<PartStat>
         ensures { (book : OrganiserBook) → Keeps self.now book
             → IsSeen book (text_octets uid.now) (slot_of slot) (address_octets attendee.now) (option_map participation_of result) }
     {
@@ -211,9 +211,9 @@ impl Organiser {
     }
 
     /// What is made of an object that is stored with this revision.
-    fn made(&self, object: &OrganiserObject, revision: &Revision) -> Result<Made, AllocError>
+    fn made(&self, object: &OrganiserObject, revision: &Revision) -> Result<Composed, AllocError>
         ensures attending { IfOk result (λ made. AreAttending (lists_of object.now.components.items) made.attending.entries) }
-        ensures sends { IfOk result (λ made. (events : List Event) (before : List (List Attendee)) → AllZip SaysObjectComponent events object.now.components.items
+        ensures sends { IfOk result (λ made. (events : List EventComponent) (before : List (List Attendee)) → AllZip SaysObjectComponent events object.now.components.items
             → LastAttends before (get same_text self.now.meetings object.now.uid)
             → SendsObject (address_of self.now) object.now revision.now events before made.object.items (map sent_of made.sent.items)) }
     {
@@ -227,7 +227,7 @@ impl Organiser {
             components: &object.components,
         };
         let Sending { object, sent } = send(self.alloc, &text, to, gone)?;
-        Ok(Made {
+        Ok(Composed {
             attending,
             object,
             sent,

@@ -2,7 +2,7 @@
 
 ghost use Rattle.std.specs.Prelude.{◌≡◌, ◌++◌, List, ℕ, true, false, map, IfOk, OnOk};
 ghost use Rattle.ical_values.specs.Octets.{address_octets, text_octets};
-ghost use Rattle.profile.specs.events.Events.{Event};
+ghost use Rattle.profile.specs.events.EventComponents.{EventComponent};
 ghost use Rattle.profile.specs.organisers.Organisers as profile;
 ghost use Rattle.profile.specs.organisers.Organisers.{Sends};
 ghost use Rattle.profile.specs.organisers.Sent.{IsCancel};
@@ -32,7 +32,7 @@ pub(crate) fn send(
     to: Vec<Address>,
     gone: Vec<Address>,
 ) -> Result<Sending, AllocError>
-    ensures { IfOk result (λ sending. (events : List Event) → AreWritten meeting.now events
+    ensures { IfOk result (λ sending. (events : List EventComponent) → AreWritten meeting.now events
         → SendsTo (calls_off meeting.now.components.now) (address_octets meeting.now.organiser.now) (stored_of meeting.now events sending.object.items)
         (map address_octets to.items) (map address_octets gone.items) (map sent_of sending.sent.items)) }
 {
@@ -49,7 +49,7 @@ fn call_off(
     to: Vec<Address>,
     gone: Vec<Address>,
 ) -> Result<Sending, AllocError>
-    ensures { IfOk result (λ sending. (events : List Event)
+    ensures { IfOk result (λ sending. (events : List EventComponent)
         → SendsTo true (address_octets meeting.now.organiser.now) (stored_of meeting.now events sending.object.items)
         (map address_octets to.items) (map address_octets gone.items) (map sent_of sending.sent.items)) }
 {
@@ -69,7 +69,7 @@ fn request(
     to: Vec<Address>,
     gone: Vec<Address>,
 ) -> Result<Sending, AllocError>
-    ensures { IfOk result (λ sending. (events : List Event) → AreWritten meeting.now events
+    ensures { IfOk result (λ sending. (events : List EventComponent) → AreWritten meeting.now events
         → SendsTo false (address_octets meeting.now.organiser.now) (stored_of meeting.now events sending.object.items)
         (map address_octets to.items) (map address_octets gone.items) (map sent_of sending.sent.items)) }
 {

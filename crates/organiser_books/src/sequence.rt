@@ -4,13 +4,13 @@ ghost use Rattle.std.specs.Prelude.{◌≡◌, ◌<◌, ◌≤◌, option_copied
 ghost use Rattle.profile.specs.organisers.Organisers.{most_sequence};
 ghost use Rattle.organiser_books.specs.Storing.{own_in, sequence_then};
 
-use crate::meeting::Meeting;
+use crate::meeting::StoredMeeting;
 use ical_values::Sequence;
 use itip_messages::ObjectComponent;
 
 /// The components' own SEQUENCE at first, later greater than that of the last store (RFC 5546 2.1.4); None where none is left.
 pub(crate) fn sequence_after(
-    last: Option<&Meeting>,
+    last: Option<&StoredMeeting>,
     components: &[ObjectComponent],
 ) -> Option<Sequence>
     ensures is { IfSome result (λ sequence. sequence ≡ sequence_then (option_copied last.entry) components.now) }

@@ -3,10 +3,10 @@
 ghost use Rattle.std.specs.Prelude.{◌≡◌, ◌++◌, codes, string_bytes, IfOk};
 ghost use Rattle.profile.specs.organisers.Organisers.{participation_word, sent_status};
 ghost use Rattle.cal_events.specs.Events.{participation_of};
-ghost use Rattle.organiser_books.specs.Shown.{Shows};
+ghost use Rattle.organiser_books.specs.Shown.{ShowsAttendee};
 
-use crate::meeting::Meeting;
-use cal_events::{Attendee, ParticipationStatus};
+use crate::meeting::StoredMeeting;
+use cal_events::{Attendee, PartStat};
 use ical_values::Address;
 use itip_messages::{AttendeeLines, ObjectWriter};
 use itip_order::Slot;
@@ -15,12 +15,12 @@ use std::alloc::{AllocError, Global};
 /// A meeting that its organiser shows.
 #[derive(Clone, Copy)]
 pub(crate) struct Shown<'a> {
-    pub meeting: &'a Meeting,
+    pub meeting: &'a StoredMeeting,
     pub organiser: &'a Address,
 }
 
 impl AttendeeLines for Shown<'_> {
-    ghost line = { Shows };
+    ghost line = { ShowsAttendee };
 
     fn write_line(
         &self,
@@ -36,7 +36,7 @@ impl AttendeeLines for Shown<'_> {
 }
 
 /// The name of the line, with its parameters and colon.
-fn named(alloc: Global, status: ParticipationStatus, sent: bool) -> Result<String, AllocError>
+fn named(alloc: Global, status: PartStat, sent: bool) -> Result<String, AllocError>
     ensures { IfOk result (λ name. string_bytes name ≡ codes "ATTENDEE;PARTSTAT=" ++ participation_word (participation_of status) ++ sent_status sent ++ codes ":") }
 {
     let word = word_of(status);
@@ -45,15 +45,15 @@ fn named(alloc: Global, status: ParticipationStatus, sent: bool) -> Result<Strin
 }
 
 /// The word of PARTSTAT (RFC 5545 3.2.12).
-fn word_of(status: ParticipationStatus) -> &'static str
+fn word_of(status: PartStat) -> &'static str
     ensures { result.now ≡ participation_word (participation_of status) }
 {
     match status {
-        ParticipationStatus::NeedsAction => "NEEDS-ACTION",
-        ParticipationStatus::Tentative => "TENTATIVE",
-        ParticipationStatus::Accepted => "ACCEPTED",
-        ParticipationStatus::Delegated => "DELEGATED",
-        ParticipationStatus::Declined => "DECLINED",
+        PartStat::NeedsAction => "NEEDS-ACTION",
+        PartStat::Tentative => "TENTATIVE",
+        PartStat::Accepted => "ACCEPTED",
+        PartStat::Delegated => "DELEGATED",
+        PartStat::Declined => "DECLINED",
     }
 }
 

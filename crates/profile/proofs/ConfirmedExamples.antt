@@ -3,7 +3,7 @@ use Rattle.std.proofs.Common.{◌≡◌, ◌∙◌, ℕ, zero, suc, true, false,
 use Rattle.std.specs.Prelude.{Option, Some, None, Contains, Bool, is_some}
 use Rattle.std.proofs.lemmas.Bool.{false≢true}
 use Rattle.std.proofs.lemmas.Int.{ints}
-use Rattle.profile.specs.events.Events.{Event, Participation, Accepted, Declined}
+use Rattle.profile.specs.events.EventComponents.{EventComponent, Participation, Accepted, Declined}
 use Rattle.profile.specs.events.Starts.{key_at}
 use Rattle.profile.specs.events.Confirmed.{is_kept, is_series, IsInstanceAmong, IsConfirmed, MastersDiffer, OverridesDiffer}
 
@@ -11,7 +11,7 @@ abbrev room : List ℕ
 room = codes "r:1"
 
 -- an event in UTC without a rule, of one second, that the room answered so
-abbrev event : Option ℤ → ℤ → Participation → Bool → Event
+abbrev event : Option ℤ → ℤ → Participation → Bool → EventComponent
 event recurrence start answer cancelled = record {
   uid = codes "a";
   organiser = None;
@@ -27,14 +27,14 @@ event recurrence start answer cancelled = record {
   attendees = record { address = room; participation = answer; scheduled = true } ∷ [];
 }
 
-abbrev master : Event
+abbrev master : EventComponent
 master = event None (pos 100) Accepted false
 
 -- the room has declined this instance of it
-abbrev declined : Event
+abbrev declined : EventComponent
 declined = event (Some (pos 100)) (pos 150) Declined false
 
-abbrev events : List Event
+abbrev events : List EventComponent
 events = master ∷ declined ∷ []
 
 accepted_is_kept : is_kept room master ≡ true
@@ -79,9 +79,9 @@ stays = record {
         from None = a
         from (Some x) = x
 
-    other : (o : Event) → Contains events o → o.recurrence ≡ Some (pos 200) → ⊥
-    other o (zero, w, e) is = false≢true (ap (λ (r : Option ℤ). is_some r) (ap (λ (x : Event). x.recurrence) e ∙ is))
-    other o (suc zero, w, e) is = let h = some (pos 100) (pos 200) (ap (λ (x : Event). x.recurrence) e ∙ is) in omega (arith, ints, h)
+    other : (o : EventComponent) → Contains events o → o.recurrence ≡ Some (pos 200) → ⊥
+    other o (zero, w, e) is = false≢true (ap (λ (r : Option ℤ). is_some r) (ap (λ (x : EventComponent). x.recurrence) e ∙ is))
+    other o (suc zero, w, e) is = let h = some (pos 100) (pos 200) (ap (λ (x : EventComponent). x.recurrence) e ∙ is) in omega (arith, ints, h)
     other o (suc (suc k), w, e) is = omega (arith, w)
 
 -- a master and an override of one meeting aren't two masters; two masters are

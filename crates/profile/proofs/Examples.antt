@@ -9,13 +9,13 @@ use Rattle.profile.specs.text.Lines.{line_param}
 use Rattle.profile.specs.checker.Calendars.{CalendarTextFault, in_lines, in_tree}
 use Rattle.profile.specs.text.Trees.{Tree, tree, none, more, vevents}
 use Rattle.profile.specs.text.Values.{unescaped}
-use Rattle.profile.specs.events.Events.{Method, Request, Add, Cancel, may_lack_start, Event, Participation, Accepted, Declined, NeedsAction, answer_named, answer_of, is_by_server, summary_of}
+use Rattle.profile.specs.events.EventComponents.{Method, Request, Add, Cancel, may_lack_start, EventComponent, Participation, Accepted, Declined, NeedsAction, answer_named, answer_of, is_by_server, summary_of}
 use Rattle.profile.specs.events.Properties.{lines_named}
 use Rattle.profile.specs.rooms.Revisions.{Part, Whole, At, Set, Absent, Cancelled, same_meeting}
-use Rattle.profile.specs.events.Meetings.{Meeting, taken_by}
+use Rattle.profile.specs.events.Events.{Event, taken_by}
 use Rattle.profile.specs.rooms.Messages.{Accept, SinglesLimit, Message, no_content, list_lines, is_in_dates, cancels, is_addressed, parts_for, revision_beside, IsBody, object_lines, word}
-use Rattle.profile.specs.checker.Instances.{Booked}
-use Rattle.profile.specs.rooms.Rooms.{Answer, Book, Claim, confirmed_singles, confirmed_series, empty_book, is_confirmed, is_hidden, wants_whole}
+use Rattle.profile.specs.checker.Instances.{Instance}
+use Rattle.profile.specs.rooms.Rooms.{PartAnswer, Book, Claim, confirmed_singles, confirmed_series, empty_book, is_confirmed, is_hidden, wants_whole}
 use Rattle.profile.specs.rooms.Kept.{IsKept, kept_certificate, first_parts, each_once, renamed}
 use Rattle.profile.specs.streams.Streams.{Now, Room, moments, organisers, Organiser, rooms, refused_line, AreObjects}
 
@@ -95,7 +95,7 @@ no_summary_is_empty : summary_of (codes "UID:a" ∷ []) ≡ []
 no_summary_is_empty = refl
 
 -- from second 100 for a day and a second
-abbrev event_with : Participation → Participation → Event
+abbrev event_with : Participation → Participation → EventComponent
 event_with first second = record {
   uid = codes "a";
   organiser = None;
@@ -129,7 +129,7 @@ a_cancel_may_lack_its_start = refl
 a_request_may_not : may_lack_start (Some Request) ≡ false
 a_request_may_not = refl
 
-abbrev cancelled_event : Event
+abbrev cancelled_event : EventComponent
 cancelled_event = record (event_with NeedsAction NeedsAction) { cancelled = true }
 
 a_cancelled_request_cancels : cancels Request cancelled_event ≡ true
@@ -138,11 +138,11 @@ a_cancelled_request_cancels = refl
 another_request_does_not : cancels Request (event_with NeedsAction NeedsAction) ≡ false
 another_request_does_not = refl
 
-abbrev event_of_nobody : Event
+abbrev event_of_nobody : EventComponent
 event_of_nobody = record (event_with NeedsAction NeedsAction) { attendees = [] }
 
 -- a message of a whole meeting alone
-abbrev of_one : Method → Event → Message
+abbrev of_one : Method → EventComponent → Message
 of_one method event = record { method = method; meeting = record { master = Some event; overrides = [] } }
 
 a_cancel_to_nobody_is_for_each_room : is_addressed (codes "r:2") (of_one Cancel event_of_nobody) ≡ true
@@ -155,10 +155,10 @@ a_cancel_to_another_is_not_for_it : is_addressed (codes "r:2") (of_one Cancel (e
 a_cancel_to_another_is_not_for_it = refl
 
 -- a meeting of nobody, and of it one instance, of an earlier revision, to which r:1 is asked
-abbrev whole : Event
+abbrev whole : EventComponent
 whole = record event_of_nobody { sequence = 2; stamp = Some (pos 50) }
 
-abbrev instance : Event
+abbrev instance : EventComponent
 instance = record (event_with NeedsAction NeedsAction) { sequence = 1; stamp = Some (pos 60); recurrence = Some (pos 7) }
 
 abbrev of_both : Method → Message
@@ -276,7 +276,7 @@ the_declined_is_not_kept k = by_place k.given.0 k.given.1 k.given.2
   where
     by_place : (place : ℕ) → place < 2 → get_or two_meetings.answers place k.answer ≡ k.answer → ⊥
     by_place zero l at = false≢true (ap (λ a. is_confirmed two_meetings.taken a) at ∙ k.confirms)
-    by_place (suc zero) l at = false≢true (ap (λ (a : Answer). same_meeting (part_of (codes "b") 0) a.claim.part) at ∙ ap (λ (c : Claim). same_meeting (part_of (codes "b") 0) c.part) k.to)
+    by_place (suc zero) l at = false≢true (ap (λ (a : PartAnswer). same_meeting (part_of (codes "b") 0) a.claim.part) at ∙ ap (λ (c : Claim). same_meeting (part_of (codes "b") 0) c.part) k.to)
     by_place (suc (suc place)) l at = absurd (omega arith)
 
 -- ---- what makes a room ask for a whole meeting
@@ -309,7 +309,7 @@ that_of_another_meeting_is_none = refl
 
 -- ---- a series in a room
 
-abbrev no_meeting : Meeting
+abbrev no_meeting : Event
 no_meeting = record { master = None; overrides = [] }
 
 -- an instance of the meeting a that is cancelled
@@ -330,7 +330,7 @@ its_instances_are_no_singles = refl
 it_counts : length (confirmed_series (one_series (cancelled_at (pos 0) ∷ []))) ≡ 1
 it_counts = refl
 
-abbrev booked_at : ℕ → Booked
+abbrev booked_at : ℕ → Instance
 booked_at n = record { key = record { organiser = codes "o:1"; uid = codes "a"; slot = pos n }; start = pos n; end = pos (suc n) }
 
 one_is_hidden : is_hidden (one_series (cancelled_at (pos 9) ∷ [])).taken (part_of (codes "a") 0) (booked_at 9) ≡ true

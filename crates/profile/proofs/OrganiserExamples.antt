@@ -1,6 +1,6 @@
 -- Worked examples of what an organiser keeps, sends and shows (RFC 6638 3.2, RFC 5546 2.1.4, 2.1.5).
 use Rattle.std.proofs.Common.{◌≡◌, ℕ, ℤ, pos, Bool, true, false, List, [], ◌∷◌, codes, Option, None, Some, refl, lit<}
-use Rattle.profile.specs.events.Events.{Event, Attendee, NeedsAction, Accepted, Declined, Participation}
+use Rattle.profile.specs.events.EventComponents.{EventComponent, Attendee, NeedsAction, Accepted, Declined, Participation}
 use Rattle.profile.specs.rooms.Revisions.{Whole, At}
 use Rattle.profile.specs.organisers.Objects
 use Rattle.profile.specs.organisers.Objects.{has_one_attendee, counted, NamesOperation}
@@ -23,7 +23,7 @@ abbrev attendee : List ℕ → Bool → Attendee
 attendee address scheduled = record { address = address; participation = NeedsAction; scheduled = scheduled }
 
 -- an event of a second with this SEQUENCE and these attendees
-abbrev event : Option ℤ → ℕ → Bool → List Attendee → Event
+abbrev event : Option ℤ → ℕ → Bool → List Attendee → EventComponent
 event recurrence sequence cancelled attendees = record {
   uid = codes "s";
   organiser = Some ann;
@@ -40,7 +40,7 @@ event recurrence sequence cancelled attendees = record {
 }
 
 -- the whole meeting is for r1 and r2, of which a client sends messages to r2; the instance is for r2 and r3, by the server
-abbrev events : List Event
+abbrev events : List EventComponent
 events =
     event None 2 false (attendee r1 true ∷ attendee r2 false ∷ attendee r2 true ∷ [])
     ∷ event (Some (pos 100)) 1 true (attendee r2 true ∷ attendee r3 true ∷ []) ∷ []

@@ -2,7 +2,7 @@
 use Rattle.std.proofs.Common.{◌≡◌, ℕ, ℤ, pos, negsuc, refl, List, [], ◌∷◌, Option, Some, None, filter}
 use Rattle.std.specs.List.{range_with_len}
 use Rattle.profile.specs.series.Days.{Frequency, Daily, Weekly, Monthly, Yearly, day_index, greatest, year_of, month_of, year_days_before, year_days_after, month_days_before, month_days_after, weekday_of, period_of, days_of_months}
-use Rattle.profile.specs.series.Rules.{WeekdayNumber, Parts, is_rule_day, is_within_count, is_counted, is_placed, mates_before, mates_after, is_mate, count_days, is_base, is_in_step, passes, passes_month, passes_month_day, passes_weekday, last_rule_day}
+use Rattle.profile.specs.series.Rules.{WeekdayNumber, Rule, is_rule_day, is_within_count, is_counted, is_placed, mates_before, mates_after, is_mate, count_days, is_base, is_in_step, passes, passes_month, passes_month_day, passes_weekday, last_rule_day}
 
 -- 2025-01-01 is a Wednesday
 wednesday : weekday_of (day_index (pos 20_089)) ≡ 2
@@ -40,7 +40,7 @@ numbered : ℤ → ℕ → WeekdayNumber
 numbered number weekday = record { number = number; weekday = weekday }
 
 -- a rule by FREQ, INTERVAL, WKST, BYMONTH, BYMONTHDAY, BYDAY, BYSETPOS, the index of DTSTART, and COUNT
-rule : Frequency → ℕ → ℕ → List ℕ → List ℤ → List WeekdayNumber → List ℤ → ℕ → Option ℕ → Parts
+rule : Frequency → ℕ → ℕ → List ℕ → List ℤ → List WeekdayNumber → List ℤ → ℕ → Option ℕ → Rule
 rule frequency interval week_start months month_days weekdays positions start count = record {
   pattern = record {
     frequency = frequency;
@@ -58,7 +58,7 @@ rule frequency interval week_start months month_days weekdays positions start co
 }
 
 -- the rule days among this many days from one on
-days_in : Parts → ℕ → ℕ → List ℕ
+days_in : Rule → ℕ → ℕ → List ℕ
 days_in r from days = filter (is_rule_day r) (range_with_len from days)
 
 -- FREQ=DAILY;COUNT=10 from 1997-09-02: DTSTART is the first, and none is counted before it

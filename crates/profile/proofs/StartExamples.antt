@@ -2,12 +2,12 @@
 use Rattle.std.proofs.Common.{zero, suc, true, List, [], ◌∷◌, codes, refl, inl, inr, arith, ℤ, pos}
 use Rattle.std.specs.Prelude.{Option, Some, None, Contains}
 use Rattle.std.proofs.lemmas.Int.{ints}
+use Rattle.profile.specs.events.EventComponents.{EventComponent}
 use Rattle.profile.specs.events.Events.{Event}
-use Rattle.profile.specs.events.Meetings.{Meeting}
 use Rattle.profile.specs.events.Starts.{EndsAt, IsStart, IsInstance, SharesInstant, key_at}
 
 -- an event in UTC without a rule, of one second, with these times beside it
-abbrev event : Option ℤ → ℤ → List ℤ → List ℤ → Event
+abbrev event : Option ℤ → ℤ → List ℤ → List ℤ → EventComponent
 event recurrence start additions exceptions = record {
   uid = codes "a";
   organiser = None;
@@ -24,7 +24,7 @@ event recurrence start additions exceptions = record {
 }
 
 -- DTSTART and two RDATEs, one of them DTSTART again, and one that EXDATE takes away
-abbrev master : Event
+abbrev master : EventComponent
 master = event None (pos 100) (pos 100 ∷ pos 200 ∷ pos 300 ∷ []) (pos 300 ∷ [])
 
 -- without days it ends its seconds later
@@ -52,13 +52,13 @@ excepted : IsStart master [] (pos 300) → ⊥
 excepted s = s.not_excepted (0, omega arith, refl)
 
 -- an override for DTSTART takes that away, though it is cancelled, and is an instance itself; so is one that no start is for
-abbrev override : Event
+abbrev override : EventComponent
 override = event (Some (pos 100)) (pos 150) [] []
 
-abbrev other : Event
+abbrev other : EventComponent
 other = event (Some (pos 50)) (pos 60) [] []
 
-abbrev meeting : Meeting
+abbrev meeting : Event
 meeting = record { master = Some master; overrides = override ∷ other ∷ [] }
 
 overridden : IsStart master meeting.overrides (pos 100) → ⊥

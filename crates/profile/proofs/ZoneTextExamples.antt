@@ -6,7 +6,7 @@ use Rattle.profile.specs.series.Rules.{WeekdayNumber, RuleText}
 use Rattle.profile.specs.text.Trees.{Tree, tree, none, more}
 use Rattle.profile.specs.text.Values.{SpellsLocal, SpellsOffset}
 use Rattle.profile.specs.series.Zones.{Observance, Constant, local_time}
-use Rattle.profile.specs.series.ZoneTexts.{parts_by, is_part, is_daylight, SaysTimes, SaysZone, ZoneFault, Keeps, FromStart, FromEnd, InWeek, is_each_year, names_days, is_one_day, constant, no_part, in_part, dates}
+use Rattle.profile.specs.series.ZoneTexts.{parts_by, is_part, is_daylight, SaysPartTimes, SaysZone, ZoneFault, KeepsOffset, FromStart, FromEnd, InWeek, is_each_year, names_days, is_one_day, constant, no_part, in_part, dates}
 
 -- ---- days
 
@@ -132,7 +132,7 @@ ahead = (
 times : Observance
 times = record { day = 719_528; second = 0; rule = None; offset_from = pos 19_800; offset_to = pos 19_800 }
 
-part_says : SaysTimes part times
+part_says : SaysPartTimes part times
 unfolding part times
 part_says = record {
   start = record { line = Some (codes "DTSTART:19700101T000000"); once = refl; present = λ _. refl; is = (refl, refl, midnight) };
@@ -142,9 +142,9 @@ part_says = record {
   no_dates = refl;
 }
 
-only_part : (other : List (List ℕ)) → Contains (part ∷ []) other → Keeps (pos 19_800) other
+only_part : (other : List (List ℕ)) → Contains (part ∷ []) other → KeepsOffset (pos 19_800) other
 unfolding times
-only_part other (zero, w, e) = subst (Keeps (pos 19_800)) e (times, part_says, refl, refl)
+only_part other (zero, w, e) = subst (KeepsOffset (pos 19_800)) e (times, part_says, refl, refl)
 only_part other (suc k, w, e) = absurd (omega arith)
 
 india_is_constant : SaysZone india (Constant (pos 19_800))

@@ -2,7 +2,7 @@
 -- `yes_means_free` of clash_check. That the program does what is said here of runs and of the checker's yes is what the contracts of
 -- `Room::take`, `Room::calendar_text`, `Room::certificate_text` and `check` say.
 use Rattle.std.specs.Prelude.{◌≡◌, ◌↔◌, ℕ, ℤ, ◌<ℤ◌, List, Contains, IsTrue, length, nat_lt}
-use Rattle.profile.specs.checker.Instances.{Key, Booked, IsWithin, horizon}
+use Rattle.profile.specs.checker.Instances.{Key, Instance, IsWithin, horizon}
 use Rattle.profile.specs.checker.Calendars.{CertificateHolds, IsConfirmedIn}
 use Rattle.profile.specs.rooms.Messages.{Outcome, Accept, Busy}
 use Rattle.profile.specs.rooms.Rooms.{Book, Claim, Delivery, Runs, IsStep, NamesClash, Confirms, IsClear, asked, if_accepted, empty_book, IsWithinLimits}
@@ -20,7 +20,7 @@ KeptTextsPass =
 abbrev pub YesMeansFree : Type 0
 YesMeansFree =
     (room calendar certificate : List ℕ) → CertificateHolds room calendar certificate
-    → (a b : Booked) → IsConfirmedIn room calendar a → IsConfirmedIn room calendar b
+    → (a b : Instance) → IsConfirmedIn room calendar a → IsConfirmedIn room calendar b
     → (t : ℤ) → IsWithin a.start a.end t → IsWithin b.start b.end t → t <ℤ horizon → a ≡ b
 
 -- the book as it would be after a message, if each of its parts that is asked were accepted

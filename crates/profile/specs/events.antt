@@ -3,8 +3,8 @@ pub mod Properties
 pub mod ZonedTimes
 pub mod EventRules
 pub mod Occurrences
+pub mod EventComponents
 pub mod Events
-pub mod Meetings
 pub mod Starts
 pub mod Confirmed
 pub mod Expanding

@@ -19,7 +19,7 @@ use Rattle.itip_order.proofs.Order.{slot_total, is_eq_true}
 use Rattle.profile.specs.rooms.Revisions as revisions
 use Rattle.profile.specs.rooms.Revisions.{Whole, At, slot_cmp}
 use Rattle.profile.specs.rooms.Rooms.{is_accept}
-use Rattle.room_books.specs.declared.meeting.Given.{Given}
+use Rattle.room_books.specs.declared.meeting.PartAnswer.{PartAnswer}
 use Rattle.room_books.specs.Keeping.{accepted_slots, has_slot}
 use Rattle.room_books.specs.Views.{outcome_of}
 use Rattle.std.proofs.lemmas.List.{map-append}
@@ -69,30 +69,30 @@ found xs slot (Err i) up in_range parted =
 
 -- ---- the slots of the answers that accept
 
-pub accepted_from : (answers : List Given) (g : Given) (slot : revisions.Slot) → Contains answers g → slot_of g.slot ≡ slot → is_accept (outcome_of g.outcome) ≡ true → has_slot (accepted_slots answers) slot ≡ true
+pub accepted_from : (answers : List PartAnswer) (g : PartAnswer) (slot : revisions.Slot) → Contains answers g → slot_of g.slot ≡ slot → is_accept (outcome_of g.outcome) ≡ true → has_slot (accepted_slots answers) slot ≡ true
 accepted_from answers g slot c e a =
     any_from (λ own. is_eq (slot_cmp (slot_of own) slot)) (accepted_slots answers) g.slot
-    (map_from (λ (x : Given). x.slot) (filter (λ x. is_accept (outcome_of x.outcome)) answers) g (filter_from (λ x. is_accept (outcome_of x.outcome)) answers g c a))
+    (map_from (λ (x : PartAnswer). x.slot) (filter (λ x. is_accept (outcome_of x.outcome)) answers) g (filter_from (λ x. is_accept (outcome_of x.outcome)) answers g c a))
     (slot_from (slot_of g.slot) slot e)
 
-pub accepted_at : (answers : List Given) (slot : revisions.Slot) → has_slot (accepted_slots answers) slot ≡ true → (g : Given) × Contains answers g × (slot_of g.slot ≡ slot) × (is_accept (outcome_of g.outcome) ≡ true)
+pub accepted_at : (answers : List PartAnswer) (slot : revisions.Slot) → has_slot (accepted_slots answers) slot ≡ true → (g : PartAnswer) × Contains answers g × (slot_of g.slot ≡ slot) × (is_accept (outcome_of g.outcome) ≡ true)
 accepted_at answers slot h =
     let one = any_at (λ own. is_eq (slot_cmp (slot_of own) slot)) (accepted_slots answers) h in
-    let given = map_at (λ (x : Given). x.slot) (filter (λ x. is_accept (outcome_of x.outcome)) answers) one.0 one.1 in
+    let given = map_at (λ (x : PartAnswer). x.slot) (filter (λ x. is_accept (outcome_of x.outcome)) answers) one.0 one.1 in
     let from = filter_at (λ x. is_accept (outcome_of x.outcome)) answers given.0 given.1 in
     (given.0, from.0, ap slot_of given.2 ∙ slot_same (slot_of one.0) slot one.2, from.1)
 
 -- ---- one more answer
 
-pub slots_push : (answers : List Given) (slots new : List Slot) (i : ℕ) (x : Given) → i < length answers → x ≡ get_or answers i x → new ≡ slots ++ x.slot ∷ [] → slots ≡ accepted_slots (take i answers)
+pub slots_push : (answers : List PartAnswer) (slots new : List Slot) (i : ℕ) (x : PartAnswer) → i < length answers → x ≡ get_or answers i x → new ≡ slots ++ x.slot ∷ [] → slots ≡ accepted_slots (take i answers)
     → is_accept (outcome_of x.outcome) ≡ true → new ≡ accepted_slots (take (i + 1) answers)
 slots_push answers slots new i x lt is e same h =
-    let f : Given → Bool = λ g. is_accept (outcome_of g.outcome) in
-    e ∙ ap (λ l. l ++ x.slot ∷ []) same ∙ sym (map-append (λ (g : Given). g.slot) (filter f (take i answers)) (x ∷ []))
-    ∙ ap (map (λ (g : Given). g.slot)) (filter_yes f (take i answers) (filter f (take i answers)) x refl h ∙ ap (filter f) (sym (one_more answers i x lt is)))
+    let f : PartAnswer → Bool = λ g. is_accept (outcome_of g.outcome) in
+    e ∙ ap (λ l. l ++ x.slot ∷ []) same ∙ sym (map-append (λ (g : PartAnswer). g.slot) (filter f (take i answers)) (x ∷ []))
+    ∙ ap (map (λ (g : PartAnswer). g.slot)) (filter_yes f (take i answers) (filter f (take i answers)) x refl h ∙ ap (filter f) (sym (one_more answers i x lt is)))
 
-pub slots_pass : (answers : List Given) (slots : List Slot) (i : ℕ) (x : Given) → i < length answers → x ≡ get_or answers i x → slots ≡ accepted_slots (take i answers)
+pub slots_pass : (answers : List PartAnswer) (slots : List Slot) (i : ℕ) (x : PartAnswer) → i < length answers → x ≡ get_or answers i x → slots ≡ accepted_slots (take i answers)
     → is_accept (outcome_of x.outcome) ≡ false → slots ≡ accepted_slots (take (i + 1) answers)
 slots_pass answers slots i x lt is same h =
-    let f : Given → Bool = λ g. is_accept (outcome_of g.outcome) in
-    same ∙ ap (map (λ (g : Given). g.slot)) (filter_no f (take i answers) (filter f (take i answers)) x refl h ∙ ap (filter f) (sym (one_more answers i x lt is)))
+    let f : PartAnswer → Bool = λ g. is_accept (outcome_of g.outcome) in
+    same ∙ ap (map (λ (g : PartAnswer). g.slot)) (filter_no f (take i answers) (filter f (take i answers)) x refl h ∙ ap (filter f) (sym (one_more answers i x lt is)))

@@ -7,20 +7,20 @@ use Rattle.itip_order.specs.Registers.{RepresentsHistory}
 use Rattle.itip_order.proofs.Joined.{represents_both}
 use Rattle.itip_order.proofs.Lasting.{view_taken}
 use Rattle.itip_order.proofs.Lists.{in_cons, none_in_nil, filter_at, filter_from}
-use Rattle.profile.specs.checker.Instances.{Booked, Key}
+use Rattle.profile.specs.checker.Instances.{Instance, Key}
 use Rattle.profile.specs.text.Values.{IsClockSeconds}
 use Rattle.profile.specs.rooms.Messages.{Outcome, Accept, Busy, SeriesLimit, SinglesLimit}
 use Rattle.profile.specs.rooms.Revisions.{Part, in_view}
-use Rattle.profile.specs.rooms.Rooms.{Answer, Book, Claim, Confirms, Decides, IsLeftOf, is_confirmed, is_hidden, is_fresh, is_set, left_of, recurring_in, singles_confirmed, series_confirmed, parts_of, asked, answered}
-use Rattle.profile.specs.events.Meetings.{Meeting as Whole}
+use Rattle.profile.specs.rooms.Rooms.{PartAnswer as SaidAnswer, Book, Claim, Confirms, Decides, IsShownInSeries, is_confirmed, is_hidden, is_fresh, is_set, left_of, recurring_in, singles_confirmed, series_confirmed, parts_of, asked, answered}
+use Rattle.profile.specs.events.Events.{Event as Whole}
 use Rattle.profile.specs.events.Starts.{IsInstance}
 use Rattle.room_books.specs.declared.meeting.MeetingKey.{MeetingKey}
 use Rattle.room_books.specs.declared.kept.Meeting.{Meeting}
 use Rattle.cal_events.specs.declared.instance.Single.{Single}
-use Rattle.room_books.specs.declared.meeting.Given.{Given}
+use Rattle.room_books.specs.declared.meeting.PartAnswer.{PartAnswer}
 use Rattle.room_books.specs.Takings.{OutcomeDated, HasHistory, held_after}
-use Rattle.room_books.specs.Views.{booked_of}
-use Rattle.room_books.specs.Representation.{IsFitting, AreFitting, IsOwn, AreGiven, IsGiven, IsDated, Meets, MeetsAt, answers_in_view, book_after}
+use Rattle.room_books.specs.Views.{keyed_instance}
+use Rattle.room_books.specs.Representation.{IsFitting, AreFitting, IsOwn, AreGiven, HasAnswer, IsAnswerDated, Meets, MeetsAt, answers_in_view, book_after}
 use Rattle.room_books.proofs.Runs.{new_answer}
 use Rattle.room_books.specs.BySlot.{Reordered}
 use Rattle.room_books.proofs.Givens.{given_from, given_reordered, given_to}
@@ -33,18 +33,18 @@ use Rattle.room_books.proofs.Views.{view_back}
 -- ---- instants that can be written
 
 -- what is confirmed was asked for
-pub confirmed_asked : (t : List Part) (xs : List Answer) (b : Booked) → Contains (singles_confirmed t xs) b → (a : Answer) × Contains xs a × Contains a.claim.singles b
+pub confirmed_asked : (t : List Part) (xs : List SaidAnswer) (b : Instance) → Contains (singles_confirmed t xs) b → (a : SaidAnswer) × Contains xs a × Contains a.claim.singles b
 confirmed_asked t xs b c =
     let found = flat_at (left_of t) (filter (is_confirmed t) xs) b c in
     (found.0, (filter_at (is_confirmed t) xs found.0 found.1).0, (filter_at (λ z. not (is_hidden t found.0.claim.part z)) found.0.claim.singles b found.2).0)
 
 -- and so was what recurs
-pub recurring_asked : (k : MeetingKey) (t : List Part) (xs : List Answer) (b : Booked) → IsLeftOf t (series_confirmed t xs) b → (a : Answer) × (series : Whole) × Contains xs a × (a.claim.series ≡ Some series) × IsInstance series b
+pub recurring_asked : (k : MeetingKey) (t : List Part) (xs : List SaidAnswer) (b : Instance) → IsShownInSeries t (series_confirmed t xs) b → (a : SaidAnswer) × (series : Whole) × Contains xs a × (a.claim.series ≡ Some series) × IsInstance series b
 recurring_asked k t xs b l =
     let found = flat_at recurring_in (filter (is_confirmed t) xs) l.series l.among in
     (found.0, l.series.meeting, (filter_at (is_confirmed t) xs found.0 found.1).0, has_series k t found.0 l.series found.0.claim.series refl found.2, l.is)
 
-pub outcome_dated : (book : Book) (outcome : Outcome) → ((b : Booked) → Confirms book b → IsClockSeconds b.start × IsClockSeconds b.key.slot) → Decides book outcome → OutcomeDated outcome
+pub outcome_dated : (book : Book) (outcome : Outcome) → ((b : Instance) → Confirms book b → IsClockSeconds b.start × IsClockSeconds b.key.slot) → Decides book outcome → OutcomeDated outcome
 outcome_dated book Accept h d = tt
 outcome_dated book (Busy a b t) h d =
     let n = d.1 in (
@@ -55,18 +55,18 @@ outcome_dated book (Busy a b t) h d =
 outcome_dated book SeriesLimit h d = tt
 outcome_dated book SinglesLimit h d = tt
 
-given_dated : (k : MeetingKey) (t : List Part) (a : Answer) (given : Given) → IsGiven k t a given → IsFitting a.claim → OutcomeDated a.outcome → IsDated given
+given_dated : (k : MeetingKey) (t : List Part) (a : SaidAnswer) (given : PartAnswer) → HasAnswer k t a given → IsFitting a.claim → OutcomeDated a.outcome → IsAnswerDated given
 given_dated k t a given g fit dated =
-    let asked_for : (single : Single) → Contains given.singles.items single → Contains a.claim.singles (booked_of k single) = λ single c.
-    let found = confirmed_asked t (a ∷ []) (booked_of k single) (subst (λ (l : List Booked). Contains l (booked_of k single)) g.confirms (booked_from k given.singles.items single c)) in
+    let asked_for : (single : Single) → Contains given.singles.items single → Contains a.claim.singles (keyed_instance k single) = λ single c.
+    let found = confirmed_asked t (a ∷ []) (keyed_instance k single) (subst (λ (l : List Instance). Contains l (keyed_instance k single)) g.confirms (booked_from k given.singles.items single c)) in
     elim (in_cons a [] found.0 found.1) [
-      | inl here ↦ subst (λ (x : Answer). Contains x.claim.singles (booked_of k single)) (sym here) found.2
+      | inl here ↦ subst (λ (x : SaidAnswer). Contains x.claim.singles (keyed_instance k single)) (sym here) found.2
       | inr none ↦ absurd (none_in_nil found.0 none)
     ] in
     record {
       outcome = subst OutcomeDated (sym g.outcome) dated;
-      starts = λ single c. fit.starts (booked_of k single) (asked_for single c);
-      slots = λ single c. fit.slots (booked_of k single) (asked_for single c);
+      starts = λ single c. fit.starts (keyed_instance k single) (asked_for single c);
+      slots = λ single c. fit.slots (keyed_instance k single) (asked_for single c);
     }
 
 -- ---- the meeting before
@@ -79,14 +79,14 @@ module _ (k : MeetingKey) (own : Book) where
   none_seen : own.taken ≡ [] → (part : Part) → in_view own.taken part ≡ true → ⊥
   none_seen e part v = none_in_nil part (subst (λ (l : List Part). Contains l part) e (view_taken own.taken part v))
 
-  old_answered : (before : Option Meeting) → MeetsAt own k before → (part : Part) → is_set part ≡ true → in_view own.taken part ≡ true → (a : Answer) × Contains own.answers a × (a.claim.part ≡ part)
+  old_answered : (before : Option Meeting) → MeetsAt own k before → (part : Part) → is_set part ≡ true → in_view own.taken part ≡ true → (a : SaidAnswer) × Contains own.answers a × (a.claim.part ≡ part)
   old_answered None m part s v = absurd (none_seen m part v)
   old_answered (Some meeting) m part s v = m.answered part s v
 
-  old_dated : (before : Option Meeting) → MeetsAt own k before → (a : Answer) → Contains own.answers a → in_view own.taken a.claim.part ≡ true → OutcomeDated a.outcome
+  old_dated : (before : Option Meeting) → MeetsAt own k before → (a : SaidAnswer) → Contains own.answers a → in_view own.taken a.claim.part ≡ true → OutcomeDated a.outcome
   old_dated None m a c v = absurd (none_seen m a.claim.part v)
   old_dated (Some meeting) m a c v =
-      let found = given_to k own.taken (answers_in_view own.taken own.answers) meeting.answers.items a m.answers (filter_from (λ (x : Answer). in_view own.taken x.claim.part) own.answers a c v) in
+      let found = given_to k own.taken (answers_in_view own.taken own.answers) meeting.answers.items a m.answers (filter_from (λ (x : SaidAnswer). in_view own.taken x.claim.part) own.answers a c v) in
       subst OutcomeDated found.2.outcome (m.dated found.0 found.1).outcome
 
 -- with its parts and more
@@ -104,12 +104,12 @@ module _ (k : MeetingKey) (own : Book) (is_own : IsOwn k own) (claims : List Cla
   abbrev asked_now : List Claim
   asked_now = asked own.taken t claims
 
-  abbrev new : List Answer
+  abbrev new : List SaidAnswer
   new = answered moment outcome asked_now
 
-  answered_after : (part : Part) → is_set part ≡ true → in_view t part ≡ true → (a : Answer) × Contains (own.answers ++ new) a × (a.claim.part ≡ part)
+  answered_after : (part : Part) → is_set part ≡ true → in_view t part ≡ true → (a : SaidAnswer) × Contains (own.answers ++ new) a × (a.claim.part ≡ part)
   answered_after part s v =
-      let Q : Type 0 = (a : Answer) × Contains (own.answers ++ new) a × (a.claim.part ≡ part) in
+      let Q : Type 0 = (a : SaidAnswer) × Contains (own.answers ++ new) a × (a.claim.part ≡ part) in
       let q : Q = elim (cases_Bool (in_view own.taken part)) [
         | inl seen ↦ let old = old_answered k own before m part s seen in (old.0, Contains-append_left own.answers new old.0 old.1, old.2)
         | inr gone ↦ elim (Contains-append_cases own.taken (parts_of claims) part (view_taken t part v)) [
@@ -122,19 +122,19 @@ module _ (k : MeetingKey) (own : Book) (is_own : IsOwn k own) (claims : List Cla
         ]
       ] in q
 
-  answer_dated : ((claim : Claim) → Contains asked_now claim → OutcomeDated outcome) → (a : Answer) → Contains (answers_in_view t (own.answers ++ new)) a → IsFitting a.claim × OutcomeDated a.outcome
+  answer_dated : ((claim : Claim) → Contains asked_now claim → OutcomeDated outcome) → (a : SaidAnswer) → Contains (answers_in_view t (own.answers ++ new)) a → IsFitting a.claim × OutcomeDated a.outcome
   answer_dated dated a c =
-      let at = filter_at (λ (x : Answer). in_view t x.claim.part) (own.answers ++ new) a c in
+      let at = filter_at (λ (x : SaidAnswer). in_view t x.claim.part) (own.answers ++ new) a c in
       elim (Contains-append_cases own.answers new a at.0) [
         | inl old ↦ (is_own.fit a old, old_dated k own before m a old (view_back own.taken (parts_of claims) a.claim.part (is_own.known a old) at.1))
         | inr fresh ↦
             let found = map_at (λ (c : Claim). answer_to c moment outcome) asked_now a fresh in (
               fit.fit a.claim (new_answer own.taken t moment outcome claims a fresh).among,
-              subst (λ (x : Answer). OutcomeDated x.outcome) found.2 (dated found.0 found.1),
+              subst (λ (x : SaidAnswer). OutcomeDated x.outcome) found.2 (dated found.0 found.1),
             )
       ]
 
-  pub meets_after : (meeting : Meeting) (kept given : List Given) → RepresentsHistory meeting.held t → AreGiven k t (stayed k own is_own claims fit moment) kept → AllZip (IsGiven k t) new given
+  pub meets_after : (meeting : Meeting) (kept given : List PartAnswer) → RepresentsHistory meeting.held t → AreGiven k t (stayed k own is_own claims fit moment) kept → AllZip (HasAnswer k t) new given
       → Reordered (kept ++ given) meeting.answers.items → ((claim : Claim) → Contains asked_now claim → OutcomeDated outcome) → Meets (book_after own claims moment outcome) k meeting
   meets_after meeting kept given s z w e dated =
       let answers = given_reordered k t (answers_in_view t (own.answers ++ new)) (kept ++ given) meeting.answers.items e (given_after k own is_own claims fit moment outcome kept given z w) in

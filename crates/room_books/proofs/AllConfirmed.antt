@@ -11,20 +11,20 @@ use Rattle.std.proofs.lemmas.Slice.Eq.{bytes_eq-Decides}
 use Rattle.indexmap.specs.IndexMap.{insert_entry}
 use Rattle.ical_values.specs.Octets.{address_octets, text_octets}
 use Rattle.itip_order.proofs.Lists.{none_in_nil, in_head, in_tail, in_cons, filter_at}
-use Rattle.profile.specs.checker.Instances.{Booked}
-use Rattle.profile.specs.events.Meetings.{Meeting as Whole}
+use Rattle.profile.specs.checker.Instances.{Instance}
+use Rattle.profile.specs.events.Events.{Event as Whole}
 use Rattle.profile.specs.events.Starts.{IsInstance}
 use Rattle.profile.specs.events.Confirmed.{Confirmed, IsInSeries, IsOneOf}
 use Rattle.profile.specs.rooms.Rooms.{most_series}
 use Rattle.cal_events.specs.declared.instance.Single.{Single}
 use Rattle.cal_events.specs.declared.series.Series.{Series}
 use Rattle.room_books.specs.declared.kept.Meeting.{Meeting}
-use Rattle.room_books.specs.declared.meeting.Given.{Given}
+use Rattle.room_books.specs.declared.meeting.PartAnswer.{PartAnswer}
 use Rattle.room_books.specs.declared.meeting.MeetingKey.{MeetingKey}
 use Rattle.room_books.specs.BySlot.{Reordered}
 use Rattle.room_books.specs.Instants.{IsParted}
 use Rattle.room_books.specs.Takings.{MayJoinAll}
-use Rattle.room_books.specs.Views.{all_recurring, all_series, all_singles, beside, booked_list, in_room, is_other, joined, meeting_singles, other_recurring, others, recurring_of, same_key, series_by, series_list, series_of, singles_by, AreFewer, IsClearIn, RecursIn, SeriesMayJoin}
+use Rattle.room_books.specs.Views.{all_recurring, all_series, all_singles, beside, instance_list, in_room, is_other, joined, meeting_singles, other_recurring, others, recurring_of, same_key, series_by, series_list, series_of, singles_by, AreFewer, IsClearIn, RecursIn, SeriesMayJoin}
 use Rattle.room_books.proofs.Leaving.{kept_within}
 use Rattle.room_books.proofs.Pairs.{flat_at, flat_from, map_at, map_from}
 use Rattle.room_books.proofs.Places.{in_booked, booked_from, no_others, other_series_count}
@@ -33,7 +33,7 @@ use Rattle.room_books.proofs.Rekeyed.{of_series, to_series}
 use Rattle.room_books.proofs.Reordering.{re_back, re_flat, re_in, re_length}
 
 -- what is clear, and all that is among it
-pub clear_within : (less more : Confirmed) → ((b : Booked) → IsOneOf less b → IsOneOf more b) → IsClearIn more → IsClearIn less
+pub clear_within : (less more : Confirmed) → ((b : Instance) → IsOneOf less b → IsOneOf more b) → IsClearIn more → IsClearIn less
 clear_within less more within clear a b t x y c = clear a b t (within a x) (within b y) c
 
 -- ---- what a meeting keeps
@@ -52,10 +52,10 @@ found_series k (e ∷ es) s c = found_at k e es s (same_key k e.0) refl c (found
 
 module _ (k : MeetingKey) (es : List (MeetingKey × Meeting)) (own : List Single) (kept : List Series) (singles : (s : Single) → Contains own s → Contains (singles_by (lookup (same_key k) es)) s)
     (series : (x : Single) → RecursIn kept x → RecursIn (series_by (lookup (same_key k) es)) x) where
-  of_entry : (b : Booked) (e : MeetingKey × Meeting) (s : Series) → Contains es e → Contains (all_series e.1.answers.items) s → IsInstance (series_of e.0 s) b → IsInSeries (all_recurring es) b
+  of_entry : (b : Instance) (e : MeetingKey × Meeting) (s : Series) → Contains es e → Contains (all_series e.1.answers.items) s → IsInstance (series_of e.0 s) b → IsInSeries (all_recurring es) b
   of_entry b e s c among is = (series_of e.0 s, flat_from recurring_of es e (series_of e.0 s) c (map_from (series_of e.0) (all_series e.1.answers.items) s among), is)
 
-  kept_one : (b : Booked) → IsOneOf (joined (beside k es) k own kept) b → IsOneOf (in_room es) b
+  kept_one : (b : Instance) → IsOneOf (joined (beside k es) k own kept) b → IsOneOf (in_room es) b
   kept_one b (inl c) = inl (kept_in k es own singles b c)
   kept_one b (inr (one, c, is)) = inr (elim (Contains-append_cases (other_recurring k es) (series_list k kept) one c) [
     | inl other ↦ (let f = flat_at recurring_of (filter (is_other k) es) one other in (one, flat_from recurring_of es f.0 one (filter_at (is_other k) es f.0 f.1).0 f.2, is))
@@ -80,7 +80,7 @@ kept_series_join k es own kept distinct singles fewer clear few = record {
 }
 
 -- with the answers that it keeps
-pub kept_all_join : (k : MeetingKey) (es : List (MeetingKey × Meeting)) (kept : List Given) → IsDistinct same_key (keys_of es) → (gone : List Single) → IsParted (singles_by (lookup (same_key k) es)) gone (all_singles kept)
+pub kept_all_join : (k : MeetingKey) (es : List (MeetingKey × Meeting)) (kept : List PartAnswer) → IsDistinct same_key (keys_of es) → (gone : List Single) → IsParted (singles_by (lookup (same_key k) es)) gone (all_singles kept)
     → AreFewer (series_by (lookup (same_key k) es)) (all_series kept) → IsClearIn (in_room es) → (count : ℕ) → count ≡ length (all_recurring es) → count ≤ 64 → MayJoinAll (beside k es) k kept
 kept_all_join k es kept distinct gone parted fewer clear count counted few =
     kept_series_join k es (all_singles kept) (all_series kept) distinct (kept_within (singles_by (lookup (same_key k) es)) gone (all_singles kept) parted) fewer clear (omega (arith, counted, few))
@@ -115,7 +115,7 @@ module _ (k : MeetingKey) (m : Meeting) where
   entry_now (x ∷ es) e distinct c = entry_at x es e (same_key k x.0) refl distinct (entry_now es e (IsDistinct-tail same_key x.0 (keys_of es) distinct)) c
 
   module _ (es : List (MeetingKey × Meeting)) (distinct : IsDistinct same_key (keys_of es)) where
-    now_one : (b : Booked) → IsOneOf (in_room (insert_entry same_key es k m)) b → IsOneOf (joined (beside k es) k (meeting_singles m) (all_series m.answers.items)) b
+    now_one : (b : Instance) → IsOneOf (in_room (insert_entry same_key es k m)) b → IsOneOf (joined (beside k es) k (meeting_singles m) (all_series m.answers.items)) b
     now_one b (inl c) = inl ((put_same k m es distinct).to b c)
     now_one b (inr (one, c, is)) =
         let f = flat_at recurring_of (insert_entry same_key es k m) one c in
@@ -137,18 +137,18 @@ module _ (k : MeetingKey) (m : Meeting) where
 
 -- ---- in another order
 
-module _ (others : Confirmed) (k : MeetingKey) (a b : List Given) (same : Reordered a b) where
-  abbrev the_singles : Given → List Single
+module _ (others : Confirmed) (k : MeetingKey) (a b : List PartAnswer) (same : Reordered a b) where
+  abbrev the_singles : PartAnswer → List Single
   the_singles g = g.singles.items
 
-  abbrev the_series : Given → List Series
+  abbrev the_series : PartAnswer → List Series
   the_series g = option_to_list g.series
 
-  back_one : (x : Booked) → IsOneOf (joined others k (all_singles b) (all_series b)) x → IsOneOf (joined others k (all_singles a) (all_series a)) x
-  back_one x (inl c) = inl (elim (Contains-append_cases others.singles (booked_list k (all_singles b)) x c) [
-    | inl other ↦ Contains-append_left others.singles (booked_list k (all_singles a)) x other
+  back_one : (x : Instance) → IsOneOf (joined others k (all_singles b) (all_series b)) x → IsOneOf (joined others k (all_singles a) (all_series a)) x
+  back_one x (inl c) = inl (elim (Contains-append_cases others.singles (instance_list k (all_singles b)) x c) [
+    | inl other ↦ Contains-append_left others.singles (instance_list k (all_singles a)) x other
     | inr mine ↦ (let s = in_booked k (all_singles b) x mine in
-        Contains-append_right others.singles (booked_list k (all_singles a)) x (subst (Contains (booked_list k (all_singles a))) s.2
+        Contains-append_right others.singles (instance_list k (all_singles a)) x (subst (Contains (instance_list k (all_singles a))) s.2
         (booked_from k (all_singles a) s.0 (re_in (all_singles b) (all_singles a) (re_flat the_singles b a (re_back a b same)) s.0 s.1))))
   ])
   back_one x (inr (one, c, is)) = inr (

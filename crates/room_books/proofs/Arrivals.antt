@@ -15,7 +15,7 @@ use Rattle.profile.specs.rooms.Kept.{first_parts}
 use Rattle.room_books.specs.declared.meeting.MeetingKey.{MeetingKey}
 use Rattle.room_books.specs.declared.kept.Meeting.{Meeting}
 use Rattle.room_books.specs.Views.{same_key}
-use Rattle.room_books.specs.Representation.{is_of, AreKeysOf}
+use Rattle.room_books.specs.Representation.{is_of_meeting, AreKeysOf}
 use Rattle.itip_order.proofs.Order.{meeting_total, is_eq_true}
 use Rattle.room_books.proofs.Meetings.{is_of_parts}
 
@@ -25,7 +25,7 @@ pub meeting_is : (a b : Part) → same_meeting a b ≡ (bytes_eq a.organiser b.o
 meeting_is a b = sym (tied_then (octets_cmp a.organiser b.organiser) (octets_cmp a.uid b.uid)) ∙ (λ i. is_eq-slice_cmp a.organiser b.organiser i && is_eq-slice_cmp a.uid b.uid i)
 
 -- parts of a key's meeting
-pub key_meeting : (k : MeetingKey) (p q : Part) → is_of k p ≡ true → is_of k q ≡ same_meeting p q
+pub key_meeting : (k : MeetingKey) (p q : Part) → is_of_meeting k p ≡ true → is_of_meeting k q ≡ same_meeting p q
 key_meeting k p q e =
     let s = is_of_parts k p e in
     (λ i. bytes_eq (s.0 i) q.organiser && bytes_eq (s.1 i) q.uid) ∙ sym (meeting_is p q)
@@ -84,7 +84,7 @@ first_parts_push (q ∷ qs) p = ap (λ l. q ∷ filter (others q) l) (first_part
 
 -- ---- one more meeting
 
-key_tests : (k q : MeetingKey) (f p : Part) → is_of k p ≡ true → is_of q f ≡ true → same_key k q ≡ same_meeting f p
+key_tests : (k q : MeetingKey) (f p : Part) → is_of_meeting k p ≡ true → is_of_meeting q f ≡ true → same_key k q ≡ same_meeting f p
 key_tests k q f p e g =
     let a = is_of_parts k p e in
     let b = is_of_parts q f g in
@@ -97,7 +97,7 @@ key_tests k q f p e g =
     ((bytes_eq-Decides (address_octets k.organiser) (address_octets q.organiser)).1 (a.0 ∙ sym s.0 ∙ sym b.0))
     ((bytes_eq-Decides (text_octets k.uid) (text_octets q.uid)).1 (a.1 ∙ sym s.1 ∙ sym b.1)))
 
-insert_first : (es : List (MeetingKey × Meeting)) (fs : List Part) (k : MeetingKey) (m : Meeting) (p : Part) → is_of k p ≡ true → AreKeysOf (keys_of es) fs → AreKeysOf (keys_of (insert_entry same_key es k m)) (push_first fs p)
+insert_first : (es : List (MeetingKey × Meeting)) (fs : List Part) (k : MeetingKey) (m : Meeting) (p : Part) → is_of_meeting k p ≡ true → AreKeysOf (keys_of es) fs → AreKeysOf (keys_of (insert_entry same_key es k m)) (push_first fs p)
 unfolding push_first
 insert_first [] [] k m p e z = (e, tt)
 insert_first [] (f ∷ fs) k m p e z = absurd z
@@ -109,5 +109,5 @@ insert_first (x ∷ es) (f ∷ fs) k m p e z = at_test (same_key k x.0) (key_tes
     at_test false h r = subst (λ (c : Bool). AreKeysOf (x.0 ∷ keys_of (insert_entry same_key es k m)) (cond c (f ∷ fs) (f ∷ push_first fs p))) h (z.0, r)
 
 -- the meetings stay in order of first arrival, where a part of this meeting is taken
-pub arrives : (es : List (MeetingKey × Meeting)) (ps : List Part) (k : MeetingKey) (m : Meeting) (p : Part) → is_of k p ≡ true → AreKeysOf (keys_of es) (first_parts ps) → AreKeysOf (keys_of (insert_entry same_key es k m)) (first_parts (ps ++ p ∷ []))
+pub arrives : (es : List (MeetingKey × Meeting)) (ps : List Part) (k : MeetingKey) (m : Meeting) (p : Part) → is_of_meeting k p ≡ true → AreKeysOf (keys_of es) (first_parts ps) → AreKeysOf (keys_of (insert_entry same_key es k m)) (first_parts (ps ++ p ∷ []))
 arrives es ps k m p e z = subst (AreKeysOf (keys_of (insert_entry same_key es k m))) (sym (first_parts_push ps p)) (insert_first es (first_parts ps) k m p e z)

@@ -6,17 +6,17 @@ use Rattle.std.proofs.lemmas.Bool.{both_ways, not-true, not_from_false, false_fr
 use Rattle.std.proofs.lemmas.List.Elements.{Contains-append_cases, filter-append}
 use Rattle.std.proofs.lemmas.Map.Made.{IsDistinct-keys_filter}
 use Rattle.itip_order.proofs.Lists.{filter_at, filter_from}
-use Rattle.profile.specs.checker.Instances.{Booked}
+use Rattle.profile.specs.checker.Instances.{Instance}
 use Rattle.profile.specs.rooms.Messages.{Accept}
 use Rattle.profile.specs.rooms.Revisions.{Part}
-use Rattle.profile.specs.events.Meetings.{Meeting as Whole}
-use Rattle.profile.specs.rooms.Rooms.{Answer, Book, Claim, Recurring, is_confirmed, is_hidden, left_of, recurring_in, singles_confirmed, series_confirmed, if_accepted, parts_of, asked, answered}
+use Rattle.profile.specs.events.Events.{Event as Whole}
+use Rattle.profile.specs.rooms.Rooms.{PartAnswer, Book, Claim, Recurring, is_confirmed, is_hidden, left_of, recurring_in, singles_confirmed, series_confirmed, if_accepted, parts_of, asked, answered}
 use Rattle.cal_events.specs.declared.instance.Single.{Single}
 use Rattle.cal_events.specs.declared.series.Series.{Series}
 use Rattle.room_books.specs.declared.meeting.MeetingKey.{MeetingKey}
 use Rattle.room_books.specs.declared.kept.Meeting.{Meeting}
-use Rattle.room_books.specs.Views.{same_key, beside, booked_list, is_other, joined, others, other_recurring, confirmed_of, recurring_of, series_list}
-use Rattle.room_books.specs.Representation.{is_of, of_meeting, answers_of, book_of, AreFitting, AreSameSeries, Represents}
+use Rattle.room_books.specs.Views.{same_key, beside, instance_list, is_other, joined, others, other_recurring, confirmed_of, recurring_of, series_list}
+use Rattle.room_books.specs.Representation.{is_of_meeting, of_meeting, answers_of, book_of, AreFitting, AreSameSeries, Represents}
 use Rattle.room_books.proofs.Confirms.{zip_confirms, zip_recurs}
 use Rattle.room_books.proofs.Entries.{found_entry, meeting_at}
 use Rattle.room_books.proofs.Runs.{new_answer}
@@ -31,25 +31,25 @@ module _ (k : MeetingKey) (entries : List (MeetingKey × Meeting)) (distinct : I
   abbrev all : List Part
   all = book.taken ++ parts_of claims
 
-  abbrev new : List Answer
+  abbrev new : List PartAnswer
   new = answered moment Accept (asked book.taken all claims)
 
-  abbrev now : List Answer
+  abbrev now : List PartAnswer
   now = book.answers ++ new
 
-  abbrev not_own : Answer → Bool
-  not_own a = not (is_of k a.claim.part)
+  abbrev not_own : PartAnswer → Bool
+  not_own a = not (is_of_meeting k a.claim.part)
 
-  new_own : (a : Answer) → Contains new a → is_of k a.claim.part ≡ true
+  new_own : (a : PartAnswer) → Contains new a → is_of_meeting k a.claim.part ≡ true
   new_own a c = fit.of_it a.claim (new_answer book.taken all moment Accept claims a c).among
 
-  apart_from : (q : MeetingKey) → same_key k q ≡ false → (p : Part) → is_of k p ≡ true → is_of q p ≡ false
+  apart_from : (q : MeetingKey) → same_key k q ≡ false → (p : Part) → is_of_meeting k p ≡ true → is_of_meeting q p ≡ false
   apart_from q d p e = false_from_ne_true _ (λ f. both_ways _ d (one_meeting k q p e f))
 
   -- the answers of another meeting are what they were
   other_answers : (e : MeetingKey × Meeting) → same_key k e.0 ≡ false → answers_of e.0 (filter not_own now) ≡ answers_of e.0 book.answers
   other_answers e d =
-      let own = λ (a : Answer). is_of e.0 a.claim.part in
+      let own = λ (a : PartAnswer). is_of_meeting e.0 a.claim.part in
       let old = answers_of e.0 book.answers in
       answers_apart k e.0 now d ∙ filter-append own book.answers new
       ∙ ap (λ l. old ++ l) (filter_none own new (λ a h. apart_from e.0 d a.claim.part (new_own a h))) ∙ append-nil old
@@ -57,8 +57,8 @@ module _ (k : MeetingKey) (entries : List (MeetingKey × Meeting)) (distinct : I
   other_parts : (e : MeetingKey × Meeting) → same_key k e.0 ≡ false → of_meeting e.0 all ≡ of_meeting e.0 book.taken
   other_parts e d = of_more_other e.0 book.taken (parts_of claims) (λ p h. apart_from e.0 d p (parts_own k claims fit p h))
 
-  old_own : (e : MeetingKey × Meeting) (a : Answer) → Contains (answers_of e.0 book.answers) a → is_of e.0 a.claim.part ≡ true
-  old_own e a h = (filter_at (λ (x : Answer). is_of e.0 x.claim.part) book.answers a h).1
+  old_own : (e : MeetingKey × Meeting) (a : PartAnswer) → Contains (answers_of e.0 book.answers) a → is_of_meeting e.0 a.claim.part ≡ true
+  old_own e a h = (filter_at (λ (x : PartAnswer). is_of_meeting e.0 x.claim.part) book.answers a h).1
 
   -- another meeting confirms what it did
   other_confirms : (e : MeetingKey × Meeting) → Contains entries e → same_key k e.0 ≡ false → AreSame (singles_confirmed all (answers_of e.0 (filter not_own now))) (confirmed_of e)
@@ -66,7 +66,7 @@ module _ (k : MeetingKey) (entries : List (MeetingKey × Meeting)) (distinct : I
       let old = answers_of e.0 book.answers in
       let is : singles_confirmed all (answers_of e.0 (filter not_own now)) ≡ singles_confirmed (of_meeting e.0 book.taken) old =
       ap (singles_confirmed all) (other_answers e d) ∙ sym (confirmed_own e.0 all old (old_own e)) ∙ ap (λ t. singles_confirmed t old) (other_parts e d) in
-      subst (λ (l : List Booked). AreSame l (confirmed_of e)) (sym is) (zip_confirms e.0 (of_meeting e.0 book.taken) old e.1.answers.items (meeting_at entries book st distinct e c).answers)
+      subst (λ (l : List Instance). AreSame l (confirmed_of e)) (sym is) (zip_confirms e.0 (of_meeting e.0 book.taken) old e.1.answers.items (meeting_at entries book st distinct e c).answers)
 
   other_recurs : (e : MeetingKey × Meeting) → Contains entries e → same_key k e.0 ≡ false → AreSameSeries all (series_confirmed all (answers_of e.0 (filter not_own now))) (recurring_of e)
   other_recurs e c d =
@@ -80,15 +80,15 @@ module _ (k : MeetingKey) (entries : List (MeetingKey × Meeting)) (distinct : I
       (zip_recurs e.0 t old e.1.answers.items (meeting_at entries book st distinct e c).answers))
 
   -- a confirmed answer of another meeting is one of an entry
-  other_covered : (a : Answer) → Contains (filter not_own now) a → is_confirmed all a ≡ true → (e : MeetingKey × Meeting) × Contains (filter (is_other k) entries) e × (is_of e.0 a.claim.part ≡ true)
+  other_covered : (a : PartAnswer) → Contains (filter not_own now) a → is_confirmed all a ≡ true → (e : MeetingKey × Meeting) × Contains (filter (is_other k) entries) e × (is_of_meeting e.0 a.claim.part ≡ true)
   other_covered a c h =
       let from = filter_at not_own now a c in
-      let Q : Type 0 = (e : MeetingKey × Meeting) × Contains (filter (is_other k) entries) e × (is_of e.0 a.claim.part ≡ true) in
+      let Q : Type 0 = (e : MeetingKey × Meeting) × Contains (filter (is_other k) entries) e × (is_of_meeting e.0 a.claim.part ≡ true) in
       let q : Q = elim (Contains-append_cases book.answers new a from.0) [
         | inl old ↦
             let cover = st.covered a.claim.part (st.known a old) in
             let found = found_entry cover.key entries cover.meeting cover.found in
-            let is : is_of found.0.0 a.claim.part ≡ true = sym (is_of_same cover.key found.0.0 a.claim.part found.2) ∙ cover.is in
+            let is : is_of_meeting found.0.0 a.claim.part ≡ true = sym (is_of_same cover.key found.0.0 a.claim.part found.2) ∙ cover.is in
             let other : is_other k found.0 ≡ true = not_from_false _ (false_from_ne_true _ (λ same. both_ways _ (not-true _ from.1) (is_of_same k found.0.0 a.claim.part same ∙ is))) in
             (found.0, filter_from (is_other k) entries found.0 found.1 other, is)
         | inr fresh ↦ absurd (both_ways _ (not-true _ from.1) (new_own a fresh))
@@ -111,11 +111,11 @@ module _ (k : MeetingKey) (entries : List (MeetingKey × Meeting)) (distinct : I
   abbrev own_taken : List Part
   own_taken = own.taken ++ parts_of claims
 
-  abbrev own_now : List Answer
+  abbrev own_now : List PartAnswer
   own_now = own.answers ++ answered moment Accept (asked own.taken own_taken claims)
 
-  now_own : (a : Answer) → Contains (answers_of k now) a → is_of k a.claim.part ≡ true
-  now_own a c = (filter_at (λ (x : Answer). is_of k x.claim.part) now a c).1
+  now_own : (a : PartAnswer) → Contains (answers_of k now) a → is_of_meeting k a.claim.part ≡ true
+  now_own a c = (filter_at (λ (x : PartAnswer). is_of_meeting k x.claim.part) now a c).1
 
   own_same : singles_confirmed all (answers_of k now) ≡ singles_confirmed own_taken own_now
   own_same = sym (confirmed_own k all (answers_of k now) now_own) ∙ (λ i. singles_confirmed (taken_own k book claims fit i) (answers_own k book claims fit moment Accept i))
@@ -132,12 +132,12 @@ module _ (k : MeetingKey) (entries : List (MeetingKey × Meeting)) (distinct : I
       e)
 
   -- what the book would confirm is what the others do, and its own
-  pub beside_same : (singles : List Single) (series : List Series) → AreSame (singles_confirmed own_taken own_now) (booked_list k singles) → AreSameSeries own_taken (series_confirmed own_taken own_now) (series_list k series)
+  pub beside_same : (singles : List Single) (series : List Series) → AreSame (singles_confirmed own_taken own_now) (instance_list k singles) → AreSameSeries own_taken (series_confirmed own_taken own_now) (series_list k series)
       → AreAlike (if_accepted book claims moment all) (joined (beside k entries) k singles series)
   beside_same singles series e f =
-      let mine = booked_list k singles in
-      let own_kind = λ (a : Answer). is_of k a.claim.part in
-      let first : AreSame (singles_confirmed all (answers_of k now)) mine = subst (λ (l : List Booked). AreSame l mine) (sym own_same) e in
+      let mine = instance_list k singles in
+      let own_kind = λ (a : PartAnswer). is_of_meeting k a.claim.part in
+      let first : AreSame (singles_confirmed all (answers_of k now)) mine = subst (λ (l : List Instance). AreSame l mine) (sym own_same) e in
       record {
         singles = same_then (singles_confirmed all now) (mine ++ others k entries) (others k entries ++ mine)
             (same_then _ _ _ (given_split (left_of all) all own_kind now) (same_append _ _ _ _ first others_same)) (swapped mine (others k entries));

@@ -13,7 +13,7 @@ use Rattle.itip_order.proofs.Lists.{in_tail}
 use Rattle.cal_events.specs.declared.instance.Single.{Single}
 use Rattle.room_books.specs.declared.timeline.Timeline.{Timeline}
 use Rattle.room_books.specs.Instants.{AreSeparate, HaveInstant}
-use Rattle.room_books.specs.Timelines.{busy_in, has_busy, has_single, same_single, holds_instants, HoldsInstants, AreAt, IsFreeAmong, IsFreeBut, IsChanged, IsTaken, IsPut}
+use Rattle.room_books.specs.Timelines.{busy_in, has_busy, has_single, same_single, holds_instants, HoldsInstants, AreAt, IsFreeAmong, IsFreeBut, IsChanged, IsTakenOut, IsPut}
 use Rattle.room_books.proofs.Timelines.{IsPutting, unchanged, take_held, putting_last, has_at, has_from, single_at, separate_once, take_step, put_step, free_step, later_apart}
 
 -- those left are there still, and this many were taken out
@@ -35,7 +35,7 @@ suc_is k = omega arith
 
 -- one more is taken out
 pub taking_more : (place : ℕ) (xs : List Single) (k : ℕ) (d : Single) (old mid new : Timeline) → k < length xs → AreSeparate xs → IsTaking place (drop k xs) k old mid
-    → IsTaken (busy_in place (get_or xs k d)) mid.busy.items new.busy.items → new.confirmed + 1 ≡ mid.confirmed → vec_len new.busy ≤ vec_len mid.busy → vec_capacity new.busy ≡ vec_capacity mid.busy
+    → IsTakenOut (busy_in place (get_or xs k d)) mid.busy.items new.busy.items → new.confirmed + 1 ≡ mid.confirmed → vec_len new.busy ≤ vec_len mid.busy → vec_capacity new.busy ≡ vec_capacity mid.busy
     → IsTaking place (drop (k + 1) xs) (k + 1) old new
 taking_more place xs k d old mid new within separate taking taken confirmed len capacity = subst (λ (n : ℕ). IsTaking place (drop n xs) n old new) (suc_is k) record {
   changed = take_step place (get_or xs k d) (drop (suc k) xs) old.busy.items mid.busy.items new.busy.items (separate_once xs k d separate within)
@@ -89,13 +89,13 @@ next_there place gone kept k d old mid within taking holds =
     take_held place (get_or gone k d) (drop (suc k) all) old.busy.items mid.busy.items mid.busy.items left holds
 
 pub taking_next : (place : ℕ) (gone : List Single) (k : ℕ) (d : Single) (old mid new : Timeline) → k < length gone → IsTakingSome place gone k old mid
-    → IsTaken (busy_in place (get_or gone k d)) mid.busy.items new.busy.items → new.confirmed + 1 ≡ mid.confirmed → vec_len new.busy ≤ vec_len mid.busy → vec_capacity new.busy ≡ vec_capacity mid.busy
+    → IsTakenOut (busy_in place (get_or gone k d)) mid.busy.items new.busy.items → new.confirmed + 1 ≡ mid.confirmed → vec_len new.busy ≤ vec_len mid.busy → vec_capacity new.busy ≡ vec_capacity mid.busy
     → IsTakingSome place gone (k + 1) old new
 taking_next place gone k d old mid new within before taken confirmed len capacity kept held apart =
     let all = gone ++ kept in
     let next : get_or all k d ≡ get_or gone k d = get_or_left gone kept k d within in
     taking_more place all k d old mid new (omega (arith, within, length-append gone kept)) apart (before kept held apart)
-    (subst (λ (s : Single). IsTaken (busy_in place s) mid.busy.items new.busy.items) (sym next) taken) confirmed len capacity
+    (subst (λ (s : Single). IsTakenOut (busy_in place s) mid.busy.items new.busy.items) (sym next) taken) confirmed len capacity
 
 pub taken_all : (place : ℕ) (gone : List Single) (k : ℕ) (old new : Timeline) → k ≤ length gone → length gone ≤ k → IsTakingSome place gone k old new
     → (kept : List Single) → AreAt place (gone ++ kept) old.busy.items → AreSeparate (gone ++ kept) → IsChanged place kept old.busy.items new.busy.items

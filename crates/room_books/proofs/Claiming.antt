@@ -13,21 +13,21 @@ use Rattle.ical_values.specs.Octets.{address_octets, text_octets}
 use Rattle.cal_events.proofs.InOneOrder.{head_pairs, tail_pairs}
 use Rattle.itip_messages.specs.declared.room_message.RoomMessage.{RoomMessage}
 use Rattle.itip_messages.specs.declared.room_message.MessageComponent.{MessageComponent}
-use Rattle.itip_messages.specs.Messages.{RepresentsMessage, SaysComponent, IsDated, is_for, has_part, part_for}
+use Rattle.itip_messages.specs.Messages.{RepresentsMessage, SaysComponent, IsDated, is_component_for, has_part, part_for}
 use Rattle.itip_messages.proofs.MessageLemmas.{addressed, body_is, part_said, kept_said, kept_components, kept_among, no_events}
 use Rattle.itip_order.specs.Parts.{part_of}
 use Rattle.itip_order.proofs.Lists.{in_cons, in_head, in_tail, none_in_nil}
 use Rattle.itip_order.proofs.Order.{slot_total}
-use Rattle.profile.specs.checker.Instances.{Key, Booked}
-use Rattle.profile.specs.events.Events.{Event}
+use Rattle.profile.specs.checker.Instances.{Key, Instance}
+use Rattle.profile.specs.events.EventComponents.{EventComponent}
 use Rattle.profile.specs.events.Starts.{ComesBefore, IsInstance, key_at}
 use Rattle.profile.specs.events.Confirmed.{alone, has_series, AreApart, AreOfRule, IsOfSeries}
 use Rattle.cal_events.specs.SaidSeries.{series_said, IsSeriesOf}
 use Rattle.cal_events.specs.declared.series.Series.{Series}
-use Rattle.cal_events.specs.OwnInstances.{booked_at, IsTimely}
+use Rattle.cal_events.specs.OwnInstances.{own_instance_at, IsTimely}
 use Rattle.cal_events.proofs.OwnSingles.{master_alone, of_both, one_by_key, override_alone}
 use Rattle.itip_messages.proofs.BodyLemmas.{clock_named}
-use Rattle.profile.specs.events.Meetings.{Meeting as Recurs, events_of, is_master}
+use Rattle.profile.specs.events.Events.{Event as Recurs, components_of, is_master}
 use Rattle.profile.specs.rooms.Messages as profile
 use Rattle.profile.specs.rooms.Messages.{Content, IsPart, canonical, no_content, cancels, is_addressed, is_part_for, names_room, own_revision}
 use Rattle.profile.specs.rooms.Revisions.{Part, Slot, Body, Whole, At, Set, Absent, Cancelled, slot_cmp}
@@ -37,8 +37,8 @@ use Rattle.profile.specs.streams.Streams.{AsksFor, IsClaim}
 use Rattle.profile.specs.text.Values.{IsClockSeconds}
 use Rattle.cal_events.specs.declared.instance.Single.{Single}
 use Rattle.room_books.specs.declared.claim.Claim.{Claim}
-use Rattle.room_books.specs.Claiming.{series_asked, series_at, AreClaimed, IsClaimIn, IsSameSeries}
-use Rattle.room_books.specs.Takings.{body_content, booked_in, claim_said, claims_said}
+use Rattle.room_books.specs.Claiming.{series_asked, series_wanted, AreClaimed, IsClaimIn, IsSameSeries}
+use Rattle.room_books.specs.Takings.{body_content, part_instance, claim_said, claims_said}
 use Rattle.room_books.specs.Representation.{Pairwise, IsFitting, IsFittingSeries, IsText, IsOfSlot, SlotDated}
 use Rattle.itip_messages.proofs.BodyContents.{body_of}
 use Rattle.room_books.proofs.Loops.{zip_push, one_more}
@@ -58,7 +58,7 @@ zip_more {X} {Y} R items all i x ys new y same h e is z r =
 
 -- what a part asks for with these instances and this series
 abbrev said : Part → List Single → Option Series → rooms.Claim
-said part singles series = record { part = part; content = body_content part.body; singles = map (booked_in part) singles; series = option_map series_said series }
+said part singles series = record { part = part; content = body_content part.body; singles = map (part_instance part) singles; series = option_map series_said series }
 
 -- the first claim of a list is one of it
 pub first_in : (claims : List Claim) (claim : Claim) → Some claim ≡ slice_get claims 0 → Contains claims claim
@@ -89,15 +89,15 @@ zip_skip {X} {Y} R p items all i x ys same h e fails z =
 -- ---- the instances of an event by itself
 
 -- whose instance it is
-pub record IsOwn (event : Event) (b : Booked) : Type 0 where
+pub record IsOwn (event : EventComponent) (b : Instance) : Type 0 where
   pub key : b.key ≡ key_at event b.key.slot
   pub slot : IsOfSlot (profile.slot_of event) b.key.slot
   pub start : IsClockSeconds b.start
   pub slot_at : IsClockSeconds b.key.slot
 
-module _ (event : Event) (timely : IsTimely event) (dated : IsDated (profile.slot_of event)) where
+module _ (event : EventComponent) (timely : IsTimely event) (dated : IsDated (profile.slot_of event)) where
   -- it starts at its slot, or its slot is that of the event
-  own_instance : (b : Booked) → IsInstance (alone event) b → IsOwn event b
+  own_instance : (b : Instance) → IsInstance (alone event) b → IsOwn event b
   own_instance b h = go (of_both event)
     where
       go : (event.recurrence ≡ None) ⊎ ((slot : ℤ) × (event.recurrence ≡ Some slot)) → IsOwn event b
@@ -120,38 +120,38 @@ module _ (event : Event) (timely : IsTimely event) (dated : IsDated (profile.slo
             slot_at = subst (λ (r : Option ℤ). IsDated (profile.slot_named r)) x.slot dated;
           }
 
-  abbrev IsHere : Booked → Type 0
+  abbrev IsHere : Instance → Type 0
   IsHere b = IsInstance (alone event) b × (IsOfSeries event b → ⊥)
 
-  one_slot : (a b : Booked) → IsInstance (alone event) a → IsInstance (alone event) b → a.key.slot ≡ b.key.slot → a ≡ b
+  one_slot : (a b : Instance) → IsInstance (alone event) a → IsInstance (alone event) b → a.key.slot ≡ b.key.slot → a ≡ b
   one_slot a b h k same = one_by_key event a b timely.steady h k ((own_instance a h).key ∙ ap (key_at event) same ∙ sym (own_instance b k).key)
 
   -- that of a master starts at its slot
-  own_start : (b : Booked) → is_master event ≡ true → IsInstance (alone event) b → b.key.slot ≡ b.start
+  own_start : (b : Instance) → is_master event ≡ true → IsInstance (alone event) b → b.key.slot ≡ b.start
   own_start b master h = elim (of_both event) [
     | inl e ↦ ap (λ (k : Key). k.slot) (master_alone event b e h).key
     | inr o ↦ absurd (both_ways (is_master event) (ap (λ (r : Option ℤ). not (is_some r)) o.1) master)
   ]
 
   -- no two have one slot
-  own_apart : (own : List Booked) → All IsHere own → AllPairs ComesBefore own → Pairwise (λ (a b : Booked). a.key.slot ≢ b.key.slot) own
+  own_apart : (own : List Instance) → All IsHere own → AllPairs ComesBefore own → Pairwise (λ (a b : Instance). a.key.slot ≢ b.key.slot) own
   own_apart [] h up = tt
   own_apart (b ∷ bs) h up = (
     λ y c same.
         let here = All-contains IsHere (b ∷ bs) b h (in_head b bs) in
         let there = All-contains IsHere (b ∷ bs) y h (in_tail b bs y c) in
         let one : b ≡ y = one_slot b y here.0 there.0 same in
-        never_before_itself y (subst (λ (x : Booked). ComesBefore x y) one (head_pairs ComesBefore b y bs up c)),
+        never_before_itself y (subst (λ (x : Instance). ComesBefore x y) one (head_pairs ComesBefore b y bs up c)),
     own_apart bs (All-tail IsHere b bs h) (tail_pairs ComesBefore b bs up),
   )
     where
-      never_before_itself : (y : Booked) → ComesBefore y y → ⊥
+      never_before_itself : (y : Instance) → ComesBefore y y → ⊥
       never_before_itself y (inl l) = omega (arith, ints, l)
       never_before_itself y (inr l) = let w : y.key.slot <ℤ y.key.slot = l.1 in omega (arith, ints, w)
 
 -- ---- the claim of one component
 
-module _ (room : List ℕ) (message : RoomMessage) (given : profile.Message) (s : RepresentsMessage message given) (event : Event) (component : MessageComponent) (among : Contains (events_of given.meeting) event)
+module _ (room : List ℕ) (message : RoomMessage) (given : profile.Message) (s : RepresentsMessage message given) (event : EventComponent) (component : MessageComponent) (among : Contains (components_of given.meeting) event)
     (says : SaysComponent given.method (option_map own_revision given.meeting.master) event component) (claim : Claim) (x : IsClaimIn room message component claim) where
   abbrev part : Part
   part = part_for room message component
@@ -186,21 +186,21 @@ module _ (room : List ℕ) (message : RoomMessage) (given : profile.Message) (s 
   asks : claim_said claim ≡ said part (asked_for (is_set part)) claim.series
   asks = λ i. said (x.part_is i) (x.singles i) claim.series
 
-  booked_is : (single : Single) → booked_in part single ≡ booked_at event single
+  booked_is : (single : Single) → part_instance part single ≡ own_instance_at event single
   booked_is single =
       let organiser : address_octets message.organiser ≡ unwrap_or event.organiser [] = ap (λ o. unwrap_or o []) (sym (s.organiser event among)) in
       λ i. record { key = record { organiser = organiser i; uid = s.uid event among i; slot = single.slot }; start = single.span.start; end = single.span.end }
 
-  all_booked : (singles : List Single) → map (booked_in part) singles ≡ map (booked_at event) singles
+  all_booked : (singles : List Single) → map (part_instance part) singles ≡ map (own_instance_at event) singles
   all_booked [] = refl
   all_booked (y ∷ ys) = λ i. booked_is y i ∷ all_booked ys i
 
   -- they are all that the event has by itself, apart from its series
-  are_all : AreApart event (map (booked_in part) component.singles.items)
+  are_all : AreApart event (map (part_instance part) component.singles.items)
   are_all = subst (AreApart event) (sym (all_booked component.singles.items)) says.singles
 
   -- the event has the series of the component, which has one only where its part is of the whole
-  has_it : (o : Slot) → profile.slot_of event ≡ o → MatchOption (series_at o component.series) (has_series event ≡ false) (λ series. IsSeriesOf event (series_said series))
+  has_it : (o : Slot) → profile.slot_of event ≡ o → MatchOption (series_wanted o component.series) (has_series event ≡ false) (λ series. IsSeriesOf event (series_said series))
   has_it Whole e = says.series
   has_it (At t) e = none event.recurrence refl e
     where
@@ -219,7 +219,7 @@ module _ (room : List ℕ) (message : RoomMessage) (given : profile.Message) (s 
   no_series (Some c) same = absurd same
 
   asks_for : (b : Bool) → IsSameSeries (if b then series_asked part component else None) claim.series → AsksFor b event (said part (asked_for b) claim.series)
-  asks_for true same = (are_all, same_rule (series_at part.slot component.series) claim.series (has_it part.slot (sym says.slot)) same)
+  asks_for true same = (are_all, same_rule (series_wanted part.slot component.series) claim.series (has_it part.slot (sym says.slot)) same)
   asks_for false same = (refl, no_series claim.series same)
 
   pub is_claim : IsClaim room given event (claim_said claim)
@@ -228,7 +228,7 @@ module _ (room : List ℕ) (message : RoomMessage) (given : profile.Message) (s 
     asks = asks_for (is_set part) x.series;
   })
 
-  fits_with : (singles : List Single) → ((y : Booked) → Contains (map (booked_in part) singles) y → IsOwn event y) → Pairwise (λ (a b : Booked). a.key.slot ≢ b.key.slot) (map (booked_in part) singles)
+  fits_with : (singles : List Single) → ((y : Instance) → Contains (map (part_instance part) singles) y → IsOwn event y) → Pairwise (λ (a b : Instance). a.key.slot ≢ b.key.slot) (map (part_instance part) singles)
       → IfSome (option_map series_said claim.series) (IsFittingSeries (said part singles claim.series)) → IsFitting (said part singles claim.series)
   fits_with singles own apart recurs = record {
     content = refl;
@@ -247,8 +247,8 @@ module _ (room : List ℕ) (message : RoomMessage) (given : profile.Message) (s 
   fits_series None r = tt
   fits_series (Some series) r =
       let timely = says.ready.timely in
-      let here : (b : Booked) → IsInstance series b → IsInstance (alone event) b × IsOfSeries event b = λ b h. (r.1 b).0 h in
-      let own : (b : Booked) → IsInstance series b → IsOwn event b = λ b h. own_instance event timely says.dated b (here b h).0 in
+      let here : (b : Instance) → IsInstance series b → IsInstance (alone event) b × IsOfSeries event b = λ b h. (r.1 b).0 h in
+      let own : (b : Instance) → IsInstance series b → IsOwn event b = λ b h. own_instance event timely says.dated b (here b h).0 in
       let master : is_master event ≡ true = (and_parts (is_master event) (is_some event.rule) r.0).0 in
       record {
         whole = says.slot ∙ whole event.recurrence refl master;
@@ -257,7 +257,7 @@ module _ (room : List ℕ) (message : RoomMessage) (given : profile.Message) (s 
         slot = λ b h. own_start event timely says.dated b master (here b h).0;
         starts = λ b h. (own b h).start;
         apart = λ a b c h same.
-            let single = All-contains (IsHere event timely says.dated) (map (booked_in part) component.singles.items) a are_all.each c in
+            let single = All-contains (IsHere event timely says.dated) (map (part_instance part) component.singles.items) a are_all.each c in
             single.1 (subst (IsOfSeries event) (sym (one_slot event timely says.dated a b single.0 (here b h).0 same)) (here b h).1);
       }
     where
@@ -268,10 +268,10 @@ module _ (room : List ℕ) (message : RoomMessage) (given : profile.Message) (s 
   fits_by : (b : Bool) → IsSameSeries (if b then series_asked part component else None) claim.series → IsFitting (said part (asked_for b) claim.series)
   fits_by false same = fits_with [] (λ y c. absurd (none_in_nil y c)) tt (subst (λ (o : Option Recurs). IfSome o (IsFittingSeries (said part [] claim.series))) (sym (no_series claim.series same)) tt)
   fits_by true same =
-      let all = map (booked_in part) component.singles.items in
+      let all = map (part_instance part) component.singles.items in
       let timely = says.ready.timely in
       fits_with component.singles.items (λ y c. own_instance event timely says.dated y (All-contains (IsHere event timely says.dated) all y are_all.each c).0) (own_apart event timely says.dated all are_all.each are_all.ordered)
-      (fits_series (option_map series_said claim.series) (same_rule (series_at part.slot component.series) claim.series (has_it part.slot (sym says.slot)) same))
+      (fits_series (option_map series_said claim.series) (same_rule (series_wanted part.slot component.series) claim.series (has_it part.slot (sym says.slot)) same))
 
   pub fits : IsFitting (claim_said claim)
   fits = subst IsFitting (sym asks) (fits_by (is_set part) x.series)
@@ -288,16 +288,16 @@ module _ (room : List ℕ) (message : RoomMessage) (given : profile.Message) (s 
 -- ---- all claims
 
 module _ (room : List ℕ) (message : RoomMessage) (given : profile.Message) (s : RepresentsMessage message given) where
-  abbrev Says : Event → MessageComponent → Type 0
+  abbrev Says : EventComponent → MessageComponent → Type 0
   Says = SaysComponent given.method (option_map own_revision given.meeting.master)
 
-  abbrev Here : List Event → Type 0
-  Here events = (e : Event) → Contains events e → Contains (events_of given.meeting) e
+  abbrev Here : List EventComponent → Type 0
+  Here events = (e : EventComponent) → Contains events e → Contains (components_of given.meeting) e
 
-  rest_here : (e : Event) (es : List Event) → Here (e ∷ es) → Here es
+  rest_here : (e : EventComponent) (es : List EventComponent) → Here (e ∷ es) → Here es
   rest_here e es f x c = f x (in_tail e es x c)
 
-  claims_zip : (events : List Event) (components : List MessageComponent) (claims : List Claim) → Here events → AllZip Says events components → AllZip (IsClaimIn room message) components claims
+  claims_zip : (events : List EventComponent) (components : List MessageComponent) (claims : List Claim) → Here events → AllZip Says events components → AllZip (IsClaimIn room message) components claims
       → AllZip (IsClaim room given) events (claims_said claims)
   claims_zip [] [] [] f y z = tt
   claims_zip [] [] (c ∷ cs) f y z = absurd z
@@ -308,8 +308,8 @@ module _ (room : List ℕ) (message : RoomMessage) (given : profile.Message) (s 
       (is_claim room message given s e d (f e (in_head e es)) y.0 c z.0, claims_zip es ds cs (rest_here e es f) y.1 z.1)
 
   -- of each claim
-  each_claim : (P : rooms.Claim → Type 0) → ((e : Event) (d : MessageComponent) (c : Claim) → Contains (events_of given.meeting) e → Says e d → IsClaimIn room message d c → P (claim_said c))
-      → (events : List Event) (components : List MessageComponent) (claims : List Claim) → Here events → AllZip Says events components → AllZip (IsClaimIn room message) components claims
+  each_claim : (P : rooms.Claim → Type 0) → ((e : EventComponent) (d : MessageComponent) (c : Claim) → Contains (components_of given.meeting) e → Says e d → IsClaimIn room message d c → P (claim_said c))
+      → (events : List EventComponent) (components : List MessageComponent) (claims : List Claim) → Here events → AllZip Says events components → AllZip (IsClaimIn room message) components claims
       → (x : rooms.Claim) → Contains (claims_said claims) x → P x
   each_claim P h [] [] [] f y z x k = absurd (none_in_nil x k)
   each_claim P h [] [] (c ∷ cs) f y z x k = absurd z
@@ -322,7 +322,7 @@ module _ (room : List ℕ) (message : RoomMessage) (given : profile.Message) (s 
   ]
 
   -- each is of another slot
-  claims_apart : (events : List Event) (components : List MessageComponent) (claims : List Claim) → Here events → AllZip Says events components → AllZip (IsClaimIn room message) components claims
+  claims_apart : (events : List EventComponent) (components : List MessageComponent) (claims : List Claim) → Here events → AllZip Says events components → AllZip (IsClaimIn room message) components claims
       → AllPairs (λ a b. slot_cmp (profile.slot_of a) (profile.slot_of b) ≡ Less) events → Pairwise (λ (a b : rooms.Claim). a.part ≢ b.part) (claims_said claims)
   claims_apart [] [] [] f y z up = tt
   claims_apart [] [] (c ∷ cs) f y z up = absurd z
@@ -342,8 +342,8 @@ module _ (room : List ℕ) (message : RoomMessage) (given : profile.Message) (s 
       not_less : (o : Slot) → slot_cmp o o ≡ Less → ⊥
       not_less o l = let e = tied_itself slot_total o in let x : Less ≡ Equal = sym l ∙ e in cc
 
-      later : (events : List Event) (components : List MessageComponent) (claims : List Claim) → Here events → AllZip Says events components → AllZip (IsClaimIn room message) components claims
-          → (x : rooms.Claim) → Contains (claims_said claims) x → (e : Event) × Contains events e × (x.part.slot ≡ profile.slot_of e)
+      later : (events : List EventComponent) (components : List MessageComponent) (claims : List Claim) → Here events → AllZip Says events components → AllZip (IsClaimIn room message) components claims
+          → (x : rooms.Claim) → Contains (claims_said claims) x → (e : EventComponent) × Contains events e × (x.part.slot ≡ profile.slot_of e)
       later [] [] [] f y z x k = absurd (none_in_nil x k)
       later [] [] (c ∷ cs) f y z x k = absurd z
       later [] (d ∷ ds) cs f y z x k = absurd y
@@ -354,7 +354,7 @@ module _ (room : List ℕ) (message : RoomMessage) (given : profile.Message) (s 
         | inr there ↦ let found = later es ds cs (rest_here e es f) y.1 z.1 x there in (found.0, in_tail e es found.0 found.1, found.2)
       ]
 
-  pub all_claimed : (claims : List Claim) → AllZip (IsClaimIn room message) (filter (has_part room message) message.components.items) claims → list_any (is_for room message) message.components.items ≡ true → AreClaimed room given claims
+  pub all_claimed : (claims : List Claim) → AllZip (IsClaimIn room message) (filter (has_part room message) message.components.items) claims → list_any (is_component_for room message) message.components.items ≡ true → AreClaimed room given claims
   all_claimed claims z has =
       let for_it : is_addressed room given ≡ true = sym (addressed room message given s) ∙ has in
       let events = filter (is_part_for room given.method) s.events in

@@ -7,8 +7,8 @@ use Rattle.std.proofs.lemmas.List.{get_or-take, length-map, map-append, length-t
 use Rattle.std.proofs.lemmas.List.Elements.{Contains-append_left, Contains-append_right, Contains-append_cases}
 use Rattle.std.proofs.lemmas.Option.{same_Some, slice_get_within, slice_get-get_or, get_or_from_slice_get}
 use Rattle.itip_order.proofs.Lists.{none_in_nil, in_head, in_tail}
-use Rattle.profile.specs.checker.Instances.{Key, Booked, AreClashing, IsClear}
-use Rattle.profile.specs.events.Meetings.{Meeting as Whole}
+use Rattle.profile.specs.checker.Instances.{Key, Instance, AreClashing, IsClear}
+use Rattle.profile.specs.events.Events.{Event as Whole}
 use Rattle.profile.specs.events.Starts.{IsInstance}
 use Rattle.profile.specs.events.Confirmed.{Confirmed, IsInSeries, IsOneOf}
 use Rattle.profile.specs.rooms.Rooms.{NamesClash}
@@ -17,13 +17,13 @@ use Rattle.clash_cert.specs.Makings.{AreNamed}
 use Rattle.cal_events.specs.Calendars.{owned_key_of}
 use Rattle.cal_events.specs.declared.instance.Single.{Single}
 use Rattle.cal_events.specs.declared.series.Series.{Series}
-use Rattle.room_books.specs.declared.decide.Shared.{Shared}
+use Rattle.room_books.specs.declared.decide.SharedInstant.{SharedInstant}
 use Rattle.room_books.specs.declared.meeting.MeetingKey.{MeetingKey}
 use Rattle.room_books.specs.declared.recurring.Recurring.{Recurring}
 use Rattle.room_books.specs.Instants.{HaveInstant, IsLater, Overlap}
-use Rattle.room_books.specs.Recurrings.{AreAllOf, AreBeside, AreClearFrom, AreNewClear, IsAlone, keyed_of, recurring_said}
+use Rattle.room_books.specs.Recurrings.{AreAllOf, AreBeside, AreClearFrom, AreNewClear, IsSharedAlone, keyed_of, recurring_said}
 use Rattle.room_books.specs.Takings.{AreOfOneMeeting}
-use Rattle.room_books.specs.Views.{booked_of, booked_list, joined, series_list, series_of, span_of, AreBusyIn, IsClearIn, Recurs, RecursIn}
+use Rattle.room_books.specs.Views.{keyed_instance, instance_list, joined, series_list, series_of, instance_span, AreBusyIn, IsClearIn, Recurs, RecursIn}
 use Rattle.room_books.proofs.Deciding.{names_these}
 use Rattle.room_books.proofs.Pairs.{map_at, map_from}
 use Rattle.room_books.proofs.Places.{in_booked, booked_from}
@@ -139,21 +139,21 @@ module _ (others : Confirmed) (k : MeetingKey) (own singles : List Single) (kept
   ]
 
   -- an instance of all series represents one that recurs: of one before the place, which was clear, or of one that it asks for
-  data IsWhen (p : ℕ) (r : Recurring) (x : Single) (b : Booked) : Type 0 where
+  data IsWhen (p : ℕ) (r : Recurring) (x : Single) (b : Instance) : Type 0 where
     was : p < from → IsOneOf before b → IsWhen p r x b
     is_asked : from ≤ p → r.key.now ≡ k → RecursIn wanted x → IsWhen p r x b
 
-  record RecursAt (b : Booked) : Type 0 where
+  record RecursAt (b : Instance) : Type 0 where
     place : ℕ
     recurring : Recurring
     single : Single
     at : slice_get all place ≡ Some recurring
     recurs : Recurs recurring.series.now single
-    is : b ≡ booked_of recurring.key.now single
+    is : b ≡ keyed_instance recurring.key.now single
     when : IsWhen place recurring single b
 
   -- of the series in a place
-  recurs_at : (p : ℕ) (b : Booked) (q : MeetingKey × Series) → slice_get (map keyed_of all) p ≡ Some q → IsInstance (said q) b
+  recurs_at : (p : ℕ) (b : Instance) (q : MeetingKey × Series) → slice_get (map keyed_of all) p ≡ Some q → IsInstance (said q) b
       → ((p < from) × IsOneOf before b) ⊎ ((from ≤ p) × ((x : Single) → Recurs q.1 x → RecursIn wanted x)) → RecursAt b
   recurs_at p b q at is placed =
       let r = mapped_at keyed_of all p q at in
@@ -171,20 +171,20 @@ module _ (others : Confirmed) (k : MeetingKey) (own singles : List Single) (kept
         ];
       }
 
-  recurs_old : (b : Booked) (s : Series) → IsInstance (series_of k s) b → Contains kept s → RecursAt b
+  recurs_old : (b : Instance) (s : Series) → IsInstance (series_of k s) b → Contains kept s → RecursAt b
   recurs_old b s is c =
       let p = left_at (map keyed_of first ++ map own_keyed kept) (map own_keyed wanted) (own_keyed s) (Contains-append_right (map keyed_of first) (map own_keyed kept) (own_keyed s) (map_from own_keyed kept s c)) in
       let w = p.1 in
       recurs_at p.0 b (own_keyed s) (ap (λ l. slice_get l p.0) split_is ∙ p.2) is
       (inl (omega (arith, w, from_at), inr (series_of k s, Contains-append_right others.series (series_list k kept) (series_of k s) (map_from (series_of k) kept s c), is)))
 
-  recurs_new : (b : Booked) (s : Series) → IsInstance (series_of k s) b → Contains wanted s → RecursAt b
+  recurs_new : (b : Instance) (s : Series) → IsInstance (series_of k s) b → Contains wanted s → RecursAt b
   recurs_new b s is c =
       let p = right_at (map keyed_of first ++ map own_keyed kept) (map own_keyed wanted) (own_keyed s) (map_from own_keyed wanted s c) in
       let w = p.1 in
       recurs_at p.0 b (own_keyed s) (ap (λ l. slice_get l p.0) split_is ∙ p.2) is (inr (omega (arith, w, from_at), λ x r. (s, c, r)))
 
-  recurs_there : (b : Booked) → IsInSeries (others.series ++ series_list k (kept ++ wanted)) b → RecursAt b
+  recurs_there : (b : Instance) → IsInSeries (others.series ++ series_list k (kept ++ wanted)) b → RecursAt b
   recurs_there b (one, among, is) = elim (Contains-append_cases others.series (series_list k (kept ++ wanted)) one among) [
     | inl other ↦
         let x = map_at recurring_said first one ((of_others one).0 other) in
@@ -203,60 +203,60 @@ module _ (others : Confirmed) (k : MeetingKey) (own singles : List Single) (kept
   -- ---- none clash
 
   -- a single stays, or is asked for
-  single_when : (b : Booked) → Contains (others.singles ++ booked_list k (own ++ singles)) b
-      → Contains (others.singles ++ booked_list k own) b ⊎ ((s : Single) × Contains singles s × (booked_of k s ≡ b))
-  single_when b c = elim (Contains-append_cases others.singles (booked_list k (own ++ singles)) b c) [
-    | inl other ↦ inl (Contains-append_left others.singles (booked_list k own) b other)
+  single_when : (b : Instance) → Contains (others.singles ++ instance_list k (own ++ singles)) b
+      → Contains (others.singles ++ instance_list k own) b ⊎ ((s : Single) × Contains singles s × (keyed_instance k s ≡ b))
+  single_when b c = elim (Contains-append_cases others.singles (instance_list k (own ++ singles)) b c) [
+    | inl other ↦ inl (Contains-append_left others.singles (instance_list k own) b other)
     | inr mine ↦
         let s = in_booked k (own ++ singles) b mine in
         elim (Contains-append_cases own singles s.0 s.1) [
-          | inl old ↦ inl (Contains-append_right others.singles (booked_list k own) b (subst (Contains (booked_list k own)) s.2 (booked_from k own s.0 old)))
+          | inl old ↦ inl (Contains-append_right others.singles (instance_list k own) b (subst (Contains (instance_list k own)) s.2 (booked_from k own s.0 old)))
           | inr new ↦ inr (s.0, new, s.2)
         ]
   ]
 
-  shared_by : (a b : Booked) (x y : Booked) (t : ℤ) → a ≡ x → b ≡ y → AreClashing a b t → HaveInstant (span_of x) (span_of y) t
+  shared_by : (a b : Instance) (x y : Instance) (t : ℤ) → a ≡ x → b ≡ y → AreClashing a b t → HaveInstant (instance_span x) (instance_span y) t
   shared_by a b x y t e f c =
-      subst (λ (z : Booked). HaveInstant (span_of z) (span_of y) t) e (subst (λ (z : Booked). HaveInstant (span_of a) (span_of z) t) f
+      subst (λ (z : Instance). HaveInstant (instance_span z) (instance_span y) t) e (subst (λ (z : Instance). HaveInstant (instance_span a) (instance_span z) t) f
       (record { in_first = c.in_first; in_second = c.in_second; before = c.before }))
 
-  turned_clash : (a b : Booked) (t : ℤ) → AreClashing a b t → AreClashing b a t
+  turned_clash : (a b : Instance) (t : ℤ) → AreClashing a b t → AreClashing b a t
   turned_clash a b t c = record { differ = λ e. c.differ (sym e); before = c.before; in_first = c.in_second; in_second = c.in_first }
 
-  module _ (was_clear : IsClearIn before) (singles_clear : IsClear (others.singles ++ booked_list k (own ++ singles)))
-      (single_clear : AreBeside (Contains singles) all None) (new_clear : AreNewClear (others.singles ++ booked_list k own) all from wanted None) where
-    single_and_series : (a b : Booked) (t : ℤ) → Contains (others.singles ++ booked_list k (own ++ singles)) a → RecursAt b → AreClashing a b t → ⊥
+  module _ (was_clear : IsClearIn before) (singles_clear : IsClear (others.singles ++ instance_list k (own ++ singles)))
+      (single_clear : AreBeside (Contains singles) all None) (new_clear : AreNewClear (others.singles ++ instance_list k own) all from wanted None) where
+    single_and_series : (a b : Instance) (t : ℤ) → Contains (others.singles ++ instance_list k (own ++ singles)) a → RecursAt b → AreClashing a b t → ⊥
     single_and_series a b t c f clash = elim (single_when a c) [
       | inl old ↦ by_when f.when old
-      | inr (s, new, e) ↦ single_clear s new f.recurring f.single t (at_in all f.place f.recurring f.at) f.recurs (shared_by a b (booked_of k s) (booked_of f.recurring.key.now f.single) t (sym e) f.is clash)
+      | inr (s, new, e) ↦ single_clear s new f.recurring f.single t (at_in all f.place f.recurring f.at) f.recurs (shared_by a b (keyed_instance k s) (keyed_instance f.recurring.key.now f.single) t (sym e) f.is clash)
     ]
       where
-        by_when : IsWhen f.place f.recurring f.single b → Contains (others.singles ++ booked_list k own) a → ⊥
+        by_when : IsWhen f.place f.recurring f.single b → Contains (others.singles ++ instance_list k own) a → ⊥
         by_when (was less one) old = was_clear a b t (inl old) one clash
-        by_when (is_asked from_on key recurs) old = new_clear.1 f.single recurs a t old (turned (span_of a) f.single.span t (shared_by a b a (booked_of f.recurring.key.now f.single) t refl f.is clash))
+        by_when (is_asked from_on key recurs) old = new_clear.1 f.single recurs a t old (turned (instance_span a) f.single.span t (shared_by a b a (keyed_instance f.recurring.key.now f.single) t refl f.is clash))
 
     -- the first comes before the second
-    ordered : (a b : Booked) (t : ℤ) (f : RecursAt a) (g : RecursAt b) → f.place < g.place → from ≤ g.place → RecursIn wanted g.single → AreClashing a b t → ⊥
+    ordered : (a b : Instance) (t : ℤ) (f : RecursAt a) (g : RecursAt b) → f.place < g.place → from ≤ g.place → RecursIn wanted g.single → AreClashing a b t → ⊥
     ordered a b t f g less from_on recurs clash =
         let within = slice_get_within all g.place g.recurring g.at in
         (new_clear.0 (λ e. none_in_nil recurs.0 (subst (λ (l : List Series). Contains l recurs.0) e recurs.1)) g.place g.recurring from_on g.at).0
         g.single g.recurs f.recurring f.single t (at_take all f.place g.place f.recurring f.at less (omega (arith, within))) f.recurs
-        (turned f.single.span g.single.span t (shared_by a b (booked_of f.recurring.key.now f.single) (booked_of g.recurring.key.now g.single) t f.is g.is clash))
+        (turned f.single.span g.single.span t (shared_by a b (keyed_instance f.recurring.key.now f.single) (keyed_instance g.recurring.key.now g.single) t f.is g.is clash))
 
     -- both are of one series
-    both_of : (a b : Booked) (t : ℤ) (f : RecursAt a) (g : RecursAt b) → f.place ≡ g.place → from ≤ g.place → RecursIn wanted g.single → AreClashing a b t → ⊥
+    both_of : (a b : Instance) (t : ℤ) (f : RecursAt a) (g : RecursAt b) → f.place ≡ g.place → from ≤ g.place → RecursIn wanted g.single → AreClashing a b t → ⊥
     both_of a b t f g e from_on recurs clash =
         let same : f.recurring ≡ g.recurring = same_Some f.recurring g.recurring (sym f.at ∙ ap (slice_get all) e ∙ g.at) in
-        let is = f.is ∙ ap (λ (r : Recurring). booked_of r.key.now f.single) same in
+        let is = f.is ∙ ap (λ (r : Recurring). keyed_instance r.key.now f.single) same in
         (new_clear.0 (λ e. none_in_nil recurs.0 (subst (λ (l : List Series). Contains l recurs.0) e recurs.1)) g.place g.recurring from_on g.at).1
         f.single g.single t (subst (λ (r : Recurring). Recurs r.series.now f.single) same f.recurs) g.recurs
-        (λ slots. clash.differ (ap (λ (z : Booked). z.key) is ∙ key_of_slot g.recurring.key.now f.single g.single slots ∙ sym (ap (λ (z : Booked). z.key) g.is)))
-        (shared_by a b (booked_of g.recurring.key.now f.single) (booked_of g.recurring.key.now g.single) t is g.is clash)
+        (λ slots. clash.differ (ap (λ (z : Instance). z.key) is ∙ key_of_slot g.recurring.key.now f.single g.single slots ∙ sym (ap (λ (z : Instance). z.key) g.is)))
+        (shared_by a b (keyed_instance g.recurring.key.now f.single) (keyed_instance g.recurring.key.now g.single) t is g.is clash)
       where
-        key_of_slot : (q : MeetingKey) (s r : Single) → s.slot ≡ r.slot → (booked_of q s).key ≡ (booked_of q r).key
-        key_of_slot q s r e = λ i. record { organiser = (booked_of q s).key.organiser; uid = (booked_of q s).key.uid; slot = e i }
+        key_of_slot : (q : MeetingKey) (s r : Single) → s.slot ≡ r.slot → (keyed_instance q s).key ≡ (keyed_instance q r).key
+        key_of_slot q s r e = λ i. record { organiser = (keyed_instance q s).key.organiser; uid = (keyed_instance q s).key.uid; slot = e i }
 
-    two_series : (a b : Booked) (t : ℤ) → RecursAt a → RecursAt b → AreClashing a b t → ⊥
+    two_series : (a b : Instance) (t : ℤ) → RecursAt a → RecursAt b → AreClashing a b t → ⊥
     two_series a b t f g clash = by_when f.when g.when
       where
         compare : (m n : ℕ) → (m < n) ⊎ ((n < m) ⊎ (m ≡ n))
@@ -282,62 +282,62 @@ module _ (others : Confirmed) (k : MeetingKey) (own singles : List Single) (kept
 
   -- ---- two clash
 
-  module _ (apart_singles : (x : Single) (b : Booked) → Contains others.singles b → b.key ≢ (booked_of k x).key) (apart_series : (x : Single) (b : Booked) → IsInSeries others.series b → b.key ≢ (booked_of k x).key)
+  module _ (apart_singles : (x : Single) (b : Instance) → Contains others.singles b → b.key ≢ (keyed_instance k x).key) (apart_series : (x : Single) (b : Instance) → IsInSeries others.series b → b.key ≢ (keyed_instance k x).key)
       (one : AreOfOneMeeting (own ++ singles) (kept ++ wanted)) where
-    slots_of_keys : (x y : Single) → (booked_of k x).key ≡ (booked_of k y).key → x.slot ≡ y.slot
+    slots_of_keys : (x y : Single) → (keyed_instance k x).key ≡ (keyed_instance k y).key → x.slot ≡ y.slot
     slots_of_keys x y e = ap (λ (z : Key). z.slot) e
 
     -- an instance of a series of all is one of those that are confirmed then
-    in_series : (p : ℕ) (r : Recurring) (x : Single) → slice_get all p ≡ Some r → Recurs r.series.now x → IsOneOf now (booked_of r.key.now x)
+    in_series : (p : ℕ) (r : Recurring) (x : Single) → slice_get all p ≡ Some r → Recurs r.series.now x → IsOneOf now (keyed_instance r.key.now x)
     in_series p r x at is = go (which p r at)
       where
-        instance : IsInstance (recurring_said r) (booked_of r.key.now x)
+        instance : IsInstance (recurring_said r) (keyed_instance r.key.now x)
         instance = to_series r.key.now r.series.now x is
 
-        go : IsOf p r → IsOneOf now (booked_of r.key.now x)
+        go : IsOf p r → IsOneOf now (keyed_instance r.key.now x)
         go (of_other l c) = inr (recurring_said r, Contains-append_left others.series (series_list k (kept ++ wanted)) (recurring_said r) c, instance)
         go (of_own l key c) = inr (
           series_of k r.series.now,
           Contains-append_right others.series (series_list k (kept ++ wanted)) (series_of k r.series.now) (map_from (series_of k) (kept ++ wanted) r.series.now c),
-          subst (λ (q : MeetingKey). IsInstance (series_of q r.series.now) (booked_of r.key.now x)) key instance,
+          subst (λ (q : MeetingKey). IsInstance (series_of q r.series.now) (keyed_instance r.key.now x)) key instance,
         )
 
     -- a single of the meeting and an instance of a series have different keys
-    single_differs : (s : Single) (p : ℕ) (r : Recurring) (x : Single) → Contains (own ++ singles) s → slice_get all p ≡ Some r → Recurs r.series.now x → (booked_of k s).key ≢ (booked_of r.key.now x).key
+    single_differs : (s : Single) (p : ℕ) (r : Recurring) (x : Single) → Contains (own ++ singles) s → slice_get all p ≡ Some r → Recurs r.series.now x → (keyed_instance k s).key ≢ (keyed_instance r.key.now x).key
     single_differs s p r x in_s at is e = go (which p r at)
       where
         go : IsOf p r → ⊥
-        go (of_other l c) = apart_series s (booked_of r.key.now x) (recurring_said r, c, to_series r.key.now r.series.now x is) (sym e)
-        go (of_own l key c) = one.apart s x r.series.now in_s c is (slots_of_keys s x (e ∙ ap (λ (q : MeetingKey). (booked_of q x).key) key))
+        go (of_other l c) = apart_series s (keyed_instance r.key.now x) (recurring_said r, c, to_series r.key.now r.series.now x is) (sym e)
+        go (of_own l key c) = one.apart s x r.series.now in_s c is (slots_of_keys s x (e ∙ ap (λ (q : MeetingKey). (keyed_instance q x).key) key))
 
     -- an instance that is asked for, and one of a series before its own
-    series_differ : (p q : ℕ) (r u : Recurring) (x y : Single) → slice_get all p ≡ Some r → r.key.now ≡ k → slice_get all q ≡ Some u → q < p → Recurs u.series.now y → (booked_of k x).key ≢ (booked_of u.key.now y).key
+    series_differ : (p q : ℕ) (r u : Recurring) (x y : Single) → slice_get all p ≡ Some r → r.key.now ≡ k → slice_get all q ≡ Some u → q < p → Recurs u.series.now y → (keyed_instance k x).key ≢ (keyed_instance u.key.now y).key
     series_differ p q r u x y at key at_u less is e = go (which q u at_u)
       where
         within : p < length all
         within = slice_get_within all p r at
 
         go : IsOf q u → ⊥
-        go (of_other l c) = apart_series x (booked_of u.key.now y) (recurring_said u, c, to_series u.key.now u.series.now y is) (sym e)
+        go (of_other l c) = apart_series x (keyed_instance u.key.now y) (recurring_said u, c, to_series u.key.now u.series.now y is) (sym e)
         go (of_own l key c) = let w = within in let few = one.one in omega (arith, w, few, less, l, long, length-append kept wanted)
 
-    module _ (x : Shared) (clash : Clash) (later : IsLater x.asked.span x.booked.span clash.instant) (named : AreNamed (booked_of k x.asked) (booked_of x.other.now x.booked) clash.instant clash) where
+    module _ (x : SharedInstant) (clash : Clash) (later : IsLater x.asked.span x.booked.span clash.instant) (named : AreNamed (keyed_instance k x.asked) (keyed_instance x.other.now x.booked) clash.instant clash) where
       abbrev Named : Type 0
       Named = NamesClash (IsOneOf now) (owned_key_of clash.first) (owned_key_of clash.second) clash.instant
 
       -- the two are these
-      named_by : IsOneOf now (booked_of k x.asked) → IsOneOf now (booked_of x.other.now x.booked) → (booked_of k x.asked).key ≢ (booked_of x.other.now x.booked).key → Overlap x.asked.span x.booked.span → Named
-      named_by in_a in_b differ overlap = names_these (IsOneOf now) (booked_of k x.asked) (booked_of x.other.now x.booked) clash in_a in_b differ overlap later named
+      named_by : IsOneOf now (keyed_instance k x.asked) → IsOneOf now (keyed_instance x.other.now x.booked) → (keyed_instance k x.asked).key ≢ (keyed_instance x.other.now x.booked).key → Overlap x.asked.span x.booked.span → Named
+      named_by in_a in_b differ overlap = names_these (IsOneOf now) (keyed_instance k x.asked) (keyed_instance x.other.now x.booked) clash in_a in_b differ overlap later named
 
       -- a single that is asked for, and an instance of a series
       pub single_named : AreBeside (Contains singles) all (Some x) → Named
       single_named (in_s, among, overlap) =
           let p = in_at all among.recurring among.among in
           let both = Contains-append_right own singles x.asked in_s in
-          let key = ap (λ (q : MeetingKey). booked_of q x.booked) among.of in
-          named_by (inl (Contains-append_right others.singles (booked_list k (own ++ singles)) (booked_of k x.asked) (booked_from k (own ++ singles) x.asked both)))
+          let key = ap (λ (q : MeetingKey). keyed_instance q x.booked) among.of in
+          named_by (inl (Contains-append_right others.singles (instance_list k (own ++ singles)) (keyed_instance k x.asked) (booked_from k (own ++ singles) x.asked both)))
           (subst (IsOneOf now) key (in_series p.0 among.recurring x.booked p.2 among.is))
-          (λ e. single_differs x.asked p.0 among.recurring x.booked both p.2 among.is (e ∙ sym (ap (λ (z : Booked). z.key) key))) overlap
+          (λ e. single_differs x.asked p.0 among.recurring x.booked both p.2 among.is (e ∙ sym (ap (λ (z : Instance). z.key) key))) overlap
 
       -- an instance of a series that is asked for, and one of a series before it
       before_named : (p : ℕ) (r : Recurring) → from ≤ p → slice_get all p ≡ Some r → AreBeside (Recurs r.series.now) (take p all) (Some x) → Named
@@ -348,43 +348,43 @@ module _ (others : Confirmed) (k : MeetingKey) (own singles : List Single) (kept
           let less : q.0 < p = (let w = q.1 in let n = length-take-le p all (omega (arith, within)) in omega (arith, w, n)) in
           let at_q : slice_get all q.0 ≡ Some among.recurring =
           slice_get-get_or all q.0 among.recurring (omega (arith, less, within)) ∙ ap Some (sym (get_or-take p all q.0 among.recurring less) ∙ get_or_from_slice_get (take p all) q.0 among.recurring among.recurring q.2) in
-          let key = ap (λ (q : MeetingKey). booked_of q x.booked) among.of in
-          named_by (subst (λ (q : MeetingKey). IsOneOf now (booked_of q x.asked)) asked.0 (in_series p r x.asked at recurs))
+          let key = ap (λ (q : MeetingKey). keyed_instance q x.booked) among.of in
+          named_by (subst (λ (q : MeetingKey). IsOneOf now (keyed_instance q x.asked)) asked.0 (in_series p r x.asked at recurs))
           (subst (IsOneOf now) key (in_series q.0 among.recurring x.booked at_q among.is))
-          (λ e. series_differ p q.0 r among.recurring x.asked x.booked at asked.0 at_q less among.is (e ∙ sym (ap (λ (z : Booked). z.key) key))) overlap
+          (λ e. series_differ p q.0 r among.recurring x.asked x.booked at asked.0 at_q less among.is (e ∙ sym (ap (λ (z : Instance). z.key) key))) overlap
 
       -- two of one series
-      alone_named : (p : ℕ) (r : Recurring) → from ≤ p → slice_get all p ≡ Some r → IsAlone r.series.now (Some (x.asked, x.booked)) → x.other.now ≡ r.key.now → Named
+      alone_named : (p : ℕ) (r : Recurring) → from ≤ p → slice_get all p ≡ Some r → IsSharedAlone r.series.now (Some (x.asked, x.booked)) → x.other.now ≡ r.key.now → Named
       alone_named p r from_on at (first_is, second_is, slots, overlap) other =
           let asked = asked_from p r at from_on in
-          named_by (subst (λ (q : MeetingKey). IsOneOf now (booked_of q x.asked)) asked.0 (in_series p r x.asked at first_is))
-          (subst (λ (q : MeetingKey). IsOneOf now (booked_of q x.booked)) (sym other) (in_series p r x.booked at second_is))
-          (λ e. slots (slots_of_keys x.asked x.booked (e ∙ ap (λ (q : MeetingKey). (booked_of q x.booked).key) (other ∙ asked.0)))) overlap
+          named_by (subst (λ (q : MeetingKey). IsOneOf now (keyed_instance q x.asked)) asked.0 (in_series p r x.asked at first_is))
+          (subst (λ (q : MeetingKey). IsOneOf now (keyed_instance q x.booked)) (sym other) (in_series p r x.booked at second_is))
+          (λ e. slots (slots_of_keys x.asked x.booked (e ∙ ap (λ (q : MeetingKey). (keyed_instance q x.booked).key) (other ∙ asked.0)))) overlap
 
       -- an instance of a series that is asked for, and a single that stays
-      busy_named : AreBusyIn (others.singles ++ booked_list k own) (RecursIn wanted) (Some x) → Named
+      busy_named : AreBusyIn (others.singles ++ instance_list k own) (RecursIn wanted) (Some x) → Named
       busy_named ((s, among, recurs), in_b, overlap) =
           named_by (inr (series_of k s, Contains-append_right others.series (series_list k (kept ++ wanted)) (series_of k s) (map_from (series_of k) (kept ++ wanted) s (Contains-append_right kept wanted s among)), to_series k s x.asked recurs))
-          (inl (elim (Contains-append_cases others.singles (booked_list k own) (booked_of x.other.now x.booked) in_b) [
-            | inl other ↦ Contains-append_left others.singles (booked_list k (own ++ singles)) (booked_of x.other.now x.booked) other
-            | inr mine ↦ (let z = in_booked k own (booked_of x.other.now x.booked) mine in
-                Contains-append_right others.singles (booked_list k (own ++ singles)) (booked_of x.other.now x.booked) (subst (Contains (booked_list k (own ++ singles))) z.2 (booked_from k (own ++ singles) z.0 (Contains-append_left own singles z.0 z.1))))
+          (inl (elim (Contains-append_cases others.singles (instance_list k own) (keyed_instance x.other.now x.booked) in_b) [
+            | inl other ↦ Contains-append_left others.singles (instance_list k (own ++ singles)) (keyed_instance x.other.now x.booked) other
+            | inr mine ↦ (let z = in_booked k own (keyed_instance x.other.now x.booked) mine in
+                Contains-append_right others.singles (instance_list k (own ++ singles)) (keyed_instance x.other.now x.booked) (subst (Contains (instance_list k (own ++ singles))) z.2 (booked_from k (own ++ singles) z.0 (Contains-append_left own singles z.0 z.1))))
           ]))
-          (λ e. elim (Contains-append_cases others.singles (booked_list k own) (booked_of x.other.now x.booked) in_b) [
-            | inl other ↦ apart_singles x.asked (booked_of x.other.now x.booked) other (sym e)
-            | inr mine ↦ (let z = in_booked k own (booked_of x.other.now x.booked) mine in
-                one.apart z.0 x.asked s (Contains-append_left own singles z.0 z.1) (Contains-append_right kept wanted s among) recurs (slots_of_keys z.0 x.asked (ap (λ (w : Booked). w.key) z.2 ∙ sym e)))
+          (λ e. elim (Contains-append_cases others.singles (instance_list k own) (keyed_instance x.other.now x.booked) in_b) [
+            | inl other ↦ apart_singles x.asked (keyed_instance x.other.now x.booked) other (sym e)
+            | inr mine ↦ (let z = in_booked k own (keyed_instance x.other.now x.booked) mine in
+                one.apart z.0 x.asked s (Contains-append_left own singles z.0 z.1) (Contains-append_right kept wanted s among) recurs (slots_of_keys z.0 x.asked (ap (λ (w : Instance). w.key) z.2 ∙ sym e)))
           ]) overlap
 
-      pub new_named : AreNewClear (others.singles ++ booked_list k own) all from wanted (Some x) → Named
+      pub new_named : AreNewClear (others.singles ++ instance_list k own) all from wanted (Some x) → Named
       new_named (inr busy) = busy_named busy
       new_named (inl (p, r, from_on, found)) = go found.found
         where
-          go : AreBeside (Recurs r.series.now) (take p all) (Some x) ⊎ (IsAlone r.series.now (Some (x.asked, x.booked)) × (x.other.now ≡ r.key.now)) → Named
+          go : AreBeside (Recurs r.series.now) (take p all) (Some x) ⊎ (IsSharedAlone r.series.now (Some (x.asked, x.booked)) × (x.other.now ≡ r.key.now)) → Named
           go (inl beside) = before_named p r from_on found.at beside
           go (inr (alone, other)) = alone_named p r from_on found.at alone other
 
 -- nothing of what is asked for clashes, or these two do
-pub new_clear : (booked : List Booked) (all : List Recurring) (from : ℕ) (wanted : List Series) (found : Option Shared) → AreClearFrom all from None → AreBusyIn booked (RecursIn wanted) found → AreNewClear booked all from wanted found
+pub new_clear : (booked : List Instance) (all : List Recurring) (from : ℕ) (wanted : List Series) (found : Option SharedInstant) → AreClearFrom all from None → AreBusyIn booked (RecursIn wanted) found → AreNewClear booked all from wanted found
 new_clear booked all from wanted None clear busy = ((λ _. clear), busy)
 new_clear booked all from wanted (Some x) clear busy = inr busy

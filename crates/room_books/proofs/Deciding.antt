@@ -18,7 +18,7 @@ use Rattle.cal_events.specs.Calendars.{owned_key_of}
 use Rattle.cal_events.specs.Sweep as sweep
 use Rattle.cal_events.specs.declared.sweep.Span.{Span}
 use Rattle.cal_events.specs.declared.sweep.Overlap.{Overlap as Found}
-use Rattle.profile.specs.checker.Instances.{Key, Booked, IsWithin, IsClear, key_cmp, booked_cmp}
+use Rattle.profile.specs.checker.Instances.{Key, Instance, IsWithin, IsClear, key_cmp, instance_cmp}
 use Rattle.profile.specs.rooms.Messages as messages
 use Rattle.profile.specs.rooms.Rooms as rooms
 use Rattle.profile.specs.rooms.Rooms.{is_accept}
@@ -28,8 +28,8 @@ use Rattle.cal_events.specs.declared.instance.Single.{Single}
 use Rattle.room_books.specs.declared.kept.Meeting.{Meeting}
 use Rattle.room_books.specs.declared.meeting.Outcome.{Outcome}
 use Rattle.room_books.specs.Instants.{HaveInstant, IsLater, IsParted, Overlap, AreSeparate}
-use Rattle.room_books.specs.Takings.{DecidesAmong, IsDecision, NamesClash}
-use Rattle.room_books.specs.Views.{all_confirmed, booked_of, booked_list, others, outcome_of, same_key, singles_by, slots_of, spans_of, span_of, AreAllApart, HaveOverlap, IsFree}
+use Rattle.room_books.specs.Takings.{DecidesAmong, IsDecision, NamesListedClash}
+use Rattle.room_books.specs.Views.{all_confirmed, keyed_instance, instance_list, others, outcome_of, same_key, singles_by, slots_of, spans_of, instance_span, AreAllApart, HaveOverlap, IsFree}
 use Rattle.room_books.proofs.Leaving.{Apart, kept_separate, kept_within}
 use Rattle.room_books.proofs.Pairs.{map_from, pairs_append, pairs_from}
 use Rattle.room_books.proofs.Parts.{pairs_across, pairs_right, pairs_to}
@@ -56,11 +56,11 @@ later_is_first : (a b : Span) (t : ℤ) → IsLater a b t → b.start ≤ℤ a.s
 later_is_first a b t l h = elim l.one [ inl e ↦ e | inr e ↦ (let s = l.first in omega (arith, ints)) ]
 
 -- two instances that share an instant are named as a decline does
-pub names_these : (these : Booked → Type 0) (x y : Booked) (clash : Clash) → these x → these y → x.key ≢ y.key → Overlap (span_of x) (span_of y)
-    → IsLater (span_of x) (span_of y) clash.instant → AreNamed x y clash.instant clash → rooms.NamesClash these (owned_key_of clash.first) (owned_key_of clash.second) clash.instant
+pub names_these : (these : Instance → Type 0) (x y : Instance) (clash : Clash) → these x → these y → x.key ≢ y.key → Overlap (instance_span x) (instance_span y)
+    → IsLater (instance_span x) (instance_span y) clash.instant → AreNamed x y clash.instant clash → rooms.NamesClash these (owned_key_of clash.first) (owned_key_of clash.second) clash.instant
 names_these these x y clash in_x in_y differ overlap later named =
     let shared = overlap clash.instant later in
-    elim (cases_Bool (is_lt (booked_cmp y x))) [
+    elim (cases_Bool (is_lt (instance_cmp y x))) [
       | inl before ↦
           let h = MatchBool-at_true (HasKeys y x clash.instant clash) (HasKeys x y clash.instant clash) before named in
           let order = starts_at (int_cmp y.start x.start) (key_cmp y.key x.key) y.start x.start refl before in
@@ -73,7 +73,7 @@ names_these these x y clash in_x in_y differ overlap later named =
             first_is = sym h.first;
             second_is = sym h.second;
             ordered = less_from_before y x before;
-            later = later_is_first (span_of x) (span_of y) clash.instant later order;
+            later = later_is_first (instance_span x) (instance_span y) clash.instant later order;
           }
       | inr after ↦
           let h = MatchBool-at_false (HasKeys y x clash.instant clash) (HasKeys x y clash.instant clash) after named in
@@ -87,13 +87,13 @@ names_these these x y clash in_x in_y differ overlap later named =
             first_is = sym h.first;
             second_is = sym h.second;
             ordered = less_from_not_before x y differ after;
-            later = later_is (span_of x) (span_of y) clash.instant later order;
+            later = later_is (instance_span x) (instance_span y) clash.instant later order;
           }
     ]
 
 -- two of a list
-pub names_two : (all : List Booked) (x y : Booked) (clash : Clash) → Contains all x → Contains all y → x.key ≢ y.key → Overlap (span_of x) (span_of y)
-    → IsLater (span_of x) (span_of y) clash.instant → AreNamed x y clash.instant clash → NamesClash all (owned_key_of clash.first) (owned_key_of clash.second) clash.instant
+pub names_two : (all : List Instance) (x y : Instance) (clash : Clash) → Contains all x → Contains all y → x.key ≢ y.key → Overlap (instance_span x) (instance_span y)
+    → IsLater (instance_span x) (instance_span y) clash.instant → AreNamed x y clash.instant clash → NamesListedClash all (owned_key_of clash.first) (owned_key_of clash.second) clash.instant
 names_two all x y clash in_x in_y differ overlap later named =
     let n = names_these (Contains all) x y clash in_x in_y differ overlap later named in
     record {
@@ -107,7 +107,7 @@ names_two all x y clash in_x in_y differ overlap later named =
     }
 
 -- and two of more than a list
-pub names_more : (all : List Booked) (these : Booked → Type 0) (first second : Key) (t : ℤ) → ((b : Booked) → Contains all b → these b) → NamesClash all first second t → rooms.NamesClash these first second t
+pub names_more : (all : List Instance) (these : Instance → Type 0) (first second : Key) (t : ℤ) → ((b : Instance) → Contains all b → these b) → NamesListedClash all first second t → rooms.NamesClash these first second t
 names_more all these first second t within n = record {
   a = n.a;
   b = n.b;
@@ -122,15 +122,15 @@ names_more all these first second t within n = record {
 
 -- ---- the meeting's own instances and the others
 
-module _ (all : List Booked) (k : MeetingKey) (kept wanted : List Single) (differ : (s : Single) (b : Booked) → Contains all b → b.key ≢ (booked_of k s).key) where
-  abbrev both : List Booked
-  both = all ++ booked_list k (kept ++ wanted)
+module _ (all : List Instance) (k : MeetingKey) (kept wanted : List Single) (differ : (s : Single) (b : Instance) → Contains all b → b.key ≢ (keyed_instance k s).key) where
+  abbrev both : List Instance
+  both = all ++ instance_list k (kept ++ wanted)
 
-  own_in : (s : Single) → Contains (kept ++ wanted) s → Contains both (booked_of k s)
-  own_in s c = Contains-append_right all (booked_list k (kept ++ wanted)) (booked_of k s) (booked_from k (kept ++ wanted) s c)
+  own_in : (s : Single) → Contains (kept ++ wanted) s → Contains both (keyed_instance k s)
+  own_in s c = Contains-append_right all (instance_list k (kept ++ wanted)) (keyed_instance k s) (booked_from k (kept ++ wanted) s c)
 
   pub length_is : length both ≡ length all + (length kept + length wanted)
-  length_is = length-append all (booked_list k (kept ++ wanted)) ∙ ap (λ n. length all + n) (length-map (kept ++ wanted) (booked_of k) ∙ length-append kept wanted)
+  length_is = length-append all (instance_list k (kept ++ wanted)) ∙ ap (λ n. length all + n) (length-map (kept ++ wanted) (keyed_instance k) ∙ length-append kept wanted)
 
   pub few_all : (n : ℕ) → n ≡ length all + length kept → n ≤ 10_000 → length wanted ≤ 10_000 - n → length both ≤ 10_000
   few_all n n_is few few_more = let l = length_is in omega (arith, n_is, few, few_more, l)
@@ -140,33 +140,33 @@ module _ (all : List Booked) (k : MeetingKey) (kept wanted : List Single) (diffe
 
   -- two own ones clash
   pub own_named : (s r : Single) (clash : Clash) → Contains (kept ++ wanted) s → Contains (kept ++ wanted) r → s.slot ≢ r.slot → Overlap s.span r.span
-      → IsLater s.span r.span clash.instant → AreNamed (booked_of k s) (booked_of k r) clash.instant clash → NamesClash both (owned_key_of clash.first) (owned_key_of clash.second) clash.instant
+      → IsLater s.span r.span clash.instant → AreNamed (keyed_instance k s) (keyed_instance k r) clash.instant clash → NamesListedClash both (owned_key_of clash.first) (owned_key_of clash.second) clash.instant
   own_named s r clash in_s in_r slots overlap later named =
-      names_two both (booked_of k s) (booked_of k r) clash (own_in s in_s) (own_in r in_r) (λ e. slots (ap (λ (z : Key). z.slot) e)) overlap later named
+      names_two both (keyed_instance k s) (keyed_instance k r) clash (own_in s in_s) (own_in r in_r) (λ e. slots (ap (λ (z : Key). z.slot) e)) overlap later named
 
   -- one that is asked for clashes with one that stays confirmed, of another meeting or of the same
-  pub staying_named : AllPairs ◌≢◌ (slots_of (kept ++ wanted)) → (s : Single) (b : Booked) (clash : Clash) → Contains wanted s → Contains (all ++ booked_list k kept) b → Overlap s.span (span_of b)
-      → IsLater s.span (span_of b) clash.instant → AreNamed (booked_of k s) b clash.instant clash → NamesClash both (owned_key_of clash.first) (owned_key_of clash.second) clash.instant
-  staying_named distinct s b clash in_s in_b overlap later named = elim (Contains-append_cases all (booked_list k kept) b in_b) [
-    | inl other ↦ names_two both (booked_of k s) b clash (own_in s (Contains-append_right kept wanted s in_s)) (Contains-append_left all (booked_list k (kept ++ wanted)) b other)
+  pub staying_named : AllPairs ◌≢◌ (slots_of (kept ++ wanted)) → (s : Single) (b : Instance) (clash : Clash) → Contains wanted s → Contains (all ++ instance_list k kept) b → Overlap s.span (instance_span b)
+      → IsLater s.span (instance_span b) clash.instant → AreNamed (keyed_instance k s) b clash.instant clash → NamesListedClash both (owned_key_of clash.first) (owned_key_of clash.second) clash.instant
+  staying_named distinct s b clash in_s in_b overlap later named = elim (Contains-append_cases all (instance_list k kept) b in_b) [
+    | inl other ↦ names_two both (keyed_instance k s) b clash (own_in s (Contains-append_right kept wanted s in_s)) (Contains-append_left all (instance_list k (kept ++ wanted)) b other)
         (λ e. differ s b other (sym e)) overlap later named
     | inr mine ↦
         let r = in_booked k kept b mine in
         let slots : AllPairs ◌≢◌ (slots_of kept ++ slots_of wanted) = subst (AllPairs ◌≢◌) (map-append (λ (x : Single). x.slot) kept wanted) distinct in
         let apart = pairs_across ◌≢◌ (slots_of kept) (slots_of wanted) (pairs_to ◌≢◌ (slots_of kept ++ slots_of wanted) slots) r.0.slot s.slot (map_from (λ (x : Single). x.slot) kept r.0 r.1) (map_from (λ (x : Single). x.slot) wanted s in_s) in
-        let key : b.key.slot ≡ r.0.slot = sym (ap (λ (z : Booked). z.key.slot) r.2) in
-        names_two both (booked_of k s) b clash (own_in s (Contains-append_right kept wanted s in_s))
+        let key : b.key.slot ≡ r.0.slot = sym (ap (λ (z : Instance). z.key.slot) r.2) in
+        names_two both (keyed_instance k s) b clash (own_in s (Contains-append_right kept wanted s in_s))
         (subst (Contains both) r.2 (own_in r.0 (Contains-append_left kept wanted r.0 r.1)))
         (λ e. apart (sym key ∙ sym (ap (λ (z : Key). z.slot) e))) overlap later named
   ]
 
   -- none do: those kept were clear beside the others, those that are asked for are free of them, and its own share no instant
-  module _ (clear : IsClear (all ++ booked_list k kept)) (free : (s : Single) → Contains wanted s → IsFree all s.span) (separate : AreSeparate (kept ++ wanted)) where
-    beside : (b : Booked) (s : Single) (t : ℤ) → Contains all b → Contains (kept ++ wanted) s → HaveInstant s.span (span_of b) t → ⊥
+  module _ (clear : IsClear (all ++ instance_list k kept)) (free : (s : Single) → Contains wanted s → IsFree all s.span) (separate : AreSeparate (kept ++ wanted)) where
+    beside : (b : Instance) (s : Single) (t : ℤ) → Contains all b → Contains (kept ++ wanted) s → HaveInstant s.span (instance_span b) t → ⊥
     beside b s t in_b in_s h = elim (Contains-append_cases kept wanted s in_s) [
-      | inl old ↦ clear b (booked_of k s) t record {
-        first = Contains-append_left all (booked_list k kept) b in_b;
-        second = Contains-append_right all (booked_list k kept) (booked_of k s) (booked_from k kept s old);
+      | inl old ↦ clear b (keyed_instance k s) t record {
+        first = Contains-append_left all (instance_list k kept) b in_b;
+        second = Contains-append_right all (instance_list k kept) (keyed_instance k s) (booked_from k kept s old);
         differ = differ s b in_b;
         before = h.before;
         in_first = h.in_second;
@@ -191,27 +191,27 @@ module _ (all : List Booked) (k : MeetingKey) (kept wanted : List Single) (diffe
         order m n = grind arith
 
     pub clear_all : IsClear both
-    clear_all a b t c = elim (Contains-append_cases all (booked_list k (kept ++ wanted)) a c.first) [
-      | inl a_other ↦ elim (Contains-append_cases all (booked_list k (kept ++ wanted)) b c.second) [
-        | inl b_other ↦ clear a b t record { first = Contains-append_left all (booked_list k kept) a a_other; second = Contains-append_left all (booked_list k kept) b b_other; differ = c.differ; before = c.before; in_first = c.in_first; in_second = c.in_second }
+    clear_all a b t c = elim (Contains-append_cases all (instance_list k (kept ++ wanted)) a c.first) [
+      | inl a_other ↦ elim (Contains-append_cases all (instance_list k (kept ++ wanted)) b c.second) [
+        | inl b_other ↦ clear a b t record { first = Contains-append_left all (instance_list k kept) a a_other; second = Contains-append_left all (instance_list k kept) b b_other; differ = c.differ; before = c.before; in_first = c.in_first; in_second = c.in_second }
         | inr b_own ↦ (
             let s = in_booked k (kept ++ wanted) b b_own in
-            beside a s.0 t a_other s.1 (subst (λ (z : Booked). HaveInstant (span_of z) (span_of a) t) (sym s.2) (record { in_first = c.in_second; in_second = c.in_first; before = c.before })))
+            beside a s.0 t a_other s.1 (subst (λ (z : Instance). HaveInstant (instance_span z) (instance_span a) t) (sym s.2) (record { in_first = c.in_second; in_second = c.in_first; before = c.before })))
       ]
       | inr a_own ↦ (
           let r = in_booked k (kept ++ wanted) a a_own in
-          elim (Contains-append_cases all (booked_list k (kept ++ wanted)) b c.second) [
-            | inl b_other ↦ beside b r.0 t b_other r.1 (subst (λ (z : Booked). HaveInstant (span_of z) (span_of b) t) (sym r.2) (record { in_first = c.in_first; in_second = c.in_second; before = c.before }))
+          elim (Contains-append_cases all (instance_list k (kept ++ wanted)) b c.second) [
+            | inl b_other ↦ beside b r.0 t b_other r.1 (subst (λ (z : Instance). HaveInstant (instance_span z) (instance_span b) t) (sym r.2) (record { in_first = c.in_first; in_second = c.in_second; before = c.before }))
             | inr b_own ↦ (
                 let s = in_booked k (kept ++ wanted) b b_own in
                 own r.0 s.0 t r.1 s.1
-                (λ e. c.differ (sym (ap (λ (z : Booked). z.key) r.2) ∙ key_of_slot r.0 s.0 e ∙ ap (λ (z : Booked). z.key) s.2))
-                (subst (λ (z : Booked). HaveInstant (span_of z) s.0.span t) (sym r.2) (subst (λ (z : Booked). HaveInstant (span_of a) (span_of z) t) (sym s.2) (record { in_first = c.in_first; in_second = c.in_second; before = c.before }))))
+                (λ e. c.differ (sym (ap (λ (z : Instance). z.key) r.2) ∙ key_of_slot r.0 s.0 e ∙ ap (λ (z : Instance). z.key) s.2))
+                (subst (λ (z : Instance). HaveInstant (instance_span z) s.0.span t) (sym r.2) (subst (λ (z : Instance). HaveInstant (instance_span a) (instance_span z) t) (sym s.2) (record { in_first = c.in_first; in_second = c.in_second; before = c.before }))))
           ])
     ]
       where
-        key_of_slot : (s r : Single) → s.slot ≡ r.slot → (booked_of k s).key ≡ (booked_of k r).key
-        key_of_slot s r e = λ i. record { organiser = (booked_of k s).key.organiser; uid = (booked_of k s).key.uid; slot = e i }
+        key_of_slot : (s r : Single) → s.slot ≡ r.slot → (keyed_instance k s).key ≡ (keyed_instance k r).key
+        key_of_slot s r e = λ i. record { organiser = (keyed_instance k s).key.organiser; uid = (keyed_instance k s).key.uid; slot = e i }
 
 -- ---- what the sweep says of the meeting's own
 
@@ -222,7 +222,7 @@ module _ (singles : List Single) (spans : List Span) (spans_are : spans ≡ span
   span_at : (n : ℕ) (d : Single) → n < length singles → sweep.span_at spans n ≡ (get_or singles n d).span
   span_at n d l = ap (λ (l : List Span). sweep.span_at l n) spans_are ∙ get_or-map (λ (s : Single). s.span) singles n d _ l
 
-  pub apart_separate : sweep.AreApart spans → AreSeparate singles
+  pub apart_separate : sweep.AreSpansApart spans → AreSeparate singles
   apart_separate apart i j d less within t h =
       let first : i < length singles = omega (arith, less, within) in
       let a = span_at i d first in
@@ -286,10 +286,10 @@ module _ (singles : List Single) (spans : List Span) (spans_are : spans ≡ span
       )
 
 -- those that are kept, and those that are asked for where they are free of them, share no instant
-pub both_separate : (all : List Booked) (k : MeetingKey) (kept wanted : List Single) → AreSeparate kept → AreSeparate wanted → ((s : Single) → Contains wanted s → IsFree (all ++ booked_list k kept) s.span) → AreSeparate (kept ++ wanted)
+pub both_separate : (all : List Instance) (k : MeetingKey) (kept wanted : List Single) → AreSeparate kept → AreSeparate wanted → ((s : Single) → Contains wanted s → IsFree (all ++ instance_list k kept) s.span) → AreSeparate (kept ++ wanted)
 both_separate all k kept wanted first second free =
     pairs_from Apart (kept ++ wanted) (pairs_append Apart kept wanted (pairs_to Apart kept first) (pairs_to Apart wanted second)
-    (λ a b c d t h. free b d (booked_of k a) t (Contains-append_right all (booked_list k kept) (booked_of k a) (booked_from k kept a c)) (record { in_first = h.in_second; in_second = h.in_first; before = h.before })))
+    (λ a b c d t h. free b d (keyed_instance k a) t (Contains-append_right all (instance_list k kept) (keyed_instance k a) (booked_from k kept a c)) (record { in_first = h.in_second; in_second = h.in_first; before = h.before })))
 
 -- one alone shares no instant
 pub one_alone : (singles : List Single) → length singles < 2 → AreSeparate singles
@@ -302,15 +302,15 @@ place_in all place x d l e = slice_get-get_or all place d l ∙ ap Some e
 
 module _ (k : MeetingKey) (es : List (MeetingKey × Meeting)) (distinct_keys : IsDistinct same_key (keys_of es)) (clear : IsClear (all_confirmed es)) (apart : AreAllApart es)
     (beside : ℕ) (few : beside ≤ 10_000) (gone kept wanted : List Single) (parted : IsParted (singles_by (lookup (same_key k) es)) gone kept) (beside_is : beside ≡ length (others k es) + length kept) where
-  abbrev other : List Booked
+  abbrev other : List Instance
   other = others k es
 
-  own_differ : (s : Single) (b : Booked) → Contains other b → b.key ≢ (booked_of k s).key
+  own_differ : (s : Single) (b : Instance) → Contains other b → b.key ≢ (keyed_instance k s).key
   own_differ = others_differ k es
 
   pub decides_limit : (outcome : Outcome) → outcome_of outcome ≡ messages.SinglesLimit → 10_000 - beside < length wanted → IsDecision other k kept wanted outcome
   decides_limit outcome is more = record {
-    decides = λ distinct. subst (DecidesAmong (other ++ booked_list k (kept ++ wanted))) (sym is) (many_all other k kept wanted own_differ beside beside_is few more);
+    decides = λ distinct. subst (DecidesAmong (other ++ instance_list k (kept ++ wanted))) (sym is) (many_all other k kept wanted own_differ beside beside_is few more);
     joins = λ accepted. absurd (limit_not_accept (sym is ∙ accepted));
   }
     where
@@ -321,35 +321,35 @@ module _ (k : MeetingKey) (es : List (MeetingKey × Meeting)) (distinct_keys : I
   busy_not_accept a b t e = true≢false (sym (ap is_accept e))
 
   pub decides_clash : (outcome : Outcome) (clash : Clash) → outcome_of outcome ≡ messages.Busy (owned_key_of clash.first) (owned_key_of clash.second) clash.instant → length wanted ≤ 10_000 - beside
-      → (AllPairs ◌≢◌ (slots_of (kept ++ wanted)) → NamesClash (other ++ booked_list k (kept ++ wanted)) (owned_key_of clash.first) (owned_key_of clash.second) clash.instant) → IsDecision other k kept wanted outcome
+      → (AllPairs ◌≢◌ (slots_of (kept ++ wanted)) → NamesListedClash (other ++ instance_list k (kept ++ wanted)) (owned_key_of clash.first) (owned_key_of clash.second) clash.instant) → IsDecision other k kept wanted outcome
   decides_clash outcome clash is few_more named = record {
-    decides = λ distinct. subst (DecidesAmong (other ++ booked_list k (kept ++ wanted))) (sym is) (few_all other k kept wanted own_differ beside beside_is few few_more, named distinct);
+    decides = λ distinct. subst (DecidesAmong (other ++ instance_list k (kept ++ wanted))) (sym is) (few_all other k kept wanted own_differ beside beside_is few few_more, named distinct);
     joins = λ accepted. absurd (busy_not_accept (owned_key_of clash.first) (owned_key_of clash.second) clash.instant (sym is ∙ accepted));
   }
 
   pub decides_own : (outcome : Outcome) (clash : Clash) (s r : Single) → outcome_of outcome ≡ messages.Busy (owned_key_of clash.first) (owned_key_of clash.second) clash.instant → length wanted ≤ 10_000 - beside
-      → HaveOverlap wanted (Some (s, r)) → IsLater s.span r.span clash.instant → AreNamed (booked_of k s) (booked_of k r) clash.instant clash → IsDecision other k kept wanted outcome
+      → HaveOverlap wanted (Some (s, r)) → IsLater s.span r.span clash.instant → AreNamed (keyed_instance k s) (keyed_instance k r) clash.instant clash → IsDecision other k kept wanted outcome
   decides_own outcome clash s r is few_more overlap later named =
       decides_clash outcome clash is few_more (λ distinct.
       let slots : AllPairs ◌≢◌ (slots_of wanted) = pairs_from ◌≢◌ (slots_of wanted) (pairs_right ◌≢◌ (slots_of kept) (slots_of wanted) (pairs_to ◌≢◌ (slots_of kept ++ slots_of wanted)
       (subst (AllPairs ◌≢◌) (map-append (λ (x : Single). x.slot) kept wanted) distinct))) in
       own_named other k kept wanted own_differ s r clash (Contains-append_right kept wanted s overlap.0) (Contains-append_right kept wanted r overlap.1) (overlap.2 slots) overlap.3 later named)
 
-  pub decides_beside : (outcome : Outcome) (clash : Clash) (s : Single) (b : Booked) → outcome_of outcome ≡ messages.Busy (owned_key_of clash.first) (owned_key_of clash.second) clash.instant → length wanted ≤ 10_000 - beside
-      → Contains wanted s → Contains (other ++ booked_list k kept) b → Overlap s.span (span_of b) → IsLater s.span (span_of b) clash.instant → AreNamed (booked_of k s) b clash.instant clash → IsDecision other k kept wanted outcome
+  pub decides_beside : (outcome : Outcome) (clash : Clash) (s : Single) (b : Instance) → outcome_of outcome ≡ messages.Busy (owned_key_of clash.first) (owned_key_of clash.second) clash.instant → length wanted ≤ 10_000 - beside
+      → Contains wanted s → Contains (other ++ instance_list k kept) b → Overlap s.span (instance_span b) → IsLater s.span (instance_span b) clash.instant → AreNamed (keyed_instance k s) b clash.instant clash → IsDecision other k kept wanted outcome
   decides_beside outcome clash s b is few_more in_s in_b overlap later named =
       decides_clash outcome clash is few_more (λ distinct. staying_named other k kept wanted own_differ distinct s b clash in_s in_b overlap later named)
 
   pub decides_accept : (outcome : Outcome) → outcome_of outcome ≡ messages.Accept → length wanted ≤ 10_000 - beside → AreSeparate wanted
-      → ((s : Single) → Contains wanted s → IsFree (other ++ booked_list k kept) s.span) → IsDecision other k kept wanted outcome
+      → ((s : Single) → Contains wanted s → IsFree (other ++ instance_list k kept) s.span) → IsDecision other k kept wanted outcome
   decides_accept outcome is few_more separate free =
       let before = singles_by (lookup (same_key k) es) in
       let few_now = few_all other k kept wanted own_differ beside beside_is few few_more in
       let stayed = kept_separate before gone kept parted (found_apart k es apart) in
       let both_apart = both_separate other k kept wanted stayed separate free in
       let clear_now = clear_all other k kept wanted own_differ (clear_kept k es kept (kept_within before gone kept parted) clear)
-      (λ s c b t d h. free s c b t (Contains-append_left other (booked_list k kept) b d) h) both_apart in
+      (λ s c b t d h. free s c b t (Contains-append_left other (instance_list k kept) b d) h) both_apart in
       record {
-        decides = λ distinct. subst (DecidesAmong (other ++ booked_list k (kept ++ wanted))) (sym is) (few_now, clear_now);
+        decides = λ distinct. subst (DecidesAmong (other ++ instance_list k (kept ++ wanted))) (sym is) (few_now, clear_now);
         joins = λ accepted. record { few = few_now; clear = clear_now; separate = both_apart };
       }

@@ -5,12 +5,12 @@ use Rattle.std.specs.List.{Contains, IsDistinct}
 use Rattle.std.specs.Map.{keys_of, lookup}
 use Rattle.std.proofs.lemmas.Map.Views.{lookup-from_Contains}
 use Rattle.itip_order.proofs.Lists.{in_head, in_tail, filter_at}
-use Rattle.profile.specs.checker.Instances.{Booked}
-use Rattle.profile.specs.rooms.Rooms.{Answer, Book, Recurring, confirmed_singles, confirmed_series, is_confirmed, left_of, recurring_in, series_confirmed}
+use Rattle.profile.specs.checker.Instances.{Instance}
+use Rattle.profile.specs.rooms.Rooms.{PartAnswer, Book, Recurring, confirmed_singles, confirmed_series, is_confirmed, left_of, recurring_in, series_confirmed}
 use Rattle.room_books.specs.declared.meeting.MeetingKey.{MeetingKey}
 use Rattle.room_books.specs.declared.kept.Meeting.{Meeting}
 use Rattle.room_books.specs.Views.{same_key, all_confirmed, all_recurring, confirmed_of, in_room, recurring_of}
-use Rattle.room_books.specs.Representation.{is_of, of_meeting, answers_of, book_of, AreSameSeries, Meets, MeetsAt, Represents}
+use Rattle.room_books.specs.Representation.{is_of_meeting, of_meeting, answers_of, book_of, AreSameSeries, Meets, MeetsAt, Represents}
 use Rattle.room_books.proofs.Confirms.{zip_confirms, zip_recurs}
 use Rattle.room_books.proofs.Keys.{key_congr}
 use Rattle.room_books.proofs.Meetings.{key_parts, key_from, is_of_same, confirmed_own, hidden_of, part_own, series_own}
@@ -42,10 +42,10 @@ module _ (entries : List (MeetingKey × Meeting)) (book : Book) (st : Represents
       let here : lookup (same_key e.0) entries ≡ Some e.1 = lookup-from_Contains key_laws e.0 e.1 entries distinct c in
       subst (MeetsAt (book_of e.0 book) e.0) here (st.meets e.0)
 
-  own_answers : (e : MeetingKey × Meeting) (a : Answer) → Contains (answers_of e.0 book.answers) a → is_of e.0 a.claim.part ≡ true
-  own_answers e a d = (filter_at (λ x. is_of e.0 x.claim.part) book.answers a d).1
+  own_answers : (e : MeetingKey × Meeting) (a : PartAnswer) → Contains (answers_of e.0 book.answers) a → is_of_meeting e.0 a.claim.part ≡ true
+  own_answers e a d = (filter_at (λ x. is_of_meeting e.0 x.claim.part) book.answers a d).1
 
-  covered : (a : Answer) → Contains book.answers a → is_confirmed book.taken a ≡ true → (e : MeetingKey × Meeting) × Contains entries e × (is_of e.0 a.claim.part ≡ true)
+  covered : (a : PartAnswer) → Contains book.answers a → is_confirmed book.taken a ≡ true → (e : MeetingKey × Meeting) × Contains entries e × (is_of_meeting e.0 a.claim.part ≡ true)
   covered a c h =
       let cover = st.covered a.claim.part (st.known a c) in
       let found = found_entry cover.key entries cover.meeting cover.found in
@@ -57,7 +57,7 @@ module _ (entries : List (MeetingKey × Meeting)) (book : Book) (st : Represents
     singles = partition AreSame (same_itself []) (λ a b c d p q. same_append a b c d p q) same_then (left_of book.taken) confirmed_of book.taken entries book.answers distinct covered
         (λ e c.
         let own = answers_of e.0 book.answers in
-        subst (λ (l : List Booked). AreSame l (confirmed_of e)) (confirmed_own e.0 book.taken own (own_answers e)) (zip_confirms e.0 (book_of e.0 book).taken own e.1.answers.items (meeting_at e c).answers));
+        subst (λ (l : List Instance). AreSame l (confirmed_of e)) (confirmed_own e.0 book.taken own (own_answers e)) (zip_confirms e.0 (book_of e.0 book).taken own e.1.answers.items (meeting_at e c).answers));
     series = partition (AreSameSeries book.taken) (series_none book.taken) (series_append book.taken) (series_turn book.taken) recurring_in recurring_of book.taken entries book.answers distinct covered
         (λ e c.
         let own = answers_of e.0 book.answers in

@@ -1,6 +1,6 @@
 -- Worked examples of the definitions of a room: a request that is accepted, one that is declined, and a repeat.
 use Rattle.std.proofs.Common.{◌≡◌, ℕ, pos, [], ◌∷◌, None, refl}
-use Rattle.profile.specs.checker.Instances.{Key, Booked}
+use Rattle.profile.specs.checker.Instances.{Key, Instance}
 use Rattle.profile.specs.rooms.Revisions.{Part, Whole, At, Body, Set, Absent, Cancelled}
 use Rattle.profile.specs.rooms.Messages.{no_content, Accept, Busy, SinglesLimit}
 use Rattle.profile.specs.rooms.Rooms.{Claim, Book, confirmed_singles, asked, kind_of, shown, answered, Accepted, Declined, Repeated, Stale, NotAddressed}
@@ -19,7 +19,7 @@ part_at uid sequence = record {
 abbrev key_of : ℕ → ℕ → Key
 key_of uid start = record { organiser = 97 ∷ []; uid = uid ∷ []; slot = pos start }
 
-abbrev booked_at : ℕ → ℕ → ℕ → Booked
+abbrev booked_at : ℕ → ℕ → ℕ → Instance
 booked_at uid start end = record { key = key_of uid start; start = pos start; end = pos end }
 
 abbrev claim_at : ℕ → ℕ → ℕ → ℕ → Claim

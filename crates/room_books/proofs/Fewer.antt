@@ -5,12 +5,12 @@ use Rattle.std.specs.Option.{option_to_list}
 use Rattle.std.proofs.lemmas.Grind.{flat_map-append}
 use Rattle.std.proofs.lemmas.List.Elements.{Contains-append_left, Contains-append_right, Contains-append_cases}
 use Rattle.itip_order.proofs.Lists.{in_cons, in_head, none_in_nil}
-use Rattle.cal_events.specs.SaidSeries.{series_said, IsLeftOf}
+use Rattle.cal_events.specs.SaidSeries.{series_said, IsSeriesWithout}
 use Rattle.cal_events.specs.declared.series.Series.{Series}
 use Rattle.cal_events.specs.declared.instance.Single.{Single}
 use Rattle.room_books.specs.BySlot.{Reordered}
 use Rattle.room_books.specs.Views.{all_series, AreFewer, Recurs}
-use Rattle.room_books.specs.declared.meeting.Given.{Given}
+use Rattle.room_books.specs.declared.meeting.PartAnswer.{PartAnswer}
 use Rattle.itip_messages.proofs.WrittenLines.{flat_push}
 use Rattle.room_books.proofs.Reordering.{re_back, re_flat, re_in, re_length, re_swapped}
 use Rattle.room_books.specs.BySlot.Reordered.{re_then}
@@ -31,7 +31,7 @@ fewer_both a b c d f g = record {
 }
 
 -- one without its instances at some starts
-pub fewer_one : (series left : Series) (starts : List ℤ) → IsLeftOf (series_said series) starts (series_said left) → AreFewer (series ∷ []) (left ∷ [])
+pub fewer_one : (series left : Series) (starts : List ℤ) → IsSeriesWithout (series_said series) starts (series_said left) → AreFewer (series ∷ []) (left ∷ [])
 fewer_one series left starts is = record {
   shorter = omega arith;
   within = λ single r. (
@@ -50,10 +50,10 @@ fewer_one series left starts is = record {
 -- ---- of answers
 
 -- one more answer
-pub one_fewer : (done : List Given) (given : Given) (left kept kept' : List Series) → AreFewer (option_to_list given.series) left → kept' ≡ kept ++ left
+pub one_fewer : (done : List PartAnswer) (given : PartAnswer) (left kept kept' : List Series) → AreFewer (option_to_list given.series) left → kept' ≡ kept ++ left
     → AreFewer (all_series done) kept → AreFewer (all_series (done ++ given ∷ [])) kept'
 one_fewer done given left kept kept' f e all =
-    subst (λ (l : List Series). AreFewer l kept') (sym (flat_push (λ (x : Given). option_to_list x.series) done given))
+    subst (λ (l : List Series). AreFewer l kept') (sym (flat_push (λ (x : PartAnswer). option_to_list x.series) done given))
     (subst (AreFewer (all_series done ++ option_to_list given.series)) (sym e) (fewer_both (all_series done) kept (option_to_list given.series) left all f))
 
 pub fewer_reordered : (xs ys after : List Series) → Reordered xs ys → AreFewer ys after → AreFewer xs after
@@ -63,9 +63,9 @@ fewer_reordered xs ys after same f = record {
 }
 
 -- what is left of some answers, beside others that stay
-pub all_fewer : (answers out others left : List Given) → Reordered answers (out ++ others) → AreFewer (all_series out) (all_series left) → AreFewer (all_series answers) (all_series (others ++ left))
+pub all_fewer : (answers out others left : List PartAnswer) → Reordered answers (out ++ others) → AreFewer (all_series out) (all_series left) → AreFewer (all_series answers) (all_series (others ++ left))
 all_fewer answers out others left same f =
-    let g : Given → List Series = λ x. option_to_list x.series in
+    let g : PartAnswer → List Series = λ x. option_to_list x.series in
     let turned : Reordered answers (others ++ out) = re_then answers (out ++ others) (others ++ out) same (re_swapped out others) in
     subst (AreFewer (all_series answers)) (sym (flat_map-append g others left))
     (fewer_reordered (all_series answers) (all_series others ++ all_series out) (all_series others ++ all_series left)

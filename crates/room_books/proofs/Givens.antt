@@ -2,35 +2,35 @@
 use Rattle.std.proofs.Common.{List, ◌++◌}
 use Rattle.std.specs.List.{AllZip, Contains}
 use Rattle.profile.specs.rooms.Revisions.{Part}
-use Rattle.profile.specs.rooms.Rooms.{Answer}
+use Rattle.profile.specs.rooms.Rooms.{PartAnswer as SaidAnswer}
 use Rattle.room_books.specs.declared.meeting.MeetingKey.{MeetingKey}
-use Rattle.room_books.specs.declared.meeting.Given.{Given}
+use Rattle.room_books.specs.declared.meeting.PartAnswer.{PartAnswer}
 use Rattle.room_books.specs.BySlot.{Reordered}
 use Rattle.room_books.specs.BySlot.Reordered.{re_then}
-use Rattle.room_books.specs.Representation.{AreGiven, IsGiven}
+use Rattle.room_books.specs.Representation.{AreGiven, HasAnswer}
 use Rattle.room_books.proofs.Loops.{zip_both, zip_from, zip_to}
 use Rattle.room_books.proofs.Reordering.{re_back, re_both, re_in, re_same, re_zip}
 
 module _ (key : MeetingKey) (t : List Part) where
-  pub given_zip : (xs : List Answer) (given : List Given) → AllZip (IsGiven key t) xs given → AreGiven key t xs given
+  pub given_zip : (xs : List SaidAnswer) (given : List PartAnswer) → AllZip (HasAnswer key t) xs given → AreGiven key t xs given
   given_zip xs given z = record { order = xs; same = re_same xs; each = z }
 
-  pub given_to : (xs : List Answer) (given : List Given) (a : Answer) → AreGiven key t xs given → Contains xs a → (g : Given) × Contains given g × IsGiven key t a g
-  given_to xs given a are c = zip_to (IsGiven key t) are.order given a are.each (re_in xs are.order are.same a c)
+  pub given_to : (xs : List SaidAnswer) (given : List PartAnswer) (a : SaidAnswer) → AreGiven key t xs given → Contains xs a → (g : PartAnswer) × Contains given g × HasAnswer key t a g
+  given_to xs given a are c = zip_to (HasAnswer key t) are.order given a are.each (re_in xs are.order are.same a c)
 
-  pub given_from : (xs : List Answer) (given : List Given) (g : Given) → AreGiven key t xs given → Contains given g → (a : Answer) × Contains xs a × IsGiven key t a g
+  pub given_from : (xs : List SaidAnswer) (given : List PartAnswer) (g : PartAnswer) → AreGiven key t xs given → Contains given g → (a : SaidAnswer) × Contains xs a × HasAnswer key t a g
   given_from xs given g are c =
-      let r = zip_from (IsGiven key t) are.order given g are.each c in
+      let r = zip_from (HasAnswer key t) are.order given g are.each c in
       (r.0, re_in are.order xs (re_back xs are.order are.same) r.0 r.1, r.2)
 
-  pub given_reordered : (xs : List Answer) (given other : List Given) → Reordered given other → AreGiven key t xs given → AreGiven key t xs other
+  pub given_reordered : (xs : List SaidAnswer) (given other : List PartAnswer) → Reordered given other → AreGiven key t xs given → AreGiven key t xs other
   given_reordered xs given other same are =
-      let r = re_zip (IsGiven key t) are.order given other same are.each in
+      let r = re_zip (HasAnswer key t) are.order given other same are.each in
       record { order = r.0; same = re_then xs are.order r.0 are.same r.1; each = r.2 }
 
-  pub given_append : (xs us : List Answer) (given more : List Given) → AreGiven key t xs given → AreGiven key t us more → AreGiven key t (xs ++ us) (given ++ more)
+  pub given_append : (xs us : List SaidAnswer) (given more : List PartAnswer) → AreGiven key t xs given → AreGiven key t us more → AreGiven key t (xs ++ us) (given ++ more)
   given_append xs us given more p q = record {
     order = p.order ++ q.order;
     same = re_both xs p.order us q.order p.same q.same;
-    each = zip_both (IsGiven key t) p.order given q.order more p.each q.each;
+    each = zip_both (HasAnswer key t) p.order given q.order more p.each q.each;
   }

@@ -12,11 +12,11 @@ use Rattle.itip_order.specs.Registers.{RepresentsHistory}
 use Rattle.itip_order.proofs.Lists.{any_at, any_from, in_cons, none_in_nil}
 use Rattle.itip_order.proofs.Order.{is_eq_true, slot_same, then_equal}
 use Rattle.itip_order.proofs.Registers.{in_view_at}
-use Rattle.profile.specs.checker.Instances.{Booked}
+use Rattle.profile.specs.checker.Instances.{Instance}
 use Rattle.profile.specs.events.Starts.{IsInstance}
 use Rattle.profile.specs.rooms.Revisions.{Part, At, in_view, is_whole, meeting_cmp, place_cmp, same_place, slot_cmp}
 use Rattle.profile.specs.rooms.Rooms.{is_hidden}
-use Rattle.cal_events.specs.SaidSeries.{series_said, AreKnownByStart, IsLeftOf}
+use Rattle.cal_events.specs.SaidSeries.{series_said, AreKnownByStart, IsSeriesWithout}
 use Rattle.cal_events.specs.declared.series.Series.{Series}
 use Rattle.room_books.specs.Takings.{is_hidden_by, AreHiddenStarts, IsHiddenStart, IsSeriesLeft}
 use Rattle.room_books.specs.Touching.{is_touched}
@@ -52,7 +52,7 @@ module _ (history : List Part) (part : Part) where
   no_starts b = (λ c. absurd (none_in_nil b.key.slot c), λ e. absurd (true≢false (sym e)))
 
   module _ (slots : List OwnSlot) (slot : OwnSlot) (starts : List ℤ) (are : AreHiddenStarts slots history part starts) where
-    still_hidden : (b : Booked) → is_hidden_by slots history part b ≡ true → is_hidden_by (slots ++ slot ∷ []) history part b ≡ true
+    still_hidden : (b : Instance) → is_hidden_by slots history part b ≡ true → is_hidden_by (slots ++ slot ∷ []) history part b ≡ true
     still_hidden b e = let both = and_parts _ _ e in and_from _ _ (touched_old slots slot b.key.slot both.0) both.1
 
     -- a slot of which no part hides an instance
@@ -100,7 +100,7 @@ module _ (history : List Part) (part : Part) where
 -- ---- what is left of a series
 
 pub series_without : (slots : List OwnSlot) (history : List Part) (part : Part) (series left : Series) (starts : List ℤ) → AreKnownByStart (series_said series) → AreHiddenStarts slots history part starts
-    → IsLeftOf (series_said series) starts (series_said left) → IsSeriesLeft (is_hidden_by slots history part) (Some series) (Some left)
+    → IsSeriesWithout (series_said series) starts (series_said left) → IsSeriesLeft (is_hidden_by slots history part) (Some series) (Some left)
 series_without slots history part series left starts known are is b = (
   λ inside.
       let both = (is.instances b).0 inside in
@@ -109,14 +109,14 @@ series_without slots history part series left starts known are is b = (
 )
 
 -- where no slot hides a start, all of it is
-pub series_whole : (hides : Booked → Bool) (series : Series) → ((b : Booked) → IsInstance (series_said series) b → hides b ≡ false) → IsSeriesLeft hides (Some series) (Some series)
+pub series_whole : (hides : Instance → Bool) (series : Series) → ((b : Instance) → IsInstance (series_said series) b → hides b ≡ false) → IsSeriesLeft hides (Some series) (Some series)
 series_whole hides series none b = (λ inside. (inside, none b inside), λ both. both.0)
 
 -- no slot hides one, and one more slot that doesn't
-pub none_before : (history : List Part) (part : Part) (b : Booked) → is_hidden_by [] history part b ≡ false
+pub none_before : (history : List Part) (part : Part) (b : Instance) → is_hidden_by [] history part b ≡ false
 none_before history part b = refl
 
-pub none_hidden : (slots : List OwnSlot) (i : ℕ) (d : OwnSlot) → i < length slots → (history : List Part) (part : Part) (b : Booked) → is_hidden_by (take i slots) history part b ≡ false
+pub none_hidden : (slots : List OwnSlot) (i : ℕ) (d : OwnSlot) → i < length slots → (history : List Part) (part : Part) (b : Instance) → is_hidden_by (take i slots) history part b ≡ false
     → (slot_of (get_or slots i d) ≡ At b.key.slot → is_hidden history part b ≡ false) → is_hidden_by (take (i + 1) slots) history part b ≡ false
 none_hidden slots i d w history part b before this =
     subst (λ (l : List OwnSlot). is_hidden_by l history part b ≡ false) (sym (take_more slots i d w)) (false_from_ne_true _ (λ e.
@@ -129,7 +129,7 @@ none_hidden slots i d w history part b before this =
 -- ---- all slots that are held
 
 -- what hides an instance is held, so that its slot is one of them
-pub hidden_held : (held history : List Part) → RepresentsHistory held history → (slots : List OwnSlot) → ((p : Part) → Contains held p → Contains (map slot_of slots) p.slot) → (part : Part) (b : Booked)
+pub hidden_held : (held history : List Part) → RepresentsHistory held history → (slots : List OwnSlot) → ((p : Part) → Contains held p → Contains (map slot_of slots) p.slot) → (part : Part) (b : Instance)
     → is_hidden_by slots history part b ≡ is_hidden history part b
 hidden_held held history represented slots of part b = at_test (is_touched slots (At b.key.slot)) (is_hidden history part b) touched
   where
@@ -151,7 +151,7 @@ hidden_held held history represented slots of part b = at_test (is_touched slots
     at_test false false f = refl
 
 -- the same starts hidden, the same is left
-pub left_same : (hides others : Booked → Bool) (before after : Option Series) → ((b : Booked) → hides b ≡ others b) → IsSeriesLeft hides before after → IsSeriesLeft others before after
+pub left_same : (hides others : Instance → Bool) (before after : Option Series) → ((b : Instance) → hides b ≡ others b) → IsSeriesLeft hides before after → IsSeriesLeft others before after
 left_same hides others None None same is = tt
 left_same hides others None (Some left) same is = is
 left_same hides others (Some series) None same is = is

@@ -10,12 +10,12 @@ use Rattle.itip_order.specs.Registers.{RepresentsHistory, IsInView, HasNone, at_
 use Rattle.itip_order.specs.declared.part.Part.{Part as HeldPart}
 use Rattle.itip_order.proofs.Lists.{any_at, any_from}
 use Rattle.itip_order.proofs.Lasting.{view_taken}
-use Rattle.profile.specs.checker.Instances.{Booked}
+use Rattle.profile.specs.checker.Instances.{Instance}
 use Rattle.profile.specs.rooms.Revisions.{Part, Slot, Whole, At, slot_cmp, in_view, same_place}
 use Rattle.profile.specs.rooms.Rooms.{is_hidden}
 use Rattle.std.proofs.Common.{List}
 
-module _ (held history : List Part) (s : RepresentsHistory held history) (p : Part) (booked : Booked) (slot : ℤ) (e : booked.key.slot ≡ slot) where
+module _ (held history : List Part) (s : RepresentsHistory held history) (p : Part) (booked : Instance) (slot : ℤ) (e : booked.key.slot ≡ slot) where
   abbrev hides : Part → ℤ → Part → Bool
   hides q t o = in_view history o && same_place o (record q { slot = At t })
 

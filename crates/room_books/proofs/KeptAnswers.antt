@@ -12,8 +12,8 @@ use Rattle.profile.specs.text.Lines.{is_content, line_value, line_param, logical
 use Rattle.profile.specs.text.Trees.{Tree, vevents}
 use Rattle.profile.specs.text.Objects.{is_property}
 use Rattle.profile.specs.text.Values.{IsAddress, IsUid, WritesStamp, escaped, lower_case}
-use Rattle.profile.specs.events.Events.{Method, Request, Add, Cancel, Event, SaysEvent, SaysSequence, IsAttendee, is_confirmed, meeting_said, adds_instances}
-use Rattle.profile.specs.events.Meetings.{Meeting, as_added, taken_by, events_of, is_master, is_override, SaysMeeting}
+use Rattle.profile.specs.events.EventComponents.{Method, Request, Add, Cancel, EventComponent, SaysEventComponent, SaysSequence, IsAttendee, has_accepted, meeting_said, adds_instances}
+use Rattle.profile.specs.events.Events.{Event, as_added, taken_by, components_of, is_master, is_override, SaysEvent}
 use Rattle.profile.specs.events.ZonedTimes.{EventTimes, SaysTimes, SpellsZoned, SaysZoneOf, zone_named}
 use Rattle.profile.specs.series.Zones.{Zone}
 use Rattle.profile.specs.series.ZoneTexts.{SaysZone}
@@ -38,7 +38,7 @@ use Rattle.itip_messages.proofs.BySlot.{of_message}
 use Rattle.itip_messages.proofs.CleanText.{clean_address, text_address}
 use Rattle.itip_messages.proofs.CleanUids.{clean_text, text_value}
 use Rattle.itip_messages.proofs.ZonePlaces.{named_lines}
-use Rattle.cal_events.specs.Meetings.{IsNamed}
+use Rattle.cal_events.specs.Meetings.{IsInEventDates}
 use Rattle.cal_events.proofs.InOneOrder.{of_filtered, of_mapped}
 use Rattle.cal_events.proofs.OneInstance.{event_sound}
 use Rattle.itip_messages.proofs.OwnLines.{SpellSlot, slot_lines, own_front, when_lines}
@@ -59,8 +59,8 @@ pub record IsAsked (room : List ℕ) (content : Content) (part : Part) : Type 0 
   pub octets : List ℕ
   pub given : messages.Message
   pub spells : SpellsMessage octets given
-  pub event : Event
-  pub among : Contains (events_of given.meeting) event
+  pub event : EventComponent
+  pub among : Contains (components_of given.meeting) event
   pub is_part : IsPart room given event content part
 
 -- and for the claim: the part, and its instances, if it is to take place
@@ -71,11 +71,11 @@ pub record IsAskedFor (room : List ℕ) (claim : Claim) : Type 0 where
 -- the lines are a VEVENT that says such an event beside these zones, of that meeting and slot
 pub record ReadsBack (zones : List (List ℕ)) (lines : Lines) (organiser uid : List ℕ) (slot : Slot) : Type 0 where
   pub own : Lines
-  pub said : Event
+  pub said : EventComponent
   pub are : lines ≡ vevent_lines own
   pub properties : list_all is_property own ≡ true
   pub content : list_all is_content own ≡ true
-  pub says : (owns : List Lines) (k : IsZonedTree None zones owns) → SaysEvent k.whole None own said
+  pub says : (owns : List Lines) (k : IsZonedTree None zones owns) → SaysEventComponent k.whole None own said
   pub meeting : meeting_said said ≡ (organiser, uid)
   pub slot_is : messages.slot_of said ≡ slot
 
@@ -103,14 +103,14 @@ small_sequence lines n (None, s, e) = omega (arith, e)
 small_sequence lines n (Some m, s, e) = let g = given (codes "SEQUENCE") false IsSequenceLine lines m s in omega (arith, e, g.is.3)
 
 -- an event of a meeting that an object says is one of the object's, as its method takes them
-said_among : (object : Tree) (m : Option Method) (meeting : Meeting) (s : SaysMeeting object m meeting) (e : Event) → Contains (events_of meeting) e → Contains (taken_by m s.events) e
+said_among : (object : Tree) (m : Option Method) (meeting : Event) (s : SaysEvent object m meeting) (e : EventComponent) → Contains (components_of meeting) e → Contains (taken_by m s.events) e
 said_among object m meeting s e c = elim (Contains-append_cases (option_to_list meeting.master) meeting.overrides e c) [
-  | inl master ↦ (of_filtered is_master (taken_by m s.events) e (subst (λ (l : List Event). Contains l e) (sym s.master) master)).0
-  | inr other ↦ (of_filtered is_override (taken_by m s.events) e (subst (λ (l : List Event). Contains l e) (sym s.overrides) other)).0
+  | inl master ↦ (of_filtered is_master (taken_by m s.events) e (subst (λ (l : List EventComponent). Contains l e) (sym s.master) master)).0
+  | inr other ↦ (of_filtered is_override (taken_by m s.events) e (subst (λ (l : List EventComponent). Contains l e) (sym s.overrides) other)).0
 ]
 
 -- what the lines of a VEVENT of a message say of an event, however its method takes it
-record SaysTaken (object : Tree) (method : Method) (lines : Lines) (event : Event) : Type 0 where
+record SaysTaken (object : Tree) (method : Method) (lines : Lines) (event : EventComponent) : Type 0 where
   organiser : Says (codes "ORGANIZER") true IsAddressLine lines event.organiser
   uid : Says (codes "UID") true IsUidLine lines (Some event.uid)
   sequence : SaysSequence lines event.sequence
@@ -119,7 +119,7 @@ record SaysTaken (object : Tree) (method : Method) (lines : Lines) (event : Even
   zone : IsSaid event.times.zone
   facts : cancels method event ≡ false → EventFacts event (adds_instances (Some method))
   -- the instance that it is of is in the dates that an event may name
-  dated : (t : ℤ) → event.recurrence ≡ Some t → IsNamed t
+  dated : (t : ℤ) → event.recurrence ≡ Some t → IsInEventDates t
 
 zone_there : (object : Tree) (name : Option (List ℕ)) (text : List ℕ) (zone : Option Zone) (local : ℤ) → SpellsZoned object name text zone local → IsSaid zone
 zone_there object None text None local s = tt
@@ -135,7 +135,7 @@ zone_said : (may_lack : Bool) (object : Tree) (lines : Lines) (times : EventTime
 zone_said may_lack object lines times (inl t) = zone_there object (line_param (codes "TZID") t.line) (line_value t.line) times.zone times.local t.says.1
 zone_said may_lack object lines times (inr lacks) = subst IsSaid (sym lacks.1.zone) tt
 
-as_said : (object : Tree) (method : Method) (lines : Lines) (event : Event) → SaysEvent object (Some method) lines event → SaysTaken object method lines event
+as_said : (object : Tree) (method : Method) (lines : Lines) (event : EventComponent) → SaysEventComponent object (Some method) lines event → SaysTaken object method lines event
 as_said object method lines event s = record {
   organiser = s.organiser;
   uid = s.uid;
@@ -147,10 +147,10 @@ as_said object method lines event s = record {
 }
 
 -- what is known of an event is known of it as an instance that is added
-facts_added : (event : Event) → EventFacts event true → EventFacts (as_added event) true
+facts_added : (event : EventComponent) → EventFacts event true → EventFacts (as_added event) true
 facts_added event f = record { local = f.local; means = f.means; dated = f.dated; most = f.most; added_in = f.added_in; few_added = f.few_added; few_taken = f.few_taken; single = λ h. f.single refl; once = λ h. f.once refl; recurs = f.recurs }
 
-when_added : (object : Tree) (lines : Lines) (event : Event) → SaysEvent object (Some Add) lines event → SaysTaken object Add lines (as_added event)
+when_added : (object : Tree) (lines : Lines) (event : EventComponent) → SaysEventComponent object (Some Add) lines event → SaysTaken object Add lines (as_added event)
 when_added object lines event s = record {
   organiser = s.organiser;
   uid = s.uid;
@@ -158,29 +158,29 @@ when_added object lines event s = record {
   attendees = s.attendees;
   zone = zone_said _ object lines event.times s.times;
   facts = λ h. facts_added event (event_facts object Add lines event s h);
-  dated = λ t is. subst IsNamed (same_Some event.times.start t is) (event_sound object lines event s).starts;
+  dated = λ t is. subst IsInEventDates (same_Some event.times.start t is) (event_sound object lines event s).starts;
 }
 
-abbrev SaidIn : Tree → Method → List Lines → Event → Type 0
+abbrev SaidIn : Tree → Method → List Lines → EventComponent → Type 0
 SaidIn object method vs event = (lines : Lines) × Contains vs lines × SaysTaken object method lines event
 
-taken_said : (object : Tree) (method : Method) (vs : List Lines) (events : List Event) (e : Event) → AllZip (SaysEvent object (Some method)) vs events → Contains (taken_by (Some method) events) e → SaidIn object method vs e
-taken_said object Request vs events e z c = let found = zip_from (SaysEvent object (Some Request)) vs events e z c in (found.0, found.1, as_said object Request found.0 e found.2)
-taken_said object Cancel vs events e z c = let found = zip_from (SaysEvent object (Some Cancel)) vs events e z c in (found.0, found.1, as_said object Cancel found.0 e found.2)
+taken_said : (object : Tree) (method : Method) (vs : List Lines) (events : List EventComponent) (e : EventComponent) → AllZip (SaysEventComponent object (Some method)) vs events → Contains (taken_by (Some method) events) e → SaidIn object method vs e
+taken_said object Request vs events e z c = let found = zip_from (SaysEventComponent object (Some Request)) vs events e z c in (found.0, found.1, as_said object Request found.0 e found.2)
+taken_said object Cancel vs events e z c = let found = zip_from (SaysEventComponent object (Some Cancel)) vs events e z c in (found.0, found.1, as_said object Cancel found.0 e found.2)
 taken_said object Add vs events e z c =
     let x = of_mapped as_added events e c in
-    let found = zip_from (SaysEvent object (Some Add)) vs events x.0 z x.1 in
+    let found = zip_from (SaysEventComponent object (Some Add)) vs events x.0 z x.1 in
     (found.0, found.1, subst (SaysTaken object Add found.0) x.2 (when_added object found.0 x.0 found.2))
 
 -- the lines of a VEVENT of a message, whose values are clean
-record Message (method : Method) (event : Event) : Type 0 where
+record Message (method : Method) (event : EventComponent) : Type 0 where
   object : Tree
   lines : Lines
   says : SaysTaken object method lines event
   clean : (line : List ℕ) → Contains lines line → IsClean (line_value line)
   ready : IsReady event
 
-message_of : (octets : List ℕ) (given : messages.Message) (spells : SpellsMessage octets given) (event : Event) → Contains (events_of given.meeting) event → Message given.method event
+message_of : (octets : List ℕ) (given : messages.Message) (spells : SpellsMessage octets given) (event : EventComponent) → Contains (components_of given.meeting) event → Message given.method event
 message_of octets given spells event c =
     let s = spells.says.says in
     let found = taken_said spells.tree given.method (vevents spells.tree) s.events event s.says (said_among spells.tree (Some given.method) given.meeting s event c) in
@@ -189,7 +189,7 @@ message_of octets given spells event c =
       lines = found.0;
       says = found.2;
       clean = λ line l. clean_value true octets line spells.lines (vevent_among true spells.tree (logical_lines octets) found.0 spells.object found.1 line l);
-      ready = All-contains IsReady (events_of given.meeting) event (of_message spells.tree given.method given.meeting s).ready c;
+      ready = All-contains IsReady (components_of given.meeting) event (of_message spells.tree given.method given.meeting s).ready c;
     }
 
 -- what is known of the organiser, the UID and the number of a part
@@ -204,7 +204,7 @@ small_later : (t : Bool) (a b : Revision) → a.sequence < 2 ^ 31 → b.sequence
 small_later true a b m n = n
 small_later false a b m n = m
 
-small_raised : (o : Option Event) (own : Revision) → own.sequence < 2 ^ 31 → ((w : Event) → o ≡ Some w → w.sequence < 2 ^ 31) → (raised_to (option_map own_revision o) own).sequence < 2 ^ 31
+small_raised : (o : Option EventComponent) (own : Revision) → own.sequence < 2 ^ 31 → ((w : EventComponent) → o ≡ Some w → w.sequence < 2 ^ 31) → (raised_to (option_map own_revision o) own).sequence < 2 ^ 31
 small_raised None own m f = m
 small_raised (Some w) own m f = small_later (is_lt (revision_cmp own (own_revision w))) own (own_revision w) m (f w refl)
 
@@ -221,10 +221,10 @@ named room content part a =
       is_uid = subst IsUid (sym a.is_part.uid) u.is.1;
       small = subst (λ (r : Revision). r.sequence < 2 ^ 31) (sym a.is_part.revision)
           (small_raised a.given.meeting.master (own_revision a.event) (small_of a.event a.among)
-          (λ w is. small_of w (subst (λ (o : Option Event). Contains (option_to_list o ++ a.given.meeting.overrides) w) (sym is) (in_head w a.given.meeting.overrides))));
+          (λ w is. small_of w (subst (λ (o : Option EventComponent). Contains (option_to_list o ++ a.given.meeting.overrides) w) (sym is) (in_head w a.given.meeting.overrides))));
     }
   where
-    small_of : (w : Event) → Contains (events_of a.given.meeting) w → w.sequence < 2 ^ 31
+    small_of : (w : EventComponent) → Contains (components_of a.given.meeting) w → w.sequence < 2 ^ 31
     small_of w c = let m = message_of a.octets a.given a.spells w c in small_sequence m.lines w.sequence m.says.sequence
 
 -- what is known of the room's address: an attendee of the message has it
@@ -255,7 +255,7 @@ record SlotTold (recurrence : Option ℤ) (lines : Lines) : Type 0 where
   spells : SpellSlot text recurrence
   clean : IsCleanSlot text
 
-slot_told : (o : Option ℤ) (lines : Lines) → TellsSlot (slot_named o) lines → ((t : ℤ) → o ≡ Some t → IsNamed t) → SlotTold o lines
+slot_told : (o : Option ℤ) (lines : Lines) → TellsSlot (slot_named o) lines → ((t : ℤ) → o ≡ Some t → IsInEventDates t) → SlotTold o lines
 slot_told None lines e dated = record { text = None; are = e; spells = tt; clean = tt }
 slot_told (Some t) lines (text, w, e) dated = record {
   text = Some text;
@@ -267,12 +267,12 @@ slot_told (Some t) lines (text, w, e) dated = record {
 -- ---- a part that is shown
 
 -- a set body says when its event is, that the room is named, and that nothing cancels it
-pub record IsSetBody (room : List ℕ) (method : Method) (event : Event) (content : Content) : Type 0 where
+pub record IsSetBody (room : List ℕ) (method : Method) (event : EventComponent) (content : Content) : Type 0 where
   pub when : IsContent content event
   pub names : names_room room event ≡ true
   pub stays : cancels method event ≡ false
 
-pub set_body : (room : List ℕ) (method : Method) (event : Event) (content : Content) (body : Body) → IsBody room method event content body → is_set_body body ≡ true → IsSetBody room method event content
+pub set_body : (room : List ℕ) (method : Method) (event : EventComponent) (content : Content) (body : Body) → IsBody room method event content body → is_set_body body ≡ true → IsSetBody room method event content
 set_body room method event content (Set octets) b set = record { when = b.2; names = b.1; stays = b.0 }
 set_body room method event content Absent b set = absurd (true≢false (sym set))
 set_body room method event content Cancelled b set = absurd (true≢false (sym set))
@@ -365,7 +365,7 @@ hides_back room zones content part lines hiding a r h k =
     let m = message_of a.octets a.given a.spells event a.among in
     let n = named room content part a in
     let is : slot_named event.recurrence ≡ At h.instant = sym a.is_part.slot ∙ h.at in
-    let dated : IsNamed h.instant = m.says.dated h.instant (instant_there event.recurrence h.instant is) in
+    let dated : IsInEventDates h.instant = m.says.dated h.instant (instant_there event.recurrence h.instant is) in
     let tells : TellsSlot (At h.instant) k.slot = subst (λ (s : Slot). TellsSlot s k.slot) h.at k.tells_slot in
     let text = tells.0 in
     let uid = escaped part.uid in
@@ -373,7 +373,7 @@ hides_back room zones content part lines hiding a r h k =
     let number = part.revision.sequence in
     let said = hidden_event part.uid h.instant number part.organiser part.revision.stamp room in
     let own = hidden_own uid text sequence k.stamp h.text part.organiser room in
-    let says : (object : Tree) → SaysEvent object None own said = hidden_says part.uid h.instant number uid text sequence k.stamp h.text part.organiser room part.revision.stamp (part_spelled room content part a k.stamp k.written_stamp r) (stamp_written text h.instant tells.1)
+    let says : (object : Tree) → SaysEventComponent object None own said = hidden_says part.uid h.instant number uid text sequence k.stamp h.text part.organiser room part.revision.stamp (part_spelled room content part a k.stamp k.written_stamp r) (stamp_written text h.instant tells.1)
     (stamp_written h.text h.instant h.written) dated in
     record {
       back = record {
@@ -388,7 +388,7 @@ hides_back room zones content part lines hiding a r h k =
         meeting = refl;
         slot_is = sym h.at;
       };
-      kept = not_kept (is_confirmed room said);
+      kept = not_kept (has_accepted room said);
     }
   where
     instant_there : (o : Option ℤ) (t : ℤ) → slot_named o ≡ At t → o ≡ Some t

@@ -8,17 +8,16 @@ use Rattle.std.proofs.lemmas.Bool.{and_parts, and_from, true≢false, cases_Bool
 use Rattle.std.proofs.Math.Bool.{and-false}
 use Rattle.profile.specs.text.Lines.{is_content, logical_lines, reads_as_lines, written}
 use Rattle.profile.specs.text.Objects.{is_property, IsObject}
-use Rattle.profile.specs.text.Trees.{tree_name, tree_own, tree_inside}
-use Rattle.profile.specs.events.Events.{Event, SaysEvent, meeting_said}
-use Rattle.profile.specs.events.Meetings.{Meeting, is_master}
+use Rattle.profile.specs.events.EventComponents.{EventComponent, SaysEventComponent, meeting_said}
+use Rattle.profile.specs.events.Events.{Event, is_master}
 use Rattle.profile.specs.events.Starts.{IsInstance}
 use Rattle.profile.specs.events.Confirmed.{Confirmed, AreConfirmed, AreOfRule, AreSingles, IsOneOf, IsReplaced, IsSeries, alone, by_its_rule, has_series, is_kept, is_series}
 use Rattle.profile.specs.checker.Calendars.{SpellsCalendar, CertificateHolds}
-use Rattle.profile.specs.checker.Instances.{Booked, Key}
+use Rattle.profile.specs.checker.Instances.{Instance, Key}
 use Rattle.profile.specs.rooms.Messages.{opening_lines, slot_of, slot_named}
 use Rattle.profile.specs.rooms.Revisions.{Part, Slot, Whole, At, in_view, is_whole, same_meeting, same_part, same_place, slot_cmp}
-use Rattle.profile.specs.rooms.Rooms.{Claim, Answer, Book, Delivery, Runs, empty_book, Confirms, Recurring, confirmed_series, confirmed_singles, is_confirmed, is_hidden, is_set}
-use Rattle.profile.specs.rooms.Kept.{Entry, Shown, Hidden, part_kept, IsKept, IsEntry, AreKept, IsKeptEvent, IsKeptCalendar, kept_certificate, zone_texts, zones_kept}
+use Rattle.profile.specs.rooms.Rooms.{Claim, PartAnswer, Book, Delivery, Runs, empty_book, Confirms, Recurring, confirmed_series, confirmed_singles, is_confirmed, is_hidden, is_set}
+use Rattle.profile.specs.rooms.Kept.{KeptComponent, Shown, Hidden, part_kept, IsKept, IsKeptComponent, AreKept, IsKeptEvent, IsKeptCalendar, kept_certificate, zone_texts, zones_kept}
 use Rattle.profile.specs.streams.Streams.{AsksFor, IsDelivered}
 use Rattle.cal_events.proofs.OwnSingles.{master_alone}
 use Rattle.itip_order.proofs.Lasting.{view_taken}
@@ -45,33 +44,33 @@ use Rattle.room_books.proofs.ZonesIn.{HasZone, HaveZones, has_zone, zones_kept_a
 -- ---- the VEVENTs
 
 -- the state of what is kept of an entry
-abbrev IsState : List ℕ → Event → Entry → Type 0
+abbrev IsState : List ℕ → EventComponent → KeptComponent → Type 0
 IsState room said (Shown claim) = (is_kept room said ≡ true) × AsksFor true said claim
 IsState room said (Hidden part) = is_kept room said ≡ false
 
 -- the event says the entry
-record SaysEntry (room : List ℕ) (said : Event) (entry : Entry) : Type 0 where
+record SaysEntry (room : List ℕ) (said : EventComponent) (entry : KeptComponent) : Type 0 where
   meeting : meeting_said said ≡ ((part_kept entry).organiser, (part_kept entry).uid)
   slot : slot_of said ≡ (part_kept entry).slot
   state : IsState room said entry
 
 -- all VEVENTs read back
-record AllBack (room : List ℕ) (zones : List (List ℕ)) (entries : List Entry) (each : List Lines) : Type 0 where
+record AllBack (room : List ℕ) (zones : List (List ℕ)) (entries : List KeptComponent) (each : List Lines) : Type 0 where
   owns : List Lines
-  saids : List Event
+  saids : List EventComponent
   are : flat_map (λ lines. lines) each ≡ flat_map vevent_lines owns
   properties : list_all (list_all is_property) owns ≡ true
   content : list_all (list_all is_content) owns ≡ true
-  says : (all : List Lines) (k : IsZonedTree None zones all) → AllZip (SaysEvent k.whole None) owns saids
+  says : (all : List Lines) (k : IsZonedTree None zones all) → AllZip (SaysEventComponent k.whole None) owns saids
   entries_are : AllZip (SaysEntry room) saids entries
 
-record OneBack (room : List ℕ) (zones : List (List ℕ)) (entry : Entry) (lines : Lines) : Type 0 where
+record OneBack (room : List ℕ) (zones : List (List ℕ)) (entry : KeptComponent) (lines : Lines) : Type 0 where
   own : Lines
-  said : Event
+  said : EventComponent
   are : lines ≡ vevent_lines own
   properties : list_all is_property own ≡ true
   content : list_all is_content own ≡ true
-  says : (all : List Lines) (k : IsZonedTree None zones all) → SaysEvent k.whole None own said
+  says : (all : List Lines) (k : IsZonedTree None zones all) → SaysEventComponent k.whole None own said
   entry_is : SaysEntry room said entry
 
 module _ (room : List ℕ) (book : Book) (k : KeepsAll room book) where
@@ -95,7 +94,7 @@ module _ (room : List ℕ) (book : Book) (k : KeepsAll room book) where
       has_zone claim.content a.event set.when (set_zone room claim.content claim.part a)
 
   module _ (zones : List (List ℕ)) where
-    one_back : (first : Part) (entry : Entry) (lines : Lines) → IsEntry book first entry → IsKeptEvent room zones entry lines → OneBack room zones entry lines
+    one_back : (first : Part) (entry : KeptComponent) (lines : Lines) → IsKeptComponent book first entry → IsKeptEvent room zones entry lines → OneBack room zones entry lines
     one_back first (Shown claim) lines is event =
         let b = shows_back room zones claim lines (claim_asked first claim is) (claim_set first claim is) event in
         record {
@@ -120,7 +119,7 @@ module _ (room : List ℕ) (book : Book) (k : KeepsAll room book) where
           entry_is = record { meeting = b.back.meeting; slot = b.back.slot_is; state = b.kept };
         }
 
-    all_back : (entries : List Entry) (each : List Lines) → ((e : Entry) → Contains entries e → (first : Part) × IsEntry book first e) → AllZip (IsKeptEvent room zones) entries each → AllBack room zones entries each
+    all_back : (entries : List KeptComponent) (each : List Lines) → ((e : KeptComponent) → Contains entries e → (first : Part) × IsKeptComponent book first e) → AllZip (IsKeptEvent room zones) entries each → AllBack room zones entries each
     all_back [] [] f z = record { owns = []; saids = []; are = refl; properties = refl; content = refl; says = λ _ _. tt; entries_are = tt }
     all_back [] (lines ∷ each) f z = absurd z
     all_back (e ∷ entries) [] f z = absurd z
@@ -140,7 +139,7 @@ module _ (room : List ℕ) (book : Book) (k : KeepsAll room book) where
 
 -- ---- each is another instance
 
-saids_differ : (room : List ℕ) (saids : List Event) (entries : List Entry) → AllZip (SaysEntry room) saids entries → Pairwise EntriesDiffer entries → Pairwise (λ a b. meeting_said a ≡ meeting_said b → slot_of a ≢ slot_of b) saids
+saids_differ : (room : List ℕ) (saids : List EventComponent) (entries : List KeptComponent) → AllZip (SaysEntry room) saids entries → Pairwise EntriesDiffer entries → Pairwise (λ a b. meeting_said a ≡ meeting_said b → slot_of a ≢ slot_of b) saids
 saids_differ room [] [] z d = tt
 saids_differ room [] (e ∷ es) z d = absurd z
 saids_differ room (s ∷ ss) [] z d = absurd z
@@ -155,35 +154,35 @@ saids_differ room (s ∷ ss) (e ∷ es) z d = (
 -- ---- what is confirmed
 
 -- the single instances that are left of a claim, and of an entry
-abbrev singles_of_claim : List Part → Claim → List Booked
+abbrev singles_of_claim : List Part → Claim → List Instance
 singles_of_claim taken claim = filter (λ booked. not (is_hidden taken claim.part booked)) claim.singles
 
-abbrev singles_of : List Part → Entry → List Booked
+abbrev singles_of : List Part → KeptComponent → List Instance
 singles_of taken (Shown claim) = singles_of_claim taken claim
 singles_of taken (Hidden part) = []
 
 -- and the series of a claim, where it has one
-abbrev recurring_of : Part → Option Meeting → List Recurring
+abbrev recurring_of : Part → Option Event → List Recurring
 recurring_of part series = option_to_list (option_map (λ meeting. record { part = part; meeting = meeting }) series)
 
 abbrev series_of_claim : Claim → List Recurring
 series_of_claim claim = recurring_of claim.part claim.series
 
-abbrev all_series : List Entry → List Recurring
+abbrev all_series : List KeptComponent → List Recurring
 all_series entries = flat_map series_of_claim (claims_kept entries)
 
 -- the series of an event among others
-abbrev series_of : List Event → Event → Meeting
+abbrev series_of : List EventComponent → EventComponent → Event
 series_of saids said = record { master = Some (by_its_rule said (replaced_by said saids).0); overrides = [] }
 
-its_series : (saids : List Event) (said : Event) → IsSeries saids said (series_of saids said)
+its_series : (saids : List EventComponent) (said : EventComponent) → IsSeries saids said (series_of saids said)
 its_series saids said = record { replaced = (replaced_by said saids).0; are = (replaced_by said saids).1; is = refl }
 
 -- the instances of the series are those of the other that no other part hides
-abbrev IsLeft : List Part → Meeting → Recurring → Type 0
-IsLeft taken series recurring = (b : Booked) → IsInstance series b ↔ (IsInstance recurring.meeting b × (is_hidden taken recurring.part b ≡ false))
+abbrev IsLeft : List Part → Event → Recurring → Type 0
+IsLeft taken series recurring = (b : Instance) → IsInstance series b ↔ (IsInstance recurring.meeting b × (is_hidden taken recurring.part b ≡ false))
 
-series_where : (room : List ℕ) (said : Event) → is_series room said ≡ (is_kept room said && has_series said)
+series_where : (room : List ℕ) (said : EventComponent) → is_series room said ≡ (is_kept room said && has_series said)
 series_where room said = by (is_kept room said) (is_master said) (is_some said.rule)
   where
     by : (a b c : Bool) → (a && b && c) ≡ (a && (b && c))
@@ -204,26 +203,26 @@ whole_there : (o : Option ℤ) → slot_named o ≡ Whole → o ≡ None
 whole_there None e = refl
 whole_there (Some u) e = cc
 
-master_whole : (said : Event) → is_master said ≡ true → said.recurrence ≡ None
+master_whole : (said : EventComponent) → is_master said ≡ true → said.recurrence ≡ None
 master_whole said h = go said.recurrence h
   where
     go : (o : Option ℤ) → not (is_some o) ≡ true → o ≡ None
     go None e = refl
     go (Some t) e = absurd (true≢false (sym e))
 
-module _ (room : List ℕ) (book : Book) (k : KeepsAll room book) (entries : List Entry) (are : AreKept book entries) (saids : List Event) (z : AllZip (SaysEntry room) saids entries) where
+module _ (room : List ℕ) (book : Book) (k : KeepsAll room book) (entries : List KeptComponent) (are : AreKept book entries) (saids : List EventComponent) (z : AllZip (SaysEntry room) saids entries) where
   -- the part of an entry was taken, and is in the view
-  in_the_view : (first : Part) (entry : Entry) → IsEntry book first entry → in_view book.taken (part_kept entry) ≡ true
+  in_the_view : (first : Part) (entry : KeptComponent) → IsKeptComponent book first entry → in_view book.taken (part_kept entry) ≡ true
   in_the_view first (Shown claim) is = subst (λ (c : Claim). in_view book.taken c.part ≡ true) is.to (and_parts _ _ is.confirms).1
   in_the_view first (Hidden part) is = is.viewed
 
   -- beside a whole that is kept, each other part of its meeting in the view is an entry
   other_entry : (claim : Claim) → Contains entries (Shown claim) → is_whole claim.part ≡ true → (other : Part) → in_view book.taken other ≡ true → same_meeting claim.part other ≡ true → is_whole other ≡ false
-      → (entry : Entry) × Contains entries entry × (part_kept entry ≡ other)
+      → (entry : KeptComponent) × Contains entries entry × (part_kept entry ≡ other)
   other_entry claim c whole other seen meeting instance =
       let p = entry_placed book entries are (Shown claim) c in
       let of_first : same_meeting p.first other ≡ true = meeting_trans p.first claim.part other p.is.of_meeting meeting in
-      let accepts : Answer → Bool = λ a. is_confirmed book.taken a && same_part a.claim.part other in
+      let accepts : PartAnswer → Bool = λ a. is_confirmed book.taken a && same_part a.claim.part other in
       elim (cases_Bool (list_any accepts book.answers)) [
         | inl there ↦
             let found = any_at accepts book.answers there in
@@ -247,7 +246,7 @@ module _ (room : List ℕ) (book : Book) (k : KeepsAll room book) (entries : Lis
       ]
 
   -- the instance of a shown claim is hidden where another entry is of its slot
-  hidden_by : (claim : Claim) (booked : Booked) (entry : Entry) → Contains entries entry → is_whole claim.part ≡ true → SamePlace (part_kept entry) (record claim.part { slot = At booked.key.slot }) → is_hidden book.taken claim.part booked ≡ true
+  hidden_by : (claim : Claim) (booked : Instance) (entry : KeptComponent) → Contains entries entry → is_whole claim.part ≡ true → SamePlace (part_kept entry) (record claim.part { slot = At booked.key.slot }) → is_hidden book.taken claim.part booked ≡ true
   hidden_by claim booked entry c whole place =
       let p = entry_placed book entries are entry c in
       let seen = in_the_view p.first entry p.is in
@@ -255,13 +254,13 @@ module _ (room : List ℕ) (book : Book) (k : KeepsAll room book) (entries : Lis
       (and_from _ _ seen (place_from (part_kept entry) (record claim.part { slot = At booked.key.slot }) place)))
 
   -- what hides the instances of a shown claim is what replaces them
-  module _ (claim : Claim) (c : Contains entries (Shown claim)) (said : Event) (s : SaysEntry room said (Shown claim)) where
+  module _ (claim : Claim) (c : Contains entries (Shown claim)) (said : EventComponent) (s : SaysEntry room said (Shown claim)) where
     -- an instance of a master is at its slot
-    at_slot : (b : Booked) → IsInstance (alone said) b → said.recurrence ≡ None → b.key.slot ≡ b.start
+    at_slot : (b : Instance) → IsInstance (alone said) b → said.recurrence ≡ None → b.key.slot ≡ b.start
     at_slot b own none = ap (λ (k : Key). k.slot) (master_alone said b none own).key
 
     -- what replaces an instance of the whole
-    replaces : (b : Booked) → IsInstance (alone said) b → is_master said ≡ true → IsReplaced saids said b.start → is_hidden book.taken claim.part b ≡ true
+    replaces : (b : Instance) → IsInstance (alone said) b → is_master said ≡ true → IsReplaced saids said b.start → is_hidden book.taken claim.part b ≡ true
     replaces b own master r =
         let found = zip_to (SaysEntry room) saids entries r.override z r.among in
         let none = master_whole said master in
@@ -275,11 +274,11 @@ module _ (room : List ℕ) (book : Book) (k : KeepsAll room book) (entries : Lis
         })
 
     -- where an instance is hidden, the event is of the whole
-    whole_said : (b : Booked) → is_hidden book.taken claim.part b ≡ true → said.recurrence ≡ None
+    whole_said : (b : Instance) → is_hidden book.taken claim.part b ≡ true → said.recurrence ≡ None
     whole_said b h = whole_there said.recurrence (s.slot ∙ slot_same claim.part.slot Whole (and_parts _ _ h).0)
 
     -- an event that says an entry of that place replaces it
-    replaced_there : (b : Booked) (event : Event) (entry : Entry) (other : Part) → Contains saids event → SaysEntry room event entry → part_kept entry ≡ other → SamePlace other (record claim.part { slot = At b.key.slot }) → b.key.slot ≡ b.start
+    replaced_there : (b : Instance) (event : EventComponent) (entry : KeptComponent) (other : Part) → Contains saids event → SaysEntry room event entry → part_kept entry ≡ other → SamePlace other (record claim.part { slot = At b.key.slot }) → b.key.slot ≡ b.start
         → IsReplaced saids said b.start
     replaced_there b event entry other among e same place start = record {
       override = event;
@@ -289,7 +288,7 @@ module _ (room : List ℕ) (book : Book) (k : KeepsAll room book) (entries : Lis
     }
 
     -- and something replaces it
-    is_replaced : (b : Booked) → IsInstance (alone said) b → is_hidden book.taken claim.part b ≡ true → IsReplaced saids said b.start
+    is_replaced : (b : Instance) → IsInstance (alone said) b → is_hidden book.taken claim.part b ≡ true → IsReplaced saids said b.start
     is_replaced b own h =
         let both = and_parts _ _ h in
         let found = any_at (λ other. in_view book.taken other && same_place other (record claim.part { slot = At b.key.slot })) book.taken both.1 in
@@ -304,11 +303,11 @@ module _ (room : List ℕ) (book : Book) (k : KeepsAll room book) (entries : Lis
     hiding : IsHiding saids said (is_hidden book.taken claim.part)
     hiding = record { replaced = is_replaced; hides = replaces; master = λ b h. ap (λ (o : Option ℤ). not (is_some o)) (whole_said b h) }
 
-  left_one : (entry : Entry) → Contains entries entry → (said : Event) → SaysEntry room said entry → AreSingles room saids said (singles_of book.taken entry)
+  left_one : (entry : KeptComponent) → Contains entries entry → (said : EventComponent) → SaysEntry room said entry → AreSingles room saids said (singles_of book.taken entry)
   left_one (Shown claim) c said s = singles_left saids said (is_hidden book.taken claim.part) (hiding claim c said s) room claim.singles s.state.0 s.state.1.0
   left_one (Hidden part) c said s = none_left room saids said s.state
 
-  left_all : (ss : List Event) (es : List Entry) → AllZip (SaysEntry room) ss es → ((e : Entry) → Contains es e → Contains entries e) → AllZip (AreSingles room saids) ss (map (singles_of book.taken) es)
+  left_all : (ss : List EventComponent) (es : List KeptComponent) → AllZip (SaysEntry room) ss es → ((e : KeptComponent) → Contains es e → Contains entries e) → AllZip (AreSingles room saids) ss (map (singles_of book.taken) es)
   left_all [] [] y f = tt
   left_all [] (e ∷ es) y f = absurd y
   left_all (s ∷ ss) [] y f = absurd y
@@ -316,21 +315,21 @@ module _ (room : List ℕ) (book : Book) (k : KeepsAll room book) (entries : Lis
 
   -- ---- its series
 
-  series_one : (claim : Claim) → Contains entries (Shown claim) → (said : Event) → SaysEntry room said (Shown claim) → (meeting : Meeting) → AreOfRule said (Some meeting)
+  series_one : (claim : Claim) → Contains entries (Shown claim) → (said : EventComponent) → SaysEntry room said (Shown claim) → (meeting : Event) → AreOfRule said (Some meeting)
       → IsLeft book.taken (series_of saids said) (record { part = claim.part; meeting = meeting })
   series_one claim c said s meeting of = series_left saids said (is_hidden book.taken claim.part) (hiding claim c said s) meeting (series_of saids said) of (its_series saids said)
 
   -- the series of these are those of these entries
-  abbrev with_rules : List Event → List Event
+  abbrev with_rules : List EventComponent → List EventComponent
   with_rules ss = filter (is_series room) ss
 
-  abbrev AreSeries : List Event → List Entry → Type 0
+  abbrev AreSeries : List EventComponent → List KeptComponent → Type 0
   AreSeries ss es = AllZip (IsLeft book.taken) (map (series_of saids) (with_rules ss)) (all_series es)
 
-  series_shown : (claim : Claim) → Contains entries (Shown claim) → (said : Event) → SaysEntry room said (Shown claim) → (ss : List Event) (es : List Entry) → AreSeries ss es → AreSeries (said ∷ ss) (Shown claim ∷ es)
+  series_shown : (claim : Claim) → Contains entries (Shown claim) → (said : EventComponent) → SaysEntry room said (Shown claim) → (ss : List EventComponent) (es : List KeptComponent) → AreSeries ss es → AreSeries (said ∷ ss) (Shown claim ∷ es)
   series_shown claim c said s ss es rest = go claim.series s.state.1.1
     where
-      go : (o : Option Meeting) → AreOfRule said o → AllZip (IsLeft book.taken) (map (series_of saids) (with_rules (said ∷ ss))) (recurring_of claim.part o ++ all_series es)
+      go : (o : Option Event) → AreOfRule said o → AllZip (IsLeft book.taken) (map (series_of saids) (with_rules (said ∷ ss))) (recurring_of claim.part o ++ all_series es)
       go None of =
           let none : is_series room said ≡ false = series_where room said ∙ ap (λ b. is_kept room said && b) of ∙ and-false (is_kept room said) in
           subst (λ b. AllZip (IsLeft book.taken) (map (series_of saids) (cond b (said ∷ with_rules ss) (with_rules ss))) (all_series es)) (sym none) rest
@@ -338,12 +337,12 @@ module _ (room : List ℕ) (book : Book) (k : KeepsAll room book) (entries : Lis
           let some : is_series room said ≡ true = series_where room said ∙ and_from _ _ s.state.0 of.0 in
           subst (λ b. AllZip (IsLeft book.taken) (map (series_of saids) (cond b (said ∷ with_rules ss) (with_rules ss))) (record { part = claim.part; meeting = meeting } ∷ all_series es)) (sym some) (series_one claim c said s meeting of, rest)
 
-  series_hidden : (part : Part) (said : Event) → SaysEntry room said (Hidden part) → (ss : List Event) (es : List Entry) → AreSeries ss es → AreSeries (said ∷ ss) (Hidden part ∷ es)
+  series_hidden : (part : Part) (said : EventComponent) → SaysEntry room said (Hidden part) → (ss : List EventComponent) (es : List KeptComponent) → AreSeries ss es → AreSeries (said ∷ ss) (Hidden part ∷ es)
   series_hidden part said s ss es rest =
       let none : is_series room said ≡ false = series_where room said ∙ ap (λ b. b && has_series said) s.state in
       subst (λ b. AllZip (IsLeft book.taken) (map (series_of saids) (cond b (said ∷ with_rules ss) (with_rules ss))) (all_series es)) (sym none) rest
 
-  series_all : (ss : List Event) (es : List Entry) → AllZip (SaysEntry room) ss es → ((e : Entry) → Contains es e → Contains entries e) → AreSeries ss es
+  series_all : (ss : List EventComponent) (es : List KeptComponent) → AllZip (SaysEntry room) ss es → ((e : KeptComponent) → Contains es e → Contains entries e) → AreSeries ss es
   series_all [] [] y f = tt
   series_all [] (e ∷ es) y f = absurd y
   series_all (s ∷ ss) [] y f = absurd y
@@ -353,22 +352,22 @@ module _ (room : List ℕ) (book : Book) (k : KeepsAll room book) (entries : Lis
 -- ---- the calendar
 
 -- the singles one after another
-flat_of_map : (taken : List Part) (es : List Entry) → flat_map (λ l. l) (map (singles_of taken) es) ≡ flat_map (singles_of_claim taken) (claims_kept es)
+flat_of_map : (taken : List Part) (es : List KeptComponent) → flat_map (λ l. l) (map (singles_of taken) es) ≡ flat_map (singles_of_claim taken) (claims_kept es)
 flat_of_map taken [] = refl
 flat_of_map taken (Shown claim ∷ es) = ap (λ l. singles_of_claim taken claim ++ l) (flat_of_map taken es)
 flat_of_map taken (Hidden part ∷ es) = flat_of_map taken es
 
 -- each event with a rule has its series
-each_series : (saids ss : List Event) → AllZip (IsSeries saids) ss (map (series_of saids) ss)
+each_series : (saids ss : List EventComponent) → AllZip (IsSeries saids) ss (map (series_of saids) ss)
 each_series saids [] = tt
 each_series saids (s ∷ ss) = (its_series saids s, each_series saids ss)
 
-all_singles : Book → List Entry → List Booked
+all_singles : Book → List KeptComponent → List Instance
 all_singles book entries = flat_map (singles_of_claim book.taken) (claims_kept entries)
 
 -- what the events of a calendar confirm, where these are its entries
-record SpellsEntries (room : List ℕ) (book : Book) (entries : List Entry) (octets : List ℕ) : Type 0 where
-  series : List Meeting
+record SpellsEntries (room : List ℕ) (book : Book) (entries : List KeptComponent) (octets : List ℕ) : Type 0 where
+  series : List Event
   each : AllZip (IsLeft book.taken) series (all_series entries)
   spells : SpellsCalendar room octets (record { series = series; singles = all_singles book entries })
 
@@ -393,10 +392,10 @@ module _ (back : LinesBack) (reads : ReadsLines) (zone_back : ZoneBack) where
         spells = record {
           lines = ap (reads_as_lines false) whole ∙ reads t.lines t.content;
           tree = t.whole;
-          object = subst (λ (l : Lines). IsObject tree_name tree_own tree_inside false t.whole l) (sym logical) t.object;
+          object = subst (λ (l : Lines). IsObject false t.whole l) (sym logical) t.object;
           says = record {
             events = b.saids;
-            says = subst (λ (l : List Lines). AllZip (SaysEvent t.whole None) l b.saids) (sym t.events) (b.says b.owns t);
+            says = subst (λ (l : List Lines). AllZip (SaysEventComponent t.whole None) l b.saids) (sym t.events) (b.says b.owns t);
             masters = λ i j d l w m n same. differ i j d l w same (ap slot_named m ∙ sym (ap slot_named n));
             overrides = λ i j d l w slot m n same. differ i j d l w same (ap slot_named m ∙ sym (ap slot_named n));
             are = are;
@@ -418,16 +417,16 @@ pub record SpellsConfirmed (room : List ℕ) (book : Book) (calendar : List ℕ)
   pub spells : SpellsCalendar room calendar all
   pub singles : length all.singles ≡ length (confirmed_singles book)
   pub series : length all.series ≡ length (confirmed_series book)
-  pub exact : (b : Booked) → IsOneOf all b ↔ Confirms book b
+  pub exact : (b : Instance) → IsOneOf all b ↔ Confirms book b
 
-module _ (room : List ℕ) (book : Book) (keeps : KeepsAll room book) (entries : List Entry) (are : AreKept book entries) where
+module _ (room : List ℕ) (book : Book) (keeps : KeepsAll room book) (entries : List KeptComponent) (are : AreKept book entries) where
   claims : Reordered (claims_kept entries) (claims_confirmed book)
   claims = claims_same book entries are keeps.sound.known keeps.once
 
   singles_are : Reordered (all_singles book entries) (confirmed_singles book)
   unfolding all_singles
   singles_are =
-      subst (λ (l : List Booked). Reordered (flat_map (singles_of_claim book.taken) (claims_kept entries)) l) (of_claims (singles_of_claim book.taken) (filter (is_confirmed book.taken) book.answers))
+      subst (λ (l : List Instance). Reordered (flat_map (singles_of_claim book.taken) (claims_kept entries)) l) (of_claims (singles_of_claim book.taken) (filter (is_confirmed book.taken) book.answers))
       (re_flat (singles_of_claim book.taken) (claims_kept entries) (claims_confirmed book) claims)
 
   series_are : Reordered (all_series entries) (confirmed_series book)
@@ -435,18 +434,18 @@ module _ (room : List ℕ) (book : Book) (keeps : KeepsAll room book) (entries :
       subst (λ (l : List Recurring). Reordered (flat_map series_of_claim (claims_kept entries)) l) (of_claims series_of_claim (filter (is_confirmed book.taken) book.answers))
       (re_flat series_of_claim (claims_kept entries) (claims_confirmed book) claims)
 
-  module _ (series : List Meeting) (each : AllZip (IsLeft book.taken) series (all_series entries)) where
+  module _ (series : List Event) (each : AllZip (IsLeft book.taken) series (all_series entries)) where
     abbrev all : Confirmed
     all = record { series = series; singles = all_singles book entries }
 
-    one_to : (b : Booked) → IsOneOf all b → Confirms book b
+    one_to : (b : Instance) → IsOneOf all b → Confirms book b
     one_to b (inl c) = inl (re_in (all_singles book entries) (confirmed_singles book) singles_are b c)
     one_to b (inr (m, c, is)) =
         let r = zip_to (IsLeft book.taken) series (all_series entries) m each c in
         let left = (r.2 b).0 is in
         inr (record { series = r.0; among = re_in (all_series entries) (confirmed_series book) series_are r.0 r.1; is = left.0; shown = left.1 })
 
-    one_from : (b : Booked) → Confirms book b → IsOneOf all b
+    one_from : (b : Instance) → Confirms book b → IsOneOf all b
     one_from b (inl c) = inl (re_in (confirmed_singles book) (all_singles book entries) (re_back (all_singles book entries) (confirmed_singles book) singles_are) b c)
     one_from b (inr l) =
         let among = re_in (confirmed_series book) (all_series entries) (re_back (all_series entries) (confirmed_series book) series_are) l.series l.among in

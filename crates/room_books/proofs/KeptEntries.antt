@@ -8,8 +8,8 @@ use Rattle.std.proofs.lemmas.Bool.{both_ways}
 use Rattle.std.proofs.lemmas.Cmp.{tied_itself}
 use Rattle.std.proofs.lemmas.Map.Lookups.{exact_bytes}
 use Rattle.profile.specs.rooms.Revisions.{Part, Slot, meeting_cmp, octets_cmp, slot_cmp, same_meeting, same_place}
-use Rattle.profile.specs.rooms.Rooms.{Claim, Answer, Book, is_confirmed}
-use Rattle.profile.specs.rooms.Kept.{Entry, Shown, Hidden, part_kept, IsEntry, AreKeptOf, AreKept, first_parts}
+use Rattle.profile.specs.rooms.Rooms.{Claim, PartAnswer, Book, is_confirmed}
+use Rattle.profile.specs.rooms.Kept.{KeptComponent, Shown, Hidden, part_kept, IsKeptComponent, AreKeptOf, AreKept, first_parts}
 use Rattle.cal_events.proofs.InOneOrder.{head_pairs, tail_pairs}
 use Rattle.itip_order.proofs.Lists.{in_cons, in_head, none_in_nil, filter_at, filter_from}
 use Rattle.itip_order.proofs.Order.{is_eq_true, then_equal, slot_total, place_total}
@@ -53,13 +53,13 @@ meeting_from p q o u = (λ i. is_eq (ordering_then (octets_cmp (o i) q.organiser
 
 -- ---- each entry is of another place
 
-abbrev pub EntriesDiffer : Entry → Entry → Type 0
+abbrev pub EntriesDiffer : KeptComponent → KeptComponent → Type 0
 EntriesDiffer a b = SamePlace (part_kept a) (part_kept b) → ⊥
 
 not_less : (o : Slot) → slot_cmp o o ≡ Less → ⊥
 not_less o l = let e = tied_itself slot_total o in let x : Less ≡ Equal = sym l ∙ e in cc
 
-in_order : (es : List Entry) → AllPairs (λ a b. slot_cmp (part_kept a).slot (part_kept b).slot ≡ Less) es → Pairwise EntriesDiffer es
+in_order : (es : List KeptComponent) → AllPairs (λ a b. slot_cmp (part_kept a).slot (part_kept b).slot ≡ Less) es → Pairwise EntriesDiffer es
 in_order [] up = tt
 in_order (e ∷ es) up = (
   λ x c s.
@@ -69,11 +69,11 @@ in_order (e ∷ es) up = (
 )
 
 -- an entry is of the meeting whose first part that is
-pub of_first : (book : Book) (first : Part) (entry : Entry) → IsEntry book first entry → same_meeting first (part_kept entry) ≡ true
+pub of_first : (book : Book) (first : Part) (entry : KeptComponent) → IsKeptComponent book first entry → same_meeting first (part_kept entry) ≡ true
 of_first book first (Shown claim) k = k.of_meeting
 of_first book first (Hidden part) k = k.of_meeting
 
-meetings_apart : (book : Book) (firsts : List Part) (by : List (List Entry)) → Pairwise Apart firsts → AllZip (AreKeptOf book) firsts by → Pairwise EntriesDiffer (flat_map (λ c. c) by)
+meetings_apart : (book : Book) (firsts : List Part) (by : List (List KeptComponent)) → Pairwise Apart firsts → AllZip (AreKeptOf book) firsts by → Pairwise EntriesDiffer (flat_map (λ c. c) by)
 meetings_apart book [] [] d z = tt
 meetings_apart book [] (b ∷ by) d z = absurd z
 meetings_apart book (p ∷ ps) [] d z = absurd z
@@ -86,56 +86,56 @@ meetings_apart book (p ∷ ps) (es ∷ by) d z =
     let of_q = of_first book q.0 y ((q.2.exact y).0 found.2) in
     both_ways _ (d.0 q.0 q.1) (meeting_trans p (part_kept y) q.0 (meeting_trans p (part_kept x) (part_kept y) of_p (meeting_from (part_kept x) (part_kept y) s.organiser s.uid)) (meeting_sym q.0 (part_kept y) of_q)))
 
-pub entries_differ : (book : Book) (entries : List Entry) → AreKept book entries → Pairwise EntriesDiffer entries
+pub entries_differ : (book : Book) (entries : List KeptComponent) → AreKept book entries → Pairwise EntriesDiffer entries
 entries_differ book entries k = subst (Pairwise EntriesDiffer) (sym k.are) (meetings_apart book (first_parts book.taken) k.by_meeting (firsts_apart book.taken) k.each)
 
 -- ---- which entries there are
 
 -- an entry of a first part's meeting, beside which all others of it are
-pub record Placed (book : Book) (entries : List Entry) (entry : Entry) : Type 0 where
+pub record Placed (book : Book) (entries : List KeptComponent) (entry : KeptComponent) : Type 0 where
   pub first : Part
-  pub is : IsEntry book first entry
-  pub all : (other : Entry) → IsEntry book first other → Contains entries other
+  pub is : IsKeptComponent book first entry
+  pub all : (other : KeptComponent) → IsKeptComponent book first other → Contains entries other
 
-pub entry_placed : (book : Book) (entries : List Entry) → AreKept book entries → (entry : Entry) → Contains entries entry → Placed book entries entry
+pub entry_placed : (book : Book) (entries : List KeptComponent) → AreKept book entries → (entry : KeptComponent) → Contains entries entry → Placed book entries entry
 entry_placed book entries k entry c =
-    let found = flat_at (λ c. c) k.by_meeting entry (subst (λ (l : List Entry). Contains l entry) k.are c) in
+    let found = flat_at (λ c. c) k.by_meeting entry (subst (λ (l : List KeptComponent). Contains l entry) k.are c) in
     let p = zip_from (AreKeptOf book) (first_parts book.taken) k.by_meeting found.0 k.each found.1 in
     record {
       first = p.0;
       is = (p.2.exact entry).0 found.2;
-      all = λ other h. subst (λ (l : List Entry). Contains l other) (sym k.are) (flat_from (λ c. c) k.by_meeting found.0 other found.1 ((p.2.exact other).1 h));
+      all = λ other h. subst (λ (l : List KeptComponent). Contains l other) (sym k.are) (flat_from (λ c. c) k.by_meeting found.0 other found.1 ((p.2.exact other).1 h));
     }
 
 -- each confirmed answer is shown
-pub answer_kept : (book : Book) (entries : List Entry) → AreKept book entries → (a : Answer) → Contains book.answers a → Contains book.taken a.claim.part → is_confirmed book.taken a ≡ true → Contains entries (Shown a.claim)
+pub answer_kept : (book : Book) (entries : List KeptComponent) → AreKept book entries → (a : PartAnswer) → Contains book.answers a → Contains book.taken a.claim.part → is_confirmed book.taken a ≡ true → Contains entries (Shown a.claim)
 answer_kept book entries k a c known h =
     let first = firsts_cover book.taken a.claim.part known in
     let es = zip_to (AreKeptOf book) (first_parts book.taken) k.by_meeting first.0 k.each first.1 in
     let own : Contains es.0 (Shown a.claim) = (es.2.exact (Shown a.claim)).1 (record { of_meeting = first.2; answer = a; given = c; to = refl; confirms = h }) in
-    subst (λ (l : List Entry). Contains l (Shown a.claim)) (sym k.are) (flat_from (λ c. c) k.by_meeting es.0 (Shown a.claim) es.1 own)
+    subst (λ (l : List KeptComponent). Contains l (Shown a.claim)) (sym k.are) (flat_from (λ c. c) k.by_meeting es.0 (Shown a.claim) es.1 own)
 
 -- ---- what they claim
 
 -- the claim of an entry that is shown
-abbrev pub claim_kept : Entry → List Claim
+abbrev pub claim_kept : KeptComponent → List Claim
 claim_kept (Shown claim) = claim ∷ []
 claim_kept (Hidden part) = []
 
-abbrev pub claims_kept : List Entry → List Claim
+abbrev pub claims_kept : List KeptComponent → List Claim
 claims_kept entries = flat_map claim_kept entries
 
 -- the claims that the book confirms
 abbrev pub claims_confirmed : Book → List Claim
-claims_confirmed book = map (λ (a : Answer). a.claim) (filter (is_confirmed book.taken) book.answers)
+claims_confirmed book = map (λ (a : PartAnswer). a.claim) (filter (is_confirmed book.taken) book.answers)
 
-pub shown_from : (entries : List Entry) (claim : Claim) → Contains entries (Shown claim) → Contains (claims_kept entries) claim
+pub shown_from : (entries : List KeptComponent) (claim : Claim) → Contains entries (Shown claim) → Contains (claims_kept entries) claim
 shown_from entries claim c = flat_from claim_kept entries (Shown claim) claim c (in_head claim [])
 
-pub shown_at : (entries : List Entry) (claim : Claim) → Contains (claims_kept entries) claim → Contains entries (Shown claim)
+pub shown_at : (entries : List KeptComponent) (claim : Claim) → Contains (claims_kept entries) claim → Contains entries (Shown claim)
 shown_at entries claim c = let found = flat_at claim_kept entries claim c in of_entry found.0 found.1 found.2
   where
-    of_entry : (e : Entry) → Contains entries e → Contains (claim_kept e) claim → Contains entries (Shown claim)
+    of_entry : (e : KeptComponent) → Contains entries e → Contains (claim_kept e) claim → Contains entries (Shown claim)
     of_entry (Shown other) k c = elim (in_cons other [] claim c) [ inl here ↦ subst (λ (x : Claim). Contains entries (Shown x)) here k | inr none ↦ absurd (none_in_nil claim none) ]
     of_entry (Hidden part) k c = absurd (none_in_nil claim c)
 
@@ -143,7 +143,7 @@ places : {p q : Part} → p ≡ q → SamePlace p q
 places e = record { organiser = ap (λ (x : Part). x.organiser) e; uid = ap (λ (x : Part). x.uid) e; slot = ap (λ (x : Part). x.slot) e }
 
 -- none is claimed twice
-kept_once : (entries : List Entry) → Pairwise EntriesDiffer entries → Pairwise ◌≢◌ (claims_kept entries)
+kept_once : (entries : List KeptComponent) → Pairwise EntriesDiffer entries → Pairwise ◌≢◌ (claims_kept entries)
 kept_once [] d = tt
 kept_once (Shown claim ∷ entries) d = (
   λ other c same. d.0 (Shown other) (shown_at entries other c) (places (ap (λ (x : Claim). x.part) same)),
@@ -151,31 +151,31 @@ kept_once (Shown claim ∷ entries) d = (
 )
 kept_once (Hidden part ∷ entries) d = kept_once entries d.1
 
-apart_claims : (xs : List Answer) → Pairwise OtherPart xs → Pairwise (λ a b. a.claim ≢ b.claim) xs
+apart_claims : (xs : List PartAnswer) → Pairwise OtherPart xs → Pairwise (λ a b. a.claim ≢ b.claim) xs
 apart_claims [] p = tt
 apart_claims (a ∷ xs) p = (λ b c same. p.0 b c (ap (λ (x : Claim). x.part) same), apart_claims xs p.1)
 
 confirmed_once : (book : Book) → Pairwise OtherPart book.answers → Pairwise ◌≢◌ (claims_confirmed book)
 confirmed_once book once =
     let xs = filter (is_confirmed book.taken) book.answers in
-    pairs_map ◌≢◌ (λ (a : Answer). a.claim) xs (apart_claims xs (pairs_filter OtherPart (is_confirmed book.taken) book.answers once))
+    pairs_map ◌≢◌ (λ (a : PartAnswer). a.claim) xs (apart_claims xs (pairs_filter OtherPart (is_confirmed book.taken) book.answers once))
 
 -- the entries claim what the book confirms, in another order
-pub claims_same : (book : Book) (entries : List Entry) → AreKept book entries → ((a : Answer) → Contains book.answers a → Contains book.taken a.claim.part) → Pairwise OtherPart book.answers
+pub claims_same : (book : Book) (entries : List KeptComponent) → AreKept book entries → ((a : PartAnswer) → Contains book.answers a → Contains book.taken a.claim.part) → Pairwise OtherPart book.answers
     → Reordered (claims_kept entries) (claims_confirmed book)
 claims_same book entries are known once =
     same_members (claims_kept entries) (claims_confirmed book) (kept_once entries (entries_differ book entries are)) (confirmed_once book once)
     (λ claim c.
     let p = (entry_placed book entries are (Shown claim) (shown_at entries claim c)).is in
     subst (λ (x : Claim). Contains (claims_confirmed book) x) p.to
-    (map_from (λ (a : Answer). a.claim) (filter (is_confirmed book.taken) book.answers) p.answer (filter_from (is_confirmed book.taken) book.answers p.answer p.given p.confirms)))
+    (map_from (λ (a : PartAnswer). a.claim) (filter (is_confirmed book.taken) book.answers) p.answer (filter_from (is_confirmed book.taken) book.answers p.answer p.given p.confirms)))
     (λ claim c.
-    let found = map_at (λ (a : Answer). a.claim) (filter (is_confirmed book.taken) book.answers) claim c in
+    let found = map_at (λ (a : PartAnswer). a.claim) (filter (is_confirmed book.taken) book.answers) claim c in
     let from = filter_at (is_confirmed book.taken) book.answers found.0 found.1 in
     subst (λ (x : Claim). Contains (claims_kept entries) x) found.2
     (shown_from entries found.0.claim (answer_kept book entries are found.0 from.0 (known found.0 from.0) from.1)))
 
 -- what the answers to some claims give
-pub of_claims : {X : Type 0} (f : Claim → List X) (xs : List Answer) → flat_map f (map (λ (a : Answer). a.claim) xs) ≡ flat_map (λ (a : Answer). f a.claim) xs
+pub of_claims : {X : Type 0} (f : Claim → List X) (xs : List PartAnswer) → flat_map f (map (λ (a : PartAnswer). a.claim) xs) ≡ flat_map (λ (a : PartAnswer). f a.claim) xs
 of_claims f [] = refl
 of_claims f (a ∷ xs) = ap (λ l. f a.claim ++ l) (of_claims f xs)

@@ -8,8 +8,8 @@ use Rattle.std.proofs.lemmas.Slice.Eq.{bytes_eq-Decides}
 use Rattle.profile.specs.text.Values.{SpellsStamp, SpellsDuration}
 use Rattle.std.proofs.lemmas.Bool.{false≢true}
 use Rattle.profile.specs.text.Trees.{Tree}
-use Rattle.profile.specs.series.Rules.{Parts}
-use Rattle.profile.specs.events.Events.{Event, Attendee, Accepted, Declined, SaysEvent, is_confirmed, is_accepted}
+use Rattle.profile.specs.series.Rules.{Rule}
+use Rattle.profile.specs.events.EventComponents.{EventComponent, Attendee, Accepted, Declined, SaysEventComponent, has_accepted, is_accepted}
 use Rattle.cal_events.proofs.Meanings.{utc_means}
 use Rattle.ical_values.proofs.Spans.{duration_written}
 use Rattle.itip_messages.proofs.TimeLists.{IsStart}
@@ -22,7 +22,7 @@ hidden_own uid recurrence sequence stamp start organiser room =
     ∷ codes "DURATION:PT0S" ∷ codes "STATUS:CANCELLED" ∷ (codes "ORGANIZER:" ++ organiser) ∷ (codes "ATTENDEE;PARTSTAT=DECLINED:" ++ room) ∷ []
 
 -- and what they say
-abbrev pub hidden_event : List ℕ → ℤ → ℕ → List ℕ → ℤ → List ℕ → Event
+abbrev pub hidden_event : List ℕ → ℤ → ℕ → List ℕ → ℤ → List ℕ → EventComponent
 hidden_event uid instant sequence organiser stamp room = record {
   uid = uid;
   organiser = Some organiser;
@@ -39,7 +39,7 @@ hidden_event uid instant sequence organiser stamp room = record {
 }
 
 pub hidden_says : (uid_is : List ℕ) (instant : ℤ) (number : ℕ) (uid recurrence sequence stamp start organiser room : List ℕ) (stamped : ℤ) → SpellPart uid_is number uid sequence stamp organiser room stamped → SpellsStamp recurrence instant → SpellsStamp start instant → IsStart instant
-    → (object : Tree) → SaysEvent object None (hidden_own uid recurrence sequence stamp start organiser room) (hidden_event uid_is instant number organiser stamped room)
+    → (object : Tree) → SaysEventComponent object None (hidden_own uid recurrence sequence stamp start organiser room) (hidden_event uid_is instant number organiser stamped room)
 hidden_says uid_is instant number uid recurrence sequence stamp start organiser room stamped s at begins dated object = record {
   uid = record { line = Some (codes "UID:" ++ uid); once = refl; present = λ _. refl; is = (s.uid_there, s.is_uid) };
   organiser = record { line = Some (codes "ORGANIZER:" ++ organiser); once = refl; present = λ _. refl; is = (s.organised, sym s.lower) };
@@ -72,7 +72,7 @@ hidden_says uid_is instant number uid recurrence sequence stamp start organiser 
 }
 
 -- the room has accepted what is shown
-pub kept_confirmed : (event : Event) (slot : Option ℤ) (number : ℕ) (organiser : List ℕ) (stamped : ℤ) (room : List ℕ) (rule : Option Parts) (additions exceptions : List ℤ) → is_confirmed room (zoned_event event slot number organiser stamped room rule additions exceptions) ≡ true
+pub kept_confirmed : (event : EventComponent) (slot : Option ℤ) (number : ℕ) (organiser : List ℕ) (stamped : ℤ) (room : List ℕ) (rule : Option Rule) (additions exceptions : List ℤ) → has_accepted room (zoned_event event slot number organiser stamped room rule additions exceptions) ≡ true
 kept_confirmed event slot number organiser stamped room rule additions exceptions =
     let same : bytes_eq room room ≡ true = (bytes_eq-Decides room room).1 refl in
     let attendee : Attendee = record { address = room; participation = Accepted; scheduled = true } in

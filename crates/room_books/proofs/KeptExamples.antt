@@ -11,26 +11,26 @@ use Rattle.std.specs.Fmt.{digits}
 use lib.Utf8.{encode}
 use Rattle.profile.specs.text.Lines.{logical_lines, reads_as_lines, written}
 use Rattle.profile.specs.text.Values.{SpellsDate, SpellsDuration, WritesStamp, IsAddress, unescaped}
-use Rattle.profile.specs.text.Trees.{Tree, tree, none, more, tree_name, tree_own, tree_inside}
+use Rattle.profile.specs.text.Trees.{Tree, tree, none, more}
 use Rattle.profile.specs.text.Objects.{IsObject}
 use Rattle.profile.specs.text.Objects.SpellsBody.{nothing, property}
-use Rattle.profile.specs.checker.Instances.{Booked, IsWithin}
+use Rattle.profile.specs.checker.Instances.{Instance, IsWithin}
 use Rattle.profile.specs.series.Days.{Daily, days_before_year, days_of_months, greatest, year_of, month_of, year_days_before, year_days_after, month_days_before, month_days_after, weekday_of, period_of}
-use Rattle.profile.specs.series.Rules.{Parts, RuleText, UntilDay, rule_of, is_rule_day, is_within_count, is_counted, is_placed, mates_before, mates_after, is_mate, count_days, is_base, is_in_step, passes, passes_month, passes_month_day, passes_weekday, go_together}
+use Rattle.profile.specs.series.Rules.{Rule, RuleText, UntilDay, rule_of, is_rule_day, is_within_count, is_counted, is_placed, mates_before, mates_after, is_mate, count_days, is_base, is_in_step, passes, passes_month, passes_month_day, passes_weekday, go_together}
 use Rattle.profile.specs.series.RuleTexts.{rule_parts, after_key, months_from, numbers_from, entries_from, SpellsRule, IsKnownPart, EndsAt as UntilKey}
 use Rattle.profile.specs.series.Zones.{Constant, Means, local_time}
 use Rattle.profile.specs.events.ZonedTimes.{EventTimes}
 use Rattle.profile.specs.events.EventRules.{GivesRule, SaysEventRule}
-use Rattle.profile.specs.events.Events.{Event, NeedsAction, Cancel, Request, SaysEvent, meeting_said}
-use Rattle.profile.specs.events.Meetings.{Meeting}
+use Rattle.profile.specs.events.EventComponents.{EventComponent, NeedsAction, Cancel, Request, SaysEventComponent, meeting_said}
+use Rattle.profile.specs.events.Events.{Event}
 use Rattle.profile.specs.events.Starts.{ComesBefore, EndsAt, IsInstance, IsRuleStart, key_at}
 use Rattle.profile.specs.events.Confirmed.{AreApart, AreOfRule, IsOfSeries, alone}
 use Rattle.profile.specs.rooms.Messages as messages
 use Rattle.profile.specs.rooms.Messages.{Content, SpellsMessage, IsContent, IsPart, WritesTimes, Accept, no_content, opening_lines}
 use Rattle.profile.specs.rooms.Revisions.{Part, Whole, At, Cancelled, Set, is_whole, slot_cmp}
-use Rattle.profile.specs.rooms.Rooms.{Answer, Book, Claim, Confirms, Delivery, IsClear, IsLeftOf, Recurring, Runs, empty_book, confirmed_series, is_hidden, answered}
+use Rattle.profile.specs.rooms.Rooms.{PartAnswer, Book, Claim, Confirms, Delivery, IsClear, IsShownInSeries, Recurring, Runs, empty_book, confirmed_series, is_hidden, answered}
 use Rattle.profile.specs.streams.Streams.{IsDelivered}
-use Rattle.profile.specs.rooms.Kept.{Entry, Shown, Hidden, part_kept, IsEntry, AreKeptOf, IsKept, IsKeptCalendar}
+use Rattle.profile.specs.rooms.Kept.{KeptComponent, Shown, Hidden, part_kept, IsKeptComponent, AreKeptOf, IsKept, IsKeptCalendar}
 use Rattle.cal_events.proofs.Meanings.{utc_instant, utc_means}
 use Rattle.cal_events.proofs.OneInstance.{booked_same}
 use Rattle.cal_events.proofs.OwnSingles.{IsAtStart, at_start, from_start}
@@ -116,10 +116,10 @@ two_days = record {
   until = Some (UntilDay (pos 20_158));
 }
 
-abbrev rule : Parts
+abbrev rule : Rule
 rule = rule_of two_days 739_685 739_686
 
-abbrev event : Event
+abbrev event : EventComponent
 event = record {
   uid = codes "a";
   organiser = Some (codes "mailto:ann@example.com");
@@ -172,7 +172,7 @@ says_rule = record {
   gives = gives;
 }
 
-says : (object : Tree) → SaysEvent object (Some Request) own_lines event
+says : (object : Tree) → SaysEventComponent object (Some Request) own_lines event
 unfolding unescaped
 says object = record {
   uid = record { line = Some (codes "UID:a"); once = refl; present = λ _. refl; is = (refl, (omega arith, omega arith)) };
@@ -215,7 +215,7 @@ read : reads_as_lines true octets ≡ true
 unfolding is_utf8 chars encode
 read = refl
 
-object : IsObject tree_name tree_own tree_inside true (object_tree (codes "REQUEST") own_lines) (lines_of (codes "REQUEST") own_lines)
+object : IsObject true (object_tree (codes "REQUEST") own_lines) (lines_of (codes "REQUEST") own_lines)
 object = record {
   spelled = record {
     begin = codes "BEGIN:VCALENDAR";
@@ -238,7 +238,7 @@ spells : SpellsMessage octets message
 spells = record {
   lines = read;
   tree = object_tree (codes "REQUEST") own_lines;
-  object = subst (λ (l : Lines). IsObject tree_name tree_own tree_inside true (object_tree (codes "REQUEST") own_lines) l) (sym are_lines) object;
+  object = subst (λ (l : Lines). IsObject true (object_tree (codes "REQUEST") own_lines) l) (sym are_lines) object;
   says = record {
     method = record { line = codes "METHOD:REQUEST"; once = refl; named = refl };
     says = record {
@@ -296,16 +296,16 @@ is_part = record { organiser = refl; uid = refl; slot = refl; revision = refl; b
 
 -- its instances
 
-abbrev series : Meeting
+abbrev series : Event
 series = record { master = Some event; overrides = [] }
 
-abbrev booked_at : ℤ → ℤ → Booked
+abbrev booked_at : ℤ → ℤ → Instance
 booked_at start end = record { key = record { organiser = codes "mailto:ann@example.com"; uid = codes "a"; slot = start }; start = start; end = end }
 
-abbrev first : Booked
+abbrev first : Instance
 first = booked_at (pos 1_741_597_200) (pos 1_741_600_800)
 
-abbrev second : Booked
+abbrev second : Instance
 second = booked_at (pos 1_741_683_600) (pos 1_741_687_200)
 
 first_starts : IsRuleStart times rule (pos 1_741_597_200)
@@ -340,7 +340,7 @@ own_first = record {
 }
 
 -- an instance that starts then is the one
-one_at : (b : Booked) → IsAtStart event b → (start : ℤ) → b.start ≡ start → b ≡ booked_at start (start +ℤ pos 3600)
+one_at : (b : Instance) → IsAtStart event b → (start : ℤ) → b.start ≡ start → b ≡ booked_at start (start +ℤ pos 3600)
 one_at b s start e = booked_same b (booked_at start (start +ℤ pos 3600)) (s.key ∙ ap (key_at event) e) e (at_end s.ends)
   where
     at_end : EndsAt times b.start b.end → b.end ≡ start +ℤ pos 3600
@@ -348,7 +348,7 @@ one_at b s start e = booked_same b (booked_at start (start +ℤ pos 3600)) (s.ke
     at_end (later, inr d, same) = absurd (omega (arith, d.0))
 
 -- each instance is the first or the second
-which : (b : Booked) → IsInstance series b → (b ≡ first) ⊎ (b ≡ second)
+which : (b : Instance) → IsInstance series b → (b ≡ first) ⊎ (b ≡ second)
 which b is =
     let s = at_start event b is in
     elim s.starts.given [
@@ -357,7 +357,7 @@ which b is =
     ]
 
 -- and is one of the series
-of_series : (b : Booked) → IsInstance series b → IsOfSeries event b
+of_series : (b : Instance) → IsInstance series b → IsOfSeries event b
 of_series b is =
     elim (at_start event b is).starts.given [ inl g ↦ record { master = refl; rule = rule; has = refl; starts = g } | inr c ↦ absurd (none_in_nil b.start c) ]
 
@@ -395,7 +395,7 @@ abbrev gone_lines : Lines
 gone_lines =
     codes "UID:a" ∷ codes "RECURRENCE-ID:20250311T090000Z" ∷ codes "SEQUENCE:1" ∷ codes "DTSTAMP:20250301T120000Z" ∷ codes "ORGANIZER:mailto:ann@example.com" ∷ codes "ATTENDEE:mailto:r1@example.com" ∷ []
 
-abbrev gone : Event
+abbrev gone : EventComponent
 gone = record {
   uid = codes "a";
   organiser = Some (codes "mailto:ann@example.com");
@@ -428,7 +428,7 @@ second_start = (
   refl,
 )
 
-says_gone : (object : Tree) → SaysEvent object (Some Cancel) gone_lines gone
+says_gone : (object : Tree) → SaysEventComponent object (Some Cancel) gone_lines gone
 unfolding unescaped
 says_gone object = record {
   uid = record { line = Some (codes "UID:a"); once = refl; present = λ _. refl; is = (refl, (omega arith, omega arith)) };
@@ -485,7 +485,7 @@ read_gone : reads_as_lines true gone_octets ≡ true
 unfolding is_utf8 chars encode
 read_gone = refl
 
-gone_object : IsObject tree_name tree_own tree_inside true (object_tree (codes "CANCEL") gone_lines) (lines_of (codes "CANCEL") gone_lines)
+gone_object : IsObject true (object_tree (codes "CANCEL") gone_lines) (lines_of (codes "CANCEL") gone_lines)
 gone_object = record {
   spelled = record {
     begin = codes "BEGIN:VCALENDAR";
@@ -508,7 +508,7 @@ spells_cancel : SpellsMessage gone_octets cancel
 spells_cancel = record {
   lines = read_gone;
   tree = object_tree (codes "CANCEL") gone_lines;
-  object = subst (λ (l : Lines). IsObject tree_name tree_own tree_inside true (object_tree (codes "CANCEL") gone_lines) l) (sym are_gone_lines) gone_object;
+  object = subst (λ (l : Lines). IsObject true (object_tree (codes "CANCEL") gone_lines) l) (sym are_gone_lines) gone_object;
   says = record {
     method = record { line = codes "METHOD:CANCEL"; once = refl; named = refl };
     says = record {
@@ -562,27 +562,27 @@ abbrev recurring : Recurring
 recurring = record { part = part; meeting = series }
 
 -- what is confirmed is an instance of the series
-of_it : (taken : List Part) (b : Booked) → IsLeftOf taken (recurring ∷ []) b → IsInstance series b
+of_it : (taken : List Part) (b : Instance) → IsShownInSeries taken (recurring ∷ []) b → IsInstance series b
 of_it taken b l = subst (λ (r : Recurring). IsInstance r.meeting b) (only recurring l.series l.among) l.is
 
 clear_both : IsClear once_taken
 clear_both a b t c d clash = by (found a c) (found b d)
   where
-    found : (x : Booked) → Confirms once_taken x → (x ≡ first) ⊎ (x ≡ second)
+    found : (x : Instance) → Confirms once_taken x → (x ≡ first) ⊎ (x ≡ second)
     found x (inl k) = absurd (none_in_nil x k)
     found x (inr l) = which x (of_it (part ∷ []) x l)
 
-    apart : (x y : Booked) → x ≡ first → y ≡ second → IsWithin x.start x.end t → IsWithin y.start y.end t → ⊥
+    apart : (x y : Instance) → x ≡ first → y ≡ second → IsWithin x.start x.end t → IsWithin y.start y.end t → ⊥
     apart x y d e before after =
-        let ends = subst (λ (z : Booked). t <ℤ z.end) d before.1 in
-        let starts = subst (λ (z : Booked). z.start ≤ℤ t) e after.0 in
+        let ends = subst (λ (z : Instance). t <ℤ z.end) d before.1 in
+        let starts = subst (λ (z : Instance). z.start ≤ℤ t) e after.0 in
         omega (arith, ints, ends, starts)
 
     by : (a ≡ first) ⊎ (a ≡ second) → (b ≡ first) ⊎ (b ≡ second) → ⊥
-    by (inl d) (inl e) = clash.differ (ap (λ (z : Booked). z.key) (d ∙ sym e))
+    by (inl d) (inl e) = clash.differ (ap (λ (z : Instance). z.key) (d ∙ sym e))
     by (inl d) (inr e) = apart a b d e clash.in_first clash.in_second
     by (inr d) (inl e) = apart b a e d clash.in_second clash.in_first
-    by (inr d) (inr e) = clash.differ (ap (λ (z : Booked). z.key) (d ∙ sym e))
+    by (inr d) (inr e) = clash.differ (ap (λ (z : Instance). z.key) (d ∙ sym e))
 
 a_run : Runs empty_book (delivery ∷ cancelling ∷ []) both_taken
 a_run = (
@@ -599,7 +599,7 @@ one_series = refl
 first_confirmed : Confirms both_taken first
 first_confirmed = inr (record { series = recurring; among = in_head recurring []; is = from_start event first own_first; shown = refl })
 
-no_other : (b : Booked) → Confirms both_taken b → b ≡ first
+no_other : (b : Instance) → Confirms both_taken b → b ≡ first
 no_other b (inl c) = absurd (none_in_nil b c)
 no_other b (inr l) =
     elim (which b (of_it (part ∷ gone_part ∷ []) b l)) [
@@ -624,24 +624,24 @@ of_instance p c instance = elim (in_cons part (gone_part ∷ []) p c) [
   | inr rest ↦ only gone_part p rest
 ]
 
-abbrev the_answer : Answer
+abbrev the_answer : PartAnswer
 the_answer = record { claim = claim; moment = pos 1_740_830_500; outcome = Accept }
 
 is_kept : IsKept both_taken part claim
 is_kept = record { of_meeting = refl; answer = the_answer; given = in_head the_answer []; to = refl; confirms = refl }
 
 kept_claim : (c : Claim) → IsKept both_taken part c → c ≡ claim
-kept_claim c k = sym k.to ∙ ap (λ (a : Answer). a.claim) (only the_answer k.answer k.given)
+kept_claim c k = sym k.to ∙ ap (λ (a : PartAnswer). a.claim) (only the_answer k.answer k.given)
 
 -- the claim is shown, and the second day is hidden
 all_kept : AreKeptOf both_taken part (Shown claim ∷ Hidden gone_part ∷ [])
 all_kept = record {
   exact = λ entry. (is_entry entry, of_them entry);
   order = pairs_from (λ a b. slot_cmp (part_kept a).slot (part_kept b).slot ≡ Less) (Shown claim ∷ Hidden gone_part ∷ [])
-      (λ other c. subst (λ (e : Entry). slot_cmp part.slot (part_kept e).slot ≡ Less) (sym (only (Hidden gone_part) other c)) refl, (λ other nowhere. absurd (none_in_nil other nowhere), tt));
+      (λ other c. subst (λ (e : KeptComponent). slot_cmp part.slot (part_kept e).slot ≡ Less) (sym (only (Hidden gone_part) other c)) refl, (λ other nowhere. absurd (none_in_nil other nowhere), tt));
 }
   where
-    is_hidden : IsEntry both_taken part (Hidden gone_part)
+    is_hidden : IsKeptComponent both_taken part (Hidden gone_part)
     is_hidden = record {
       of_meeting = refl;
       viewed = refl;
@@ -652,13 +652,13 @@ all_kept = record {
       is_whole = refl;
     }
 
-    is_entry : (entry : Entry) → Contains (Shown claim ∷ Hidden gone_part ∷ []) entry → IsEntry both_taken part entry
+    is_entry : (entry : KeptComponent) → Contains (Shown claim ∷ Hidden gone_part ∷ []) entry → IsKeptComponent both_taken part entry
     is_entry entry c = elim (in_cons (Shown claim) (Hidden gone_part ∷ []) entry c) [
-      | inl e ↦ subst (IsEntry both_taken part) e is_kept
-      | inr rest ↦ subst (IsEntry both_taken part) (sym (only (Hidden gone_part) entry rest)) is_hidden
+      | inl e ↦ subst (IsKeptComponent both_taken part) e is_kept
+      | inr rest ↦ subst (IsKeptComponent both_taken part) (sym (only (Hidden gone_part) entry rest)) is_hidden
     ]
 
-    of_them : (entry : Entry) → IsEntry both_taken part entry → Contains (Shown claim ∷ Hidden gone_part ∷ []) entry
+    of_them : (entry : KeptComponent) → IsKeptComponent both_taken part entry → Contains (Shown claim ∷ Hidden gone_part ∷ []) entry
     of_them (Shown other) k = subst (λ (c : Claim). Contains (Shown claim ∷ Hidden gone_part ∷ []) (Shown c)) (sym (kept_claim other k)) (in_head (Shown claim) (Hidden gone_part ∷ []))
     of_them (Hidden other) k =
         subst (λ (p : Part). Contains (Shown claim ∷ Hidden gone_part ∷ []) (Hidden p)) (sym (of_instance other (view_taken both_taken.taken other k.viewed) k.instance))

@@ -6,7 +6,7 @@ use Rattle.std.proofs.lemmas.Bool.{not-true, both_ways, cases_Bool, false_from_n
 use Rattle.std.proofs.lemmas.Cmp.{tied_itself, tied_back}
 use Rattle.std.proofs.lemmas.List.Filters.{length-filter_both}
 use Rattle.profile.specs.rooms.Revisions.{Part, same_meeting, octets_cmp}
-use Rattle.profile.specs.rooms.Rooms.{Answer, Book, is_confirmed}
+use Rattle.profile.specs.rooms.Rooms.{PartAnswer, Book, is_confirmed}
 use Rattle.profile.specs.rooms.Kept.{first_parts}
 use Rattle.room_books.specs.Keeping.{kept}
 use Rattle.itip_order.proofs.Lists.{in_cons, in_head, in_tail, none_in_nil, filter_at, filter_from}
@@ -26,11 +26,11 @@ meeting_sym p q e = ap is_eq (tied_back meeting_total p q (is_eq_true _ e))
 pub meeting_trans : (p q r : Part) → same_meeting p q ≡ true → same_meeting q r ≡ true → same_meeting p r ≡ true
 meeting_trans p q r e f = meeting_congr p q r e ∙ f
 
-abbrev pub meeting_of : Answer → List ℕ × List ℕ
+abbrev pub meeting_of : PartAnswer → List ℕ × List ℕ
 meeting_of a = (a.claim.part.organiser, a.claim.part.uid)
 
 -- one organiser and one UID are one meeting
-pub meeting_same : (a b : Answer) → meeting_of a ≡ meeting_of b → same_meeting a.claim.part b.claim.part ≡ true
+pub meeting_same : (a b : PartAnswer) → meeting_of a ≡ meeting_of b → same_meeting a.claim.part b.claim.part ≡ true
 meeting_same a b e =
     subst (λ (m : List ℕ × List ℕ). is_eq (ordering_then (octets_cmp a.claim.part.organiser m.0) (octets_cmp a.claim.part.uid m.1)) ≡ true) e (meeting_refl a.claim.part)
 
@@ -38,7 +38,7 @@ meeting_same a b e =
 abbrev pub Apart : Part → Part → Type 0
 Apart p q = same_meeting p q ≡ false
 
-abbrev pub AnswersApart : Answer → Answer → Type 0
+abbrev pub AnswersApart : PartAnswer → PartAnswer → Type 0
 AnswersApart a b = Apart a.claim.part b.claim.part
 
 -- ---- the first parts
@@ -71,28 +71,28 @@ firsts_cover (p ∷ ps) r c =
 
 -- ---- answers by meetings
 
-abbrev pub of_part : Part → Answer → Bool
+abbrev pub of_part : Part → PartAnswer → Bool
 of_part p a = same_meeting p a.claim.part
 
-abbrev pub grouped : List Part → List Answer → List Answer
+abbrev pub grouped : List Part → List PartAnswer → List PartAnswer
 grouped ps xs = flat_map (λ p. filter (of_part p) xs) ps
 
-none_left : (xs : List Answer) → ((a : Answer) → Contains xs a → ⊥) → 0 ≡ length xs
+none_left : (xs : List PartAnswer) → ((a : PartAnswer) → Contains xs a → ⊥) → 0 ≡ length xs
 none_left [] h = refl
 none_left (x ∷ xs) h = absurd (h x (in_head x xs))
 
 -- without the answers of another meeting
-others_same : (p q : Part) (xs : List Answer) → Apart p q → filter (of_part q) xs ≡ filter (of_part q) (filter (λ a. not (of_part p a)) xs)
+others_same : (p q : Part) (xs : List PartAnswer) → Apart p q → filter (of_part q) xs ≡ filter (of_part q) (filter (λ a. not (of_part p a)) xs)
 others_same p q xs apart =
     filter_through (of_part q) (λ a. not (of_part p a)) xs (λ a c e. not_from_false _ (false_from_ne_true _ (λ f. both_ways _ apart (meeting_trans p a.claim.part q f (meeting_sym q a.claim.part e)))))
 
 -- all answers are there, where the parts cover them
-pub grouped_long : (ps : List Part) (xs : List Answer) → Pairwise Apart ps → ((a : Answer) → Contains xs a → Covered ps a.claim.part) → length (grouped ps xs) ≡ length xs
+pub grouped_long : (ps : List Part) (xs : List PartAnswer) → Pairwise Apart ps → ((a : PartAnswer) → Contains xs a → Covered ps a.claim.part) → length (grouped ps xs) ≡ length xs
 grouped_long [] xs d h = none_left xs (λ a c. let found = h a c in none_in_nil found.0 found.1)
 grouped_long (p ∷ ps) xs d h =
-    let rest : List Answer = filter (λ a. not (of_part p a)) xs in
+    let rest : List PartAnswer = filter (λ a. not (of_part p a)) xs in
     let others : grouped ps xs ≡ grouped ps rest = flat_same _ _ ps (λ q c. others_same p q xs (d.0 q c)) in
-    let covered : (a : Answer) → Contains rest a → Covered ps a.claim.part = λ a c.
+    let covered : (a : PartAnswer) → Contains rest a → Covered ps a.claim.part = λ a c.
     let from = filter_at (λ a. not (of_part p a)) xs a c in
     let found = h a from.0 in
     let P : Type 0 = Covered ps a.claim.part in
@@ -105,11 +105,11 @@ grouped_long (p ∷ ps) xs d h =
     let both = length-filter_both (of_part p) (λ a. not (of_part p a)) (λ a. refl) xs in
     omega (arith, length-append (filter (of_part p) xs) (grouped ps xs), ap length others, more, both)
 
-pub grouped_among : (ps : List Part) (xs : List Answer) (a : Answer) → Contains (grouped ps xs) a → Contains xs a
+pub grouped_among : (ps : List Part) (xs : List PartAnswer) (a : PartAnswer) → Contains (grouped ps xs) a → Contains xs a
 grouped_among ps xs a c = let found = flat_at (λ p. filter (of_part p) xs) ps a c in (filter_at (of_part found.0) xs a found.2).0
 
 -- and they stay apart
-pub grouped_apart : (ps : List Part) (xs : List Answer) → Pairwise Apart ps → Pairwise AnswersApart xs → Pairwise AnswersApart (grouped ps xs)
+pub grouped_apart : (ps : List Part) (xs : List PartAnswer) → Pairwise Apart ps → Pairwise AnswersApart xs → Pairwise AnswersApart (grouped ps xs)
 grouped_apart [] xs d a = tt
 grouped_apart (p ∷ ps) xs d a =
     pairs_append AnswersApart (filter (of_part p) xs) (grouped ps xs) (pairs_filter AnswersApart (of_part p) xs a) (grouped_apart ps xs d.1 a)
@@ -124,10 +124,10 @@ grouped_apart (p ∷ ps) xs d a =
 pub kept_is : (book : Book) → kept book ≡ grouped (first_parts book.taken) (filter (is_confirmed book.taken) book.answers)
 kept_is book = flat_same _ _ (first_parts book.taken) (λ p c. filter_and (of_part p) (is_confirmed book.taken) book.answers)
 
-differing : (xs : List Answer) → Pairwise AnswersApart xs → Pairwise (λ a b. meeting_of a ≢ meeting_of b) xs
+differing : (xs : List PartAnswer) → Pairwise AnswersApart xs → Pairwise (λ a b. meeting_of a ≢ meeting_of b) xs
 differing [] p = tt
 differing (a ∷ xs) p = (λ b c e. both_ways _ (p.0 b c) (meeting_same a b e), differing xs p.1)
 
 -- answers apart have different meetings
-pub meetings_differ : (xs : List Answer) → Pairwise AnswersApart xs → AllPairs ◌≢◌ (map meeting_of xs)
+pub meetings_differ : (xs : List PartAnswer) → Pairwise AnswersApart xs → AllPairs ◌≢◌ (map meeting_of xs)
 meetings_differ xs p = pairs_from ◌≢◌ (map meeting_of xs) (pairs_map ◌≢◌ meeting_of xs (differing xs p))

@@ -8,7 +8,7 @@ use Rattle.std.proofs.lemmas.Int.{ints}
 use Rattle.std.proofs.lemmas.List.Elements.{All-contains, Contains-get_or}
 use Rattle.std.proofs.lemmas.Option.{same_Some}
 use Rattle.std.proofs.lemmas.Slice.Eq.{bytes_eq-Decides}
-use Rattle.profile.specs.events.Events.{Event, meeting_said}
+use Rattle.profile.specs.events.EventComponents.{EventComponent, meeting_said}
 use Rattle.profile.specs.events.Confirmed.{AreReplaced, IsReplaced}
 use Rattle.cal_events.proofs.InOneOrder.{cons_pairs, head_pairs, tail_pairs}
 use Rattle.itip_order.proofs.Lists.{in_cons, in_head, in_tail, none_in_nil}
@@ -85,13 +85,13 @@ same_meeting a b h =
 is_same_meeting : (a b : List ℕ × List ℕ) → a ≡ b → (bytes_eq a.0 b.0 && bytes_eq a.1 b.1) ≡ true
 is_same_meeting a b e = and_from _ _ ((bytes_eq-Decides a.0 b.0).1 (ap (λ (m : List ℕ × List ℕ). m.0) e)) ((bytes_eq-Decides a.1 b.1).1 (ap (λ (m : List ℕ × List ℕ). m.1) e))
 
-module _ (event : Event) where
+module _ (event : EventComponent) where
   -- the event replaces this instant
-  abbrev Replaces : Event → ℤ → Type 0
+  abbrev Replaces : EventComponent → ℤ → Type 0
   Replaces other t = (meeting_said other ≡ meeting_said event) × (other.recurrence ≡ Some t)
 
   -- it replaces one, or none
-  replaces : (other : Event) → ((t : ℤ) × Replaces other t) ⊎ ((t : ℤ) → Replaces other t → ⊥)
+  replaces : (other : EventComponent) → ((t : ℤ) × Replaces other t) ⊎ ((t : ℤ) → Replaces other t → ⊥)
   replaces other = by other.recurrence refl
     where
       test : Bool
@@ -107,7 +107,7 @@ module _ (event : Event) where
         | inr apart ↦ inr (λ u s. true≢false (sym (is_same_meeting _ _ s.0) ∙ apart))
       ]
 
-  replaced_more : (other : Event) (events : List Event) (xs : List ℤ) → AreReplaced events event xs → (ys : List ℤ) × AreReplaced (other ∷ events) event ys
+  replaced_more : (other : EventComponent) (events : List EventComponent) (xs : List ℤ) → AreReplaced events event xs → (ys : List ℤ) × AreReplaced (other ∷ events) event ys
   replaced_more other events xs are = by (replaces other)
     where
       later : (t : ℤ) → IsReplaced events event t → IsReplaced (other ∷ events) event t
@@ -124,7 +124,7 @@ module _ (event : Event) where
               each = λ i d l. each put (get_or put.list i d) (Contains-get_or put.list i d l);
               ascending = put.ascending;
               all = λ u r. elim (in_cons other events r.override r.among) [
-                | inl here ↦ subst (λ (z : ℤ). Contains put.list z) (same_Some t u (sym is ∙ ap (λ (e : Event). e.recurrence) here ∙ r.is)) put.has
+                | inl here ↦ subst (λ (z : ℤ). Contains put.list z) (same_Some t u (sym is ∙ ap (λ (e : EventComponent). e.recurrence) here ∙ r.is)) put.has
                 | inr there ↦ put.keeps u (are.all u (record { override = r.override; among = there; of = r.of; is = r.is }))
               ];
             },
@@ -141,14 +141,14 @@ module _ (event : Event) where
           each = λ i d l. later (get_or xs i d) (are.each i d l);
           ascending = are.ascending;
           all = λ u r. elim (in_cons other events r.override r.among) [
-            | inl here ↦ absurd (none u (subst (λ (e : Event). Replaces e u) (sym here) (r.of, r.is)))
+            | inl here ↦ absurd (none u (subst (λ (e : EventComponent). Replaces e u) (sym here) (r.of, r.is)))
             | inr there ↦ are.all u (record { override = r.override; among = there; of = r.of; is = r.is })
           ];
         },
       )
 
   -- the instants that some of the events replace
-  pub replaced_by : (events : List Event) → (xs : List ℤ) × AreReplaced events event xs
+  pub replaced_by : (events : List EventComponent) → (xs : List ℤ) × AreReplaced events event xs
   replaced_by [] = (
     [],
     record { each = λ i d l. absurd (omega (arith, l)); ascending = λ i j d l w. absurd (omega (arith, w)); all = λ t r. absurd (none_in_nil r.override r.among) },

@@ -6,11 +6,11 @@ use Rattle.std.specs.List.{Contains, AllZip}
 use Rattle.std.proofs.lemmas.Bool.{both_ways}
 use Rattle.std.proofs.lemmas.Cmp.{tied_itself}
 use Rattle.std.proofs.lemmas.List.Elements.{Contains-append_cases}
-use Rattle.profile.specs.events.Events.{Event}
-use Rattle.profile.specs.events.Meetings.{events_of}
+use Rattle.profile.specs.events.EventComponents.{EventComponent}
+use Rattle.profile.specs.events.Events.{components_of}
 use Rattle.profile.specs.rooms.Messages.{Content, Message, Outcome, SpellsMessage, is_addressed, is_part_for, slot_of}
 use Rattle.profile.specs.rooms.Revisions.{Part, Slot, in_view, slot_cmp}
-use Rattle.profile.specs.rooms.Rooms.{Claim, Answer, Book, empty_book, is_set, parts_of, asked, answered, IsStep, Delivery, Runs}
+use Rattle.profile.specs.rooms.Rooms.{Claim, PartAnswer, Book, empty_book, is_set, parts_of, asked, answered, IsStep, Delivery, Runs}
 use Rattle.profile.specs.streams.Streams.{IsDelivered, IsClaim, AreClaims}
 use Rattle.cal_events.proofs.InOneOrder.{head_pairs, tail_pairs, of_filtered}
 use Rattle.itip_order.proofs.Lists.{in_cons, in_head, in_tail, none_in_nil}
@@ -30,16 +30,16 @@ pub record AllAsked (room : List ℕ) (claims : List Claim) : Type 0 where
   pub differ : Pairwise (λ a b. a.part ≢ b.part) claims
 
 module _ (room octets : List ℕ) (given : Message) (s : SpellsMessage octets given) where
-  asked_for : (event : Event) (claim : Claim) → Contains (events_of given.meeting) event → IsClaim room given event claim → IsAskedFor room claim
+  asked_for : (event : EventComponent) (claim : Claim) → Contains (components_of given.meeting) event → IsClaim room given event claim → IsAskedFor room claim
   asked_for event claim c is = record {
     asked = record { octets = octets; given = given; spells = s; event = event; among = c; is_part = is.part };
     books = is.asks;
   }
 
-  abbrev Here : List Event → Type 0
-  Here events = (e : Event) → Contains events e → Contains (events_of given.meeting) e
+  abbrev Here : List EventComponent → Type 0
+  Here events = (e : EventComponent) → Contains events e → Contains (components_of given.meeting) e
 
-  each_asked : (events : List Event) (claims : List Claim) → Here events → AllZip (IsClaim room given) events claims → (c : Claim) → Contains claims c → IsAskedFor room c
+  each_asked : (events : List EventComponent) (claims : List Claim) → Here events → AllZip (IsClaim room given) events claims → (c : Claim) → Contains claims c → IsAskedFor room c
   each_asked [] [] f z c k = absurd (none_in_nil c k)
   each_asked [] (x ∷ xs) f z c k = absurd z
   each_asked (e ∷ es) [] f z c k = absurd z
@@ -48,7 +48,7 @@ module _ (room octets : List ℕ) (given : Message) (s : SpellsMessage octets gi
     | inr there ↦ each_asked es xs (λ y d. f y (in_tail e es y d)) z.1 c there
   ]
 
-  slot_of_claim : (events : List Event) (claims : List Claim) → AllZip (IsClaim room given) events claims → (c : Claim) → Contains claims c → (e : Event) × Contains events e × (c.part.slot ≡ slot_of e)
+  slot_of_claim : (events : List EventComponent) (claims : List Claim) → AllZip (IsClaim room given) events claims → (c : Claim) → Contains claims c → (e : EventComponent) × Contains events e × (c.part.slot ≡ slot_of e)
   slot_of_claim [] [] z c k = absurd (none_in_nil c k)
   slot_of_claim [] (x ∷ xs) z c k = absurd z
   slot_of_claim (e ∷ es) [] z c k = absurd z
@@ -57,7 +57,7 @@ module _ (room octets : List ℕ) (given : Message) (s : SpellsMessage octets gi
     | inr there ↦ let found = slot_of_claim es xs z.1 c there in (found.0, in_tail e es found.0 found.1, found.2)
   ]
 
-  parts_differ : (events : List Event) (claims : List Claim) → AllZip (IsClaim room given) events claims → AllPairs (λ a b. slot_cmp (slot_of a) (slot_of b) ≡ Less) events → Pairwise (λ (a b : Claim). a.part ≢ b.part) claims
+  parts_differ : (events : List EventComponent) (claims : List Claim) → AllZip (IsClaim room given) events claims → AllPairs (λ a b. slot_cmp (slot_of a) (slot_of b) ≡ Less) events → Pairwise (λ (a b : Claim). a.part ≢ b.part) claims
   parts_differ [] [] z up = tt
   parts_differ [] (x ∷ xs) z up = absurd z
   parts_differ (e ∷ es) [] z up = absurd z
@@ -79,8 +79,8 @@ module _ (room octets : List ℕ) (given : Message) (s : SpellsMessage octets gi
     differ = parts_differ h.events claims h.each h.are.order;
   }
     where
-      among : (b : Bool) (e : Event) → Contains (if b then filter (is_part_for room given.method) (events_of given.meeting) else []) e → Contains (events_of given.meeting) e
-      among true e c = (of_filtered (is_part_for room given.method) (events_of given.meeting) e c).0
+      among : (b : Bool) (e : EventComponent) → Contains (if b then filter (is_part_for room given.method) (components_of given.meeting) else []) e → Contains (components_of given.meeting) e
+      among true e c = (of_filtered (is_part_for room given.method) (components_of given.meeting) e c).0
       among false e c = absurd (none_in_nil e c)
 
 pub delivered_asked : (room : List ℕ) (d : Delivery) → IsDelivered room d → AllAsked room d.claims
@@ -92,17 +92,17 @@ delivered_asked room d h = all_asked room h.octets h.message h.spells d.claims h
 pub record KeepsAll (room : List ℕ) (book : Book) : Type 0 where
   pub sound : IsSound book
   pub taken : (p : Part) → Contains book.taken p → (content : Content) × IsAsked room content p
-  pub each : (a : Answer) → Contains book.answers a → IsAskedFor room a.claim
-  pub set : (a : Answer) → Contains book.answers a → is_set a.claim.part ≡ true
+  pub each : (a : PartAnswer) → Contains book.answers a → IsAskedFor room a.claim
+  pub set : (a : PartAnswer) → Contains book.answers a → is_set a.claim.part ≡ true
   pub once : Pairwise OtherPart book.answers
 
 -- a step with claims that octets ask for
 pub keeps_step : (room : List ℕ) (before : Book) (claims : List Claim) (moment : ℤ) (outcome : Outcome) (after : Book) → AllAsked room claims → IsStep before claims moment outcome after → KeepsAll room before → KeepsAll room after
 keeps_step room before claims moment outcome after all s k =
-    let new : List Answer = answered moment outcome (asked before.taken after.taken claims) in
-    let is_new = λ (a : Answer) (c : Contains new a). new_answer before.taken after.taken moment outcome claims a c in
-    let split = λ (a : Answer) (c : Contains after.answers a). Contains-append_cases before.answers new a (subst (λ (l : List Answer). Contains l a) s.answers c) in
-    let across : (x y : Answer) → Contains before.answers x → Contains new y → OtherPart x y = λ x y old fresh e.
+    let new : List PartAnswer = answered moment outcome (asked before.taken after.taken claims) in
+    let is_new = λ (a : PartAnswer) (c : Contains new a). new_answer before.taken after.taken moment outcome claims a c in
+    let split = λ (a : PartAnswer) (c : Contains after.answers a). Contains-append_cases before.answers new a (subst (λ (l : List PartAnswer). Contains l a) s.answers c) in
+    let across : (x y : PartAnswer) → Contains before.answers x → Contains new y → OtherPart x y = λ x y old fresh e.
     let n = is_new y fresh in
     let known = subst (λ (p : Part). Contains before.taken p) e (k.sound.known x old) in
     both_ways _ n.gone (view_back before.taken (parts_of claims) y.claim.part known (subst (λ (t : List Part). in_view t y.claim.part ≡ true) s.taken n.seen)) in

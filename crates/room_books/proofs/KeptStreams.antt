@@ -2,7 +2,7 @@
 use Rattle.std.proofs.Common.{◌+◌, ℕ, ℤ, map, List, [], ◌∷◌, inl, inr, sym, subst}
 use Rattle.std.specs.List.{Contains}
 use Rattle.profile.specs.rooms.Messages.{Message, SpellsMessage}
-use Rattle.profile.specs.streams.Streams.{Box, Hosted, Hosts, Said, ToRooms, ToOrganiser, Spells, Steps, Takes, AllTake, Answers, AllAnswers, new_box}
+use Rattle.profile.specs.streams.Streams.{Box, Hosted, Config, Said, ToRooms, ToOrganiser, Spells, Steps, Takes, AllTake, Answers, AllAnswers, new_box}
 use Rattle.profile.specs.rooms.Rooms.{empty_book}
 use Rattle.itip_order.proofs.Lists.{in_cons, none_in_nil}
 use Rattle.room_books.proofs.KeptRuns.{KeepsAll, keeps_none, keeps_step, all_asked}
@@ -56,7 +56,7 @@ room_keeps (first ∷ rooms) room c k =
     ]
 
 -- each room's book after the objects of a stream
-pub served_keeps : (moment : ℤ) (hosts : Hosts) (n : ℕ) (objects : List (List ℕ)) (after : Box) (octets : List ℕ) (refused : ℕ) → AllAnswers moment n objects (new_box hosts) after octets refused
+pub served_keeps : (moment : ℤ) (hosts : Config) (n : ℕ) (objects : List (List ℕ)) (after : Box) (octets : List ℕ) (refused : ℕ) → AllAnswers moment n objects (new_box hosts) after octets refused
     → (room : Hosted) → Contains after.rooms room → KeepsAll room.address room.book
 served_keeps moment hosts n objects after octets refused a room c =
     room_keeps after.rooms room c (all_answers_keep moment n objects (new_box hosts) after octets refused a (none_keep hosts.rooms))

@@ -11,7 +11,7 @@ use Rattle.ical_values.specs.Octets.{address_octets, text_octets}
 use Rattle.room_books.specs.declared.meeting.MeetingKey.{MeetingKey}
 use Rattle.room_books.specs.contracts.meeting.MeetingKeyPartialEq.TheImpl.{eq-value}
 use Rattle.room_books.specs.Views.{same_key}
-use Rattle.room_books.specs.Timelines.{is_place}
+use Rattle.room_books.specs.Timelines.{is_own_place}
 
 -- the keys' own equality compares their octets
 pub key_eq_is : (a b : MeetingKey) → eq-value.it a b ≡ same_key a b
@@ -24,10 +24,10 @@ key_congr a b z e =
     let u = (bytes_eq-Decides (text_octets a.uid) (text_octets b.uid)).0 both.1 in
     λ i. bytes_eq (o i) (address_octets z.organiser) && bytes_eq (u i) (text_octets z.uid)
 
-at_place : (n i len : ℕ) → i < len → is_place (cond (nat_lt n len) (Some n) None) i ≡ (n == i)
+at_place : (n i len : ℕ) → i < len → is_own_place (cond (nat_lt n len) (Some n) None) i ≡ (n == i)
 at_place n i len l = elim (cases_lt n len) [
-  | inl below ↦ ap (λ b. is_place (cond b (Some n) None) i) (lt-ltb n len below)
-  | inr above ↦ ap (λ b. is_place (cond b (Some n) None) i) (le-ltb n len above) ∙ sym (ne_eqb n i (λ e. omega arith))
+  | inl below ↦ ap (λ b. is_own_place (cond b (Some n) None) i) (lt-ltb n len below)
+  | inr above ↦ ap (λ b. is_own_place (cond b (Some n) None) i) (le-ltb n len above) ∙ sym (ne_eqb n i (λ e. omega arith))
 ]
 
 -- the first place of a key among keys that differ is its only one
@@ -50,7 +50,7 @@ module _ (k : MeetingKey) (ks : List MeetingKey) (distinct : IsDistinct same_key
   unfolding first only
   only_place e = only e
 
-  pub place_is_own : is_place (position (same_key k) ks) i ≡ same_key k (get_or ks i d)
+  pub place_is_own : is_own_place (position (same_key k) ks) i ≡ same_key k (get_or ks i d)
   unfolding first only
   place_is_own = at_place first i (length ks) within ∙ elim (cases_Bool (same_key k (get_or ks i d))) [
     | inl own ↦ eq-eqb first i (only own) ∙ sym own

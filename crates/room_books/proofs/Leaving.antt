@@ -17,15 +17,15 @@ use Rattle.std.proofs.lemmas.List.Folds.{list_any_at, list_any_none}
 use Rattle.std.proofs.lemmas.List.Sorted.{searchable_from_sorted, Contains-permutation, IsPermutation-sym, IsPermutation-trans, IsPermutation-append_left, length_permutation}
 use Rattle.itip_order.proofs.Order.{then_equal}
 use Rattle.cal_events.proofs.Distinct.{Distinct, distinct_permutation}
-use Rattle.profile.specs.checker.Instances.{Booked}
+use Rattle.profile.specs.checker.Instances.{Instance}
 use Rattle.cal_events.specs.declared.instance.Single.{Single}
 use Rattle.cal_events.specs.declared.sweep.Span.{Span}
 use Rattle.room_books.specs.declared.meeting.MeetingKey.{MeetingKey}
 use Rattle.room_books.specs.declared.kept.Meeting.{Meeting}
 use Rattle.room_books.specs.declared.timeline.Busy.{Busy}
 use Rattle.room_books.specs.Instants.{HaveInstant, AreSeparate, IsParted, IsPartOf, single_cmp, the_single}
-use Rattle.room_books.specs.Timelines.{HoldsInstants, busy_in, has_single, is_place, is_leaving, same_single, IsSharedIn, IsTimelineOf}
-use Rattle.room_books.specs.Views.{same_key, booked_of, booked_list, confirmed_at, meeting_singles, singles_by, singles_in, span_of, others, AreAllApart, IsFree}
+use Rattle.room_books.specs.Timelines.{HoldsInstants, busy_in, has_single, is_own_place, is_leaving, same_single, IsSharedIn, IsTimelineOf}
+use Rattle.room_books.specs.Views.{same_key, keyed_instance, instance_list, confirmed_at, meeting_singles, singles_by, singles_in, instance_span, others, AreAllApart, IsFree}
 use Rattle.room_books.proofs.Pairs.{pairs_from}
 use Rattle.room_books.proofs.Parts.{pairs_to, pairs_across, pairs_right}
 use Rattle.room_books.proofs.Places.{are_at, booked_from, held_before, holds_shared, in_booked, key_at, other_from, other_key, other_place, place_of, real, there}
@@ -131,27 +131,27 @@ module _ (k : MeetingKey) (es : List (MeetingKey × Meeting)) (distinct : IsDist
       pairs_across Apart gone kept pairs r r (single_at gone r g) c r.span.start (record { in_first = (same, h0); in_second = (same, h0); before = holds.1 }))
 
   -- what shares no instant with what doesn't leave shares none with what stays confirmed
-  pub free_of_staying : (span : Span) → IsSharedIn (is_leaving own gone) items span None → IsFree (others k es ++ booked_list k kept) span
-  free_of_staying span none b t c h = elim (Contains-append_cases (others k es) (booked_list k kept) b c) [
+  pub free_of_staying : (span : Span) → IsSharedIn (is_leaving own gone) items span None → IsFree (others k es ++ instance_list k kept) span
+  free_of_staying span none b t c h = elim (Contains-append_cases (others k es) (instance_list k kept) b c) [
     | inl other ↦
         let o = other_place k es distinct own own_is b other in
         let shared : HaveInstant span o.1.span t = subst (λ (z : Span). HaveInstant span z t) (sym o.3) h in
         none (busy_in o.0 o.1) t (there (confirmed_at es) items timeline o.0 o.1 o.2 (holds_shared span o.1.span t shared)) (ap (λ x. x && has_single o.1 gone) o.4) shared
     | inr mine ↦
         let r = in_booked k kept b mine in
-        let shared : HaveInstant span r.0.span t = subst (λ (z : Booked). HaveInstant span (span_of z) t) (sym r.2) h in
+        let shared : HaveInstant span r.0.span t = subst (λ (z : Instance). HaveInstant span (instance_span z) t) (sym r.2) h in
         let holds = holds_shared span r.0.span t shared in
         let place = place_of k es in
         let among = subst (λ (l : List Single). Contains l r.0) (sym (held_before k es)) (kept_within before gone kept parted r.0 r.1) in
-        none (busy_in place r.0) t (there (confirmed_at es) items timeline place r.0 among holds) (ap (λ x. is_place own place && x) (not_gone r.0 r.1 holds) ∙ and_false (is_place own place)) shared
+        none (busy_in place r.0) t (there (confirmed_at es) items timeline place r.0 among holds) (ap (λ x. is_own_place own place && x) (not_gone r.0 r.1 holds) ∙ and_false (is_own_place own place)) shared
   ]
 
   -- and what doesn't leave stays confirmed
   pub staying_is : (b : Busy) → Contains items b → is_leaving own gone b ≡ false → (e : MeetingKey × Meeting) → slice_get es b.place ≡ Some e
-      → Contains (others k es ++ booked_list k kept) (booked_of e.0 b.single)
+      → Contains (others k es ++ instance_list k kept) (keyed_instance e.0 b.single)
   staying_is b c stays e at =
       let confirmed : Contains (meeting_singles e.1) b.single = subst (λ (o : Option (MeetingKey × Meeting)). Contains (singles_in o) b.single) at (real (confirmed_at es) items timeline b c) in
-      elim (cases_Bool (is_place own b.place)) [
+      elim (cases_Bool (is_own_place own b.place)) [
         | inl mine ↦
             let same : same_key k e.0 ≡ true = sym (key_at k es distinct own own_is b.place e at) ∙ mine in
             let not_gone : has_single b.single gone ≡ false = sym (ap (λ x. x && has_single b.single gone) mine) ∙ stays in
@@ -164,7 +164,7 @@ module _ (k : MeetingKey) (es : List (MeetingKey × Meeting)) (distinct : IsDist
               | inl left ↦ absurd (both_ways _ not_gone (single_from gone b.single left))
               | inr right ↦ right
             ] in
-            Contains-append_right (others k es) (booked_list k kept) (booked_of e.0 b.single)
-            (subst (Contains (booked_list k kept)) (booked_same k e.0 b.single same) (booked_from k kept b.single is_kept))
-        | inr other ↦ Contains-append_left (others k es) (booked_list k kept) (booked_of e.0 b.single) (other_from k es distinct own own_is b.place e b.single at confirmed other)
+            Contains-append_right (others k es) (instance_list k kept) (keyed_instance e.0 b.single)
+            (subst (Contains (instance_list k kept)) (booked_same k e.0 b.single same) (booked_from k kept b.single is_kept))
+        | inr other ↦ Contains-append_left (others k es) (instance_list k kept) (keyed_instance e.0 b.single) (other_from k es distinct own own_is b.place e b.single at confirmed other)
       ]

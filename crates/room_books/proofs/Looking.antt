@@ -14,19 +14,19 @@ use Rattle.std.proofs.lemmas.List.Elements.{Contains-append_cases}
 use Rattle.room_books.proofs.Loops.{one_more}
 use Rattle.profile.specs.rooms.Revisions as revisions
 use Rattle.profile.specs.rooms.Revisions.{Part, Whole, At, slot_cmp}
-use Rattle.room_books.specs.declared.meeting.Given.{Given}
-use Rattle.room_books.specs.BySlot.{AreBySlot, slot_in}
+use Rattle.room_books.specs.declared.meeting.PartAnswer.{PartAnswer}
+use Rattle.room_books.specs.BySlot.{AreAnswersBySlot, slot_in}
 use Rattle.room_books.specs.Representation.{Pairwise}
-use Rattle.room_books.specs.Takings.{IsLeftAlone, IsStill, LeavesAll}
+use Rattle.room_books.specs.Takings.{IsLeftAlone, IsAnswerAfter, LeavesAll}
 use Rattle.room_books.specs.Touching.{is_touched, IsUntouched}
 use Rattle.room_books.proofs.AcceptedSlots.{slot_from, slot_same}
 use Rattle.room_books.proofs.Pairs.{map_at, map_from}
 use Rattle.room_books.proofs.SlotPlaces.{NotAboveBy, pairs_of, pairs_sorted, sorted_pairs}
 
 -- in order, and what is of none of these slots is left alone
-pub record AreLost (slots : List OwnSlot) (before after : List Part) (part : Part) (answers : List Given) (lost : List OwnSlot) : Type 0 where
+pub record AreLost (slots : List OwnSlot) (before after : List Part) (part : Part) (answers : List PartAnswer) (lost : List OwnSlot) : Type 0 where
   pub rises : Pairwise (NotAboveBy slot_of) lost
-  pub others : (given : Given) → Contains answers given → is_touched lost (slot_of given.slot) ≡ false → IsLeftAlone slots before after part given
+  pub others : (given : PartAnswer) → Contains answers given → is_touched lost (slot_of given.slot) ≡ false → IsLeftAlone slots before after part given
 
 there : {X : Type 0} (us : List X) (u : X) (vs : List X) (y : X) → Contains (us ++ vs) y → Contains (us ++ u ∷ vs) y
 there [] u vs y c = in_tail u vs y c
@@ -48,9 +48,9 @@ touched_one xs x ys slot e f =
     let test : OwnSlot → Bool = λ own. is_eq (slot_cmp (slot_of own) slot) in
     list_any-append test xs (x ∷ ys) ∙ or_false (is_touched xs slot) (test x) (is_touched ys slot) e (sym (list_any-append test xs ys) ∙ f)
 
-module _ (slots : List OwnSlot) (before after : List Part) (part : Part) (answers : List Given) where
+module _ (slots : List OwnSlot) (before after : List Part) (part : Part) (answers : List PartAnswer) where
   pub lost_less : (xs : List OwnSlot) (x : OwnSlot) (ys : List OwnSlot) → AreLost slots before after part answers (xs ++ x ∷ ys)
-      → ((given : Given) → Contains answers given → slot_of given.slot ≡ slot_of x → IsStill slots before after part given (Some given)) → AreLost slots before after part answers (xs ++ ys)
+      → ((given : PartAnswer) → Contains answers given → slot_of given.slot ≡ slot_of x → IsAnswerAfter slots before after part given (Some given)) → AreLost slots before after part answers (xs ++ ys)
   lost_less xs x ys are stays = record {
     rises = without_one (NotAboveBy slot_of) xs x ys are.rises;
     others = λ given c untouched. elim (cases_Bool (is_eq (slot_cmp (slot_of x) (slot_of given.slot)))) [
@@ -61,7 +61,7 @@ module _ (slots : List OwnSlot) (before after : List Part) (part : Part) (answer
 
   -- a slot that is passed over, and one that is pushed
   pub lost_pass : (looked lost : List OwnSlot) (i : ℕ) (d : OwnSlot) → i < length looked → AreLost slots before after part answers (lost ++ drop i looked)
-      → ((given : Given) → Contains answers given → slot_of given.slot ≡ slot_of (get_or looked i d) → IsStill slots before after part given (Some given)) → AreLost slots before after part answers (lost ++ drop (i + 1) looked)
+      → ((given : PartAnswer) → Contains answers given → slot_of given.slot ≡ slot_of (get_or looked i d) → IsAnswerAfter slots before after part given (Some given)) → AreLost slots before after part answers (lost ++ drop (i + 1) looked)
   lost_pass looked lost i d w are stays =
       lost_less lost (get_or looked i d) (drop (i + 1) looked) (subst (λ (l : List OwnSlot). AreLost slots before after part answers (lost ++ l)) (drop_more looked i d w) are) stays
 
@@ -72,15 +72,15 @@ module _ (slots : List OwnSlot) (before after : List Part) (part : Part) (answer
       (subst (λ (l : List OwnSlot). AreLost slots before after part answers (lost ++ l)) (drop_more looked i d w) are))
 
   -- all that are looked at
-  pub lost_all : (looked : List OwnSlot) → IsSortedByKey slot_of slot_cmp looked → ((given : Given) → Contains answers given → is_touched looked (slot_of given.slot) ≡ false → IsUntouched slots (slot_of given.slot))
+  pub lost_all : (looked : List OwnSlot) → IsSortedByKey slot_of slot_cmp looked → ((given : PartAnswer) → Contains answers given → is_touched looked (slot_of given.slot) ≡ false → IsUntouched slots (slot_of given.slot))
       → AreLost slots before after part answers looked
   lost_all looked rises others = record { rises = sorted_pairs slot_of looked rises; others = λ given c h. inl (others given c h) }
 
 -- one more answer that confirms all that it did
-pub one_confirms : (slots : List OwnSlot) (history : List Part) (part : Part) (answers : List Given) (i : ℕ) (given : Given) → i < length answers → given ≡ get_or answers i given
-    → ((g : Given) → Contains (take i answers) g → LeavesAll slots history part g) → LeavesAll slots history part given → (g : Given) → Contains (take (i + 1) answers) g → LeavesAll slots history part g
+pub one_confirms : (slots : List OwnSlot) (history : List Part) (part : Part) (answers : List PartAnswer) (i : ℕ) (given : PartAnswer) → i < length answers → given ≡ get_or answers i given
+    → ((g : PartAnswer) → Contains (take i answers) g → LeavesAll slots history part g) → LeavesAll slots history part given → (g : PartAnswer) → Contains (take (i + 1) answers) g → LeavesAll slots history part g
 one_confirms slots history part answers i given w is before this g c =
-    elim (Contains-append_cases (take i answers) (given ∷ []) g (subst (λ (l : List Given). Contains l g) (one_more answers i given w is) c)) [
+    elim (Contains-append_cases (take i answers) (given ∷ []) g (subst (λ (l : List PartAnswer). Contains l g) (one_more answers i given w is) c)) [
       | inl old ↦ before g old
       | inr new ↦ elim (in_cons given [] g new) [
         | inl here ↦ subst (LeavesAll slots history part) here this
@@ -91,16 +91,16 @@ one_confirms slots history part answers i given w is before this g c =
 -- ---- what is looked at
 
 -- the slots of all answers
-pub slots_rise : (answers : List Given) → AreBySlot answers → IsSortedByKey slot_of slot_cmp (map (λ (given : Given). given.slot) answers)
-slots_rise answers up = pairs_sorted slot_of (map (λ (given : Given). given.slot) answers) (mapped answers (pairs_of answers up))
+pub slots_rise : (answers : List PartAnswer) → AreAnswersBySlot answers → IsSortedByKey slot_of slot_cmp (map (λ (given : PartAnswer). given.slot) answers)
+slots_rise answers up = pairs_sorted slot_of (map (λ (given : PartAnswer). given.slot) answers) (mapped answers (pairs_of answers up))
   where
-    mapped : (xs : List Given) → Pairwise (NotAboveBy slot_in) xs → Pairwise (NotAboveBy slot_of) (map (λ (given : Given). given.slot) xs)
+    mapped : (xs : List PartAnswer) → Pairwise (NotAboveBy slot_in) xs → Pairwise (NotAboveBy slot_of) (map (λ (given : PartAnswer). given.slot) xs)
     mapped [] p = tt
-    mapped (x ∷ xs) p = (λ s c. let r = map_at (λ (given : Given). given.slot) xs s c in subst (λ (z : OwnSlot). is_lt (slot_cmp (slot_of z) (slot_in x)) ≡ false) r.2 (p.0 r.0 r.1), mapped xs p.1)
+    mapped (x ∷ xs) p = (λ s c. let r = map_at (λ (given : PartAnswer). given.slot) xs s c in subst (λ (z : OwnSlot). is_lt (slot_cmp (slot_of z) (slot_in x)) ≡ false) r.2 (p.0 r.0 r.1), mapped xs p.1)
 
-pub all_looked : (answers : List Given) (given : Given) → Contains answers given → is_touched (map (λ (x : Given). x.slot) answers) (slot_of given.slot) ≡ true
+pub all_looked : (answers : List PartAnswer) (given : PartAnswer) → Contains answers given → is_touched (map (λ (x : PartAnswer). x.slot) answers) (slot_of given.slot) ≡ true
 all_looked answers given c =
-    any_from (λ own. is_eq (slot_cmp (slot_of own) (slot_of given.slot))) (map (λ (x : Given). x.slot) answers) given.slot (map_from (λ (x : Given). x.slot) answers given c) (slot_from (slot_of given.slot) (slot_of given.slot) refl)
+    any_from (λ own. is_eq (slot_cmp (slot_of own) (slot_of given.slot))) (map (λ (x : PartAnswer). x.slot) answers) given.slot (map_from (λ (x : PartAnswer). x.slot) answers given c) (slot_from (slot_of given.slot) (slot_of given.slot) refl)
 
 -- the whole, and these
 pub whole_rises : (slots : List OwnSlot) → IsSortedByKey slot_of slot_cmp slots → IsSortedByKey slot_of slot_cmp (own.Whole ∷ slots)

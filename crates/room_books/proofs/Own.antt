@@ -10,25 +10,25 @@ use Rattle.itip_order.proofs.Lasting.{view_one}
 use Rattle.itip_order.proofs.Lists.{in_cons, in_head, in_tail, none_in_nil, filter_at, all_at, all_from, any_at, any_from}
 use Rattle.itip_order.proofs.Order.{slot_same, is_eq_true, then_equal}
 use Rattle.itip_order.proofs.Registers.{place_sym, place_trans, greatest_at, greatest_from, implies_at, implies_from}
-use Rattle.profile.specs.checker.Instances.{Booked}
+use Rattle.profile.specs.checker.Instances.{Instance}
 use Rattle.profile.specs.rooms.Revisions as Revision
-use Rattle.profile.specs.rooms.Revisions.{Part, Whole, At, in_view, same_place, is_whole, is_greatest, implies, allows, slot_cmp, same_meeting, stays_beside}
-use Rattle.profile.specs.rooms.Rooms.{Answer, Book, Recurring, is_accept, is_confirmed, is_hidden, left_of, recurring_in, singles_confirmed, series_confirmed}
+use Rattle.profile.specs.rooms.Revisions.{Part, Whole, At, in_view, same_place, is_whole, is_greatest, implies, leaves_in_view, slot_cmp, same_meeting, stays_beside}
+use Rattle.profile.specs.rooms.Rooms.{PartAnswer as SaidAnswer, Book, Recurring, is_accept, is_confirmed, is_hidden, left_of, recurring_in, singles_confirmed, series_confirmed}
 use Rattle.room_books.specs.declared.meeting.MeetingKey.{MeetingKey}
 use Rattle.room_books.specs.declared.kept.Meeting.{Meeting}
 use Rattle.cal_events.specs.declared.instance.Single.{Single}
-use Rattle.room_books.specs.declared.meeting.Given.{Given}
+use Rattle.room_books.specs.declared.meeting.PartAnswer.{PartAnswer}
 use Rattle.room_books.specs.BySlot.{Reordered, left_without, taken_at}
 use Rattle.room_books.specs.BySlot.Reordered.{re_then}
-use Rattle.room_books.specs.Takings.{IsLeftAlone, IsSeriesLeft, IsStill, IsViewed, is_hidden_by, left_in, left_beside, booked_in}
+use Rattle.room_books.specs.Takings.{IsLeftAlone, IsSeriesLeft, IsAnswerAfter, IsViewed, is_hidden_by, left_in, left_beside, part_instance}
 use Rattle.room_books.proofs.Givens.{given_reordered, given_zip}
 use Rattle.room_books.proofs.Reordering.{re_back, re_filter, re_in, re_parts, re_swapped}
 use Rattle.room_books.specs.Touching.{is_touched, AllTouch, IsUntouched}
 use Rattle.itip_order.specs.declared.part.Slot.{Slot}
 use Rattle.std.specs.Ordering.{is_eq}
-use Rattle.room_books.specs.Views.{booked_of, booked_list, series_list}
+use Rattle.room_books.specs.Views.{keyed_instance, instance_list, series_list}
 use Rattle.std.specs.Option.{option_to_list}
-use Rattle.room_books.specs.Representation.{is_of, AreSameSeries, IsOwn, IsGiven, answers_in_view, KeepsAll, KeepsSome}
+use Rattle.room_books.specs.Representation.{is_of_meeting, AreSameSeries, IsOwn, HasAnswer, answers_in_view, KeepsAll, KeepsSome}
 use Rattle.room_books.proofs.Loops.{zip_both, zip_push, filter_push, filter_yes, filter_no}
 use Rattle.room_books.proofs.Meetings.{filter_same, is_of_parts, of_part, same_place_of}
 use Rattle.room_books.proofs.Pairs.{flat_at}
@@ -57,27 +57,27 @@ filter_all f (x ∷ xs) h = ap (λ b. cond b (x ∷ filter f xs) (filter f xs)) 
 -- ---- what one answer confirms
 
 -- the part's instances are those of its meeting
-pub booked_is : (k : MeetingKey) (p : Part) (s : Single) → is_of k p ≡ true → booked_in p s ≡ booked_of k s
+pub booked_is : (k : MeetingKey) (p : Part) (s : Single) → is_of_meeting k p ≡ true → part_instance p s ≡ keyed_instance k s
 booked_is k p s e =
     let o = is_of_parts k p e in
     λ i. record { key = record { organiser = sym o.0 i; uid = sym o.1 i; slot = s.slot }; start = s.span.start; end = s.span.end }
 
-pub booked_all : (k : MeetingKey) (p : Part) (xs : List Single) → is_of k p ≡ true → map (booked_in p) xs ≡ booked_list k xs
+pub booked_all : (k : MeetingKey) (p : Part) (xs : List Single) → is_of_meeting k p ≡ true → map (part_instance p) xs ≡ instance_list k xs
 booked_all k p [] e = refl
 booked_all k p (s ∷ xs) e = λ i. booked_is k p s e i ∷ booked_all k p xs e i
 
-pub left_booked : (k : MeetingKey) (t : List Part) (p : Part) (xs : List Single) → is_of k p ≡ true → booked_list k (left_in t p xs) ≡ filter (λ b. not (is_hidden t p b)) (booked_list k xs)
+pub left_booked : (k : MeetingKey) (t : List Part) (p : Part) (xs : List Single) → is_of_meeting k p ≡ true → instance_list k (left_in t p xs) ≡ filter (λ b. not (is_hidden t p b)) (instance_list k xs)
 left_booked k t p [] e = refl
 left_booked k t p (s ∷ xs) e =
-    at_test (not (is_hidden t p (booked_in p s))) (left_booked k t p xs e) ∙ ap (λ b. cond (not (is_hidden t p b)) (booked_of k s ∷ filter (λ b. not (is_hidden t p b)) (booked_list k xs)) (filter (λ b. not (is_hidden t p b)) (booked_list k xs))) (booked_is k p s e)
+    at_test (not (is_hidden t p (part_instance p s))) (left_booked k t p xs e) ∙ ap (λ b. cond (not (is_hidden t p b)) (keyed_instance k s ∷ filter (λ b. not (is_hidden t p b)) (instance_list k xs)) (filter (λ b. not (is_hidden t p b)) (instance_list k xs))) (booked_is k p s e)
   where
-    at_test : (b : Bool) → booked_list k (left_in t p xs) ≡ filter (λ b. not (is_hidden t p b)) (booked_list k xs)
-        → booked_list k (cond b (s ∷ left_in t p xs) (left_in t p xs)) ≡ cond b (booked_of k s ∷ filter (λ b. not (is_hidden t p b)) (booked_list k xs)) (filter (λ b. not (is_hidden t p b)) (booked_list k xs))
-    at_test true r = ap (λ l. booked_of k s ∷ l) r
+    at_test : (b : Bool) → instance_list k (left_in t p xs) ≡ filter (λ b. not (is_hidden t p b)) (instance_list k xs)
+        → instance_list k (cond b (s ∷ left_in t p xs) (left_in t p xs)) ≡ cond b (keyed_instance k s ∷ filter (λ b. not (is_hidden t p b)) (instance_list k xs)) (filter (λ b. not (is_hidden t p b)) (instance_list k xs))
+    at_test true r = ap (λ l. keyed_instance k s ∷ l) r
     at_test false r = r
 
 -- one answer whose part is in the view
-pub one_given : {X : Type 0} (f : Answer → List X) (t : List Part) (a : Answer) → in_view t a.claim.part ≡ true → given_by f t (a ∷ []) ≡ cond (is_accept a.outcome) (f a) []
+pub one_given : {X : Type 0} (f : SaidAnswer → List X) (t : List Part) (a : SaidAnswer) → in_view t a.claim.part ≡ true → given_by f t (a ∷ []) ≡ cond (is_accept a.outcome) (f a) []
 one_given {X} f t a seen = at_test (is_accept a.outcome) (in_view t a.claim.part) seen
   where
     at_test : (b c : Bool) → c ≡ true → flat_map f (cond (b && c) (a ∷ []) []) ≡ cond b (f a) []
@@ -86,17 +86,17 @@ one_given {X} f t a seen = at_test (is_accept a.outcome) (in_view t a.claim.part
     at_test false true e = refl
     at_test false false e = refl
 
-pub one_confirmed : (t : List Part) (a : Answer) → in_view t a.claim.part ≡ true → singles_confirmed t (a ∷ []) ≡ cond (is_accept a.outcome) (left_of t a) []
+pub one_confirmed : (t : List Part) (a : SaidAnswer) → in_view t a.claim.part ≡ true → singles_confirmed t (a ∷ []) ≡ cond (is_accept a.outcome) (left_of t a) []
 one_confirmed t a seen = one_given (left_of t) t a seen
 
 -- a series among those of one answer is of its part
-one_part : (t : List Part) (a : Answer) (r : Recurring) → Contains (series_confirmed t (a ∷ [])) r → r.part ≡ a.claim.part
+one_part : (t : List Part) (a : SaidAnswer) (r : Recurring) → Contains (series_confirmed t (a ∷ [])) r → r.part ≡ a.claim.part
 one_part t a r c =
     let found = flat_at recurring_in (filter (is_confirmed t) (a ∷ [])) r c in
     let is : a ≡ found.0 = elim (in_cons a [] found.0 (filter_at (is_confirmed t) (a ∷ []) found.0 found.1).0) [ inl here ↦ here | inr none ↦ absurd (none_in_nil found.0 none) ] in
-    of_part found.0 r found.2 ∙ ap (λ (x : Answer). x.claim.part) (sym is)
+    of_part found.0 r found.2 ∙ ap (λ (x : SaidAnswer). x.claim.part) (sym is)
 
-filter_cond : (f : Booked → Bool) (b : Bool) (xs : List Booked) → filter f (cond b xs []) ≡ cond b (filter f xs) []
+filter_cond : (f : Instance → Bool) (b : Bool) (xs : List Instance) → filter f (cond b xs []) ≡ cond b (filter f xs) []
 filter_cond f true xs = refl
 filter_cond f false xs = refl
 
@@ -112,30 +112,30 @@ untouched_view h more a taken seen other instance =
       taken = Contains-append_left h more a taken;
       top = λ y c same. elim (Contains-append_cases h more y c) [ inl old ↦ top.top y old same | inr new ↦ absurd (both_ways _ (other y new) same) ];
     })
-    (all_from (λ w. implies (is_greatest (h ++ more) w) (allows w a)) (h ++ more) (λ w c. implies_from _ _ (λ greatest. elim (Contains-append_cases h more w c) [
+    (all_from (λ w. implies (is_greatest (h ++ more) w) (leaves_in_view w a)) (h ++ more) (λ w c. implies_from _ _ (λ greatest. elim (Contains-append_cases h more w c) [
       | inl old ↦
           let g = greatest_at (h ++ more) w greatest in
           let was = greatest_from h w record { taken = old; top = λ y d same. g.top y (Contains-append_left h more y d) same } in
-          implies_at _ _ (all_at (λ x. implies (is_greatest h x) (allows x a)) h w both.1 old) was
+          implies_at _ _ (all_at (λ x. implies (is_greatest h x) (leaves_in_view x a)) h w both.1 old) was
       | inr new ↦ or_right (is_whole a) _ (implies_from (is_whole w && same_meeting w a) (stays_beside w a) (λ whole. absurd (both_ways _ (instance w new) (and_parts (is_whole w) (same_meeting w a) whole).0)))
     ])))
 
 -- nothing hides an instance of a part that is one itself
-never_hidden : (t : List Part) (p : Part) (b : Booked) → is_whole p ≡ false → is_hidden t p b ≡ false
+never_hidden : (t : List Part) (p : Part) (b : Instance) → is_whole p ≡ false → is_hidden t p b ≡ false
 never_hidden t p b whole = and_false _ _ whole
   where
     and_false : (x y : Bool) → x ≡ false → (x && y) ≡ false
     and_false true y e = absurd (true≢false e)
     and_false false y e = refl
 
-left_instance : (t : List Part) (a : Answer) → is_whole a.claim.part ≡ false → left_of t a ≡ a.claim.singles
+left_instance : (t : List Part) (a : SaidAnswer) → is_whole a.claim.part ≡ false → left_of t a ≡ a.claim.singles
 left_instance t a whole = filter_all (λ b. not (is_hidden t a.claim.part b)) a.claim.singles (λ b c. not_from_false _ (never_hidden t a.claim.part b whole))
 
 -- ---- an answer, when more parts are taken
 
-module _ (key : MeetingKey) (own : Book) (more : List Part) (is_own : IsOwn key own) (slots : List Slot) (touches : AllTouch slots more) (before after : List Part) (part : Part) (of_key : is_of key part ≡ true)
+module _ (key : MeetingKey) (own : Book) (more : List Part) (is_own : IsOwn key own) (slots : List Slot) (touches : AllTouch slots more) (before after : List Part) (part : Part) (of_key : is_of_meeting key part ≡ true)
     (stood : RepresentsHistory before own.taken) (represented : RepresentsHistory after (own.taken ++ more))
-    (a : Answer) (known : Contains own.answers a) (seen : in_view own.taken a.claim.part ≡ true) (given : Given) (g : IsGiven key own.taken a given) where
+    (a : SaidAnswer) (known : Contains own.answers a) (seen : in_view own.taken a.claim.part ≡ true) (given : PartAnswer) (g : HasAnswer key own.taken a given) where
   abbrev place : Part
   place = at_slot part (slot_of given.slot)
 
@@ -149,20 +149,20 @@ module _ (key : MeetingKey) (own : Book) (more : List Part) (is_own : IsOwn key 
   is_part q v = view_one own.taken q a.claim.part (v.seen own.taken stood) seen (place_trans q place a.claim.part v.same (place_sym a.claim.part place a_place))
 
   -- what it confirms wasn't hidden
-  was_shown : (single : Single) → Contains given.singles.items single → is_hidden own.taken a.claim.part (booked_in a.claim.part single) ≡ false
+  was_shown : (single : Single) → Contains given.singles.items single → is_hidden own.taken a.claim.part (part_instance a.claim.part single) ≡ false
   was_shown single c =
-      let b = booked_of key single in
-      let there = subst (λ (l : List Booked). Contains l b) (g.confirms ∙ one_confirmed own.taken a seen) (booked_from key given.singles.items single c) in
+      let b = keyed_instance key single in
+      let there = subst (λ (l : List Instance). Contains l b) (g.confirms ∙ one_confirmed own.taken a seen) (booked_from key given.singles.items single c) in
       let left = in_cond (is_accept a.outcome) (left_of own.taken a) b there in
       let shown = not-true _ (filter_at (λ x. not (is_hidden own.taken a.claim.part x)) a.claim.singles b left).1 in
       ap (is_hidden own.taken a.claim.part) (booked_is key a.claim.part single (is_own.taken a.claim.part a_taken)) ∙ shown
     where
-      in_cond : (t : Bool) (xs : List Booked) (x : Booked) → Contains (cond t xs []) x → Contains xs x
+      in_cond : (t : Bool) (xs : List Instance) (x : Instance) → Contains (cond t xs []) x → Contains xs x
       in_cond true xs x c = c
       in_cond false xs x c = absurd (none_in_nil x c)
 
   -- so what hides it now is a part that was taken now
-  hidden_touched : (b : Booked) → is_hidden own.taken a.claim.part b ≡ false → is_hidden (own.taken ++ more) a.claim.part b ≡ true → is_touched slots (At b.key.slot) ≡ true
+  hidden_touched : (b : Instance) → is_hidden own.taken a.claim.part b ≡ false → is_hidden (own.taken ++ more) a.claim.part b ≡ true → is_touched slots (At b.key.slot) ≡ true
   hidden_touched b was hidden =
       let now = own.taken ++ more in
       let hides : List Part → Part → Bool = λ t other. in_view t other && same_place other (record a.claim.part { slot = At b.key.slot }) in
@@ -183,7 +183,7 @@ module _ (key : MeetingKey) (own : Book) (more : List Part) (is_own : IsOwn key 
   same_test false false f = refl
 
   beside_is : left_beside slots (own.taken ++ more) a.claim.part given.singles.items ≡ left_in (own.taken ++ more) a.claim.part given.singles.items
-  beside_is = filter_same _ _ given.singles.items (λ single c. ap not (same_test _ _ (hidden_touched (booked_in a.claim.part single) (was_shown single c))))
+  beside_is = filter_same _ _ given.singles.items (λ single c. ap not (same_test _ _ (hidden_touched (part_instance a.claim.part single) (was_shown single c))))
 
   -- its series are the same as long as its part is in the view
   same_series : in_view (own.taken ++ more) a.claim.part ≡ true → series_confirmed (own.taken ++ more) (a ∷ []) ≡ series_confirmed own.taken (a ∷ [])
@@ -199,7 +199,7 @@ module _ (key : MeetingKey) (own : Book) (more : List Part) (is_own : IsOwn key 
         (λ y c. false_from_ne_true _ (λ whole.
         both_ways _ alone.whole (subst (λ (x : Revision.Slot). is_touched slots x ≡ true) (slot_same y.slot Whole (is_eq_true _ whole)) (touches y c))))
 
-    pub untouched_given : IsGiven key (own.taken ++ more) a given
+    pub untouched_given : HasAnswer key (own.taken ++ more) a given
     untouched_given =
         let whole : is_whole a.claim.part ≡ false = ap (λ (x : Revision.Slot). is_eq (slot_cmp x Whole)) (sym g.slot) ∙ alone.instance in
         record {
@@ -217,29 +217,29 @@ module _ (key : MeetingKey) (own : Book) (more : List Part) (is_own : IsOwn key 
               g.recurs);
         }
 
-  pub gone : IsStill slots before after part given None → in_view (own.taken ++ more) a.claim.part ≡ false
+  pub gone : IsAnswerAfter slots before after part given None → in_view (own.taken ++ more) a.claim.part ≡ false
   gone s = elim s [
     | inl none ↦ absurd (none own.taken stood a.claim.part seen a_place)
     | inr out ↦ subst (λ (p : Part). in_view (own.taken ++ more) p ≡ false) (is_part out.0 out.1) (out.2 (own.taken ++ more) represented)
   ]
 
-  module _ (left : Given) (s : IsStill slots before after part given (Some left)) where
+  module _ (left : PartAnswer) (s : IsAnswerAfter slots before after part given (Some left)) where
     same : s.0 ≡ a.claim.part
     same = is_part s.0 s.1
 
     pub stays : in_view (own.taken ++ more) a.claim.part ≡ true
     stays = subst (λ (p : Part). in_view (own.taken ++ more) p ≡ true) same (s.2 (own.taken ++ more) represented)
 
-    hidden_still : (b : Booked) → not (is_hidden (own.taken ++ more) a.claim.part b) ≡ true → not (is_hidden own.taken a.claim.part b) ≡ true
+    hidden_still : (b : Instance) → not (is_hidden (own.taken ++ more) a.claim.part b) ≡ true → not (is_hidden own.taken a.claim.part b) ≡ true
     hidden_still b h = not_from_false _ (false_from_ne_true _ (λ hidden. both_ways _ (not-true _ h) (hidden_stays own.taken more a.claim.part b a_taken stays hidden)))
 
-    confirms : booked_list key left.singles.items ≡ singles_confirmed (own.taken ++ more) (a ∷ [])
+    confirms : instance_list key left.singles.items ≡ singles_confirmed (own.taken ++ more) (a ∷ [])
     confirms =
         let now = own.taken ++ more in
-        let f : Booked → Bool = λ b. not (is_hidden now a.claim.part b) in
-        ap (booked_list key) (s.3.singles now represented)
-        ∙ ap (λ (p : Part). booked_list key (left_beside slots now p given.singles.items)) same
-        ∙ ap (booked_list key) beside_is
+        let f : Instance → Bool = λ b. not (is_hidden now a.claim.part b) in
+        ap (instance_list key) (s.3.singles now represented)
+        ∙ ap (λ (p : Part). instance_list key (left_beside slots now p given.singles.items)) same
+        ∙ ap (instance_list key) beside_is
         ∙ left_booked key now a.claim.part given.singles.items (is_own.taken a.claim.part a_taken)
         ∙ ap (filter f) (g.confirms ∙ one_confirmed own.taken a seen)
         ∙ filter_cond f (is_accept a.outcome) (left_of own.taken a)
@@ -251,7 +251,7 @@ module _ (key : MeetingKey) (own : Book) (more : List Part) (is_own : IsOwn key 
     recurs =
         let now = own.taken ++ more in
         let part = a.claim.part in
-        let hides : Booked → Bool = is_hidden_by slots now part in
+        let hides : Instance → Bool = is_hidden_by slots now part in
         let at : ℤ → Bool = λ slot. hides (record { key = record { organiser = []; uid = []; slot = slot }; start = slot; end = slot }) in
         subst (λ (l : List Recurring). AreSameSeries now l (series_list key (option_to_list left.series))) (sym (same_series stays))
         (left_series key own.taken now part at (series_confirmed own.taken (a ∷ [])) (one_part own.taken a)
@@ -262,7 +262,7 @@ module _ (key : MeetingKey) (own : Book) (more : List Part) (is_own : IsOwn key 
         ))
         given.series left.series (subst (λ (p : Part). IsSeriesLeft (is_hidden_by slots now p) given.series left.series) same (s.3.series now represented)) g.recurs)
 
-    pub still_given : IsGiven key (own.taken ++ more) a left
+    pub still_given : HasAnswer key (own.taken ++ more) a left
     still_given = record {
       slot = ap slot_of s.3.slot ∙ g.slot;
       moment = s.3.moment ∙ g.moment;
@@ -285,32 +285,32 @@ zip_last R (x ∷ u ∷ xs) [] y z = absurd z.1
 zip_last R (x ∷ xs) (w ∷ ys) y z = let r = zip_last R xs ys y z.1 in (x ∷ r.0, r.1, ap (λ l. x ∷ l) r.2, (z.0, r.3), r.4)
 
 -- one more whose part stays in the view, with what is left of it
-module _ (part : Part) (slots : List Slot) (before after : List Part) (done kept kept' : List Given) (given left : Given) (k : KeepsSome part slots before after done kept) (is : kept' ≡ kept ++ left ∷ []) where
-  keeps_left : ((own : Book) (key : MeetingKey) (more : List Part) → is_of key part ≡ true → IsOwn key own → RepresentsHistory before own.taken → RepresentsHistory after (own.taken ++ more) → AllTouch slots more
-      → (a : Answer) → Contains own.answers a → in_view own.taken a.claim.part ≡ true → IsGiven key own.taken a given → (in_view (own.taken ++ more) a.claim.part ≡ true) × IsGiven key (own.taken ++ more) a left)
+module _ (part : Part) (slots : List Slot) (before after : List Part) (done kept kept' : List PartAnswer) (given left : PartAnswer) (k : KeepsSome part slots before after done kept) (is : kept' ≡ kept ++ left ∷ []) where
+  keeps_left : ((own : Book) (key : MeetingKey) (more : List Part) → is_of_meeting key part ≡ true → IsOwn key own → RepresentsHistory before own.taken → RepresentsHistory after (own.taken ++ more) → AllTouch slots more
+      → (a : SaidAnswer) → Contains own.answers a → in_view own.taken a.claim.part ≡ true → HasAnswer key own.taken a given → (in_view (own.taken ++ more) a.claim.part ≡ true) × HasAnswer key (own.taken ++ more) a left)
       → KeepsSome part slots before after (done ++ given ∷ []) kept'
   keeps_left f own key more e o b st t xs h z =
-      let r = zip_last (IsGiven key own.taken) xs done given z in
+      let r = zip_last (HasAnswer key own.taken) xs done given z in
       let now = own.taken ++ more in
       let a = r.1 in
-      let old_is = h a (subst (λ (l : List Answer). Contains l a) (sym r.2) (Contains-push r.0 a)) in
-      let old = k own key more e o b st t r.0 (λ x c. h x (subst (λ (l : List Answer). Contains l x) (sym r.2) (Contains-append_left r.0 (a ∷ []) x c))) r.3 in
+      let old_is = h a (subst (λ (l : List SaidAnswer). Contains l a) (sym r.2) (Contains-push r.0 a)) in
+      let old = k own key more e o b st t r.0 (λ x c. h x (subst (λ (l : List SaidAnswer). Contains l x) (sym r.2) (Contains-append_left r.0 (a ∷ []) x c))) r.3 in
       let both = f own key more e o b st t a old_is.0 old_is.1 r.4 in
       let same : answers_in_view now r.0 ++ a ∷ [] ≡ answers_in_view now xs = sym (ap (answers_in_view now) r.2 ∙ filter_push (λ x. in_view now x.claim.part) r.0 a ∙ ap (λ c. answers_in_view now r.0 ++ cond c (a ∷ []) []) both.0) in
-      subst (λ (l : List Given). AllZip (IsGiven key now) (answers_in_view now xs) l) (sym is)
-      (subst (λ (l : List Answer). AllZip (IsGiven key now) l (kept ++ left ∷ [])) same (zip_push (IsGiven key now) (answers_in_view now r.0) kept a left old both.1))
+      subst (λ (l : List PartAnswer). AllZip (HasAnswer key now) (answers_in_view now xs) l) (sym is)
+      (subst (λ (l : List SaidAnswer). AllZip (HasAnswer key now) l (kept ++ left ∷ [])) same (zip_push (HasAnswer key now) (answers_in_view now r.0) kept a left old both.1))
 
-pub keeps_more : (part : Part) (slots : List Slot) (before after : List Part) (done kept kept' : List Given) (given : Given) (o : Option Given) → KeepsSome part slots before after done kept → IsStill slots before after part given o
-    → ((left : Given) → o ≡ Some left → kept' ≡ kept ++ left ∷ []) → (o ≡ None → kept' ≡ kept) → KeepsSome part slots before after (done ++ given ∷ []) kept'
+pub keeps_more : (part : Part) (slots : List Slot) (before after : List Part) (done kept kept' : List PartAnswer) (given : PartAnswer) (o : Option PartAnswer) → KeepsSome part slots before after done kept → IsAnswerAfter slots before after part given o
+    → ((left : PartAnswer) → o ≡ Some left → kept' ≡ kept ++ left ∷ []) → (o ≡ None → kept' ≡ kept) → KeepsSome part slots before after (done ++ given ∷ []) kept'
 keeps_more part slots before after done kept kept' given None k s some none own key more e o b st t xs h z =
-    let r = zip_last (IsGiven key own.taken) xs done given z in
+    let r = zip_last (HasAnswer key own.taken) xs done given z in
     let now = own.taken ++ more in
     let a = r.1 in
-    let is = h a (subst (λ (l : List Answer). Contains l a) (sym r.2) (Contains-push r.0 a)) in
-    let old = k own key more e o b st t r.0 (λ x c. h x (subst (λ (l : List Answer). Contains l x) (sym r.2) (Contains-append_left r.0 (a ∷ []) x c))) r.3 in
+    let is = h a (subst (λ (l : List SaidAnswer). Contains l a) (sym r.2) (Contains-push r.0 a)) in
+    let old = k own key more e o b st t r.0 (λ x c. h x (subst (λ (l : List SaidAnswer). Contains l x) (sym r.2) (Contains-append_left r.0 (a ∷ []) x c))) r.3 in
     let out = gone key own more o slots t before after part e b st a is.0 is.1 given r.4 s in
     let same : answers_in_view now r.0 ≡ answers_in_view now xs = sym (ap (answers_in_view now) r.2 ∙ filter_push (λ x. in_view now x.claim.part) r.0 a ∙ ap (λ c. answers_in_view now r.0 ++ cond c (a ∷ []) []) out ∙ append-nil (answers_in_view now r.0)) in
-    subst (λ (l : List Given). AllZip (IsGiven key now) (answers_in_view now xs) l) (sym (none refl)) (subst (λ (l : List Answer). AllZip (IsGiven key now) l kept) same old)
+    subst (λ (l : List PartAnswer). AllZip (HasAnswer key now) (answers_in_view now xs) l) (sym (none refl)) (subst (λ (l : List SaidAnswer). AllZip (HasAnswer key now) l kept) same old)
 keeps_more part slots before after done kept kept' given (Some left) k s some none own key more e o b st t xs h z =
     keeps_left part slots before after done kept kept' given left k (some left refl) (λ own key more e o b st t a known seen g. (
       stays key own more o slots t before after part e b st a known seen given g left s,
@@ -318,9 +318,9 @@ keeps_more part slots before after done kept kept' given (Some left) k s some no
     )) own key more e o b st t xs h z
 
 -- an answer that is left alone
-alone_now : (key : MeetingKey) (own : Book) (more : List Part) (o : IsOwn key own) (slots : List Slot) (t : AllTouch slots more) (before after : List Part) (part : Part) → is_of key part ≡ true
-    → RepresentsHistory before own.taken → RepresentsHistory after (own.taken ++ more) → (a : Answer) → Contains own.answers a → in_view own.taken a.claim.part ≡ true → (given : Given) → IsGiven key own.taken a given
-    → IsLeftAlone slots before after part given → (in_view (own.taken ++ more) a.claim.part ≡ true) × IsGiven key (own.taken ++ more) a given
+alone_now : (key : MeetingKey) (own : Book) (more : List Part) (o : IsOwn key own) (slots : List Slot) (t : AllTouch slots more) (before after : List Part) (part : Part) → is_of_meeting key part ≡ true
+    → RepresentsHistory before own.taken → RepresentsHistory after (own.taken ++ more) → (a : SaidAnswer) → Contains own.answers a → in_view own.taken a.claim.part ≡ true → (given : PartAnswer) → HasAnswer key own.taken a given
+    → IsLeftAlone slots before after part given → (in_view (own.taken ++ more) a.claim.part ≡ true) × HasAnswer key (own.taken ++ more) a given
 alone_now key own more o slots t before after part e b st a known seen given g alone = elim alone [
   | inl untouched ↦ (
     untouched_stays key own more o slots t before after part e b st a known seen given g untouched,
@@ -333,10 +333,10 @@ alone_now key own more o slots t before after part e b st a known seen given g a
 ]
 
 -- and all of them
-all_alone : (key : MeetingKey) (own : Book) (more : List Part) (o : IsOwn key own) (slots : List Slot) (t : AllTouch slots more) (before after : List Part) (part : Part) → is_of key part ≡ true
-    → RepresentsHistory before own.taken → RepresentsHistory after (own.taken ++ more) → (xs : List Answer) (given : List Given) → ((a : Answer) → Contains xs a → Contains own.answers a × (in_view own.taken a.claim.part ≡ true))
-    → ((g : Given) → Contains given g → IsLeftAlone slots before after part g) → AllZip (IsGiven key own.taken) xs given
-    → (answers_in_view (own.taken ++ more) xs ≡ xs) × AllZip (IsGiven key (own.taken ++ more)) xs given
+all_alone : (key : MeetingKey) (own : Book) (more : List Part) (o : IsOwn key own) (slots : List Slot) (t : AllTouch slots more) (before after : List Part) (part : Part) → is_of_meeting key part ≡ true
+    → RepresentsHistory before own.taken → RepresentsHistory after (own.taken ++ more) → (xs : List SaidAnswer) (given : List PartAnswer) → ((a : SaidAnswer) → Contains xs a → Contains own.answers a × (in_view own.taken a.claim.part ≡ true))
+    → ((g : PartAnswer) → Contains given g → IsLeftAlone slots before after part g) → AllZip (HasAnswer key own.taken) xs given
+    → (answers_in_view (own.taken ++ more) xs ≡ xs) × AllZip (HasAnswer key (own.taken ++ more)) xs given
 all_alone key own more o slots t before after part e b st [] [] h alone z = (refl, tt)
 all_alone key own more o slots t before after part e b st [] (g ∷ gs) h alone z = absurd z
 all_alone key own more o slots t before after part e b st (x ∷ xs) [] h alone z = absurd z
@@ -355,24 +355,24 @@ zip_apart R [] (y ∷ ys) zs z = absurd z
 zip_apart R (x ∷ xs) (y ∷ ys) zs z = let r = zip_apart R xs ys zs z.1 in (x ∷ r.0, r.1, ap (λ l. x ∷ l) r.2, (z.0, r.3), r.4)
 
 -- those that don't stay as they are, with what is left of them, and the others, which are left alone
-pub keeps_all : (part : Part) (slots : List Slot) (meeting : Meeting) (after : List Part) (lost : List Slot) (left : List Given)
+pub keeps_all : (part : Part) (slots : List Slot) (meeting : Meeting) (after : List Part) (lost : List Slot) (left : List PartAnswer)
     → KeepsSome part slots meeting.held after (taken_at lost meeting.answers.items) left
-    → ((given : Given) → Contains meeting.answers.items given → is_touched lost (slot_of given.slot) ≡ false → IsLeftAlone slots meeting.held after part given)
+    → ((given : PartAnswer) → Contains meeting.answers.items given → is_touched lost (slot_of given.slot) ≡ false → IsLeftAlone slots meeting.held after part given)
     → KeepsAll part slots (Some meeting) after (left_without lost meeting.answers.items ++ left)
 keeps_all part slots meeting after lost left k alone own key more e o m s t =
     let answers = meeting.answers.items in
-    let test : Given → Bool = λ given. is_touched lost (slot_of given.slot) in
+    let test : PartAnswer → Bool = λ given. is_touched lost (slot_of given.slot) in
     let out = taken_at lost answers in
     let others = left_without lost answers in
     let old = answers_in_view own.taken own.answers in
     let now = own.taken ++ more in
-    let seen : Answer → Bool = λ x. in_view now x.claim.part in
+    let seen : SaidAnswer → Bool = λ x. in_view now x.claim.part in
     let given = given_reordered key own.taken old answers (out ++ others) (re_parts test answers) m.answers in
-    let parts = zip_apart (IsGiven key own.taken) given.order out others given.each in
+    let parts = zip_apart (HasAnswer key own.taken) given.order out others given.each in
     let us = parts.0 in let vs = parts.1 in
     let same : Reordered old (us ++ vs) = subst (Reordered old) parts.2 given.same in
-    let known : (a : Answer) → Contains (us ++ vs) a → Contains own.answers a × (in_view own.taken a.claim.part ≡ true) =
-    λ a c. filter_at (λ (x : Answer). in_view own.taken x.claim.part) own.answers a (re_in (us ++ vs) old (re_back old (us ++ vs) same) a c) in
+    let known : (a : SaidAnswer) → Contains (us ++ vs) a → Contains own.answers a × (in_view own.taken a.claim.part ≡ true) =
+    λ a c. filter_at (λ (x : SaidAnswer). in_view own.taken x.claim.part) own.answers a (re_in (us ++ vs) old (re_back old (us ++ vs) same) a c) in
     let first = k own key more e o m.held s t us (λ a c. known a (Contains-append_left us vs a c)) parts.3 in
     let second = all_alone key own more o slots t meeting.held after part e m.held s vs others (λ a c. known a (Contains-append_right us vs a c))
     (λ g c. let f = filter_at (λ x. not (test x)) answers g c in alone g f.0 (not-true _ f.1)) parts.4 in
@@ -380,42 +380,42 @@ keeps_all part slots meeting after lost left k alone own key more e o m s t =
     record {
       order = vs ++ answers_in_view now us;
       same = re_then (answers_in_view now old) (answers_in_view now us ++ vs) (vs ++ answers_in_view now us) (subst (Reordered (answers_in_view now old)) stood (re_filter seen old (us ++ vs) same)) (re_swapped (answers_in_view now us) vs);
-      each = zip_both (IsGiven key now) vs others (answers_in_view now us) left second.1 first;
+      each = zip_both (HasAnswer key now) vs others (answers_in_view now us) left second.1 first;
     }
 
 -- of a meeting of which nothing was ever taken there are none
-pub keeps_new : (part : Part) (slots : List Slot) (after : List Part) (kept : List Given) → kept ≡ [] → KeepsAll part slots None after kept
+pub keeps_new : (part : Part) (slots : List Slot) (after : List Part) (kept : List PartAnswer) → kept ≡ [] → KeepsAll part slots None after kept
 keeps_new part slots after kept none own key more e o m s t =
     given_zip key (own.taken ++ more) (answers_in_view (own.taken ++ more) (answers_in_view own.taken own.answers)) kept
-    (subst (AllZip (IsGiven key (own.taken ++ more)) (answers_in_view (own.taken ++ more) (answers_in_view own.taken own.answers))) (sym none)
-    (subst (λ (l : List Answer). AllZip (IsGiven key (own.taken ++ more)) l []) (sym (ap (answers_in_view (own.taken ++ more)) (none_stood own.answers (λ a c. o.known a c)))) tt))
+    (subst (AllZip (HasAnswer key (own.taken ++ more)) (answers_in_view (own.taken ++ more) (answers_in_view own.taken own.answers))) (sym none)
+    (subst (λ (l : List SaidAnswer). AllZip (HasAnswer key (own.taken ++ more)) l []) (sym (ap (answers_in_view (own.taken ++ more)) (none_stood own.answers (λ a c. o.known a c)))) tt))
   where
-    none_stood : (xs : List Answer) → ((a : Answer) → Contains xs a → Contains own.taken a.claim.part) → answers_in_view own.taken xs ≡ []
+    none_stood : (xs : List SaidAnswer) → ((a : SaidAnswer) → Contains xs a → Contains own.taken a.claim.part) → answers_in_view own.taken xs ≡ []
     none_stood [] h = refl
     none_stood (x ∷ xs) h = absurd (none_in_nil x.claim.part (subst (λ (l : List Part). Contains l x.claim.part) m (h x (in_head x xs))))
 
 -- ---- one more element of a loop
 
 pub left_push : (t : List Part) (p : Part) (singles left new : List Single) (i : ℕ) (d : Single) → i < length singles → new ≡ left ++ get_or singles i d ∷ [] → left ≡ left_in t p (take i singles)
-    → is_hidden t p (booked_in p (get_or singles i d)) ≡ false → new ≡ left_in t p (take (i + 1) singles)
+    → is_hidden t p (part_instance p (get_or singles i d)) ≡ false → new ≡ left_in t p (take (i + 1) singles)
 left_push t p singles left new i d h e same shown =
-    let f : Single → Bool = λ single. not (is_hidden t p (booked_in p single)) in
+    let f : Single → Bool = λ single. not (is_hidden t p (part_instance p single)) in
     e ∙ filter_yes f (take i singles) left (get_or singles i d) same (ap not shown) ∙ ap (filter f) (sym (take_more singles i d h))
 
 pub beside_push : (slots : List Slot) (t : List Part) (p : Part) (singles left new : List Single) (i : ℕ) (d : Single) → i < length singles → new ≡ left ++ get_or singles i d ∷ [] → left ≡ left_beside slots t p (take i singles)
-    → (is_touched slots (At (get_or singles i d).slot) && is_hidden t p (booked_in p (get_or singles i d))) ≡ false → new ≡ left_beside slots t p (take (i + 1) singles)
+    → (is_touched slots (At (get_or singles i d).slot) && is_hidden t p (part_instance p (get_or singles i d))) ≡ false → new ≡ left_beside slots t p (take (i + 1) singles)
 beside_push slots t p singles left new i d h e same shown =
-    let f : Single → Bool = λ single. not (is_touched slots (At single.slot) && is_hidden t p (booked_in p single)) in
+    let f : Single → Bool = λ single. not (is_touched slots (At single.slot) && is_hidden t p (part_instance p single)) in
     e ∙ filter_yes f (take i singles) left (get_or singles i d) same (ap not shown) ∙ ap (filter f) (sym (take_more singles i d h))
 
 pub beside_pass : (slots : List Slot) (t : List Part) (p : Part) (singles left : List Single) (i : ℕ) (d : Single) → i < length singles → left ≡ left_beside slots t p (take i singles)
-    → (is_touched slots (At (get_or singles i d).slot) && is_hidden t p (booked_in p (get_or singles i d))) ≡ true → left ≡ left_beside slots t p (take (i + 1) singles)
+    → (is_touched slots (At (get_or singles i d).slot) && is_hidden t p (part_instance p (get_or singles i d))) ≡ true → left ≡ left_beside slots t p (take (i + 1) singles)
 beside_pass slots t p singles left i d h same hidden =
-    let f : Single → Bool = λ single. not (is_touched slots (At single.slot) && is_hidden t p (booked_in p single)) in
+    let f : Single → Bool = λ single. not (is_touched slots (At single.slot) && is_hidden t p (part_instance p single)) in
     filter_no f (take i singles) left (get_or singles i d) same (ap not hidden) ∙ ap (filter f) (sym (take_more singles i d h))
 
 pub left_pass : (t : List Part) (p : Part) (singles left : List Single) (i : ℕ) (d : Single) → i < length singles → left ≡ left_in t p (take i singles)
-    → is_hidden t p (booked_in p (get_or singles i d)) ≡ true → left ≡ left_in t p (take (i + 1) singles)
+    → is_hidden t p (part_instance p (get_or singles i d)) ≡ true → left ≡ left_in t p (take (i + 1) singles)
 left_pass t p singles left i d h same hidden =
-    let f : Single → Bool = λ single. not (is_hidden t p (booked_in p single)) in
+    let f : Single → Bool = λ single. not (is_hidden t p (part_instance p single)) in
     filter_no f (take i singles) left (get_or singles i d) same (ap not hidden) ∙ ap (filter f) (sym (take_more singles i d h))

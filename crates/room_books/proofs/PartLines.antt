@@ -2,7 +2,7 @@
 use Rattle.std.proofs.Common.{◌≡◌, ℕ, ℤ, true, false, List, [], ◌∷◌, ◌++◌, codes, decimal, refl, sym, ap, ◌∙◌, subst}
 use Rattle.std.specs.Option.{option_to_list}
 use Rattle.ical_values.specs.Written.{Appends}
-use Rattle.itip_messages.specs.Replies.{IsStampLine}
+use Rattle.itip_messages.specs.Replies.{IsWrittenStampLine}
 use Rattle.profile.specs.text.Lines.{written, folded}
 use Rattle.profile.specs.rooms.Messages.{Content}
 use Rattle.profile.specs.rooms.Kept.{IsEventOf, IsNamed}
@@ -33,7 +33,7 @@ no_hidden room part zones old h = one_written_entry room (false, part) [] zones 
 -- ---- the head of a VEVENT
 
 pub head_written : (part : Part) (o0 o1 o2 o3 o4 o5 : List ℕ) → o1 ≡ o0 ++ folded (codes "BEGIN:VEVENT") → o2 ≡ o1 ++ folded (codes "UID:" ++ escaped part.uid) → WritesSlot part.slot o2 o3
-    → o4 ≡ o3 ++ folded (codes "SEQUENCE:" ++ decimal part.revision.sequence) → Appends o4 o5 (IsStampLine (codes "DTSTAMP:") part.revision.stamp) → WritesHead part o0 o5
+    → o4 ≡ o3 ++ folded (codes "SEQUENCE:" ++ decimal part.revision.sequence) → Appends o4 o5 (IsWrittenStampLine (codes "DTSTAMP:") part.revision.stamp) → WritesHead part o0 o5
 head_written part o0 o1 o2 o3 o4 o5 h1 h2 w h4 h5 =
     let stamp = h5.1.0 in
     let first : List (List ℕ) = codes "BEGIN:VEVENT" ∷ (codes "UID:" ++ escaped part.uid) ∷ [] in
@@ -95,7 +95,7 @@ module _ (room : List ℕ) (part : Part) (o0 o1 o2 o3 o4 o5 : List ℕ) (w : Wri
       (rest_written room part (codes "ACCEPTED") o0 o1 w b.lines o2 o3 o4 o5 b.is h3 h4 h5)
 
   -- of one that hides an instance
-  pub hidden_written : (t : ℤ) (p1 p2 : List ℕ) (zones : List (List ℕ)) → part.slot ≡ At t → Appends o1 p1 (IsStampLine (codes "DTSTART:") t) → p2 ≡ p1 ++ folded (codes "DURATION:PT0S") → o2 ≡ p2 ++ folded (codes "STATUS:CANCELLED")
+  pub hidden_written : (t : ℤ) (p1 p2 : List ℕ) (zones : List (List ℕ)) → part.slot ≡ At t → Appends o1 p1 (IsWrittenStampLine (codes "DTSTART:") t) → p2 ≡ p1 ++ folded (codes "DURATION:PT0S") → o2 ≡ p2 ++ folded (codes "STATUS:CANCELLED")
       → o3 ≡ o2 ++ folded (codes "ORGANIZER:" ++ part.organiser) → o4 ≡ o3 ++ folded (codes "ATTENDEE;PARTSTAT=DECLINED:" ++ room) → o5 ≡ o4 ++ folded (codes "END:VEVENT") → WritesEntries room ((false, part) ∷ []) zones zones o0 o5
   hidden_written t p1 p2 zones at a g1 g2 h3 h4 h5 =
       let text = a.1.0 in

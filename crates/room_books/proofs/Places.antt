@@ -13,15 +13,15 @@ use Rattle.std.proofs.lemmas.Slice.Eq.{bytes_eq-Decides}
 use Rattle.itip_order.proofs.Lists.{none_in_nil, in_head, in_tail, in_cons, filter_at, filter_from}
 use Rattle.indexmap.specs.IndexMap.{insert_entry}
 use Rattle.ical_values.specs.Octets.{address_octets, text_octets}
-use Rattle.profile.specs.checker.Instances.{Key, Booked, IsClear}
+use Rattle.profile.specs.checker.Instances.{Key, Instance, IsClear}
 use Rattle.room_books.specs.declared.meeting.MeetingKey.{MeetingKey}
 use Rattle.room_books.specs.declared.kept.Meeting.{Meeting}
 use Rattle.cal_events.specs.declared.instance.Single.{Single}
 use Rattle.cal_events.specs.declared.sweep.Span.{Span}
 use Rattle.room_books.specs.declared.timeline.Busy.{Busy}
 use Rattle.room_books.specs.Instants.{HaveInstant, AreSeparate}
-use Rattle.room_books.specs.Views.{same_key, is_other, booked_of, booked_list, slots_of, meeting_singles, confirmed_of, confirmed_at, singles_in, singles_by, others, all_confirmed, all_recurring, all_series, other_recurring, recurring_of, series_at, series_by, series_in, series_of, span_of}
-use Rattle.room_books.specs.Timelines.{is_place, HoldsInstants, holds_instants, busy_in, has_single, AreAt, IsTimelineOf, IsFreeBut, IsChanged}
+use Rattle.room_books.specs.Views.{same_key, is_other, keyed_instance, instance_list, slots_of, meeting_singles, confirmed_of, confirmed_at, singles_in, singles_by, others, all_confirmed, all_recurring, all_series, other_recurring, recurring_of, series_at, series_by, series_in, series_of, instance_span}
+use Rattle.room_books.specs.Timelines.{is_own_place, HoldsInstants, holds_instants, busy_in, has_single, AreAt, IsTimelineOf, IsFreeBut, IsChanged}
 use Rattle.room_books.proofs.Timelines.{has_at, has_from, single_at, single_from, holds_from}
 use Rattle.room_books.proofs.Keys.{key_congr, only_place, place_is_own}
 
@@ -30,22 +30,22 @@ Entry = MeetingKey × Meeting
 
 -- ---- instances of meetings
 
-pub in_booked : (k : MeetingKey) (singles : List Single) (b : Booked) → Contains (booked_list k singles) b → (s : Single) × Contains singles s × (booked_of k s ≡ b)
+pub in_booked : (k : MeetingKey) (singles : List Single) (b : Instance) → Contains (instance_list k singles) b → (s : Single) × Contains singles s × (keyed_instance k s ≡ b)
 in_booked k [] b c = absurd (none_in_nil b c)
-in_booked k (s ∷ singles) b c = elim (in_cons (booked_of k s) (booked_list k singles) b c) [
+in_booked k (s ∷ singles) b c = elim (in_cons (keyed_instance k s) (instance_list k singles) b c) [
   | inl here ↦ (s, in_head s singles, here)
   | inr there ↦ (let r = in_booked k singles b there in (r.0, in_tail s singles r.0 r.1, r.2))
 ]
 
-pub booked_from : (k : MeetingKey) (singles : List Single) (s : Single) → Contains singles s → Contains (booked_list k singles) (booked_of k s)
+pub booked_from : (k : MeetingKey) (singles : List Single) (s : Single) → Contains singles s → Contains (instance_list k singles) (keyed_instance k s)
 booked_from k [] s c = absurd (none_in_nil s c)
 booked_from k (x ∷ singles) s c = elim (in_cons x singles s c) [
-  | inl here ↦ subst (λ (z : Single). Contains (booked_list k (x ∷ singles)) (booked_of k z)) here (in_head (booked_of k x) (booked_list k singles))
-  | inr there ↦ in_tail (booked_of k x) (booked_list k singles) (booked_of k s) (booked_from k singles s there)
+  | inl here ↦ subst (λ (z : Single). Contains (instance_list k (x ∷ singles)) (keyed_instance k z)) here (in_head (keyed_instance k x) (instance_list k singles))
+  | inr there ↦ in_tail (keyed_instance k x) (instance_list k singles) (keyed_instance k s) (booked_from k singles s there)
 ]
 
 -- two meetings have no instance of one key
-pub booked_differs : (k q : MeetingKey) (s r : Single) → same_key k q ≡ false → (booked_of q r).key ≢ (booked_of k s).key
+pub booked_differs : (k q : MeetingKey) (s r : Single) → same_key k q ≡ false → (keyed_instance q r).key ≢ (keyed_instance k s).key
 booked_differs k q s r d e = both_ways _ d (and_from _ _
     ((bytes_eq-Decides (address_octets k.organiser) (address_octets q.organiser)).1 (ap (λ (z : Key). z.organiser) (sym e)))
     ((bytes_eq-Decides (text_octets k.uid) (text_octets q.uid)).1 (ap (λ (z : Key). z.uid) (sym e))))
@@ -55,14 +55,14 @@ booked_differs k q s r d e = both_ways _ d (and_from _ _
 entry_in : (es : List Entry) (q : ℕ) (e : Entry) → slice_get es q ≡ Some e → Contains es e
 entry_in es q e h = (q, slice_get_within es q e h, get_or_from_slice_get es q e e h)
 
-pub in_flat : (es : List Entry) (b : Booked) → Contains (flat_map confirmed_of es) b → (e : Entry) × Contains es e × Contains (confirmed_of e) b
+pub in_flat : (es : List Entry) (b : Instance) → Contains (flat_map confirmed_of es) b → (e : Entry) × Contains es e × Contains (confirmed_of e) b
 in_flat [] b c = absurd (none_in_nil b c)
 in_flat (e ∷ es) b c = elim (Contains-append_cases (confirmed_of e) (flat_map confirmed_of es) b c) [
   | inl here ↦ (e, in_head e es, here)
   | inr there ↦ (let r = in_flat es b there in (r.0, in_tail e es r.0 r.1, r.2))
 ]
 
-pub flat_from : (es : List Entry) (e : Entry) (b : Booked) → Contains es e → Contains (confirmed_of e) b → Contains (flat_map confirmed_of es) b
+pub flat_from : (es : List Entry) (e : Entry) (b : Instance) → Contains es e → Contains (confirmed_of e) b → Contains (flat_map confirmed_of es) b
 flat_from [] e b c h = absurd (none_in_nil e c)
 flat_from (x ∷ es) e b c h = elim (in_cons x es e c) [
   | inl same ↦ Contains-append_left (confirmed_of x) (flat_map confirmed_of es) b (subst (λ (z : Entry). Contains (confirmed_of z) b) (sym same) h)
@@ -75,35 +75,35 @@ single_of_entry None s c = absurd (none_in_nil s c)
 single_of_entry (Some e) s c = (e, refl, c)
 
 -- the instances of the other meetings are of keys of their own
-pub others_differ : (k : MeetingKey) (es : List Entry) (s : Single) (b : Booked) → Contains (others k es) b → b.key ≢ (booked_of k s).key
+pub others_differ : (k : MeetingKey) (es : List Entry) (s : Single) (b : Instance) → Contains (others k es) b → b.key ≢ (keyed_instance k s).key
 others_differ k es s b c =
     let f = in_flat (filter (is_other k) es) b c in
     let r = in_booked f.0.0 (meeting_singles f.0.1) b f.2 in
-    λ e. booked_differs k f.0.0 s r.0 (not-true _ (filter_at (is_other k) es f.0 f.1).1) (ap (λ (z : Booked). z.key) r.2 ∙ e)
+    λ e. booked_differs k f.0.0 s r.0 (not-true _ (filter_at (is_other k) es f.0 f.1).1) (ap (λ (z : Instance). z.key) r.2 ∙ e)
 
 -- ---- the other meetings
 
 module _ (k : MeetingKey) (es : List Entry) (distinct : IsDistinct same_key (keys_of es)) (own : Option ℕ) (own_is : own ≡ position (same_key k) (keys_of es)) where
-  pub key_at : (q : ℕ) (e : Entry) → slice_get es q ≡ Some e → is_place own q ≡ same_key k e.0
+  pub key_at : (q : ℕ) (e : Entry) → slice_get es q ≡ Some e → is_own_place own q ≡ same_key k e.0
   key_at q e h =
       let within = slice_get_within es q e h in
       let n : q < length (keys_of es) = omega (arith, within, length-map es (λ (x : Entry). x.0)) in
-      ap (λ o. is_place o q) own_is ∙ place_is_own k (keys_of es) distinct q e.0 n
+      ap (λ o. is_own_place o q) own_is ∙ place_is_own k (keys_of es) distinct q e.0 n
       ∙ ap (same_key k) (get_or-map (λ (x : Entry). x.0) es q e e.0 within ∙ ap (λ (x : Entry). x.0) (get_or_from_slice_get es q e e h))
 
   -- each of them is in a place other than the meeting's own
-  pub other_place : (b : Booked) → Contains (others k es) b → (q : ℕ) × (s : Single) × Contains (confirmed_at es q) s × (s.span ≡ span_of b) × (is_place own q ≡ false)
+  pub other_place : (b : Instance) → Contains (others k es) b → (q : ℕ) × (s : Single) × Contains (confirmed_at es q) s × (s.span ≡ instance_span b) × (is_own_place own q ≡ false)
   other_place b c =
       let f = in_flat (filter (is_other k) es) b c in
       let e = f.0 in
       let both = filter_at (is_other k) es e f.1 in
       let s = in_booked e.0 (meeting_singles e.1) b f.2 in
       let at : slice_get es both.0.0 ≡ Some e = slice_get-get_or es both.0.0 e both.0.1 ∙ ap Some both.0.2 in
-      (both.0.0, s.0, subst (λ (o : Option Entry). Contains (singles_in o) s.0) (sym at) s.1, ap span_of s.2, key_at both.0.0 e at ∙ not-true _ both.1)
+      (both.0.0, s.0, subst (λ (o : Option Entry). Contains (singles_in o) s.0) (sym at) s.1, ap instance_span s.2, key_at both.0.0 e at ∙ not-true _ both.1)
 
   -- and what is in another place is one of them
-  pub other_from : (q : ℕ) (e : Entry) (s : Single) → slice_get es q ≡ Some e → Contains (meeting_singles e.1) s → is_place own q ≡ false → Contains (others k es) (booked_of e.0 s)
-  other_from q e s at h n = flat_from (filter (is_other k) es) e (booked_of e.0 s)
+  pub other_from : (q : ℕ) (e : Entry) (s : Single) → slice_get es q ≡ Some e → Contains (meeting_singles e.1) s → is_own_place own q ≡ false → Contains (others k es) (keyed_instance e.0 s)
+  other_from q e s at h n = flat_from (filter (is_other k) es) e (keyed_instance e.0 s)
       (filter_from (is_other k) es e (entry_in es q e at) (ap not (sym (key_at q e at) ∙ n)))
       (booked_from e.0 (meeting_singles e.1) s h)
 
@@ -150,7 +150,7 @@ module _ {X Y : Type 0} (of : Entry → List X) (by_found : Option Meeting → L
   counted_apart (e ∷ es) distinct = count_at e es (same_key k e.0) refl distinct (counted_apart es (IsDistinct-tail same_key e.0 (keys_of es) distinct))
 
 singles_long : (e : Entry) → length (confirmed_of e) ≡ length (singles_by (Some e.1))
-singles_long e = length-map (meeting_singles e.1) (booked_of e.0)
+singles_long e = length-map (meeting_singles e.1) (keyed_instance e.0)
 
 series_long : (e : Entry) → length (recurring_of e) ≡ length (series_by (Some e.1))
 series_long e = length-map (all_series e.1.answers.items) (series_of e.0)
@@ -275,17 +275,17 @@ module _ (k : MeetingKey) (es : List Entry) (distinct : IsDistinct same_key (key
   ]
 
   -- each instance of a meeting that is clear beside the others shares no instant with what other places hold
-  pub free_but_own : (items : List Busy) → IsTimelineOf (confirmed_at es) items → (singles : List Single) → IsClear (others k es ++ booked_list k singles)
+  pub free_but_own : (items : List Busy) → IsTimelineOf (confirmed_at es) items → (singles : List Single) → IsClear (others k es ++ instance_list k singles)
       → (s : Single) → Contains singles s → IsFreeBut (place_of k es) items s.span
   free_but_own items timeline singles clear s c b t there n h =
       let e = real_entry es items timeline b there in
       let other = other_key b.place e.0 e.1 n in
-      let booked = booked_of e.0.0 b.single in
+      let booked = keyed_instance e.0.0 b.single in
       let among : Contains (others k es) booked = flat_from (filter (is_other k) es) e.0 booked
       (filter_from (is_other k) es e.0 (entry_in es b.place e.0 e.1) (ap not other)) (booked_from e.0.0 (meeting_singles e.0.1) b.single e.2) in
-      clear booked (booked_of k s) t record {
-        first = Contains-append_left (others k es) (booked_list k singles) booked among;
-        second = Contains-append_right (others k es) (booked_list k singles) (booked_of k s) (booked_from k singles s c);
+      clear booked (keyed_instance k s) t record {
+        first = Contains-append_left (others k es) (instance_list k singles) booked among;
+        second = Contains-append_right (others k es) (instance_list k singles) (keyed_instance k s) (booked_from k singles s c);
         differ = booked_differs k e.0.0 s b.single other;
         before = h.before;
         in_first = h.in_second;
@@ -299,11 +299,11 @@ slots_at singles i j d differ less within same =
     (get_or-map (λ (s : Single). s.slot) singles i d d.slot (omega (arith, less, within)) ∙ same ∙ sym (get_or-map (λ (s : Single). s.slot) singles j d d.slot within))
 
 -- the instances of a meeting that are clear share no instant
-pub clear_separate : (k : MeetingKey) (all : List Booked) (singles : List Single) → IsClear (all ++ booked_list k singles) → AllPairs ◌≢◌ (slots_of singles) → AreSeparate singles
+pub clear_separate : (k : MeetingKey) (all : List Instance) (singles : List Single) → IsClear (all ++ instance_list k singles) → AllPairs ◌≢◌ (slots_of singles) → AreSeparate singles
 clear_separate k all singles clear differ i j d less within t h =
-    let place : (n : ℕ) → n < length singles → Contains (all ++ booked_list k singles) (booked_of k (get_or singles n d)) =
-    λ n l. Contains-append_right all (booked_list k singles) (booked_of k (get_or singles n d)) (booked_from k singles (get_or singles n d) (Contains-get_or singles n d l)) in
-    clear (booked_of k (get_or singles i d)) (booked_of k (get_or singles j d)) t record {
+    let place : (n : ℕ) → n < length singles → Contains (all ++ instance_list k singles) (keyed_instance k (get_or singles n d)) =
+    λ n l. Contains-append_right all (instance_list k singles) (keyed_instance k (get_or singles n d)) (booked_from k singles (get_or singles n d) (Contains-get_or singles n d l)) in
+    clear (keyed_instance k (get_or singles i d)) (keyed_instance k (get_or singles j d)) t record {
       first = place i (omega (arith, less, within));
       second = place j within;
       differ = λ e. slots_at singles i j d differ less within (ap (λ (z : Key). z.slot) e);

@@ -10,15 +10,15 @@ use Rattle.std.proofs.lemmas.List.Elements.{Contains-append_left, Contains-appen
 use Rattle.std.proofs.lemmas.Map.Keys.{IsDistinct-head, IsDistinct-tail}
 use Rattle.indexmap.specs.IndexMap.{insert_entry}
 use Rattle.itip_order.proofs.Lists.{any_at, any_from, in_cons, in_head, in_tail, none_in_nil, filter_from}
-use Rattle.profile.specs.checker.Instances.{Booked}
+use Rattle.profile.specs.checker.Instances.{Instance}
 use Rattle.profile.specs.events.Confirmed.{IsOneOf}
-use Rattle.profile.specs.events.Meetings.{Meeting as Whole}
+use Rattle.profile.specs.events.Events.{Event as Whole}
 use Rattle.cal_events.specs.declared.series.Series.{Series}
 use Rattle.room_books.specs.BySlot.{Reordered}
 use Rattle.room_books.specs.declared.meeting.MeetingKey.{MeetingKey}
 use Rattle.room_books.specs.declared.kept.Meeting.{Meeting}
-use Rattle.room_books.specs.declared.meeting.Given.{Given}
-use Rattle.room_books.specs.Views.{all_series, all_singles, beside, booked_list, has_place, in_room, is_other, joined, meeting_singles, other_recurring, others, recurring_of, all_recurring, same_key, series_at, series_list, series_of, AreRecurring, IsClearIn}
+use Rattle.room_books.specs.declared.meeting.PartAnswer.{PartAnswer}
+use Rattle.room_books.specs.Views.{all_series, all_singles, beside, instance_list, has_place, in_room, is_other, joined, meeting_singles, other_recurring, others, recurring_of, all_recurring, same_key, series_at, series_list, series_of, AreRecurring, IsClearIn}
 use Rattle.room_books.proofs.Keys.{key_congr}
 use Rattle.room_books.proofs.Meetings.{key_from}
 use Rattle.room_books.proofs.Pairs.{flat_at, flat_from, map_at, map_from}
@@ -56,10 +56,10 @@ module _ (k : MeetingKey) (m : Meeting) (es : List (MeetingKey × Meeting)) wher
 
 -- ---- the limit, where the answers are in another order
 
-pub series_joined : (k : MeetingKey) (es : List (MeetingKey × Meeting)) (answers given : List Given) → Reordered answers given → length (other_recurring k es ++ series_list k (all_series answers)) ≤ 64
+pub series_joined : (k : MeetingKey) (es : List (MeetingKey × Meeting)) (answers given : List PartAnswer) → Reordered answers given → length (other_recurring k es ++ series_list k (all_series answers)) ≤ 64
     → length (other_recurring k es) + length (all_series given) ≤ 64
 series_joined k es answers given same few =
-    let n = re_length (all_series answers) (all_series given) (re_flat (λ (g : Given). option_to_list g.series) answers given same) in
+    let n = re_length (all_series answers) (all_series given) (re_flat (λ (g : PartAnswer). option_to_list g.series) answers given same) in
     let l = length-map (all_series answers) (series_of k) in
     omega (arith, n, l, few, length-append (other_recurring k es) (series_list k (all_series answers)))
 
@@ -85,7 +85,7 @@ entry_put k m (e ∷ es) d x c = at_test (same_key k e.0) refl (entry_put k m es
       | inr there ↦ elim (rest there) [ inl own ↦ inl own | inr old ↦ inr (in_tail e es x old.0, old.1) ]
     ]
 
-module _ (k : MeetingKey) (m : Meeting) (es : List (MeetingKey × Meeting)) (distinct : IsDistinct same_key (keys_of es)) (answers : List Given) (same : Reordered answers m.answers.items) where
+module _ (k : MeetingKey) (m : Meeting) (es : List (MeetingKey × Meeting)) (distinct : IsDistinct same_key (keys_of es)) (answers : List PartAnswer) (same : Reordered answers m.answers.items) where
   abbrev now : List (MeetingKey × Meeting)
   now = insert_entry same_key es k m
 
@@ -96,23 +96,23 @@ module _ (k : MeetingKey) (m : Meeting) (es : List (MeetingKey × Meeting)) (dis
         | inl own ↦
             let listed : recurring_of f.0 ≡ series_list k (all_series m.answers.items) = ap (λ (z : Meeting). series_list f.0.0 (all_series z.answers.items)) own.0 ∙ sym (series_same k f.0.0 (all_series m.answers.items) own.1) in
             let here = map_at (series_of k) (all_series m.answers.items) x (subst (λ (l : List Whole). Contains l x) listed f.2) in
-            let back = re_in (all_series m.answers.items) (all_series answers) (re_back (all_series answers) (all_series m.answers.items) (re_flat (λ (g : Given). option_to_list g.series) answers m.answers.items same)) here.0 here.1 in
+            let back = re_in (all_series m.answers.items) (all_series answers) (re_back (all_series answers) (all_series m.answers.items) (re_flat (λ (g : PartAnswer). option_to_list g.series) answers m.answers.items same)) here.0 here.1 in
             Contains-append_right (other_recurring k es) (series_list k (all_series answers)) x (subst (Contains (series_list k (all_series answers))) here.2 (map_from (series_of k) (all_series answers) here.0 back))
         | inr other ↦
             Contains-append_left (other_recurring k es) (series_list k (all_series answers)) x
             (flat_from recurring_of (filter (is_other k) es) f.0 x (filter_from (is_other k) es f.0 other.0 (ap not other.1)) f.2)
       ]
 
-  singles_in_now : (x : Booked) → Contains (others k es ++ booked_list k (meeting_singles m)) x → Contains (others k es ++ booked_list k (all_singles answers)) x
-  singles_in_now x c = elim (Contains-append_cases (others k es) (booked_list k (meeting_singles m)) x c) [
-    | inl other ↦ Contains-append_left (others k es) (booked_list k (all_singles answers)) x other
+  singles_in_now : (x : Instance) → Contains (others k es ++ instance_list k (meeting_singles m)) x → Contains (others k es ++ instance_list k (all_singles answers)) x
+  singles_in_now x c = elim (Contains-append_cases (others k es) (instance_list k (meeting_singles m)) x c) [
+    | inl other ↦ Contains-append_left (others k es) (instance_list k (all_singles answers)) x other
     | inr own ↦
         let s = in_booked k (meeting_singles m) x own in
-        let back = re_in (meeting_singles m) (all_singles answers) (re_back (all_singles answers) (meeting_singles m) (re_flat (λ (g : Given). g.singles.items) answers m.answers.items same)) s.0 s.1 in
-        Contains-append_right (others k es) (booked_list k (all_singles answers)) x (subst (Contains (booked_list k (all_singles answers))) s.2 (booked_from k (all_singles answers) s.0 back))
+        let back = re_in (meeting_singles m) (all_singles answers) (re_back (all_singles answers) (meeting_singles m) (re_flat (λ (g : PartAnswer). g.singles.items) answers m.answers.items same)) s.0 s.1 in
+        Contains-append_right (others k es) (instance_list k (all_singles answers)) x (subst (Contains (instance_list k (all_singles answers))) s.2 (booked_from k (all_singles answers) s.0 back))
   ]
 
-  one_of_now : (b : Booked) → IsOneOf (in_room now) b → IsOneOf (joined (beside k es) k (all_singles answers) (all_series answers)) b
+  one_of_now : (b : Instance) → IsOneOf (in_room now) b → IsOneOf (joined (beside k es) k (all_singles answers) (all_series answers)) b
   one_of_now b (inl c) = inl (singles_in_now b ((put_same k m es distinct).to b c))
   one_of_now b (inr i) = inr (i.0, series_in_now i.0 i.1, i.2)
 

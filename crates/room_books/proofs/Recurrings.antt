@@ -7,9 +7,9 @@ use Rattle.std.proofs.lemmas.Int.{ints}
 use Rattle.std.proofs.lemmas.List.{map-append}
 use Rattle.std.proofs.lemmas.Option.{slice_get-get_or, get_or_from_slice_get}
 use Rattle.itip_order.proofs.Lists.{in_cons}
-use Rattle.profile.specs.checker.Instances.{Key, Booked}
+use Rattle.profile.specs.checker.Instances.{Key, Instance as SaidInstance}
 use Rattle.profile.specs.events.Starts.{IsInstance, IsFirstOverlap, SharesInstant}
-use Rattle.cal_period.specs.Clear.{AreClear, AreTwo, IsClear, ShareStart}
+use Rattle.cal_period.specs.Clear.{AreSeriesClear, AreTwo, IsSeriesClear, ShareStart}
 use Rattle.cal_events.specs.Calendars.{instance_of}
 use Rattle.cal_events.specs.SaidSeries.{series_said, AreKnownByStart}
 use Rattle.cal_events.specs.declared.instance.Instance.{Instance}
@@ -18,8 +18,8 @@ use Rattle.cal_events.specs.declared.series.Series.{Series}
 use Rattle.cal_events.specs.declared.sweep.Span.{Span}
 use Rattle.room_books.specs.declared.recurring.Recurring.{Recurring}
 use Rattle.room_books.specs.Instants.{HaveInstant, Overlap}
-use Rattle.room_books.specs.Recurrings.{AreBeside, IsAlone}
-use Rattle.room_books.specs.Views.{span_of, Recurs}
+use Rattle.room_books.specs.Recurrings.{AreBeside, IsSharedAlone}
+use Rattle.room_books.specs.Views.{instance_span, Recurs}
 use Rattle.room_books.proofs.Loops.{one_more}
 
 -- ---- spans
@@ -44,23 +44,23 @@ pub turned : (a b : Span) (t : ℤ) → HaveInstant a b t → HaveInstant b a t
 turned a b t h = record { in_first = h.in_second; in_second = h.in_first; before = h.before }
 
 -- of two instances, where the span of the first is that of `x`
-pub overlap_at : (a b : Span) (x : Booked) → a ≡ span_of x → SharesInstant x.start x.end b.start b.end → Overlap a b
-overlap_at a b x e s = subst (λ (z : Span). Overlap z b) (sym e) (overlap_of (span_of x) b s)
+pub overlap_at : (a b : Span) (x : SaidInstance) → a ≡ instance_span x → SharesInstant x.start x.end b.start b.end → Overlap a b
+overlap_at a b x e s = subst (λ (z : Span). Overlap z b) (sym e) (overlap_of (instance_span x) b s)
 
-pub overlap_start : (a b : Span) (x y : Booked) → a ≡ span_of x → b ≡ span_of y → ShareStart x y → Overlap a b
+pub overlap_start : (a b : Span) (x y : SaidInstance) → a ≡ instance_span x → b ≡ instance_span y → ShareStart x y → Overlap a b
 overlap_start a b x y e f s =
-    subst (λ (z : Span). Overlap z b) (sym e) (subst (λ (z : Span). Overlap (span_of x) z) (sym f)
-    (overlap_of (span_of x) (span_of y) (record { instant = s.instant; before = s.before; in_first = s.in_first; in_second = s.in_second })))
+    subst (λ (z : Span). Overlap z b) (sym e) (subst (λ (z : Span). Overlap (instance_span x) z) (sym f)
+    (overlap_of (instance_span x) (instance_span y) (record { instant = s.instant; before = s.before; in_first = s.in_first; in_second = s.in_second })))
 
 pub shares_of : (a b : Span) (t : ℤ) → HaveInstant a b t → SharesInstant a.start a.end b.start b.end
 shares_of a b t h = record { instant = t; before = h.before; in_first = h.in_first; in_second = h.in_second }
 
 -- ---- an instance by its original start and its span
 
-pub recurs_as : (s : Series) (b : Booked) (x : Single) → IsInstance (series_said s) b → x.slot ≡ b.key.slot → x.span.start ≡ b.start → x.span.end ≡ b.end → Recurs s x
+pub recurs_as : (s : Series) (b : SaidInstance) (x : Single) → IsInstance (series_said s) b → x.slot ≡ b.key.slot → x.span.start ≡ b.start → x.span.end ≡ b.end → Recurs s x
 recurs_as s b x is slot start end = record { booked = b; is = is; slot = slot; span = λ i. record { start = start i; end = end i } }
 
-pub span_as : (b : Booked) (x : Single) → x.span.start ≡ b.start → x.span.end ≡ b.end → x.span ≡ span_of b
+pub span_as : (b : SaidInstance) (x : Single) → x.span.start ≡ b.start → x.span.end ≡ b.end → x.span ≡ instance_span b
 span_as b x start end = λ i. record { start = start i; end = end i }
 
 -- none shares an instant with a span
@@ -68,7 +68,7 @@ pub none_shared : (s : Series) (span : Span) (found : Option Instance) → IsFir
     → (x : Single) (t : ℤ) → Recurs s x → HaveInstant span x.span t → ⊥
 none_shared s span found first none x t r h =
     let clear = subst (λ (o : Option Instance). IsFirstOverlap (series_said s) span.start span.end (option_map instance_of o)) none first in
-    let shared : HaveInstant span (span_of r.booked) t = subst (λ (z : Span). HaveInstant span z t) r.span h in
+    let shared : HaveInstant span (instance_span r.booked) t = subst (λ (z : Span). HaveInstant span z t) r.span h in
     clear r.booked r.is (record { instant = t; before = shared.before; in_first = shared.in_second; in_second = shared.in_first })
 
 -- the first that does
@@ -82,23 +82,23 @@ first_shared s span found i x first some slot start end =
 
 -- ---- two series, and one alone
 
-pub none_of_pair : (a b : Series) → AreClear (series_said a) (series_said b) → (x y : Single) (t : ℤ) → Recurs a x → Recurs b y → HaveInstant x.span y.span t → ⊥
+pub none_of_pair : (a b : Series) → AreSeriesClear (series_said a) (series_said b) → (x y : Single) (t : ℤ) → Recurs a x → Recurs b y → HaveInstant x.span y.span t → ⊥
 none_of_pair a b clear x y t r q h =
-    clear r.booked q.booked r.is q.is (shares_of (span_of r.booked) (span_of q.booked) t
-    (subst (λ (z : Span). HaveInstant z (span_of q.booked) t) r.span (subst (λ (z : Span). HaveInstant x.span z t) q.span h)))
+    clear r.booked q.booked r.is q.is (shares_of (instance_span r.booked) (instance_span q.booked) t
+    (subst (λ (z : Span). HaveInstant z (instance_span q.booked) t) r.span (subst (λ (z : Span). HaveInstant x.span z t) q.span h)))
 
-pub none_alone : (s : Series) → IsClear (series_said s) → IsAlone s None
+pub none_alone : (s : Series) → IsSeriesClear (series_said s) → IsSharedAlone s None
 none_alone s clear a b t r q differ h =
     clear r.booked q.booked r.is q.is (λ e. differ (r.slot ∙ ap (λ (k : Key). k.slot) e ∙ sym q.slot))
-    (shares_of (span_of r.booked) (span_of q.booked) t
-    (subst (λ (z : Span). HaveInstant z (span_of q.booked) t) r.span (subst (λ (z : Span). HaveInstant a.span z t) q.span h)))
+    (shares_of (instance_span r.booked) (instance_span q.booked) t
+    (subst (λ (z : Span). HaveInstant z (instance_span q.booked) t) r.span (subst (λ (z : Span). HaveInstant a.span z t) q.span h)))
 
-pub two_alone : (s : Series) → AreKnownByStart (series_said s) → (a b : Booked) (x y : Single) → AreTwo (series_said s) a b → x.slot ≡ a.key.slot → x.span.start ≡ a.start → x.span.end ≡ a.end
-    → y.slot ≡ b.key.slot → y.span.start ≡ b.start → y.span.end ≡ b.end → IsAlone s (Some (x, y))
+pub two_alone : (s : Series) → AreKnownByStart (series_said s) → (a b : SaidInstance) (x y : Single) → AreTwo (series_said s) a b → x.slot ≡ a.key.slot → x.span.start ≡ a.start → x.span.end ≡ a.end
+    → y.slot ≡ b.key.slot → y.span.start ≡ b.start → y.span.end ≡ b.end → IsSharedAlone s (Some (x, y))
 two_alone s known a b x y two xslot xstart xend yslot ystart yend = (
   recurs_as s a x two.first xslot xstart xend,
   recurs_as s b y two.second yslot ystart yend,
-  (λ e. two.differ (ap (λ (z : Booked). z.key) (known.one a b two.first two.second (sym (known.slots a two.first) ∙ sym xslot ∙ e ∙ yslot ∙ known.slots b two.second)))),
+  (λ e. two.differ (ap (λ (z : SaidInstance). z.key) (known.one a b two.first two.second (sym (known.slots a two.first) ∙ sym xslot ∙ e ∙ yslot ∙ known.slots b two.second)))),
   overlap_start x.span y.span a b (span_as a x xstart xend) (span_as b y ystart yend) two.shared,
 )
 
@@ -139,16 +139,16 @@ AreFreeOf those r = (single : Single) → those single → IsFreeOf single r
 -- each series from a place on, up to another, is clear of those before it, and by itself
 abbrev pub AreClearTo : List Recurring → ℕ → ℕ → Type 0
 AreClearTo all from to = (place : ℕ) (r : Recurring) → from ≤ place → place < to → slice_get all place ≡ Some r
-    → AreBeside (Recurs r.series.now) (take place all) None × IsAlone r.series.now None
+    → AreBeside (Recurs r.series.now) (take place all) None × IsSharedAlone r.series.now None
 
 -- one more
-pub clear_to_more : (all : List Recurring) (from k : ℕ) (d : Recurring) → k < length all → AreBeside (Recurs (get_or all k d).series.now) (take k all) None → IsAlone (get_or all k d).series.now None
+pub clear_to_more : (all : List Recurring) (from k : ℕ) (d : Recurring) → k < length all → AreBeside (Recurs (get_or all k d).series.now) (take k all) None → IsSharedAlone (get_or all k d).series.now None
     → AreClearTo all from k → AreClearTo all from (k + 1)
 clear_to_more all from k d within beside alone before place r first last at = elim (at_end place last) [
   | inl e ↦
       let same : get_or all k d ≡ r = ap (λ n. get_or all n d) (sym e) ∙ get_or_from_slice_get all place r d at in (
         subst (λ (n : ℕ). AreBeside (Recurs r.series.now) (take n all) None) (sym e) (subst (λ (z : Recurring). AreBeside (Recurs z.series.now) (take k all) None) same beside),
-        subst (λ (z : Recurring). IsAlone z.series.now None) same alone,
+        subst (λ (z : Recurring). IsSharedAlone z.series.now None) same alone,
       )
   | inr less ↦ before place r first less at
 ]

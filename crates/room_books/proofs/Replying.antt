@@ -11,7 +11,7 @@ use Rattle.ical_values.specs.Octets.{address_octets}
 use Rattle.profile.specs.text.Lines.{folded, written}
 use Rattle.profile.specs.rooms.Revisions.{Part, in_view, same_part}
 use Rattle.profile.specs.rooms.Messages.{IsReplyEvent, opening_lines}
-use Rattle.profile.specs.rooms.Rooms.{Book, Answer, is_set, shown}
+use Rattle.profile.specs.rooms.Rooms.{Book, PartAnswer, is_set, shown}
 use Rattle.profile.specs.rooms.Rooms as rooms
 use Rattle.profile.specs.rooms.Kept.{Replies, IsReply, ShowsAnswer}
 use Rattle.itip_messages.specs.Replies.{WritesLines, IsWrittenEvent}
@@ -23,7 +23,7 @@ use Rattle.itip_order.proofs.Lists.{in_head, in_tail, filter_at, filter_from}
 use Rattle.itip_order.proofs.Registers.{same_part_refl}
 use Rattle.room_books.specs.declared.meeting.MeetingKey.{MeetingKey}
 use Rattle.room_books.specs.declared.kept.Meeting.{Meeting}
-use Rattle.room_books.specs.declared.meeting.Given.{Given}
+use Rattle.room_books.specs.declared.meeting.PartAnswer.{PartAnswer}
 use Rattle.room_books.specs.declared.claim.Claim.{Claim}
 use Rattle.room_books.specs.Views.{outcome_of}
 use Rattle.room_books.specs.Takings.{claim_said, claims_said}
@@ -47,7 +47,7 @@ zip_mapped f R Q (x ∷ xs) (w ∷ zs) h z = (h x w (in_head x xs) z.0, zip_mapp
 -- ---- what was written
 
 -- the VEVENT of one part
-pub told_line : (room : List ℕ) (answers : List Given) (part : Part) (event : ReplyEvent) (old new : List ℕ) → IsEventIn room answers part event → WritesLines old new (IsWrittenEvent event) → WritesLines old new (ShowsGiven room answers part)
+pub told_line : (room : List ℕ) (answers : List PartAnswer) (part : Part) (event : ReplyEvent) (old new : List ℕ) → IsEventIn room answers part event → WritesLines old new (IsWrittenEvent event) → WritesLines old new (ShowsGiven room answers part)
 told_line room answers part event old new e w = (
   w.0,
   record {
@@ -61,7 +61,7 @@ told_line room answers part event old new e w = (
 )
 
 -- one more part
-pub told_more : (room : List ℕ) (answers : List Given) (all : List (Bor Claim)) (i : ℕ) (claim : Bor Claim) (old mid new : List ℕ) → i < length all → claim ≡ get_or all i claim
+pub told_more : (room : List ℕ) (answers : List PartAnswer) (all : List (Bor Claim)) (i : ℕ) (claim : Bor Claim) (old mid new : List ℕ) → i < length all → claim ≡ get_or all i claim
     → (AllTell answers all → WritesAnswers room answers (take i all) old mid) → (CanTell answers (part_of claim.now.part) → WritesLines mid new (ShowsGiven room answers (part_of claim.now.part)))
     → AllTell answers all → WritesAnswers room answers (take (i + 1) all) old new
 told_more room answers all i claim old mid new h e before one tell =
@@ -75,7 +75,7 @@ told_more room answers all i claim old mid new h e before one tell =
 
 -- ---- the same answers in another order
 
-can_tell_from : (xs ys : List Given) (part : Part) → Reordered xs ys → CanTell ys part → CanTell xs part
+can_tell_from : (xs ys : List PartAnswer) (part : Part) → Reordered xs ys → CanTell ys part → CanTell xs part
 can_tell_from xs ys part same can = record {
   slot = can.slot;
   given = can.given;
@@ -84,22 +84,22 @@ can_tell_from xs ys part same can = record {
   dated = λ other c. can.dated other (re_in xs ys same other c);
 }
 
-shows_from : (room : List ℕ) (xs ys : List Given) (part : Part) (lines : List (List ℕ)) → Reordered xs ys → ShowsGiven room xs part lines → ShowsGiven room ys part lines
+shows_from : (room : List ℕ) (xs ys : List PartAnswer) (part : Part) (lines : List (List ℕ)) → Reordered xs ys → ShowsGiven room xs part lines → ShowsGiven room ys part lines
 shows_from room xs ys part lines same s = record { given = s.given; kept = re_in xs ys same s.given s.kept; same = s.same; shows = s.shows }
 
-told_from : (room : List ℕ) (xs ys : List Given) (are : List (Bor Claim)) (events : List (List (List ℕ))) → Reordered xs ys → AreTold room xs are events → AreTold room ys are events
+told_from : (room : List ℕ) (xs ys : List PartAnswer) (are : List (Bor Claim)) (events : List (List (List ℕ))) → Reordered xs ys → AreTold room xs are events → AreTold room ys are events
 told_from room xs ys [] [] same z = tt
 told_from room xs ys [] (e ∷ events) same z = absurd z
 told_from room xs ys (c ∷ are) [] same z = absurd z
 told_from room xs ys (c ∷ are) (e ∷ events) same z = (shows_from room xs ys (part_of c.now.part) e same z.0, told_from room xs ys are events same z.1)
 
-reply_from : (room : List ℕ) (xs ys : List Given) (are : List (Bor Claim)) (octets : List ℕ) → Reordered xs ys → (AllTell xs are → IsReplyOf room xs are octets) → AllTell ys are → IsReplyOf room ys are octets
+reply_from : (room : List ℕ) (xs ys : List PartAnswer) (are : List (Bor Claim)) (octets : List ℕ) → Reordered xs ys → (AllTell xs are → IsReplyOf room xs are octets) → AllTell ys are → IsReplyOf room ys are octets
 reply_from room xs ys are octets same f tell =
     let r = f (λ claim c. can_tell_from xs ys (part_of claim.now.part) same (tell claim c)) in
     record { events = r.events; each = told_from room xs ys are r.events same r.each; is = r.is }
 
 -- the whole reply
-pub reply_whole : (room : List ℕ) (answers : List Given) (are : List (Bor Claim)) (empty opened mid closed : List ℕ) → empty ≡ [] → opened ≡ empty ++ written (opening_lines (Some (codes "REPLY")))
+pub reply_whole : (room : List ℕ) (answers : List PartAnswer) (are : List (Bor Claim)) (empty opened mid closed : List ℕ) → empty ≡ [] → opened ≡ empty ++ written (opening_lines (Some (codes "REPLY")))
     → (AllTell answers are → WritesAnswers room answers are opened mid) → closed ≡ mid ++ folded (codes "END:VCALENDAR") → AllTell answers are → IsReplyOf room answers are closed
 reply_whole room answers are empty opened mid closed e0 e1 f e2 tell =
     let w = f tell in
@@ -169,7 +169,7 @@ reply_shows room key own meeting claims are octets f o m s r =
 some_shown : (n : ℕ) → 0 < n → IsTrue (not (n == 0))
 some_shown n h = grind (arith, nat_tests)
 
-pub replies_by : (room : List ℕ) (key : MeetingKey) (own : Book) (meeting : Meeting) (claims : List Claim) (are : List (Bor Claim)) (these : List (Bor Claim)) (answers : List Given) (octets : List ℕ) → these ≡ are → Reordered answers meeting.answers.items
+pub replies_by : (room : List ℕ) (key : MeetingKey) (own : Book) (meeting : Meeting) (claims : List Claim) (are : List (Bor Claim)) (these : List (Bor Claim)) (answers : List PartAnswer) (octets : List ℕ) → these ≡ are → Reordered answers meeting.answers.items
     → 0 < length are → AreFitting key (claims_said claims) → IsOwn key own → Meets own key meeting → AreShown own.taken claims are
     → (AllTell answers these → IsReplyOf room answers these octets) → Replies room own (claims_said claims) (Some octets)
 replies_by room key own meeting claims are these answers octets e a n f o m s r = (

@@ -8,7 +8,7 @@ use Rattle.std.proofs.lemmas.List.Elements.{filter-append, Contains-append_cases
 use Rattle.indexmap.specs.IndexMap.{insert_entry}
 use Rattle.itip_order.proofs.Lists.{in_head, in_tail, filter_at}
 use Rattle.profile.specs.rooms.Revisions.{Part, in_view}
-use Rattle.profile.specs.rooms.Rooms.{Claim, Answer, Book, Kind, is_set, parts_of, asked, answered, series_confirmed, shown}
+use Rattle.profile.specs.rooms.Rooms.{Claim, PartAnswer, Book, Kind, is_set, parts_of, asked, answered, series_confirmed, shown}
 use Rattle.profile.specs.rooms.Kept.{Replies, Refreshes, ShowsAnswer, first_parts}
 use Rattle.itip_order.specs.Registers.{RepresentsHistory}
 use Rattle.room_books.specs.Takings.{HasHistory}
@@ -17,11 +17,11 @@ use Rattle.room_books.specs.declared.meeting.MeetingKey.{MeetingKey}
 use Rattle.room_books.specs.declared.kept.Meeting.{Meeting}
 use Rattle.std.specs.Prelude.{option_map}
 use Rattle.std.specs.Option.{option_to_list}
-use Rattle.profile.specs.events.Events.{Event}
+use Rattle.profile.specs.events.EventComponents.{EventComponent}
 use Rattle.cal_events.specs.SaidSeries.{series_said}
 use Rattle.cal_events.specs.declared.series.Series.{Series}
 use Rattle.room_books.specs.Views.{same_key, series_of, series_list}
-use Rattle.room_books.specs.Representation.{SlotDated, is_of, AreFitting, AreSameSeries, of_meeting, answers_of, book_of, IsOwn, IsGiven, Meets, MeetsAt, Covers, AreKeysOf, Represents, book_after, IsMeetingAfter, StepsWith}
+use Rattle.room_books.specs.Representation.{SlotDated, is_of_meeting, AreFitting, AreSameSeries, of_meeting, answers_of, book_of, IsOwn, HasAnswer, Meets, MeetsAt, Covers, AreKeysOf, Represents, book_after, IsMeetingAfter, StepsWith}
 use Rattle.room_books.proofs.Arrivals.{arrives}
 use Rattle.room_books.proofs.Meetings.{key_from, key_parts, is_of_same, one_meeting, of_more_other, filter_none, view_of}
 use Rattle.room_books.proofs.Pairs.{pairs_append, map_at}
@@ -47,7 +47,7 @@ insert_twice (e ∷ es) k m = at_test (same_key k e.0) refl (insert_twice es k m
     at_test false other h = ap (λ b. cond b ((e.0, m) ∷ insert_entry same_key es k m) (e ∷ insert_entry same_key (insert_entry same_key es k m) k m)) other ∙ ap (λ l. e ∷ l) h
 
 -- more parts of a meeting that is there move none
-arrive_more : (es : Entries) (ts ps : List Part) (k : MeetingKey) (m : Meeting) → ((p : Part) → Contains ps p → is_of k p ≡ true) → AreKeysOf (keys_of (insert_entry same_key es k m)) (first_parts ts)
+arrive_more : (es : Entries) (ts ps : List Part) (k : MeetingKey) (m : Meeting) → ((p : Part) → Contains ps p → is_of_meeting k p ≡ true) → AreKeysOf (keys_of (insert_entry same_key es k m)) (first_parts ts)
     → AreKeysOf (keys_of (insert_entry same_key es k m)) (first_parts (ts ++ ps))
 arrive_more es ts [] k m own z = subst (λ (l : List Part). AreKeysOf (keys_of (insert_entry same_key es k m)) (first_parts l)) (sym (append-nil ts)) z
 arrive_more es ts (p ∷ ps) k m own z =
@@ -62,7 +62,7 @@ arrive_all es ts k m [] some fit z = absurd (omega (arith, some))
 arrive_all es ts k m (c ∷ cs) some fit z =
     let first = arrives es ts k m c.part (fit.of_it c (in_head c cs)) z in
     subst (λ (l : List Part). AreKeysOf (keys_of (insert_entry same_key es k m)) (first_parts l)) (append_assoc ts (c.part ∷ []) (parts_of cs))
-    (arrive_more es (ts ++ c.part ∷ []) (parts_of cs) k m (λ q d. let f = map_at (λ (x : Claim). x.part) cs q d in subst (λ (x : Part). is_of k x ≡ true) f.2 (fit.of_it f.0 (in_tail c cs f.0 f.1))) first)
+    (arrive_more es (ts ++ c.part ∷ []) (parts_of cs) k m (λ q d. let f = map_at (λ (x : Claim). x.part) cs q d in subst (λ (x : Part). is_of_meeting k x ≡ true) f.2 (fit.of_it f.0 (in_tail c cs f.0 f.1))) first)
 
 -- ---- the meeting by another spelling of its key
 
@@ -84,7 +84,7 @@ series_same k q [] e = refl
 series_same k q (s ∷ series) e =
     let parts = key_parts k q e in
     let first : series_of k s ≡ series_of q s = λ i. record {
-      master = option_map (λ (event : Event). record event { uid = parts.1 i; organiser = Some (parts.0 i) }) (series_said s).master;
+      master = option_map (λ (event : EventComponent). record event { uid = parts.1 i; organiser = Some (parts.0 i) }) (series_said s).master;
       overrides = [];
     } in
     let rest = series_same k q series e in
@@ -96,7 +96,7 @@ meets_same k q book m e h = subst (λ (own : Book). Meets own q m) (book_same k 
   answers = record {
     order = h.answers.order;
     same = h.answers.same;
-    each = zip_weaker (IsGiven k (of_meeting k book.taken)) (IsGiven q (of_meeting k book.taken)) h.answers.order m.answers.items
+    each = zip_weaker (HasAnswer k (of_meeting k book.taken)) (HasAnswer q (of_meeting k book.taken)) h.answers.order m.answers.items
         (λ a g r. record { slot = r.slot; moment = r.moment; outcome = r.outcome; confirms = sym (booked_list_same k q g.singles.items e) ∙ r.confirms; recurs = subst (AreSameSeries (of_meeting k book.taken) (series_confirmed (of_meeting k book.taken) (a ∷ []))) (series_same k q (option_to_list g.series) e) r.recurs }) h.answers.each;
   };
   answered = h.answered;
@@ -112,17 +112,17 @@ module _ (entries entries' : Entries) (book : Book) (k : MeetingKey) (claims : L
   abbrev taken : List Part
   taken = book.taken ++ parts_of claims
 
-  abbrev new : List Answer
+  abbrev new : List PartAnswer
   new = answered moment after.outcome (asked book.taken taken claims)
 
   abbrev later : Book
   later = book_after book claims moment after.outcome
 
-  is_new : (a : Answer) → Contains new a → IsNew book.taken taken claims a
+  is_new : (a : PartAnswer) → Contains new a → IsNew book.taken taken claims a
   is_new a c = new_answer book.taken taken moment after.outcome claims a c
 
-  of_k : (p : Part) → Contains (parts_of claims) p → is_of k p ≡ true
-  of_k p c = let f = map_at (λ (x : Claim). x.part) claims p c in subst (λ (x : Part). is_of k x ≡ true) f.2 (fit.of_it f.0 f.1)
+  of_k : (p : Part) → Contains (parts_of claims) p → is_of_meeting k p ≡ true
+  of_k p c = let f = map_at (λ (x : Claim). x.part) claims p c in subst (λ (x : Part). is_of_meeting k x ≡ true) f.2 (fit.of_it f.0 f.1)
 
   found_at : (q : MeetingKey) (b : Bool) → same_key k q ≡ b → lookup (same_key q) entries' ≡ cond b (Some m) (lookup (same_key q) entries)
   found_at q b e = updates q ∙ ap (λ t. cond t (Some m) (lookup (same_key q) entries)) e
@@ -137,22 +137,22 @@ module _ (entries entries' : Entries) (book : Book) (k : MeetingKey) (claims : L
   covers_new part c = record { key = k; meeting = m; found = found_at k true (key_from k k refl refl); is = of_k part c }
 
   -- an old answer and a new one are to different parts
-  across : (x y : Answer) → Contains book.answers x → Contains new y → x.claim.part ≢ y.claim.part
+  across : (x y : PartAnswer) → Contains book.answers x → Contains new y → x.claim.part ≢ y.claim.part
   across x y old fresh e =
       let n = is_new y fresh in
       let before : Contains book.taken y.claim.part = subst (λ (p : Part). Contains book.taken p) e (st.known x old) in
       both_ways _ n.gone (view_back book.taken (parts_of claims) y.claim.part before n.seen)
 
   -- of another meeting nothing has changed
-  other_part : (q : MeetingKey) → same_key k q ≡ false → (p : Part) → is_of k p ≡ true → is_of q p ≡ false
+  other_part : (q : MeetingKey) → same_key k q ≡ false → (p : Part) → is_of_meeting k p ≡ true → is_of_meeting q p ≡ false
   other_part q d p own = false_from_ne_true _ (λ e. both_ways _ d (one_meeting k q p own e))
 
   other_book : (q : MeetingKey) → same_key k q ≡ false → book_of q later ≡ book_of q book
   other_book q d =
       let parts : of_meeting q taken ≡ of_meeting q book.taken = of_more_other q book.taken (parts_of claims) (λ p c. other_part q d p (of_k p c)) in
-      let none : answers_of q new ≡ [] = filter_none (λ a. is_of q a.claim.part) new (λ a c. other_part q d a.claim.part (fit.of_it a.claim (is_new a c).among)) in
+      let none : answers_of q new ≡ [] = filter_none (λ a. is_of_meeting q a.claim.part) new (λ a c. other_part q d a.claim.part (fit.of_it a.claim (is_new a c).among)) in
       let answers : answers_of q (book.answers ++ new) ≡ answers_of q book.answers =
-      filter-append (λ a. is_of q a.claim.part) book.answers new ∙ ap (λ l. answers_of q book.answers ++ l) none ∙ append-nil (answers_of q book.answers) in
+      filter-append (λ a. is_of_meeting q a.claim.part) book.answers new ∙ ap (λ l. answers_of q book.answers ++ l) none ∙ append-nil (answers_of q book.answers) in
       λ i. record { taken = parts i; answers = answers i }
 
   meets_now : (q : MeetingKey) → MeetsAt (book_of q later) q (lookup (same_key q) entries')
@@ -183,7 +183,7 @@ module _ (entries entries' : Entries) (book : Book) (k : MeetingKey) (claims : L
 -- ---- the reply
 
 -- a part is shown in a book where it is in its meeting's
-shown_own : (k : MeetingKey) (h : List Part) (claims : List Claim) → ((c : Claim) → Contains claims c → is_of k c.part ≡ true) → shown (of_meeting k h) claims ≡ shown h claims
+shown_own : (k : MeetingKey) (h : List Part) (claims : List Claim) → ((c : Claim) → Contains claims c → is_of_meeting k c.part ≡ true) → shown (of_meeting k h) claims ≡ shown h claims
 shown_own k h [] own = refl
 shown_own k h (c ∷ cs) own =
     ap (λ b. cond (is_set c.part && b) (c ∷ shown (of_meeting k h) cs) (shown (of_meeting k h) cs)) (view_of k h c.part (own c (in_head c cs)))
@@ -192,13 +192,13 @@ shown_own k h (c ∷ cs) own =
 shows_all : (room : List ℕ) (k : MeetingKey) (book : Book) (claim : Claim) (lines : List (List ℕ)) → ShowsAnswer room (book_of k book) claim lines → ShowsAnswer room book claim lines
 shows_all room k book claim lines s = record {
   answer = s.answer;
-  kept = (filter_at (λ (x : Answer). is_of k x.claim.part) book.answers s.answer s.kept).0;
+  kept = (filter_at (λ (x : PartAnswer). is_of_meeting k x.claim.part) book.answers s.answer s.kept).0;
   of_part = s.of_part;
   shows = s.shows;
 }
 
 -- what shows the answers of the meeting's own book shows those of the whole book
-replies_all : (room : List ℕ) (k : MeetingKey) (book : Book) (claims : List Claim) (reply : Option (List ℕ)) → ((c : Claim) → Contains claims c → is_of k c.part ≡ true) → Replies room (book_of k book) claims reply
+replies_all : (room : List ℕ) (k : MeetingKey) (book : Book) (claims : List Claim) (reply : Option (List ℕ)) → ((c : Claim) → Contains claims c → is_of_meeting k c.part ≡ true) → Replies room (book_of k book) claims reply
     → Replies room book claims reply
 replies_all room k book claims None own r = sym (shown_own k book.taken claims own) ∙ r
 replies_all room k book claims (Some octets) own r =

@@ -13,21 +13,21 @@ use Rattle.itip_order.proofs.Lists.{none_in_nil, in_cons, filter_at, filter_from
 use Rattle.itip_order.specs.declared.part.Slot.{Slot}
 use Rattle.itip_order.specs.Parts.{slot_of}
 use denote.Ref.{Bor}
-use Rattle.profile.specs.checker.Instances.{Booked}
+use Rattle.profile.specs.checker.Instances.{Instance}
 use Rattle.profile.specs.events.Confirmed.{IsInSeries}
-use Rattle.profile.specs.events.Meetings.{Meeting as Whole}
+use Rattle.profile.specs.events.Events.{Event as Whole}
 use Rattle.profile.specs.events.Starts.{IsInstance}
 use Rattle.profile.specs.rooms.Revisions as revisions
 use Rattle.cal_events.specs.declared.instance.Single.{Single}
 use Rattle.cal_events.specs.declared.series.Series.{Series}
 use Rattle.room_books.specs.declared.kept.Meeting.{Meeting}
-use Rattle.room_books.specs.declared.meeting.Given.{Given}
+use Rattle.room_books.specs.declared.meeting.PartAnswer.{PartAnswer}
 use Rattle.room_books.specs.declared.meeting.MeetingKey.{MeetingKey}
 use Rattle.room_books.specs.declared.recurring.Recurring.{Recurring}
 use Rattle.room_books.specs.BySlot.{is_at}
 use Rattle.room_books.specs.Recurrings.{AreAllOf, keyed_of, recurring_said}
-use Rattle.room_books.specs.Timelines.{is_place}
-use Rattle.room_books.specs.Views.{all_series, booked_of, is_other, other_recurring, recurring_at, recurring_by, recurring_of, same_key, series_at, series_in, series_list, series_of, AreRecurring}
+use Rattle.room_books.specs.Timelines.{is_own_place}
+use Rattle.room_books.specs.Views.{all_series, keyed_instance, is_other, other_recurring, recurring_at, recurring_by, recurring_of, same_key, series_at, series_in, series_list, series_of, AreRecurring}
 use Rattle.room_books.specs.Wholes.{is_of_whole}
 use Rattle.room_books.proofs.Loops.{one_more}
 use Rattle.room_books.proofs.Pairs.{flat_at, flat_from, map_at}
@@ -40,7 +40,7 @@ none_apart : (o : Option Series) (slot : Slot) → is_of_whole o slot ≡ true �
 none_apart None slot whole apart = refl
 none_apart (Some s) slot whole apart = absurd (both_ways _ apart whole)
 
-pub whole_series : (answers : List Given) → all_series (filter (is_at revisions.Whole) answers) ≡ all_series answers
+pub whole_series : (answers : List PartAnswer) → all_series (filter (is_at revisions.Whole) answers) ≡ all_series answers
 whole_series [] = refl
 whole_series (g ∷ answers) = elim (cases_Bool (is_at revisions.Whole g)) [
   | inl at ↦ ap (λ t. all_series (cond t (g ∷ filter (is_at revisions.Whole) answers) (filter (is_at revisions.Whole) answers))) at ∙ ap (λ l. option_to_list g.series ++ l) (whole_series answers)
@@ -49,7 +49,7 @@ whole_series (g ∷ answers) = elim (cases_Bool (is_at revisions.Whole g)) [
 ]
 
 -- the series of a place are those of the whole of its entry
-pub series_there : (es : List (MeetingKey × Meeting)) (place : ℕ) (e : MeetingKey × Meeting) (found : List Given) → slice_get es place ≡ Some e → found ≡ filter (is_at revisions.Whole) e.1.answers.items
+pub series_there : (es : List (MeetingKey × Meeting)) (place : ℕ) (e : MeetingKey × Meeting) (found : List PartAnswer) → slice_get es place ≡ Some e → found ≡ filter (is_at revisions.Whole) e.1.answers.items
     → series_list e.0 (all_series found) ≡ recurring_at es place
 series_there es place e found at is = ap (λ l. series_list e.0 (all_series l)) is ∙ ap (series_list e.0) (whole_series e.1.answers.items) ∙ ap recurring_by (sym at)
 
@@ -58,19 +58,19 @@ series_there es place e found at is = ap (λ l. series_list e.0 (all_series l)) 
 -- those of the other meetings in these places, and no more: all of each except for the meeting's own place
 pub record AreThere (k : MeetingKey) (es : List (MeetingKey × Meeting)) (own : Option ℕ) (places : List ℕ) (all : List Whole) : Type 0 where
   pub others : (one : Whole) → Contains all one → Contains (other_recurring k es) one
-  pub each : (place : ℕ) (one : Whole) → Contains places place → is_place own place ≡ false → Contains (recurring_at es place) one → Contains all one
+  pub each : (place : ℕ) (one : Whole) → Contains places place → is_own_place own place ≡ false → Contains (recurring_at es place) one → Contains all one
 
 module _ (k : MeetingKey) (es : List (MeetingKey × Meeting)) (distinct : IsDistinct same_key (keys_of es)) (own : Option ℕ) (own_is : own ≡ position (same_key k) (keys_of es)) where
   pub there_none : AreThere k es own [] []
   there_none = record { others = λ one c. absurd (none_in_nil one c); each = λ place one c. absurd (none_in_nil place c) }
 
   -- the meeting's own place is passed over
-  pub there_pass : (places : List ℕ) (i place : ℕ) (all : List Whole) → i < length places → place ≡ get_or places i place → is_place own place ≡ true → AreThere k es own (take i places) all → AreThere k es own (take (i + 1) places) all
+  pub there_pass : (places : List ℕ) (i place : ℕ) (all : List Whole) → i < length places → place ≡ get_or places i place → is_own_place own place ≡ true → AreThere k es own (take i places) all → AreThere k es own (take (i + 1) places) all
   there_pass places i place all within at is h = record {
     others = h.others;
     each = λ q one c n there. elim (Contains-append_cases (take i places) (place ∷ []) q (subst (λ (l : List ℕ). Contains l q) (one_more places i place within at) c)) [
       | inl before ↦ h.each q one before n there
-      | inr last ↦ absurd (both_ways _ n (ap (is_place own) (sym (only place q last)) ∙ is))
+      | inr last ↦ absurd (both_ways _ n (ap (is_own_place own) (sym (only place q last)) ∙ is))
     ];
   }
     where
@@ -82,7 +82,7 @@ module _ (k : MeetingKey) (es : List (MeetingKey × Meeting)) (distinct : IsDist
   in_entry (Some e) one c = (e, refl, c)
 
   -- those of another place are put in
-  pub there_more : (places : List ℕ) (i place : ℕ) (all new : List Whole) → i < length places → place ≡ get_or places i place → is_place own place ≡ false → new ≡ all ++ recurring_at es place
+  pub there_more : (places : List ℕ) (i place : ℕ) (all new : List Whole) → i < length places → place ≡ get_or places i place → is_own_place own place ≡ false → new ≡ all ++ recurring_at es place
       → AreThere k es own (take i places) all → AreThere k es own (take (i + 1) places) new
   there_more places i place all new within at other pushed h = record {
     others = λ one c. elim (Contains-append_cases all (recurring_at es place) one (subst (λ (l : List Whole). Contains l one) pushed c)) [
@@ -118,7 +118,7 @@ module _ (k : MeetingKey) (es : List (MeetingKey × Meeting)) (distinct : IsDist
 
 -- ---- places, as they are lent
 
-pub place_eq : (own : Option ℕ) (place : ℕ) → option_eq ◌==◌ own (Some place) ≡ is_place own place
+pub place_eq : (own : Option ℕ) (place : ℕ) → option_eq ◌==◌ own (Some place) ≡ is_own_place own place
 place_eq None place = refl
 place_eq (Some p) place = refl
 
@@ -126,12 +126,12 @@ pub place_there : (places lent : List ℕ) → lent ≡ places → (i : ℕ) →
 place_there places lent e i within = ap (λ l. get_or l i 0) e ∙ get_or_default places i 0 (get_or lent i 0) (subst (λ (l : List ℕ). i < length l) e within)
 
 -- an instance of a series of another meeting has a key of its own
-pub other_series_differ : (k : MeetingKey) (es : List (MeetingKey × Meeting)) (x : Single) (b : Booked) → IsInSeries (other_recurring k es) b → b.key ≢ (booked_of k x).key
+pub other_series_differ : (k : MeetingKey) (es : List (MeetingKey × Meeting)) (x : Single) (b : Instance) → IsInSeries (other_recurring k es) b → b.key ≢ (keyed_instance k x).key
 other_series_differ k es x b (one, among, is) =
     let f = flat_at recurring_of (filter (is_other k) es) one among in
     let s = map_at (series_of f.0.0) (all_series f.0.1.answers.items) one f.2 in
     let y = of_series f.0.0 s.0 b (subst (λ (w : Whole). IsInstance w b) (sym s.2) is) in
-    λ e. booked_differs k f.0.0 x y.0 (not-true _ (filter_at (is_other k) es f.0 f.1).1) (sym (ap (λ (z : Booked). z.key) y.2) ∙ e)
+    λ e. booked_differs k f.0.0 x y.0 (not-true _ (filter_at (is_other k) es f.0 f.1).1) (sym (ap (λ (z : Instance). z.key) y.2) ∙ e)
 
 -- ---- series of the meeting are put after those of the others
 

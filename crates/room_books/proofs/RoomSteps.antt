@@ -8,7 +8,7 @@ use Rattle.std.proofs.lemmas.Grind.{flat_map-append}
 use Rattle.std.proofs.lemmas.List.{length-map}
 use Rattle.indexmap.specs.IndexMap.{insert_entry}
 use Rattle.itip_order.proofs.Lists.{in_head, in_tail, in_cons, none_in_nil}
-use Rattle.profile.specs.checker.Instances.{Booked, IsClear}
+use Rattle.profile.specs.checker.Instances.{Instance, IsClear}
 use Rattle.profile.specs.events.Confirmed.{Confirmed}
 use Rattle.std.specs.Option.{option_to_list}
 use Rattle.cal_events.specs.declared.series.Series.{Series}
@@ -17,14 +17,14 @@ use Rattle.profile.specs.rooms.Messages as messages
 use Rattle.profile.specs.rooms.Messages.{Accept, Busy, SeriesLimit, SinglesLimit}
 use Rattle.profile.specs.rooms.Rooms.{Book, Kind, NotAddressed, is_accept}
 use Rattle.room_books.specs.declared.meeting.Outcome.{Outcome}
-use Rattle.room_books.specs.declared.meeting.Given.{Given}
+use Rattle.room_books.specs.declared.meeting.PartAnswer.{PartAnswer}
 use Rattle.room_books.specs.Representation.{Represents, StepsWith}
 use Rattle.room_books.specs.Takings.{IsDecided, MayJoinAll}
 use Rattle.room_books.specs.declared.meeting.MeetingKey.{MeetingKey}
 use Rattle.room_books.specs.declared.kept.Meeting.{Meeting}
 use Rattle.cal_events.specs.declared.instance.Single.{Single}
 use Rattle.room_books.specs.Instants.{AreSeparate, IsPartOf}
-use Rattle.room_books.specs.Views.{same_key, booked_of, booked_list, all_series, all_singles, meeting_singles, singles_by, outcome_of, others, all_confirmed, AreAllApart, MayJoin, SeriesMayJoin}
+use Rattle.room_books.specs.Views.{same_key, keyed_instance, instance_list, all_series, all_singles, meeting_singles, singles_by, outcome_of, others, all_confirmed, AreAllApart, MayJoin, SeriesMayJoin}
 use Rattle.room_books.proofs.Places.{others_count}
 use Rattle.room_books.proofs.Putting.{clear_kept}
 
@@ -48,7 +48,7 @@ put_apart k m (e ∷ es) h s x c = at_test (same_key k e.0) (put_apart k m es (�
 pub kept_joins : (k : MeetingKey) (es : List (MeetingKey × Meeting)) (kept : List Single) → IsDistinct same_key (keys_of es) → IsClear (all_confirmed es) → AreAllApart es → length (all_confirmed es) ≤ 10_000
     → IsPartOf kept (singles_by (lookup (same_key k) es)) → MayJoin (others k es) k kept
 kept_joins k es kept distinct clear apart few part = record {
-  few = (let n = others_count k es distinct in let s = part.shorter in let m = length-map kept (booked_of k) in omega (arith, n, s, m, few, length-append (others k es) (booked_list k kept)));
+  few = (let n = others_count k es distinct in let s = part.shorter in let m = length-map kept (keyed_instance k) in omega (arith, n, s, m, few, length-append (others k es) (instance_list k kept)));
   clear = clear_kept k es kept part.within clear;
   separate = part.separate (found_apart k es apart);
 }
@@ -56,7 +56,7 @@ kept_joins k es kept distinct clear apart few part = record {
 -- ---- what new answers confirm
 
 -- candidates with what was decided confirm all that they ask for where that is to accept them, else nothing
-pub decided_singles : (outcome : Outcome) (candidates new : List Given) → AllZip (λ candidate given. IsDecided candidate outcome given) candidates new
+pub decided_singles : (outcome : Outcome) (candidates new : List PartAnswer) → AllZip (λ candidate given. IsDecided candidate outcome given) candidates new
     → all_singles new ≡ (if is_accept (outcome_of outcome) then all_singles candidates else [])
 decided_singles outcome [] [] z = none (is_accept (outcome_of outcome))
   where
@@ -73,7 +73,7 @@ decided_singles outcome [] (n ∷ ns) z = absurd z
 decided_singles outcome (c ∷ cs) [] z = absurd z
 
 -- and the series of all where that is to accept them, else none
-pub decided_series : (outcome : Outcome) (candidates new : List Given) → AllZip (λ candidate given. IsDecided candidate outcome given) candidates new
+pub decided_series : (outcome : Outcome) (candidates new : List PartAnswer) → AllZip (λ candidate given. IsDecided candidate outcome given) candidates new
     → all_series new ≡ (if is_accept (outcome_of outcome) then all_series candidates else [])
 decided_series outcome [] [] z = none (is_accept (outcome_of outcome))
   where
@@ -90,10 +90,10 @@ decided_series outcome [] (n ∷ ns) z = absurd z
 decided_series outcome (c ∷ cs) [] z = absurd z
 
 -- with what was decided of candidates a meeting may be confirmed beside the others
-pub answers_join : (others : List Booked) (k : MeetingKey) (outcome : Outcome) (kept candidates new : List Given) → (outcome_of outcome ≡ Accept → MayJoin others k (all_singles kept ++ all_singles candidates))
+pub answers_join : (others : List Instance) (k : MeetingKey) (outcome : Outcome) (kept candidates new : List PartAnswer) → (outcome_of outcome ≡ Accept → MayJoin others k (all_singles kept ++ all_singles candidates))
     → AllZip (λ candidate given. IsDecided candidate outcome given) candidates new → MayJoin others k (all_singles kept) → MayJoin others k (all_singles (kept ++ new))
 answers_join others k outcome kept candidates new joins z j =
-    subst (MayJoin others k) (sym (flat_map-append (λ (g : Given). g.singles.items) kept new))
+    subst (MayJoin others k) (sym (flat_map-append (λ (g : PartAnswer). g.singles.items) kept new))
     (subst (λ (l : List Single). MayJoin others k (all_singles kept ++ l)) (sym (decided_singles outcome candidates new z)) (by_outcome (outcome_of outcome) joins))
   where
     by_outcome : (o : messages.Outcome) → (o ≡ Accept → MayJoin others k (all_singles kept ++ all_singles candidates)) → MayJoin others k (all_singles kept ++ (if is_accept o then all_singles candidates else []))
@@ -103,12 +103,12 @@ answers_join others k outcome kept candidates new joins z j =
     by_outcome SinglesLimit f = subst (MayJoin others k) (sym (append-nil (all_singles kept))) j
 
 -- and its series
-pub answers_series_join : (others : Confirmed) (k : MeetingKey) (outcome : Outcome) (kept candidates new : List Given)
+pub answers_series_join : (others : Confirmed) (k : MeetingKey) (outcome : Outcome) (kept candidates new : List PartAnswer)
     → (outcome_of outcome ≡ Accept → SeriesMayJoin others k (all_singles kept ++ all_singles candidates) (all_series kept ++ all_series candidates))
     → AllZip (λ candidate given. IsDecided candidate outcome given) candidates new → MayJoinAll others k kept → MayJoinAll others k (kept ++ new)
 answers_series_join others k outcome kept candidates new joins z j =
-    subst (λ (l : List Single). SeriesMayJoin others k l (all_series (kept ++ new))) (sym (flat_map-append (λ (g : Given). g.singles.items) kept new))
-    (subst (SeriesMayJoin others k (all_singles kept ++ all_singles new)) (sym (flat_map-append (λ (g : Given). option_to_list g.series) kept new))
+    subst (λ (l : List Single). SeriesMayJoin others k l (all_series (kept ++ new))) (sym (flat_map-append (λ (g : PartAnswer). g.singles.items) kept new))
+    (subst (SeriesMayJoin others k (all_singles kept ++ all_singles new)) (sym (flat_map-append (λ (g : PartAnswer). option_to_list g.series) kept new))
     (subst (λ (l : List Single). SeriesMayJoin others k (all_singles kept ++ l) (all_series kept ++ all_series new)) (sym (decided_singles outcome candidates new z))
     (subst (λ (l : List Series). SeriesMayJoin others k (all_singles kept ++ (if is_accept (outcome_of outcome) then all_singles candidates else [])) (all_series kept ++ l)) (sym (decided_series outcome candidates new z))
     (by_outcome (outcome_of outcome) joins))))

@@ -3,18 +3,18 @@ use Rattle.std.proofs.Common.{◌≡◌, List, [], ◌++◌, ◌≤◌, inl, inr
 use Rattle.std.specs.List.{Contains}
 use Rattle.std.proofs.lemmas.List.Elements.{Contains-append_left, Contains-append_right, Contains-append_cases}
 use Rattle.itip_order.proofs.Lists.{none_in_nil}
-use Rattle.profile.specs.checker.Instances.{Booked}
+use Rattle.profile.specs.checker.Instances.{Instance}
 use Rattle.profile.specs.events.Confirmed.{Confirmed, IsOneOf}
-use Rattle.profile.specs.events.Meetings.{Meeting as Series}
+use Rattle.profile.specs.events.Events.{Event as Series}
 use Rattle.profile.specs.rooms.Messages.{Outcome, Accept, Busy, SeriesLimit, SinglesLimit}
 use Rattle.profile.specs.rooms.Revisions.{Part}
-use Rattle.profile.specs.rooms.Rooms.{Book, Confirms, Recurring, IsLeftOf, is_hidden, confirmed_singles, confirmed_series, most_series, most_singles, Decides}
+use Rattle.profile.specs.rooms.Rooms.{Book, Confirms, Recurring, IsShownInSeries, is_hidden, confirmed_singles, confirmed_series, most_series, most_singles, Decides}
 use Rattle.room_books.specs.Representation.{AreSameSeries}
 use Rattle.room_books.specs.Takings.{DecidesOf}
 use Rattle.room_books.proofs.Same.{AreSame}
 
 module _ (t : List Part) where
-  pub left_in : (xs ys : List Recurring) → ((r : Recurring) → Contains xs r → Contains ys r) → (b : Booked) → IsLeftOf t xs b → IsLeftOf t ys b
+  pub left_in : (xs ys : List Recurring) → ((r : Recurring) → Contains xs r → Contains ys r) → (b : Instance) → IsShownInSeries t xs b → IsShownInSeries t ys b
   left_in xs ys to b l = record { series = l.series; among = to l.series l.among; is = l.is; shown = l.shown }
 
   pub series_none : AreSameSeries t [] []
@@ -48,7 +48,7 @@ module _ (t : List Part) where
   }
 
 -- where other parts hide the same
-pub series_hidden : (t u : List Part) (xs : List Recurring) (ys : List Series) → ((r : Recurring) → Contains xs r → (b : Booked) → is_hidden t r.part b ≡ is_hidden u r.part b) → AreSameSeries t xs ys → AreSameSeries u xs ys
+pub series_hidden : (t u : List Part) (xs : List Recurring) (ys : List Series) → ((r : Recurring) → Contains xs r → (b : Instance) → is_hidden t r.part b ≡ is_hidden u r.part b) → AreSameSeries t xs ys → AreSameSeries u xs ys
 series_hidden t u xs ys h p = record {
   long = p.long;
   same = λ b. (
@@ -64,11 +64,11 @@ pub record AreAlike (book : Book) (all : Confirmed) : Type 0 where
   pub series : AreSameSeries book.taken (confirmed_series book) all.series
 
 module _ (book : Book) (all : Confirmed) (alike : AreAlike book all) where
-  pub alike_to : (b : Booked) → Confirms book b → IsOneOf all b
+  pub alike_to : (b : Instance) → Confirms book b → IsOneOf all b
   alike_to b (inl c) = inl (alike.singles.to b c)
   alike_to b (inr l) = inr ((alike.series.same b).0 l)
 
-  pub alike_from : (b : Booked) → IsOneOf all b → Confirms book b
+  pub alike_from : (b : Instance) → IsOneOf all b → Confirms book b
   alike_from b (inl c) = inl (alike.singles.from b c)
   alike_from b (inr i) = inr ((alike.series.same b).1 i)
 

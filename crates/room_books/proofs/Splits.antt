@@ -2,7 +2,7 @@
 use Rattle.std.proofs.Common.{◌≡◌, ◌∙◌, ℕ, ◌+◌, ◌<◌, List, [], ◌∷◌, ◌++◌, take, length, get_or, sym, ap, subst, append-nil, append_assoc}
 use Rattle.std.proofs.lemmas.List.{take_more}
 use Rattle.cal_events.specs.declared.instance.Single.{Single}
-use Rattle.room_books.specs.declared.meeting.Given.{Given}
+use Rattle.room_books.specs.declared.meeting.PartAnswer.{PartAnswer}
 use Rattle.room_books.specs.Instants.{IsParted, IsSplit, Sheds}
 use Rattle.std.proofs.lemmas.List.Sorted.{IsPermutation-append_comm, IsPermutation-append_left, IsPermutation-append_right, IsPermutation-cons, IsPermutation-middle, IsPermutation-refl, IsPermutation-sym, IsPermutation-trans}
 use Rattle.std.specs.List.Sorted.{IsPermutation}
@@ -62,23 +62,23 @@ split_parted _ _ _ (stays s a g k r) =
     IsPermutation-trans (s ∷ a) (s ∷ (g ++ k)) (g ++ s ∷ k) (IsPermutation-cons s a (g ++ k) (split_parted a g k r)) (IsPermutation-sym (g ++ s ∷ k) (s ∷ (g ++ k)) (IsPermutation-middle g s k))
 
 -- of nothing nothing goes
-pub split_none : (all gone : List Single) (kept : List Given) → all ≡ [] → gone ≡ [] → kept ≡ [] → IsSplit all gone (all_singles kept)
-split_none all gone kept a g k = subst (λ (l : List Single). IsSplit l gone (all_singles kept)) (sym a) (subst (λ (l : List Single). IsSplit [] l (all_singles kept)) (sym g) (subst (λ (l : List Given). IsSplit [] [] (all_singles l)) (sym k) none))
+pub split_none : (all gone : List Single) (kept : List PartAnswer) → all ≡ [] → gone ≡ [] → kept ≡ [] → IsSplit all gone (all_singles kept)
+split_none all gone kept a g k = subst (λ (l : List Single). IsSplit l gone (all_singles kept)) (sym a) (subst (λ (l : List Single). IsSplit [] l (all_singles kept)) (sym g) (subst (λ (l : List PartAnswer). IsSplit [] [] (all_singles l)) (sym k) none))
 
 -- one more answer
-pub one_shed : (done : List Given) (given : Given) (left kept kept' gone gone' : List Single) → Sheds given.singles.items left gone gone' → kept' ≡ kept ++ left
+pub one_shed : (done : List PartAnswer) (given : PartAnswer) (left kept kept' gone gone' : List Single) → Sheds given.singles.items left gone gone' → kept' ≡ kept ++ left
     → IsSplit (all_singles done) gone kept → IsSplit (all_singles (done ++ given ∷ [])) gone' kept'
 one_shed done given left kept kept' gone gone' s e split =
-    let f : Given → List Single = λ x. x.singles.items in
+    let f : PartAnswer → List Single = λ x. x.singles.items in
     subst (λ (l : List Single). IsSplit l gone' kept') (sym (flat_push f done given))
     (subst (λ (l : List Single). IsSplit (all_singles done ++ given.singles.items) l kept') (sym s.is)
     (subst (IsSplit (all_singles done ++ given.singles.items) (gone ++ s.gone)) (sym e)
     (split_both (all_singles done) gone kept given.singles.items s.gone left split s.split)))
 
 -- what goes and what is left of some answers, beside others that stay
-pub whole_parted : (answers out others left : List Given) (gone : List Single) → Reordered answers (out ++ others) → IsSplit (all_singles out) gone (all_singles left) → IsParted (all_singles answers) gone (all_singles (others ++ left))
+pub whole_parted : (answers out others left : List PartAnswer) (gone : List Single) → Reordered answers (out ++ others) → IsSplit (all_singles out) gone (all_singles left) → IsParted (all_singles answers) gone (all_singles (others ++ left))
 whole_parted answers out others left gone same split =
-    let f : Given → List Single = λ x. x.singles.items in
+    let f : PartAnswer → List Single = λ x. x.singles.items in
     let a = all_singles answers in let o = all_singles out in let t = all_singles others in let l = all_singles left in
     let first : IsPermutation a (o ++ t) = subst (IsPermutation a) (flat_map-append f out others) (re_permutation a (all_singles (out ++ others)) (re_flat f answers (out ++ others) same)) in
     let second : IsPermutation (o ++ t) ((gone ++ l) ++ t) = IsPermutation-append_left t o (gone ++ l) (split_parted o gone l split) in

@@ -17,7 +17,7 @@ use Rattle.cal_events.specs.declared.sweep.Span.{Span}
 use Rattle.cal_events.specs.declared.instance.Single.{Single}
 use Rattle.room_books.specs.declared.timeline.Busy.{Busy}
 use Rattle.room_books.specs.Instants.{HaveInstant, Overlap, AreSeparate}
-use Rattle.room_books.specs.Timelines.{HoldsInstants, holds_instants, same_single, has_single, same_busy, has_busy, busy_in, AreBusy, IsPlaceAfter, stays, starts_before, IsSharedIn, AreTaken, IsFreeAmong, AreAt, IsChanged, IsTaken, IsPut}
+use Rattle.room_books.specs.Timelines.{HoldsInstants, holds_instants, same_single, has_single, same_busy, has_busy, busy_in, AreBusy, IsPlaceAfter, stays, starts_before, IsSharedIn, AreTaken, IsFreeAmong, AreAt, IsChanged, IsTakenOut, IsPut}
 
 -- ---- lists that are apart
 
@@ -356,7 +356,7 @@ module _ (A R : List Busy) (x : Busy) (busy : AreBusy (A ++ x ∷ R)) where
         | inr r ↦ (let e = (apart_right A (x ∷ R) all).0 x r in omega (arith, ints))
       ])
 
-  pub less_by : IsTaken x (A ++ x ∷ R) (A ++ R)
+  pub less_by : IsTakenOut x (A ++ x ∷ R) (A ++ R)
   less_by y =
       list_any-append (same_busy y) A R
       ∙ less_at (has_busy y A) (has_busy y R) (same_busy y x) (λ e. sym (list_any-append (same_busy y) A R) ∙ ap (λ z. has_busy z (A ++ R)) (busy_same y x e) ∙ not_twice)
@@ -374,10 +374,10 @@ module _ (items : List Busy) (x : Busy) (busy : AreBusy items) where
     pub taken_busy : AreBusy (remove items at)
     taken_busy = busy_without (take at items) (drop (suc at) items) x (subst AreBusy found.1 busy)
 
-    pub taken_out : IsTaken x items (remove items at)
-    taken_out = subst (λ (l : List Busy). IsTaken x l (remove items at)) (sym found.1) (less_by (take at items) (drop (suc at) items) x (subst AreBusy found.1 busy))
+    pub taken_out : IsTakenOut x items (remove items at)
+    taken_out = subst (λ (l : List Busy). IsTakenOut x l (remove items at)) (sym found.1) (less_by (take at items) (drop (suc at) items) x (subst AreBusy found.1 busy))
 
-  pub nothing_out : (HoldsInstants x.single.span → ⊥) → IsTaken x items items
+  pub nothing_out : (HoldsInstants x.single.span → ⊥) → IsTakenOut x items items
   nothing_out none y = kept (has_busy y items) (same_busy y x) (λ e. false_from_ne_true _ (λ h. none (subst (λ (z : Busy). HoldsInstants z.single.span) (busy_same y x e) (busy.hold y (has_at items y h)))))
     where
       kept : (has same : Bool) → (same ≡ true → has ≡ false) → has ≡ (has && not same)
@@ -435,7 +435,7 @@ module _ (place : ℕ) (s : Single) (rest : List Single) (old mid new : List Bus
   keep_one true false e = refl
   keep_one false same e = refl
 
-  pub take_step : (holds_instants s.span ≡ true → has_single s rest ≡ false) → IsChanged place (s ∷ rest) old mid → IsTaken (busy_in place s) mid new → IsChanged place rest old new
+  pub take_step : (holds_instants s.span ≡ true → has_single s rest ≡ false) → IsChanged place (s ∷ rest) old mid → IsTakenOut (busy_in place s) mid new → IsChanged place rest old new
   take_step once changed taken = record {
     own = λ x e. taken x ∙ ap (λ b. b && not (same_busy x (busy_in place s))) (changed.own x e)
         ∙ drop_one (holds_instants x.single.span) (same_single x.single s) (has_single x.single rest) (x.place == place) (eq-eqb x.place place e)

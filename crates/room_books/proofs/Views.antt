@@ -11,9 +11,9 @@ use Rattle.itip_order.proofs.Lasting.{greatest_of, gone_for_good, revision_le}
 use Rattle.itip_order.proofs.Lists.{all_at, all_from, any_at, any_from}
 use Rattle.itip_order.proofs.Order.{slot_total, meeting_total, revision_total, part_total, is_eq_true, then_equal}
 use Rattle.itip_order.proofs.Registers.{Greatest, greatest_at, greatest_from, greatest_unique, implies_at, implies_from, place_sym, place_trans}
-use Rattle.profile.specs.checker.Instances.{Booked}
-use Rattle.profile.specs.rooms.Revisions.{Slot, Whole, At, Revision, Part, slot_cmp, meeting_cmp, revision_cmp, part_cmp, same_meeting, same_place, is_whole, is_greatest, implies, stays_beside, allows, in_view}
-use Rattle.profile.specs.rooms.Rooms.{Answer, is_confirmed, is_hidden, left_of, singles_confirmed}
+use Rattle.profile.specs.checker.Instances.{Instance}
+use Rattle.profile.specs.rooms.Revisions.{Slot, Whole, At, Revision, Part, slot_cmp, meeting_cmp, revision_cmp, part_cmp, same_meeting, same_place, is_whole, is_greatest, implies, stays_beside, leaves_in_view, in_view}
+use Rattle.profile.specs.rooms.Rooms.{PartAnswer, is_confirmed, is_hidden, left_of, singles_confirmed}
 
 -- one of two parts of a place is at most the other
 pub le_unless : (w q : Part) → is_le (part_cmp w q) ≡ false → is_le (part_cmp q w) ≡ true
@@ -54,20 +54,20 @@ stays_higher whole x g le stays =
     ]
 
 -- the slot of an instance, in the meeting of a part
-abbrev at_slot : Part → Booked → Part
+abbrev at_slot : Part → Instance → Part
 at_slot part booked = record part { slot = At booked.key.slot }
 
-not_whole : (x part : Part) (booked : Booked) → same_place x (at_slot part booked) ≡ true → is_whole x ≡ false
+not_whole : (x part : Part) (booked : Instance) → same_place x (at_slot part booked) ≡ true → is_whole x ≡ false
 not_whole x part booked place =
     let places = then_equal _ _ (is_eq_true _ place) in
     ap is_eq (slot_total.congr x.slot (At booked.key.slot) Whole places.1)
 
 -- a part of the slot is of the Whole's meeting
-of_meeting : (x part : Part) (booked : Booked) → same_place x (at_slot part booked) ≡ true → meeting_cmp x part ≡ Equal
+of_meeting : (x part : Part) (booked : Instance) → same_place x (at_slot part booked) ≡ true → meeting_cmp x part ≡ Equal
 of_meeting x part booked place = (then_equal (meeting_cmp x (at_slot part booked)) (slot_cmp x.slot (At booked.key.slot)) (is_eq_true _ place)).0
 
 -- the greatest part of a slot that is hidden in the view of some parts is in the view of more, where the Whole is
-module _ (h more : List Part) (part : Part) (booked : Booked) (taken : Contains h part) (whole : is_whole part ≡ true) (seen : in_view (h ++ more) part ≡ true)
+module _ (h more : List Part) (part : Part) (booked : Instance) (taken : Contains h part) (whole : is_whole part ≡ true) (seen : in_view (h ++ more) part ≡ true)
     (x : Part) (x_taken : Contains h x) (x_seen : in_view h x ≡ true) (x_place : same_place x (at_slot part booked) ≡ true) where
   part_top : Greatest (h ++ more) part
   part_top = greatest_at (h ++ more) part (and_parts _ _ seen).0
@@ -75,7 +75,7 @@ module _ (h more : List Part) (part : Part) (booked : Booked) (taken : Contains 
   beside : stays_beside part x ≡ true
   beside =
       let before = view_back h more part taken seen in
-      let allowed = implies_at _ _ (all_at (λ w. implies (is_greatest h w) (allows w x)) h part (and_parts _ _ x_seen).1 taken) (and_parts _ _ before).0 in
+      let allowed = implies_at _ _ (all_at (λ w. implies (is_greatest h w) (leaves_in_view w x)) h part (and_parts _ _ x_seen).1 taken) (and_parts _ _ before).0 in
       let same : same_meeting part x ≡ true = ap is_eq (meeting_total.antisymm part x ∙ ap ordering_reverse (of_meeting x part booked x_place)) in
       elim (or_cases _ _ allowed) [
         | inl x_whole ↦ absurd (both_ways _ (not_whole x part booked x_place) x_whole)
@@ -96,7 +96,7 @@ module _ (h more : List Part) (part : Part) (booked : Booked) (taken : Contains 
       let above : is_le (part_cmp x g) ≡ true = top.top x (Contains-append_left h more x x_taken) (place_sym g x place) in
       let stays = stays_higher part x g above beside in
       and_from _ _ (greatest_from (h ++ more) g top)
-      (all_from (λ w. implies (is_greatest (h ++ more) w) (allows w g)) (h ++ more) (λ w c. implies_from _ _ (λ greatest.
+      (all_from (λ w. implies (is_greatest (h ++ more) w) (leaves_in_view w g)) (h ++ more) (λ w c. implies_from _ _ (λ greatest.
       or_right (is_whole g) _ (implies_from _ _ (λ both.
       let parts = and_parts _ _ both in
       let same = is_part g w g_place (greatest_at (h ++ more) w greatest) parts.0 parts.1 in
@@ -110,7 +110,7 @@ module _ (h more : List Part) (part : Part) (booked : Booked) (taken : Contains 
       (and_from _ _ (stays_seen top.0 top.1 top.2) (place_trans top.0 x (at_slot part booked) top.2 x_place)))
 
 -- what hides an instance of a part hides it as long as the part is in the view
-pub hidden_stays : (h more : List Part) (part : Part) (booked : Booked) → Contains h part → in_view (h ++ more) part ≡ true → is_hidden h part booked ≡ true → is_hidden (h ++ more) part booked ≡ true
+pub hidden_stays : (h more : List Part) (part : Part) (booked : Instance) → Contains h part → in_view (h ++ more) part ≡ true → is_hidden h part booked ≡ true → is_hidden (h ++ more) part booked ≡ true
 hidden_stays h more part booked taken seen hidden =
     let both = and_parts _ _ hidden in
     let found = any_at (λ other. in_view h other && same_place other (at_slot part booked)) h both.1 in
@@ -122,13 +122,13 @@ hidden_stays h more part booked taken seen hidden =
 abbrev pub AllWhole : List Part → Type 0
 AllWhole taken = (part : Part) → Contains taken part → part.slot ≡ Whole
 
-none_hides : (taken : List Part) → AllWhole taken → (part : Part) (booked : Booked) → is_hidden taken part booked ≡ false
+none_hides : (taken : List Part) → AllWhole taken → (part : Part) (booked : Instance) → is_hidden taken part booked ≡ false
 none_hides taken whole part booked = false_from_ne_true _ (λ hidden.
     let found = any_at (λ other. in_view taken other && same_place other (at_slot part booked)) taken (and_parts _ _ hidden).1 in
     let own : is_whole found.0 ≡ true = ap (λ (s : Slot). is_eq (slot_cmp s Whole)) (whole found.0 found.1) in
     both_ways _ (not_whole found.0 part booked (and_parts _ _ found.2).1) own)
 
-left_in : (taken : List Part) → AllWhole taken → (part : Part) (xs : List Booked) → filter (λ b. not (is_hidden taken part b)) xs ≡ xs
+left_in : (taken : List Part) → AllWhole taken → (part : Part) (xs : List Instance) → filter (λ b. not (is_hidden taken part b)) xs ≡ xs
 left_in taken whole part [] = refl
 left_in taken whole part (b ∷ xs) =
     let rest = left_in taken whole part xs in
@@ -136,14 +136,14 @@ left_in taken whole part (b ∷ xs) =
     ∙ ap (λ l. b ∷ l) rest
 
 -- and each answer's instances are left
-pub left_all : (taken : List Part) → AllWhole taken → (a : Answer) → left_of taken a ≡ a.claim.singles
+pub left_all : (taken : List Part) → AllWhole taken → (a : PartAnswer) → left_of taken a ≡ a.claim.singles
 left_all taken whole a = left_in taken whole a.claim.part a.claim.singles
 
-all_left : (taken : List Part) → AllWhole taken → (xs : List Answer) → flat_map (left_of taken) xs ≡ flat_map (λ a. a.claim.singles) xs
+all_left : (taken : List Part) → AllWhole taken → (xs : List PartAnswer) → flat_map (left_of taken) xs ≡ flat_map (λ a. a.claim.singles) xs
 all_left taken whole [] = refl
 all_left taken whole (a ∷ xs) = ap₂ (λ x y. x ++ y) (left_all taken whole a) (all_left taken whole xs)
 
-pub confirmed_all : (taken : List Part) → AllWhole taken → (answers : List Answer) → singles_confirmed taken answers ≡ flat_map (λ a. a.claim.singles) (filter (is_confirmed taken) answers)
+pub confirmed_all : (taken : List Part) → AllWhole taken → (answers : List PartAnswer) → singles_confirmed taken answers ≡ flat_map (λ a. a.claim.singles) (filter (is_confirmed taken) answers)
 confirmed_all taken whole answers = all_left taken whole (filter (is_confirmed taken) answers)
 
 -- one more

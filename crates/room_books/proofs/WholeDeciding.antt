@@ -15,7 +15,7 @@ use Rattle.profile.specs.rooms.Messages as messages
 use Rattle.profile.specs.rooms.Rooms.{is_accept, most_series, most_singles}
 use Rattle.itip_order.specs.declared.part.Slot.{Slot}
 use Rattle.room_books.specs.declared.kept.Meeting.{Meeting}
-use Rattle.room_books.specs.declared.meeting.Given.{Given}
+use Rattle.room_books.specs.declared.meeting.PartAnswer.{PartAnswer}
 use Rattle.room_books.specs.declared.meeting.MeetingKey.{MeetingKey}
 use Rattle.room_books.specs.declared.meeting.Outcome.{Outcome}
 use Rattle.room_books.specs.Recurrings.{AreClearBeside}
@@ -25,7 +25,7 @@ use Rattle.room_books.proofs.Deciding.{names_more}
 use Rattle.room_books.proofs.Places.{other_series_count}
 use Rattle.room_books.proofs.RoomSeries.{now_of}
 
-module _ (others : Confirmed) (k : MeetingKey) (kept candidates : List Given) where
+module _ (others : Confirmed) (k : MeetingKey) (kept candidates : List PartAnswer) where
   abbrev now : Confirmed
   now = joined others k (all_singles kept ++ all_singles candidates) (all_series kept ++ all_series candidates)
 
@@ -98,7 +98,7 @@ series_before None = refl
 series_before (Some meeting) = refl
 
 -- what the others have is all less what the meeting has
-pub series_beside : (k : MeetingKey) (es : List (MeetingKey × Meeting)) → IsDistinct same_key (keys_of es) → (before : List Given) (own total : ℕ) → before ≡ answers_by (lookup (same_key k) es) → own ≡ length (all_series before)
+pub series_beside : (k : MeetingKey) (es : List (MeetingKey × Meeting)) → IsDistinct same_key (keys_of es) → (before : List PartAnswer) (own total : ℕ) → before ≡ answers_by (lookup (same_key k) es) → own ≡ length (all_series before)
     → total ≡ length (all_recurring es) → length (other_recurring k es) + own ≡ total
 series_beside k es distinct before own total is own_is total_is =
     let n = other_series_count k es distinct in
@@ -119,8 +119,8 @@ beside_as others k own kept kept' singles singles' wanted wanted' found found' a
     subst (AreClearBeside others k own kept' singles' wanted') d (subst (λ (l : List Series). AreClearBeside others k own kept' singles' l found) c
     (subst (λ (l : List Single). AreClearBeside others k own kept' l wanted found) b (subst (λ (l : List Series). AreClearBeside others k own l singles wanted found) a h)))
 
-pub whole_as : (others : Confirmed) (k : MeetingKey) (before : Option Meeting) (lost lost' : List Slot) (left left' candidates candidates' : List Given) (outcome : Outcome) → lost ≡ lost' → left ≡ left' → candidates ≡ candidates'
+pub whole_as : (others : Confirmed) (k : MeetingKey) (before : Option Meeting) (lost lost' : List Slot) (left left' candidates candidates' : List PartAnswer) (outcome : Outcome) → lost ≡ lost' → left ≡ left' → candidates ≡ candidates'
     → IsWholeDecision others k (kept_then before lost left) candidates outcome → IsWholeDecision others k (kept_then before lost' left') candidates' outcome
 whole_as others k before lost lost' left left' candidates candidates' outcome a b c h =
-    subst (λ (l : List Given). IsWholeDecision others k (kept_then before lost' left') l outcome) c (subst (λ (l : List Given). IsWholeDecision others k (kept_then before lost' l) candidates outcome) b
+    subst (λ (l : List PartAnswer). IsWholeDecision others k (kept_then before lost' left') l outcome) c (subst (λ (l : List PartAnswer). IsWholeDecision others k (kept_then before lost' l) candidates outcome) b
     (subst (λ (l : List Slot). IsWholeDecision others k (kept_then before l left) candidates outcome) a h))

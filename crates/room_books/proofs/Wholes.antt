@@ -12,7 +12,7 @@ use Rattle.itip_order.proofs.Lists.{all_from, any_at, any_from}
 use Rattle.itip_order.proofs.Lasting.{greatest_of, view_taken}
 use Rattle.itip_order.proofs.Order.{is_eq_true, then_equal}
 use Rattle.itip_order.proofs.Registers.{greatest_from, implies_from, place_trans}
-use Rattle.profile.specs.rooms.Revisions.{Part, Whole, slot_cmp, meeting_cmp, in_view, is_greatest, is_whole, implies, allows, stays_beside, same_meeting, same_place}
+use Rattle.profile.specs.rooms.Revisions.{Part, Whole, slot_cmp, meeting_cmp, in_view, is_greatest, is_whole, implies, leaves_in_view, stays_beside, same_meeting, same_place}
 use Rattle.profile.specs.rooms.Rooms.{lacks_whole}
 
 -- the place of the whole, by meeting and slot
@@ -36,9 +36,9 @@ module _ (history : List Part) (p : Part) where
       let place = place_trans g.0 x (at_slot p Whole) g.2 (place_whole x p w m) in
       let whole : is_whole g.0 ≡ true = (and_parts (is_whole g.0) (same_meeting g.0 p) (whole_place g.0 p place)).0 in (
         g.0,
-        and_from (is_greatest history g.0) (list_all (λ h. implies (is_greatest history h) (allows h g.0)) history) (greatest_from history g.0 g.1)
-            (all_from (λ h. implies (is_greatest history h) (allows h g.0)) history (λ h _.
-            implies_from (is_greatest history h) (allows h g.0) (λ _. or_left (is_whole g.0) (implies (is_whole h && same_meeting h g.0) (stays_beside h g.0)) whole))),
+        and_from (is_greatest history g.0) (list_all (λ h. implies (is_greatest history h) (leaves_in_view h g.0)) history) (greatest_from history g.0 g.1)
+            (all_from (λ h. implies (is_greatest history h) (leaves_in_view h g.0)) history (λ h _.
+            implies_from (is_greatest history h) (leaves_in_view h g.0) (λ _. or_left (is_whole g.0) (implies (is_whole h && same_meeting h g.0) (stays_beside h g.0)) whole))),
         place,
       )
 

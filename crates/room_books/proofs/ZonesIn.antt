@@ -7,10 +7,10 @@ use Rattle.std.specs.Str.{bytes_eq}
 use Rattle.std.proofs.lemmas.List.{length-append}
 use Rattle.std.proofs.lemmas.List.Elements.{Contains-append_left}
 use Rattle.std.proofs.lemmas.Slice.Eq.{bytes_eq-Decides}
-use Rattle.profile.specs.events.Events.{Event}
+use Rattle.profile.specs.events.EventComponents.{EventComponent}
 use Rattle.profile.specs.events.Properties.{BothOrNeither}
 use Rattle.profile.specs.rooms.Messages.{Content, IsContent, IsZoneRest}
-use Rattle.profile.specs.rooms.Kept.{Entry, Shown, Hidden, IsNamed, each_once, zone_kept, zone_name, zones_kept}
+use Rattle.profile.specs.rooms.Kept.{KeptComponent, Shown, Hidden, IsNamed, each_once, zone_kept, kept_zone_name, zones_kept}
 use Rattle.profile.specs.rooms.Rooms.{Claim}
 use Rattle.profile.specs.series.Zones.{Zone}
 use Rattle.itip_messages.proofs.ZonedObjects.{IsZone}
@@ -75,7 +75,7 @@ abbrev pub HasZone : Option (List ℕ) → Type 0
 HasZone None = Unit {0}
 HasZone (Some rest) = IsZone rest
 
-pub has_zone : (content : Content) (event : Event) → IsContent content event → IsSaid event.times.zone → HasZone content.zone
+pub has_zone : (content : Content) (event : EventComponent) → IsContent content event → IsSaid event.times.zone → HasZone content.zone
 has_zone content event c said = go event.times.zone content.zone said c.in_zone
   where
     go : (zone : Option Zone) (rest : Option (List ℕ)) → IsSaid zone → BothOrNeither IsZoneRest zone rest → HasZone rest
@@ -83,7 +83,7 @@ has_zone content event c said = go event.times.zone content.zone said c.in_zone
     go None (Some rest) s w = absurd w
     go (Some zone) (Some rest) s w = (zone, s.0, s.1, w)
 
-abbrev pub HaveZones : List Entry → Type 0
+abbrev pub HaveZones : List KeptComponent → Type 0
 HaveZones entries = (claim : Claim) → Contains entries (Shown claim) → HasZone claim.content.zone
 
 in_one : (o : Option (List ℕ)) → HasZone o → (z : List ℕ) → Contains (option_to_list o) z → IsZone z
@@ -91,7 +91,7 @@ in_one None h z c = absurd (omega (arith, c.1))
 in_one (Some rest) h z (zero, l, is) = subst IsZone is h
 in_one (Some rest) h z (suc k, l, is) = absurd (omega (arith, l))
 
-in_entry : (entry : Entry) → ((claim : Claim) → entry ≡ Shown claim → HasZone claim.content.zone) → (z : List ℕ) → Contains (zone_kept entry) z → IsZone z
+in_entry : (entry : KeptComponent) → ((claim : Claim) → entry ≡ Shown claim → HasZone claim.content.zone) → (z : List ℕ) → Contains (zone_kept entry) z → IsZone z
 in_entry (Shown claim) f z c = in_one claim.content.zone (f claim refl) z c
 in_entry (Hidden part) f z c = absurd (omega (arith, c.1))
 
@@ -105,7 +105,7 @@ in_either {X = X} (x ∷ xs) ys z (suc k, l, is) = by (in_either xs ys z (k, ome
     by (inl c) = inl (suc c.0, omega (arith, c.1), c.2)
     by (inr c) = inr c
 
-from_entries : (entries : List Entry) → HaveZones entries → (z : List ℕ) → Contains (flat_map zone_kept entries) z → IsZone z
+from_entries : (entries : List KeptComponent) → HaveZones entries → (z : List ℕ) → Contains (flat_map zone_kept entries) z → IsZone z
 from_entries [] f z c = absurd (omega (arith, c.1))
 from_entries (e ∷ es) f z c =
     elim (in_either (zone_kept e) (flat_map zone_kept es) z c) [
@@ -114,11 +114,11 @@ from_entries (e ∷ es) f z c =
     ]
 
 -- what `kept_spelled` asks of the zones
-pub zones_kept_are : (entries : List Entry) → HaveZones entries → (z : List ℕ) → Contains (zones_kept entries) z → IsZone z
+pub zones_kept_are : (entries : List KeptComponent) → HaveZones entries → (z : List ℕ) → Contains (zones_kept entries) z → IsZone z
 zones_kept_are entries f z c = from_entries entries f z (once_from (flat_map zone_kept entries) z c)
 
 -- there are no more zones than entries
-entry_short : (entry : Entry) → length (zone_kept entry) ≤ 1
+entry_short : (entry : KeptComponent) → length (zone_kept entry) ≤ 1
 entry_short (Hidden part) = omega arith
 entry_short (Shown claim) = by claim.content.zone
   where
@@ -126,11 +126,11 @@ entry_short (Shown claim) = by claim.content.zone
     by None = omega arith
     by (Some rest) = omega arith
 
-entries_short : (entries : List Entry) → length (flat_map zone_kept entries) ≤ length entries
+entries_short : (entries : List KeptComponent) → length (flat_map zone_kept entries) ≤ length entries
 entries_short [] = omega arith
 entries_short (e ∷ es) = omega (arith, entry_short e, entries_short es, length-append (zone_kept e) (flat_map zone_kept es))
 
-pub zones_kept_short : (entries : List Entry) → length (zones_kept entries) ≤ length entries
+pub zones_kept_short : (entries : List KeptComponent) → length (zones_kept entries) ≤ length entries
 zones_kept_short entries = omega (arith, once_short (flat_map zone_kept entries), entries_short entries)
 
 -- ---- the name of an entry's zone
@@ -139,16 +139,16 @@ in_second : {X : Type 0} (xs ys : List X) (z : X) → Contains ys z → Contains
 in_second [] ys z c = c
 in_second (x ∷ xs) ys z c = let r = in_second xs ys z c in (suc r.0, omega (arith, r.1), r.2)
 
-among_entries : (entries : List Entry) (entry : Entry) (z : List ℕ) → Contains entries entry → Contains (zone_kept entry) z → Contains (flat_map zone_kept entries) z
+among_entries : (entries : List KeptComponent) (entry : KeptComponent) (z : List ℕ) → Contains entries entry → Contains (zone_kept entry) z → Contains (flat_map zone_kept entries) z
 among_entries [] entry z c d = absurd (omega (arith, c.1))
-among_entries (e ∷ es) entry z (zero, l, is) d = Contains-append_left (zone_kept e) (flat_map zone_kept es) z (subst (λ (x : Entry). Contains (zone_kept x) z) (sym is) d)
+among_entries (e ∷ es) entry z (zero, l, is) d = Contains-append_left (zone_kept e) (flat_map zone_kept es) z (subst (λ (x : KeptComponent). Contains (zone_kept x) z) (sym is) d)
 among_entries (e ∷ es) entry z (suc k, l, is) d = in_second (zone_kept e) (flat_map zone_kept es) z (among_entries es entry z (k, omega (arith, l), is) d)
 
-pub zone_has_name : (entries : List Entry) (claim : Claim) → Contains entries (Shown claim) → (name : List ℕ) × IsNamed (zones_kept entries) claim.content.zone name
+pub zone_has_name : (entries : List KeptComponent) (claim : Claim) → Contains entries (Shown claim) → (name : List ℕ) × IsNamed (zones_kept entries) claim.content.zone name
 zone_has_name entries claim c = go claim.content.zone (λ z d. among_entries entries (Shown claim) z c d)
   where
     go : (o : Option (List ℕ)) → ((z : List ℕ) → Contains (option_to_list o) z → Contains (flat_map zone_kept entries) z) → (name : List ℕ) × IsNamed (zones_kept entries) o name
     go None f = ([], tt)
     go (Some rest) f =
         let r = once_there (flat_map zone_kept entries) rest (f rest (zero, omega arith, refl)) in
-        (zone_name r.0, (r.0, r.1, refl))
+        (kept_zone_name r.0, (r.0, r.1, refl))

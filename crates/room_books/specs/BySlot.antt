@@ -7,42 +7,42 @@ use denote.Ref.{Bor}
 use Rattle.itip_order.specs.Parts.{slot_of}
 use Rattle.itip_order.specs.declared.part.Slot.{Slot}
 use Rattle.profile.specs.rooms.Revisions as revisions
-use Rattle.room_books.specs.declared.meeting.Given.{Given}
+use Rattle.room_books.specs.declared.meeting.PartAnswer.{PartAnswer}
 use Rattle.room_books.specs.Touching.{is_touched}
 
-abbrev pub givens : List (Bor Given) → List Given
+abbrev pub givens : List (Bor PartAnswer) → List PartAnswer
 givens answers = map (λ given. given.now) answers
 
-abbrev pub slot_in : Given → revisions.Slot
+abbrev pub slot_in : PartAnswer → revisions.Slot
 slot_in given = slot_of given.slot
 
 -- each slot isn't below the one before
-abbrev pub AreBySlot : List Given → Type 0
-AreBySlot answers = IsSortedByKey slot_in revisions.slot_cmp answers
+abbrev pub AreAnswersBySlot : List PartAnswer → Type 0
+AreAnswersBySlot answers = IsSortedByKey slot_in revisions.slot_cmp answers
 
 -- the answer is to the part of the slot
-abbrev pub is_at : revisions.Slot → Given → Bool
+abbrev pub is_at : revisions.Slot → PartAnswer → Bool
 is_at slot given = is_eq (revisions.slot_cmp (slot_of given.slot) slot)
 
 -- the answer is to the part of a slot below, and of one that isn't above
-abbrev pub is_below : revisions.Slot → Given → Bool
+abbrev pub is_below : revisions.Slot → PartAnswer → Bool
 is_below slot given = is_lt (revisions.slot_cmp (slot_of given.slot) slot)
 
-abbrev pub is_up_to : revisions.Slot → Given → Bool
+abbrev pub is_up_to : revisions.Slot → PartAnswer → Bool
 is_up_to slot given = is_le (revisions.slot_cmp (slot_of given.slot) slot)
 
 -- those before the place pass the test, the others don't
-pub record IsPlace (test : Given → Bool) (answers : List Given) (place : ℕ) : Type 0 where
+pub record IsSplitAt (test : PartAnswer → Bool) (answers : List PartAnswer) (place : ℕ) : Type 0 where
   pub within : place ≤ length answers
-  pub before : (given : Given) → Contains (take place answers) given → test given ≡ true
-  pub after : (given : Given) → Contains (drop place answers) given → test given ≡ false
+  pub before : (given : PartAnswer) → Contains (take place answers) given → test given ≡ true
+  pub after : (given : PartAnswer) → Contains (drop place answers) given → test given ≡ false
 
 -- those of the answers that are of none of these slots
-abbrev pub left_without : List Slot → List Given → List Given
+abbrev pub left_without : List Slot → List PartAnswer → List PartAnswer
 left_without slots answers = filter (λ given. not (is_touched slots (slot_of given.slot))) answers
 
 -- those that are
-abbrev pub taken_at : List Slot → List Given → List Given
+abbrev pub taken_at : List Slot → List PartAnswer → List PartAnswer
 taken_at slots answers = filter (λ given. is_touched slots (slot_of given.slot)) answers
 
 -- the same elements, each as often, in any order
@@ -53,6 +53,6 @@ pub data Reordered {X : Type 0} : List X → List X → Type 0 where
   re_then : (xs ys zs : List X) → Reordered xs ys → Reordered ys zs → Reordered xs zs
 
 -- the answers have room for this many more, or the place for them has it for all
-abbrev pub HasRoom : {Z : Type 0} → Vec Given Z → ℕ → Option (Vec Given Z) → Type 0
+abbrev pub HasRoom : {Z : Type 0} → Vec PartAnswer Z → ℕ → Option (Vec PartAnswer Z) → Type 0
 HasRoom answers more None = vec_len answers + more ≤ vec_capacity answers
 HasRoom answers more (Some larger) = (larger.items ≡ []) × (vec_len larger ≡ 0) × (vec_len answers + more ≤ vec_capacity larger)

@@ -10,7 +10,7 @@ use Rattle.profile.specs.rooms.Revisions.{Part as Said, Slot, Whole, At}
 use Rattle.profile.specs.rooms.Rooms.{is_set}
 use Rattle.profile.specs.streams.Streams.{AreClaims}
 use Rattle.room_books.specs.declared.meeting.MeetingKey.{MeetingKey}
-use Rattle.profile.specs.checker.Instances.{Booked}
+use Rattle.profile.specs.checker.Instances.{Instance}
 use Rattle.profile.specs.events.Starts.{IsInstance}
 use Rattle.cal_events.specs.SaidSeries.{series_said}
 use Rattle.cal_events.specs.declared.series.Series.{Series}
@@ -20,19 +20,19 @@ use Rattle.room_books.specs.Representation.{AreFitting}
 use Rattle.room_books.specs.Views.{IsKeyOf}
 
 -- the series that a part asks for: that of its component, where the part is of the whole
-abbrev pub series_at : Slot → Option Series → Option Series
-series_at Whole series = series
-series_at (At t) series = None
+abbrev pub series_wanted : Slot → Option Series → Option Series
+series_wanted Whole series = series
+series_wanted (At t) series = None
 
 abbrev pub series_asked : Said → MessageComponent → Option Series
-series_asked part component = series_at part.slot component.series
+series_asked part component = series_wanted part.slot component.series
 
 -- both are there and have the same instances, or both are missing
 abbrev pub IsSameSeries : Option Series → Option Series → Type 0
 IsSameSeries None None = Unit {0}
 IsSameSeries None (Some other) = ⊥
 IsSameSeries (Some series) None = ⊥
-IsSameSeries (Some series) (Some other) = (booked : Booked) → IsInstance (series_said other) booked ↔ IsInstance (series_said series) booked
+IsSameSeries (Some series) (Some other) = (booked : Instance) → IsInstance (series_said other) booked ↔ IsInstance (series_said series) booked
 
 -- the claim of a part that asks for the instances of the component, if it is to take place
 pub record IsAsking (part : Part) (component : MessageComponent) (claim : Claim) : Type 0 where

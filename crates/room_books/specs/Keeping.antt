@@ -10,12 +10,12 @@ use Rattle.profile.specs.rooms.Revisions as revisions
 use Rattle.profile.specs.rooms.Revisions.{Part, is_whole, same_meeting, slot_cmp}
 use Rattle.profile.specs.rooms.Messages.{TellsSlot}
 use Rattle.profile.specs.text.Values.{WritesStamp, escaped}
-use Rattle.profile.specs.rooms.Rooms.{Claim, Answer, Book, is_accept, is_confirmed, is_set}
+use Rattle.profile.specs.rooms.Rooms.{Claim, PartAnswer as SaidAnswer, Book, is_accept, is_confirmed, is_set}
 use Rattle.profile.specs.rooms.Kept.{first_parts, Shown, Hidden, IsKeptEvent}
 use Rattle.profile.specs.text.Lines.{written}
 use Rattle.itip_messages.specs.Zoning.{with_zones}
 use Rattle.room_books.specs.declared.kept.Meeting.{Meeting}
-use Rattle.room_books.specs.declared.meeting.Given.{Given}
+use Rattle.room_books.specs.declared.meeting.PartAnswer.{PartAnswer}
 use Rattle.room_books.specs.Representation.{IsText, SlotDated}
 use Rattle.room_books.specs.Takings.{body_content}
 use Rattle.room_books.specs.Views.{outcome_of}
@@ -23,45 +23,45 @@ use Rattle.room_books.specs.Views.{outcome_of}
 -- ---- by the book
 
 -- the confirmed answers of the meeting of a part
-abbrev pub kept_of : Book → Part → List Answer
+abbrev pub kept_of : Book → Part → List SaidAnswer
 kept_of book p = filter (λ a. same_meeting p a.claim.part && is_confirmed book.taken a) book.answers
 
 -- the confirmed answers of these parts' meetings, in their order
-abbrev pub kept_parts : Book → List Part → List Answer
+abbrev pub kept_parts : Book → List Part → List SaidAnswer
 kept_parts book parts = flat_map (kept_of book) parts
 
 -- the confirmed answers, the meetings in order of first arrival
-abbrev pub kept : Book → List Answer
+abbrev pub kept : Book → List SaidAnswer
 kept book = kept_parts book (first_parts book.taken)
 
 -- the claims that they answer
-abbrev pub claims_of : List Answer → List Claim
+abbrev pub claims_of : List SaidAnswer → List Claim
 claims_of answers = map (λ a. a.claim) answers
 
 -- ---- by the meetings
 
 -- the slots of those that accept
-abbrev pub accepted_slots : List Given → List Slot
+abbrev pub accepted_slots : List PartAnswer → List Slot
 accepted_slots answers = map (λ given. given.slot) (filter (λ given. is_accept (outcome_of given.outcome)) answers)
 
 abbrev pub has_slot : List Slot → revisions.Slot → Bool
 has_slot slots slot = list_any (λ own. is_eq (slot_cmp (slot_of own) slot)) slots
 
 -- the meeting has accepted the part of this slot
-abbrev pub is_accepted : Meeting → Part → Bool
-is_accepted meeting part = has_slot (accepted_slots meeting.answers.items) part.slot
+abbrev pub has_accepted_part : Meeting → Part → Bool
+has_accepted_part meeting part = has_slot (accepted_slots meeting.answers.items) part.slot
 
 -- the meeting has accepted its whole, so that its other instances in the view are kept to hide those of it
 abbrev pub is_hiding : Meeting → Bool
 is_hiding meeting = has_slot (accepted_slots meeting.answers.items) revisions.Whole
 
 -- what is kept of a part: the part as it is shown (true), or as it hides an instance (false), or nothing
-abbrev pub entry_of : Bool → Bool → Part → List (Bool × Part)
-entry_of hides shown part = if shown then (true, part) ∷ [] else (if hides && not (is_whole part) then (false, part) ∷ [] else [])
+abbrev pub kept_entry_of : Bool → Bool → Part → List (Bool × Part)
+kept_entry_of hides shown part = if shown then (true, part) ∷ [] else (if hides && not (is_whole part) then (false, part) ∷ [] else [])
 
 -- what is kept of the parts in the meeting's view, by their slots
 abbrev pub kept_in : Meeting → List (Bool × Part)
-kept_in meeting = flat_map (λ part. entry_of (is_hiding meeting) (is_accepted meeting part) part) (shown meeting.held)
+kept_in meeting = flat_map (λ part. kept_entry_of (is_hiding meeting) (has_accepted_part meeting part) part) (shown meeting.held)
 
 -- of these meetings, in their order
 abbrev pub all_kept : List Meeting → List (Bool × Part)

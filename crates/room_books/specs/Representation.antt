@@ -9,14 +9,14 @@ use Rattle.ical_values.specs.Octets.{address_octets, text_octets}
 use Rattle.itip_order.specs.Registers.{RepresentsHistory, together}
 use Rattle.itip_order.specs.declared.part.Slot.{Slot as OwnSlot}
 use Rattle.itip_order.specs.Parts.{slot_of}
-use Rattle.profile.specs.checker.Instances.{Booked}
-use Rattle.profile.specs.events.Meetings.{Meeting as Series}
+use Rattle.profile.specs.checker.Instances.{Instance}
+use Rattle.profile.specs.events.Events.{Event as Series}
 use Rattle.profile.specs.events.Starts.{IsInstance}
 use Rattle.profile.specs.events.Confirmed.{IsInSeries}
 use Rattle.profile.specs.text.Values.{IsClockSeconds}
 use Rattle.profile.specs.rooms.Revisions.{Part, Slot, Whole, At, Body, Set, Absent, Cancelled, in_view}
 use Rattle.profile.specs.rooms.Messages.{Outcome}
-use Rattle.profile.specs.rooms.Rooms.{Claim, Answer, Book, Kind, Recurring, is_set, parts_of, asked, answered, singles_confirmed, series_confirmed, IsClear, IsLeftOf, IsStep, IsWithinLimits, kind_of}
+use Rattle.profile.specs.rooms.Rooms.{Claim, PartAnswer as SaidAnswer, Book, Kind, Recurring, is_set, parts_of, asked, answered, singles_confirmed, series_confirmed, IsClear, IsShownInSeries, IsStep, IsWithinLimits, kind_of}
 use Rattle.profile.specs.rooms.Kept.{Replies, Refreshes, first_parts}
 use Rattle.itip_messages.specs.Messages as messages
 use Rattle.room_books.specs.declared.meeting.MeetingKey.{MeetingKey}
@@ -24,16 +24,16 @@ use Rattle.room_books.specs.declared.kept.Meeting.{Meeting}
 use Rattle.room_books.specs.declared.kept.Changes.{Changes}
 use Rattle.room_books.specs.BySlot.{Reordered}
 use Rattle.cal_events.specs.declared.instance.Single.{Single}
-use Rattle.room_books.specs.declared.meeting.Given.{Given}
+use Rattle.room_books.specs.declared.meeting.PartAnswer.{PartAnswer}
 use Rattle.room_books.specs.Takings.{answers_by, answers_then, body_content, held_after, IsMade, OutcomeDated}
 use Rattle.room_books.specs.Touching.{AllTouch}
-use Rattle.room_books.specs.Views.{same_key, booked_list, series_list, outcome_of}
+use Rattle.room_books.specs.Views.{same_key, instance_list, series_list, outcome_of}
 
 -- ---- claims
 
 -- the part is of the meeting
-abbrev pub is_of : MeetingKey → Part → Bool
-is_of key part = bytes_eq (address_octets key.organiser) part.organiser && bytes_eq (text_octets key.uid) part.uid
+abbrev pub is_of_meeting : MeetingKey → Part → Bool
+is_of_meeting key part = bytes_eq (address_octets key.organiser) part.organiser && bytes_eq (text_octets key.uid) part.uid
 
 -- each is so related to each later one
 abbrev pub Pairwise : {X : Type 0} → (X → X → Type 0) → List X → Type 0
@@ -54,22 +54,22 @@ IsOfSlot (At t) slot = slot ≡ t
 -- the series of a claim is of its part, a whole: its instances are of its meeting, each at its original start, and none of them is a single
 pub record IsFittingSeries (claim : Claim) (series : Series) : Type 0 where
   pub whole : claim.part.slot ≡ Whole
-  pub organiser : (b : Booked) → IsInstance series b → b.key.organiser ≡ claim.part.organiser
-  pub uid : (b : Booked) → IsInstance series b → b.key.uid ≡ claim.part.uid
-  pub slot : (b : Booked) → IsInstance series b → b.key.slot ≡ b.start
-  pub starts : (b : Booked) → IsInstance series b → IsClockSeconds b.start
-  pub apart : (a b : Booked) → Contains claim.singles a → IsInstance series b → a.key.slot ≢ b.key.slot
+  pub organiser : (b : Instance) → IsInstance series b → b.key.organiser ≡ claim.part.organiser
+  pub uid : (b : Instance) → IsInstance series b → b.key.uid ≡ claim.part.uid
+  pub slot : (b : Instance) → IsInstance series b → b.key.slot ≡ b.start
+  pub starts : (b : Instance) → IsInstance series b → IsClockSeconds b.start
+  pub apart : (a b : Instance) → Contains claim.singles a → IsInstance series b → a.key.slot ≢ b.key.slot
 
 -- what a claim asks for is of its part: the content its body's, the instances of its meeting and slot, each once
 pub record IsFitting (claim : Claim) : Type 0 where
   pub content : claim.content ≡ body_content claim.part.body
   pub text : IsText claim.part.body
-  pub organiser : (b : Booked) → Contains claim.singles b → b.key.organiser ≡ claim.part.organiser
-  pub uid : (b : Booked) → Contains claim.singles b → b.key.uid ≡ claim.part.uid
-  pub slot : (b : Booked) → Contains claim.singles b → IsOfSlot claim.part.slot b.key.slot
+  pub organiser : (b : Instance) → Contains claim.singles b → b.key.organiser ≡ claim.part.organiser
+  pub uid : (b : Instance) → Contains claim.singles b → b.key.uid ≡ claim.part.uid
+  pub slot : (b : Instance) → Contains claim.singles b → IsOfSlot claim.part.slot b.key.slot
   pub differ : Pairwise (λ a b. a.key.slot ≢ b.key.slot) claim.singles
-  pub starts : (b : Booked) → Contains claim.singles b → IsClockSeconds b.start
-  pub slots : (b : Booked) → Contains claim.singles b → IsClockSeconds b.key.slot
+  pub starts : (b : Instance) → Contains claim.singles b → IsClockSeconds b.start
+  pub slots : (b : Instance) → Contains claim.singles b → IsClockSeconds b.key.slot
   pub recurs : IfSome claim.series (IsFittingSeries claim)
 
 -- the slot can be written as a stamp
@@ -78,7 +78,7 @@ SlotDated slot = messages.IsDated slot
 
 -- the claims are of one meeting, each of another slot
 pub record AreFitting (key : MeetingKey) (claims : List Claim) : Type 0 where
-  pub of_it : (claim : Claim) → Contains claims claim → is_of key claim.part ≡ true
+  pub of_it : (claim : Claim) → Contains claims claim → is_of_meeting key claim.part ≡ true
   pub fit : (claim : Claim) → Contains claims claim → IsFitting claim
   pub dated : (claim : Claim) → Contains claims claim → SlotDated claim.part.slot
   pub differ : Pairwise (λ a b. a.part ≢ b.part) claims
@@ -86,55 +86,55 @@ pub record AreFitting (key : MeetingKey) (claims : List Claim) : Type 0 where
 -- ---- what a book says of one meeting
 
 abbrev pub of_meeting : MeetingKey → List Part → List Part
-of_meeting key parts = filter (is_of key) parts
+of_meeting key parts = filter (is_of_meeting key) parts
 
-abbrev pub answers_of : MeetingKey → List Answer → List Answer
-answers_of key answers = filter (λ a. is_of key a.claim.part) answers
+abbrev pub answers_of : MeetingKey → List SaidAnswer → List SaidAnswer
+answers_of key answers = filter (λ a. is_of_meeting key a.claim.part) answers
 
 abbrev pub book_of : MeetingKey → Book → Book
 book_of key book = record { taken = of_meeting key book.taken; answers = answers_of key book.answers }
 
 -- all of it is of that meeting, and the answers are to parts that were taken
 pub record IsOwn (key : MeetingKey) (own : Book) : Type 0 where
-  pub taken : (part : Part) → Contains own.taken part → is_of key part ≡ true
-  pub known : (answer : Answer) → Contains own.answers answer → Contains own.taken answer.claim.part
-  pub fit : (answer : Answer) → Contains own.answers answer → IsFitting answer.claim
+  pub taken : (part : Part) → Contains own.taken part → is_of_meeting key part ≡ true
+  pub known : (answer : SaidAnswer) → Contains own.answers answer → Contains own.taken answer.claim.part
+  pub fit : (answer : SaidAnswer) → Contains own.answers answer → IsFitting answer.claim
 
 -- the answers to parts in the view
-abbrev pub answers_in_view : List Part → List Answer → List Answer
+abbrev pub answers_in_view : List Part → List SaidAnswer → List SaidAnswer
 answers_in_view taken answers = filter (λ a. in_view taken a.claim.part) answers
 
 -- there are as many series, and those of the first that other parts leave have the same instances as those of the second
 pub record AreSameSeries (taken : List Part) (all : List Recurring) (series : List Series) : Type 0 where
   pub long : length all ≡ length series
-  pub same : (b : Booked) → IsLeftOf taken all b ↔ IsInSeries series b
+  pub same : (b : Instance) → IsShownInSeries taken all b ↔ IsInSeries series b
 
 -- the meeting has this answer, and what it confirms
-pub record IsGiven (key : MeetingKey) (taken : List Part) (answer : Answer) (given : Given) : Type 0 where
+pub record HasAnswer (key : MeetingKey) (taken : List Part) (answer : SaidAnswer) (given : PartAnswer) : Type 0 where
   pub slot : slot_of given.slot ≡ answer.claim.part.slot
   pub moment : given.moment ≡ answer.moment
   pub outcome : outcome_of given.outcome ≡ answer.outcome
-  pub confirms : booked_list key given.singles.items ≡ singles_confirmed taken (answer ∷ [])
+  pub confirms : instance_list key given.singles.items ≡ singles_confirmed taken (answer ∷ [])
   pub recurs : AreSameSeries taken (series_confirmed taken (answer ∷ [])) (series_list key (option_to_list given.series))
 
 -- all instants of an answer can be written as stamps
-pub record IsDated (given : Given) : Type 0 where
+pub record IsAnswerDated (given : PartAnswer) : Type 0 where
   pub outcome : OutcomeDated (outcome_of given.outcome)
   pub starts : (single : Single) → Contains given.singles.items single → IsClockSeconds single.span.start
   pub slots : (single : Single) → Contains given.singles.items single → IsClockSeconds single.slot
 
 -- these are given to those answers, in some order
-pub record AreGiven (key : MeetingKey) (taken : List Part) (answers : List Answer) (given : List Given) : Type 0 where
-  pub order : List Answer
+pub record AreGiven (key : MeetingKey) (taken : List Part) (answers : List SaidAnswer) (given : List PartAnswer) : Type 0 where
+  pub order : List SaidAnswer
   pub same : Reordered answers order
-  pub each : AllZip (IsGiven key taken) order given
+  pub each : AllZip (HasAnswer key taken) order given
 
 -- the meeting holds the parts taken of it, and the answers to those in the view; each that is to take place has one
 pub record Meets (own : Book) (key : MeetingKey) (meeting : Meeting) : Type 0 where
   pub held : RepresentsHistory meeting.held own.taken
   pub answers : AreGiven key own.taken (answers_in_view own.taken own.answers) meeting.answers.items
-  pub answered : (part : Part) → is_set part ≡ true → in_view own.taken part ≡ true → (a : Answer) × Contains own.answers a × (a.claim.part ≡ part)
-  pub dated : (given : Given) → Contains meeting.answers.items given → IsDated given
+  pub answered : (part : Part) → is_set part ≡ true → in_view own.taken part ≡ true → (a : SaidAnswer) × Contains own.answers a × (a.claim.part ≡ part)
+  pub dated : (given : PartAnswer) → Contains meeting.answers.items given → IsAnswerDated given
 
 -- of a meeting that isn't there nothing was taken
 abbrev pub MeetsAt : Book → MeetingKey → Option Meeting → Type 0
@@ -142,17 +142,17 @@ MeetsAt own key None = own.taken ≡ []
 MeetsAt own key (Some meeting) = Meets own key meeting
 
 -- where the meeting was that of its own book, and more of its parts were taken, all of these slots, these are the answers that stay
-abbrev pub KeepsAll : Part → List OwnSlot → Option Meeting → List Part → List Given → Type 0
+abbrev pub KeepsAll : Part → List OwnSlot → Option Meeting → List Part → List PartAnswer → Type 0
 KeepsAll part slots before held kept =
-    (own : Book) (key : MeetingKey) (more : List Part) → is_of key part ≡ true → IsOwn key own → MeetsAt own key before → RepresentsHistory held (own.taken ++ more) → AllTouch slots more
+    (own : Book) (key : MeetingKey) (more : List Part) → is_of_meeting key part ≡ true → IsOwn key own → MeetsAt own key before → RepresentsHistory held (own.taken ++ more) → AllTouch slots more
     → AreGiven key (own.taken ++ more) (answers_in_view (own.taken ++ more) (answers_in_view own.taken own.answers)) kept
 
 -- some of the answers that the meeting had, and what stays of them
-abbrev pub KeepsSome : Part → List OwnSlot → List Part → List Part → List Given → List Given → Type 0
+abbrev pub KeepsSome : Part → List OwnSlot → List Part → List Part → List PartAnswer → List PartAnswer → Type 0
 KeepsSome part slots before after done kept =
-    (own : Book) (key : MeetingKey) (more : List Part) → is_of key part ≡ true → IsOwn key own → RepresentsHistory before own.taken → RepresentsHistory after (own.taken ++ more) → AllTouch slots more
-    → (xs : List Answer) → ((a : Answer) → Contains xs a → Contains own.answers a × (in_view own.taken a.claim.part ≡ true)) → AllZip (IsGiven key own.taken) xs done
-    → AllZip (IsGiven key (own.taken ++ more)) (answers_in_view (own.taken ++ more) xs) kept
+    (own : Book) (key : MeetingKey) (more : List Part) → is_of_meeting key part ≡ true → IsOwn key own → RepresentsHistory before own.taken → RepresentsHistory after (own.taken ++ more) → AllTouch slots more
+    → (xs : List SaidAnswer) → ((a : SaidAnswer) → Contains xs a → Contains own.answers a × (in_view own.taken a.claim.part ≡ true)) → AllZip (HasAnswer key own.taken) xs done
+    → AllZip (HasAnswer key (own.taken ++ more)) (answers_in_view (own.taken ++ more) xs) kept
 
 -- ---- all meetings
 
@@ -161,19 +161,19 @@ pub record Covers (entries : List (MeetingKey × Meeting)) (part : Part) : Type 
   pub key : MeetingKey
   pub meeting : Meeting
   pub found : lookup (same_key key) entries ≡ Some meeting
-  pub is : is_of key part ≡ true
+  pub is : is_of_meeting key part ≡ true
 
 -- the keys are those of these parts' meetings, in order
 abbrev pub AreKeysOf : List MeetingKey → List Part → Type 0
-AreKeysOf keys parts = AllZip (λ key part. is_of key part ≡ true) keys parts
+AreKeysOf keys parts = AllZip (λ key part. is_of_meeting key part ≡ true) keys parts
 
 -- the meetings, in order of first arrival, represent the book, whose confirmed instances are clear and within the limit
 pub record Represents (entries : List (MeetingKey × Meeting)) (book : Book) : Type 0 where
   pub order : AreKeysOf (keys_of entries) (first_parts book.taken)
   pub covered : (part : Part) → Contains book.taken part → Covers entries part
-  pub known : (answer : Answer) → Contains book.answers answer → Contains book.taken answer.claim.part
-  pub set : (answer : Answer) → Contains book.answers answer → is_set answer.claim.part ≡ true
-  pub fit : (answer : Answer) → Contains book.answers answer → IsFitting answer.claim
+  pub known : (answer : SaidAnswer) → Contains book.answers answer → Contains book.taken answer.claim.part
+  pub set : (answer : SaidAnswer) → Contains book.answers answer → is_set answer.claim.part ≡ true
+  pub fit : (answer : SaidAnswer) → Contains book.answers answer → IsFitting answer.claim
   pub dated : (part : Part) → Contains book.taken part → SlotDated part.slot
   pub once : Pairwise (λ a b. a.claim.part ≢ b.claim.part) book.answers
   pub clear : IsClear book

@@ -8,7 +8,7 @@ use Rattle.cal_events.specs.Calendars.{owned_key_of}
 use Rattle.itip_order.specs.Registers.{RepresentsHistory, IsInView, HasNone, at_slot, together}
 use Rattle.itip_order.specs.declared.part.Slot.{Slot}
 use Rattle.itip_order.specs.Parts.{part_of, slot_of}
-use Rattle.profile.specs.checker.Instances.{Key, Booked, IsClash, IsClear, booked_cmp}
+use Rattle.profile.specs.checker.Instances.{Key, Instance, IsClash, IsClear, instance_cmp}
 use Rattle.profile.specs.events.Starts.{IsInstance}
 use Rattle.profile.specs.events.Confirmed.{Confirmed, IsOneOf}
 use Rattle.cal_events.specs.SaidSeries.{series_said}
@@ -25,11 +25,11 @@ use Rattle.room_books.specs.declared.kept.Meeting.{Meeting}
 use Rattle.room_books.specs.declared.kept.Changes.{Changes}
 use Rattle.room_books.specs.BySlot.{Reordered, left_without}
 use Rattle.cal_events.specs.declared.instance.Single.{Single}
-use Rattle.room_books.specs.declared.meeting.Given.{Given}
+use Rattle.room_books.specs.declared.meeting.PartAnswer.{PartAnswer}
 use Rattle.room_books.specs.declared.meeting.Outcome.{Outcome}
 use Rattle.room_books.specs.declared.claim.Claim.{Claim}
 use Rattle.room_books.specs.declared.meeting.MeetingKey.{MeetingKey}
-use Rattle.room_books.specs.Views.{outcome_of, all_singles, all_series, booked_list, joined, slots_of, IsClearIn, MayJoin, Recurs, SeriesMayJoin}
+use Rattle.room_books.specs.Views.{outcome_of, all_singles, all_series, instance_list, joined, slots_of, IsClearIn, MayJoin, Recurs, SeriesMayJoin}
 use Rattle.room_books.specs.Instants.{IsPartOf}
 use Rattle.room_books.specs.Touching.{is_touched, IsUntouched}
 use Rattle.profile.specs.rooms.Messages.{Content, no_content}
@@ -68,8 +68,8 @@ body_content revisions.Absent = no_content
 body_content revisions.Cancelled = no_content
 
 -- an instance of a part's meeting
-abbrev pub booked_in : revisions.Part → Single → Booked
-booked_in part single = record {
+abbrev pub part_instance : revisions.Part → Single → Instance
+part_instance part single = record {
   key = record { organiser = part.organiser; uid = part.uid; slot = single.slot };
   start = single.span.start;
   end = single.span.end;
@@ -79,7 +79,7 @@ abbrev pub claim_said : Claim → rooms.Claim
 claim_said claim = record {
   part = part_of claim.part;
   content = body_content (part_of claim.part).body;
-  singles = map (booked_in (part_of claim.part)) claim.singles.items;
+  singles = map (part_instance (part_of claim.part)) claim.singles.items;
   series = option_map series_said claim.series;
 }
 
@@ -102,20 +102,20 @@ held_after None more = more
 held_after (Some meeting) more = together meeting.held more
 
 -- these parts are held of the meeting, and these are its answers
-pub record IsMade (held : List revisions.Part) (answers : List Given) (meeting : Meeting) : Type 0 where
+pub record IsMade (held : List revisions.Part) (answers : List PartAnswer) (meeting : Meeting) : Type 0 where
   pub held_is : meeting.held ≡ held
   pub answers_are : Reordered answers meeting.answers.items
 
-abbrev pub answers_by : Option Meeting → List Given
+abbrev pub answers_by : Option Meeting → List PartAnswer
 answers_by None = []
 answers_by (Some meeting) = meeting.answers.items
 
 -- the answers after a message
-abbrev pub answers_then : List Given → Changes → List Given
+abbrev pub answers_then : List PartAnswer → Changes → List PartAnswer
 answers_then answers changes = left_without changes.lost.items answers ++ changes.new.items
 
 -- those that stay, and what is left of those of these slots
-abbrev pub kept_then : Option Meeting → List Slot → List Given → List Given
+abbrev pub kept_then : Option Meeting → List Slot → List PartAnswer → List PartAnswer
 kept_then before lost left = left_without lost (answers_by before) ++ left
 
 -- these are the claims that get an answer now
@@ -126,39 +126,39 @@ AreAsked before after claims asked = map (λ claim. claim_said claim.now) asked 
 
 -- those that no part in the view of the history hides
 abbrev pub left_in : List revisions.Part → revisions.Part → List Single → List Single
-left_in history part singles = filter (λ single. not (rooms.is_hidden history part (booked_in part single))) singles
+left_in history part singles = filter (λ single. not (rooms.is_hidden history part (part_instance part single))) singles
 
 -- those of them that aren't of one of these slots, or that no part in the view hides
 abbrev pub left_beside : List Slot → List revisions.Part → revisions.Part → List Single → List Single
-left_beside slots history part singles = filter (λ single. not (is_touched slots (revisions.At single.slot) && rooms.is_hidden history part (booked_in part single))) singles
+left_beside slots history part singles = filter (λ single. not (is_touched slots (revisions.At single.slot) && rooms.is_hidden history part (part_instance part single))) singles
 
 -- a part of one of these slots in the view of the history hides the instance of a part
-abbrev pub is_hidden_by : List Slot → List revisions.Part → revisions.Part → Booked → Bool
+abbrev pub is_hidden_by : List Slot → List revisions.Part → revisions.Part → Instance → Bool
 is_hidden_by slots history part booked = is_touched slots (revisions.At booked.key.slot) && rooms.is_hidden history part booked
 
 -- one series is the other without the instances that are hidden so; there is one where there was one
-abbrev pub IsSeriesLeft : (Booked → Bool) → Option Series → Option Series → Type 0
+abbrev pub IsSeriesLeft : (Instance → Bool) → Option Series → Option Series → Type 0
 IsSeriesLeft hides None None = Unit {0}
 IsSeriesLeft hides None (Some left) = ⊥
 IsSeriesLeft hides (Some series) None = ⊥
-IsSeriesLeft hides (Some series) (Some left) = (booked : Booked) → IsInstance (series_said left) booked ↔ (IsInstance (series_said series) booked × (hides booked ≡ false))
+IsSeriesLeft hides (Some series) (Some left) = (booked : Instance) → IsInstance (series_said left) booked ↔ (IsInstance (series_said series) booked × (hides booked ≡ false))
 
 -- the instances of the part that are hidden so are those of these original starts
 abbrev pub AreHiddenStarts : List Slot → List revisions.Part → revisions.Part → List ℤ → Type 0
-AreHiddenStarts slots history part starts = (booked : Booked) → Contains starts booked.key.slot ↔ (is_hidden_by slots history part booked ≡ true)
+AreHiddenStarts slots history part starts = (booked : Instance) → Contains starts booked.key.slot ↔ (is_hidden_by slots history part booked ≡ true)
 
 -- a part of this slot in the view of the history hides the instance of this original start, or none hides an instance
 abbrev pub IsHiddenStart : List revisions.Part → revisions.Part → revisions.Slot → Option ℤ → Type 0
-IsHiddenStart history part slot None = (booked : Booked) → slot ≡ revisions.At booked.key.slot → rooms.is_hidden history part booked ≡ false
-IsHiddenStart history part slot (Some start) = (slot ≡ revisions.At start) × ((booked : Booked) → booked.key.slot ≡ start → rooms.is_hidden history part booked ≡ true)
+IsHiddenStart history part slot None = (booked : Instance) → slot ≡ revisions.At booked.key.slot → rooms.is_hidden history part booked ≡ false
+IsHiddenStart history part slot (Some start) = (slot ≡ revisions.At start) × ((booked : Instance) → booked.key.slot ≡ start → rooms.is_hidden history part booked ≡ true)
 
 -- no part of these slots in the view hides an instance that the answer to a part confirms
-pub record LeavesAll (slots : List Slot) (history : List revisions.Part) (part : revisions.Part) (given : Given) : Type 0 where
+pub record LeavesAll (slots : List Slot) (history : List revisions.Part) (part : revisions.Part) (given : PartAnswer) : Type 0 where
   pub singles : given.singles.items ≡ left_beside slots history part given.singles.items
   pub series : IsSeriesLeft (is_hidden_by slots history part) given.series given.series
 
 -- one answer is the other, with the instances that are left where parts of these slots were taken
-pub record IsLeftOf (slots : List Slot) (held : List revisions.Part) (of : revisions.Part) (given left : Given) : Type 0 where
+pub record KeepsWhatIsLeft (slots : List Slot) (held : List revisions.Part) (of : revisions.Part) (given left : PartAnswer) : Type 0 where
   pub slot : left.slot ≡ given.slot
   pub moment : left.moment ≡ given.moment
   pub outcome : outcome_of left.outcome ≡ outcome_of given.outcome
@@ -166,17 +166,17 @@ pub record IsLeftOf (slots : List Slot) (held : List revisions.Part) (of : revis
   pub series : (history : List revisions.Part) → RepresentsHistory held history → IsSeriesLeft (is_hidden_by slots history of) given.series left.series
 
 -- what an answer confirms, if it is left
-abbrev pub singles_left : Option Given → List Single
-singles_left None = []
-singles_left (Some left) = left.singles.items
+abbrev pub singles_of_left : Option PartAnswer → List Single
+singles_of_left None = []
+singles_of_left (Some left) = left.singles.items
 
 -- and the series that it confirms
-abbrev pub series_still : Option Given → List Series
+abbrev pub series_still : Option PartAnswer → List Series
 series_still None = []
 series_still (Some left) = option_to_list left.series
 
 -- the answer to a claim at a moment, if it were accepted
-pub record IsAccepted (held : List revisions.Part) (claim : Claim) (moment : ℤ) (given : Given) : Type 0 where
+pub record IsAccepted (held : List revisions.Part) (claim : Claim) (moment : ℤ) (given : PartAnswer) : Type 0 where
   pub slot : given.slot ≡ claim.part.slot
   pub moment_is : given.moment ≡ moment
   pub outcome : outcome_of given.outcome ≡ messages.Accept
@@ -185,7 +185,7 @@ pub record IsAccepted (held : List revisions.Part) (claim : Claim) (moment : ℤ
   pub part : IsPartOf given.singles.items claim.singles.items
 
 -- a candidate with what was decided: it confirms something only where that is to accept it
-pub record IsDecided (candidate : Given) (outcome : Outcome) (given : Given) : Type 0 where
+pub record IsDecided (candidate : PartAnswer) (outcome : Outcome) (given : PartAnswer) : Type 0 where
   pub slot : given.slot ≡ candidate.slot
   pub moment : given.moment ≡ candidate.moment
   pub outcome_is : outcome_of given.outcome ≡ outcome_of outcome
@@ -193,26 +193,26 @@ pub record IsDecided (candidate : Given) (outcome : Outcome) (given : Given) : T
   pub series : given.series ≡ (if rooms.is_accept (outcome_of outcome) then candidate.series else None)
 
 -- the two keys are those of a clash, at the later start; the lesser by start, organiser, UID and slot comes first
-pub record NamesClash (all : List Booked) (first second : Key) (t : ℤ) : Type 0 where
-  pub a : Booked
-  pub b : Booked
+pub record NamesListedClash (all : List Instance) (first second : Key) (t : ℤ) : Type 0 where
+  pub a : Instance
+  pub b : Instance
   pub clash : IsClash all a b t
   pub first_is : a.key ≡ first
   pub second_is : b.key ≡ second
-  pub ordered : booked_cmp a b ≡ Less
+  pub ordered : instance_cmp a b ≡ Less
   pub later : t ≡ b.start
 
 -- what is decided where these singles would be confirmed: the limit is looked at first, then whether any two clash; any clash may be named
-abbrev pub DecidesAmong : List Booked → messages.Outcome → Type 0
+abbrev pub DecidesAmong : List Instance → messages.Outcome → Type 0
 DecidesAmong all messages.Accept = (length all ≤ rooms.most_singles) × IsClear all
-DecidesAmong all (messages.Busy first second t) = (length all ≤ rooms.most_singles) × NamesClash all first second t
+DecidesAmong all (messages.Busy first second t) = (length all ≤ rooms.most_singles) × NamesListedClash all first second t
 DecidesAmong all messages.SinglesLimit = rooms.most_singles < length all
 DecidesAmong all messages.SeriesLimit = ⊥
 
 -- what is decided of singles beside what a meeting keeps and all that the others have confirmed: where all its instances have
 -- different original starts, as the machine decides; and what is accepted may be confirmed
-pub record IsDecision (others : List Booked) (key : MeetingKey) (kept wanted : List Single) (outcome : Outcome) : Type 0 where
-  pub decides : AllPairs ◌≢◌ (slots_of (kept ++ wanted)) → DecidesAmong (others ++ booked_list key (kept ++ wanted)) (outcome_of outcome)
+pub record IsDecision (others : List Instance) (key : MeetingKey) (kept wanted : List Single) (outcome : Outcome) : Type 0 where
+  pub decides : AllPairs ◌≢◌ (slots_of (kept ++ wanted)) → DecidesAmong (others ++ instance_list key (kept ++ wanted)) (outcome_of outcome)
   pub joins : outcome_of outcome ≡ messages.Accept → MayJoin others key (kept ++ wanted)
 
 -- ---- what is decided where this would be confirmed, in singles and in series
@@ -236,21 +236,21 @@ pub record AreOfOneMeeting (singles : List Single) (series : List Series) : Type
 
 -- what is decided of candidates beside what a meeting keeps and all that the others have confirmed, where its instances are of one meeting,
 -- as the machine decides; and what is accepted may be confirmed
-pub record IsWholeDecision (others : Confirmed) (key : MeetingKey) (kept candidates : List Given) (outcome : Outcome) : Type 0 where
+pub record IsWholeDecision (others : Confirmed) (key : MeetingKey) (kept candidates : List PartAnswer) (outcome : Outcome) : Type 0 where
   pub decides : AreOfOneMeeting (all_singles kept ++ all_singles candidates) (all_series kept ++ all_series candidates)
       → DecidesOf (joined others key (all_singles kept ++ all_singles candidates) (all_series kept ++ all_series candidates)) (outcome_of outcome)
   pub joins : outcome_of outcome ≡ messages.Accept → MayJoin others.singles key (all_singles kept ++ all_singles candidates)
   pub series : outcome_of outcome ≡ messages.Accept → SeriesMayJoin others key (all_singles kept ++ all_singles candidates) (all_series kept ++ all_series candidates)
 
 -- with these answers a meeting may be confirmed beside the others
-abbrev pub MayJoinAll : Confirmed → MeetingKey → List Given → Type 0
+abbrev pub MayJoinAll : Confirmed → MeetingKey → List PartAnswer → Type 0
 MayJoinAll others key answers = SeriesMayJoin others key (all_singles answers) (all_series answers)
 
 -- the answers that stay, and those to the claims that are asked, decided as one
-abbrev pub IsAnswered : Confirmed → MeetingKey → List revisions.Part → ℤ → List Given → List (Bor Claim) → List Given → Option Outcome → Type 0
+abbrev pub IsAnswered : Confirmed → MeetingKey → List revisions.Part → ℤ → List PartAnswer → List (Bor Claim) → List PartAnswer → Option Outcome → Type 0
 IsAnswered others key held moment kept asked answers None = (asked ≡ []) × Reordered kept answers
 IsAnswered others key held moment kept asked answers (Some outcome) =
-    (asked ≢ []) × ((candidates : List Given) × (decided : List Given)
+    (asked ≢ []) × ((candidates : List PartAnswer) × (decided : List PartAnswer)
     × AllZip (λ claim given. IsAccepted held claim.now moment given) asked candidates
     × AllZip (λ candidate given. IsDecided candidate outcome given) candidates decided
     × IsWholeDecision others key kept candidates outcome
@@ -273,16 +273,16 @@ pub record IsViewed (held : List revisions.Part) (place part : revisions.Part) :
   pub same : revisions.same_place part place ≡ true
 
 -- an answer before, and what is left of it: nothing where its part isn't in the view after. The part is one of the meeting
-abbrev pub IsStill : List Slot → List revisions.Part → List revisions.Part → revisions.Part → Given → Option Given → Type 0
-IsStill slots before after part given None =
+abbrev pub IsAnswerAfter : List Slot → List revisions.Part → List revisions.Part → revisions.Part → PartAnswer → Option PartAnswer → Type 0
+IsAnswerAfter slots before after part given None =
     HasNone before (at_slot part (slot_of given.slot))
     ⊎ ((own : revisions.Part) × IsViewed before (at_slot part (slot_of given.slot)) own × ((history : List revisions.Part) → RepresentsHistory after history → revisions.in_view history own ≡ false))
-IsStill slots before after part given (Some left) =
-    (own : revisions.Part) × IsViewed before (at_slot part (slot_of given.slot)) own × IsInView after own × IsLeftOf slots after own given left
+IsAnswerAfter slots before after part given (Some left) =
+    (own : revisions.Part) × IsViewed before (at_slot part (slot_of given.slot)) own × IsInView after own × KeepsWhatIsLeft slots after own given left
 
 -- an answer stays as it is: nothing touches it, or what touches it leaves it all
-abbrev pub IsLeftAlone : List Slot → List revisions.Part → List revisions.Part → revisions.Part → Given → Type 0
-IsLeftAlone slots before after part given = IsUntouched slots (slot_of given.slot) ⊎ IsStill slots before after part given (Some given)
+abbrev pub IsLeftAlone : List Slot → List revisions.Part → List revisions.Part → revisions.Part → PartAnswer → Type 0
+IsLeftAlone slots before after part given = IsUntouched slots (slot_of given.slot) ⊎ IsAnswerAfter slots before after part given (Some given)
 
 -- the instants that an outcome names can be written as stamps
 abbrev pub OutcomeDated : messages.Outcome → Type 0

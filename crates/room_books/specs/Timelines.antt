@@ -44,13 +44,13 @@ pub record IsPlaceAfter (items : List Busy) (instant : ℤ) (place : ℕ) : Type
   pub after : (b : Busy) → Contains (drop place items) b → instant <ℤ b.single.span.end
 
 -- the place is `own`
-abbrev pub is_place : Option ℕ → ℕ → Bool
-is_place None place = false
-is_place (Some own) place = own == place
+abbrev pub is_own_place : Option ℕ → ℕ → Bool
+is_own_place None place = false
+is_own_place (Some own) place = own == place
 
 -- it is of the meeting in the place `own`, and one of these that are gone
 abbrev pub is_leaving : Option ℕ → List Single → Busy → Bool
-is_leaving own gone b = is_place own b.place && has_single b.single gone
+is_leaving own gone b = is_own_place own b.place && has_single b.single gone
 
 abbrev pub stays : (Busy → Bool) → Busy → Bool
 stays leaves b = not (leaves b)
@@ -93,8 +93,8 @@ pub record IsShift (place : ℕ) (gone kept added : List Single) (items : List B
   pub free : (s : Single) → Contains added s → IsFreeBut place items s.span
 
 -- it is gone, and the others are there as before
-abbrev pub IsTaken : Busy → List Busy → List Busy → Type 0
-IsTaken x old new = (y : Busy) → has_busy y new ≡ (has_busy y old && not (same_busy y x))
+abbrev pub IsTakenOut : Busy → List Busy → List Busy → Type 0
+IsTakenOut x old new = (y : Busy) → has_busy y new ≡ (has_busy y old && not (same_busy y x))
 
 -- it is there where it holds an instant, and the others are as before
 abbrev pub IsPut : Busy → List Busy → List Busy → Type 0

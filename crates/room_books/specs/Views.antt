@@ -7,9 +7,9 @@ use Rattle.ical_values.specs.Octets.{address_octets, text_octets}
 use Rattle.cal_events.specs.Calendars.{owned_key_of}
 use Rattle.cal_events.specs.SaidSeries.{series_said}
 use Rattle.cal_events.specs.declared.series.Series.{Series}
-use Rattle.profile.specs.checker.Instances.{Booked, IsClear, AreClear}
-use Rattle.profile.specs.events.Events.{Event}
-use Rattle.profile.specs.events.Meetings.{Meeting as Whole}
+use Rattle.profile.specs.checker.Instances.{Instance, IsClear, AreClear}
+use Rattle.profile.specs.events.EventComponents.{EventComponent}
+use Rattle.profile.specs.events.Events.{Event as Whole}
 use Rattle.profile.specs.events.Starts.{IsInstance}
 use Rattle.profile.specs.events.Confirmed.{Confirmed, IsOneOf}
 use Rattle.profile.specs.rooms.Rooms.{most_series, most_singles}
@@ -19,11 +19,11 @@ use Rattle.room_books.specs.Instants.{HaveInstant, Overlap, AreSeparate}
 use Rattle.room_books.specs.declared.answer.LimitKind.TheVariants as limits
 use Rattle.room_books.specs.declared.meeting.MeetingKey.{MeetingKey}
 use Rattle.cal_events.specs.declared.instance.Single.{Single}
-use Rattle.room_books.specs.declared.meeting.Given.{Given}
+use Rattle.room_books.specs.declared.meeting.PartAnswer.{PartAnswer}
 use Rattle.room_books.specs.declared.kept.Meeting.{Meeting}
 use Rattle.room_books.specs.declared.meeting.Outcome.{Outcome}
 use Rattle.room_books.specs.declared.meeting.Outcome.TheVariants.{Accepted, Declined, Limit}
-use Rattle.room_books.specs.declared.decide.Shared.{Shared}
+use Rattle.room_books.specs.declared.decide.SharedInstant.{SharedInstant}
 
 -- the key of a meeting with this organiser and this UID
 pub record IsKeyOf (organiser uid : List ℕ) (key : MeetingKey) : Type 0 where
@@ -31,15 +31,15 @@ pub record IsKeyOf (organiser uid : List ℕ) (key : MeetingKey) : Type 0 where
   pub uid_is : text_octets key.uid ≡ uid
 
 -- an instance of a meeting
-abbrev pub booked_of : MeetingKey → Single → Booked
-booked_of key single = record {
+abbrev pub keyed_instance : MeetingKey → Single → Instance
+keyed_instance key single = record {
   key = record { organiser = address_octets key.organiser; uid = text_octets key.uid; slot = single.slot };
   start = single.span.start;
   end = single.span.end;
 }
 
-abbrev pub booked_list : MeetingKey → List Single → List Booked
-booked_list key singles = map (booked_of key) singles
+abbrev pub instance_list : MeetingKey → List Single → List Instance
+instance_list key singles = map (keyed_instance key) singles
 
 -- their original starts
 abbrev pub slots_of : List Single → List ℤ
@@ -56,7 +56,7 @@ outcome_of (Limit limits.Series) = messages.SeriesLimit
 outcome_of (Limit limits.Singles) = messages.SinglesLimit
 
 -- what answers confirm
-abbrev pub all_singles : List Given → List Single
+abbrev pub all_singles : List PartAnswer → List Single
 all_singles answers = flat_map (λ given. given.singles.items) answers
 
 -- the instances for which a meeting holds the room
@@ -64,8 +64,8 @@ abbrev pub meeting_singles : Meeting → List Single
 meeting_singles meeting = all_singles meeting.answers.items
 
 -- what a meeting has confirmed
-abbrev pub confirmed_of : MeetingKey × Meeting → List Booked
-confirmed_of entry = booked_list entry.0 (meeting_singles entry.1)
+abbrev pub confirmed_of : MeetingKey × Meeting → List Instance
+confirmed_of entry = instance_list entry.0 (meeting_singles entry.1)
 
 -- what the meeting that was found has confirmed, nothing where none was
 abbrev pub singles_by : Option Meeting → List Single
@@ -89,25 +89,25 @@ abbrev pub is_other : MeetingKey → MeetingKey × Meeting → Bool
 is_other key entry = not (same_key key entry.0)
 
 -- what the other meetings have confirmed, in the order of their first arrival
-abbrev pub others : MeetingKey → List (MeetingKey × Meeting) → List Booked
+abbrev pub others : MeetingKey → List (MeetingKey × Meeting) → List Instance
 others key entries = flat_map confirmed_of (filter (is_other key) entries)
 
 -- what all meetings have confirmed, in the order of their first arrival
-abbrev pub all_confirmed : List (MeetingKey × Meeting) → List Booked
+abbrev pub all_confirmed : List (MeetingKey × Meeting) → List Instance
 all_confirmed entries = flat_map confirmed_of entries
 
 -- the span of an instance
-abbrev pub span_of : Booked → Span
-span_of b = record { start = b.start; end = b.end }
+abbrev pub instance_span : Instance → Span
+instance_span b = record { start = b.start; end = b.end }
 
 -- none of these shares an instant with the span
-abbrev pub IsFree : List Booked → Span → Type 0
-IsFree all span = (b : Booked) (t : ℤ) → Contains all b → HaveInstant span (span_of b) t → ⊥
+abbrev pub IsFree : List Instance → Span → Type 0
+IsFree all span = (b : Instance) (t : ℤ) → Contains all b → HaveInstant span (instance_span b) t → ⊥
 
 -- an instance of what is asked for and one of these share an instant, or none does
-abbrev pub AreBusyIn : List Booked → (Single → Type 0) → Option Shared → Type 0
+abbrev pub AreBusyIn : List Instance → (Single → Type 0) → Option SharedInstant → Type 0
 AreBusyIn all wanted None = (s : Single) → wanted s → IsFree all s.span
-AreBusyIn all wanted (Some x) = wanted x.asked × Contains all (booked_of x.other.now x.booked) × Overlap x.asked.span x.booked.span
+AreBusyIn all wanted (Some x) = wanted x.asked × Contains all (keyed_instance x.other.now x.booked) × Overlap x.asked.span x.booked.span
 
 -- two of these share an instant, of different original starts where all have different ones, or none do
 abbrev pub HaveOverlap : List Single → Option (Single × Single) → Type 0
@@ -115,9 +115,9 @@ HaveOverlap singles None = AreSeparate singles
 HaveOverlap singles (Some p) = Contains singles p.0 × Contains singles p.1 × (AllPairs ◌≢◌ (slots_of singles) → p.0.slot ≢ p.1.slot) × Overlap p.0.span p.1.span
 
 -- what a meeting keeps and asks for may be confirmed beside these: within the limit, clear, and itself apart
-pub record MayJoin (others : List Booked) (key : MeetingKey) (singles : List Single) : Type 0 where
-  pub few : length (others ++ booked_list key singles) ≤ most_singles
-  pub clear : IsClear (others ++ booked_list key singles)
+pub record MayJoin (others : List Instance) (key : MeetingKey) (singles : List Single) : Type 0 where
+  pub few : length (others ++ instance_list key singles) ≤ most_singles
+  pub clear : IsClear (others ++ instance_list key singles)
   pub separate : AreSeparate singles
 
 -- no two instances of one meeting share an instant
@@ -127,7 +127,7 @@ AreAllApart entries = (entry : MeetingKey × Meeting) → Contains entries entry
 -- ---- series
 
 -- a master as one of the meeting with this key
-abbrev pub of_key : MeetingKey → Event → Event
+abbrev pub of_key : MeetingKey → EventComponent → EventComponent
 of_key key event = record event { uid = text_octets key.uid; organiser = Some (address_octets key.organiser) }
 
 -- a series as one of the meeting with this key
@@ -139,17 +139,17 @@ series_list key series = map (series_of key) series
 
 -- an instance of a series, by its original start and its span
 pub record Recurs (series : Series) (single : Single) : Type 0 where
-  pub booked : Booked
+  pub booked : Instance
   pub is : IsInstance (series_said series) booked
   pub slot : single.slot ≡ booked.key.slot
-  pub span : single.span ≡ span_of booked
+  pub span : single.span ≡ instance_span booked
 
 -- an instance of one of these series
 abbrev pub RecursIn : List Series → Single → Type 0
 RecursIn all single = (series : Series) × Contains all series × Recurs series single
 
 -- the series that answers confirm
-abbrev pub all_series : List Given → List Series
+abbrev pub all_series : List PartAnswer → List Series
 all_series answers = flat_map (λ given. option_to_list given.series) answers
 
 -- some of these series are left, without some of their instances
@@ -195,7 +195,7 @@ beside key entries = record { series = other_recurring key entries; singles = ot
 
 -- and with these of a meeting
 abbrev pub joined : Confirmed → MeetingKey → List Single → List Series → Confirmed
-joined others key singles series = record { series = others.series ++ series_list key series; singles = others.singles ++ booked_list key singles }
+joined others key singles series = record { series = others.series ++ series_list key series; singles = others.singles ++ instance_list key singles }
 
 -- no two of these instances clash
 abbrev pub IsClearIn : Confirmed → Type 0

@@ -5,10 +5,10 @@ ghost use Rattle.std.specs.Ordering.{is_lt};
 ghost use Rattle.std.specs.List.{IsDistinct};
 ghost use Rattle.std.specs.Map.{lookup};
 ghost use Rattle.indexmap.specs.IndexMap.{keys};
-ghost use Rattle.profile.specs.checker.Instances.{booked_cmp, IsClear};
+ghost use Rattle.profile.specs.checker.Instances.{instance_cmp, IsClear};
 ghost use Rattle.clash_cert.specs.Makings.{AreNamed, HasKeys};
 ghost use Rattle.cal_events.specs.declared.instance.Single.{Single};
-ghost use Rattle.room_books.specs.Views.{all_confirmed, booked_of, booked_list, confirmed_at, others, same_key, singles_by, spans_of, AreAllApart, RecursIn, AreBusyIn, HaveOverlap};
+ghost use Rattle.room_books.specs.Views.{all_confirmed, keyed_instance, instance_list, confirmed_at, others, same_key, singles_by, spans_of, AreAllApart, RecursIn, AreBusyIn, HaveOverlap};
 ghost use Rattle.room_books.specs.Instants.{IsLater, IsParted};
 ghost use Rattle.room_books.specs.Takings.{IsDecision};
 ghost use Rattle.room_books.specs.Timelines.{IsTimelineOf};
@@ -34,7 +34,7 @@ pub type Meetings = IndexMap<MeetingKey, Meeting>;
 
 /// An instance that is asked for, and one that stays confirmed and shares an instant with it.
 #[derive(Clone, Copy)]
-pub(crate) struct Shared<'a> {
+pub(crate) struct SharedInstant<'a> {
     pub asked: Single,
     pub other: &'a MeetingKey,
     pub booked: Single,
@@ -85,16 +85,16 @@ fn busy_beside<'a>(
     key: &MeetingKey,
     gone: &Gone,
     wanted: &[Single],
-) -> Option<Shared<'a>>
+) -> Option<SharedInstant<'a>>
     requires timed { IsTimelineOf (confirmed_at meetings.now.entries) timeline.now.busy.items }
     requires apart { AreAllApart meetings.now.entries }
     ensures { (kept : List Single) → IsParted (singles_by (lookup (same_key key.now) meetings.now.entries)) gone.now kept
-        → AreBusyIn (others key.now meetings.now.entries ++ booked_list key.now kept) (Contains wanted.now) result }
+        → AreBusyIn (others key.now meetings.now.entries ++ instance_list key.now kept) (Contains wanted.now) result }
 {
     let own = meetings.get_index_of(key);
     let (asked, busy) = timeline.first_taken(wanted, own, gone)?;
     let (other, _) = meetings.get_index(busy.place)?;
-    Some(Shared {
+    Some(SharedInstant {
         asked,
         other,
         booked: busy.single,
@@ -108,17 +108,17 @@ pub(crate) fn busy_beside_series<'a>(
     key: &MeetingKey,
     gone: &Gone,
     all: &[&Series],
-) -> Option<Shared<'a>>
+) -> Option<SharedInstant<'a>>
     requires timed { IsTimelineOf (confirmed_at meetings.now.entries) timeline.now.busy.items }
     requires apart { AreAllApart meetings.now.entries }
     ensures { (kept : List Single) → IsParted (singles_by (lookup (same_key key.now) meetings.now.entries)) gone.now kept
-        → AreBusyIn (others key.now meetings.now.entries ++ booked_list key.now kept) (RecursIn (map (λ one. one.now) all.now)) result }
+        → AreBusyIn (others key.now meetings.now.entries ++ instance_list key.now kept) (RecursIn (map (λ one. one.now) all.now)) result }
 {
     let own = meetings.get_index_of(key);
     for series in all {
         if let Some((asked, busy)) = timeline.first_of_series(series, own, gone) {
             let (other, _) = meetings.get_index(busy.place)?;
-            return Some(Shared {
+            return Some(SharedInstant {
                 asked,
                 other,
                 booked: busy.single,
@@ -170,7 +170,7 @@ pub(crate) fn clash_between(
     booked: Single,
 ) -> Result<Clash, AllocError>
     ensures { IfOk result (λ clash. IsLater asked.span booked.span clash.instant
-        × AreNamed (booked_of key.now asked) (booked_of other.now booked) clash.instant clash) }
+        × AreNamed (keyed_instance key.now asked) (keyed_instance other.now booked) clash.instant clash) }
 {
     let instant = later_start(asked.span, booked.span);
     if is_before(other, booked, key, asked) {
@@ -181,7 +181,7 @@ pub(crate) fn clash_between(
 
 /// Whether the first instance is less by start, organiser, UID and slot.
 fn is_before(a: &MeetingKey, first: Single, b: &MeetingKey, second: Single) -> bool
-    ensures { result ≡ is_lt (booked_cmp (booked_of a.now first) (booked_of b.now second)) }
+    ensures { result ≡ is_lt (instance_cmp (keyed_instance a.now first) (keyed_instance b.now second)) }
 {
     let a = a.instance(first);
     let b = b.instance(second);
@@ -196,7 +196,7 @@ fn in_order(
     second: Single,
     instant: i64,
 ) -> Result<Clash, AllocError>
-    ensures { IfOk result (HasKeys (booked_of a.now first) (booked_of b.now second) instant) }
+    ensures { IfOk result (HasKeys (keyed_instance a.now first) (keyed_instance b.now second) instant) }
 {
     let first = a.owned(first)?;
     let second = b.owned(second)?;

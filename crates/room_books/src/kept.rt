@@ -5,9 +5,9 @@ ghost use Rattle.std.specs.List.Sorted.{IsSortedByKey};
 ghost use Rattle.std.specs.Vec.{vec_len, vec_capacity};
 ghost use Rattle.itip_order.specs.Parts.{slot_of};
 ghost use Rattle.profile.specs.rooms.Revisions.{slot_cmp};
-ghost use Rattle.room_books.specs.BySlot.{AreBySlot, HasRoom, Reordered, is_at, left_without};
+ghost use Rattle.room_books.specs.BySlot.{AreAnswersBySlot, HasRoom, Reordered, is_at, left_without};
 
-use crate::meeting::Given;
+use crate::meeting::PartAnswer;
 use crate::slots::{place_before, place_past};
 use itip_order::{Held, Slot};
 use std::alloc::{AllocError, Global};
@@ -18,9 +18,9 @@ pub struct Changes {
     /// In order.
     pub lost: Vec<Slot>,
     /// By their slots: those to new parts, and what is left of one that went.
-    pub new: Vec<Given>,
+    pub new: Vec<PartAnswer>,
     ghost rises: { IsSortedByKey slot_of slot_cmp lost.items },
-    ghost by_slot: { AreBySlot new.items },
+    ghost by_slot: { AreAnswersBySlot new.items },
 }
 
 /// A meeting of a room.
@@ -28,15 +28,15 @@ pub struct Changes {
 pub struct Meeting {
     pub held: Held,
     /// The answers to those parts in the view that are to take place, by their slots.
-    pub answers: Vec<Given>,
-    ghost by_slot: { AreBySlot answers.items },
+    pub answers: Vec<PartAnswer>,
+    ghost by_slot: { AreAnswersBySlot answers.items },
 }
 
 impl Changes {
     ghost use Rattle.room_books.specs.Takings.{answers_then};
 
     /// The answers of these slots, in order, go; and these come, in any order.
-    pub fn of(alloc: Global, lost: Vec<Slot>, new: Vec<Given>) -> Result<Changes, AllocError>
+    pub fn of(alloc: Global, lost: Vec<Slot>, new: Vec<PartAnswer>) -> Result<Changes, AllocError>
         requires { IsSortedByKey slot_of slot_cmp lost.items }
         ensures lost { IfOk result (λ changes. changes.lost ≡ lost) }
         ensures new { IfOk result (λ changes. Reordered new.items changes.new.items) }
@@ -80,9 +80,9 @@ impl Meeting {
 /// Memory for these answers and the new ones, where there isn't room for the new ones after them.
 fn larger(
     alloc: Global,
-    answers: &Vec<Given>,
-    new: &[Given],
-) -> Result<Option<Vec<Given>>, AllocError>
+    answers: &Vec<PartAnswer>,
+    new: &[PartAnswer],
+) -> Result<Option<Vec<PartAnswer>>, AllocError>
     ensures { IfOk result (HasRoom answers.now (length new.now)) }
 {
     let wanted = answers.len() + new.len();
@@ -97,7 +97,7 @@ fn larger(
 }
 
 /// Moves answers into a larger place, if there is one.
-fn move_into(answers: &mut Vec<Given>, larger: Option<Vec<Given>>)
+fn move_into(answers: &mut Vec<PartAnswer>, larger: Option<Vec<PartAnswer>>)
     ensures { (more : ℕ) → HasRoom answers.old more larger → (answers.new.items ≡ answers.old.items) × (vec_len answers.new + more ≤ vec_capacity answers.new) }
 {
     if let Some(mut larger) = larger {
@@ -108,10 +108,10 @@ fn move_into(answers: &mut Vec<Given>, larger: Option<Vec<Given>>)
 }
 
 /// Takes out the answers of some slots.
-fn take_out(answers: &mut Vec<Given>, slots: &[Slot])
-    requires { AreBySlot answers.old.items }
+fn take_out(answers: &mut Vec<PartAnswer>, slots: &[Slot])
+    requires { AreAnswersBySlot answers.old.items }
     ensures items { answers.new.items ≡ left_without slots.now answers.old.items }
-    ensures by_slot { AreBySlot answers.new.items }
+    ensures by_slot { AreAnswersBySlot answers.new.items }
     ensures len { vec_len answers.new ≤ vec_len answers.old }
     ensures capacity { vec_capacity answers.new ≡ vec_capacity answers.old }
 {
@@ -121,10 +121,10 @@ fn take_out(answers: &mut Vec<Given>, slots: &[Slot])
 }
 
 /// Takes out the answers of a slot.
-fn take_out_of(answers: &mut Vec<Given>, slot: Slot)
-    requires { AreBySlot answers.old.items }
+fn take_out_of(answers: &mut Vec<PartAnswer>, slot: Slot)
+    requires { AreAnswersBySlot answers.old.items }
     ensures items { answers.new.items ≡ filter (λ given. not (is_at (slot_of slot) given)) answers.old.items }
-    ensures by_slot { AreBySlot answers.new.items }
+    ensures by_slot { AreAnswersBySlot answers.new.items }
     ensures len { vec_len answers.new ≤ vec_len answers.old }
     ensures capacity { vec_capacity answers.new ≡ vec_capacity answers.old }
 {
@@ -136,10 +136,10 @@ fn take_out_of(answers: &mut Vec<Given>, slot: Slot)
 }
 
 /// Puts in more answers by their slots.
-fn put_all(answers: &mut Vec<Given>, new: Vec<Given>) -> Result<(), AllocError>
-    requires { AreBySlot answers.old.items }
+fn put_all(answers: &mut Vec<PartAnswer>, new: Vec<PartAnswer>) -> Result<(), AllocError>
+    requires { AreAnswersBySlot answers.old.items }
     ensures put { OnOk result (Reordered (answers.old.items ++ new.items) answers.new.items) }
-    ensures by_slot { OnOk result (AreBySlot answers.new.items) }
+    ensures by_slot { OnOk result (AreAnswersBySlot answers.new.items) }
     ensures full { OnErr result (vec_capacity answers.old < vec_len answers.old + vec_len new) }
 {
     for given in new {
@@ -149,10 +149,10 @@ fn put_all(answers: &mut Vec<Given>, new: Vec<Given>) -> Result<(), AllocError>
 }
 
 /// Puts in an answer by its slot.
-fn put(answers: &mut Vec<Given>, given: Given) -> Result<(), AllocError>
-    requires { AreBySlot answers.old.items }
+fn put(answers: &mut Vec<PartAnswer>, given: PartAnswer) -> Result<(), AllocError>
+    requires { AreAnswersBySlot answers.old.items }
     ensures put { OnOk result (Reordered (given ∷ answers.old.items) answers.new.items) }
-    ensures by_slot { OnOk result (AreBySlot answers.new.items) }
+    ensures by_slot { OnOk result (AreAnswersBySlot answers.new.items) }
     ensures len { OnOk result (vec_len answers.new ≡ vec_len answers.old + 1) }
     ensures capacity { vec_capacity answers.old ≤ vec_capacity answers.new }
     ensures full { OnErr result (vec_capacity answers.old ≤ vec_len answers.old) }

@@ -1,11 +1,11 @@
 //! What holds of each room, whatever it takes: laws, with nothing to do.
 
 ghost use Rattle.std.specs.Prelude.{◌≡◌, ◌↔◌, ℕ, ℤ, List, length, Contains};
-ghost use Rattle.profile.specs.checker.Instances.{Booked};
+ghost use Rattle.profile.specs.checker.Instances.{Instance};
 ghost use Rattle.profile.specs.events.Confirmed.{Confirmed, IsOneOf};
-ghost use Rattle.profile.specs.rooms.Rooms.{Answer, Book, Delivery, Runs, empty_book, IsClear, IsWithinLimits};
+ghost use Rattle.profile.specs.rooms.Rooms.{PartAnswer, Book, Delivery, Runs, empty_book, IsClear, IsWithinLimits};
 ghost use Rattle.profile.specs.rooms.Rooms.{Confirms, confirmed_series, confirmed_singles};
-ghost use Rattle.profile.specs.streams.Streams.{IsDelivered, AllAnswers, Box, Hosted, Hosts, new_box};
+ghost use Rattle.profile.specs.streams.Streams.{IsDelivered, AllAnswers, Box, Hosted, Config, new_box};
 ghost use Rattle.profile.specs.rooms.Kept.{IsKeptCalendar, kept_certificate};
 ghost use Rattle.profile.specs.checker.Calendars.{CertificateHolds, SpellsCalendar};
 ghost use Rattle.profile.specs.Headline.{AcceptedWhereClear, KeptTextsPass};
@@ -21,10 +21,10 @@ pub fn runs_stay_clear()
 /// octets are answered again, it is with the answer that they got.
 pub fn answers_stay()
     ensures stays { (before after : Book) (deliveries : List Delivery) → Runs before deliveries after
-        → (answer : Answer) → Contains before.answers answer → Contains after.answers answer }
+        → (answer : PartAnswer) → Contains before.answers answer → Contains after.answers answer }
     ensures once { (room : List ℕ) (deliveries : List Delivery) (book : Book)
         → ((taken : Delivery) → Contains deliveries taken → IsDelivered room taken) → Runs empty_book deliveries book
-        → (a b : Answer) → Contains book.answers a → Contains book.answers b → a.claim.part ≡ b.claim.part → a ≡ b }
+        → (a b : PartAnswer) → Contains book.answers a → Contains book.answers b → a.claim.part ≡ b.claim.part → a ≡ b }
 {}
 
 /// A new revision is accepted exactly where no two of the instances that would be confirmed with it hold the room in the same second,
@@ -48,7 +48,7 @@ pub fn kept_texts_spell()
         → ((taken : Delivery) → Contains deliveries taken → IsDelivered room taken) → Runs empty_book deliveries book → IsKeptCalendar room book text
         → (all : Confirmed) × SpellsCalendar room text all
         × (length all.singles ≡ length (confirmed_singles book)) × (length all.series ≡ length (confirmed_series book))
-        × ((booked : Booked) → IsOneOf all booked ↔ Confirms book booked) }
+        × ((booked : Instance) → IsOneOf all booked ↔ Confirms book booked) }
 {
     ical_lines::lines_read_back();
     cal_zones::zone_reads_back();
@@ -57,7 +57,7 @@ pub fn kept_texts_spell()
 /// Whatever objects a stream has, taken or refused, one after another from the first: what each of the rooms keeps after
 /// them passes likewise.
 pub fn served_texts_pass()
-    ensures { (moment : ℤ) (hosts : Hosts) (first : ℕ) (objects : List (List ℕ)) (after : Box) (answers : List ℕ) (refused : ℕ)
+    ensures { (moment : ℤ) (hosts : Config) (first : ℕ) (objects : List (List ℕ)) (after : Box) (answers : List ℕ) (refused : ℕ)
         → AllAnswers moment first objects (new_box hosts) after answers refused
         → (room : Hosted) → Contains after.rooms room
         → (kept : List ℕ) → IsKeptCalendar room.address room.book kept → CertificateHolds room.address kept (kept_certificate room.book) }

@@ -20,7 +20,7 @@ pub struct MeetingKey {
 impl MeetingKey {
     ghost use Rattle.ical_values.specs.Octets.{address_octets, text_octets};
     ghost use Rattle.cal_events.specs.Calendars.{instance_of, owned_key_of};
-    ghost use Rattle.room_books.specs.Views.{booked_of, IsKeyOf};
+    ghost use Rattle.room_books.specs.Views.{keyed_instance, IsKeyOf};
 
     /// The name of the meeting that has this ORGANIZER's address and this UID, both copied (RFC 5545 3.8.4.7).
     /// It fails only when out of memory.
@@ -34,7 +34,7 @@ impl MeetingKey {
 
     /// An instance of this meeting, with the meeting's texts borrowed.
     pub fn instance(&self, single: Single) -> Instance<'_>
-        ensures { instance_of result ≡ booked_of self.now single }
+        ensures { instance_of result ≡ keyed_instance self.now single }
     {
         let key = InstanceKey {
             organiser: self.organiser.as_str(),
@@ -50,7 +50,7 @@ impl MeetingKey {
 
     /// The key of that instance, with its own texts.
     pub fn owned(&self, single: Single) -> Result<OwnedKey, AllocError>
-        ensures { IfOk result (λ key. owned_key_of key ≡ (booked_of self.now single).key) }
+        ensures { IfOk result (λ key. owned_key_of key ≡ (keyed_instance self.now single).key) }
     {
         let organiser = self.organiser.clone()?;
         let uid = self.uid.clone()?;
@@ -73,7 +73,7 @@ pub enum Outcome {
 /// The answer to a part: when and how it was decided, and the instances that it confirms. It is kept as long as the part is
 /// in the view, so that a repeat gets the same answer.
 #[derive(Drop)]
-pub struct Given {
+pub struct PartAnswer {
     /// The slot of the part.
     pub slot: Slot,
     /// The moment of the decision.

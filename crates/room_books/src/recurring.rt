@@ -3,9 +3,9 @@
 ghost use Rattle.std.specs.Prelude.{◌≡◌, ◌++◌, ◌≤◌, length, map, Contains, OnOk};
 ghost use Rattle.cal_events.specs.declared.series.Series.{Series};
 ghost use Rattle.room_books.specs.Views.{Recurs};
-ghost use Rattle.room_books.specs.Recurrings.{AreBeside, AreClearFrom, IsAlone, IsBesideOne, keyed_of};
+ghost use Rattle.room_books.specs.Recurrings.{AreBeside, AreClearFrom, IsSharedAlone, IsBesideOne, keyed_of};
 
-use crate::decide::Shared;
+use crate::decide::SharedInstant;
 use crate::meeting::MeetingKey;
 use cal_events::{Instance, Series, Single, Span};
 use cal_period::{clash_of_pair, sweep_alone};
@@ -33,12 +33,15 @@ pub(crate) fn push_all<'a>(
 }
 
 /// One of these singles, and an instance of one of these series that shares an instant with it. For each single it jumps into each series.
-pub(crate) fn single_beside<'a>(singles: &[Single], all: &[Recurring<'a>]) -> Option<Shared<'a>>
+pub(crate) fn single_beside<'a>(
+    singles: &[Single],
+    all: &[Recurring<'a>],
+) -> Option<SharedInstant<'a>>
     ensures { AreBeside (Contains singles.now) all.now result }
 {
     for single in singles {
         if let Some((key, booked)) = series_at(*single, all) {
-            return Some(Shared {
+            return Some(SharedInstant {
                 asked: *single,
                 other: key,
                 booked,
@@ -61,7 +64,7 @@ fn series_at<'a>(single: Single, all: &[Recurring<'a>]) -> Option<(&'a MeetingKe
 }
 
 /// An instance of a series from a place on, and one that shares an instant with it: of a series before that place, or of its own.
-pub(crate) fn clash_from<'a>(all: &[Recurring<'a>], from: usize) -> Option<Shared<'a>>
+pub(crate) fn clash_from<'a>(all: &[Recurring<'a>], from: usize) -> Option<SharedInstant<'a>>
     requires { from ≤ length all.now }
     ensures { AreClearFrom all.now from result }
 {
@@ -71,7 +74,7 @@ pub(crate) fn clash_from<'a>(all: &[Recurring<'a>], from: usize) -> Option<Share
             return Some(shared);
         }
         if let Some((asked, booked)) = alone(series) {
-            return Some(Shared {
+            return Some(SharedInstant {
                 asked,
                 other: key,
                 booked,
@@ -82,12 +85,12 @@ pub(crate) fn clash_from<'a>(all: &[Recurring<'a>], from: usize) -> Option<Share
 }
 
 /// An instance of a series, and one of one of these series that shares an instant with it.
-fn series_beside<'a>(series: &Series, all: &[Recurring<'a>]) -> Option<Shared<'a>>
+fn series_beside<'a>(series: &Series, all: &[Recurring<'a>]) -> Option<SharedInstant<'a>>
     ensures { AreBeside (Recurs series.now) all.now result }
 {
     for recurring in all {
         if let Some((asked, booked)) = clash_of_pair(series, recurring.series) {
-            return Some(Shared {
+            return Some(SharedInstant {
                 asked: as_single(&asked),
                 other: recurring.key,
                 booked: as_single(&booked),
@@ -99,7 +102,7 @@ fn series_beside<'a>(series: &Series, all: &[Recurring<'a>]) -> Option<Shared<'a
 
 /// Two instances of a series that share an instant.
 fn alone(series: &Series) -> Option<(Single, Single)>
-    ensures { IsAlone series.now result }
+    ensures { IsSharedAlone series.now result }
 {
     cal_events::known_by_start();
     let (first, second) = sweep_alone(series).shared?;

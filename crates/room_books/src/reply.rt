@@ -4,7 +4,7 @@ ghost use Rattle.std.specs.Prelude.{◌≡◌, IfOk, IfSome, IfNone, OnOk, List}
 ghost use Rattle.ical_values.specs.Octets.{address_octets};
 ghost use Rattle.itip_order.specs.Parts.{part_of, slot_of};
 ghost use Rattle.itip_order.specs.Registers.{RepresentsHistory};
-ghost use Rattle.itip_messages.specs.Replies.{WritesLines, outcome_of as decision_outcome, slot_of as recurrence_slot};
+ghost use Rattle.itip_messages.specs.Replies.{WritesLines, decision_outcome, slot_at as recurrence_slot};
 ghost use Rattle.profile.specs.rooms.Revisions as revisions;
 ghost use Rattle.profile.specs.rooms.Rooms.{Book};
 ghost use Rattle.profile.specs.rooms.Kept.{Replies};
@@ -13,13 +13,13 @@ ghost use Rattle.room_books.specs.declared.kept.Meeting.{Meeting};
 ghost use Rattle.room_books.specs.Views.{outcome_of};
 ghost use Rattle.room_books.specs.Takings.{answers_then, claims_said, octets_in, IsMade, OutcomeDated};
 ghost use Rattle.room_books.specs.Representation.{AreFitting, IsOwn, Meets, SlotDated};
-ghost use Rattle.room_books.specs.BySlot.{AreBySlot};
+ghost use Rattle.room_books.specs.BySlot.{AreAnswersBySlot};
 ghost use Rattle.room_books.specs.Replying.{AreShown, CanTell, AllTell, IsEventIn, IsReplyOf, ShowsGiven, WritesAnswers};
 
 use crate::answer::LimitKind;
 use crate::claim::Claim;
 use crate::kept::Changes;
-use crate::meeting::{Given, Outcome};
+use crate::meeting::{Outcome, PartAnswer};
 use crate::slots::answer_after;
 use clash_cert::Clash;
 use ical_values::{Address, Stamp};
@@ -36,10 +36,10 @@ pub fn reply_to(
     room: &Address,
     claims: &[Claim],
     held: &Together<'_>,
-    before: &[Given],
+    before: &[PartAnswer],
     changes: &Changes,
 ) -> Result<Option<Vec<u8>>, AllocError>
-    requires { AreBySlot before.now }
+    requires { AreAnswersBySlot before.now }
     ensures { IfOk result (λ reply. (key : MeetingKey) (own : Book) (meeting : Meeting) → AreFitting key (claims_said claims.now)
         → IsOwn key own
         → IsMade held.now (answers_then before.now changes.now) meeting → Meets own key meeting
@@ -75,10 +75,10 @@ fn reply_of(
     alloc: Global,
     room: &Address,
     shown: &[&Claim],
-    before: &[Given],
+    before: &[PartAnswer],
     changes: &Changes,
 ) -> Result<Vec<u8>, AllocError>
-    requires { AreBySlot before.now }
+    requires { AreAnswersBySlot before.now }
     ensures { IfOk result (λ octets. AllTell (answers_then before.now changes.now) shown.now
         → IsReplyOf (address_octets room.now) (answers_then before.now changes.now) shown.now octets.items) }
 {
@@ -93,10 +93,10 @@ fn write_answers(
     object: &mut ObjectWriter,
     room: &Address,
     shown: &[&Claim],
-    before: &[Given],
+    before: &[PartAnswer],
     changes: &Changes,
 ) -> Result<(), AllocError>
-    requires { AreBySlot before.now }
+    requires { AreAnswersBySlot before.now }
     ensures { OnOk result (AllTell (answers_then before.now changes.now) shown.now → WritesAnswers (address_octets room.now) (answers_then before.now changes.now) shown.now object.old object.new) }
 {
     for claim in shown {
@@ -110,10 +110,10 @@ fn write_answer(
     object: &mut ObjectWriter,
     room: &Address,
     part: &Part,
-    before: &[Given],
+    before: &[PartAnswer],
     changes: &Changes,
 ) -> Result<(), AllocError>
-    requires { AreBySlot before.now }
+    requires { AreAnswersBySlot before.now }
     ensures { OnOk result (CanTell (answers_then before.now changes.now) (part_of part.now) → WritesLines object.old object.new (ShowsGiven (address_octets room.now) (answers_then before.now changes.now) (part_of part.now))) }
 {
     let Some(event) = event_of(room, part, before, changes) else {
@@ -127,10 +127,10 @@ fn write_answer(
 fn event_of<'a>(
     room: &'a Address,
     part: &'a Part,
-    before: &'a [Given],
+    before: &'a [PartAnswer],
     changes: &'a Changes,
 ) -> Option<ReplyEvent<'a>>
-    requires { AreBySlot before.now }
+    requires { AreAnswersBySlot before.now }
     ensures event { IfSome result (IsEventIn (address_octets room.now) (answers_then before.now changes.now) (part_of part.now)) }
     ensures none { IfNone result (CanTell (answers_then before.now changes.now) (part_of part.now) → ⊥) }
 {

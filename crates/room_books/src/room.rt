@@ -18,14 +18,14 @@ ghost use Rattle.profile.specs.rooms.Rooms as rooms;
 ghost use Rattle.profile.specs.rooms.Rooms.{Book, empty_book};
 ghost use Rattle.profile.specs.rooms.Kept.{kept_certificate, IsKeptCalendar, Refreshes, Replies};
 ghost use Rattle.room_books.specs.Instants.{AreSeparate, IsParted, Shifts};
-ghost use Rattle.room_books.specs.Views.{same_key, all_confirmed, all_singles, booked_list, confirmed_at, singles_by, others, AreAllApart, IsKeyOf};
+ghost use Rattle.room_books.specs.Views.{same_key, all_confirmed, all_singles, instance_list, confirmed_at, singles_by, others, AreAllApart, IsKeyOf};
 ghost use Rattle.room_books.specs.Views.{all_recurring, all_series, beside, in_room, other_recurring, recurring_at, series_at, series_by, AreFewer, AreRecurring, IsClearIn, MayJoin};
 ghost use Rattle.room_books.specs.Recurrings.{recurring_said, AreAllOf, AreClearBeside, AreNewClear};
 ghost use Rattle.cal_events.specs.declared.instance.Single.{Single};
 ghost use Rattle.room_books.specs.Timelines.{IsTimelineOf};
 ghost use Rattle.room_books.specs.Takings.{answers_by, answers_then, claims_said, held_after, kept_then, kind_view, octets_in, parts_said, refresh_octets};
 ghost use Rattle.room_books.specs.Takings.{reply_octets};
-ghost use Rattle.room_books.specs.BySlot.{AreBySlot};
+ghost use Rattle.room_books.specs.BySlot.{AreAnswersBySlot};
 ghost use Rattle.std.specs.List.Sorted.{IsSortedByKey};
 ghost use Rattle.itip_order.specs.Parts.{slot_of};
 ghost use Rattle.profile.specs.rooms.Revisions.{slot_cmp};
@@ -37,16 +37,16 @@ use crate::claim::Claim;
 use crate::claims::claims_of;
 use crate::confirming::{count_series, kept_series, series_of, singles_of};
 use crate::decide::{
-    MOST_SERIES, Meetings, Shared, busy_beside_series, clash_between, decide, keys_differ,
+    MOST_SERIES, Meetings, SharedInstant, busy_beside_series, clash_between, decide, keys_differ,
 };
 use crate::gone::Gone;
 use crate::kept::{Changes, Meeting};
-use crate::meeting::{Given, MeetingKey, Outcome};
+use crate::meeting::{MeetingKey, Outcome, PartAnswer};
 use crate::recurring::{Recurring, clash_from, push_all, single_beside};
 use crate::refresh::refresh_to;
 use crate::reply::reply_to;
 use crate::slots::{answers_of, slots_of};
-use crate::taking::{Kept, Views, candidates, decided, held_with, is_accept, parts_of};
+use crate::taking::{AnswersKept, Views, candidates, decided, held_with, is_accept, parts_of};
 use crate::texts::{calendar_of, certificate_octets};
 use crate::timeline::Timeline;
 use cal_events::{Series, Single};
@@ -326,9 +326,9 @@ impl Room {
     }
 
     /// The answers that a meeting has; none where nothing of it was ever taken.
-    fn answers_before(&self, key: &MeetingKey) -> &[Given]
+    fn answers_before(&self, key: &MeetingKey) -> &[PartAnswer]
         ensures are { result.now ≡ answers_by (lookup (same_key key.now) self.now.meetings.entries) }
-        ensures by_slot { AreBySlot result.now }
+        ensures by_slot { AreAnswersBySlot result.now }
     {
         match self.meetings.get(key) {
             Some(meeting) => &meeting.answers,
@@ -366,7 +366,7 @@ impl Room {
             after: held,
         };
         let slots = slots_of(self.alloc, claims)?;
-        let Kept { lost, left, gone } = views.kept(self.alloc, first, &slots)?;
+        let AnswersKept { lost, left, gone } = views.kept(self.alloc, first, &slots)?;
         let asked = views.asked(self.alloc, claims)?;
         let answered = self.answers_after(key, held, lost, left, &asked, &gone, now)?;
         let kind = views.kind_of(claims, &answered.outcome)?;
@@ -385,7 +385,7 @@ impl Room {
         key: &MeetingKey,
         held: &Together<'_>,
         lost: Vec<Slot>,
-        left: Vec<Given>,
+        left: Vec<PartAnswer>,
         asked: &[&Claim],
         gone: &[Single],
         now: Stamp,
@@ -430,8 +430,8 @@ impl Room {
         key: &MeetingKey,
         gone: &[Single],
         lost: &[Slot],
-        left: &[Given],
-        candidates: &[Given],
+        left: &[PartAnswer],
+        candidates: &[PartAnswer],
     ) -> Result<Outcome, AllocError>
         requires rises { IsSortedByKey slot_of slot_cmp lost.now }
         requires parted { IsParted (singles_by (lookup (same_key key.now) self.now.meetings.entries)) gone.now (all_singles (kept_then (lookup (same_key key.now) self.now.meetings.entries) lost.now left.now)) }
@@ -537,11 +537,11 @@ impl Room {
         all: &[Recurring<'a>],
         from: usize,
         wanted: &[&Series],
-    ) -> Result<Option<Shared<'a>>, AllocError>
+    ) -> Result<Option<SharedInstant<'a>>, AllocError>
         requires { from ≤ length all.now }
         ensures { IfOk result (λ found. (own : List Single)
             → IsParted (singles_by (lookup (same_key key.now) self.now.meetings.entries)) gone.now own
-            → AreNewClear (others key.now self.now.meetings.entries ++ booked_list key.now own) all.now from (map (λ one. one.now) wanted.now) found) }
+            → AreNewClear (others key.now self.now.meetings.entries ++ instance_list key.now own) all.now from (map (λ one. one.now) wanted.now) found) }
     {
         if wanted.is_empty() {
             return Ok(None);

@@ -4,7 +4,7 @@ ghost use Rattle.std.specs.Prelude.{◌≡◌, ◌≢◌, false, List, Some, IfO
 ghost use Rattle.std.specs.Option.{option_to_list};
 ghost use Rattle.itip_order.specs.Parts.{part_of, slot_of};
 ghost use Rattle.itip_order.specs.Registers.{RepresentsHistory};
-ghost use Rattle.profile.specs.checker.Instances.{Booked};
+ghost use Rattle.profile.specs.checker.Instances.{Instance};
 ghost use Rattle.profile.specs.events.Starts.{IsInstance};
 ghost use Rattle.profile.specs.rooms.Revisions as revisions;
 ghost use Rattle.profile.specs.rooms.Rooms as rooms;
@@ -116,7 +116,7 @@ pub fn hides_start(
 
 /// Whether a part of this slot in the view hides a start of a part's series.
 fn hides_one(held: &Together<'_>, part: &Part, slot: Slot, series: &Series) -> bool
-    ensures { result ≡ false → (history : List revisions.Part) → RepresentsHistory held.now history → (booked : Booked) → IsInstance (series_said series.now) booked
+    ensures { result ≡ false → (history : List revisions.Part) → RepresentsHistory held.now history → (booked : Instance) → IsInstance (series_said series.now) booked
         → slot_of slot ≡ revisions.At booked.key.slot → rooms.is_hidden history (part_of part.now) booked ≡ false }
 {
     cal_events::known_by_start();
@@ -141,7 +141,7 @@ fn hidden_start(held: &Together<'_>, part: &Part, slot: Slot) -> Option<i64>
 
 /// Whether a series starts at an instant. It jumps there.
 fn has_start(series: &Series, start: i64) -> bool
-    ensures { result ≡ false → (booked : Booked) → IsInstance (series_said series.now) booked → booked.start ≢ start }
+    ensures { result ≡ false → (booked : Instance) → IsInstance (series_said series.now) booked → booked.start ≢ start }
 {
     match series.starts(start).next() {
         Some(instance) => instance.start == start,

@@ -4,15 +4,15 @@ ghost use Rattle.std.specs.Prelude.{◌≡◌, ◌++◌, filter, IfOk, OnOk, IfS
 ghost use Rattle.std.specs.List.Sorted.{IsPermutation, IsSortedByKey};
 ghost use Rattle.profile.specs.rooms.Revisions.{slot_cmp};
 ghost use Rattle.itip_order.specs.Parts.{slot_of};
-ghost use Rattle.room_books.specs.declared.meeting.Given.{Given};
+ghost use Rattle.room_books.specs.declared.meeting.PartAnswer.{PartAnswer};
 ghost use Rattle.room_books.specs.Takings.{answers_then, parts_said};
 ghost use Rattle.room_books.specs.Touching as touching;
 ghost use Rattle.room_books.specs.Touching.{AllTouch};
-ghost use Rattle.room_books.specs.BySlot.{AreBySlot, givens, is_at, is_below, is_up_to, taken_at, IsPlace};
+ghost use Rattle.room_books.specs.BySlot.{AreAnswersBySlot, givens, is_at, is_below, is_up_to, taken_at, IsSplitAt};
 
 use crate::claim::Claim;
 use crate::kept::Changes;
-use crate::meeting::Given;
+use crate::meeting::PartAnswer;
 use itip_order::Slot;
 use std::alloc::{AllocError, Global};
 
@@ -45,24 +45,24 @@ pub fn is_touched(sorted: &[Slot], slot: Slot) -> bool
 }
 
 /// The place of the first answer of a slot that isn't below, among answers by their slots.
-pub fn place_before(answers: &[Given], slot: Slot) -> usize
-    requires { AreBySlot answers.now }
-    ensures { IsPlace (is_below (slot_of slot)) answers.now result }
+pub fn place_before(answers: &[PartAnswer], slot: Slot) -> usize
+    requires { AreAnswersBySlot answers.now }
+    ensures { IsSplitAt (is_below (slot_of slot)) answers.now result }
 {
     answers.partition_point(|given| given.slot.cmp(&slot).is_lt())
 }
 
 /// The place of the first answer of a slot above, among answers by their slots.
-pub fn place_past(answers: &[Given], slot: Slot) -> usize
-    requires { AreBySlot answers.now }
-    ensures { IsPlace (is_up_to (slot_of slot)) answers.now result }
+pub fn place_past(answers: &[PartAnswer], slot: Slot) -> usize
+    requires { AreAnswersBySlot answers.now }
+    ensures { IsSplitAt (is_up_to (slot_of slot)) answers.now result }
 {
     answers.partition_point(|given| given.slot.cmp(&slot).is_le())
 }
 
 /// The answers of a slot, among answers by their slots.
-pub fn answers_of(answers: &[Given], slot: Slot) -> &[Given]
-    requires { AreBySlot answers.now }
+pub fn answers_of(answers: &[PartAnswer], slot: Slot) -> &[PartAnswer]
+    requires { AreAnswersBySlot answers.now }
     ensures { result.now ≡ filter (is_at (slot_of slot)) answers.now }
 {
     let from = place_before(answers, slot);
@@ -74,11 +74,11 @@ pub fn answers_of(answers: &[Given], slot: Slot) -> &[Given]
 /// The answers of these slots, among answers by theirs: each slot is looked for after what was found before.
 pub fn answers_at<'a>(
     alloc: Global,
-    answers: &'a [Given],
+    answers: &'a [PartAnswer],
     slots: &[Slot],
-) -> Result<Vec<&'a Given>, AllocError>
+) -> Result<Vec<&'a PartAnswer>, AllocError>
     requires slots { IsSortedByKey slot_of slot_cmp slots.now }
-    requires answers { AreBySlot answers.now }
+    requires answers { AreAnswersBySlot answers.now }
     ensures { IfOk result (λ are. givens are.items ≡ taken_at slots.now answers.now) }
 {
     let mut are = Vec::new(alloc);
@@ -92,7 +92,7 @@ pub fn answers_at<'a>(
 }
 
 /// Puts answers after others.
-fn push_all<'a>(are: &mut Vec<&'a Given>, more: &'a [Given]) -> Result<(), AllocError>
+fn push_all<'a>(are: &mut Vec<&'a PartAnswer>, more: &'a [PartAnswer]) -> Result<(), AllocError>
     ensures { OnOk result (givens are.new.items ≡ givens are.old.items ++ more.now) }
 {
     for given in more {
@@ -102,10 +102,10 @@ fn push_all<'a>(are: &mut Vec<&'a Given>, more: &'a [Given]) -> Result<(), Alloc
 }
 
 /// The answer to the part of a slot, among answers by their slots.
-pub fn answer_of(answers: &[Given], slot: Slot) -> Option<&Given>
-    requires { AreBySlot answers.now }
+pub fn answer_of(answers: &[PartAnswer], slot: Slot) -> Option<&PartAnswer>
+    requires { AreAnswersBySlot answers.now }
     ensures found { IfSome result (λ given. Contains answers.now given.now × (slot_of given.now.slot ≡ slot_of slot)) }
-    ensures none { IfNone result ((given : Given) → Contains answers.now given → slot_of given.slot ≡ slot_of slot → ⊥) }
+    ensures none { IfNone result ((given : PartAnswer) → Contains answers.now given → slot_of given.slot ≡ slot_of slot → ⊥) }
 {
     let own = answers_of(answers, slot);
     let Some(given) = own.first() else {
@@ -115,10 +115,14 @@ pub fn answer_of(answers: &[Given], slot: Slot) -> Option<&Given>
 }
 
 /// The answer to the part of a slot, where these are the answers before a message and what it does to them.
-pub fn answer_after<'a>(before: &'a [Given], changes: &'a Changes, slot: Slot) -> Option<&'a Given>
-    requires { AreBySlot before.now }
+pub fn answer_after<'a>(
+    before: &'a [PartAnswer],
+    changes: &'a Changes,
+    slot: Slot,
+) -> Option<&'a PartAnswer>
+    requires { AreAnswersBySlot before.now }
     ensures found { IfSome result (λ given. Contains (answers_then before.now changes.now) given.now × (slot_of given.now.slot ≡ slot_of slot)) }
-    ensures none { IfNone result ((given : Given) → Contains (answers_then before.now changes.now) given → slot_of given.slot ≡ slot_of slot → ⊥) }
+    ensures none { IfNone result ((given : PartAnswer) → Contains (answers_then before.now changes.now) given → slot_of given.slot ≡ slot_of slot → ⊥) }
 {
     if let Some(given) = answer_of(&changes.new, slot) {
         return Some(given);

@@ -13,19 +13,19 @@ ghost use Rattle.room_books.specs.Touching as touching;
 ghost use Rattle.itip_order.specs.Registers.{RepresentsHistory};
 ghost use Rattle.room_books.specs.Views.{outcome_of, all_singles, all_series, series_by, singles_by, AreFewer};
 ghost use Rattle.std.specs.Option.{option_to_list};
-ghost use Rattle.room_books.specs.BySlot.{AreBySlot, givens};
+ghost use Rattle.room_books.specs.BySlot.{AreAnswersBySlot, givens};
 ghost use Rattle.room_books.specs.Instants.{IsPartOf, IsParted, IsSplit, Sheds};
 ghost use Rattle.room_books.specs.Touching.{IsUntouched};
-ghost use Rattle.room_books.specs.declared.meeting.Given.{Given};
+ghost use Rattle.room_books.specs.declared.meeting.PartAnswer.{PartAnswer};
 ghost use Rattle.room_books.specs.Representation.{KeepsAll, KeepsSome};
-ghost use Rattle.profile.specs.checker.Instances.{Booked};
-ghost use Rattle.room_books.specs.Takings.{LeavesAll, HasHistory, held_after, AreAsked, booked_in, left_in, IsLeftOf, IsAccepted, IsDecided, IsKindOf};
-ghost use Rattle.room_books.specs.Takings.{IsLeftAlone, IsStill, kept_then, kind_view, parts_said, series_still, singles_left};
+ghost use Rattle.profile.specs.checker.Instances.{Instance};
+ghost use Rattle.room_books.specs.Takings.{LeavesAll, HasHistory, held_after, AreAsked, part_instance, left_in, KeepsWhatIsLeft, IsAccepted, IsDecided, IsKindOf};
+ghost use Rattle.room_books.specs.Takings.{IsLeftAlone, IsAnswerAfter, kept_then, kind_view, parts_said, series_still, singles_of_left};
 
 use crate::answer::Kind;
 use crate::claim::Claim;
 use crate::kept::Meeting;
-use crate::meeting::{Given, Outcome};
+use crate::meeting::{Outcome, PartAnswer};
 use crate::series::{hides_start, series_beside, series_left};
 use crate::slots::{answers_at, answers_of, is_touched};
 use cal_events::Single;
@@ -35,11 +35,11 @@ use std::alloc::{AllocError, Global};
 
 /// What becomes of the answers of a meeting before anything new is decided.
 #[derive(Drop)]
-pub struct Kept {
+pub struct AnswersKept {
     /// The slots of those that don't stay as they are, in order.
     pub lost: Vec<Slot>,
     /// What is left of them where their parts stay in the view.
-    pub left: Vec<Given>,
+    pub left: Vec<PartAnswer>,
     /// The instances that no answer confirms any more.
     pub gone: Vec<Single>,
 }
@@ -190,7 +190,12 @@ impl<'a> Views<'a> {
 
     /// What becomes of the answers where parts of these slots were taken: those to parts that left the view go, and of those that confirm
     /// less than before that is left; the others stay. The part is one of the meeting. Only what the message touches is looked at.
-    pub fn kept(&self, alloc: Global, part: &Part, slots: &[Slot]) -> Result<Kept, AllocError>
+    pub fn kept(
+        &self,
+        alloc: Global,
+        part: &Part,
+        slots: &[Slot],
+    ) -> Result<AnswersKept, AllocError>
         requires { IsSortedByKey slot_of slot_cmp slots.now }
         ensures kept { IfOk result (λ kept.
             KeepsAll (part_of part.now) slots.now (option_copied self.now.before) self.now.after.now
@@ -203,7 +208,7 @@ impl<'a> Views<'a> {
         ensures rises { IfOk result (λ kept. IsSortedByKey slot_of slot_cmp kept.lost.items) }
     {
         let Some(meeting) = self.before else {
-            return Ok(Kept {
+            return Ok(AnswersKept {
                 lost: Vec::new(alloc),
                 left: Vec::new(alloc),
                 gone: Vec::new(alloc),
@@ -226,8 +231,8 @@ fn left_at(
     part: &Part,
     slots: &[Slot],
     lost: Vec<Slot>,
-    out: &[&Given],
-) -> Result<Kept, AllocError>
+    out: &[&PartAnswer],
+) -> Result<AnswersKept, AllocError>
     requires { IsSortedByKey slot_of slot_cmp slots.now }
     ensures lost { IfOk result (λ kept. kept.lost ≡ lost) }
     ensures left { IfOk result (λ kept. KeepsSome (part_of part.now) slots.now before.now after.now (givens out.now) kept.left.items) }
@@ -242,7 +247,7 @@ fn left_at(
         };
         left.push(still)?;
     }
-    Ok(Kept { lost, left, gone })
+    Ok(AnswersKept { lost, left, gone })
 }
 
 /// The slots of the answers that don't stay as they are where parts of these slots were taken, in order.
@@ -252,12 +257,12 @@ fn lost(
     after: &Together<'_>,
     part: &Part,
     slots: &[Slot],
-    answers: &[Given],
+    answers: &[PartAnswer],
 ) -> Result<Vec<Slot>, AllocError>
     requires slots { IsSortedByKey slot_of slot_cmp slots.now }
-    requires answers { AreBySlot answers.now }
+    requires answers { AreAnswersBySlot answers.now }
     ensures rises { IfOk result (λ lost. IsSortedByKey slot_of slot_cmp lost.items) }
-    ensures others { IfOk result (λ lost. (given : Given) → Contains answers.now given → touching.is_touched lost.items (slot_of given.slot) ≡ false
+    ensures others { IfOk result (λ lost. (given : PartAnswer) → Contains answers.now given → touching.is_touched lost.items (slot_of given.slot) ≡ false
         → IsLeftAlone slots.now before.now after.now (part_of part.now) given) }
 {
     let looked = looked_at(alloc, slots, answers)?;
@@ -272,11 +277,11 @@ fn lost(
 }
 
 /// The slots of the answers that parts of these slots can change: all of them where the whole is among these.
-fn looked_at(alloc: Global, slots: &[Slot], answers: &[Given]) -> Result<Vec<Slot>, AllocError>
+fn looked_at(alloc: Global, slots: &[Slot], answers: &[PartAnswer]) -> Result<Vec<Slot>, AllocError>
     requires slots { IsSortedByKey slot_of slot_cmp slots.now }
-    requires answers { AreBySlot answers.now }
+    requires answers { AreAnswersBySlot answers.now }
     ensures rises { IfOk result (λ looked. IsSortedByKey slot_of slot_cmp looked.items) }
-    ensures others { IfOk result (λ looked. (given : Given) → Contains answers.now given → touching.is_touched looked.items (slot_of given.slot) ≡ false
+    ensures others { IfOk result (λ looked. (given : PartAnswer) → Contains answers.now given → touching.is_touched looked.items (slot_of given.slot) ≡ false
         → IsUntouched slots.now (slot_of given.slot)) }
 {
     if is_touched(slots, Slot::Whole) {
@@ -290,7 +295,7 @@ fn looked_at(alloc: Global, slots: &[Slot], answers: &[Given]) -> Result<Vec<Slo
 }
 
 /// The slots of answers.
-fn slots_in(alloc: Global, answers: &[Given]) -> Result<Vec<Slot>, AllocError>
+fn slots_in(alloc: Global, answers: &[PartAnswer]) -> Result<Vec<Slot>, AllocError>
     ensures { IfOk result (λ slots. slots.items ≡ map (λ given. given.slot) answers.now) }
 {
     let mut slots = Vec::new(alloc);
@@ -306,13 +311,13 @@ fn stays(
     after: &Together<'_>,
     part: &Part,
     slots: &[Slot],
-    answers: &[Given],
+    answers: &[PartAnswer],
     slot: Slot,
 ) -> bool
     requires slots { IsSortedByKey slot_of slot_cmp slots.now }
-    requires answers { AreBySlot answers.now }
-    ensures { IsTrue result → (given : Given) → Contains answers.now given → slot_of given.slot ≡ slot_of slot
-        → IsStill slots.now before.now after.now (part_of part.now) given (Some given) }
+    requires answers { AreAnswersBySlot answers.now }
+    ensures { IsTrue result → (given : PartAnswer) → Contains answers.now given → slot_of given.slot ≡ slot_of slot
+        → IsAnswerAfter slots.now before.now after.now (part_of part.now) given (Some given) }
 {
     let Some(stayed) = before.part_in(part, slot) else {
         return false;
@@ -324,9 +329,9 @@ fn stays(
 }
 
 /// Whether no part of these slots in the view hides an instance that these answers to a part confirm.
-fn confirms_all(held: &Together<'_>, part: &Part, slots: &[Slot], answers: &[Given]) -> bool
+fn confirms_all(held: &Together<'_>, part: &Part, slots: &[Slot], answers: &[PartAnswer]) -> bool
     requires { IsSortedByKey slot_of slot_cmp slots.now }
-    ensures { IsTrue result → (history : List revisions.Part) → RepresentsHistory held.now history → (given : Given) → Contains answers.now given
+    ensures { IsTrue result → (history : List revisions.Part) → RepresentsHistory held.now history → (given : PartAnswer) → Contains answers.now given
         → LeavesAll slots.now history (part_of part.now) given }
 {
     for given in answers {
@@ -376,12 +381,12 @@ fn still(
     after: &Together<'_>,
     part: &Part,
     slots: &[Slot],
-    given: &Given,
+    given: &PartAnswer,
     gone: &mut Vec<Single>,
-) -> Result<Option<Given>, AllocError>
+) -> Result<Option<PartAnswer>, AllocError>
     requires { IsSortedByKey slot_of slot_cmp slots.now }
-    ensures still { IfOk result (IsStill slots.now before.now after.now (part_of part.now) given.now) }
-    ensures sheds { IfOk result (λ still. Sheds given.now.singles.items (singles_left still) gone.old.items gone.new.items) }
+    ensures still { IfOk result (IsAnswerAfter slots.now before.now after.now (part_of part.now) given.now) }
+    ensures sheds { IfOk result (λ still. Sheds given.now.singles.items (singles_of_left still) gone.old.items gone.new.items) }
     ensures fewer { IfOk result (λ still. AreFewer (option_to_list given.now.series) (series_still still)) }
 {
     let Some(own) = before.part_in(part, given.slot) else {
@@ -395,7 +400,7 @@ fn still(
     Ok(Some(given.left(alloc, after, own, slots, gone)?))
 }
 
-impl Given {
+impl PartAnswer {
     /// Whether no part of these slots in the view hides an instance that this answer to a part confirms.
     fn confirms_all(&self, held: &Together<'_>, part: &Part, slots: &[Slot]) -> bool
         requires { IsSortedByKey slot_of slot_cmp slots.now }
@@ -416,16 +421,16 @@ impl Given {
         part: &Part,
         slots: &[Slot],
         gone: &mut Vec<Single>,
-    ) -> Result<Given, AllocError>
+    ) -> Result<PartAnswer, AllocError>
         requires { IsSortedByKey slot_of slot_cmp slots.now }
-        ensures left { IfOk result (IsLeftOf slots.now held.now (part_of part.now) self.now) }
+        ensures left { IfOk result (KeepsWhatIsLeft slots.now held.now (part_of part.now) self.now) }
         ensures sheds { IfOk result (λ left. Sheds self.now.singles.items left.singles.items gone.old.items gone.new.items) }
         ensures fewer { IfOk result (λ left. AreFewer (option_to_list self.now.series) (option_to_list left.series)) }
     {
         let outcome = self.outcome.clone()?;
         let singles = left_beside(alloc, held, part, slots, &self.singles, gone)?;
         let series = series_beside(alloc, held, part, slots, &self.series)?;
-        Ok(Given {
+        Ok(PartAnswer {
             slot: self.slot,
             moment: self.moment,
             outcome,
@@ -440,12 +445,12 @@ impl Given {
         held: &Together<'_>,
         claim: &Claim,
         moment: Stamp,
-    ) -> Result<Given, AllocError>
+    ) -> Result<PartAnswer, AllocError>
         ensures { IfOk result (IsAccepted held.now claim.now moment) }
     {
         let singles = left_of(alloc, held, &claim.part, &claim.singles)?;
         let series = series_left(alloc, held, &claim.part, &claim.series)?;
-        Ok(Given {
+        Ok(PartAnswer {
             slot: claim.part.slot,
             moment,
             outcome: Outcome::Accepted,
@@ -455,12 +460,12 @@ impl Given {
     }
 
     /// The same answer with what was decided: it confirms something only where that is to accept it.
-    fn decided(self, alloc: Global, outcome: &Outcome) -> Result<Given, AllocError>
+    fn decided(self, alloc: Global, outcome: &Outcome) -> Result<PartAnswer, AllocError>
         ensures { IfOk result (IsDecided self outcome.now) }
     {
         let outcome = outcome.clone()?;
         if is_accept(&outcome) {
-            return Ok(Given {
+            return Ok(PartAnswer {
                 slot: self.slot,
                 moment: self.moment,
                 outcome,
@@ -468,7 +473,7 @@ impl Given {
                 series: self.series,
             });
         }
-        Ok(Given {
+        Ok(PartAnswer {
             slot: self.slot,
             moment: self.moment,
             outcome,
@@ -532,14 +537,14 @@ fn left_beside(
 
 /// Whether another part in the view hides an instance of a part.
 fn is_hidden(held: &Together<'_>, part: &Part, single: Single) -> bool
-    ensures { (history : List revisions.Part) → RepresentsHistory held.now history → result ≡ rooms.is_hidden history (part_of part.now) (booked_in (part_of part.now) single) }
+    ensures { (history : List revisions.Part) → RepresentsHistory held.now history → result ≡ rooms.is_hidden history (part_of part.now) (part_instance (part_of part.now) single) }
 {
     is_start_hidden(held, part, single.slot)
 }
 
 /// Whether another part in the view hides the instance of a part with this original start.
 pub fn is_start_hidden(held: &Together<'_>, part: &Part, start: i64) -> bool
-    ensures { (history : List revisions.Part) → RepresentsHistory held.now history → (booked : Booked) → booked.key.slot ≡ start
+    ensures { (history : List revisions.Part) → RepresentsHistory held.now history → (booked : Instance) → booked.key.slot ≡ start
         → result ≡ rooms.is_hidden history (part_of part.now) booked }
 {
     match part.slot {
@@ -552,7 +557,7 @@ pub fn is_start_hidden(held: &Together<'_>, part: &Part, start: i64) -> bool
 fn is_hidden_by(slots: &[Slot], held: &Together<'_>, part: &Part, single: Single) -> bool
     requires { IsSortedByKey slot_of slot_cmp slots.now }
     ensures { (history : List revisions.Part) → RepresentsHistory held.now history
-        → result ≡ (touching.is_touched slots.now (revisions.At single.slot) && rooms.is_hidden history (part_of part.now) (booked_in
+        → result ≡ (touching.is_touched slots.now (revisions.At single.slot) && rooms.is_hidden history (part_of part.now) (part_instance
         (part_of part.now) single)) }
 {
     is_touched(slots, Slot::At(single.slot)) && is_hidden(held, part, single)
@@ -564,12 +569,12 @@ pub fn candidates(
     held: &Together<'_>,
     asked: &[&Claim],
     moment: Stamp,
-) -> Result<Vec<Given>, AllocError>
+) -> Result<Vec<PartAnswer>, AllocError>
     ensures { IfOk result (λ given. AllZip (λ claim given. IsAccepted held.now claim.now moment given) asked.now given.items) }
 {
     let mut given = Vec::new(alloc);
     for claim in asked {
-        given.push(Given::accepted(alloc, held, claim, moment)?)?;
+        given.push(PartAnswer::accepted(alloc, held, claim, moment)?)?;
     }
     Ok(given)
 }
@@ -577,9 +582,9 @@ pub fn candidates(
 /// The same answers with what was decided.
 pub fn decided(
     alloc: Global,
-    candidates: Vec<Given>,
+    candidates: Vec<PartAnswer>,
     outcome: &Outcome,
-) -> Result<Vec<Given>, AllocError>
+) -> Result<Vec<PartAnswer>, AllocError>
     ensures { IfOk result (λ given. AllZip (λ candidate given. IsDecided candidate outcome.now given) candidates.items given.items) }
 {
     let mut given = Vec::new(alloc);

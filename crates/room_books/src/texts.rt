@@ -5,17 +5,17 @@ ghost use Rattle.std.specs.List.Sorted.{IsPermutation, IsSortedByKey};
 ghost use Rattle.indexmap.specs.IndexMap.{values};
 ghost use Rattle.ical_values.specs.Octets.{address_octets};
 ghost use Rattle.itip_order.specs.Parts.{part_of, slot_of};
-ghost use Rattle.clash_cert.specs.Makings.{HasCounts, IsCertificate};
+ghost use Rattle.clash_cert.specs.Makings.{MadeHasCounts, IsCertificate};
 ghost use Rattle.profile.specs.checker.Certificates.{text_of};
 ghost use Rattle.profile.specs.rooms.Kept.{IsKeptCalendar};
 ghost use Rattle.profile.specs.rooms.Revisions.{is_whole, slot_cmp};
 ghost use Rattle.profile.specs.rooms.Rooms.{Book};
 ghost use Rattle.room_books.specs.Representation.{Represents};
-ghost use Rattle.room_books.specs.Keeping.{WritesEntries, WritesHead, accepted_slots, all_kept, entry_of, has_slot, kept_in};
+ghost use Rattle.room_books.specs.Keeping.{WritesEntries, WritesHead, accepted_slots, all_kept, kept_entry_of, has_slot, kept_in};
 
 use crate::decide::{Meetings, keys_differ};
 use crate::kept::Meeting;
-use crate::meeting::Given;
+use crate::meeting::PartAnswer;
 use crate::reply::recurrence_of;
 use crate::taking::is_accept;
 use clash_cert::Made;
@@ -50,7 +50,7 @@ pub(crate) fn calendar_of(
 
 /// The octets of what was made, where it is a certificate.
 pub(crate) fn certificate_octets(alloc: Global, made: &Made) -> Result<Vec<u8>, AllocError>
-    ensures { IfOk result (λ octets. (singles series : ℕ) → IsCertificate made.now → HasCounts singles series made.now
+    ensures { IfOk result (λ octets. (singles series : ℕ) → IsCertificate made.now → MadeHasCounts singles series made.now
         → octets.items ≡ text_of (record { singles = singles; series = series })) }
 {
     let mut octets = Vec::new(alloc);
@@ -109,7 +109,7 @@ fn write_kept(
     room: &Address,
 ) -> Result<(), AllocError>
     ensures { OnOk result
-        (WritesEntries (address_octets room.now) (entry_of hides shown (part_of part.now)) zones.old zones.new object.old object.new) }
+        (WritesEntries (address_octets room.now) (kept_entry_of hides shown (part_of part.now)) zones.old zones.new object.old object.new) }
 {
     if shown {
         return write_part(object, zones, part, room);
@@ -121,7 +121,7 @@ fn write_kept(
 }
 
 /// The slots of the answers that accept.
-fn slots_accepted(alloc: Global, answers: &[Given]) -> Result<Vec<Slot>, AllocError>
+fn slots_accepted(alloc: Global, answers: &[PartAnswer]) -> Result<Vec<Slot>, AllocError>
     ensures { IfOk result (λ slots. slots.items ≡ accepted_slots answers.now) }
 {
     let mut slots = Vec::new(alloc);

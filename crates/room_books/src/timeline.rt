@@ -4,7 +4,7 @@ ghost use Rattle.std.specs.Prelude.{◌≡◌, ◌<◌, ◌≤◌, ◌+◌, ◌�
 ghost use Rattle.std.specs.List.{find, take_while};
 ghost use Rattle.cal_events.specs.declared.instance.Single.{Single};
 ghost use Rattle.room_books.specs.Timelines.{AreBusy, HoldsInstants, IsPlaceAfter, AreTaken, IsSharedIn, IsFreeAmong, AreAt, IsChanged};
-ghost use Rattle.room_books.specs.Timelines.{IsShift, IsTaken, IsPut, IsTimelineOf, is_leaving, stays, starts_before, busy_in, has_busy};
+ghost use Rattle.room_books.specs.Timelines.{IsShift, IsTakenOut, IsPut, IsTimelineOf, is_leaving, stays, starts_before, busy_in, has_busy};
 ghost use Rattle.room_books.specs.Instants.{AreSeparate};
 ghost use Rattle.room_books.specs.Views.{Recurs};
 ghost use Rattle.std.specs.Vec.{vec_len, vec_capacity};
@@ -160,7 +160,7 @@ impl Timeline {
     fn take_out(&mut self, place: usize, single: Single)
         requires held { HoldsInstants single.span → has_busy (busy_in place single) self.old.busy.items ≡ true }
         requires counted { 1 ≤ self.old.confirmed }
-        ensures taken { IsTaken (busy_in place single) self.old.busy.items self.new.busy.items }
+        ensures taken { IsTakenOut (busy_in place single) self.old.busy.items self.new.busy.items }
         ensures confirmed { self.new.confirmed + 1 ≡ self.old.confirmed }
         ensures len { vec_len self.new.busy ≤ vec_len self.old.busy }
         ensures capacity { vec_capacity self.new.busy ≡ vec_capacity self.old.busy }

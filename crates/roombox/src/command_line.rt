@@ -2,7 +2,7 @@
 
 use clap::error::ErrorKind;
 use clap::{Arg, ArgAction, ArgMatches, Command, Error};
-use sched_cli::commands::Kept;
+use sched_cli::commands::KeptText;
 use std::alloc::{AllocError, Global};
 
 /// What a command line asks for. ROOM, N and NUMBER are still words here; CALENDAR and CERTIFICATE are paths.
@@ -13,7 +13,7 @@ pub enum Invocation<'a> {
     },
     Keep {
         room: &'a str,
-        kept: Kept,
+        kept: KeptText,
     },
     Check {
         calendar: &'a str,
@@ -259,10 +259,10 @@ fn invocation_of<'a>(matches: &ArgMatches<'a>) -> Invocation<'a> {
     }
 }
 
-fn kept_of(words: &ArgMatches<'_>) -> Kept {
+fn kept_of(words: &ArgMatches<'_>) -> KeptText {
     if words.get_flag("certificate") {
-        Kept::Certificate
+        KeptText::Certificate
     } else {
-        Kept::Calendar
+        KeptText::Calendar
     }
 }

@@ -4,7 +4,7 @@ use crate::command_line::{BadWord, Invocation, fault_of, read_words};
 use ical_lines::Fault;
 use ical_values::Address;
 use sched_box::{DeviceReader, DeviceWriter, Output};
-use sched_cli::commands::{Kept, run_check, run_keep, run_serve};
+use sched_cli::commands::{KeptText, run_check, run_keep, run_serve};
 use sched_cli::status::{USAGE, report_device, report_memory, report_too_long};
 use sched_cli::{Tally, run_expand, run_explain, run_explain_object, run_serve_report};
 use std::alloc::Global;
@@ -136,7 +136,12 @@ fn invoke_serve<R: Runtime + AllocGlobal>(rt: &R, alloc: Global, report: bool) -
     run_serve(alloc, &mut reader, &mut writer, &mut errors)
 }
 
-fn invoke_keep<R: Runtime + AllocGlobal>(rt: &R, alloc: Global, room: &Address, kept: Kept) -> u8 {
+fn invoke_keep<R: Runtime + AllocGlobal>(
+    rt: &R,
+    alloc: Global,
+    room: &Address,
+    kept: KeptText,
+) -> u8 {
     let mut errors = DeviceWriter::new(ErrorPrinter { to: rt });
     let Ok(mut reader) = DeviceReader::new(alloc, rt.reader()) else {
         return no_memory(rt);

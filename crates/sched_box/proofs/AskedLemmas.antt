@@ -12,7 +12,7 @@ use Rattle.ical_values.specs.declared.address.Address.{Address}
 use Rattle.ical_values.specs.Octets.{address_octets}
 use Rattle.cal_events.specs.declared.component.Attendee.{Attendee}
 use Rattle.cal_events.specs.Events.{attendee_of}
-use Rattle.itip_messages.specs.Messages.{is_for, component_names, cancels_for_all, method_said}
+use Rattle.itip_messages.specs.Messages.{is_component_for, component_names, cancels_for_all, method_said}
 use Rattle.itip_messages.specs.declared.room_message.RoomMessage.{RoomMessage}
 use Rattle.itip_messages.specs.declared.room_message.Method.{Method}
 use Rattle.itip_messages.specs.declared.room_message.Method.TheVariants.{Request, Add, Cancel}
@@ -148,7 +148,7 @@ names_said (x ∷ xs) room = ap (λ b. bytes_eq (address_octets x.address) room 
 
 -- what the VEVENTs so far ask
 abbrev pub asks_sofar : RoomMessage → List MessageComponent → List ℕ → Bool
-asks_sofar message components room = list_any (is_for room message) components
+asks_sofar message components room = list_any (is_component_for room message) components
 
 -- the flags after this many VEVENTs
 pub record AsksSofar (message : RoomMessage) (addresses : List (List ℕ)) (i : ℕ) (flags : List Bool) : Type 0 where
@@ -171,8 +171,8 @@ asks_more message addresses i x lines old new within is are not_all same marks s
         let components = message.components.items in
         let both = or_parts (asks_sofar message (take i components) room) (names lines room) (marks (asks_sofar message (take i components)) so.out place off) in
         let named : component_names room x ≡ false = sym (names_said lines room ∙ ap (list_any (λ a. bytes_eq a.address room)) are) ∙ both.1 in
-        let here : is_for room message (get_or components i x) ≡ false = sym (ap (is_for room message) is) ∙ ap (λ b. b || cancels_for_all message x) named ∙ not_all in
-        list_any_more (is_for room message) components i x within ∙ ap (λ b. b || is_for room message (get_or components i x)) both.0 ∙ here
+        let here : is_component_for room message (get_or components i x) ≡ false = sym (ap (is_component_for room message) is) ∙ ap (λ b. b || cancels_for_all message x) named ∙ not_all in
+        list_any_more (is_component_for room message) components i x within ∙ ap (λ b. b || is_component_for room message (get_or components i x)) both.0 ∙ here
 
 on_all : (n place : ℕ) → get_or (replicate n true) place true ≡ true
 on_all zero place = refl

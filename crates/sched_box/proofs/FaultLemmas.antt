@@ -7,12 +7,12 @@ use Rattle.std.proofs.Math.Bool.{or-true}
 use Rattle.ical_lines.specs.declared.fault.Fault.{Fault}
 use Rattle.ical_lines.specs.declared.fault.Fault.TheVariants.{Refused, Memory}
 use Rattle.ical_tree.proofs.TreeOfLemmas.{tree_of-own, spells_tree, count_tree}
-use Rattle.ical_tree.specs.Tree.{component_name, component_lines, component_children, tree_of}
+use Rattle.ical_tree.specs.Tree.{component_name, component_lines, tree_of, count_children}
 use Rattle.ical_tree.specs.Reading.{SpellsOf, calendar_has, ObjectHas}
 use Rattle.ical_tree.specs.declared.component.Component.{Component}
 use Rattle.itip_messages.specs.Readings.{ReadFault}
 use Rattle.profile.specs.text.Lines.{logical_lines, text_has}
-use Rattle.profile.specs.text.Objects.{is_calendar_name, count_inside, has_version}
+use Rattle.profile.specs.text.Objects.{is_calendar_name, has_version}
 use Rattle.profile.specs.streams.Streams.{TreeFault, ObjectFault}
 use Rattle.sched_box.specs.Objects.{kept_of}
 
@@ -35,7 +35,7 @@ tree_fault n lines c s h =
     (weaker (is_calendar_name (component_name c)) ((n == 24) && not (has_version (component_lines c))) (n == 25) (nat_lt 200 count) (has_version (component_lines c)) h)
   where
     count : ℕ
-    count = count_inside component_name component_lines component_children (codes "VEVENT") c
+    count = count_children (codes "VEVENT") c
 
     at : (a b : Bool) → ((n == 24) && not (has_version (component_lines c))) ≡ a → ((n == 25) && nat_lt 200 count) ≡ b → (a || b) ≡ true → TreeFault n lines
     at true b e f g =

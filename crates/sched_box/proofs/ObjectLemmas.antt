@@ -14,7 +14,7 @@ use Rattle.sched_box.specs.declared.fault.ServeFault.{ServeFault}
 use Rattle.sched_box.specs.declared.fault.ServeFault.TheVariants.{Read, Write, TooLong, Memory}
 use Rattle.sched_box.specs.declared.objects.Objects.{Objects}
 use Rattle.sched_box.specs.declared.objects.Piece.TheVariants.{Ended, Goes, End}
-use Rattle.sched_box.specs.Objects.{kept_of, Cuts, IsPieceEnd, IsPieceFault, LeavesMore, piece_of, TakesObject, IsStop, StopsReading}
+use Rattle.sched_box.specs.Objects.{kept_of, Cuts, IsPieceEnd, IsPieceFault, LeavesMore, piece_of, TakesNextObject, IsStop, StopsReading}
 
 -- ---- leading on
 
@@ -190,7 +190,7 @@ module _ (a b : Option (List ℕ)) (taken : List ℕ) (cutter : Cutter) (consume
       at (x ∷ xs) h = omega arith
 
   -- the object ended before an octet
-  pub whole_object : (kept : List ℕ) → kept ≡ kept_of taken → IsPieceEnd a b cutter [] Ended → TakesObject a b kept true taken
+  pub whole_object : (kept : List ℕ) → kept ≡ kept_of taken → IsPieceEnd a b cutter [] Ended → TakesNextObject a b kept true taken
   whole_object kept kept_is (next, ends, comes) = record {
     consumed = consumed;
     kept_is = kept_is;
@@ -211,7 +211,7 @@ module _ (a b : Option (List ℕ)) (taken : List ℕ) (cutter : Cutter) (consume
       rests (Some xs) (Some ys) h (more, is) = is ∙ sym (ends_rest cutter next more ends) ∙ sym (ap (rest_after cutter) is) ∙ sym (after_is ys) ∙ sym (ap after_object h)
 
   -- the input ended
-  pub last_object : (kept : List ℕ) (found : Bool) → kept ≡ kept_of taken → OnSome a (IsAtEnd b) → found ≡ cutter.begun → TakesObject a b kept found taken
+  pub last_object : (kept : List ℕ) (found : Bool) → kept ≡ kept_of taken → OnSome a (IsAtEnd b) → found ≡ cutter.begun → TakesNextObject a b kept found taken
   last_object kept found kept_is end found_is = record {
     consumed = consumed;
     kept_is = kept_is;

@@ -6,10 +6,10 @@ use Rattle.memchr.specs.Find.{IsFirstByte, is_byte}
 use Rattle.std.proofs.lemmas.List.{append_assoc, append_cancel_right, get_or-take, take_all, take_more}
 use Rattle.std.specs.Io.KnownBytes.{Consumes, IsAtEnd}
 use Rattle.std.proofs.KnownBytes.{Consumes-trans}
-use Rattle.profile.specs.streams.Streams.{Setting, SaysSettings, by_end, by_lf, by_crlf, last, with_lf, with_crlf, Hosts, IsPreamble}
+use Rattle.profile.specs.streams.Streams.{Setting, SaysSettings, by_end, by_lf, by_crlf, last, with_lf, with_crlf, Config, IsPreamble}
 use Rattle.sched_box.specs.declared.preamble.LineState.{LineState}
 use Rattle.sched_box.specs.declared.preamble.LineState.TheVariants.{Start, Return, Inside, Closed}
-use Rattle.sched_box.specs.Preamble.{is_closed, next_place, place_after, rest_of, Leads, TakesPiece, TakesPreamble, IsLong, Opens, OpensNot, StopsInPreamble}
+use Rattle.sched_box.specs.Preamble.{is_closed, next_place, place_after, rest_of, Leads, TakesPreamblePiece, TakesPreamble, IsLong, OpensStream, OpensNot, StopsInPreamble}
 use Rattle.sched_box.specs.declared.fault.StreamFault.{StreamFault}
 use Rattle.sched_box.specs.declared.fault.StreamFault.TheVariants.{Refused, Serve}
 use Rattle.ical_lines.specs.declared.fault.Fault.{Fault}
@@ -118,7 +118,7 @@ says_leads (with_crlf {closed} {rest} {settings} line setting is says) =
     )
 
 -- what follows a preamble
-follows : (octets preamble rest : List ℕ) (closed : Bool) (moment : ℤ) (hosts : Hosts)
+follows : (octets preamble rest : List ℕ) (closed : Bool) (moment : ℤ) (hosts : Config)
     → octets ≡ preamble ++ rest → (closed ≡ false → rest ≡ []) → IsPreamble closed preamble moment hosts → rest_of Start octets ≡ rest
 follows octets preamble rest closed moment hosts is all says =
     let (place, leads, closes) = says_leads says.says in
@@ -137,7 +137,7 @@ follows octets preamble rest closed moment hosts is all says =
 one_place : (octets : List ℕ) (a b : LineState) → Leads Start octets a → Leads Start octets b → a ≡ b
 one_place octets a b l m = sym l.place ∙ m.place
 
-pub opened : (a b : Option (List ℕ)) (octets : List ℕ) (moment : ℤ) (hosts : Hosts) → TakesPreamble a b octets → (closed : Bool) → IsPreamble closed octets moment hosts → Opens a b moment hosts
+pub opened : (a b : Option (List ℕ)) (octets : List ℕ) (moment : ℤ) (hosts : Config) → TakesPreamble a b octets → (closed : Bool) → IsPreamble closed octets moment hosts → OpensStream a b moment hosts
 opened a b octets moment hosts t closed says = record {
   preamble = octets;
   closed = closed;
@@ -153,7 +153,7 @@ opened a b octets moment hosts t closed says = record {
     at (inr end) no_end = end
 
 pub opens_not : (a b : Option (List ℕ)) (octets : List ℕ) → TakesPreamble a b octets
-    → ((closed : Bool) (moment : ℤ) (hosts : Hosts) → IsPreamble closed octets moment hosts → ⊥) → IfSome a OpensNot
+    → ((closed : Bool) (moment : ℤ) (hosts : Config) → IsPreamble closed octets moment hosts → ⊥) → IfSome a OpensNot
 opens_not None b octets t none = tt
 opens_not (Some xs) None octets t none = absurd t.consumed
 opens_not (Some xs) (Some ys) octets t none = refuses
@@ -197,7 +197,7 @@ too_long (Some xs) (Some ys) octets place c l long =
 pub piece : (a c : Option (List ℕ)) (lent : List ℕ) (most count : ℕ) (from to : LineState) (goes : Bool) → count ≤ length (take most lent) → most ≡ min (length lent) 65_537
     → Consumes a c (take count lent) × (length lent ≡ 0 → OnSome a (IsAtEnd c)) → Leads from (take count (take most lent)) to
     → (is_closed from ≡ false → 0 < length (take most lent) → 0 < count) → goes ≡ (nat_lt 0 count && not (is_closed to))
-    → TakesPiece a c from to (take count (take most lent)) goes
+    → TakesPreamblePiece a c from to (take count (take most lent)) goes
 piece a c lent most count from to goes within most_is moved leads some goes_is =
     let same : take count (take most lent) ≡ take count lent = take-take count most lent (omega (arith, length-take most lent)) in
     let long : length (take most lent) ≡ most = length-take-le most lent (omega arith) in
@@ -248,7 +248,7 @@ piece a c lent most count from to goes within most_is moved leads some goes_is =
         inr (moved.1 (no_lent none (some fe)))
 
 -- the last piece
-pub taken_all : (a b c : Option (List ℕ)) (octets taken : List ℕ) (place to : LineState) (goes : Bool) → Consumes a b octets → Leads Start octets place → TakesPiece b c place to taken goes → goes ≡ false → TakesPreamble a c (octets ++ taken)
+pub taken_all : (a b c : Option (List ℕ)) (octets taken : List ℕ) (place to : LineState) (goes : Bool) → Consumes a b octets → Leads Start octets place → TakesPreamblePiece b c place to taken goes → goes ≡ false → TakesPreamble a c (octets ++ taken)
 taken_all a b c octets taken place to goes consumed leads t e = record {
   place = to;
   consumed = Consumes-trans a b c octets taken consumed t.consumed;

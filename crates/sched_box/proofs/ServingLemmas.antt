@@ -5,16 +5,16 @@ use Rattle.std.specs.Io.KnownBytes.{Appends, Consumes, Keeps, IsAtEnd}
 use Rattle.std.proofs.KnownBytes.{Appends-kept, Appends-nil, Appends-trans, Keeps-refl}
 use Rattle.profile.specs.text.Objects.{is_begun, after_object}
 use Rattle.profile.specs.rooms.Rooms.{Book}
-use Rattle.profile.specs.streams.Streams.{BeginsWith, AreObjects, Answers, AllAnswers, Box, Hosted, Hosts, new_box}
+use Rattle.profile.specs.streams.Streams.{BeginsWith, AreObjects, Answers, AllAnswers, Box, Hosted, Config, new_box}
 use Rattle.room_books.specs.declared.room.Room.{Room}
 use Rattle.sched_box.specs.declared.fault.ServeFault.{ServeFault}
 use Rattle.sched_box.specs.declared.fault.ServeFault.TheVariants.{Read, Write, TooLong, Memory}
 use Rattle.sched_box.specs.declared.objects.Objects.{Objects}
 use Rattle.sched_box.specs.declared.serving.ServeReport.{ServeReport}
 use Rattle.sched_box.specs.Answering.{AreHosted, IsHosted, room_addresses}
-use Rattle.sched_box.specs.Books.{AnswersKept, AreKept, hosted_rooms}
+use Rattle.sched_box.specs.Books.{AnswersKept, AreBooksOf, hosted_rooms}
 use Rattle.sched_box.specs.declared.books.Books.{Books}
-use Rattle.sched_box.specs.Objects.{kept_of, TakesObject, ReadsObject, StopsReading}
+use Rattle.sched_box.specs.Objects.{kept_of, TakesNextObject, ReadsObject, StopsReading}
 use Rattle.sched_box.specs.Serving.{AnswersWhole, Ends, Gives, GivesPart, IsWithinBound, ServesAll, ServesSome, HasRead, ServesUntil, Serves, BooksServe, ServesStream, KeepsTexts, StopsKeeping}
 use Rattle.std.proofs.Common.{◌≢◌, Contains, true≢false}
 use Rattle.std.specs.Str.{bytes_eq}
@@ -29,7 +29,7 @@ use Rattle.sched_box.specs.declared.fault.StreamFault.{StreamFault}
 use Rattle.sched_box.specs.declared.fault.StreamFault.TheVariants as stream
 use Rattle.sched_box.specs.Faults.{IfRefusedStream, IsReadFault, StopsFor}
 use Rattle.sched_box.specs.Output.{StopsSending}
-use Rattle.sched_box.specs.Preamble.{Opens, OpensNot, StopsInPreamble}
+use Rattle.sched_box.specs.Preamble.{OpensStream, OpensNot, StopsInPreamble}
 use Rattle.sched_box.proofs.HostLemmas.{MadeSofar}
 use Rattle.sched_box.proofs.ObjectLemmas.{after_short}
 use Rattle.std.proofs.Common.{get_or}
@@ -43,7 +43,7 @@ begins_more stream [] rest object h begun is =
     subst P h (begun, is, refl)
 begins_more stream (o ∷ os) rest object (b, split, more) begun is = (b, split, begins_more (after_object stream) os rest object more begun is)
 
-pub gives_more : (a b c : Option (List ℕ)) (objects : List (List ℕ)) (kept taken : List ℕ) → Gives a b objects → TakesObject b c kept true taken → Gives a c (objects ++ taken ∷ [])
+pub gives_more : (a b c : Option (List ℕ)) (objects : List (List ℕ)) (kept taken : List ℕ) → Gives a b objects → TakesNextObject b c kept true taken → Gives a c (objects ++ taken ∷ [])
 gives_more None b c objects kept taken g t = tt
 gives_more (Some xs) None c objects kept taken g t = absurd g
 gives_more (Some xs) (Some ys) None objects kept taken g t = absurd t.consumed
@@ -52,7 +52,7 @@ gives_more (Some xs) (Some ys) (Some zs) objects kept taken g t =
     subst P (sym t.rest) (begins_more xs objects ys taken g t.begun (t.consumed ∙ ap (λ z. taken ++ z) t.rest))
 
 -- the part that was read of the next object, or the whole of it
-pub gives_whole : (a b c : Option (List ℕ)) (objects : List (List ℕ)) (kept taken : List ℕ) → Gives a b objects → TakesObject b c kept true taken → GivesPart a c objects
+pub gives_whole : (a b c : Option (List ℕ)) (objects : List (List ℕ)) (kept taken : List ℕ) → Gives a b objects → TakesNextObject b c kept true taken → GivesPart a c objects
 gives_whole None b c objects kept taken g t = tt
 gives_whole (Some xs) None c objects kept taken g t = absurd g
 gives_whole (Some xs) (Some ys) None objects kept taken g t = absurd t.consumed
@@ -66,7 +66,7 @@ gives_stopped (Some xs) None c objects before after fault g s = absurd g
 gives_stopped (Some xs) (Some ys) None objects before after fault g s = absurd s.consumed
 gives_stopped (Some xs) (Some ys) (Some zs) objects before after fault g s = (ys, s.taken, g, s.consumed, s.within)
 
-pub gives_all : (a b c : Option (List ℕ)) (objects : List (List ℕ)) (kept taken : List ℕ) → Gives a b objects → TakesObject b c kept false taken
+pub gives_all : (a b c : Option (List ℕ)) (objects : List (List ℕ)) (kept taken : List ℕ) → Gives a b objects → TakesNextObject b c kept false taken
     → IfSome a (λ stream. AreObjects stream objects) × OnSome a (IsAtEnd c)
 gives_all None b c objects kept taken g t = (tt, tt)
 gives_all (Some xs) None c objects kept taken g t = absurd g
@@ -94,7 +94,7 @@ pub record ServedSofar (moment : ℤ) (news : Books) (input left output written 
   pub objects : List (List ℕ)
   pub after : Box
   pub octets : List ℕ
-  pub hosted : AreKept news after
+  pub hosted : AreBooksOf news after
   pub gives : Gives input left objects
   pub answers : AllAnswers moment 1 objects before after octets report.refused
   pub counted : report.objects ≡ length objects
@@ -108,7 +108,7 @@ HasLeft (Some octets) (Some rest) may_read = length octets + may_read ≡ length
 
 -- from whatever the books were; the rooms keep their addresses, and this many octets were read
 pub record Sofar (moment : ℤ) (olds news : Books) (input left output written : Option (List ℕ)) (may_read : ℕ) (report : ServeReport) : Type 0 where
-  pub served : (before : Box) → AreKept olds before → ServedSofar moment news input left output written before report
+  pub served : (before : Box) → AreBooksOf olds before → ServedSofar moment news input left output written before report
   pub addresses : hosted_rooms news ≡ hosted_rooms olds
   pub read : HasLeft input left may_read
   pub few : report.objects + may_read ≤ 1_073_741_824
@@ -161,7 +161,7 @@ read_less (Some xs) (Some zs) n h some = omega arith
 
 -- the stream ended before the next object did
 pub stopped : (moment : ℤ) (olds news : Books) (a b c output written : Option (List ℕ)) (before after : Objects) (report : ServeReport) (fault : ServeFault)
-    → Sofar moment olds news a b output written before.left report → StopsReading b c before after fault → (start : Box) → AreKept olds start
+    → Sofar moment olds news a b output written before.left report → StopsReading b c before after fault → (start : Box) → AreBooksOf olds start
     → ServesUntil moment start (record { input = a; left = c; output = output; written = written }) fault
 stopped moment olds news a b c output written before after report fault so s start have = at fault s
   where
@@ -189,7 +189,7 @@ stopped moment olds news a b c output written before after report fault so s sta
 
 -- an object was taken, and memory was refused for the answers to it, or for writing them
 pub forgotten : (moment : ℤ) (olds news : Books) (a b c output written now : Option (List ℕ)) (before after : Objects) (report : ServeReport)
-    → Sofar moment olds news a b output written before.left report → ReadsObject b c before after true → Keeps written now → (start : Box) → AreKept olds start
+    → Sofar moment olds news a b output written before.left report → ReadsObject b c before after true → Keeps written now → (start : Box) → AreBooksOf olds start
     → ServesUntil moment start (record { input = a; left = c; output = output; written = now }) Memory
 forgotten moment olds news a b c output written now before after report so (taken, t, left, more) keeps start have =
     let served = so.served start have in (
@@ -207,7 +207,7 @@ forgotten moment olds news a b c output written now before after report so (take
 
 -- the same where the fault is said to be that
 pub forgotten_at : (moment : ℤ) (olds news : Books) (a b c output written : Option (List ℕ)) (before after : Objects) (report : ServeReport) (fault : ServeFault)
-    → Sofar moment olds news a b output written before.left report → ReadsObject b c before after true → fault ≡ Memory → (start : Box) → AreKept olds start
+    → Sofar moment olds news a b output written before.left report → ReadsObject b c before after true → fault ≡ Memory → (start : Box) → AreBooksOf olds start
     → ServesUntil moment start (record { input = a; left = c; output = output; written = written }) fault
 forgotten_at moment olds news a b c output written before after report fault so reads is start have =
     let P : ServeFault → Type 0 = ServesUntil moment start (record { input = a; left = c; output = output; written = written }) in
@@ -215,8 +215,8 @@ forgotten_at moment olds news a b c output written before after report fault so 
 
 -- the answers to an object from the box so far
 next_answers : (moment : ℤ) (news newer : Books) (number : ℕ) (kept more taken : List ℕ) (one : ℕ) (n : ℕ) → number ≡ n + 1
-    → AnswersKept moment number kept news newer more one → kept ≡ kept_of taken → (mid : Box) → AreKept news mid
-    → (after : Box) × AreKept newer after × Answers moment (n + 1) taken mid after more one
+    → AnswersKept moment number kept news newer more one → kept ≡ kept_of taken → (mid : Box) → AreBooksOf news mid
+    → (after : Box) × AreBooksOf newer after × Answers moment (n + 1) taken mid after more one
 next_answers moment news newer number kept more taken one n number_is answers kept_is mid have =
     let (after, hosted, answer) = answers taken kept_is mid have in
     let Q : ℕ → Type 0 = λ k. Answers moment k taken mid after more one in
@@ -226,7 +226,7 @@ next_answers moment news newer number kept more taken one n number_is answers ke
 pub unsent : (moment : ℤ) (olds news newer : Books) (a b c output written now : Option (List ℕ)) (failed : Bool) (before after : Objects) (report : ServeReport) (number one : ℕ) (more : List ℕ) (fault : ServeFault)
     → Sofar moment olds news a b output written before.left report → ReadsObject b c before after true → number ≡ report.objects + 1
     → AnswersKept moment number after.octets.items news newer more one → StopsSending written now failed more fault
-    → (start : Box) → AreKept olds start
+    → (start : Box) → AreBooksOf olds start
     → ServesUntil moment start (record { input = a; left = c; output = output; written = now }) fault
 unsent moment olds news newer a b c output written now failed before after report number one more Read so reads number_is answers sends start have = absurd sends
 unsent moment olds news newer a b c output written now failed before after report number one more TooLong so reads number_is answers sends start have = absurd sends
@@ -290,8 +290,8 @@ served_more moment olds news newer a b c output written new before after report 
 
 -- no object is left
 pub served_all : (moment : ℤ) (olds news : Books) (a b c output written : Option (List ℕ)) (before after : Objects) (report : ServeReport)
-    → Sofar moment olds news a b output written before.left report → ReadsObject b c before after false → (start : Box) → AreKept olds start
-    → (final : Box) × AreKept news final × ServesAll moment start final (record { input = a; left = c; output = output; written = written }) report
+    → Sofar moment olds news a b output written before.left report → ReadsObject b c before after false → (start : Box) → AreBooksOf olds start
+    → (final : Box) × AreBooksOf news final × ServesAll moment start final (record { input = a; left = c; output = output; written = written }) report
 served_all moment olds news a b c output written before after report so (taken, t, left, more) start have =
     let served = so.served start have in
     let ended = gives_all a b c served.objects after.octets.items taken served.gives t in (
@@ -352,20 +352,20 @@ stream_refused a left output (stream.Serve f) h stops reads = inl (reads, stops,
     kept None = tt
     kept (Some xs) = refl
 
-pub stream_stopped : (a mid left output written : Option (List ℕ)) (moment : ℤ) (hosts : Hosts) (fault : ServeFault) (f : StreamFault) → Opens a mid moment hosts → f ≡ stream.Serve fault
+pub stream_stopped : (a mid left output written : Option (List ℕ)) (moment : ℤ) (hosts : Config) (fault : ServeFault) (f : StreamFault) → OpensStream a mid moment hosts → f ≡ stream.Serve fault
     → Serves moment (new_box hosts) (record { input = mid; left = left; output = output; written = written }) (Err fault)
     → ServesStream (record { input = a; left = left; output = output; written = written }) (Err f)
 stream_stopped a mid left output written moment hosts fault f opens is h =
     let P : StreamFault → Type 0 = λ x. ServesStream (record { input = a; left = left; output = output; written = written }) (Err x) in
     subst P (sym is) (inr (moment, hosts, mid, opens, h))
 
-pub stream_served : (a mid left output written : Option (List ℕ)) (moment : ℤ) (hosts : Hosts) (report : ServeReport) → Opens a mid moment hosts
+pub stream_served : (a mid left output written : Option (List ℕ)) (moment : ℤ) (hosts : Config) (report : ServeReport) → OpensStream a mid moment hosts
     → Serves moment (new_box hosts) (record { input = mid; left = left; output = output; written = written }) (Ok report)
     → ServesStream (record { input = a; left = left; output = output; written = written }) (Ok report)
 stream_served a mid left output written moment hosts report opens (after, all) = (moment, hosts, mid, after, opens, all)
 
 -- the stream is its preamble and its objects
-pub stream_whole : (a mid left output written : Option (List ℕ)) (moment : ℤ) (hosts : Hosts) (report : ServeReport) → Opens a mid moment hosts
+pub stream_whole : (a mid left output written : Option (List ℕ)) (moment : ℤ) (hosts : Config) (report : ServeReport) → OpensStream a mid moment hosts
     → Serves moment (new_box hosts) (record { input = mid; left = left; output = output; written = written }) (Ok report)
     → AnswersWhole (record { input = a; left = left; output = output; written = written })
 stream_whole None mid left output written moment hosts report opens h = tt
@@ -426,7 +426,7 @@ none_at rooms i a end h (k, l, is) = look rooms (λ n e lt. h n e (omega arith) 
     look (r ∷ rs) g (suc k) l is = look rs (λ n e lt. g (suc n) e (omega arith)) k (omega arith) is
 
 -- what is kept of a room is the texts of its book
-pub keeps_texts : (moment : ℤ) (hosts : Hosts) (news : Books) (ends : Ends) (report : ServeReport) (room : Room) (address calendar certificate : List ℕ)
+pub keeps_texts : (moment : ℤ) (hosts : Config) (news : Books) (ends : Ends) (report : ServeReport) (room : Room) (address calendar certificate : List ℕ)
     → BooksServe moment (new_box hosts) news ends (Ok report) → Contains news.rooms.rooms.items room → address_octets room.address ≡ address
     → ((book : Book) → Represents room.meetings.entries book → IsKeptCalendar (address_octets room.address) book calendar) → ((book : Book) → Represents room.meetings.entries book → certificate ≡ kept_certificate book)
     → KeepsTexts moment hosts ends.input ends.left address calendar certificate

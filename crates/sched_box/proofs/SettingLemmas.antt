@@ -8,7 +8,7 @@ use Rattle.std.proofs.lemmas.List.Quantifiers.{all_pairs_push}
 use Rattle.profile.specs.text.Values.{SpellsStamp, IsAddress, lower_case}
 use Rattle.ical_values.specs.Octets.{address_octets}
 use Rattle.ical_values.specs.declared.address.Address.{Address}
-use Rattle.profile.specs.streams.Streams.{Setting, Now, Room, Organiser, IsSetting, SaysSettings, by_end, by_lf, by_crlf, last, with_lf, with_crlf, moments, rooms, organisers, most_rooms, most_organisers, Hosts, AreHosts, IsPreamble, IsConfiguration}
+use Rattle.profile.specs.streams.Streams.{Setting, Now, Room, Organiser, IsSetting, SaysSettings, by_end, by_lf, by_crlf, last, with_lf, with_crlf, moments, rooms, organisers, most_rooms, most_organisers, Config, AreHosts, IsPreamble, IsConfiguration}
 use Rattle.std.specs.Str.{IsUtf8}
 use Rattle.std.proofs.lemmas.Str.{IsUtf8-from_is_utf8, is_utf8-from_IsUtf8}
 use Rattle.std.proofs.lemmas.List.{length-map}
@@ -424,13 +424,13 @@ no_host s octets r no_rooms no_organisers closed list hosts says utf8 short are 
     omega arith
 
 pub has_moment : (s : Settings) (octets : List ℕ) (t : ℤ) → ReadsSettings s octets → s.moment ≡ Some t
-    → (closed : Bool) (hosts : Hosts) → IsConfiguration closed octets hosts → ⊥
+    → (closed : Bool) (hosts : Config) → IsConfiguration closed octets hosts → ⊥
 has_moment s octets t r is closed hosts c =
     let same : [] ≡ t ∷ [] = sym c.timeless ∙ ap moments (r.reads.only closed c.settings c.says) ∙ r.reads.holds.moments_are ∙ ap option_to_list is in
     cc
 
 pub no_moment : (s : Settings) (octets : List ℕ) → ReadsSettings s octets → s.moment ≡ None
-    → (closed : Bool) (moment : ℤ) (hosts : Hosts) → IsPreamble closed octets moment hosts → ⊥
+    → (closed : Bool) (moment : ℤ) (hosts : Config) → IsPreamble closed octets moment hosts → ⊥
 no_moment s octets r is closed moment hosts p =
     let same : moment ∷ [] ≡ [] = sym p.moment_is ∙ ap moments (r.reads.only closed p.settings p.says) ∙ r.reads.holds.moments_are ∙ ap option_to_list is in
     cc

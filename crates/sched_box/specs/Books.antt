@@ -11,26 +11,26 @@ abbrev pub hosted_rooms : Books → List (List ℕ)
 hosted_rooms books = room_addresses books.rooms.rooms.items
 
 -- the books are what the box keeps
-pub record AreKept (books : Books) (box : Box) : Type 0 where
+pub record AreBooksOf (books : Books) (box : Box) : Type 0 where
   pub rooms : AreHosted books.rooms.rooms.items box.rooms
   pub organisers : AreKeptBy books.organisers.organisers.items box.organisers
 
 -- what the first are, the second are too
 abbrev pub KeepAll : Books → Books → Type 0
-KeepAll old new = (box : Box) → AreKept old box → AreKept new box
+KeepAll old new = (box : Box) → AreBooksOf old box → AreBooksOf new box
 
 -- an object, of which so much was kept, is taken and these octets answered, from whatever the books are
 abbrev pub TakesKept : ℤ → List ℕ → Books → Books → List ℕ → Type 0
 TakesKept moment kept old new octets =
-    (object : List ℕ) → kept ≡ kept_of object → (before : Box) → AreKept old before
-    → (after : Box) × AreKept new after × ((said : Said) × Spells object said × Steps moment said before after octets)
+    (object : List ℕ) → kept ≡ kept_of object → (before : Box) → AreBooksOf old before
+    → (after : Box) × AreBooksOf new after × ((said : Said) × Spells object said × Steps moment said before after octets)
 
 -- it is refused with this number
 abbrev pub RefusesKept : List ℕ → Books → ℕ → Type 0
-RefusesKept kept books n = (object : List ℕ) → kept ≡ kept_of object → (before : Box) → AreKept books before → IsRefusedWith before n object
+RefusesKept kept books n = (object : List ℕ) → kept ≡ kept_of object → (before : Box) → AreBooksOf books before → IsRefusedWith before n object
 
 -- these octets answer object k
 abbrev pub AnswersKept : ℤ → ℕ → List ℕ → Books → Books → List ℕ → ℕ → Type 0
 AnswersKept moment k kept old new octets refused =
-    (object : List ℕ) → kept ≡ kept_of object → (before : Box) → AreKept old before
-    → (after : Box) × AreKept new after × Answers moment k object before after octets refused
+    (object : List ℕ) → kept ≡ kept_of object → (before : Box) → AreBooksOf old before
+    → (after : Box) × AreBooksOf new after × Answers moment k object before after octets refused

@@ -1,7 +1,7 @@
 -- What a configuration hosts.
 use Rattle.std.specs.Prelude.{ℕ, List, map}
 use Rattle.ical_values.specs.Octets.{address_octets}
-use Rattle.profile.specs.streams.Streams.{Hosts}
+use Rattle.profile.specs.streams.Streams.{Config as SaidConfig}
 use Rattle.sched_box.specs.declared.config.Config.{Config}
 
 -- the addresses of the rooms, in the order of the lines
@@ -12,5 +12,5 @@ config_rooms config = map address_octets config.rooms.items
 abbrev pub config_organisers : Config → List (List ℕ)
 config_organisers config = map address_octets config.organisers.items
 
-abbrev pub config_hosts : Config → Hosts
+abbrev pub config_hosts : Config → SaidConfig
 config_hosts config = record { rooms = config_rooms config; organisers = config_organisers config }

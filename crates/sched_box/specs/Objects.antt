@@ -58,7 +58,7 @@ pub record TakesPiece (old new : Option (List ℕ)) (before after : Objects) (fr
 -- ---- an object
 
 -- the next object was taken, whole, or only empty lines were left
-pub record TakesObject (old new : Option (List ℕ)) (kept : List ℕ) (found : Bool) (taken : List ℕ) : Type 0 where
+pub record TakesNextObject (old new : Option (List ℕ)) (kept : List ℕ) (found : Bool) (taken : List ℕ) : Type 0 where
   pub consumed : Consumes old new taken
   pub kept_is : kept ≡ kept_of taken
   pub begun : IfSome old (λ octets. is_begun octets ≡ found)
@@ -69,7 +69,7 @@ pub record TakesObject (old new : Option (List ℕ)) (kept : List ℕ) (found : 
 -- and this many octets may still be read, at least one
 abbrev pub ReadsObject : Option (List ℕ) → Option (List ℕ) → Objects → Objects → Bool → Type 0
 ReadsObject old new before after found =
-    (taken : List ℕ) × TakesObject old new after.octets.items found taken × (after.left + length taken ≡ before.left) × (0 < after.left)
+    (taken : List ℕ) × TakesNextObject old new after.octets.items found taken × (after.left + length taken ≡ before.left) × (0 < after.left)
 
 -- the stream is too long exactly where nothing more may be read
 abbrev pub IsStop : ServeFault → ℕ → Type 0

@@ -1,7 +1,7 @@
 -- How a preamble is taken from a reader: up to its empty line, octet by octet.
 use Rattle.std.specs.Prelude.{◌≡◌, ◌⊎◌, ◌<◌, ◌≤◌, ◌+◌, ◌==◌, ℕ, ℤ, Bool, true, false, if◌then◌else◌, List, [], ◌∷◌, ◌++◌, length, Option, IfSome, OnSome}
 use Rattle.std.specs.Io.KnownBytes.{Consumes, IsAtEnd}
-use Rattle.profile.specs.streams.Streams.{Hosts, IsPreamble}
+use Rattle.profile.specs.streams.Streams.{Config, IsPreamble}
 use Rattle.sched_box.specs.declared.preamble.LineState.{LineState}
 use Rattle.sched_box.specs.declared.preamble.LineState.TheVariants.{Start, Return, Inside, Closed}
 
@@ -33,7 +33,7 @@ pub record Leads (old : LineState) (octets : List ℕ) (new : LineState) : Type 
   pub rest : (more : List ℕ) → rest_of old (octets ++ more) ≡ rest_of new more
 
 -- the octets that were taken lead on; where nothing goes on, the empty line or the end of the input was met
-pub record TakesPiece (old new : Option (List ℕ)) (from to : LineState) (octets : List ℕ) (goes : Bool) : Type 0 where
+pub record TakesPreamblePiece (old new : Option (List ℕ)) (from to : LineState) (octets : List ℕ) (goes : Bool) : Type 0 where
   pub consumed : Consumes old new octets
   pub leads : Leads from octets to
   pub stops : goes ≡ false → (to ≡ Closed) ⊎ OnSome old (IsAtEnd new)
@@ -51,7 +51,7 @@ abbrev pub IsLong : List ℕ → Type 0
 IsLong octets = length (rest_of Start octets) + 65_536 < length octets
 
 -- the reader gave a preamble with this moment and these hosts, and all that it had where there is no empty line
-pub record Opens (old new : Option (List ℕ)) (moment : ℤ) (hosts : Hosts) : Type 0 where
+pub record OpensStream (old new : Option (List ℕ)) (moment : ℤ) (hosts : Config) : Type 0 where
   pub preamble : List ℕ
   pub closed : Bool
   pub consumed : Consumes old new preamble
@@ -67,5 +67,5 @@ pub record StopsInPreamble (old new : Option (List ℕ)) : Type 0 where
 -- the octets don't begin with a preamble
 abbrev pub OpensNot : List ℕ → Type 0
 OpensNot octets =
-    (preamble rest : List ℕ) (closed : Bool) (moment : ℤ) (hosts : Hosts)
+    (preamble rest : List ℕ) (closed : Bool) (moment : ℤ) (hosts : Config)
     → octets ≡ preamble ++ rest → (closed ≡ false → rest ≡ []) → IsPreamble closed preamble moment hosts → ⊥

@@ -3,16 +3,16 @@ use Rattle.std.specs.Prelude.{◌≡◌, ◌⊎◌, ℕ, ℤ, ◌+◌, ◌≤◌
 use Rattle.std.specs.Io.KnownBytes.{Appends, Keeps, IsAtEnd}
 use Rattle.profile.specs.text.Objects.{after_object}
 use Rattle.profile.specs.rooms.Kept.{IsKeptCalendar, kept_certificate}
-use Rattle.profile.specs.streams.Streams.{BeginsWith, AreObjects, Answers, AllAnswers, AnswersStream, Box, Hosted, Hosts, new_box}
+use Rattle.profile.specs.streams.Streams.{BeginsWith, AreObjects, Answers, AllAnswers, AnswersStream, Box, Hosted, Config, new_box}
 use Rattle.sched_box.specs.declared.fault.ServeFault.{ServeFault}
 use Rattle.sched_box.specs.declared.fault.ServeFault.TheVariants.{Read, Write, TooLong, Memory}
 use Rattle.sched_box.specs.declared.serving.ServeReport.{ServeReport}
 use Rattle.sched_box.specs.declared.fault.StreamFault.{StreamFault}
 use Rattle.sched_box.specs.declared.fault.StreamFault.TheVariants.{Refused, Serve}
-use Rattle.sched_box.specs.Books.{AreKept}
+use Rattle.sched_box.specs.Books.{AreBooksOf}
 use Rattle.sched_box.specs.declared.books.Books.{Books}
 use Rattle.sched_box.specs.Objects.{IsPieceFault}
-use Rattle.sched_box.specs.Preamble.{Opens, OpensNot, StopsInPreamble}
+use Rattle.sched_box.specs.Preamble.{OpensStream, OpensNot, StopsInPreamble}
 
 -- what a reader and a writer held and have, where it is known
 pub record Ends : Type 0 where
@@ -94,20 +94,20 @@ Serves moment before ends (Err fault) = ServesUntil moment before ends fault
 
 -- and the books are the box after it
 abbrev pub BooksServe : ℤ → Box → Books → Ends → Result ServeReport ServeFault → Type 0
-BooksServe moment before new ends (Ok report) = (after : Box) × AreKept new after × ServesAll moment before after ends report
+BooksServe moment before new ends (Ok report) = (after : Box) × AreBooksOf new after × ServesAll moment before after ends report
 BooksServe moment before new ends (Err fault) = ServesUntil moment before ends fault
 
 -- what comes of a stream with its preamble; where it is refused, or the reader fails or memory is refused before it is read, nothing is
 -- written, and no octet past its empty line was taken
 abbrev pub ServesStream : Ends → Result ServeReport StreamFault → Type 0
 ServesStream ends (Ok report) =
-    (moment : ℤ) × (hosts : Hosts) × (rest : Option (List ℕ)) × (after : Box) × Opens ends.input rest moment hosts
+    (moment : ℤ) × (hosts : Config) × (rest : Option (List ℕ)) × (after : Box) × OpensStream ends.input rest moment hosts
     × ServesAll moment (new_box hosts) after (record ends { input = rest }) report
 ServesStream ends (Err (Refused refusal)) =
     IfSome ends.input OpensNot × StopsInPreamble ends.input ends.left × Keeps ends.output ends.written
 ServesStream ends (Err (Serve fault)) =
     (IsPieceFault fault × StopsInPreamble ends.input ends.left × Keeps ends.output ends.written)
-    ⊎ ((moment : ℤ) × (hosts : Hosts) × (rest : Option (List ℕ)) × Opens ends.input rest moment hosts
+    ⊎ ((moment : ℤ) × (hosts : Config) × (rest : Option (List ℕ)) × OpensStream ends.input rest moment hosts
     × ServesUntil moment (new_box hosts) (record ends { input = rest }) fault)
 
 -- where the octets of the reader are known, all that was written answers the stream that they are
@@ -115,7 +115,7 @@ abbrev pub AnswersWhole : Ends → Type 0
 AnswersWhole ends = IfSome ends.input (λ stream. (octets : List ℕ) × AnswersStream stream octets × Appends ends.output ends.written octets)
 
 -- what a room keeps after all objects of a stream: the calendar and the certificate of its book
-pub record KeepsTexts (moment : ℤ) (hosts : Hosts) (input left : Option (List ℕ)) (room calendar certificate : List ℕ) : Type 0 where
+pub record KeepsTexts (moment : ℤ) (hosts : Config) (input left : Option (List ℕ)) (room calendar certificate : List ℕ) : Type 0 where
   pub objects : List (List ℕ)
   pub after : Box
   pub octets : List ℕ

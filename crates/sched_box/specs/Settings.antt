@@ -4,7 +4,7 @@ use Rattle.std.specs.Option.{option_to_list}
 use Rattle.std.specs.Str.{is_utf8}
 use Rattle.ical_values.specs.Octets.{address_octets}
 use Rattle.ical_values.specs.declared.address.Address.{Address}
-use Rattle.profile.specs.streams.Streams.{Setting, Now, Room, Organiser, IsSetting, SaysSettings, Hosts, AreHosts, moments, rooms, organisers, most_rooms, most_organisers}
+use Rattle.profile.specs.streams.Streams.{Setting, Now, Room, Organiser, IsSetting, SaysSettings, Config, AreHosts, moments, rooms, organisers, most_rooms, most_organisers}
 use Rattle.sched_box.specs.declared.settings.Settings.{Settings}
 
 -- the addresses of the rooms so far, and of the organisers
@@ -102,5 +102,5 @@ pub record ReadsSettings (s : Settings) (octets : List ℕ) : Type 0 where
 -- the octets say no such settings
 abbrev pub ReadsNone : List ℕ → Type 0
 ReadsNone octets =
-    (closed : Bool) (list : List Setting) (hosts : Hosts) → SaysSettings closed octets list → is_utf8 octets ≡ true → length octets ≤ 65_536
+    (closed : Bool) (list : List Setting) (hosts : Config) → SaysSettings closed octets list → is_utf8 octets ≡ true → length octets ≤ 65_536
     → AreHosts list hosts → length (moments list) ≤ 1 → ⊥

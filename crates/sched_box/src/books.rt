@@ -32,13 +32,13 @@ impl Books {
     ghost use Rattle.ical_values.specs.Octets.{address_octets};
     ghost use Rattle.ical_values.specs.Refused.{IfRefused};
     ghost use Rattle.profile.specs.streams.Streams.{Box, new_box};
-    ghost use Rattle.sched_box.specs.Books.{AnswersKept, AreKept, KeepAll, RefusesKept, TakesKept, hosted_rooms};
+    ghost use Rattle.sched_box.specs.Books.{AnswersKept, AreBooksOf, KeepAll, RefusesKept, TakesKept, hosted_rooms};
     ghost use Rattle.sched_box.specs.Config.{config_hosts, config_rooms};
 
     /// Empty books for each room and each organiser, in the order of the configuration.
     pub(crate) fn new(alloc: Global, config: &Config) -> Result<Books, AllocError>
         ensures addresses { IfOk result (λ books. hosted_rooms books ≡ config_rooms config.now) }
-        ensures kept { IfOk result (λ books. AreKept books (new_box (config_hosts config.now))) }
+        ensures kept { IfOk result (λ books. AreBooksOf books (new_box (config_hosts config.now))) }
     {
         let rooms = Rooms::new(alloc, config)?;
         let organisers = Organisers::new(alloc, config)?;

@@ -32,7 +32,7 @@ impl Config {
     ghost use Rattle.ical_values.specs.Octets.{address_octets};
     ghost use Rattle.ical_values.specs.Refused.{IfRefused};
     ghost use Rattle.profile.specs.faults.Faults.{is_preamble_fault};
-    ghost use Rattle.profile.specs.streams.Streams.{Hosts, IsPreamble, IsConfiguration};
+    ghost use Rattle.profile.specs.streams.Streams.{Config as SaidConfig, IsPreamble, IsConfiguration};
     ghost use Rattle.sched_box.specs.Config.{config_hosts, config_organisers, config_rooms};
 
     /// The configuration that a file spells: a preamble without its `now`.
@@ -40,7 +40,7 @@ impl Config {
     pub fn read(alloc: Global, bytes: &[u8]) -> Result<Config, Fault>
         ensures reads { IfOk result (λ config. (closed : Bool) × IsConfiguration closed bytes.now (config_hosts config)) }
         ensures refuses { IfErr result (RefusesOnly is_preamble_fault) }
-        ensures none { IfErr result (IfRefused ((closed : Bool) (hosts : Hosts) → IsConfiguration closed bytes.now hosts → ⊥)) }
+        ensures none { IfErr result (IfRefused ((closed : Bool) (hosts : SaidConfig) → IsConfiguration closed bytes.now hosts → ⊥)) }
     {
         let settings = read_settings(alloc, bytes)?;
         match settings.moment {
@@ -57,7 +57,7 @@ impl Config {
     pub fn read_with_now(alloc: Global, bytes: &[u8]) -> Result<(Config, Stamp), Fault>
         ensures reads { IfOk result (λ read. (closed : Bool) × IsPreamble closed bytes.now read.1 (config_hosts read.0)) }
         ensures refuses { IfErr result (RefusesOnly is_preamble_fault) }
-        ensures none { IfErr result (IfRefused ((closed : Bool) (moment : ℤ) (hosts : Hosts) → IsPreamble closed bytes.now moment hosts → ⊥)) }
+        ensures none { IfErr result (IfRefused ((closed : Bool) (moment : ℤ) (hosts : SaidConfig) → IsPreamble closed bytes.now moment hosts → ⊥)) }
     {
         let settings = read_settings(alloc, bytes)?;
         match settings.moment {

@@ -106,12 +106,12 @@ impl Objects {
 
 /// How many octets belong to the object that has begun, and whether it ended before the next.
 #[derive(Clone, Copy)]
-struct Scanned {
+struct ScannedPiece {
     count: usize,
     ended: bool,
 }
 
-impl Scanned {
+impl ScannedPiece {
     fn piece(self) -> Piece
         ensures { result ≡ piece_of self.count self.ended }
     {
@@ -125,7 +125,7 @@ impl Scanned {
     }
 }
 
-fn scan(cutter: &mut Cutter, lent: &[u8]) -> Scanned
+fn scan(cutter: &mut Cutter, lent: &[u8]) -> ScannedPiece
     ensures within { result.count ≤ length lent.now }
     ensures cuts { Cuts cutter.old (take result.count lent.now) cutter.new }
     ensures before { result.ended ≡ true → result.count < length lent.now }
@@ -135,7 +135,7 @@ fn scan(cutter: &mut Cutter, lent: &[u8]) -> Scanned
     let mut place = cutter.idle(lent);
     while place < lent.len() {
         if cutter.feed(lent[place]) {
-            return Scanned {
+            return ScannedPiece {
                 count: place,
                 ended: true,
             };
@@ -143,7 +143,7 @@ fn scan(cutter: &mut Cutter, lent: &[u8]) -> Scanned
         place += 1;
         place += cutter.idle(&lent[place..]);
     }
-    Scanned {
+    ScannedPiece {
         count: lent.len(),
         ended: false,
     }

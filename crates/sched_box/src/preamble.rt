@@ -5,7 +5,7 @@ ghost use Rattle.std.specs.Io.KnownBytes.{Keeps};
 ghost use Rattle.sched_box.specs.Config.{config_hosts};
 ghost use Rattle.sched_box.specs.Faults.{IfRefusedStream, IsReadFault, KeepsButRead, RefusesPreamble, StopsFor, StreamKeepsButRead, StreamStopsFor};
 ghost use Rattle.sched_box.specs.Objects.{IsPieceFault};
-ghost use Rattle.sched_box.specs.Preamble.{IsLong, Leads, Opens, OpensNot, StopsInPreamble, TakesPiece, TakesPreamble, is_closed, next_place};
+ghost use Rattle.sched_box.specs.Preamble.{IsLong, Leads, OpensStream, OpensNot, StopsInPreamble, TakesPreamblePiece, TakesPreamble, is_closed, next_place};
 ghost use Rattle.sched_box.specs.declared.preamble.LineState.TheVariants.{Inside};
 
 use crate::config::{Config, LONGEST};
@@ -22,7 +22,7 @@ pub fn read_preamble<R: Input>(
     alloc: Global,
     reader: &mut R,
 ) -> Result<(Config, Stamp), StreamFault>
-    ensures opens { IfOk result (λ read. Opens (R.remaining reader.old) (R.remaining reader.new) read.1 (config_hosts read.0)) }
+    ensures opens { IfOk result (λ read. OpensStream (R.remaining reader.old) (R.remaining reader.new) read.1 (config_hosts read.0)) }
     ensures refuses { IfErr result RefusesPreamble }
     ensures faults { IfErr result IsReadFault }
     ensures cause { IfErr result (StreamStopsFor (R.has_failed reader.new) false) }
@@ -70,7 +70,7 @@ fn take_piece<R: Input>(
     octets: &mut Vec<u8>,
 ) -> Result<bool, ServeFault>
     ensures takes { IfOk result (λ goes. (taken : List ℕ) × (octets.new.items ≡ octets.old.items ++ taken)
-        × TakesPiece (R.remaining reader.old) (R.remaining reader.new) place.old place.new taken goes) }
+        × TakesPreamblePiece (R.remaining reader.old) (R.remaining reader.new) place.old place.new taken goes) }
     ensures few { length octets.new.items ≤ length octets.old.items + 65_537 }
     ensures faults { IfErr result IsPieceFault }
     ensures cause { IfErr result (StopsFor (R.has_failed reader.new) false) }
@@ -133,12 +133,12 @@ impl LineState {
 
 /// How many octets come before the end of the empty line, and where they lead.
 #[derive(Clone, Copy)]
-struct Scanned {
+struct ScannedLine {
     count: usize,
     place: LineState,
 }
 
-impl Scanned {
+impl ScannedLine {
     /// Whether there were octets, and the empty line hasn't ended.
     fn goes_on(self) -> bool
         ensures { result ≡ (nat_lt 0 self.count && not (is_closed self.place)) }
@@ -148,30 +148,30 @@ impl Scanned {
 }
 
 /// What leads on of the octets that were lent: the rest of a line that has begun, or one octet where none has.
-fn scan(place: LineState, lent: &[u8]) -> Scanned
+fn scan(place: LineState, lent: &[u8]) -> ScannedLine
     ensures within { result.count ≤ length lent.now }
     ensures leads { Leads place (take result.count lent.now) result.place }
     ensures some { is_closed place ≡ false → 0 < length lent.now → 0 < result.count }
 {
     match place {
         LineState::Inside => scan_line(lent),
-        LineState::Closed => Scanned { count: 0, place },
+        LineState::Closed => ScannedLine { count: 0, place },
         LineState::Start | LineState::Return => scan_octet(place, lent),
     }
 }
 
 /// The rest of a line that isn't empty: up to its LF, or all that was lent.
-fn scan_line(lent: &[u8]) -> Scanned
+fn scan_line(lent: &[u8]) -> ScannedLine
     ensures within { result.count ≤ length lent.now }
     ensures leads { Leads Inside (take result.count lent.now) result.place }
     ensures some { 0 < length lent.now → 0 < result.count }
 {
     match memchr(b'\n', lent) {
-        Some(end) => Scanned {
+        Some(end) => ScannedLine {
             count: end + 1,
             place: LineState::Start,
         },
-        None => Scanned {
+        None => ScannedLine {
             count: lent.len(),
             place: LineState::Inside,
         },
@@ -179,17 +179,17 @@ fn scan_line(lent: &[u8]) -> Scanned
 }
 
 /// The first octet, where there is one.
-fn scan_octet(place: LineState, lent: &[u8]) -> Scanned
+fn scan_octet(place: LineState, lent: &[u8]) -> ScannedLine
     requires { is_closed place ≡ false }
     ensures within { result.count ≤ length lent.now }
     ensures leads { Leads place (take result.count lent.now) result.place }
     ensures some { 0 < length lent.now → 0 < result.count }
 {
     match lent.first() {
-        Some(octet) => Scanned {
+        Some(octet) => ScannedLine {
             count: 1,
             place: place.after(*octet),
         },
-        None => Scanned { count: 0, place },
+        None => ScannedLine { count: 0, place },
     }
 }

@@ -6,7 +6,7 @@ ghost use Rattle.std.specs.Result.{IsErrAnd};
 ghost use Rattle.ical_values.specs.Octets.{address_octets};
 ghost use Rattle.profile.specs.checker.Calendars.{CertificateHolds};
 ghost use Rattle.profile.specs.streams.Streams.{Box, new_box};
-ghost use Rattle.sched_box.specs.Books.{AreKept, hosted_rooms};
+ghost use Rattle.sched_box.specs.Books.{AreBooksOf, hosted_rooms};
 ghost use Rattle.sched_box.specs.Config.{config_hosts, config_rooms};
 ghost use Rattle.sched_box.specs.Faults.{IfRefusedStream, IsRefusal, KeepsButRead, KeepsButWrite, RefusesPreamble, StopsFor, StreamKeepsButRead, StreamKeepsButWrite, StreamStopsFor};
 ghost use Rattle.sched_box.specs.Output.{StopsSending};
@@ -156,7 +156,7 @@ fn serve_objects<R: Input, W: Output>(
     ensures told { IfErr result (KeepsButRead (R.has_failed reader.old) (R.has_failed reader.new)) }
     ensures sent { OnOk result (W.has_failed writer.new ≡ W.has_failed writer.old) }
     ensures unsent { IfErr result (KeepsButWrite (W.has_failed writer.old) (W.has_failed writer.new)) }
-    ensures serves { (before : Box) → AreKept books.old before → BooksServe now before books.new
+    ensures serves { (before : Box) → AreBooksOf books.old before → BooksServe now before books.new
         (record { input = R.remaining reader.old; left = R.remaining reader.new; output = W.contents writer.old; written = W.contents writer.new }) result }
 {
     let mut report = ServeReport {

@@ -7,7 +7,7 @@ use Rattle.std.proofs.lemmas.List.Splits.{length-slice_split}
 use Rattle.profile.specs.text.Lines.{is_continuation, gather, unfolded, physical_lines, without_mark, without_return, line_name}
 use Rattle.ical_lines.specs.Unfold.{lines_after}
 use Rattle.sched_cli.specs.Places.{IsPlace}
-use Rattle.sched_cli.specs.Searching.{Finds, FoundIn, IsFoundAt}
+use Rattle.sched_cli.specs.Searching.{Finds, FoundIn, IsLineFoundAt}
 use Rattle.sched_cli.specs.declared.place.Found.{Found}
 use Rattle.sched_cli.specs.declared.place.Place.{Place}
 use Rattle.sched_cli.specs.declared.place.Found.TheVariants.{Nothing, Possible, Several, Certain}
@@ -123,7 +123,7 @@ placed octets left content others begun count property u e some named = record {
   named = named;
 }
 
-at_place : (octets : List ℕ) (line : ℕ) (property : List ℕ) (found : Found) → IsPlace octets line property → IsFoundAt line property found → FoundIn octets found
+at_place : (octets : List ℕ) (line : ℕ) (property : List ℕ) (found : Found) → IsPlace octets line property → IsLineFoundAt line property found → FoundIn octets found
 at_place octets line property Nothing is at = tt
 at_place octets line property (Possible place) is at = subst (λ (n : ℕ). IsPlace octets n place.property.items) (sym at.0) (subst (λ (p : List ℕ). IsPlace octets line p) (sym at.1) is)
 at_place octets line property Several is at = tt

@@ -9,20 +9,20 @@ use Rattle.std.proofs.lemmas.List.Elements.{All-nil, All-push, All-contains, Con
 use Rattle.std.proofs.lemmas.List.Quantifiers.{all_pairs_push}
 use Rattle.std.proofs.KnownBytes.{Appends-nil, Appends-trans}
 use Rattle.profile.specs.text.Values.{WritesStamp}
-use Rattle.profile.specs.checker.Instances.{Booked}
-use Rattle.profile.specs.events.Meetings.{Meeting, SpellsMeeting}
+use Rattle.profile.specs.checker.Instances.{Instance as SaidInstance}
+use Rattle.profile.specs.events.Events.{Event, SpellsEvent}
 use Rattle.profile.specs.events.Starts.{IsInstance, ComesBefore}
 use Rattle.profile.specs.events.Expanding.{IsInstanceLine}
 use Rattle.cal_events.specs.Calendars.{instance_of}
 use Rattle.cal_events.specs.Instances.{IsAfter, IsPastSlot}
 use Rattle.cal_events.specs.Left.{IsLeft, GivesFirst}
-use Rattle.cal_events.specs.Meetings.{IsNamed}
+use Rattle.cal_events.specs.Meetings.{IsInEventDates}
 use Rattle.cal_events.specs.SaidMeetings.{said_meeting}
 use Rattle.cal_events.specs.declared.instance.Instance.{Instance}
 use Rattle.cal_events.specs.declared.instances.Bound.{Bound}
 use Rattle.cal_events.specs.declared.instances.Instances.{Instances}
 use Rattle.cal_events.proofs.EventLemmas.{push_zip}
-use Rattle.sched_cli.specs.Expanding.{HasLine, IsLineOf, IsHandedOver, AreFirstPlaces, PrintsFirst, AreGoneThrough, PrintsUpTo, ExpandsTo}
+use Rattle.sched_cli.specs.Expanding.{HasLine, IsPrintedLine, IsHandedOver, AreFirstPlaces, PrintsFirst, AreGoneThrough, PrintsUpTo, ExpandsTo}
 
 -- ---- what was handed over
 
@@ -44,8 +44,8 @@ lasts_so s e l = go (e -ℤ s) (omega (arith, ints))
     go (pos n) h = sym h
     go (negsuc n) h = absurd (omega (arith, ints, h, l))
 
-pub line_there : (b : Booked) (before a c after slot start : List ℕ) (seconds : ℕ) → WritesStamp slot b.key.slot → WritesStamp start b.start → seconds ≡ unsigned_abs (b.end -ℤ b.start)
-    → a ≡ before ++ (slot ++ 32 ∷ []) → c ≡ a ++ (start ++ 32 ∷ []) → after ≡ c ++ (decimal seconds ++ 10 ∷ []) → (line : List ℕ) × IsLineOf b line × (after ≡ before ++ line)
+pub line_there : (b : SaidInstance) (before a c after slot start : List ℕ) (seconds : ℕ) → WritesStamp slot b.key.slot → WritesStamp start b.start → seconds ≡ unsigned_abs (b.end -ℤ b.start)
+    → a ≡ before ++ (slot ++ 32 ∷ []) → c ≡ a ++ (start ++ 32 ∷ []) → after ≡ c ++ (decimal seconds ++ 10 ∷ []) → (line : List ℕ) × IsPrintedLine b line × (after ≡ before ++ line)
 line_there b before a c after slot start seconds p q is e f g = (
   slot ++ 32 ∷ [] ++ start ++ 32 ∷ [] ++ decimal seconds ++ 10 ∷ [],
   λ has. record {
@@ -70,7 +70,7 @@ appended_again xs t n m e f =
     behind (x ∷ xs) t = behind xs t
 
 -- and one that it doesn't have
-pub no_line : (b : Booked) (before : List ℕ) → (HasLine b → ⊥) → (line : List ℕ) × IsLineOf b line × (before ≡ before ++ line)
+pub no_line : (b : SaidInstance) (before : List ℕ) → (HasLine b → ⊥) → (line : List ℕ) × IsPrintedLine b line × (before ≡ before ++ line)
 no_line b before none = ([], λ has. absurd (none has), sym (append-nil before))
 
 -- ---- the order of instances
@@ -81,7 +81,7 @@ order x y =
     (λ most. by_lt_z y x (λ more. inr (inr more)) (λ least. inr (inl (omega (arith, ints, most, least)))))
 
 -- two have one place, or one of them comes first
-placed : (a b : Booked) → ComesBefore a b ⊎ (((a.start ≡ b.start) × (a.key.slot ≡ b.key.slot)) ⊎ ComesBefore b a)
+placed : (a b : SaidInstance) → ComesBefore a b ⊎ (((a.start ≡ b.start) × (a.key.slot ≡ b.key.slot)) ⊎ ComesBefore b a)
 placed a b =
     elim (order a.start b.start) [
       | inl less ↦ inl (inl less)
@@ -99,7 +99,7 @@ past None a b h l = tt
 past (Some k) a b h l = omega (arith, ints, h, l)
 
 -- what comes after one that is to come is to come too
-after_later : (bound : Bound) (a b : Booked) → IsAfter bound a.start a.key.slot → ComesBefore a b → IsAfter bound b.start b.key.slot
+after_later : (bound : Bound) (a b : SaidInstance) → IsAfter bound a.start a.key.slot → ComesBefore a b → IsAfter bound b.start b.key.slot
 after_later bound a b (inl l) (inl m) = inl (omega (arith, ints, l, m))
 after_later bound a b (inl l) (inr (e, m)) = inl (omega (arith, ints, l, e))
 after_later bound a b (inr (e, p)) (inl m) = inl (omega (arith, ints, e, m))
@@ -108,7 +108,7 @@ after_later bound a b (inr (e, p)) (inr (f, m)) = inr (e ∙ f, past bound.slot 
 -- ---- the instances that were gone through
 
 -- at first none
-pub none_yet : (meeting : Meeting) (left : Instances) → ((b : Booked) → IsLeft left b → IsInstance meeting b) → ((b : Booked) → IsInstance meeting b → HasLine b → IsLeft left b) → AreGoneThrough meeting left 0 []
+pub none_yet : (meeting : Event) (left : Instances) → ((b : SaidInstance) → IsLeft left b → IsInstance meeting b) → ((b : SaidInstance) → IsInstance meeting b → HasLine b → IsLeft left b) → AreGoneThrough meeting left 0 []
 none_yet meeting left its all = record {
   its = its;
   each = All-nil (IsInstance meeting);
@@ -118,25 +118,25 @@ none_yet meeting left its all = record {
   others = λ b h line. inr (all b h line);
 }
 
-module _ (meeting : Meeting) (old new : Instances) (i : Instance) (given : GivesFirst old (Some i) new) where
-  abbrev it : Booked
+module _ (meeting : Event) (old new : Instances) (i : Instance) (given : GivesFirst old (Some i) new) where
+  abbrev it : SaidInstance
   it = instance_of i
 
   -- what is left then was left, and comes after it
-  still : (b : Booked) → IsLeft new b → IsLeft old b × ComesBefore it b
+  still : (b : SaidInstance) → IsLeft new b → IsLeft old b × ComesBefore it b
   still b (is, after) =
       let behind : ComesBefore it b = subst (λ (x : Bound). IsAfter x b.start b.key.slot) given.1.2 after in
       let there : IsInstance (said_meeting old.event.now) b = subst (λ e. IsInstance (said_meeting e.now) b) given.0 is in
       ((there, after_later old.after it b given.1.0.1 behind), behind)
 
   -- and all that comes after it
-  goes_on : (b : Booked) → IsLeft old b → ComesBefore it b → IsLeft new b
+  goes_on : (b : SaidInstance) → IsLeft old b → ComesBefore it b → IsLeft new b
   goes_on b (is, _) behind = (
     subst (λ e. IsInstance (said_meeting e.now) b) (sym given.0) is,
     subst (λ (x : Bound). IsAfter x b.start b.key.slot) (sym given.1.2) behind,
   )
 
-  pub one_gone : (count : ℕ) (done : List Booked) → AreGoneThrough meeting old count done → AreGoneThrough meeting new (count + 1) (done ++ it ∷ [])
+  pub one_gone : (count : ℕ) (done : List SaidInstance) → AreGoneThrough meeting old count done → AreGoneThrough meeting new (count + 1) (done ++ it ∷ [])
   one_gone count done g = record {
     its = λ b h. g.its b (still b h).0;
     each = All-push (IsInstance meeting) done it g.each (g.its it given.1.0);
@@ -154,7 +154,7 @@ module _ (meeting : Meeting) (old new : Instances) (i : Instance) (given : Gives
   }
 
 -- none is left
-pub all_gone : (meeting : Meeting) (old : Instances) (count limit : ℕ) (done : List Booked) → AreGoneThrough meeting old count done → count < limit → ((b : Booked) → IsLeft old b → ⊥) → AreFirstPlaces meeting limit done
+pub all_gone : (meeting : Event) (old : Instances) (count limit : ℕ) (done : List SaidInstance) → AreGoneThrough meeting old count done → count < limit → ((b : SaidInstance) → IsLeft old b → ⊥) → AreFirstPlaces meeting limit done
 all_gone meeting old count limit done g w none = record {
   each = g.each;
   ordered = g.ordered;
@@ -163,7 +163,7 @@ all_gone meeting old count limit done g w none = record {
 }
 
 -- as many as were asked for
-pub enough_gone : (meeting : Meeting) (old : Instances) (count limit : ℕ) (done : List Booked) → AreGoneThrough meeting old count done → count ≡ limit → AreFirstPlaces meeting limit done
+pub enough_gone : (meeting : Event) (old : Instances) (count limit : ℕ) (done : List SaidInstance) → AreGoneThrough meeting old count done → count ≡ limit → AreFirstPlaces meeting limit done
 enough_gone meeting old count limit done g e = record {
   each = g.each;
   ordered = g.ordered;
@@ -173,19 +173,19 @@ enough_gone meeting old count limit done g e = record {
 
 -- ---- their lines
 
-pub one_more : (meeting : Meeting) (old new : Instances) (i : Instance) (count : ℕ) (a b c : Option (List ℕ)) (text after line : List ℕ) → GivesFirst old (Some i) new
-    → IsLineOf (instance_of i) line → IsHandedOver b c after (text ++ line) → PrintsUpTo meeting old count a b text → PrintsUpTo meeting new (count + 1) a c after
+pub one_more : (meeting : Event) (old new : Instances) (i : Instance) (count : ℕ) (a b c : Option (List ℕ)) (text after line : List ℕ) → GivesFirst old (Some i) new
+    → IsPrintedLine (instance_of i) line → IsHandedOver b c after (text ++ line) → PrintsUpTo meeting old count a b text → PrintsUpTo meeting new (count + 1) a c after
 one_more meeting old new i count a b c text after line given on moved so_far = record {
   done = so_far.done ++ instance_of i ∷ [];
   gone = one_gone meeting old new i given count so_far.done so_far.gone;
   lines = so_far.lines ++ line ∷ [];
-  each = push_zip IsLineOf so_far.done so_far.lines (instance_of i) line so_far.each on;
+  each = push_zip IsPrintedLine so_far.done so_far.lines (instance_of i) line so_far.each on;
   written = subst (IsHandedOver a c after) (sym (concat-append so_far.lines (line ∷ []) ∙ ap (λ l. concat so_far.lines ++ l) (append-nil line)))
       (handed_on a b c text after line (concat so_far.lines) so_far.written moved);
 }
 
 -- where none is left
-pub no_more : (meeting : Meeting) (old : Instances) (count limit : ℕ) (a b c : Option (List ℕ)) (text after : List ℕ) → count < limit → ((x : Booked) → IsLeft old x → ⊥) → IsHandedOver b c after text
+pub no_more : (meeting : Event) (old : Instances) (count limit : ℕ) (a b c : Option (List ℕ)) (text after : List ℕ) → count < limit → ((x : SaidInstance) → IsLeft old x → ⊥) → IsHandedOver b c after text
     → PrintsUpTo meeting old count a b text → PrintsFirst meeting limit a c after
 no_more meeting old count limit a b c text after w none moved so_far = record {
   instances = so_far.done;
@@ -197,7 +197,7 @@ no_more meeting old count limit a b c text after w none moved so_far = record {
 }
 
 -- and where they are as many as were asked for
-pub enough : (meeting : Meeting) (old : Instances) (count limit : ℕ) (a b : Option (List ℕ)) (text : List ℕ) → count ≡ limit → PrintsUpTo meeting old count a b text → PrintsFirst meeting limit a b text
+pub enough : (meeting : Event) (old : Instances) (count limit : ℕ) (a b : Option (List ℕ)) (text : List ℕ) → count ≡ limit → PrintsUpTo meeting old count a b text → PrintsFirst meeting limit a b text
 enough meeting old count limit a b text e so_far = record {
   instances = so_far.done;
   first = enough_gone meeting old count limit so_far.done so_far.gone e;
@@ -207,14 +207,14 @@ enough meeting old count limit a b text e so_far = record {
 }
 
 -- no instance that has a line starts earlier than 64 bits count
-pub from_the_first : (b : Booked) → HasLine b → negsuc 9_223_372_036_854_775_807 ≤ℤ b.start
+pub from_the_first : (b : SaidInstance) → HasLine b → negsuc 9_223_372_036_854_775_807 ≤ℤ b.start
 from_the_first b line = omega (arith, ints, line.start.0)
 
-pub no_line_yet : (meeting : Meeting) (left : Instances) (a : Option (List ℕ)) → AreGoneThrough meeting left 0 [] → PrintsUpTo meeting left 0 a a []
+pub no_line_yet : (meeting : Event) (left : Instances) (a : Option (List ℕ)) → AreGoneThrough meeting left 0 [] → PrintsUpTo meeting left 0 a a []
 no_line_yet meeting left a g = record { done = []; gone = g; lines = []; each = tt; written = ([], Appends-nil a, refl) }
 
 -- and the text was written too
-pub finished : (meeting : Meeting) (limit : ℕ) (a b c : Option (List ℕ)) (text : List ℕ) → PrintsFirst meeting limit a b text → Appends b c text → PrintsFirst meeting limit a c []
+pub finished : (meeting : Event) (limit : ℕ) (a b c : Option (List ℕ)) (text : List ℕ) → PrintsFirst meeting limit a b text → Appends b c text → PrintsFirst meeting limit a c []
 finished meeting limit a b c text so_far q =
     let (w, p, e) = so_far.written in
     record { instances = so_far.instances; first = so_far.first; lines = so_far.lines; each = so_far.each; written = (w ++ text, Appends-trans a b c w text p q, append-nil (w ++ text) ∙ e) }
@@ -222,19 +222,19 @@ finished meeting limit a b c text so_far q =
 -- ---- of the event that octets spell
 
 abbrev OneInstance : Type 0
-OneInstance = (octets : List ℕ) (meeting : Meeting) (a b : Booked) → SpellsMeeting octets meeting → IsInstance meeting a → IsInstance meeting b → a.start ≡ b.start → a.key.slot ≡ b.key.slot → a ≡ b
+OneInstance = (octets : List ℕ) (meeting : Event) (a b : SaidInstance) → SpellsEvent octets meeting → IsInstance meeting a → IsInstance meeting b → a.start ≡ b.start → a.key.slot ≡ b.key.slot → a ≡ b
 
 abbrev AreDated : Type 0
-AreDated = (octets : List ℕ) (meeting : Meeting) (a : Booked) → SpellsMeeting octets meeting → IsInstance meeting a → IsNamed a.key.slot × IsNamed a.start × (a.start ≤ℤ a.end)
+AreDated = (octets : List ℕ) (meeting : Event) (a : SaidInstance) → SpellsEvent octets meeting → IsInstance meeting a → IsInEventDates a.key.slot × IsInEventDates a.start × (a.start ≤ℤ a.end)
 
-pub lines_there : (instances : List Booked) (lines : List (List ℕ)) → ((b : Booked) → Contains instances b → HasLine b) → AllZip IsLineOf instances lines → AllZip IsInstanceLine instances lines
+pub lines_there : (instances : List SaidInstance) (lines : List (List ℕ)) → ((b : SaidInstance) → Contains instances b → HasLine b) → AllZip IsPrintedLine instances lines → AllZip IsInstanceLine instances lines
 lines_there [] [] has h = tt
 lines_there [] (l ∷ ls) has h = absurd h
 lines_there (b ∷ bs) [] has h = absurd h
 lines_there (b ∷ bs) (l ∷ ls) has h =
     (h.0 (has b (0, omega arith, refl)), lines_there bs ls (λ a c. has a (suc c.0, omega (arith, c.1), c.2)) h.1)
 
-pub expanded : OneInstance → AreDated → (octets : List ℕ) (meeting : Meeting) (limit : ℕ) (a b : Option (List ℕ)) → SpellsMeeting octets meeting → PrintsFirst meeting limit a b [] → ExpandsTo octets limit a b
+pub expanded : OneInstance → AreDated → (octets : List ℕ) (meeting : Event) (limit : ℕ) (a b : Option (List ℕ)) → SpellsEvent octets meeting → PrintsFirst meeting limit a b [] → ExpandsTo octets limit a b
 expanded one dated octets meeting limit a b spelled p = (
   written,
   record {
@@ -260,10 +260,10 @@ expanded one dated octets meeting limit a b spelled p = (
     written : List ℕ
     written = p.written.0
 
-    its : (x : Booked) → Contains p.instances x → IsInstance meeting x
+    its : (x : SaidInstance) → Contains p.instances x → IsInstance meeting x
     its x c = All-contains (IsInstance meeting) p.instances x p.first.each c
 
-    has : (x : Booked) → IsInstance meeting x → HasLine x
+    has : (x : SaidInstance) → IsInstance meeting x → HasLine x
     has x is =
         let d = dated octets meeting x spelled is in
         record { slot = (omega (arith, ints, d.0), omega (arith, ints, d.0)); start = (omega (arith, ints, d.1), omega (arith, ints, d.1)); ends = d.2 }

@@ -9,7 +9,7 @@ use Rattle.sched_box.specs.declared.output.WriteFault.TheVariants as write
 use Rattle.ical_lines.specs.Fault.{RefusesBy}
 use Rattle.ical_lines.specs.declared.fault.Fault.{Fault}
 use Rattle.ical_lines.specs.declared.fault.Fault.TheVariants as lines
-use Rattle.sched_cli.specs.Commands.{Says, IsSaid, read_status, read_text, refused_text, write_text, write_status}
+use Rattle.sched_cli.specs.Commands.{SaysLine, IsStatusSaid, read_status, read_text, refused_text, write_text, write_status}
 
 -- a beginning of these octets was written
 abbrev pub IsCut : Option (List ℕ) → Option (List ℕ) → List ℕ → Type 0
@@ -34,20 +34,20 @@ stopped_cut a b failed line write.Memory kept = kept_cut a b line kept
 
 -- what was said where a piece of the line couldn't be written
 pub stopped_says : (a b c : Option (List ℕ)) (failed lost : Bool) (line done piece rest : List ℕ) (fault : WriteFault) → line ≡ done ++ (piece ++ rest) → Appends a b done
-    → StopsWriting b c failed piece fault → lost ≡ true → Says line a c lost
+    → StopsWriting b c failed piece fault → lost ≡ true → SaysLine line a c lost
 stopped_says a b c failed lost line done piece rest fault is before stops l =
     let (n, begun) = cut_more a b c line done piece rest is before (stopped_cut b c failed piece fault stops) in
     inr (l, (n, begun))
 
 -- and where that piece is the last
 pub put_says : {X : Type 0} (a b c : Option (List ℕ)) (failed lost : Bool) (line done piece : List ℕ) (r : Result X WriteFault) → line ≡ done ++ piece → Appends a b done
-    → OnOk r (Appends b c piece) → IfErr r (StopsWriting b c failed piece) → OnErr r (lost ≡ true) → Says line a c lost
+    → OnOk r (Appends b c piece) → IfErr r (StopsWriting b c failed piece) → OnErr r (lost ≡ true) → SaysLine line a c lost
 put_says a b c failed lost line done piece (Ok x) is before more stops l = inl (subst (Appends a c) (sym is) (Appends-trans a b c done piece before more))
 put_says a b c failed lost line done piece (Err fault) is before more stops l =
     stopped_says a b c failed lost line done piece [] fault (is ∙ ap (λ (p : List ℕ). done ++ p) (sym (append-nil piece))) before stops l
 
 -- what is said of a fault, and its status
-pub said_write : (status : ℕ) (fault : WriteFault) (a b : Option (List ℕ)) (lost : Bool) → status ≡ write_status fault → Says (write_text fault) a b lost → IsSaid status a b lost
+pub said_write : (status : ℕ) (fault : WriteFault) (a b : Option (List ℕ)) (lost : Bool) → status ≡ write_status fault → SaysLine (write_text fault) a b lost → IsStatusSaid status a b lost
 said_write status write.Failed a b lost is says = record { quiet = λ l. absurd (omega (arith, is, l)); device = λ e. says; memory = λ e. absurd (omega (arith, is, e)) }
 said_write status write.Memory a b lost is says = record { quiet = λ l. absurd (omega (arith, is, l)); device = λ e. absurd (omega (arith, is, e)); memory = λ e. says }
 
@@ -60,11 +60,11 @@ kept_at_5 status write.Failed a b failed octets is stops e = absurd (omega (arit
 kept_at_5 status write.Memory a b failed octets is stops e = stops
 
 -- what can't be read
-pub said_read : (status : ℕ) (fault : Fault) (a b : Option (List ℕ)) (lost : Bool) → status ≡ read_status fault → Says (read_text fault) a b lost → IsSaid status a b lost
+pub said_read : (status : ℕ) (fault : Fault) (a b : Option (List ℕ)) (lost : Bool) → status ≡ read_status fault → SaysLine (read_text fault) a b lost → IsStatusSaid status a b lost
 said_read status (lines.Refused refusal) a b lost is says = record { quiet = λ l. absurd (omega (arith, is, l)); device = λ e. absurd (omega (arith, is, e)); memory = λ e. absurd (omega (arith, is, e)) }
 said_read status lines.Memory a b lost is says = record { quiet = λ l. absurd (omega (arith, is, l)); device = λ e. absurd (omega (arith, is, e)); memory = λ e. says }
 
-pub refused_at_3 : (P : ℕ → Type 0) (status : ℕ) (fault : Fault) (a b : Option (List ℕ)) (lost : Bool) → status ≡ read_status fault → RefusesBy P fault → Says (read_text fault) a b lost
-    → status ≡ 3 → (n : ℕ) × P n × Says (refused_text n) a b lost
+pub refused_at_3 : (P : ℕ → Type 0) (status : ℕ) (fault : Fault) (a b : Option (List ℕ)) (lost : Bool) → status ≡ read_status fault → RefusesBy P fault → SaysLine (read_text fault) a b lost
+    → status ≡ 3 → (n : ℕ) × P n × SaysLine (refused_text n) a b lost
 refused_at_3 P status (lines.Refused refusal) a b lost is is_fault says e = (refusal.number, is_fault, says)
 refused_at_3 P status lines.Memory a b lost is is_fault says e = absurd (omega (arith, is, e))

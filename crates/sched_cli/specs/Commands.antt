@@ -2,7 +2,7 @@
 use Rattle.std.specs.Prelude.{◌≡◌, ◌⊎◌, ℕ, ℤ, Bool, true, if◌then◌else◌, ◌==◌, ◌≤◌, List, ◌++◌, take, codes, decimal, Contains, Option, IfSome, Result, Ok, Err}
 use Rattle.std.specs.Io.KnownBytes.{Appends, Keeps}
 use Rattle.profile.specs.checker.Calendars.{CertificateHolds}
-use Rattle.profile.specs.streams.Streams.{Hosts}
+use Rattle.profile.specs.streams.Streams.{Config}
 use Rattle.clash_check.specs.Verdicts.{IsRefusedCalendar, IsJudgement}
 use Rattle.clash_check.specs.declared.verdict.Checked.{Checked}
 use Rattle.clash_check.specs.declared.verdict.Verdict.{Verdict}
@@ -10,7 +10,7 @@ use Rattle.clash_check.specs.declared.verdict.Verdict.TheVariants.{Yes, No}
 use Rattle.clash_check.specs.declared.verdict.Why.{Why}
 use Rattle.ical_lines.specs.declared.fault.Fault.{Fault}
 use Rattle.ical_lines.specs.declared.fault.Fault.TheVariants as lines
-use Rattle.sched_box.specs.Preamble.{Opens, OpensNot, StopsInPreamble}
+use Rattle.sched_box.specs.Preamble.{OpensStream, OpensNot, StopsInPreamble}
 use Rattle.sched_box.specs.Serving.{Ends, HasRead, ServesStream, KeepsTexts}
 use Rattle.sched_box.specs.declared.fault.ServeFault.TheVariants.{Read, Write, TooLong, Memory}
 use Rattle.sched_box.specs.declared.fault.StreamFault.{StreamFault}
@@ -19,14 +19,14 @@ use Rattle.sched_box.specs.declared.output.WriteFault.{WriteFault}
 use Rattle.sched_box.specs.declared.output.WriteFault.TheVariants.{Failed}
 use Rattle.sched_box.specs.declared.output.WriteFault.TheVariants as write
 use Rattle.sched_box.specs.declared.serving.ServeReport.{ServeReport}
-use Rattle.sched_cli.specs.declared.commands.Kept.{Kept}
-use Rattle.sched_cli.specs.declared.commands.Kept.TheVariants.{Calendar, Certificate}
+use Rattle.sched_cli.specs.declared.commands.KeptText.{KeptText}
+use Rattle.sched_cli.specs.declared.commands.KeptText.TheVariants.{Calendar, Certificate}
 
 -- ---- standard error
 
 -- the line was written; only where it may be lost, a beginning of it
-abbrev pub Says : List ℕ → Option (List ℕ) → Option (List ℕ) → Bool → Type 0
-Says line old new lost = Appends old new line ⊎ ((lost ≡ true) × ((n : ℕ) × Appends old new (take n line)))
+abbrev pub SaysLine : List ℕ → Option (List ℕ) → Option (List ℕ) → Bool → Type 0
+SaysLine line old new lost = Appends old new line ⊎ ((lost ≡ true) × ((n : ℕ) × Appends old new (take n line)))
 
 abbrev pub refused_text : ℕ → List ℕ
 refused_text n = codes "roombox: refused " ++ decimal n ++ codes "\n"
@@ -49,10 +49,10 @@ fault_text (Serve TooLong) = too_long_text
 fault_text (Serve Memory) = memory_text
 
 -- what is said with the statuses 0, 1, 4 and 5: with 0 and 1 nothing
-pub record IsSaid (status : ℕ) (old new : Option (List ℕ)) (lost : Bool) : Type 0 where
+pub record IsStatusSaid (status : ℕ) (old new : Option (List ℕ)) (lost : Bool) : Type 0 where
   pub quiet : status ≤ 1 → Keeps old new
-  pub device : status ≡ 4 → Says device_text old new lost
-  pub memory : status ≡ 5 → Says memory_text old new lost
+  pub device : status ≡ 4 → SaysLine device_text old new lost
+  pub memory : status ≡ 5 → SaysLine memory_text old new lost
 
 -- ---- a stream
 
@@ -98,7 +98,7 @@ stream_status (Err fault) = fault_status fault
 -- what is said at its end
 abbrev pub SaysStream : Result ServeReport StreamFault → Option (List ℕ) → Option (List ℕ) → Bool → Type 0
 SaysStream (Ok report) old new lost = Keeps old new
-SaysStream (Err fault) old new lost = Says (fault_text fault) old new lost
+SaysStream (Err fault) old new lost = SaysLine (fault_text fault) old new lost
 
 -- the stream was served so, this is the status for it, and this was said
 pub record ServesWith (status : ℕ) (ends : Ends) (old new : Option (List ℕ)) (lost : Bool) : Type 0 where
@@ -110,16 +110,16 @@ pub record ServesWith (status : ℕ) (ends : Ends) (old new : Option (List ℕ))
 -- ---- what a room keeps
 
 -- the one of the two texts that was asked for
-abbrev pub text_of : Kept → List ℕ → List ℕ → List ℕ
-text_of Calendar calendar certificate = calendar
-text_of Certificate calendar certificate = certificate
+abbrev pub kept_text : KeptText → List ℕ → List ℕ → List ℕ
+kept_text Calendar calendar certificate = calendar
+kept_text Certificate calendar certificate = certificate
 
 -- a preamble and objects were read, and after them the room keeps this calendar and this certificate, for which the checker says yes
 pub record KeepsBoth (input left : Option (List ℕ)) (room calendar certificate : List ℕ) : Type 0 where
   pub moment : ℤ
-  pub hosts : Hosts
+  pub hosts : Config
   pub rest : Option (List ℕ)
-  pub opens : Opens input rest moment hosts
+  pub opens : OpensStream input rest moment hosts
   pub keeps : KeepsTexts moment hosts rest left room calendar certificate
   pub passes : CertificateHolds room calendar certificate
 
@@ -128,9 +128,9 @@ pub record KeepsBoth (input left : Option (List ℕ)) (room calendar certificate
 abbrev pub KeepsNone : Option (List ℕ) → Option (List ℕ) → List ℕ → StreamFault → Type 0
 KeepsNone input left room (Refused refusal) =
     (refusal.number ≡ 90) × ((IfSome input OpensNot × StopsInPreamble input left)
-    ⊎ ((moment : ℤ) × (hosts : Hosts) × (rest : Option (List ℕ)) × Opens input rest moment hosts × (Contains hosts.rooms room → ⊥) × Keeps rest left))
+    ⊎ ((moment : ℤ) × (hosts : Config) × (rest : Option (List ℕ)) × OpensStream input rest moment hosts × (Contains hosts.rooms room → ⊥) × Keeps rest left))
 KeepsNone input left room (Serve TooLong) =
-    (moment : ℤ) × (hosts : Hosts) × (rest : Option (List ℕ)) × Opens input rest moment hosts × HasRead 1_073_741_824 rest left
+    (moment : ℤ) × (hosts : Config) × (rest : Option (List ℕ)) × OpensStream input rest moment hosts × HasRead 1_073_741_824 rest left
 KeepsNone input left room (Serve Read) = Unit {0}
 KeepsNone input left room (Serve Write) = Unit {0}
 KeepsNone input left room (Serve Memory) = Unit {0}
@@ -140,22 +140,22 @@ pub record RefusesToKeep (room : List ℕ) (input left old new : Option (List �
   pub fault : StreamFault
   pub status : fault_status fault ≡ 3
   pub none : KeepsNone input left room fault
-  pub said : Says (fault_text fault) old new lost
+  pub said : SaysLine (fault_text fault) old new lost
 
 -- the one that was asked for was written, whole
-pub record WritesKept (kept : Kept) (room : List ℕ) (ends : Ends) : Type 0 where
+pub record WritesKept (kept : KeptText) (room : List ℕ) (ends : Ends) : Type 0 where
   pub calendar : List ℕ
   pub certificate : List ℕ
   pub keeps : KeepsBoth ends.input ends.left room calendar certificate
-  pub written : Appends ends.output ends.written (text_of kept calendar certificate)
+  pub written : Appends ends.output ends.written (kept_text kept calendar certificate)
 
 -- a beginning of it was
-pub record CutsKept (kept : Kept) (room : List ℕ) (ends : Ends) : Type 0 where
+pub record CutsKept (kept : KeptText) (room : List ℕ) (ends : Ends) : Type 0 where
   pub calendar : List ℕ
   pub certificate : List ℕ
   pub keeps : KeepsBoth ends.input ends.left room calendar certificate
   pub count : ℕ
-  pub written : Appends ends.output ends.written (take count (text_of kept calendar certificate))
+  pub written : Appends ends.output ends.written (take count (kept_text kept calendar certificate))
 
 -- ---- the checker's answer
 

@@ -2,7 +2,7 @@
 use Rattle.std.specs.Prelude.{◌≡◌, ◌⊎◌, ℕ, true, List, [], ◌∷◌, ◌++◌, codes, decimal, Option}
 use Rattle.std.specs.Io.{StartsWith}
 use Rattle.std.specs.Io.KnownBytes.{Appends}
-use Rattle.profile.specs.events.Events.{Method, Request, Add, Cancel}
+use Rattle.profile.specs.events.EventComponents.{Method, Request, Add, Cancel}
 use Rattle.profile.specs.organisers.Objects.{Operation, Store, Reply, Refresh, OrganiserObject, SpellsOrganiserObject}
 use Rattle.profile.specs.rooms.Messages.{Message, SpellsMessage, MessageTextFault}
 use Rattle.ical_tree.specs.Reading.{ObjectHas}

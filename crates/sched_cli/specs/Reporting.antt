@@ -3,7 +3,7 @@ use Rattle.std.specs.Prelude.{◌≡◌, ◌⊎◌, ℕ, Bool, if◌then◌else�
 use Rattle.sched_box.specs.Serving.{Ends, ServesStream}
 use Rattle.sched_box.specs.declared.fault.StreamFault.{StreamFault}
 use Rattle.sched_box.specs.declared.serving.ServeReport.{ServeReport}
-use Rattle.sched_cli.specs.Commands.{Says, fault_status, fault_text, memory_text}
+use Rattle.sched_cli.specs.Commands.{SaysLine, fault_status, fault_text, memory_text}
 
 -- one object, or several
 abbrev pub objects_word : ℕ → List ℕ
@@ -17,12 +17,12 @@ IsReportLine report line =
 -- it was said, with status 0; or memory for it was refused, with status 5
 abbrev pub SaysReport : ServeReport → ℕ → Option (List ℕ) → Option (List ℕ) → Bool → Type 0
 SaysReport report status old new lost =
-    ((status ≡ 0) × ((line : List ℕ) × IsReportLine report line × Says line old new lost)) ⊎ ((status ≡ 5) × Says memory_text old new lost)
+    ((status ≡ 0) × ((line : List ℕ) × IsReportLine report line × SaysLine line old new lost)) ⊎ ((status ≡ 5) × SaysLine memory_text old new lost)
 
 -- what is said where a stream ends: its report, or why it ended early
 abbrev pub SaysEnd : Result ServeReport StreamFault → ℕ → Option (List ℕ) → Option (List ℕ) → Bool → Type 0
 SaysEnd (Ok report) status old new lost = SaysReport report status old new lost
-SaysEnd (Err fault) status old new lost = (status ≡ fault_status fault) × Says (fault_text fault) old new lost
+SaysEnd (Err fault) status old new lost = (status ≡ fault_status fault) × SaysLine (fault_text fault) old new lost
 
 -- the stream was served so, and that was said of it, with this status
 pub record ReportsWith (status : ℕ) (ends : Ends) (old new : Option (List ℕ)) (lost : Bool) : Type 0 where

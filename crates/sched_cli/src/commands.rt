@@ -6,7 +6,7 @@ ghost use Rattle.profile.specs.checker.Calendars.{CertificateHolds};
 ghost use Rattle.ical_values.specs.Octets.{address_octets};
 ghost use Rattle.sched_box.specs.Faults.{StreamKeepsButRead, StreamStopsFor};
 ghost use Rattle.sched_box.specs.Output.{KeepsButFailed, StopsWriting};
-ghost use Rattle.sched_cli.specs.Commands.{BlamesDevice, CutsKept, CutsVerdict, IsSaid, ServesWith, WritesKept, KeepsBoth, KeepsNone, RefusesToKeep, TellsDevice, WritesVerdict, verdict_line, verdict_status, no_line};
+ghost use Rattle.sched_cli.specs.Commands.{BlamesDevice, CutsKept, CutsVerdict, IsStatusSaid, ServesWith, WritesKept, KeepsBoth, KeepsNone, RefusesToKeep, TellsDevice, WritesVerdict, verdict_line, verdict_status, no_line};
 
 use crate::status::{DONE, NO, report_memory, report_stream, report_write};
 use clash_check::{Checked, Verdict, Why, check};
@@ -17,7 +17,7 @@ use std::io::{self, Write};
 
 /// Which of a room's two texts is wanted.
 #[derive(Clone, Copy, PartialEq, Eq)]
-pub enum Kept {
+pub enum KeptText {
     Calendar,
     Certificate,
 }
@@ -44,7 +44,7 @@ pub fn run_serve<R: Input, W: Output, E: Output>(
 pub fn run_keep<R: Input, W: Output, E: Output>(
     alloc: Global,
     room: &Address,
-    kept: Kept,
+    kept: KeptText,
     reader: &mut R,
     writer: &mut W,
     errors: &mut E,
@@ -52,7 +52,7 @@ pub fn run_keep<R: Input, W: Output, E: Output>(
     ensures device { BlamesDevice (R.has_failed reader.new) (W.has_failed writer.new) result }
     ensures told { TellsDevice result (R.has_failed reader.old) (R.has_failed reader.new) (W.has_failed writer.old) (W.has_failed writer.new) }
     ensures status { (result ≡ 0) ⊎ (result ≡ 3) ⊎ (result ≡ 4) ⊎ (result ≡ 5) }
-    ensures said { IsSaid result (E.contents errors.old) (E.contents errors.new) (E.may_lose errors.new) }
+    ensures said { IsStatusSaid result (E.contents errors.old) (E.contents errors.new) (E.may_lose errors.new) }
     ensures unwritten { (result ≡ 3) ⊎ (result ≡ 5) → Keeps (W.contents writer.old) (W.contents writer.new) }
     ensures refused { result ≡ 3 → RefusesToKeep (address_octets room.now) (R.remaining reader.old) (R.remaining reader.new) (E.contents errors.old) (E.contents errors.new) (E.may_lose errors.new) }
     ensures kept { result ≡ 0 → WritesKept kept (address_octets room.now)
@@ -63,8 +63,8 @@ pub fn run_keep<R: Input, W: Output, E: Output>(
     match keep_stream(alloc, room, reader) {
         Ok((calendar, certificate)) => {
             let text = match kept {
-                Kept::Calendar => calendar,
-                Kept::Certificate => certificate,
+                KeptText::Calendar => calendar,
+                KeptText::Certificate => certificate,
             };
             write_out(writer, errors, text.as_slice())
         }
@@ -96,7 +96,7 @@ fn write_out<W: Output, E: Output>(writer: &mut W, errors: &mut E, octets: &[u8]
     ensures device { BlamesDevice false (W.has_failed writer.new) result }
     ensures told { TellsDevice result false false (W.has_failed writer.old) (W.has_failed writer.new) }
     ensures status { (result ≡ 0) ⊎ (result ≡ 4) ⊎ (result ≡ 5) }
-    ensures said { IsSaid result (E.contents errors.old) (E.contents errors.new) (E.may_lose errors.new) }
+    ensures said { IsStatusSaid result (E.contents errors.old) (E.contents errors.new) (E.may_lose errors.new) }
 {
     match writer.put(octets) {
         Ok(()) => DONE,
@@ -122,7 +122,7 @@ pub fn run_check<W: Output, E: Output>(
     ensures device { BlamesDevice false (W.has_failed writer.new) result }
     ensures told { TellsDevice result false false (W.has_failed writer.old) (W.has_failed writer.new) }
     ensures status { (result ≤ 1) ⊎ (result ≡ 4) ⊎ (result ≡ 5) }
-    ensures said { IsSaid result (E.contents errors.old) (E.contents errors.new) (E.may_lose errors.new) }
+    ensures said { IsStatusSaid result (E.contents errors.old) (E.contents errors.new) (E.may_lose errors.new) }
 {
     let Ok(checked) = check(alloc, calendar, certificate, room) else {
         return report_memory(errors);

@@ -2,7 +2,7 @@
 
 ghost use Rattle.std.specs.Prelude.{◌≡◌, ◌≤◌, ◌++◌, ◌⊎◌, ℕ, List, true, false, IfOk, OnOk};
 ghost use Rattle.std.specs.Io.KnownBytes.{Appends, Keeps};
-ghost use Rattle.sched_cli.specs.Commands.{BlamesDevice, IsSaid, TellsDevice};
+ghost use Rattle.sched_cli.specs.Commands.{BlamesDevice, IsStatusSaid, TellsDevice};
 ghost use Rattle.sched_cli.specs.Diagnosis.{IsMeaningOf, IsPlaceText, IsRefusedText, SaysRefused, SaysTaken, message_line, property_text};
 ghost use Rattle.sched_cli.specs.Explained.{is_explained};
 
@@ -29,7 +29,7 @@ pub fn run_explain_object<W: Output, E: Output>(
     ensures device { BlamesDevice false (W.has_failed writer.new) result }
     ensures told { TellsDevice result false false (W.has_failed writer.old) (W.has_failed writer.new) }
     ensures status { (result ≤ 1) ⊎ (result ≡ 4) ⊎ (result ≡ 5) }
-    ensures said { IsSaid result (E.contents errors.old) (E.contents errors.new) (E.may_lose errors.new) }
+    ensures said { IsStatusSaid result (E.contents errors.old) (E.contents errors.new) (E.may_lose errors.new) }
 {
     match Message::read(alloc, octets) {
         Ok(message) => write_status(writer, errors, DONE, taken_line(&message).as_bytes()),
@@ -55,7 +55,7 @@ fn write_status<W: Output, E: Output>(
     ensures device { BlamesDevice false (W.has_failed writer.new) result }
     ensures told { TellsDevice result false false (W.has_failed writer.old) (W.has_failed writer.new) }
     ensures status { (result ≤ 1) ⊎ (result ≡ 4) ⊎ (result ≡ 5) }
-    ensures said { IsSaid result (E.contents errors.old) (E.contents errors.new) (E.may_lose errors.new) }
+    ensures said { IsStatusSaid result (E.contents errors.old) (E.contents errors.new) (E.may_lose errors.new) }
 {
     match writer.put(octets) {
         Ok(()) => status,

@@ -3,12 +3,12 @@
 ghost use Rattle.std.specs.Prelude.{◌≡◌, ◌⊎◌, ◌++◌, ◌∷◌, ℕ, List, [], decimal, false, OnOk, IfOk, IfErr};
 ghost use Rattle.std.specs.Io.KnownBytes.{Appends, Keeps};
 ghost use Rattle.profile.specs.text.Values.{WritesStamp};
-ghost use Rattle.profile.specs.events.Meetings.{MeetingTextFault};
+ghost use Rattle.profile.specs.events.Events.{EventTextFault};
 ghost use Rattle.cal_events.specs.Calendars.{instance_of};
 ghost use Rattle.cal_events.specs.SaidMeetings.{said_meeting};
 ghost use Rattle.sched_box.specs.Output.{KeepsButFailed, WriteStopsFor};
-ghost use Rattle.sched_cli.specs.Commands.{BlamesDevice, IsSaid, Says, TellsDevice, refused_text};
-ghost use Rattle.sched_cli.specs.Expanding.{IsLineOf, IsHandedOver, PrintsFirst, PrintsNext, ExpandsTo};
+ghost use Rattle.sched_cli.specs.Commands.{BlamesDevice, IsStatusSaid, SaysLine, TellsDevice, refused_text};
+ghost use Rattle.sched_cli.specs.Expanding.{IsPrintedLine, IsHandedOver, PrintsFirst, PrintsNext, ExpandsTo};
 
 use crate::status::{DONE, report_read, report_write};
 use cal_events::{Event, Instance, Instances, one_instance};
@@ -31,8 +31,8 @@ pub fn run_expand<W: Output, E: Output>(
 ) -> u8
     ensures expands { result ≡ 0 → ExpandsTo octets.now limit (W.contents writer.old) (W.contents writer.new) }
     ensures unwritten { result ≡ 3 → Keeps (W.contents writer.old) (W.contents writer.new) }
-    ensures refused { result ≡ 3 → (n : ℕ) × MeetingTextFault octets.now n × Says (refused_text n) (E.contents errors.old) (E.contents errors.new) (E.may_lose errors.new) }
-    ensures said { IsSaid result (E.contents errors.old) (E.contents errors.new) (E.may_lose errors.new) }
+    ensures refused { result ≡ 3 → (n : ℕ) × EventTextFault octets.now n × SaysLine (refused_text n) (E.contents errors.old) (E.contents errors.new) (E.may_lose errors.new) }
+    ensures said { IsStatusSaid result (E.contents errors.old) (E.contents errors.new) (E.may_lose errors.new) }
     ensures device { BlamesDevice false (W.has_failed writer.new) result }
     ensures told { TellsDevice result false false (W.has_failed writer.old) (W.has_failed writer.new) }
     ensures status { (result ≡ 0) ⊎ (result ≡ 3) ⊎ (result ≡ 4) ⊎ (result ≡ 5) }
@@ -118,7 +118,7 @@ fn print_instance<W: Output>(
     ensures cause { IfErr result (WriteStopsFor (W.has_failed writer.new)) }
     ensures mark { OnOk result (W.has_failed writer.new ≡ W.has_failed writer.old) }
     ensures told { IfErr result (KeepsButFailed (W.has_failed writer.old) (W.has_failed writer.new)) }
-    ensures line { OnOk result ((line : List ℕ) × IsLineOf (instance_of instance.entry) line
+    ensures line { OnOk result ((line : List ℕ) × IsPrintedLine (instance_of instance.entry) line
         × IsHandedOver (W.contents writer.old) (W.contents writer.new) lines.new.text.items (lines.old.text.items ++ line)) }
 {
     lines.append(instance)?;
@@ -137,7 +137,7 @@ struct InstanceLines {
 impl InstanceLines {
     /// Adds the line of an instance. Those of an event that was read have one.
     fn append(&mut self, instance: Instance<'_>) -> Result<(), AllocError>
-        ensures { OnOk result ((line : List ℕ) × IsLineOf (instance_of instance.entry) line
+        ensures { OnOk result ((line : List ℕ) × IsPrintedLine (instance_of instance.entry) line
             × (self.new.text.items ≡ self.old.text.items ++ line)) }
     {
         let Some(slot) = Stamp::of_instant(instance.key.slot) else {

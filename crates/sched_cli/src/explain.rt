@@ -2,7 +2,7 @@
 
 ghost use Rattle.std.specs.Prelude.{◌≡◌, ◌<◌, ◌⊎◌, ℕ, List, length, is_some, true, false, IfSome};
 ghost use Rattle.std.specs.Io.KnownBytes.{Appends, Keeps};
-ghost use Rattle.sched_cli.specs.Commands.{BlamesDevice, IsSaid, TellsDevice};
+ghost use Rattle.sched_cli.specs.Commands.{BlamesDevice, IsStatusSaid, TellsDevice};
 ghost use Rattle.sched_cli.specs.Diagnosis.{IsMeaningOf};
 ghost use Rattle.sched_cli.specs.Explained.{is_explained};
 
@@ -156,7 +156,7 @@ pub fn run_explain<W: Output, E: Output>(number: u8, writer: &mut W, errors: &mu
     ensures device { BlamesDevice false (W.has_failed writer.new) result }
     ensures told { TellsDevice result false false (W.has_failed writer.old) (W.has_failed writer.new) }
     ensures status { (result ≡ 0) ⊎ (result ≡ 2) ⊎ (result ≡ 4) ⊎ (result ≡ 5) }
-    ensures said { IsSaid result (E.contents errors.old) (E.contents errors.new) (E.may_lose errors.new) }
+    ensures said { IsStatusSaid result (E.contents errors.old) (E.contents errors.new) (E.may_lose errors.new) }
 {
     let Some(line) = explanation(number) else {
         return USAGE;

@@ -5,7 +5,7 @@
 ghost use Rattle.std.specs.Prelude.{◌≡◌, ◌<◌, ◌^◌, ◌+◌, ◌++◌, ◌⊎◌, ℕ, List, length, drop, true, false, IfOk, IfSome, OnOk};
 ghost use Rattle.profile.specs.text.Lines.{is_continuation, line_name};
 ghost use Rattle.sched_cli.specs.Places.{IsPlace};
-ghost use Rattle.sched_cli.specs.Searching.{Finds, FoundIn, IsFoundAt};
+ghost use Rattle.sched_cli.specs.Searching.{Finds, FoundIn, IsLineFoundAt};
 
 use crate::blame::{Blame, Within, blame_of};
 use ical_lines::{Fault, Limits, Line, Unfolded, split_line, without_mark};
@@ -175,7 +175,7 @@ impl Search {
         property: &[u8],
         line: u64,
     ) -> Result<(), AllocError>
-        ensures { OnOk result ((self.new.found ≡ self.old.found) ⊎ IsFoundAt line property.now self.new.found) }
+        ensures { OnOk result ((self.new.found ≡ self.old.found) ⊎ IsLineFoundAt line property.now self.new.found) }
     {
         self.found = match blame {
             Blame::None => return Ok(()),

@@ -2,7 +2,7 @@
 
 ghost use Rattle.std.specs.Prelude.{◌≡◌, OnErr, OnOk};
 ghost use Rattle.std.specs.Io.KnownBytes.{Appends};
-ghost use Rattle.sched_cli.specs.Commands.{Says, device_text, fault_status, fault_text, memory_text, read_status, read_text, refused_text, too_long_text, write_status, write_text};
+ghost use Rattle.sched_cli.specs.Commands.{SaysLine, device_text, fault_status, fault_text, memory_text, read_status, read_text, refused_text, too_long_text, write_status, write_text};
 
 use ical_lines::{Fault, Refusal};
 use itoa::Buffer;
@@ -24,7 +24,7 @@ pub const MEMORY: u8 = 5;
 /// Says why a stream ended early, and gives the status for it.
 pub fn report_stream<E: Output>(errors: &mut E, fault: StreamFault) -> u8
     ensures status { result ≡ fault_status fault }
-    ensures says { Says (fault_text fault) (E.contents errors.old) (E.contents errors.new) (E.may_lose errors.new) }
+    ensures says { SaysLine (fault_text fault) (E.contents errors.old) (E.contents errors.new) (E.may_lose errors.new) }
 {
     match fault {
         StreamFault::Refused(refusal) => report_refused(errors, refusal),
@@ -38,7 +38,7 @@ pub fn report_stream<E: Output>(errors: &mut E, fault: StreamFault) -> u8
 /// Says why something can't be read, and gives the status for it.
 pub fn report_read<E: Output>(errors: &mut E, fault: Fault) -> u8
     ensures status { result ≡ read_status fault }
-    ensures says { Says (read_text fault) (E.contents errors.old) (E.contents errors.new) (E.may_lose errors.new) }
+    ensures says { SaysLine (read_text fault) (E.contents errors.old) (E.contents errors.new) (E.may_lose errors.new) }
 {
     match fault {
         Fault::Refused(refusal) => report_refused(errors, refusal),
@@ -49,7 +49,7 @@ pub fn report_read<E: Output>(errors: &mut E, fault: Fault) -> u8
 /// Says why something wasn't written whole, and gives the status for it.
 pub fn report_write<E: Output>(errors: &mut E, fault: WriteFault) -> u8
     ensures status { result ≡ write_status fault }
-    ensures says { Says (write_text fault) (E.contents errors.old) (E.contents errors.new) (E.may_lose errors.new) }
+    ensures says { SaysLine (write_text fault) (E.contents errors.old) (E.contents errors.new) (E.may_lose errors.new) }
 {
     match fault {
         WriteFault::Failed => report_device(errors),
@@ -60,14 +60,14 @@ pub fn report_write<E: Output>(errors: &mut E, fault: WriteFault) -> u8
 /// Says that the input is refused, and with which number.
 pub fn report_refused<E: Output>(errors: &mut E, refusal: Refusal) -> u8
     ensures status { result ≡ 3 }
-    ensures says { Says (refused_text refusal.number) (E.contents errors.old) (E.contents errors.new) (E.may_lose errors.new) }
+    ensures says { SaysLine (refused_text refusal.number) (E.contents errors.old) (E.contents errors.new) (E.may_lose errors.new) }
 {
     let _ = say_refused(errors, refusal.number);
     REFUSED
 }
 
 fn say_refused<E: Output>(errors: &mut E, number: u8) -> Result<(), WriteFault>
-    ensures { Says (refused_text number) (E.contents errors.old) (E.contents errors.new) (E.may_lose errors.new) }
+    ensures { SaysLine (refused_text number) (E.contents errors.old) (E.contents errors.new) (E.may_lose errors.new) }
 {
     let mut digits = Buffer::new();
     errors.put(b"roombox: refused ")?;
@@ -78,7 +78,7 @@ fn say_refused<E: Output>(errors: &mut E, number: u8) -> Result<(), WriteFault>
 /// Says that the input is too long.
 pub fn report_too_long<E: Output>(errors: &mut E) -> u8
     ensures status { result ≡ 3 }
-    ensures says { Says too_long_text (E.contents errors.old) (E.contents errors.new) (E.may_lose errors.new) }
+    ensures says { SaysLine too_long_text (E.contents errors.old) (E.contents errors.new) (E.may_lose errors.new) }
 {
     say(errors, b"roombox: too long\n");
     REFUSED
@@ -87,7 +87,7 @@ pub fn report_too_long<E: Output>(errors: &mut E) -> u8
 /// Says that a device failed.
 pub fn report_device<E: Output>(errors: &mut E) -> u8
     ensures status { result ≡ 4 }
-    ensures says { Says device_text (E.contents errors.old) (E.contents errors.new) (E.may_lose errors.new) }
+    ensures says { SaysLine device_text (E.contents errors.old) (E.contents errors.new) (E.may_lose errors.new) }
 {
     say(errors, b"roombox: device\n");
     DEVICE
@@ -96,7 +96,7 @@ pub fn report_device<E: Output>(errors: &mut E) -> u8
 /// Says that memory ran out.
 pub fn report_memory<E: Output>(errors: &mut E) -> u8
     ensures status { result ≡ 5 }
-    ensures says { Says memory_text (E.contents errors.old) (E.contents errors.new) (E.may_lose errors.new) }
+    ensures says { SaysLine memory_text (E.contents errors.old) (E.contents errors.new) (E.may_lose errors.new) }
 {
     say(errors, b"roombox: memory\n");
     MEMORY
@@ -104,7 +104,7 @@ pub fn report_memory<E: Output>(errors: &mut E) -> u8
 
 /// Writes a line. Where standard error fails too, nobody is left to be told.
 pub(crate) fn say<E: Output>(errors: &mut E, line: &[u8])
-    ensures { Says line.now (E.contents errors.old) (E.contents errors.new) (E.may_lose errors.new) }
+    ensures { SaysLine line.now (E.contents errors.old) (E.contents errors.new) (E.may_lose errors.new) }
 {
     let _ = errors.put(line);
 }

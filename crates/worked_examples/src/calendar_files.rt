@@ -3,7 +3,7 @@
 use crate::calendars::made;
 use crate::certificates::verdict_text;
 use cal_events::{
-    Calendar, EventComponent, Instances, MeetingComponents, ParticipationStatus, Purpose, Series,
+    Calendar, EventComponent, Instances, MeetingComponents, PartStat, Purpose, Series,
 };
 use clash_check::check;
 use example_cases::NoAnswer;
@@ -102,10 +102,10 @@ pub fn answered(alloc: Global, octets: &[u8], room: &Address) -> Result<String, 
     Ok(list)
 }
 
-fn status_word(status: Option<ParticipationStatus>) -> &'static str {
+fn status_word(status: Option<PartStat>) -> &'static str {
     match status {
-        Some(ParticipationStatus::Accepted) => "accepted",
-        Some(ParticipationStatus::Declined) => "declined",
+        Some(PartStat::Accepted) => "accepted",
+        Some(PartStat::Declined) => "declined",
         Some(_) => "otherwise",
         None => "not asked",
     }

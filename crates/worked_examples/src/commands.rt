@@ -5,7 +5,7 @@ use crate::files::read_all;
 use crate::names::ROOM;
 use example_cases::Case;
 use ical_values::Address;
-use sched_cli::commands::{Kept, run_check, run_keep, run_serve};
+use sched_cli::commands::{KeptText, run_check, run_keep, run_serve};
 use sched_cli::{run_expand, run_explain};
 use std::io::{self, ErrorKind};
 use std::rt::Files;
@@ -68,11 +68,11 @@ fn number_in(input: &[u8]) -> u8 {
     text.trim_end().parse::<u8>().unwrap_or(0)
 }
 
-fn kept_of(case: Case<'_>) -> Kept {
+fn kept_of(case: Case<'_>) -> KeptText {
     if case.call() == "calendar" {
-        Kept::Calendar
+        KeptText::Calendar
     } else {
-        Kept::Certificate
+        KeptText::Certificate
     }
 }
 

@@ -7,7 +7,7 @@
 
 use crate::files::read_all;
 use crate::names::ANN;
-use cal_events::ParticipationStatus;
+use cal_events::PartStat;
 use example_cases::answers::{Answers, none};
 use example_cases::spelled::{escaped, octets_of};
 use example_cases::words::{count, first_word};
@@ -52,13 +52,13 @@ pub fn seen_answer<R: Files + AllocGlobal>(rt: &R, case: Case<'_>) -> Result<Str
     Ok(answers.finish())
 }
 
-fn word_of(status: Option<ParticipationStatus>) -> &'static str {
+fn word_of(status: Option<PartStat>) -> &'static str {
     match status {
-        Some(ParticipationStatus::NeedsAction) => "needs action",
-        Some(ParticipationStatus::Tentative) => "tentative",
-        Some(ParticipationStatus::Accepted) => "accepted",
-        Some(ParticipationStatus::Delegated) => "delegated",
-        Some(ParticipationStatus::Declined) => "declined",
+        Some(PartStat::NeedsAction) => "needs action",
+        Some(PartStat::Tentative) => "tentative",
+        Some(PartStat::Accepted) => "accepted",
+        Some(PartStat::Delegated) => "delegated",
+        Some(PartStat::Declined) => "declined",
         None => "none",
     }
 }

@@ -3,23 +3,23 @@ use Rattle.std.specs.Prelude.{◌≡◌, ℕ, true, false, List, Contains, None}
 use Rattle.std.specs.List.{AllZip}
 use Rattle.profile.specs.text.Lines.{logical_lines, text_has, reads_as_lines}
 use Rattle.profile.specs.text.Objects.{SpellsTree, IsObject, has_version, lines_have}
-use Rattle.profile.specs.text.Trees.{Tree, tree_name, tree_own, tree_inside, vevents}
-use Rattle.profile.specs.checker.Instances.{Booked}
+use Rattle.profile.specs.text.Trees.{Tree, tree_own, vevents}
+use Rattle.profile.specs.checker.Instances.{Instance}
 use Rattle.profile.specs.checker.Certificates.{CertificateHoldsFor}
-use Rattle.profile.specs.events.Events.{Event, SaysEvent, EventFault}
+use Rattle.profile.specs.events.EventComponents.{EventComponent, SaysEventComponent, EventComponentFault}
 use Rattle.profile.specs.events.Confirmed.{Confirmed, IsConfirmed, AreConfirmed, MastersDiffer, OverridesDiffer}
 
 -- the octets are this VCALENDAR, of any size
 abbrev pub IsCalendarText : Tree → List ℕ → Type 0
-IsCalendarText t octets = IsObject tree_name tree_own tree_inside false t (logical_lines octets)
+IsCalendarText t octets = IsObject false t (logical_lines octets)
 
 -- the VEVENTs of an object say these events. METHOD is ignored
-abbrev pub SayEvents : Tree → List Event → Type 0
-SayEvents object events = AllZip (SaysEvent object None) (vevents object) events
+abbrev pub SayEvents : Tree → List EventComponent → Type 0
+SayEvents object events = AllZip (SaysEventComponent object None) (vevents object) events
 
 -- they do, and of them these are confirmed for the room
 pub record SaysCalendar (room : List ℕ) (object : Tree) (confirmed : Confirmed) : Type 0 where
-  pub events : List Event
+  pub events : List EventComponent
   pub says : SayEvents object events
   pub masters : MastersDiffer events
   pub overrides : OverridesDiffer events
@@ -33,10 +33,10 @@ pub record SpellsCalendar (room octets : List ℕ) (confirmed : Confirmed) : Typ
   pub says : SaysCalendar room tree confirmed
 
 -- the instance is confirmed for the room by the VCALENDAR that the octets are
-pub record IsConfirmedIn (room octets : List ℕ) (instance : Booked) : Type 0 where
+pub record IsConfirmedIn (room octets : List ℕ) (instance : Instance) : Type 0 where
   pub tree : Tree
   pub object : IsCalendarText tree octets
-  pub events : List Event
+  pub events : List EventComponent
   pub says : SayEvents tree events
   pub is : IsConfirmed room events instance
 
@@ -51,9 +51,9 @@ pub record CertificateHolds (room calendar text : List ℕ) : Type 0 where
 -- the VEVENTs of an object have the fault of this number, as a calendar
 pub data CalendarFault (object : Tree) : ℕ → Type 0 where
   -- one of them has this fault
-  in_event : {n : ℕ} → (lines : List (List ℕ)) → Contains (vevents object) lines → EventFault object None lines n → CalendarFault object n
-  two_masters : (events : List Event) → SayEvents object events → (MastersDiffer events → ⊥) → CalendarFault object 53
-  two_overrides : (events : List Event) → SayEvents object events → (OverridesDiffer events → ⊥) → CalendarFault object 54
+  in_event : {n : ℕ} → (lines : List (List ℕ)) → Contains (vevents object) lines → EventComponentFault object None lines n → CalendarFault object n
+  two_masters : (events : List EventComponent) → SayEvents object events → (MastersDiffer events → ⊥) → CalendarFault object 53
+  two_overrides : (events : List EventComponent) → SayEvents object events → (OverridesDiffer events → ⊥) → CalendarFault object 54
 
 -- the octets have the fault of this number
 pub data CalendarTextFault (octets : List ℕ) : ℕ → Type 0 where
@@ -62,6 +62,6 @@ pub data CalendarTextFault (octets : List ℕ) : ℕ → Type 0 where
   -- 20 to 23: in how the lines pair up
   in_tree : {n : ℕ} → lines_have n (logical_lines octets) ≡ true → CalendarTextFault octets n
   -- VERSION doesn't occur exactly once, or isn't `2.0`
-  no_version : (t : Tree) → SpellsTree tree_name tree_own tree_inside 7 t (logical_lines octets) → has_version (tree_own t) ≡ false → CalendarTextFault octets 24
+  no_version : (t : Tree) → SpellsTree 7 t (logical_lines octets) → has_version (tree_own t) ≡ false → CalendarTextFault octets 24
   -- in the VEVENTs of the calendar that the octets are
   in_vevents : {n : ℕ} → (t : Tree) → IsCalendarText t octets → CalendarFault t n → CalendarTextFault octets n

@@ -2,7 +2,7 @@
 use Rattle.std.specs.Prelude.{ℕ, zero, suc, List, [], ◌∷◌, ◌++◌, ◌-◌, ◌^◌, ◌<◌, ◌≤◌, ◌≡◌, ◌⊎◌, Contains, Some, length, take, codes, decimal}
 use Rattle.std.specs.List.{slice_get}
 use Rattle.profile.specs.checker.Instances.{HasClash, AreClear}
-use Rattle.profile.specs.events.Meetings.{Meeting}
+use Rattle.profile.specs.events.Events.{Event}
 use Rattle.profile.specs.events.Starts.{IsInstance}
 use Rattle.profile.specs.events.Confirmed.{Confirmed, IsOneOf}
 
@@ -66,7 +66,7 @@ abbrev pub text_of : Claims → List ℕ
 text_of c = spelled (lines_of c) []
 
 -- the octets are the certificate's
-pub record Spells (text : List ℕ) (c : Claims) : Type 0 where
+pub record SpellsCertificate (text : List ℕ) (c : Claims) : Type 0 where
   pub claims : IsClaims c
   pub is : text ≡ text_of c
 
@@ -81,7 +81,7 @@ pub record BeginsWell (text : List ℕ) (n : ℕ) : Type 0 where
 -- line n, counted from 1, is the first that is wrong or missing; what follows the last line is one more line
 pub record FirstWrong (text : List ℕ) (n : ℕ) : Type 0 where
   pub counted : 0 < n
-  pub none : (c : Claims) → Spells text c → ⊥
+  pub none : (c : Claims) → SpellsCertificate text c → ⊥
   pub before : BeginsWell text (n - 1)
   pub here : BeginsWell text n → ⊥
 
@@ -93,16 +93,16 @@ pub record HasCounts (confirmed : Confirmed) (c : Claims) : Type 0 where
   pub series : c.series ≡ length confirmed.series
 
 -- the series at a place, counted from 1
-abbrev pub IsSeriesAt : Confirmed → ℕ → Meeting → Type 0
+abbrev pub IsSeriesAt : Confirmed → ℕ → Event → Type 0
 IsSeriesAt confirmed place series = slice_get confirmed.series (place - 1) ≡ Some series
 
 -- what an entry says of series i and j holds; where they are one, of any two of its instances
 abbrev pub EntryHolds : Confirmed → ℕ → ℕ → Entry → Type 0
-EntryHolds confirmed i j End = (a b : Meeting) → IsSeriesAt confirmed i a → IsSeriesAt confirmed j b → AreClear (IsInstance a) (IsInstance b)
+EntryHolds confirmed i j End = (a b : Event) → IsSeriesAt confirmed i a → IsSeriesAt confirmed j b → AreClear (IsInstance a) (IsInstance b)
 
 -- it doesn't: there are two that clash
 abbrev pub EntryFails : Confirmed → ℕ → ℕ → Entry → Type 0
-EntryFails confirmed i j End = (a : Meeting) × (b : Meeting) × IsSeriesAt confirmed i a × IsSeriesAt confirmed j b × HasClash (IsInstance a) (IsInstance b)
+EntryFails confirmed i j End = (a : Event) × (b : Event) × IsSeriesAt confirmed i a × IsSeriesAt confirmed j b × HasClash (IsInstance a) (IsInstance b)
 
 -- the entries of all pairs hold
 abbrev pub EntriesHold : Confirmed → Claims → Type 0
@@ -112,7 +112,7 @@ EntriesHold confirmed c = (i j : ℕ) → IsPair c.series i j → EntryHolds con
 -- single or with a series. That then no two of all that is confirmed clash is a theorem: `certificate_means_clear` of clash_check
 pub record CertificateHoldsFor (confirmed : Confirmed) (text : List ℕ) : Type 0 where
   pub c : Claims
-  pub spells : Spells text c
+  pub spells : SpellsCertificate text c
   pub counts : HasCounts confirmed c
   pub entries : EntriesHold confirmed c
   pub singles : AreClear (Contains confirmed.singles) (IsOneOf confirmed)
@@ -129,7 +129,7 @@ pub record IsWrongCount (confirmed : Confirmed) (text : List ℕ) (number line :
   pub is : number ≡ 82
   pub no_line : line ≡ 0
   pub c : Claims
-  pub spells : Spells text c
+  pub spells : SpellsCertificate text c
   pub other : HasCounts confirmed c → ⊥
 
 -- a pair comes before another: by its first series, and then by its second
@@ -140,7 +140,7 @@ IsPairBefore i j first second = (i < first) ⊎ ((i ≡ first) × (j < second))
 pub record HasFailingEntry (confirmed : Confirmed) (text : List ℕ) (number first second : ℕ) : Type 0 where
   pub is : number ≡ 83
   pub c : Claims
-  pub spells : Spells text c
+  pub spells : SpellsCertificate text c
   pub counts : HasCounts confirmed c
   pub pair : IsPair c.series first second
   pub fails : EntryFails confirmed first second (entry_of c first second)
@@ -151,7 +151,7 @@ pub record HasClashes (confirmed : Confirmed) (text : List ℕ) (number line : �
   pub is : number ≡ 84
   pub no_line : line ≡ 0
   pub c : Claims
-  pub spells : Spells text c
+  pub spells : SpellsCertificate text c
   pub counts : HasCounts confirmed c
   pub entries : EntriesHold confirmed c
   pub clash : HasClash (Contains confirmed.singles) (IsOneOf confirmed)

@@ -11,7 +11,7 @@ pub record Key : Type 0 where
   pub slot : ℤ
 
 -- an instance: it holds the room from start on and before end (RFC 5545 3.6.1)
-pub record Booked : Type 0 where
+pub record Instance : Type 0 where
   pub key : Key
   pub start : ℤ
   pub end : ℤ
@@ -25,7 +25,7 @@ abbrev pub IsWithin : ℤ → ℤ → ℤ → Type 0
 IsWithin start end t = (start ≤ℤ t) × (t <ℤ end)
 
 -- two instances of all, of different keys, hold the room in the same second t, before the horizon
-pub record IsClash (all : List Booked) (a b : Booked) (t : ℤ) : Type 0 where
+pub record IsClash (all : List Instance) (a b : Instance) (t : ℤ) : Type 0 where
   pub first : Contains all a
   pub second : Contains all b
   pub differ : a.key ≢ b.key
@@ -34,33 +34,33 @@ pub record IsClash (all : List Booked) (a b : Booked) (t : ℤ) : Type 0 where
   pub in_second : IsWithin b.start b.end t
 
 -- there is no clash
-abbrev pub IsClear : List Booked → Type 0
-IsClear all = (a b : Booked) (t : ℤ) → IsClash all a b t → ⊥
+abbrev pub IsClear : List Instance → Type 0
+IsClear all = (a b : Instance) (t : ℤ) → IsClash all a b t → ⊥
 
 -- two instances of different keys hold the room in the same second t, before the horizon
-pub record AreClashing (a b : Booked) (t : ℤ) : Type 0 where
+pub record AreClashing (a b : Instance) (t : ℤ) : Type 0 where
   pub differ : a.key ≢ b.key
   pub before : t <ℤ horizon
   pub in_first : IsWithin a.start a.end t
   pub in_second : IsWithin b.start b.end t
 
 -- one of these instances and one of those do
-pub record HasClash (these those : Booked → Type 0) : Type 0 where
-  pub a : Booked
-  pub b : Booked
+pub record HasClash (these those : Instance → Type 0) : Type 0 where
+  pub a : Instance
+  pub b : Instance
   pub t : ℤ
   pub first : these a
   pub second : those b
   pub clash : AreClashing a b t
 
 -- none of these instances clashes with one of those
-abbrev pub AreClear : (Booked → Type 0) → (Booked → Type 0) → Type 0
-AreClear these those = (a b : Booked) (t : ℤ) → these a → those b → AreClashing a b t → ⊥
+abbrev pub AreClear : (Instance → Type 0) → (Instance → Type 0) → Type 0
+AreClear these those = (a b : Instance) (t : ℤ) → these a → those b → AreClashing a b t → ⊥
 
 -- keys by organiser and UID as octets, and then by slot
 abbrev pub key_cmp : Key → Key → Ordering
 key_cmp a b = ordering_then (slice_cmp nat_cmp a.organiser b.organiser) (ordering_then (slice_cmp nat_cmp a.uid b.uid) (int_cmp a.slot b.slot))
 
 -- instances by start, and then by key: the lesser of a clash is named first
-abbrev pub booked_cmp : Booked → Booked → Ordering
-booked_cmp a b = ordering_then (int_cmp a.start b.start) (key_cmp a.key b.key)
+abbrev pub instance_cmp : Instance → Instance → Ordering
+instance_cmp a b = ordering_then (int_cmp a.start b.start) (key_cmp a.key b.key)

@@ -2,39 +2,39 @@
 -- A meeting is one ORGANIZER and one UID; by RFC 5545 3.8.4.7 the UID alone is global, so this is this profile's choice.
 use Rattle.std.specs.Prelude.{◌≡◌, ◌≢◌, ◌⊎◌, ◌↔◌, ◌<ℤ◌, Contains, AllPairs, All, Bool, true, false, not, if◌then◌else◌, ◌&&◌, List, [], ◌∷◌, ◌++◌, filter, Option, Some, None, is_some, ℤ, ℕ}
 use Rattle.std.specs.List.{AllZip, flat_map}
-use Rattle.profile.specs.checker.Instances.{Booked}
-use Rattle.profile.specs.series.Rules.{Parts}
-use Rattle.profile.specs.events.Events.{Event, is_confirmed, meeting_said}
-use Rattle.profile.specs.events.Meetings.{Meeting, is_master, is_override}
+use Rattle.profile.specs.checker.Instances.{Instance}
+use Rattle.profile.specs.series.Rules.{Rule}
+use Rattle.profile.specs.events.EventComponents.{EventComponent, has_accepted, meeting_said}
+use Rattle.profile.specs.events.Events.{Event, is_master, is_override}
 use Rattle.profile.specs.events.Starts.{IsInstance, IsRuleStart, ComesBefore}
 
 -- ---- the instances of the events of a calendar
 
 -- an event by itself, as a meeting
-abbrev pub alone : Event → Meeting
+abbrev pub alone : EventComponent → Event
 alone event = if is_override event then record { master = None; overrides = event ∷ [] } else record { master = Some event; overrides = [] }
 
 -- an override of its meeting replaces this instant, whatever state it is in
-pub record IsReplaced (events : List Event) (event : Event) (instant : ℤ) : Type 0 where
-  pub override : Event
+pub record IsReplaced (events : List EventComponent) (event : EventComponent) (instant : ℤ) : Type 0 where
+  pub override : EventComponent
   pub among : Contains events override
   pub of : meeting_said override ≡ meeting_said event
   pub is : override.recurrence ≡ Some instant
 
 -- an instance of one of the events: of a master none that an override replaces. A cancelled master has none, and leaves its overrides as they are
-pub record IsInstanceAmong (events : List Event) (event : Event) (instance : Booked) : Type 0 where
+pub record IsInstanceAmong (events : List EventComponent) (event : EventComponent) (instance : Instance) : Type 0 where
   pub is : IsInstance (alone event) instance
   pub shown : is_master event ≡ true → IsReplaced events event instance.start → ⊥
 
 -- ---- which of them are confirmed
 
 -- the room has accepted the event, and it isn't cancelled
-abbrev pub is_kept : List ℕ → Event → Bool
-is_kept room event = is_confirmed room event && not event.cancelled
+abbrev pub is_kept : List ℕ → EventComponent → Bool
+is_kept room event = has_accepted room event && not event.cancelled
 
 -- the instance is one of a kept event
-pub record IsConfirmed (room : List ℕ) (events : List Event) (instance : Booked) : Type 0 where
-  pub event : Event
+pub record IsConfirmed (room : List ℕ) (events : List EventComponent) (instance : Instance) : Type 0 where
+  pub event : EventComponent
   pub among : Contains events event
   pub kept : is_kept room event ≡ true
   pub is : IsInstanceAmong events event instance
@@ -42,36 +42,36 @@ pub record IsConfirmed (room : List ℕ) (events : List Event) (instance : Booke
 -- ---- in series and singles
 
 -- a master's rule gives the start of the instance: it is one of a series, also where RDATE names that start
-pub record IsOfSeries (event : Event) (instance : Booked) : Type 0 where
+pub record IsOfSeries (event : EventComponent) (instance : Instance) : Type 0 where
   pub master : is_master event ≡ true
-  pub rule : Parts
+  pub rule : Rule
   pub has : event.rule ≡ Some rule
   pub starts : IsRuleStart event.times rule instance.start
 
 -- all others are singles
-pub record IsSingle (room : List ℕ) (events : List Event) (event : Event) (instance : Booked) : Type 0 where
+pub record IsSingle (room : List ℕ) (events : List EventComponent) (event : EventComponent) (instance : Instance) : Type 0 where
   pub kept : is_kept room event ≡ true
   pub is : IsInstanceAmong events event instance
   pub apart : IsOfSeries event instance → ⊥
 
 -- all singles of an event, by start, each once
-pub record AreSingles (room : List ℕ) (events : List Event) (event : Event) (singles : List Booked) : Type 0 where
+pub record AreSingles (room : List ℕ) (events : List EventComponent) (event : EventComponent) (singles : List Instance) : Type 0 where
   pub each : All (IsSingle room events event) singles
   pub ordered : AllPairs ComesBefore singles
-  pub all : (instance : Booked) → IsSingle room events event instance → Contains singles instance
+  pub all : (instance : Instance) → IsSingle room events event instance → Contains singles instance
 
 -- a kept master with RRULE
-abbrev pub is_series : List ℕ → Event → Bool
+abbrev pub is_series : List ℕ → EventComponent → Bool
 is_series room event = is_kept room event && is_master event && is_some event.rule
 
 -- overrides of the event's meeting replace these instants, ascending
-pub record AreReplaced (events : List Event) (event : Event) (instants : List ℤ) : Type 0 where
+pub record AreReplaced (events : List EventComponent) (event : EventComponent) (instants : List ℤ) : Type 0 where
   pub each : All (IsReplaced events event) instants
   pub ascending : AllPairs ◌<ℤ◌ instants
   pub all : (instant : ℤ) → IsReplaced events event instant → Contains instants instant
 
 -- a master by its rule alone: without what RDATE adds, and without what overrides replace, as if EXDATE named it
-abbrev pub by_its_rule : Event → List ℤ → Event
+abbrev pub by_its_rule : EventComponent → List ℤ → EventComponent
 by_its_rule master replaced = record {
   uid = master.uid;
   organiser = master.organiser;
@@ -88,7 +88,7 @@ by_its_rule master replaced = record {
 }
 
 -- the series of a master among the events: a meeting of that alone
-pub record IsSeries (events : List Event) (master : Event) (series : Meeting) : Type 0 where
+pub record IsSeries (events : List EventComponent) (master : EventComponent) (series : Event) : Type 0 where
   pub replaced : List ℤ
   pub are : AreReplaced events master replaced
   pub is : series ≡ record { master = Some (by_its_rule master replaced); overrides = [] }
@@ -96,50 +96,50 @@ pub record IsSeries (events : List Event) (master : Event) (series : Meeting) : 
 -- ---- of one event by itself
 
 -- all instances of an event that aren't of its series, by start, each once
-pub record AreApart (event : Event) (singles : List Booked) : Type 0 where
+pub record AreApart (event : EventComponent) (singles : List Instance) : Type 0 where
   pub each : All (λ instance. IsInstance (alone event) instance × (IsOfSeries event instance → ⊥)) singles
   pub ordered : AllPairs ComesBefore singles
-  pub all : (instance : Booked) → IsInstance (alone event) instance → (IsOfSeries event instance → ⊥) → Contains singles instance
+  pub all : (instance : Instance) → IsInstance (alone event) instance → (IsOfSeries event instance → ⊥) → Contains singles instance
 
 -- a master with RRULE
-abbrev pub has_series : Event → Bool
+abbrev pub has_series : EventComponent → Bool
 has_series event = is_master event && is_some event.rule
 
 -- the instances of this meeting are those of an event that its RRULE gives, where it has one
-abbrev pub AreOfRule : Event → Option Meeting → Type 0
+abbrev pub AreOfRule : EventComponent → Option Event → Type 0
 AreOfRule event None = has_series event ≡ false
 AreOfRule event (Some series) =
-    (has_series event ≡ true) × ((instance : Booked) → IsInstance series instance ↔ (IsInstance (alone event) instance × IsOfSeries event instance))
+    (has_series event ≡ true) × ((instance : Instance) → IsInstance series instance ↔ (IsInstance (alone event) instance × IsOfSeries event instance))
 
 -- ---- what is confirmed in a room
 
 -- what is confirmed in a room: series and singles
 pub record Confirmed : Type 0 where
-  pub series : List Meeting
-  pub singles : List Booked
+  pub series : List Event
+  pub singles : List Instance
 
 -- the instance is one of one of these series
-abbrev pub IsInSeries : List Meeting → Booked → Type 0
-IsInSeries all instance = (series : Meeting) × Contains all series × IsInstance series instance
+abbrev pub IsInSeries : List Event → Instance → Type 0
+IsInSeries all instance = (series : Event) × Contains all series × IsInstance series instance
 
 -- the instance is a single, or one of a series
-abbrev pub IsOneOf : Confirmed → Booked → Type 0
+abbrev pub IsOneOf : Confirmed → Instance → Type 0
 IsOneOf confirmed instance = Contains confirmed.singles instance ⊎ IsInSeries confirmed.series instance
 
 -- these are confirmed, of these events: both in the order of the events
-pub record AreConfirmed (room : List ℕ) (events : List Event) (confirmed : Confirmed) : Type 0 where
+pub record AreConfirmed (room : List ℕ) (events : List EventComponent) (confirmed : Confirmed) : Type 0 where
   pub series : AllZip (IsSeries events) (filter (is_series room) events) confirmed.series
-  pub lists : List (List Booked)
+  pub lists : List (List Instance)
   pub each : AllZip (AreSingles room events) events lists
   pub singles : confirmed.singles ≡ flat_map (λ own. own) lists
 
 -- ---- of one meeting there is one master, and one override for an instance
 
 -- no two of the events are masters of one meeting
-abbrev pub MastersDiffer : List Event → Type 0
+abbrev pub MastersDiffer : List EventComponent → Type 0
 MastersDiffer events = AllPairs (λ a b. a.recurrence ≡ None → b.recurrence ≡ None → meeting_said a ≢ meeting_said b) events
 
 -- no two of them are for the same instance of one meeting
-abbrev pub OverridesDiffer : List Event → Type 0
+abbrev pub OverridesDiffer : List EventComponent → Type 0
 OverridesDiffer events =
     AllPairs (λ a b. (slot : ℤ) → a.recurrence ≡ Some slot → b.recurrence ≡ Some slot → meeting_said a ≢ meeting_said b) events

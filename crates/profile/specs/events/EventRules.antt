@@ -6,7 +6,7 @@ use Rattle.profile.specs.checker.Instances.{horizon}
 use Rattle.profile.specs.series.Days.{day_index}
 use Rattle.profile.specs.text.Lines.{line_value}
 use Rattle.profile.specs.text.Trees.{Tree}
-use Rattle.profile.specs.series.Rules.{Parts, RuleText, Until, UntilDay, UntilLocal, UntilInstant, rule_of, is_rule_day, last_rule_day}
+use Rattle.profile.specs.series.Rules.{Rule, RuleText, Until, UntilDay, UntilLocal, UntilInstant, rule_of, is_rule_day, last_rule_day}
 use Rattle.profile.specs.series.RuleTexts.{SpellsRule, IsLeastRuleFault}
 use Rattle.profile.specs.series.Zones.{Zone, Means, NoneFrom, IsLastDay, local_time}
 use Rattle.profile.specs.events.Properties.{first_second, lines_named, BothOrNeither, Says, OccursMoreThanOnce, SomeLine}
@@ -43,7 +43,7 @@ abbrev pub IsOnDay : ℤ → ℕ → ℕ → Type 0
 IsOnDay local day second = (second < 86_400) × (local ≡ local_time day second)
 
 -- the rule that a text gives to an event: from the start's day, one of its days (RFC 5545 3.8.5.3), to the last one that UNTIL allows
-pub record GivesRule (zone : Zone) (local : ℤ) (text : RuleText) (rule : Parts) : Type 0 where
+pub record GivesRule (zone : Zone) (local : ℤ) (text : RuleText) (rule : Rule) : Type 0 where
   pub day : ℕ
   pub second : ℕ
   pub on : IsOnDay local day second
@@ -57,12 +57,12 @@ abbrev pub IsRuleText : List ℕ → RuleText → Type 0
 IsRuleText line text = SpellsRule (line_value line) text
 
 -- the rule that a text gives beside the lines of DTSTART. Without a start, as what is cancelled may be, it gives none
-abbrev pub GivesBeside : List (List ℕ) → EventTimes → Option RuleText → Option Parts → Type 0
+abbrev pub GivesBeside : List (List ℕ) → EventTimes → Option RuleText → Option Rule → Type 0
 GivesBeside [] times text rule = rule ≡ None
 GivesBeside (start ∷ _) times text rule = BothOrNeither (GivesRule (clock_of times.zone) times.local) text rule
 
 -- RRULE occurs at most once: with its text the event has this rule, or there is none
-pub record SaysEventRule (lines : List (List ℕ)) (times : EventTimes) (rule : Option Parts) : Type 0 where
+pub record SaysEventRule (lines : List (List ℕ)) (times : EventTimes) (rule : Option Rule) : Type 0 where
   pub text : Option RuleText
   pub spells : Says (codes "RRULE") false IsRuleText lines text
   pub gives : GivesBeside (lines_named (codes "DTSTART") lines) times text rule
@@ -70,7 +70,7 @@ pub record SaysEventRule (lines : List (List ℕ)) (times : EventTimes) (rule : 
 -- ---- what can be wrong with it, by the number of its refusal
 
 -- of a start at a local time in a zone: UNTIL allows no day, or the start's day isn't one of the rule that the text gives from it on
-pub record IsOutside (zone : Zone) (local : ℤ) (text : RuleText) : Type 0 where
+pub record IsOutsideRule (zone : Zone) (local : ℤ) (text : RuleText) : Type 0 where
   pub day : ℕ
   pub second : ℕ
   pub on : IsOnDay local day second
@@ -84,7 +84,7 @@ pub record StartsOutside (object : Tree) (start line : List ℕ) : Type 0 where
   pub says : SaysZonedTime object start zone local
   pub text : RuleText
   pub spelled : SpellsRule (line_value line) text
-  pub outside : IsOutside (clock_of zone) local text
+  pub outside : IsOutsideRule (clock_of zone) local text
 
 -- the rule of a VEVENT has the fault of this number
 pub data EventRuleFault (object : Tree) (lines : List (List ℕ)) : ℕ → Type 0 where

@@ -1,165 +1,101 @@
--- VEVENTs: what their lines say (RFC 5545 3.6.1). A VEVENT is its content lines here, beside the object that it is in: its times may
--- name a VTIMEZONE of that. What is required depends on the METHOD of the object, where it is a message.
-use Rattle.std.specs.Prelude.{◌≡◌, ℕ, Contains, Bool, true, false, if◌then◌else◌, List, [], ◌∷◌, codes, Option, None, Some, is_some, option_map, unwrap_or, ℤ}
-use Rattle.std.specs.List.{find, AllZip}
+-- A meeting: what the VEVENTs of an object say of it, its master and its overrides (RFC 5545 3.8.4.4, RFC 5546 3.2), as METHOD takes them.
+use Rattle.std.specs.Prelude.{◌≡◌, ◌≢◌, ℕ, ◌<◌, Contains, AllPairs, Bool, true, false, not, ◌&&◌, ◌||◌, ◌==◌, List, [], ◌++◌, length, map, filter, codes, Option, None, Some, is_some, unwrap_or}
+use Rattle.std.specs.Option.{option_to_list}
+use Rattle.std.specs.List.{AllZip}
 use Rattle.std.specs.Str.{bytes_eq}
-use Rattle.profile.specs.text.Lines.{line_value, line_param, is_same_name}
-use Rattle.profile.specs.text.Trees.{Tree}
-use Rattle.profile.specs.text.Values.{IsUid, unescaped}
-use Rattle.profile.specs.events.Properties.{lines_named, IsStampLine, IsSequenceLine, IsAddressLine, Says, IsUidLine, OccursMoreThanOnce, IsMissing, SomeLine, IsNoStamp, IsNoAddress, IsNoSequence}
-use Rattle.profile.specs.series.Rules.{Parts}
-use Rattle.profile.specs.events.ZonedTimes.{EventTimes, SaysTimes, EventTimesFault}
-use Rattle.profile.specs.events.EventRules.{SaysEventRule, EventRuleFault}
-use Rattle.profile.specs.events.Occurrences.{SaysStatus, SaysOccurrences, OccurrenceFault}
+use Rattle.profile.specs.faults.Faults.{is_between, is_object_fault, is_meeting_event_fault}
+use Rattle.profile.specs.text.Lines.{logical_lines, text_has, reads_as_lines}
+use Rattle.profile.specs.text.Objects.{SpellsTree, IsObject, has_version, lines_have, count_inside, most_events}
+use Rattle.profile.specs.text.Trees.{Tree, tree_own, vevents}
+use Rattle.profile.specs.events.EventComponents.{Method, Request, Add, Cancel, EventComponent, SaysEventComponent, EventComponentFault, meeting_said}
 
--- ---- methods
+-- the event is for one instance of a meeting: it has a RECURRENCE-ID
+abbrev pub is_override : EventComponent → Bool
+is_override event = is_some event.recurrence
 
--- what a message asks for: that an event take place, that instances be added to one, or that it be cancelled (RFC 5546 1.4)
-pub data Method : Type 0 where
-  Request : Method
-  Add : Method
-  Cancel : Method
+-- it is the master: it has none
+abbrev pub is_master : EventComponent → Bool
+is_master event = not (is_override event)
 
--- METHOD is ADD: each event is an instance of a meeting. None is an object whose METHOD is ignored
-abbrev pub adds_instances : Option Method → Bool
-adds_instances None = false
-adds_instances (Some Request) = false
-adds_instances (Some Add) = true
-adds_instances (Some Cancel) = false
-
--- what is cancelled need not say when it is (RFC 5546 3.2.5)
-abbrev pub may_lack_start : Option Method → Bool
-may_lack_start None = false
-may_lack_start (Some Request) = false
-may_lack_start (Some Add) = false
-may_lack_start (Some Cancel) = true
-
--- METHOD occurs exactly once among the lines of a VCALENDAR, and names this word, caseless (RFC 5545 3.7.2)
-pub record NamesWord (own : List (List ℕ)) (word : List ℕ) : Type 0 where
-  pub line : List ℕ
-  pub once : lines_named (codes "METHOD") own ≡ line ∷ []
-  pub named : is_same_name (line_value line) word ≡ true
-
--- ---- attendees
-
--- what an attendee answered (RFC 5545 3.2.12)
-pub data Participation : Type 0 where
-  NeedsAction : Participation
-  Tentative : Participation
-  Accepted : Participation
-  Delegated : Participation
-  Declined : Participation
-
--- the answer that a word names, caseless; another word and none mean that there is no answer yet
-abbrev pub participation_named : List ℕ → Participation
-participation_named word =
-    if is_same_name word (codes "ACCEPTED") then Accepted
-    else (if is_same_name word (codes "DECLINED") then Declined
-    else (if is_same_name word (codes "TENTATIVE") then Tentative
-    else (if is_same_name word (codes "DELEGATED") then Delegated else NeedsAction)))
-
-abbrev pub answer_named : Option (List ℕ) → Participation
-answer_named word = unwrap_or (option_map participation_named word) NeedsAction
-
--- SCHEDULE-AGENT leaves it to the server to send messages to the attendee: it is SERVER, caseless, or missing (RFC 6638 7.1)
-abbrev pub is_by_server : List ℕ → Bool
-is_by_server line = unwrap_or (option_map (λ agent. is_same_name agent (codes "SERVER")) (line_param (codes "SCHEDULE-AGENT") line)) true
-
--- an attendee: what it answered, and whether the server of its organiser sends it messages
-pub record Attendee : Type 0 where
-  pub address : List ℕ
-  pub participation : Participation
-  pub scheduled : Bool
-
--- an ATTENDEE line (RFC 5545 3.8.4.1)
-pub record IsAttendee (line : List ℕ) (attendee : Attendee) : Type 0 where
-  pub address : IsAddressLine line attendee.address
-  pub participation : attendee.participation ≡ answer_named (line_param (codes "PARTSTAT") line)
-  pub scheduled : attendee.scheduled ≡ is_by_server line
-
--- ---- one event
-
--- what a VEVENT says; organiser and stamp may be missing in a calendar. Without a rule and additions it happens once. With a recurrence it
--- is that instance of its meeting. Instants are in the order of the text
+-- the event without RECURRENCE-ID, if there is one, and those with one, in the order of the text
 pub record Event : Type 0 where
-  pub uid : List ℕ
-  pub organiser : Option (List ℕ)
-  pub stamp : Option ℤ
-  pub sequence : ℕ
-  pub cancelled : Bool
-  pub recurrence : Option ℤ
-  pub times : EventTimes
-  pub rule : Option Parts
-  pub additions : List ℤ
-  pub exceptions : List ℤ
-  pub summary : List ℕ
-  pub attendees : List Attendee
+  pub master : Option EventComponent
+  pub overrides : List EventComponent
 
--- SEQUENCE, 0 where it is missing (RFC 5545 3.8.7.4)
-abbrev pub SaysSequence : List (List ℕ) → ℕ → Type 0
-SaysSequence lines n = (given : Option ℕ) × Says (codes "SEQUENCE") false IsSequenceLine lines given × (n ≡ unwrap_or given 0)
+-- both are of one UID and one ORGANIZER
+abbrev pub is_same_meeting : EventComponent → EventComponent → Bool
+is_same_meeting a b = bytes_eq a.uid b.uid && bytes_eq (unwrap_or a.organiser []) (unwrap_or b.organiser [])
 
--- SUMMARY without its escapes, that of the first line where there are several, empty where there is none (RFC 5545 3.8.1.12)
-abbrev pub first_text : List (List ℕ) → List ℕ
-first_text [] = []
-first_text (line ∷ lines) = unescaped (line_value line)
+-- its events, the master first
+abbrev pub components_of : Event → List EventComponent
+components_of meeting = option_to_list meeting.master ++ meeting.overrides
 
-abbrev pub summary_of : List (List ℕ) → List ℕ
-summary_of lines = first_text (lines_named (codes "SUMMARY") lines)
+-- the event as an ADD takes it: the instance of its own start, whatever RECURRENCE-ID says (RFC 5546 3.2.4)
+abbrev pub as_added : EventComponent → EventComponent
+as_added event = record event { recurrence = Some event.times.start }
 
--- the lines of a VEVENT of an object of this METHOD, or of none, say this event. UID is required, in a message ORGANIZER and DTSTAMP too,
--- and DTSTART except in a CANCEL (RFC 5545 3.6.1, RFC 5546 3.2). That a calendar's VEVENT may lack DTSTAMP and that a REQUEST may lack ATTENDEE
--- is this profile's choice
-pub record SaysEvent (object : Tree) (method : Option Method) (lines : List (List ℕ)) (event : Event) : Type 0 where
-  pub uid : Says (codes "UID") true IsUidLine lines (Some event.uid)
-  pub organiser : Says (codes "ORGANIZER") (is_some method) IsAddressLine lines event.organiser
-  pub stamp : Says (codes "DTSTAMP") (is_some method) IsStampLine lines event.stamp
-  pub sequence : SaysSequence lines event.sequence
-  pub status : SaysStatus lines event.cancelled
-  pub times : SaysTimes (may_lack_start method) object lines event.times
-  pub rule : SaysEventRule lines event.times event.rule
-  pub occurrences : SaysOccurrences (adds_instances method) object lines event.recurrence event.additions event.exceptions
-  pub summary : event.summary ≡ summary_of lines
-  pub attendees : AllZip IsAttendee (lines_named (codes "ATTENDEE") lines) event.attendees
+-- the events of an object as its METHOD takes them; None where METHOD is ignored
+abbrev pub taken_by : Option Method → List EventComponent → List EventComponent
+taken_by None events = events
+taken_by (Some Request) events = events
+taken_by (Some Add) events = map as_added events
+taken_by (Some Cancel) events = events
 
--- ---- what an event says of its meeting and of a room
+-- all are of one UID and one ORGANIZER
+abbrev pub AreOfOne : List EventComponent → Type 0
+AreOfOne events = (a b : EventComponent) → Contains events a → Contains events b → meeting_said a ≡ meeting_said b
 
--- the attendee of this address answered so; of several lines of one address the first counts
-abbrev pub answer_of : List ℕ → Event → Option Participation
-answer_of address event = option_map (λ a. a.participation) (find (λ a. bytes_eq a.address address) event.attendees)
+-- no two are for the same instance
+abbrev pub InstancesDiffer : List EventComponent → Type 0
+InstancesDiffer overrides = AllPairs ◌≢◌ (map (λ event. event.recurrence) overrides)
 
-abbrev pub is_accepted : Participation → Bool
-is_accepted Accepted = true
-is_accepted NeedsAction = false
-is_accepted Tentative = false
-is_accepted Delegated = false
-is_accepted Declined = false
+-- an object says this meeting: as a message of this method, or, without one, as an event with its instances
+pub record SaysEvent (object : Tree) (method : Option Method) (meeting : Event) : Type 0 where
+  pub events : List EventComponent
+  pub says : AllZip (SaysEventComponent object method) (vevents object) events
+  pub some : 0 < length events
+  pub one : AreOfOne events
+  pub master : filter is_master (taken_by method events) ≡ option_to_list meeting.master
+  pub overrides : filter is_override (taken_by method events) ≡ meeting.overrides
+  pub differ : InstancesDiffer meeting.overrides
 
--- the room has accepted the event
-abbrev pub is_confirmed : List ℕ → Event → Bool
-is_confirmed room event = unwrap_or (option_map is_accepted (answer_of room event)) false
+-- the octets are one VCALENDAR, within the limits of a message, and say this meeting
+pub record SpellsEvent (octets : List ℕ) (meeting : Event) : Type 0 where
+  pub lines : reads_as_lines true octets ≡ true
+  pub tree : Tree
+  pub object : IsObject true tree (logical_lines octets)
+  pub says : SaysEvent tree None meeting
 
--- the meeting of an event: its organiser, the empty address where it is missing, and its UID
-abbrev pub meeting_said : Event → List ℕ × List ℕ
-meeting_said event = (unwrap_or event.organiser [], event.uid)
+-- ---- what can be wrong with it, by the number of its refusal
 
--- ---- what can be wrong with a VEVENT, by the number of its refusal
+-- a fault of an object, of its VEVENTs or between them, or a missing one
+abbrev pub is_meeting_fault : ℕ → Bool
+is_meeting_fault n = is_object_fault n || is_meeting_event_fault n || is_between 53 54 n || n == 62 || n == 66
 
--- the properties that occur at most once, beside those of the times, the rule and the occurrences
-abbrev pub single_names : List (List ℕ)
-single_names = codes "UID" ∷ codes "ORGANIZER" ∷ codes "DTSTAMP" ∷ codes "SEQUENCE" ∷ codes "STATUS" ∷ []
+-- the VEVENTs of an object that is taken so have the fault of this number
+pub data EventFault (object : Tree) (method : Option Method) : ℕ → Type 0 where
+  -- one of them has this fault
+  in_event : {n : ℕ} → (lines : List (List ℕ)) → Contains (vevents object) lines → EventComponentFault object method lines n → EventFault object method n
+  two_masters : (events : List EventComponent) → AllZip (SaysEventComponent object method) (vevents object) events → 1 < length (filter is_master (taken_by method events))
+      → EventFault object method 53
+  two_overrides : (events : List EventComponent) → AllZip (SaysEventComponent object method) (vevents object) events
+      → (InstancesDiffer (filter is_override (taken_by method events)) → ⊥) → EventFault object method 54
+  -- two UIDs or two ORGANIZERs
+  two_meetings : (events : List EventComponent) → AllZip (SaysEventComponent object method) (vevents object) events → (AreOfOne events → ⊥) → EventFault object method 62
+  no_event : vevents object ≡ [] → EventFault object method 66
 
--- the lines of a VEVENT of an object of this METHOD, or of none, have the fault of this number
-pub data EventFault (object : Tree) (method : Option Method) (lines : List (List ℕ)) : ℕ → Type 0 where
-  in_times : {n : ℕ} → EventTimesFault (may_lack_start method) object lines n → EventFault object method lines n
-  in_rule : {n : ℕ} → EventRuleFault object lines n → EventFault object method lines n
-  in_occurrences : {n : ℕ} → OccurrenceFault (adds_instances method) object lines n → EventFault object method lines n
-  bad_stamp : SomeLine (codes "DTSTAMP") (λ line. IsNoStamp (line_value line)) lines → EventFault object method lines 10
-  bad_uid : SomeLine (codes "UID") (λ line. IsUid (unescaped (line_value line)) → ⊥) lines → EventFault object method lines 14
-  bad_organiser : SomeLine (codes "ORGANIZER") IsNoAddress lines → EventFault object method lines 15
-  bad_attendee : SomeLine (codes "ATTENDEE") IsNoAddress lines → EventFault object method lines 15
-  bad_sequence : SomeLine (codes "SEQUENCE") IsNoSequence lines → EventFault object method lines 16
-  no_uid : IsMissing (codes "UID") lines → EventFault object method lines 61
-  no_stamp_given : is_some method ≡ true → IsMissing (codes "DTSTAMP") lines → EventFault object method lines 61
-  twice : (name : List ℕ) → Contains single_names name → OccursMoreThanOnce name lines → EventFault object method lines 61
-  no_organiser : is_some method ≡ true → IsMissing (codes "ORGANIZER") lines → EventFault object method lines 63
+-- the octets have the fault of this number
+pub data EventTextFault (octets : List ℕ) : ℕ → Type 0 where
+  -- 1 to 6: in a line
+  in_lines : {n : ℕ} → text_has true n octets ≡ true → EventTextFault octets n
+  -- 20 to 23: in how the lines pair up
+  in_tree : {n : ℕ} → lines_have n (logical_lines octets) ≡ true → EventTextFault octets n
+  -- VERSION doesn't occur exactly once, or isn't `2.0`
+  no_version : (t : Tree) → SpellsTree 7 t (logical_lines octets) → has_version (tree_own t) ≡ false
+      → EventTextFault octets 24
+  -- more VEVENTs than a message may have
+  many_events : (t : Tree) → SpellsTree 7 t (logical_lines octets)
+      → most_events < count_inside (codes "VEVENT") t → EventTextFault octets 25
+  -- in the VEVENTs of the object that the octets are
+  in_vevents : {n : ℕ} → (t : Tree) → IsObject true t (logical_lines octets) → EventFault t None n
+      → EventTextFault octets n

@@ -2,12 +2,12 @@
 use Rattle.std.specs.Prelude.{◌≡◌, ℕ, pos, ◌+ℤ◌, List, ◌++◌, codes, decimal}
 use Rattle.std.specs.List.{AllZip, concat}
 use Rattle.profile.specs.text.Values.{WritesStamp}
-use Rattle.profile.specs.checker.Instances.{Booked}
-use Rattle.profile.specs.events.Meetings.{Meeting, SpellsMeeting}
+use Rattle.profile.specs.checker.Instances.{Instance}
+use Rattle.profile.specs.events.Events.{Event, SpellsEvent}
 use Rattle.profile.specs.events.Starts.{AreFirst}
 
 -- the line of an instance: its original start and its start in UTC, and how many seconds it lasts
-pub record IsInstanceLine (instance : Booked) (line : List ℕ) : Type 0 where
+pub record IsInstanceLine (instance : Instance) (line : List ℕ) : Type 0 where
   pub slot : List ℕ
   pub start : List ℕ
   pub seconds : ℕ
@@ -18,9 +18,9 @@ pub record IsInstanceLine (instance : Booked) (line : List ℕ) : Type 0 where
 
 -- the lines of the first instances of the event that octets spell, this many of them, or of all where there are fewer
 pub record IsExpansion (octets : List ℕ) (limit : ℕ) (text : List ℕ) : Type 0 where
-  pub meeting : Meeting
-  pub spelled : SpellsMeeting octets meeting
-  pub instances : List Booked
+  pub meeting : Event
+  pub spelled : SpellsEvent octets meeting
+  pub instances : List Instance
   pub first : AreFirst meeting limit instances
   pub lines : List (List ℕ)
   pub each : AllZip IsInstanceLine instances lines

@@ -31,15 +31,15 @@ IsRecurrenceLine object line instant = (has_range line ≡ false) × SaysInDates
 -- ---- RDATE and EXDATE
 
 -- a time of a list: its line and its own text. VALUE and TZID of the line are those of all its texts
-abbrev pub Entry : Type 0
-Entry = List ℕ × List ℕ
+abbrev pub ListedTime : Type 0
+ListedTime = List ℕ × List ℕ
 
 -- the texts of a line, with commas between
-abbrev pub entries_of : List ℕ → List Entry
+abbrev pub entries_of : List ℕ → List ListedTime
 entries_of line = map (λ text. (line, text)) (slice_split (λ c. c == 44) (line_value line))
 
 -- the times of all lines of a property are one list, in the order of the text
-abbrev pub entries_named : List ℕ → List (List ℕ) → List Entry
+abbrev pub entries_named : List ℕ → List (List ℕ) → List ListedTime
 entries_named name lines = flat_map entries_of (lines_named name lines)
 
 -- the most RDATEs of a VEVENT, and the most EXDATEs; this profile's choice
@@ -51,24 +51,24 @@ abbrev pub is_period : List ℕ → List ℕ → Bool
 is_period name text = bytes_eq name (codes "RDATE") && list_any (λ c. c == 47) text
 
 -- a time of a list of that property says this instant
-abbrev pub IsListed : Tree → List ℕ → Entry → ℤ → Type 0
+abbrev pub IsListed : Tree → List ℕ → ListedTime → ℤ → Type 0
 IsListed object name (line, text) instant =
     (is_period name text ≡ false)
     × ((zone : Option Zone) × (local : ℤ) × SaysZonedText object line text zone local × Means (clock_of zone) local instant)
 
 -- it says this instant, in the dates that an event may name, or outside of them
-abbrev pub IsInside : Tree → Entry → ℤ → Type 0
+abbrev pub IsInside : Tree → ListedTime → ℤ → Type 0
 IsInside object (line, text) instant =
     (zone : Option Zone) × (local : ℤ) × SaysZonedText object line text zone local × Means (clock_of zone) local instant
     × IsInDates (is_in_zone line) local instant
 
-abbrev pub IsOutside : Tree → Entry → Type 0
+abbrev pub IsOutside : Tree → ListedTime → Type 0
 IsOutside object (line, text) =
     (zone : Option Zone) × (local : ℤ) × (instant : ℤ) × SaysZonedText object line text zone local × Means (clock_of zone) local instant
     × (IsInDates (is_in_zone line) local instant → ⊥)
 
 -- the times of a property are these instants
-abbrev pub Lists : Tree → List ℕ → List Entry → List ℤ → Type 0
+abbrev pub Lists : Tree → List ℕ → List ListedTime → List ℤ → Type 0
 Lists object name entries instants = AllZip (IsListed object name) entries instants × (length instants ≤ most_entries)
 
 -- ---- together
@@ -89,13 +89,13 @@ pub record SaysOccurrences (added : Bool) (object : Tree) (lines : List (List �
 -- ---- what can be wrong, by the number of its refusal
 
 -- in a time of a list: 56 for a period, else as in a start or an end
-abbrev pub EntryFault : Tree → List ℕ → Entry → ℕ → Type 0
+abbrev pub EntryFault : Tree → List ℕ → ListedTime → ℕ → Type 0
 EntryFault object name (line, text) number =
     ((is_period name text ≡ true) × (number ≡ 56)) ⊎ ((is_period name text ≡ false) × ZonedTextFault object line text number)
 
 -- in the times of a property
-pub data EntriesFault (object : Tree) (name : List ℕ) (entries : List Entry) : ℕ → Type 0 where
-  in_entry : {n : ℕ} → (entry : Entry) → Contains entries entry → EntryFault object name entry n → EntriesFault object name entries n
+pub data EntriesFault (object : Tree) (name : List ℕ) (entries : List ListedTime) : ℕ → Type 0 where
+  in_entry : {n : ℕ} → (entry : ListedTime) → Contains entries entry → EntryFault object name entry n → EntriesFault object name entries n
   too_many : most_entries < length entries → EntriesFault object name entries 56
 
 -- the lines of a VEVENT have the fault of this number
@@ -105,7 +105,7 @@ pub data OccurrenceFault (added : Bool) (object : Tree) (lines : List (List ℕ)
   bad_exceptions : {n : ℕ} → EntriesFault object (codes "EXDATE") (entries_named (codes "EXDATE") lines) n → OccurrenceFault added object lines n
   -- outside of the dates that an event may name
   recurrence_out : SomeLine (codes "RECURRENCE-ID") (SaysOutOfDates object) lines → OccurrenceFault added object lines 52
-  additions_out : (entry : Entry) → Contains (entries_named (codes "RDATE") lines) entry → IsOutside object entry → OccurrenceFault added object lines 52
+  additions_out : (entry : ListedTime) → Contains (entries_named (codes "RDATE") lines) entry → IsOutside object entry → OccurrenceFault added object lines 52
   two_recurrences : OccursMoreThanOnce (codes "RECURRENCE-ID") lines → OccurrenceFault added object lines 61
   ranged : SomeLine (codes "RECURRENCE-ID") (λ line. has_range line ≡ true) lines → OccurrenceFault added object lines 65
   recurs : recurs_as_instance added lines ≡ true → OccurrenceFault added object lines 67

@@ -1,14 +1,14 @@
 -- When a meeting takes place: its instances, from the master's rule, its RDATEs and EXDATEs, and the overrides (RFC 5545 3.8.5.3, 3.8.5.2,
 -- 3.8.5.1, 3.8.4.4). Instants are seconds from 1970-01-01T00:00:00Z. An instance is known by its start and its slot.
 use Rattle.std.specs.Prelude.{◌≡◌, ◌⊎◌, true, ℕ, ◌*◌, ◌<◌, ◌≤◌, Contains, AllPairs, All, List, [], length, map, MatchOption, Option, Some, None, unwrap_or, ℤ, pos, ◌+ℤ◌, ◌-ℤ◌, ◌≤ℤ◌, ◌<ℤ◌}
-use Rattle.profile.specs.checker.Instances.{Key, Booked, IsWithin, horizon}
-use Rattle.profile.specs.series.Rules.{Parts, is_rule_day}
+use Rattle.profile.specs.checker.Instances.{Key, Instance, IsWithin, horizon}
+use Rattle.profile.specs.series.Rules.{Rule, is_rule_day}
 use Rattle.profile.specs.series.Zones.{Zone, IsOffsetAt, IsBounds, Means, local_time}
 use Rattle.profile.specs.events.Properties.{first_second, length_seconds}
 use Rattle.profile.specs.events.ZonedTimes.{EventTimes, clock_of}
 use Rattle.profile.specs.events.EventRules.{IsOnDay}
+use Rattle.profile.specs.events.EventComponents.{EventComponent}
 use Rattle.profile.specs.events.Events.{Event}
-use Rattle.profile.specs.events.Meetings.{Meeting}
 
 -- ---- when an instance ends
 
@@ -37,7 +37,7 @@ IsWidth times width =
 
 -- on a day of its rule, at DTSTART's second of the day on the clocks of DTSTART's zone. A local time that they skip is read with the offset
 -- before the gap, as DTSTART itself is
-pub record IsRuleStart (times : EventTimes) (rule : Parts) (instant : ℤ) : Type 0 where
+pub record IsRuleStart (times : EventTimes) (rule : Rule) (instant : ℤ) : Type 0 where
   pub first : ℕ
   pub second : ℕ
   pub on : IsOnDay times.local first second
@@ -46,17 +46,17 @@ pub record IsRuleStart (times : EventTimes) (rule : Parts) (instant : ℤ) : Typ
   pub means : Means (clock_of times.zone) (local_time day second) instant
 
 -- by its rule; without one only at DTSTART
-abbrev pub IsGiven : EventTimes → Option Parts → ℤ → Type 0
+abbrev pub IsGiven : EventTimes → Option Rule → ℤ → Type 0
 IsGiven times None instant = instant ≡ times.start
 IsGiven times (Some rule) instant = IsRuleStart times rule instant
 
 -- an override replaces this instant, whatever state it is in
-abbrev pub IsOverridden : List Event → ℤ → Type 0
+abbrev pub IsOverridden : List EventComponent → ℤ → Type 0
 IsOverridden overrides instant = Contains (map (λ event. event.recurrence) overrides) (Some instant)
 
 -- its starts: by its rule or by RDATE, in the dates that an event may name, so before year 10000, except those that EXDATE names, and those
 -- that an override replaces
-pub record IsStart (master : Event) (overrides : List Event) (instant : ℤ) : Type 0 where
+pub record IsStart (master : EventComponent) (overrides : List EventComponent) (instant : ℤ) : Type 0 where
   pub given : IsGiven master.times master.rule instant ⊎ Contains master.additions instant
   pub in_dates : (first_second ≤ℤ instant) × (instant <ℤ horizon)
   pub not_excepted : Contains master.exceptions instant → ⊥
@@ -65,12 +65,12 @@ pub record IsStart (master : Event) (overrides : List Event) (instant : ℤ) : T
 -- ---- instances
 
 -- which instance of the event's meeting
-abbrev pub key_at : Event → ℤ → Key
+abbrev pub key_at : EventComponent → ℤ → Key
 key_at event slot = record { organiser = unwrap_or event.organiser []; uid = event.uid; slot = slot }
 
 -- the instance at a start of the master: its slot is that start
-pub record IsOfMaster (meeting : Meeting) (instance : Booked) : Type 0 where
-  pub master : Event
+pub record IsOfMaster (meeting : Event) (instance : Instance) : Type 0 where
+  pub master : EventComponent
   pub is : meeting.master ≡ Some master
   pub starts : IsStart master meeting.overrides instance.start
   pub key : instance.key ≡ key_at master instance.start
@@ -78,35 +78,35 @@ pub record IsOfMaster (meeting : Meeting) (instance : Booked) : Type 0 where
 
 -- the instance that an override is, at its own time: its slot is RECURRENCE-ID, which EXDATE may name, and which no start of the master
 -- need be
-pub record IsOfOverride (meeting : Meeting) (instance : Booked) : Type 0 where
-  pub override : Event
+pub record IsOfOverride (meeting : Event) (instance : Instance) : Type 0 where
+  pub override : EventComponent
   pub is : Contains meeting.overrides override
   pub recurrence : override.recurrence ≡ Some instance.key.slot
   pub key : instance.key ≡ key_at override instance.key.slot
   pub starts : instance.start ≡ override.times.start
   pub ends : EndsAt override.times instance.start instance.end
 
-abbrev pub IsInstance : Meeting → Booked → Type 0
+abbrev pub IsInstance : Event → Instance → Type 0
 IsInstance meeting instance = IsOfMaster meeting instance ⊎ IsOfOverride meeting instance
 
 -- ---- in order
 
 -- by start and then by slot
-abbrev pub ComesBefore : Booked → Booked → Type 0
+abbrev pub ComesBefore : Instance → Instance → Type 0
 ComesBefore a b = (a.start <ℤ b.start) ⊎ ((a.start ≡ b.start) × (a.key.slot <ℤ b.key.slot))
 
 -- all that start at an instant or later, in order, each once
-pub record AreInstancesFrom (meeting : Meeting) (from : ℤ) (instances : List Booked) : Type 0 where
+pub record AreInstancesFrom (meeting : Event) (from : ℤ) (instances : List Instance) : Type 0 where
   pub each : All (λ instance. IsInstance meeting instance × (from ≤ℤ instance.start)) instances
   pub ordered : AllPairs ComesBefore instances
-  pub all : (instance : Booked) → IsInstance meeting instance → from ≤ℤ instance.start → Contains instances instance
+  pub all : (instance : Instance) → IsInstance meeting instance → from ≤ℤ instance.start → Contains instances instance
 
 -- the first of all, this many of them, or all where there are fewer
-pub record AreFirst (meeting : Meeting) (limit : ℕ) (instances : List Booked) : Type 0 where
+pub record AreFirst (meeting : Event) (limit : ℕ) (instances : List Instance) : Type 0 where
   pub each : All (IsInstance meeting) instances
   pub ordered : AllPairs ComesBefore instances
   pub short : length instances ≤ limit
-  pub others : (instance : Booked) → IsInstance meeting instance
+  pub others : (instance : Instance) → IsInstance meeting instance
       → Contains instances instance ⊎ ((length instances ≡ limit) × All (λ first. ComesBefore first instance) instances)
 
 -- ---- which share an instant with a span
@@ -119,8 +119,8 @@ pub record SharesInstant (start end from to : ℤ) : Type 0 where
   pub in_second : IsWithin from to instant
 
 -- the first of the instances that does so, by start and then by slot, if there is one
-abbrev pub IsFirstOverlap : Meeting → ℤ → ℤ → Option Booked → Type 0
+abbrev pub IsFirstOverlap : Event → ℤ → ℤ → Option Instance → Type 0
 IsFirstOverlap meeting from to found =
-    MatchOption found ((b : Booked) → IsInstance meeting b → SharesInstant b.start b.end from to → ⊥)
+    MatchOption found ((b : Instance) → IsInstance meeting b → SharesInstant b.start b.end from to → ⊥)
     (λ i. IsInstance meeting i
-    × (SharesInstant i.start i.end from to × ((b : Booked) → IsInstance meeting b → SharesInstant b.start b.end from to → ComesBefore b i → ⊥)))
+    × (SharesInstant i.start i.end from to × ((b : Instance) → IsInstance meeting b → SharesInstant b.start b.end from to → ComesBefore b i → ⊥)))

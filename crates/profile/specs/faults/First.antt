@@ -33,6 +33,6 @@ is_number None number = false
 is_number (Some first) number = first == number
 
 -- if the lines are refused, this is their number: what else is wrong comes after
-abbrev pub comes_after : Option ℕ → ℕ → Bool
-comes_after None number = true
-comes_after (Some first) number = first == number
+abbrev pub is_first_fault : Option ℕ → ℕ → Bool
+is_first_fault None number = true
+is_first_fault (Some first) number = first == number

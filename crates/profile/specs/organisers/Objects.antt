@@ -5,10 +5,10 @@ use Rattle.std.specs.List.{list_all, AllZip}
 use Rattle.std.specs.Str.{bytes_eq}
 use Rattle.profile.specs.text.Lines.{logical_lines, reads_as_lines}
 use Rattle.profile.specs.text.Objects.{IsObject}
-use Rattle.profile.specs.text.Trees.{Tree, tree_name, tree_own, tree_inside, vevents}
-use Rattle.profile.specs.events.Events.{Method, Request, Cancel, NamesWord, Attendee, Event, SaysEvent, meeting_said}
+use Rattle.profile.specs.text.Trees.{Tree, tree_own, vevents}
+use Rattle.profile.specs.events.EventComponents.{Method, Request, Cancel, NamesWord, Attendee, EventComponent, SaysEventComponent, meeting_said}
 use Rattle.profile.specs.events.Properties.{IsMissing}
-use Rattle.profile.specs.events.Meetings.{is_master, is_override, InstancesDiffer, MeetingFault}
+use Rattle.profile.specs.events.Events.{is_master, is_override, InstancesDiffer, EventFault}
 
 -- ---- what is asked of an organiser
 
@@ -43,7 +43,7 @@ are_of_one [] = false
 are_of_one (first ∷ others) = list_all (λ other. bytes_eq other.address first.address) others
 
 -- the VEVENT has one attendee; several lines of one address are one (RFC 5546 3.2.3, 3.2.6)
-abbrev pub has_one_attendee : Event → Bool
+abbrev pub has_one_attendee : EventComponent → Bool
 has_one_attendee event = are_of_one event.attendees
 
 -- the lines of a VEVENT that count: of several of one address the first
@@ -58,19 +58,19 @@ pub record OrganiserObject : Type 0 where
   pub operation : Operation
   pub organiser : List ℕ
   pub uid : List ℕ
-  pub events : List Event
+  pub events : List EventComponent
 
 -- these are VEVENTs of one meeting: at most one is for the whole of it, and no two are for the same instance
-pub record AreOfMeeting (organiser uid : List ℕ) (events : List Event) : Type 0 where
+pub record AreOfMeeting (organiser uid : List ℕ) (events : List EventComponent) : Type 0 where
   pub some : 0 < length events
-  pub of_it : (event : Event) → Contains events event → meeting_said event ≡ (organiser, uid)
+  pub of_it : (event : EventComponent) → Contains events event → meeting_said event ≡ (organiser, uid)
   pub masters : length (filter is_master events) ≤ 1
   pub differ : InstancesDiffer (filter is_override events)
 
 -- a VCALENDAR says this; in a REPLY and in a REFRESH each VEVENT has one attendee
 pub record SaysOrganiserObject (object : Tree) (said : OrganiserObject) : Type 0 where
   pub operation : NamesOperation (tree_own object) said.operation
-  pub says : AllZip (SaysEvent object (Some (read_as said.operation))) (vevents object) said.events
+  pub says : AllZip (SaysEventComponent object (Some (read_as said.operation))) (vevents object) said.events
   pub are : AreOfMeeting said.organiser said.uid said.events
   pub one_each : is_of_attendee said.operation ≡ true → list_all has_one_attendee said.events ≡ true
 
@@ -78,15 +78,15 @@ pub record SaysOrganiserObject (object : Tree) (said : OrganiserObject) : Type 0
 pub record SpellsOrganiserObject (octets : List ℕ) (said : OrganiserObject) : Type 0 where
   pub lines : reads_as_lines true octets ≡ true
   pub tree : Tree
-  pub object : IsObject tree_name tree_own tree_inside true tree (logical_lines octets)
+  pub object : IsObject true tree (logical_lines octets)
   pub says : SaysOrganiserObject tree said
 
 -- ---- what can be wrong with it, by the number of its refusal
 
 -- the lines of the VCALENDAR's VEVENTs have the fault of this number, in one VEVENT or between them
 pub data OrganiserObjectFault (object : Tree) : ℕ → Type 0 where
-  in_meeting : {n : ℕ} → (operation : Operation) → NamesOperation (tree_own object) operation → MeetingFault object (Some (read_as operation)) n
+  in_meeting : {n : ℕ} → (operation : Operation) → NamesOperation (tree_own object) operation → EventFault object (Some (read_as operation)) n
       → OrganiserObjectFault object n
-  not_one : (operation : Operation) → NamesOperation (tree_own object) operation → is_of_attendee operation ≡ true → (events : List Event)
-      → AllZip (SaysEvent object (Some (read_as operation))) (vevents object) events → list_all has_one_attendee events ≡ false
+  not_one : (operation : Operation) → NamesOperation (tree_own object) operation → is_of_attendee operation ≡ true → (events : List EventComponent)
+      → AllZip (SaysEventComponent object (Some (read_as operation))) (vevents object) events → list_all has_one_attendee events ≡ false
       → OrganiserObjectFault object 64

@@ -4,8 +4,8 @@ use Rattle.std.specs.List.{flat_map, list_any, list_all, find}
 use Rattle.std.specs.Str.{bytes_eq}
 use Rattle.std.specs.Ordering.{is_eq, is_le, nat_cmp, int_cmp, ordering_then}
 use Rattle.std.specs.declared.cmp.Ordering.{Ordering}
-use Rattle.profile.specs.events.Events.{Participation, NeedsAction, Tentative, Accepted, Delegated, Declined, Attendee, Event}
-use Rattle.profile.specs.events.Meetings.{is_master}
+use Rattle.profile.specs.events.EventComponents.{Participation, NeedsAction, Tentative, Accepted, Delegated, Declined, Attendee, EventComponent}
+use Rattle.profile.specs.events.Events.{is_master}
 use Rattle.profile.specs.rooms.Revisions.{Slot, Revision, slot_cmp}
 use Rattle.profile.specs.rooms.Messages.{slot_of, own_revision, names_room}
 use Rattle.profile.specs.rooms.Kept.{each_once}
@@ -18,7 +18,7 @@ use Rattle.profile.specs.organisers.Sent.{IsRequest, IsCancel, IsMeetingText}
 -- REQUEST, or its CANCEL where it was called off
 pub record Stored : Type 0 where
   pub uid : List ℕ
-  pub events : List Event
+  pub events : List EventComponent
   pub revision : Revision
   pub object : List ℕ
 
@@ -43,26 +43,26 @@ empty_organiser = record { stores = []; replies = [] }
 abbrev pub last_store : List ℕ → OrganiserBook → Option Stored
 last_store uid book = find (λ stored. bytes_eq stored.uid uid) book.stores
 
-abbrev pub last_events : Option Stored → List Event
+abbrev pub last_events : Option Stored → List EventComponent
 last_events None = []
 last_events (Some stored) = stored.events
 
 -- ---- its attendees
 
 -- the attendees of these events, each once, in order of first appearance
-abbrev pub attendees_of : List Event → List (List ℕ)
+abbrev pub attendees_of : List EventComponent → List (List ℕ)
 attendees_of events = each_once (flat_map (λ event. map (λ attendee. attendee.address) event.attendees) events)
 
 -- the event leaves it to the server to send messages to this address
-abbrev pub schedules : List ℕ → Event → Bool
+abbrev pub schedules : List ℕ → EventComponent → Bool
 schedules address event = list_any (λ attendee. bytes_eq attendee.address address && attendee.scheduled) (counted event.attendees)
 
 -- those of them for whom one of the events leaves it to the server
-abbrev pub left_to_server : List Event → List (List ℕ)
+abbrev pub left_to_server : List EventComponent → List (List ℕ)
 left_to_server events = filter (λ address. list_any (schedules address) events) (attendees_of events)
 
 -- those that the server of this organiser sends messages to: never the organiser itself, which may be an attendee too (RFC 6638 3.2.1)
-abbrev pub scheduled_in : List ℕ → List Event → List (List ℕ)
+abbrev pub scheduled_in : List ℕ → List EventComponent → List (List ℕ)
 scheduled_in organiser events = filter (λ address. not (bytes_eq address organiser)) (left_to_server events)
 
 -- those of the first that aren't among the second
@@ -70,22 +70,22 @@ abbrev pub without : List (List ℕ) → List (List ℕ) → List (List ℕ)
 without these others = filter (λ address. not (list_any (bytes_eq address) others)) these
 
 -- the address is an attendee of one of these events
-abbrev pub is_attendee : List ℕ → List Event → Bool
+abbrev pub is_attendee : List ℕ → List EventComponent → Bool
 is_attendee address events = list_any (names_room address) events
 
 -- ---- a store
 
 -- the whole meeting is cancelled
-abbrev pub is_called_off : List Event → Bool
+abbrev pub is_called_off : List EventComponent → Bool
 is_called_off events = list_any (λ event. is_master event && event.cancelled) events
 
 -- the greatest SEQUENCE of these events
-abbrev pub own_sequence : List Event → ℕ
+abbrev pub own_sequence : List EventComponent → ℕ
 own_sequence [] = 0
 own_sequence (event ∷ events) = max event.sequence (own_sequence events)
 
 -- the SEQUENCE of what is sent: the events' own at first, later greater than that of the last store (RFC 5546 2.1.4, RFC 6638 3.2.5)
-abbrev pub sequence_after : Option Stored → List Event → ℕ
+abbrev pub sequence_after : Option Stored → List EventComponent → ℕ
 sequence_after None events = own_sequence events
 sequence_after (Some last) events = max (own_sequence events) (last.revision.sequence + 1)
 
@@ -124,12 +124,12 @@ pub record IsStore (moment : ℤ) (said : OrganiserObject) (before : OrganiserBo
 -- ---- a reply
 
 -- what a VEVENT of a REPLY says, by its first ATTENDEE line
-abbrev pub heard_of : Event → List Attendee → List Heard
+abbrev pub heard_of : EventComponent → List Attendee → List Heard
 heard_of event [] = []
 heard_of event (attendee ∷ others) =
     record { uid = event.uid; attendee = attendee.address; slot = slot_of event; revision = own_revision event; answer = attendee.participation } ∷ []
 
-abbrev pub heard_in : List Event → List Heard
+abbrev pub heard_in : List EventComponent → List Heard
 heard_in events = flat_map (λ event. heard_of event event.attendees) events
 
 -- the book after a REPLY

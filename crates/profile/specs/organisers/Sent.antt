@@ -5,7 +5,7 @@ use Rattle.std.specs.Option.{option_to_list}
 use Rattle.std.specs.List.{flat_map, AllZip}
 use Rattle.profile.specs.text.Lines.{written}
 use Rattle.profile.specs.text.Values.{WritesStamp, escaped}
-use Rattle.profile.specs.events.Events.{Attendee, Event}
+use Rattle.profile.specs.events.EventComponents.{Attendee, EventComponent}
 use Rattle.profile.specs.rooms.Revisions.{Slot, Revision}
 use Rattle.profile.specs.rooms.Messages.{Content, IsContent, TellsSlot, slot_of, opening_lines, object_lines}
 use Rattle.profile.specs.organisers.Objects.{counted}
@@ -25,7 +25,7 @@ pub record TellsRevision (revision : Revision) (lines : List (List ℕ)) : Type 
 
 -- an event and what says when it is
 abbrev pub Component : Type 0
-Component = Event × Content
+Component = EventComponent × Content
 
 -- the VEVENT of an event, where these are the zones of the object and each attendee has such a line
 pub record IsComponentText (organiser uid : List ℕ) (revision : Revision) (zones : List (List ℕ)) (IsLine : Slot → Attendee → List ℕ → Type 0)
@@ -50,13 +50,13 @@ abbrev pub zones_of : List Component → List (List ℕ)
 zones_of components = each_once (flat_map (λ component. option_to_list component.1.zone) components)
 
 -- the component is this event with its content
-abbrev pub IsComponentOf : Event → Component → Type 0
+abbrev pub IsComponentOf : EventComponent → Component → Type 0
 IsComponentOf event component = (component.0 ≡ event) × IsContent component.1 event
 
 -- the octets are an object with this METHOD, or with none: its zones, and then the VEVENTs of these events in their order. Numbers below
 -- 2 ^ 64 name the zones
 pub record IsMeetingText (method : Option (List ℕ)) (organiser uid : List ℕ) (revision : Revision) (IsLine : Slot → Attendee → List ℕ → Type 0)
-    (events : List Event) (octets : List ℕ) : Type 0 where
+    (events : List EventComponent) (octets : List ℕ) : Type 0 where
   pub components : List Component
   pub are : AllZip IsComponentOf events components
   pub few : length (zones_of components) < 2 ^ 64
@@ -72,7 +72,7 @@ abbrev pub IsAsked : Slot → Attendee → List ℕ → Type 0
 IsAsked slot attendee line = line ≡ codes "ATTENDEE;PARTSTAT=NEEDS-ACTION;RSVP=TRUE:" ++ attendee.address
 
 -- the octets are the REQUEST of a meeting with these events
-abbrev pub IsRequest : List ℕ → List ℕ → Revision → List Event → List ℕ → Type 0
+abbrev pub IsRequest : List ℕ → List ℕ → Revision → List EventComponent → List ℕ → Type 0
 IsRequest organiser uid revision events octets = IsMeetingText (Some (codes "REQUEST")) organiser uid revision IsAsked events octets
 
 -- the octets are a CANCEL of the whole meeting to these: with STATUS where it is called off, without where they are only taken out of it

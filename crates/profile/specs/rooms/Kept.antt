@@ -9,13 +9,13 @@ use Rattle.profile.specs.checker.Certificates.{text_of}
 use Rattle.profile.specs.rooms.Revisions.{Part, Slot, At, in_view, is_whole, same_meeting, slot_cmp}
 use Rattle.std.specs.declared.cmp.Ordering.TheVariants.{Less}
 use Rattle.profile.specs.rooms.Messages.{IsReplyEvent, IsRefreshEvent, TellsSlot, zone_text, object_lines, opening_lines}
-use Rattle.profile.specs.rooms.Rooms.{Claim, Answer, Book, confirmed_singles, confirmed_series, is_confirmed, shown, wants_whole, answers_part}
+use Rattle.profile.specs.rooms.Rooms.{Claim, PartAnswer, Book, confirmed_singles, confirmed_series, is_confirmed, shown, wants_whole, answers_part}
 
 -- ---- replies
 
 -- the lines show the answer that the book has to this part
 pub record ShowsAnswer (room : List ℕ) (book : Book) (claim : Claim) (lines : List (List ℕ)) : Type 0 where
-  pub answer : Answer
+  pub answer : PartAnswer
   pub kept : Contains book.answers answer
   pub of_part : answers_part claim.part answer ≡ true
   pub shows : IsReplyEvent room claim.part answer.moment answer.outcome lines
@@ -55,18 +55,18 @@ first_parts (p ∷ ps) = p ∷ filter (λ other. not (same_meeting p other)) (fi
 
 -- what is in a kept calendar: a part that was accepted, as its message claimed it; or a part of one instance that wasn't accepted, which
 -- hides that instance of the whole
-pub data Entry : Type 0 where
-  Shown : Claim → Entry
-  Hidden : Part → Entry
+pub data KeptComponent : Type 0 where
+  Shown : Claim → KeptComponent
+  Hidden : Part → KeptComponent
 
-abbrev pub part_kept : Entry → Part
+abbrev pub part_kept : KeptComponent → Part
 part_kept (Shown claim) = claim.part
 part_kept (Hidden part) = part
 
 -- the room keeps the claim of the meeting that the first part is of: the claim's part is in the view, and was accepted
 pub record IsKept (book : Book) (first : Part) (claim : Claim) : Type 0 where
   pub of_meeting : same_meeting first claim.part ≡ true
-  pub answer : Answer
+  pub answer : PartAnswer
   pub given : Contains book.answers answer
   pub to : answer.claim ≡ claim
   pub confirms : is_confirmed book.taken answer ≡ true
@@ -82,18 +82,18 @@ pub record IsKeptHidden (book : Book) (first part : Part) : Type 0 where
   pub kept : IsKept book first whole
   pub is_whole : is_whole whole.part ≡ true
 
-abbrev pub IsEntry : Book → Part → Entry → Type 0
-IsEntry book first (Shown claim) = IsKept book first claim
-IsEntry book first (Hidden part) = IsKeptHidden book first part
+abbrev pub IsKeptComponent : Book → Part → KeptComponent → Type 0
+IsKeptComponent book first (Shown claim) = IsKept book first claim
+IsKeptComponent book first (Hidden part) = IsKeptHidden book first part
 
 -- these are all that it keeps of that meeting, by their slots
-pub record AreKeptOf (book : Book) (first : Part) (entries : List Entry) : Type 0 where
-  pub exact : (entry : Entry) → Contains entries entry ↔ IsEntry book first entry
+pub record AreKeptOf (book : Book) (first : Part) (entries : List KeptComponent) : Type 0 where
+  pub exact : (entry : KeptComponent) → Contains entries entry ↔ IsKeptComponent book first entry
   pub order : AllPairs (λ a b. slot_cmp (part_kept a).slot (part_kept b).slot ≡ Less) entries
 
 -- these are all that it keeps, the meetings in order of first arrival
-pub record AreKept (book : Book) (entries : List Entry) : Type 0 where
-  pub by_meeting : List (List Entry)
+pub record AreKept (book : Book) (entries : List KeptComponent) : Type 0 where
+  pub by_meeting : List (List KeptComponent)
   pub each : AllZip (AreKeptOf book) (first_parts book.taken) by_meeting
   pub are : entries ≡ flat_map (λ c. c) by_meeting
 
@@ -115,7 +115,7 @@ abbrev pub renamed : List ℕ → List ℕ → List ℕ → List ℕ
 renamed old new line = if bytes_eq (take (length old) line) old then new ++ drop (length old) line else line
 
 -- the zone that an entry needs
-abbrev pub zone_kept : Entry → List (List ℕ)
+abbrev pub zone_kept : KeptComponent → List (List ℕ)
 zone_kept (Shown claim) = option_to_list claim.content.zone
 zone_kept (Hidden part) = []
 
@@ -124,22 +124,22 @@ abbrev pub each_once : List (List ℕ) → List (List ℕ)
 each_once [] = []
 each_once (zone ∷ zones) = zone ∷ filter (λ other. not (bytes_eq zone other)) (each_once zones)
 
-abbrev pub zones_kept : List Entry → List (List ℕ)
+abbrev pub zones_kept : List KeptComponent → List (List ℕ)
 zones_kept entries = each_once (flat_map zone_kept entries)
 
 -- the name of the zone at a place, counted from 0: Z1, Z2, ..
-abbrev pub zone_name : ℕ → List ℕ
-zone_name place = codes "Z" ++ decimal (place + 1)
+abbrev pub kept_zone_name : ℕ → List ℕ
+kept_zone_name place = codes "Z" ++ decimal (place + 1)
 
 -- the octets of zones, each under the name of its place; the places begin here
 abbrev pub zone_texts : ℕ → List (List ℕ) → List ℕ
 zone_texts place [] = []
-zone_texts place (zone ∷ zones) = zone_text (zone_name place) zone ++ zone_texts (place + 1) zones
+zone_texts place (zone ∷ zones) = zone_text (kept_zone_name place) zone ++ zone_texts (place + 1) zones
 
 -- the zone of a content has this name among these; without a zone no name counts
 abbrev pub IsNamed : List (List ℕ) → Option (List ℕ) → List ℕ → Type 0
 IsNamed zones None name = Unit {0}
-IsNamed zones (Some zone) name = (place : ℕ) × (slice_get zones place ≡ Some zone) × (name ≡ zone_name place)
+IsNamed zones (Some zone) name = (place : ℕ) × (slice_get zones place ≡ Some zone) × (name ≡ kept_zone_name place)
 
 -- ---- its VEVENTs
 
@@ -152,7 +152,7 @@ pub record HidesSlot (slot : Slot) (content : List (List ℕ)) : Type 0 where
   pub is : content ≡ (codes "DTSTART:" ++ text) ∷ codes "DURATION:PT0S" ∷ codes "STATUS:CANCELLED" ∷ []
 
 -- the VEVENT of an entry, where these are the zones of the calendar
-abbrev pub IsKeptEvent : List ℕ → List (List ℕ) → Entry → List (List ℕ) → Type 0
+abbrev pub IsKeptEvent : List ℕ → List (List ℕ) → KeptComponent → List (List ℕ) → Type 0
 IsKeptEvent room zones (Shown claim) lines =
     (name : List ℕ) × IsNamed zones claim.content.zone name
     × IsEventOf room claim.part (map (renamed (codes "DTSTART;TZID=Z") (codes "DTSTART;TZID=" ++ name)) claim.content.lines) (codes "ACCEPTED") lines
@@ -160,7 +160,7 @@ IsKeptEvent room zones (Hidden part) lines = (content : List (List ℕ)) × Hide
 
 -- the octets are the room's kept calendar: its zones, and then its VEVENTs. Numbers below 2 ^ 64 name the zones
 pub record IsKeptCalendar (room : List ℕ) (book : Book) (octets : List ℕ) : Type 0 where
-  pub entries : List Entry
+  pub entries : List KeptComponent
   pub kept : AreKept book entries
   pub few : length (zones_kept entries) < 2 ^ 64
   pub events : List (List (List ℕ))

@@ -6,12 +6,12 @@ use Rattle.std.specs.Str.{bytes_eq}
 use Rattle.std.specs.Char.{is_ascii_alphabetic, is_ascii_digit}
 use Rattle.profile.specs.text.Lines.{line_value, is_same_name, logical_lines, reads_as_lines, written}
 use Rattle.profile.specs.text.Objects.{IsObject}
-use Rattle.profile.specs.text.Trees.{Tree, tree_name, tree_own, tree_inside}
+use Rattle.profile.specs.text.Trees.{Tree, tree_own}
 use Rattle.profile.specs.text.Values.{SpellsDate, WritesStamp, WritesLocal, duration_text, escaped}
-use Rattle.profile.specs.events.Events.{Method, Request, Add, Cancel, NamesWord, Event}
+use Rattle.profile.specs.events.EventComponents.{Method, Request, Add, Cancel, NamesWord, EventComponent}
 use Rattle.profile.specs.events.Properties.{first_second, SomeLine, OccursMoreThanOnce, BothOrNeither}
 use Rattle.profile.specs.events.ZonedTimes.{EventTimes, clock_of}
-use Rattle.profile.specs.series.Rules.{Parts, Until, UntilDay, UntilLocal, UntilInstant, text_in}
+use Rattle.profile.specs.series.Rules.{Rule, Until, UntilDay, UntilLocal, UntilInstant, text_in}
 use Rattle.profile.specs.series.RuleTexts.{rule_text}
 use Rattle.profile.specs.events.EventRules.{as_end}
 use Rattle.profile.specs.series.Zones.{Zone, Means}
@@ -19,7 +19,7 @@ use Rattle.profile.specs.written.WrittenZones.{WritesParts}
 use Rattle.profile.specs.checker.Instances.{Key, horizon}
 use Rattle.std.specs.declared.cmp.Ordering.TheVariants.{Less}
 use Rattle.std.specs.Ordering.{is_lt}
-use Rattle.profile.specs.events.Meetings.{Meeting, events_of, SaysMeeting, MeetingFault}
+use Rattle.profile.specs.events.Events.{Event, components_of, SaysEvent, EventFault}
 use Rattle.profile.specs.organisers.Objects.{OrganiserObjectFault}
 use Rattle.profile.specs.rooms.Revisions.{Part, Slot, Whole, At, Revision, Body, Set, Absent, Cancelled, revision_cmp, slot_cmp}
 
@@ -34,7 +34,7 @@ method_word Cancel = codes "CANCEL"
 -- what a message asks for, and the meeting that its VEVENTs say by that METHOD
 pub record Message : Type 0 where
   pub method : Method
-  pub meeting : Meeting
+  pub meeting : Event
 
 -- METHOD occurs exactly once among the lines of a VCALENDAR, and names this one
 abbrev pub NamesMethod : List (List ℕ) → Method → Type 0
@@ -43,13 +43,13 @@ NamesMethod own method = NamesWord own (method_word method)
 -- a VCALENDAR says this message (RFC 5546 3.2.2, 3.2.4, 3.2.5)
 pub record SaysMessage (object : Tree) (message : Message) : Type 0 where
   pub method : NamesMethod (tree_own object) message.method
-  pub says : SaysMeeting object (Some message.method) message.meeting
+  pub says : SaysEvent object (Some message.method) message.meeting
 
 -- the octets are one VCALENDAR, within the limits of a message, and say this message
 pub record SpellsMessage (octets : List ℕ) (message : Message) : Type 0 where
   pub lines : reads_as_lines true octets ≡ true
   pub tree : Tree
-  pub object : IsObject tree_name tree_own tree_inside true tree (logical_lines octets)
+  pub object : IsObject true tree (logical_lines octets)
   pub says : SaysMessage tree message
 
 -- ---- what can be wrong with a message
@@ -68,13 +68,13 @@ pub data MethodFault (own : List (List ℕ)) : ℕ → Type 0 where
 -- the lines of a VCALENDAR or of its VEVENTs have the fault of this number
 pub data MessageFault (object : Tree) : ℕ → Type 0 where
   in_method : {n : ℕ} → MethodFault (tree_own object) n → MessageFault object n
-  in_meeting : {n : ℕ} → (method : Method) → NamesMethod (tree_own object) method → MeetingFault object (Some method) n → MessageFault object n
+  in_meeting : {n : ℕ} → (method : Method) → NamesMethod (tree_own object) method → EventFault object (Some method) n → MessageFault object n
   for_organiser : {n : ℕ} → OrganiserObjectFault object n → MessageFault object n
 
 -- the octets are one VCALENDAR, within the limits of a message, and it has the fault of this number
 pub record MessageTextFault (octets : List ℕ) (n : ℕ) : Type 0 where
   pub tree : Tree
-  pub object : IsObject tree_name tree_own tree_inside true tree (logical_lines octets)
+  pub object : IsObject true tree (logical_lines octets)
   pub fault : MessageFault tree n
 
 -- ---- its parts
@@ -114,7 +114,7 @@ WritesEnd clock (UntilLocal local) text = (instant : ℤ) × Means clock local i
 WritesEnd clock (UntilInstant instant) text = WritesStamp text (as_end instant)
 
 -- the RRULE of an event that starts on these clocks, where it has a rule
-abbrev pub WritesRule : Zone → Option Parts → List (List ℕ) → Type 0
+abbrev pub WritesRule : Zone → Option Rule → List (List ℕ) → Type 0
 WritesRule clock None lines = lines ≡ []
 WritesRule clock (Some rule) lines =
     (end : Option (List ℕ)) × BothOrNeither (WritesEnd clock) rule.until end × (lines ≡ (codes "RRULE:" ++ rule_text (text_in rule) end) ∷ [])
@@ -138,7 +138,7 @@ abbrev pub zone_text : List ℕ → List ℕ → List ℕ
 zone_text name rest = written (codes "BEGIN:VTIMEZONE" ∷ (codes "TZID:" ++ name) ∷ []) ++ rest
 
 -- the content of an event: DTSTART, DURATION, RRULE, RDATE and EXDATE, and its zone. EXDATE counts only where a start may be
-pub record IsContent (content : Content) (event : Event) : Type 0 where
+pub record IsContent (content : Content) (event : EventComponent) : Type 0 where
   pub start : List ℕ
   pub starts : StartsIn event.times.zone event.times start
   pub rule : List (List ℕ)
@@ -157,7 +157,7 @@ abbrev pub canonical : Content → List ℕ
 canonical content = flat_map (λ line. line ++ codes "\r\n") content.lines ++ unwrap_or (option_map (zone_text (codes "Z")) content.zone) []
 
 -- an ATTENDEE line of the event has the room's address
-abbrev pub names_room : List ℕ → Event → Bool
+abbrev pub names_room : List ℕ → EventComponent → Bool
 names_room room event = list_any (λ a. bytes_eq a.address room) event.attendees
 
 abbrev pub is_cancel : Method → Bool
@@ -171,36 +171,36 @@ is_add Add = true
 is_add Cancel = false
 
 -- the event of such a message isn't to take place: METHOD is CANCEL, or STATUS is CANCELLED (RFC 5546 3.2.5, RFC 5545 3.8.1.11)
-abbrev pub cancels : Method → Event → Bool
+abbrev pub cancels : Method → EventComponent → Bool
 cancels method event = is_cancel method || event.cancelled
 
 -- the event names the room as ATTENDEE. That a CANCEL without ATTENDEE is for each room is this profile's choice
-abbrev pub is_for : List ℕ → Method → Event → Bool
+abbrev pub is_for : List ℕ → Method → EventComponent → Bool
 is_for room method event = names_room room event || (is_cancel method && (length event.attendees == 0))
 
 -- the message is addressed to the room: one of its events is for it
 abbrev pub is_addressed : List ℕ → Message → Bool
-is_addressed room message = list_any (is_for room message.method) (events_of message.meeting)
+is_addressed room message = list_any (is_for room message.method) (components_of message.meeting)
 
 -- the events that are parts for a room that the message is addressed to: of a CANCEL those that are for it, of another message each
-abbrev pub is_part_for : List ℕ → Method → Event → Bool
+abbrev pub is_part_for : List ℕ → Method → EventComponent → Bool
 is_part_for room Request event = true
 is_part_for room Add event = true
 is_part_for room Cancel event = is_for room Cancel event
 
-abbrev pub parts_for : List ℕ → Message → List Event
-parts_for room message = if is_addressed room message then filter (is_part_for room message.method) (events_of message.meeting) else []
+abbrev pub parts_for : List ℕ → Message → List EventComponent
+parts_for room message = if is_addressed room message then filter (is_part_for room message.method) (components_of message.meeting) else []
 
 -- the instance that an event is for, else the whole meeting (RFC 5545 3.8.4.4)
 abbrev pub slot_named : Option ℤ → Slot
 slot_named None = Whole
 slot_named (Some instant) = At instant
 
-abbrev pub slot_of : Event → Slot
+abbrev pub slot_of : EventComponent → Slot
 slot_of event = slot_named event.recurrence
 
 -- SEQUENCE and DTSTAMP, which is in each VEVENT of a message
-abbrev pub own_revision : Event → Revision
+abbrev pub own_revision : EventComponent → Revision
 own_revision event = record { sequence = event.sequence; stamp = unwrap_or event.stamp (pos 0) }
 
 -- the later of two revisions
@@ -212,19 +212,19 @@ abbrev pub raised_to : Option Revision → Revision → Revision
 raised_to None own = own
 raised_to (Some whole) own = later_of own whole
 
-abbrev pub revision_beside : Option Event → Event → Revision
+abbrev pub revision_beside : Option EventComponent → EventComponent → Revision
 revision_beside whole event = raised_to (option_map own_revision whole) (own_revision event)
 
 -- what an event of such a message makes of its slot for a room: it cancels it, or sets it to this content, which says when it is, or is not
 -- for this room
-abbrev pub IsBody : List ℕ → Method → Event → Content → Body → Type 0
+abbrev pub IsBody : List ℕ → Method → EventComponent → Content → Body → Type 0
 IsBody room method event content (Set octets) =
     (cancels method event ≡ false) × (names_room room event ≡ true) × IsContent content event × (octets ≡ canonical content)
 IsBody room method event content Absent = (cancels method event ≡ false) × (names_room room event ≡ false) × (content ≡ no_content)
 IsBody room method event content Cancelled = (cancels method event ≡ true) × (content ≡ no_content)
 
 -- the part that an event of a message is for a room, with this content
-pub record IsPart (room : List ℕ) (message : Message) (event : Event) (content : Content) (part : Part) : Type 0 where
+pub record IsPart (room : List ℕ) (message : Message) (event : EventComponent) (content : Content) (part : Part) : Type 0 where
   pub organiser : event.organiser ≡ Some part.organiser
   pub uid : part.uid ≡ event.uid
   pub slot : part.slot ≡ slot_of event
@@ -232,13 +232,13 @@ pub record IsPart (room : List ℕ) (message : Message) (event : Event) (content
   pub body : IsBody room message.method event content part.body
 
 -- these are the events, by their slots: the whole first, and then by instant
-pub record AreBySlot (events ordered : List Event) : Type 0 where
-  pub exact : (event : Event) → Contains ordered event ↔ Contains events event
+pub record AreBySlot (events ordered : List EventComponent) : Type 0 where
+  pub exact : (event : EventComponent) → Contains ordered event ↔ Contains events event
   pub order : AllPairs (λ a b. slot_cmp (slot_of a) (slot_of b) ≡ Less) ordered
 
 -- the parts that a message has for a room, by their slots; none where it isn't addressed to it
 pub record AreParts (room : List ℕ) (message : Message) (parts : List Part) : Type 0 where
-  pub events : List Event
+  pub events : List EventComponent
   pub are : AreBySlot (parts_for room message) events
   pub each : AllZip (λ event part. (content : Content) × IsPart room message event content part) events parts
 
@@ -253,8 +253,8 @@ pub data Outcome : Type 0 where
   SinglesLimit : Outcome
 
 -- letters, digits and `-._~@:` are written as themselves in a word of a status
-abbrev pub is_plain : ℕ → Bool
-is_plain c =
+abbrev pub is_word_octet : ℕ → Bool
+is_word_octet c =
     is_ascii_alphabetic c || is_ascii_digit c || (c == 45) || (c == 46) || (c == 95) || (c == 126) || (c == 64) || (c == 58)
 
 -- the upper case hexadecimal digit of a number below 16
@@ -263,7 +263,7 @@ hexadecimal n = if nat_lt n 10 then 48 + n else 55 + n
 
 -- each other octet is `%` and two hexadecimal digits
 abbrev pub word_octet : ℕ → List ℕ
-word_octet c = if is_plain c then c ∷ [] else 37 ∷ hexadecimal (c / 16) ∷ hexadecimal (c % 16) ∷ []
+word_octet c = if is_word_octet c then c ∷ [] else 37 ∷ hexadecimal (c / 16) ∷ hexadecimal (c % 16) ∷ []
 
 -- a word of a status: this profile's own form
 abbrev pub word : List ℕ → List ℕ

@@ -106,12 +106,12 @@ stays_beside whole part =
     || (is_eq (revision_cmp part.revision whole.revision) && not (is_cancelled whole))
 
 -- a Whole of its meeting leaves the part in the view; a Whole itself always stays
-abbrev pub allows : Part → Part → Bool
-allows whole part =
+abbrev pub leaves_in_view : Part → Part → Bool
+leaves_in_view whole part =
     is_whole part || implies (is_whole whole && same_meeting whole part) (stays_beside whole part)
 
 -- the part is in the view of all taken: the greatest of its place, and an At allowed by the greatest Whole; this profile's choice
 abbrev pub in_view : List Part → Part → Bool
 in_view history part =
     is_greatest history part
-    && list_all (λ whole. implies (is_greatest history whole) (allows whole part)) history
+    && list_all (λ whole. implies (is_greatest history whole) (leaves_in_view whole part)) history

@@ -3,8 +3,8 @@ use Rattle.std.specs.Prelude.{◌≡◌, ◌⊎◌, ℕ, ◌<◌, ◌≤◌, Boo
 use Rattle.std.specs.Option.{option_to_list}
 use Rattle.std.specs.List.{flat_map, list_any}
 use Rattle.std.specs.declared.cmp.Ordering.TheVariants.{Less}
-use Rattle.profile.specs.checker.Instances.{Key, Booked, AreClashing, AreClear, booked_cmp}
-use Rattle.profile.specs.events.Meetings.{Meeting}
+use Rattle.profile.specs.checker.Instances.{Key, Instance, AreClashing, AreClear, instance_cmp}
+use Rattle.profile.specs.events.Events.{Event}
 use Rattle.profile.specs.events.Starts.{IsInstance}
 use Rattle.profile.specs.rooms.Revisions.{Part, Body, At, Set, Absent, Cancelled, in_view, is_whole, same_meeting, same_part, same_place}
 use Rattle.profile.specs.rooms.Messages.{Content, Outcome, Accept, Busy, SeriesLimit, SinglesLimit}
@@ -16,11 +16,11 @@ use Rattle.profile.specs.rooms.Messages.{Content, Outcome, Accept, Busy, SeriesL
 pub record Claim : Type 0 where
   pub part : Part
   pub content : Content
-  pub singles : List Booked
-  pub series : Option Meeting
+  pub singles : List Instance
+  pub series : Option Event
 
 -- what was decided about a part, and when; it stays for good
-pub record Answer : Type 0 where
+pub record PartAnswer : Type 0 where
   pub claim : Claim
   pub moment : ℤ
   pub outcome : Outcome
@@ -28,7 +28,7 @@ pub record Answer : Type 0 where
 -- all parts ever taken, in order, and the answers to those that were decided
 pub record Book : Type 0 where
   pub taken : List Part
-  pub answers : List Answer
+  pub answers : List PartAnswer
 
 -- nothing was taken
 abbrev pub empty_book : Book
@@ -41,51 +41,51 @@ is_accept SeriesLimit = false
 is_accept SinglesLimit = false
 
 -- the part is in the view of all parts taken, and was accepted
-abbrev pub is_confirmed : List Part → Answer → Bool
+abbrev pub is_confirmed : List Part → PartAnswer → Bool
 is_confirmed taken answer = is_accept answer.outcome && in_view taken answer.claim.part
 
 -- the instance is one of a Whole, and a part of that meeting in the view is of its slot: it is as that part says (RFC 5545 3.8.4.4)
-abbrev pub is_hidden : List Part → Part → Booked → Bool
+abbrev pub is_hidden : List Part → Part → Instance → Bool
 is_hidden taken part booked =
     is_whole part && list_any (λ other. in_view taken other && same_place other (record part { slot = At booked.key.slot })) taken
 
 -- the single instances of an answer that no other part hides
-abbrev pub left_of : List Part → Answer → List Booked
+abbrev pub left_of : List Part → PartAnswer → List Instance
 left_of taken answer = filter (λ booked. not (is_hidden taken answer.claim.part booked)) answer.claim.singles
 
 -- the confirmed singles, where these parts were taken and so answered
-abbrev pub singles_confirmed : List Part → List Answer → List Booked
+abbrev pub singles_confirmed : List Part → List PartAnswer → List Instance
 singles_confirmed taken answers = flat_map (left_of taken) (filter (is_confirmed taken) answers)
 
 -- a series of a part
 pub record Recurring : Type 0 where
   pub part : Part
-  pub meeting : Meeting
+  pub meeting : Event
 
 -- that of an answer, where it has one
-abbrev pub recurring_in : Answer → List Recurring
+abbrev pub recurring_in : PartAnswer → List Recurring
 recurring_in answer = option_to_list (option_map (λ meeting. record { part = answer.claim.part; meeting = meeting }) answer.claim.series)
 
 -- the confirmed series. A series of which other parts hide every instance is one too
-abbrev pub series_confirmed : List Part → List Answer → List Recurring
+abbrev pub series_confirmed : List Part → List PartAnswer → List Recurring
 series_confirmed taken answers = flat_map recurring_in (filter (is_confirmed taken) answers)
 
 -- the instance is one of one of these series, and no other part hides it
-pub record IsLeftOf (taken : List Part) (all : List Recurring) (booked : Booked) : Type 0 where
+pub record IsShownInSeries (taken : List Part) (all : List Recurring) (booked : Instance) : Type 0 where
   pub series : Recurring
   pub among : Contains all series
   pub is : IsInstance series.meeting booked
   pub shown : is_hidden taken series.part booked ≡ false
 
-abbrev pub confirmed_singles : Book → List Booked
+abbrev pub confirmed_singles : Book → List Instance
 confirmed_singles book = singles_confirmed book.taken book.answers
 
 abbrev pub confirmed_series : Book → List Recurring
 confirmed_series book = series_confirmed book.taken book.answers
 
 -- the instance is confirmed: a single, or one of a series
-abbrev pub Confirms : Book → Booked → Type 0
-Confirms book booked = Contains (confirmed_singles book) booked ⊎ IsLeftOf book.taken (confirmed_series book) booked
+abbrev pub Confirms : Book → Instance → Type 0
+Confirms book booked = Contains (confirmed_singles book) booked ⊎ IsShownInSeries book.taken (confirmed_series book) booked
 
 -- no two confirmed instances clash
 abbrev pub IsClear : Book → Type 0
@@ -133,15 +133,15 @@ pub record IsWithinLimits (book : Book) : Type 0 where
   pub singles : length (confirmed_singles book) ≤ most_singles
 
 -- the two keys are those of two of these instances that clash, at the later start; the lesser by start, organiser, UID and slot comes first
-pub record NamesClash (these : Booked → Type 0) (first second : Key) (t : ℤ) : Type 0 where
-  pub a : Booked
-  pub b : Booked
+pub record NamesClash (these : Instance → Type 0) (first second : Key) (t : ℤ) : Type 0 where
+  pub a : Instance
+  pub b : Instance
   pub of_first : these a
   pub of_second : these b
   pub clash : AreClashing a b t
   pub first_is : a.key ≡ first
   pub second_is : b.key ≡ second
-  pub ordered : booked_cmp a b ≡ Less
+  pub ordered : instance_cmp a b ≡ Less
   pub later : t ≡ b.start
 
 -- what is decided where this would be the book: the limit of series is looked at first, then that of singles, then whether any two
@@ -155,7 +155,7 @@ Decides book (Busy first second t) = IsWithinLimits book × NamesClash (Confirms
 -- ---- a step
 
 -- the same answer to each of these, at one moment
-abbrev pub answered : ℤ → Outcome → List Claim → List Answer
+abbrev pub answered : ℤ → Outcome → List Claim → List PartAnswer
 answered moment outcome claims = map (λ c. record { claim = c; moment = moment; outcome = outcome }) claims
 
 -- the book as it would be after these parts, if each that is asked were accepted
@@ -216,5 +216,5 @@ abbrev pub wants_whole : Bool → List Part → List Part → List Claim → Boo
 wants_whole adds before after claims = adds && list_any (λ part. is_fresh before after part && lacks_whole after part) (parts_of claims)
 
 -- an answer to this part
-abbrev pub answers_part : Part → Answer → Bool
+abbrev pub answers_part : Part → PartAnswer → Bool
 answers_part part answer = same_part answer.claim.part part

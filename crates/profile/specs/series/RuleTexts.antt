@@ -140,9 +140,9 @@ SaysOr IsValue missing (value ∷ []) x = IsValue value x
 SaysOr IsValue missing (_ ∷ _ ∷ _) x = ⊥
 
 -- the value of a part that means nothing where it is missing
-abbrev pub IsGiven : {A : Type 0} → (List ℕ → A → Type 0) → List ℕ → Option A → Type 0
-IsGiven IsValue value None = ⊥
-IsGiven IsValue value (Some x) = IsValue value x
+abbrev pub IsGivenPart : {A : Type 0} → (List ℕ → A → Type 0) → List ℕ → Option A → Type 0
+IsGivenPart IsValue value None = ⊥
+IsGivenPart IsValue value (Some x) = IsValue value x
 
 -- FREQ occurs exactly once and says this
 abbrev pub SaysFrequency : List (List ℕ) → Frequency → Type 0
@@ -152,8 +152,8 @@ SaysFrequency values frequency = values ≡ frequency_word frequency ∷ []
 pub record SaysParts (text : List ℕ) (rule : RuleText) : Type 0 where
   pub frequency : SaysFrequency (values_of (codes "FREQ=") text) rule.frequency
   pub interval : SaysOr SpellsInterval 1 (values_of (codes "INTERVAL=") text) rule.interval
-  pub count : SaysOr (IsGiven SpellsCount) None (values_of (codes "COUNT=") text) rule.count
-  pub until : SaysOr (IsGiven SpellsUntil) None (values_of (codes "UNTIL=") text) rule.until
+  pub count : SaysOr (IsGivenPart SpellsCount) None (values_of (codes "COUNT=") text) rule.count
+  pub until : SaysOr (IsGivenPart SpellsUntil) None (values_of (codes "UNTIL=") text) rule.until
   pub week_start : SaysOr SpellsWeekday 0 (values_of (codes "WKST=") text) rule.week_start
   pub months : SaysOr SpellsMonths [] (values_of (codes "BYMONTH=") text) rule.months
   pub month_days : SaysOr SpellsMonthDays [] (values_of (codes "BYMONTHDAY=") text) rule.month_days
@@ -219,8 +219,8 @@ nth_entry k = record { number = pos (k / 7) -ℤ pos 53; weekday = k % 7 }
 unfoldable pub entries_from : ℕ → List WeekdayNumber → List WeekdayNumber
 entries_from k entries = filter (λ e. list_any (λ entry. is_same_entry entry e) entries) (map nth_entry (range_with_len k (749 - k)))
 
-abbrev pub entry_text : WeekdayNumber → List ℕ
-entry_text entry = (if is_plain entry.number then [] else signed_decimal entry.number) ++ weekday_word entry.weekday
+abbrev pub weekday_number_text : WeekdayNumber → List ℕ
+weekday_number_text entry = (if is_plain entry.number then [] else signed_decimal entry.number) ++ weekday_word entry.weekday
 
 -- COUNT where it is written
 abbrev pub count_text : Option ℕ → List ℕ
@@ -240,7 +240,7 @@ rule_text rule until =
     ++ (if rule.interval == 1 then [] else codes ";INTERVAL=" ++ decimal rule.interval)
     ++ listed (codes ";BYMONTH=") (map decimal (months_from 1 rule.months))
     ++ listed (codes ";BYMONTHDAY=") (map signed_decimal (numbers_from 0 rule.month_days))
-    ++ listed (codes ";BYDAY=") (map entry_text (entries_from 0 rule.weekdays))
+    ++ listed (codes ";BYDAY=") (map weekday_number_text (entries_from 0 rule.weekdays))
     ++ listed (codes ";BYSETPOS=") (map signed_decimal (numbers_from 0 rule.positions))
     ++ (if rule.week_start == 0 then [] else codes ";WKST=" ++ weekday_word rule.week_start)
 

@@ -30,7 +30,7 @@ pub data Until : Type 0 where
   UntilInstant : ℤ → Until
 
 -- a rule: its pattern, COUNT, the last day that UNTIL allows, and what UNTIL says
-pub record Parts : Type 0 where
+pub record Rule : Type 0 where
   pub pattern : Pattern
   pub count : Option ℕ
   pub last : ℕ
@@ -49,7 +49,7 @@ pub record RuleText : Type 0 where
   pub until : Option Until
 
 -- the rule of a text, from the day of DTSTART to the last day that UNTIL allows
-abbrev pub rule_of : RuleText → ℕ → ℕ → Parts
+abbrev pub rule_of : RuleText → ℕ → ℕ → Rule
 rule_of text start last = record {
   pattern = record {
     frequency = text.frequency;
@@ -67,7 +67,7 @@ rule_of text start last = record {
 }
 
 -- what the text of a rule says
-abbrev pub text_in : Parts → RuleText
+abbrev pub text_in : Rule → RuleText
 text_in rule = record {
   frequency = rule.pattern.frequency;
   interval = rule.pattern.interval;
@@ -155,17 +155,17 @@ is_count None = true
 is_count (Some count) = is_between 1 100_000 count
 
 -- at most 366 entries, this profile's choice
-abbrev pub is_short : {A : Type 0} → List A → Bool
-is_short xs = nat_le (length xs) 366
+abbrev pub has_few_entries : {A : Type 0} → List A → Bool
+has_few_entries xs = nat_le (length xs) 366
 
 -- each number is in its range, and no list is too long (RFC 5545 3.3.10; the bounds of INTERVAL are this profile's)
 unfoldable pub is_in_range : RuleText → Bool
 is_in_range t =
     is_between 1 9999 t.interval && is_count t.count && nat_lt t.week_start 7
-    && (list_all (is_between 1 12) t.months && is_short t.months)
-    && (list_all (is_place 31) t.month_days && is_short t.month_days)
-    && (list_all is_entry t.weekdays && is_short t.weekdays)
-    && (list_all (is_place 366) t.positions && is_short t.positions)
+    && (list_all (is_between 1 12) t.months && has_few_entries t.months)
+    && (list_all (is_place 31) t.month_days && has_few_entries t.month_days)
+    && (list_all is_entry t.weekdays && has_few_entries t.weekdays)
+    && (list_all (is_place 366) t.positions && has_few_entries t.positions)
 
 -- no BYMONTHDAY in WEEKLY; numbers in BYDAY only in MONTHLY and YEARLY without BYMONTHDAY; BYSETPOS only beside another BY part
 -- (RFC 5545 3.3.10)
@@ -276,12 +276,12 @@ abbrev pub last_rule_day : ℕ
 last_rule_day = 3_652_424
 
 -- a day from DTSTART to the last one of UNTIL and to 9999-12-31 that the pattern has: a rule day apart from COUNT
-unfoldable pub is_counted : Parts → ℕ → Bool
+unfoldable pub is_counted : Rule → ℕ → Bool
 is_counted r n =
     nat_le r.pattern.start n && nat_le n r.last && nat_le n last_rule_day && is_base r.pattern n && is_placed r.pattern n
 
 -- the number of the day among those, DTSTART being the first, isn't past COUNT
-unfoldable pub is_within_count : Parts → ℕ → Bool
+unfoldable pub is_within_count : Rule → ℕ → Bool
 is_within_count r n =
     elim r.count [
       | None ↦ true
@@ -289,19 +289,19 @@ is_within_count r n =
     ]
 
 -- a rule day
-unfoldable pub is_rule_day : Parts → ℕ → Bool
+unfoldable pub is_rule_day : Rule → ℕ → Bool
 is_rule_day r n = is_counted r n && is_within_count r n
 
 -- the rule days from a day on, ascending
-unfoldable pub rule_days_from : Parts → ℕ → List ℕ
+unfoldable pub rule_days_from : Rule → ℕ → List ℕ
 rule_days_from r from = filter (is_rule_day r) (range_with_len from (last_rule_day + 1 - from))
 
 -- no rule day from a day on
-abbrev pub NoDayFrom : Parts → ℕ → Type 0
+abbrev pub NoDayFrom : Rule → ℕ → Type 0
 NoDayFrom r from = (n : ℕ) → from ≤ n → is_rule_day r n ≡ false
 
 -- the least rule day from a day on
-pub record IsNextDay (r : Parts) (from day : ℕ) : Type 0 where
+pub record IsNextDay (r : Rule) (from day : ℕ) : Type 0 where
   pub not_before : from ≤ day
   pub holds : is_rule_day r day ≡ true
   pub least : (n : ℕ) → from ≤ n → n < day → is_rule_day r n ≡ false

@@ -38,7 +38,7 @@ abbrev pub IsOffsetLine : List ℕ → ℤ → Type 0
 IsOffsetLine line offset = SpellsOffset (line_value line) offset
 
 -- the lines of a part say the times of this observance, whose DTSTART is local (RFC 5545 3.6.5). No RDATE: this profile's choice
-pub record SaysTimes (lines : List (List ℕ)) (o : Observance) : Type 0 where
+pub record SaysPartTimes (lines : List (List ℕ)) (o : Observance) : Type 0 where
   pub start : Says (codes "DTSTART") true IsLocalLine lines (Some (local_time o.day o.second))
   pub second : o.second < 86_400
   pub from : Says (codes "TZOFFSETFROM") true IsOffsetLine lines (Some o.offset_from)
@@ -143,24 +143,24 @@ IsYearLine line r = SpellsYear (line_value line) r
 
 -- an observance that begins once
 pub record SaysOnce (lines : List (List ℕ)) (o : Observance) : Type 0 where
-  pub times : SaysTimes lines o
+  pub times : SaysPartTimes lines o
   pub no_rule : IsMissing (codes "RRULE") lines
   pub is : o.rule ≡ None
 
 -- one that begins every year
 pub record SaysYearly (lines : List (List ℕ)) (o : Observance) : Type 0 where
-  pub times : SaysTimes lines o
+  pub times : SaysPartTimes lines o
   pub each : YearRule
   pub rule : Says (codes "RRULE") true IsYearLine lines (Some each)
   pub is : o.rule ≡ Some (year_pattern each o.day)
 
 -- one that changes nothing: both its offsets are this one. RRULE is ignored
-abbrev pub Keeps : ℤ → List (List ℕ) → Type 0
-Keeps offset lines = (o : Observance) × SaysTimes lines o × (o.offset_from ≡ offset) × (o.offset_to ≡ offset)
+abbrev pub KeepsOffset : ℤ → List (List ℕ) → Type 0
+KeepsOffset offset lines = (o : Observance) × SaysPartTimes lines o × (o.offset_from ≡ offset) × (o.offset_to ≡ offset)
 
 -- one that has another offset than this one
 abbrev pub Strays : ℤ → List (List ℕ) → Type 0
-Strays offset lines = (o : Observance) × SaysTimes lines o × ((o.offset_from ≡ offset) × (o.offset_to ≡ offset) → ⊥)
+Strays offset lines = (o : Observance) × SaysPartTimes lines o × ((o.offset_from ≡ offset) × (o.offset_to ≡ offset) → ⊥)
 
 -- some of the offsets that the parts say differ
 pub record OffsetsDiffer (parts : List (List (List ℕ))) : Type 0 where
@@ -169,7 +169,7 @@ pub record OffsetsDiffer (parts : List (List (List ℕ))) : Type 0 where
   pub o : Observance
   pub one_in : Contains parts one
   pub other_in : Contains parts other
-  pub says : SaysTimes one o
+  pub says : SaysPartTimes one o
   pub strays : Strays o.offset_from other
 
 -- ---- the forms of a zone that are read, which are this profile's choice
@@ -177,7 +177,7 @@ pub record OffsetsDiffer (parts : List (List (List ℕ))) : Type 0 where
 -- of a VTIMEZONE with these parts, of which these are STANDARD and these are DAYLIGHT
 pub data HasForm (parts standards daylights : List (List (List ℕ))) : Zone → Type 0 where
   -- one offset for all time
-  constant : (offset : ℤ) (part : List (List ℕ)) → Contains parts part → ((other : List (List ℕ)) → Contains parts other → Keeps offset other)
+  constant : (offset : ℤ) (part : List (List ℕ)) → Contains parts part → ((other : List (List ℕ)) → Contains parts other → KeepsOffset offset other)
       → HasForm parts standards daylights (Constant offset)
   -- one part that begins once
   single : (part : List (List ℕ)) (a : Observance) → OffsetsDiffer parts → parts ≡ part ∷ [] → SaysOnce part a

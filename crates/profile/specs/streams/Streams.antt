@@ -6,8 +6,8 @@ use Rattle.std.specs.List.{flat_map, list_any, AllZip}
 use Rattle.std.specs.Str.{is_utf8, bytes_eq}
 use Rattle.profile.specs.text.Lines.{logical_lines, text_has}
 use Rattle.profile.specs.text.Objects.{SpellsTree, most_events, count_inside, has_version, lines_have, is_begun, after_object}
-use Rattle.profile.specs.text.Trees.{Tree, tree_name, tree_own, tree_inside}
-use Rattle.profile.specs.events.Events.{Event}
+use Rattle.profile.specs.text.Trees.{Tree, tree_own}
+use Rattle.profile.specs.events.EventComponents.{EventComponent}
 use Rattle.profile.specs.events.Confirmed.{AreApart, AreOfRule}
 use Rattle.profile.specs.rooms.Messages.{Message, SpellsMessage, MessageTextFault, IsPart, AreBySlot, parts_for, is_add, Outcome}
 use Rattle.profile.specs.rooms.Rooms.{Claim, Book, Delivery, IsStep, empty_book, is_set}
@@ -71,12 +71,12 @@ abbrev pub most_organisers : ℕ
 most_organisers = 256
 
 -- the addresses that a box hosts
-pub record Hosts : Type 0 where
+pub record Config : Type 0 where
   pub rooms : List (List ℕ)
   pub organisers : List (List ℕ)
 
 -- the settings name these: one at least, and no address twice in one kind
-pub record AreHosts (settings : List Setting) (hosts : Hosts) : Type 0 where
+pub record AreHosts (settings : List Setting) (hosts : Config) : Type 0 where
   pub rooms_are : rooms settings ≡ hosts.rooms
   pub organisers_are : organisers settings ≡ hosts.organisers
   pub some : 0 < length hosts.rooms + length hosts.organisers
@@ -86,7 +86,7 @@ pub record AreHosts (settings : List Setting) (hosts : Hosts) : Type 0 where
   pub organisers_differ : AllPairs ◌≢◌ hosts.organisers
 
 -- the octets of a preamble, which are UTF-8, give this moment, once, and these hosts
-pub record IsPreamble (closed : Bool) (octets : List ℕ) (moment : ℤ) (hosts : Hosts) : Type 0 where
+pub record IsPreamble (closed : Bool) (octets : List ℕ) (moment : ℤ) (hosts : Config) : Type 0 where
   pub settings : List Setting
   pub says : SaysSettings closed octets settings
   pub text : is_utf8 octets ≡ true
@@ -95,7 +95,7 @@ pub record IsPreamble (closed : Bool) (octets : List ℕ) (moment : ℤ) (hosts 
   pub are : AreHosts settings hosts
 
 -- the octets of a configuration give these: a preamble's lines, without a moment
-pub record IsConfiguration (closed : Bool) (octets : List ℕ) (hosts : Hosts) : Type 0 where
+pub record IsConfiguration (closed : Bool) (octets : List ℕ) (hosts : Config) : Type 0 where
   pub settings : List Setting
   pub says : SaysSettings closed octets settings
   pub text : is_utf8 octets ≡ true
@@ -116,7 +116,7 @@ abbrev pub AreObjects : List ℕ → List (List ℕ) → Type 0
 AreObjects stream objects = (rest : List ℕ) × BeginsWith stream objects rest × (is_begun rest ≡ false)
 
 -- the stream is a preamble with this moment and these hosts, and then these objects; a preamble without an empty line is all there is
-pub record IsStream (stream : List ℕ) (moment : ℤ) (hosts : Hosts) (objects : List (List ℕ)) : Type 0 where
+pub record IsStream (stream : List ℕ) (moment : ℤ) (hosts : Config) (objects : List (List ℕ)) : Type 0 where
   pub preamble : List ℕ
   pub rest : List ℕ
   pub closed : Bool
@@ -130,9 +130,9 @@ pub record IsStream (stream : List ℕ) (moment : ℤ) (hosts : Hosts) (objects 
 -- the tree that the lines spell has the fault of this number, 24 or 25
 abbrev pub TreeFault : ℕ → List (List ℕ) → Type 0
 TreeFault n lines =
-    (t : Tree) × SpellsTree tree_name tree_own tree_inside 7 t lines
+    (t : Tree) × SpellsTree 7 t lines
     × (((n ≡ 24) × (has_version (tree_own t) ≡ false))
-    ⊎ ((n ≡ 25) × (most_events < count_inside tree_name tree_own tree_inside (codes "VEVENT") t)))
+    ⊎ ((n ≡ 25) × (most_events < count_inside (codes "VEVENT") t)))
 
 -- the octets have the fault of this number: in a line, in how the lines pair up, in the tree, or in the message
 abbrev pub ObjectFault : ℕ → List ℕ → Type 0
@@ -146,18 +146,18 @@ ObjectFault n octets =
 
 -- what is asked for where an event is to take place: all its instances, whichever of them other events are for: those that its RRULE gives,
 -- if it has one, and all others; else nothing
-abbrev pub AsksFor : Bool → Event → Claim → Type 0
+abbrev pub AsksFor : Bool → EventComponent → Claim → Type 0
 AsksFor true event claim = AreApart event claim.singles × AreOfRule event claim.series
 AsksFor false event claim = (claim.singles ≡ []) × (claim.series ≡ None)
 
 -- what an event of a message claims of a room: the part that it is, and its instances, if that is to take place
-pub record IsClaim (room : List ℕ) (message : Message) (event : Event) (claim : Claim) : Type 0 where
+pub record IsClaim (room : List ℕ) (message : Message) (event : EventComponent) (claim : Claim) : Type 0 where
   pub part : IsPart room message event claim.content claim.part
   pub asks : AsksFor (is_set claim.part) event claim
 
 -- what it claims of the room: its parts, by their slots
 pub record AreClaims (room : List ℕ) (message : Message) (claims : List Claim) : Type 0 where
-  pub events : List Event
+  pub events : List EventComponent
   pub are : AreBySlot (parts_for room message) events
   pub each : AllZip (IsClaim room message) events claims
 
@@ -228,7 +228,7 @@ pub record Box : Type 0 where
   pub organisers : List HostedOrganiser
 
 -- nothing was taken
-abbrev pub new_box : Hosts → Box
+abbrev pub new_box : Config → Box
 new_box hosts = record {
   rooms = map (λ room. record { address = room; book = empty_book }) hosts.rooms;
   organisers = map (λ organiser. record { address = organiser; book = empty_organiser }) hosts.organisers;
@@ -281,7 +281,7 @@ AllAnswers moment k (object ∷ objects) before after octets refused =
 -- the whole of what is written for a stream that is served to its end, by a box that has taken nothing
 pub record AnswersStream (stream octets : List ℕ) : Type 0 where
   pub moment : ℤ
-  pub hosts : Hosts
+  pub hosts : Config
   pub objects : List (List ℕ)
   pub after : Box
   pub refused : ℕ

@@ -3,7 +3,7 @@ use Rattle.std.specs.List.{AllZip}
 use Rattle.ical_lines.specs.Fault.{RefusesBy}
 use Rattle.ical_lines.specs.Text.{line_text}
 use Rattle.ical_tree.proofs.OneLine.{at_place}
-use Rattle.profile.specs.events.Events.{EventFault, IsAttendee}
+use Rattle.profile.specs.events.EventComponents.{EventComponentFault, IsAttendee}
 use Rattle.profile.specs.events.Properties.{lines_named}
 use Rattle.cal_events.specs.Events.{attendee_of}
 use Rattle.cal_events.specs.declared.component.Attendee.{Attendee}
@@ -20,7 +20,7 @@ returns-in_err-read_attendee-clause-fault c = λ object m.
     let x = c.line-item.result in
     let steps : map line_text (drop i lines) ≡ line_text x ∷ map line_text (drop (i + 1) lines) =
     ap (map line_text) (at_place lines i x c.loop-line-test.true c.line-item.is) in
-    err_exit _ (RefusesBy (EventFault object m c.args.properties.now)) _ c.from_residual.ensures.1
+    err_exit _ (RefusesBy (EventComponentFault object m c.args.properties.now)) _ c.from_residual.ensures.1
     (attendee_fault object m c.args.properties.now (map line_text (drop i lines)) (map line_text (drop (i + 1) lines)) inv.0 (line_text x) _ inv.1
     steps (sym c.if-is_named.ensures) c.in_err-read_attendee.ensures.fault)
 

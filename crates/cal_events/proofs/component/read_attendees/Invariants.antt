@@ -1,7 +1,7 @@
 use Rattle.std.proofs.Common.{◌≡◌, ◌++◌, ℕ, List, drop, map, codes}
 use Rattle.std.specs.List.{AllZip}
 use Rattle.ical_lines.specs.Text.{line_text}
-use Rattle.profile.specs.events.Events.{IsAttendee}
+use Rattle.profile.specs.events.EventComponents.{IsAttendee}
 use Rattle.profile.specs.events.Properties.{lines_named}
 use Rattle.cal_events.specs.Events.{attendee_of}
 use Rattle.cal_events.proofs.component.read_attendees.Given as goal

@@ -4,9 +4,9 @@ use Rattle.std.specs.Prelude.{option_map}
 use Rattle.std.specs.Option.{option_to_list}
 use Rattle.ical_lines.specs.Text.{line_text}
 use Rattle.profile.specs.text.Values.{IsAddress}
-use Rattle.profile.specs.events.Events.{EventFault}
+use Rattle.profile.specs.events.EventComponents.{EventComponentFault}
 use Rattle.profile.specs.events.Properties.{IsNoAddress}
-use Rattle.profile.specs.events.Events.{twice, bad_organiser, no_organiser}
+use Rattle.profile.specs.events.EventComponents.{twice, bad_organiser, no_organiser}
 use Rattle.cal_events.specs.Events.{method_read}
 use Rattle.cal_events.proofs.EventLemmas.{by_number, some_line}
 use Rattle.ical_values.proofs.Exits.{err_exit}
@@ -14,13 +14,13 @@ use Rattle.cal_events.proofs.component.read_organiser.Goals as goal
 
 pub returns-in_err-line-clause-fault : goal.returns-in_err-line-clause-fault
 returns-in_err-line-clause-fault c object =
-    err_exit _ (RefusesBy (EventFault object (method_read c.args.purpose) c.args.properties.now)) _ c.from_residual.ensures.1
-    (subst (EventFault object (method_read c.args.purpose) c.args.properties.now) (sym c.in_err-line.ensures.refuses)
+    err_exit _ (RefusesBy (EventComponentFault object (method_read c.args.purpose) c.args.properties.now)) _ c.from_residual.ensures.1
+    (subst (EventComponentFault object (method_read c.args.purpose) c.args.properties.now) (sym c.in_err-line.ensures.refuses)
     (twice (codes "ORGANIZER") (1, omega arith, refl) c.in_err-line.ensures.twice))
 
 pub returns-in_err-read-in-Some-clause-fault : goal.returns-in_err-read-in-Some-clause-fault
 returns-in_err-read-in-Some-clause-fault c object =
-    let P = EventFault object (method_read c.args.purpose) c.args.properties.now in
+    let P = EventComponentFault object (method_read c.args.purpose) c.args.properties.now in
     let once = c.in_ok-line.ensures.found ∙ ap (λ l. option_to_list (option_map line_text l)) c.in-Some.is in
     err_exit _ (RefusesBy P) _ c.from_residual-in_err-read-in-Some.ensures.1
     (by_number _ P _ 15

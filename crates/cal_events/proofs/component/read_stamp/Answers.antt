@@ -3,9 +3,9 @@ use Rattle.std.specs.Prelude.{option_map}
 use Rattle.std.specs.Option.{option_to_list}
 use Rattle.ical_lines.specs.Text.{line_text}
 use Rattle.profile.specs.text.Lines.{line_value}
-use Rattle.profile.specs.events.Events.{EventFault}
+use Rattle.profile.specs.events.EventComponents.{EventComponentFault}
 use Rattle.profile.specs.events.Properties.{IsNoStamp}
-use Rattle.profile.specs.events.Events.{twice, bad_stamp, no_stamp_given}
+use Rattle.profile.specs.events.EventComponents.{twice, bad_stamp, no_stamp_given}
 use Rattle.cal_events.specs.Events.{method_read}
 use Rattle.cal_events.proofs.EventLemmas.{some_line}
 use Rattle.ical_values.proofs.Exits.{refusal_exit}
@@ -13,13 +13,13 @@ use Rattle.cal_events.proofs.component.read_stamp.Goals as goal
 
 pub returns-in_err-line-clause-fault : goal.returns-in_err-line-clause-fault
 returns-in_err-line-clause-fault c object =
-    let P = EventFault object (method_read c.args.purpose) c.args.properties.now in
+    let P = EventComponentFault object (method_read c.args.purpose) c.args.properties.now in
     refusal_exit _ P _ c.from_residual.ensures.1
     (subst P (sym c.in_err-line.ensures.refuses) (twice (codes "DTSTAMP") (2, omega arith, refl) c.in_err-line.ensures.twice))
 
 pub returns-in_err-read-in-Some-clause-fault : goal.returns-in_err-read-in-Some-clause-fault
 returns-in_err-read-in-Some-clause-fault c object =
-    let P = EventFault object (method_read c.args.purpose) c.args.properties.now in
+    let P = EventComponentFault object (method_read c.args.purpose) c.args.properties.now in
     let once = c.in_ok-line.ensures.found ∙ ap (λ l. option_to_list (option_map line_text l)) c.in-Some.is in
     refusal_exit _ P _ c.from_residual-in_err-read-in-Some.ensures.1
     (subst P (sym c.in_err-read-in-Some.ensures.refuses)

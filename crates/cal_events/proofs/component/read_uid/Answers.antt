@@ -6,14 +6,14 @@ use Rattle.ical_values.proofs.Exits.{err_exit, err_both}
 use Rattle.profile.specs.faults.Faults.{is_uid_fault}
 use Rattle.profile.specs.text.Lines.{line_value}
 use Rattle.profile.specs.text.Values.{IsUid, unescaped}
-use Rattle.profile.specs.events.Events.{EventFault}
-use Rattle.profile.specs.events.Events.{twice, no_uid, bad_uid}
+use Rattle.profile.specs.events.EventComponents.{EventComponentFault}
+use Rattle.profile.specs.events.EventComponents.{twice, no_uid, bad_uid}
 use Rattle.cal_events.proofs.EventLemmas.{by_number, some_line, uid_said}
 use Rattle.cal_events.proofs.component.read_uid.Goals as goal
 
 pub returns-in_err-line-clause-fault : goal.returns-in_err-line-clause-fault
 returns-in_err-line-clause-fault c = λ object m.
-    let P = EventFault object m c.args.properties.now in
+    let P = EventComponentFault object m c.args.properties.now in
     err_exit _ (RefusesBy P) _ c.from_residual.ensures.1
     (subst P (sym c.in_err-line.ensures.refuses)
     (elim c.in_err-line.ensures.faulty [ inl h ↦ no_uid h | inr h ↦ twice (codes "UID") (0, omega arith, refl) h ]))
@@ -24,7 +24,7 @@ returns-clause-reads c =
 
 pub returns-clause-fault : goal.returns-clause-fault
 returns-clause-fault c = λ object m.
-    let P = EventFault object m c.args.properties.now in
+    let P = EventComponentFault object m c.args.properties.now in
     let value = c.value.result.now in
     let line = line_text c.in_ok-line.line in
     err_both _ (RefusesOnly is_uid_fault) (IfRefused (¬ (IsUid (unescaped value)))) (RefusesBy P)

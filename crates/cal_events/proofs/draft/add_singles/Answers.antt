@@ -2,7 +2,7 @@ use Rattle.std.proofs.Common.{◌≡◌, ◌∙◌, ◌∷◌, [], sym, subst, L
 use Rattle.std.specs.List.{AllZip}
 use Rattle.std.proofs.lemmas.List.{take_all}
 use Rattle.profile.specs.events.Starts.{EndsAt}
-use Rattle.cal_events.specs.Events.{event_of}
+use Rattle.cal_events.specs.Events.{component_of}
 use Rattle.cal_events.specs.Drafts.{IsMadeAt}
 use Rattle.cal_events.specs.SingleStarts.{AreSingleStarts}
 use Rattle.cal_events.proofs.Clocks.{clock_good}
@@ -11,7 +11,7 @@ use Rattle.cal_events.proofs.OwnSingles.{master_own, override_own}
 use Rattle.cal_events.proofs.draft.add_singles.Goals as goal
 
 pub single_starts-requires : goal.single_starts-requires
-single_starts-requires c = λ _. clock_good c.requires.0 c.requires.1 (event_of c.args.event.now) c.requires.2
+single_starts-requires c = λ _. clock_good c.requires.0 c.requires.1 (component_of c.args.event.now) c.requires.2
 
 pub loop-start-preserved : goal.loop-start-preserved
 loop-start-preserved c =
@@ -22,12 +22,12 @@ loop-start-preserved c =
     let cast : to_z w64 (of_z w64 x) ≡ x = to_z-of_z fits in
     let s = c.single_at-in-loop-start.result in
     let p = c.single_at-in-loop-start.ensures.place in
-    made_more c.args.entry (event_of c.args.event.now) xs k c.args.singles.now.items c.loop-start.singles.items c.push-in-loop-start.new.self.items s c.loop-start-test.true c.loop-start.invariant c.in_ok-push-in-None.ensures.items
-    (record { at = p.0; slot = p.1 ∙ cast; starts = p.2 ∙ cast; ends = subst (λ (t : ℤ). EndsAt (event_of c.args.event.now).times t s.end) cast c.single_at-in-loop-start.ensures.ends })
+    made_more c.args.entry (component_of c.args.event.now) xs k c.args.singles.now.items c.loop-start.singles.items c.push-in-loop-start.new.self.items s c.loop-start-test.true c.loop-start.invariant c.in_ok-push-in-None.ensures.items
+    (record { at = p.0; slot = p.1 ∙ cast; starts = p.2 ∙ cast; ends = subst (λ (t : ℤ). EndsAt (component_of c.args.event.now).times t s.end) cast c.single_at-in-loop-start.ensures.ends })
 
 pub returns-in_ok-push-in-Some : goal.returns-in_ok-push-in-Some
 returns-in_ok-push-in-Some c room kept =
-    let event = event_of c.args.event.now in
+    let event = component_of c.args.event.now in
     let s = c.single_at.result in
     let p = c.single_at.ensures.place in
     let slot : to_z w64 (of_z w64 c.in-Some.slot) ≡ c.in-Some.slot = search rules in
@@ -40,7 +40,7 @@ returns-in_ok-push-in-Some c room kept =
 
 pub returns-after-loop-start : goal.returns-after-loop-start
 returns-after-loop-start c room kept =
-    let event = event_of c.args.event.now in
+    let event = component_of c.args.event.now in
     let i = c.loop-start.invariant in
     let xs = c.deref-start-items.result.now in
     let all = subst (λ (l : List ℤ). AllZip (IsMadeAt c.args.entry event) l i.0) (take_all c.loop-start.start-index xs c.loop-start-test.false) i.2 in

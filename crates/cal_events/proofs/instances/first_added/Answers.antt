@@ -1,5 +1,5 @@
 use Rattle.std.proofs.Common.{◌≡◌, map, FitsSigned, to_z, of_z, w64, to_z-of_z, rules}
-use Rattle.cal_events.specs.Events.{event_of}
+use Rattle.cal_events.specs.Events.{component_of}
 use Rattle.cal_events.proofs.HiddenLemmas.{first_wanted}
 use Rattle.cal_events.proofs.instances.first_added.Goals as goal
 
@@ -9,4 +9,4 @@ returns c = λ master is.
     let from = c.first_own_start.result in
     let fits : FitsSigned w64 from = search rules in
     let cast : to_z w64 (of_z w64 from) ≡ from = to_z-of_z fits in
-    first_wanted (event_of master) (map event_of event.overrides.items) event.added c.args.after c.first_own_start.result c.first_from.result (event.adds master is) c.first_own_start.ensures (rw cast at c.first_from.ensures)
+    first_wanted (component_of master) (map component_of event.overrides.items) event.added c.args.after c.first_own_start.result c.first_from.result (event.adds master is) c.first_own_start.ensures (rw cast at c.first_from.ensures)

@@ -1,6 +1,6 @@
 use Rattle.std.proofs.Common.{◌∙◌, sym, subst, map}
 use Rattle.std.proofs.lemmas.Option.{same_Some}
-use Rattle.cal_events.specs.Events.{event_of}
+use Rattle.cal_events.specs.Events.{component_of}
 use Rattle.cal_events.specs.declared.component.EventComponent.{EventComponent}
 use Rattle.cal_events.specs.Instances.{AreWalked, IsOfClock}
 use Rattle.cal_events.proofs.InstanceLemmas.{first_with_master, first_without}
@@ -18,7 +18,7 @@ pub returns-in-Some-clause-passed : goal.returns-in-Some-clause-passed
 returns-in-Some-clause-passed c d is =
     let same = same_Some c.in-Some.master d (sym c.in-Some.is ∙ is) in
     let days = c.first_start-start.new.days in
-    subst (λ (x : EventComponent). AreWalked (event_of x) (map event_of c.args.event.now.overrides.items) c.args.after days) same c.first_start-start.ensures.walked
+    subst (λ (x : EventComponent). AreWalked (component_of x) (map component_of c.args.event.now.overrides.items) c.args.after days) same c.first_start-start.ensures.walked
 
 pub returns-in-None-clause-first : goal.returns-in-None-clause-first
 returns-in-None-clause-first c =
@@ -27,7 +27,7 @@ returns-in-None-clause-first c =
 pub returns-in-Some-clause-reads : goal.returns-in-Some-clause-reads
 returns-in-Some-clause-reads c d is =
     let same = same_Some c.in-Some.master d (sym c.in-Some.is ∙ is) in
-    subst (λ (x : EventComponent). IsOfClock (event_of x) c.first_start-start.new.clock) same c.first_start-start.ensures.reads
+    subst (λ (x : EventComponent). IsOfClock (component_of x) c.first_start-start.new.clock) same c.first_start-start.ensures.reads
 
 pub first_start-start-requires-clause-reads : goal.first_start-start-requires-clause-reads
 first_start-start-requires-clause-reads c = c.requires.reads c.in-Some.master c.in-Some.is

@@ -1,7 +1,7 @@
 use Rattle.std.proofs.Common.{◌≡◌, subst, arith, ℤ, to_z, of_z, w64, to_z-of_z, rules, FitsSigned}
 use Rattle.std.proofs.lemmas.Int.{ints}
 use Rattle.profile.specs.events.Starts.{EndsAt}
-use Rattle.cal_events.specs.Events.{event_of}
+use Rattle.cal_events.specs.Events.{component_of}
 use Rattle.cal_events.specs.Calendars.{instance_of}
 use Rattle.cal_events.proofs.InstanceLemmas.{master_there, nothing_there, made_of_master, made_of_override}
 use Rattle.cal_events.proofs.instances.instance_at.Goals as goal
@@ -30,7 +30,7 @@ returns-in-Some-default-clause-instance c =
     let slot : to_z w64 (of_z w64 c.args.place.slot) ≡ c.args.place.slot = to_z-of_z fits in
     let is = found.0 in
     made_of_override event o.now is (instance_of c.instance_from.result) c.instant.result c.args.place.slot found.1.0 v (rw same at c.instance_from.ensures.start) (rw slot at c.instance_from.ensures.key)
-    (subst (λ (t : ℤ). EndsAt (event_of o.now).times t c.instance_from.result.end) same c.instance_from.ensures.ends)
+    (subst (λ (t : ℤ). EndsAt (component_of o.now).times t c.instance_from.result.end) same c.instance_from.ensures.ends)
 
 pub returns-in-None-Some-clause-instance : goal.returns-in-None-Some-clause-instance
 returns-in-None-Some-clause-instance c =
@@ -44,4 +44,4 @@ returns-in-None-Some-clause-instance c =
     let fits : FitsSigned w64 c.args.place.slot = search rules in
     let slot : to_z w64 (of_z w64 c.args.place.slot) ≡ c.args.place.slot = to_z-of_z fits in
     made_of_master event m c.in-None-Some.is-1 (instance_of r) c.args.place.start c.args.place.slot there.0 there.1 (rw same at c.instance_from-in-None-Some.ensures.start)
-    (rw slot at c.instance_from-in-None-Some.ensures.key) (subst (λ (t : ℤ). EndsAt (event_of m).times t r.end) same c.instance_from-in-None-Some.ensures.ends)
+    (rw slot at c.instance_from-in-None-Some.ensures.key) (subst (λ (t : ℤ). EndsAt (component_of m).times t r.end) same c.instance_from-in-None-Some.ensures.ends)

@@ -1,7 +1,7 @@
 use Rattle.std.proofs.lemmas.Result.{IfErr-weaker}
 use Rattle.ical_lines.specs.Fault.{RefusesOnly, RefusesBy}
 use Rattle.profile.specs.faults.Faults.{is_meeting_event_fault}
-use Rattle.profile.specs.events.Events.{EventFault}
+use Rattle.profile.specs.events.EventComponents.{EventComponentFault}
 use Rattle.cal_events.specs.Events.{method_read}
 use Rattle.cal_events.specs.Zones.{object_of}
 use Rattle.cal_events.proofs.NumberLemmas.{refused_for}
@@ -12,4 +12,4 @@ returns-clause-refuses c =
     let object = object_of c.args.zones.now in
     let m = method_read c.args.purpose in
     let lines = c.in_ok-properties.properties in
-    IfErr-weaker _ (RefusesBy (EventFault object m lines)) (RefusesOnly is_meeting_event_fault) (refused_for object m lines) c.read.ensures.fault
+    IfErr-weaker _ (RefusesBy (EventComponentFault object m lines)) (RefusesOnly is_meeting_event_fault) (refused_for object m lines) c.read.ensures.fault

@@ -4,8 +4,8 @@ use Rattle.ical_lines.specs.Fault.{RefusesBy}
 use Rattle.ical_tree.specs.Tree.{component_lines, component_children, tree_of}
 use Rattle.ical_tree.specs.declared.component.Component.{Component}
 use Rattle.profile.specs.text.Trees.{Tree}
-use Rattle.profile.specs.events.Events.{EventFault, SaysEvent}
-use Rattle.cal_events.specs.Events.{event_of, vevents_of, IsFaultAmong, method_read}
+use Rattle.profile.specs.events.EventComponents.{EventComponentFault, SaysEventComponent}
+use Rattle.cal_events.specs.Events.{component_of, vevents_of, IsFaultAmong, method_read}
 use Rattle.cal_events.proofs.ReadingLemmas.{events_in, is_among, take_event, take_other, event_pushed}
 use Rattle.cal_events.proofs.ZonedLemmas.{weaker_fault}
 use Rattle.ical_values.proofs.Exits.{err_exit}
@@ -24,9 +24,9 @@ returns-in_err-read_event-clause-fault c =
     let m = method_read c.args.purpose in
     let P = IsFaultAmong (tree_of object) m (vevents_of object) in
     err_exit _ (RefusesBy P) _ c.from_residual-in_err-read_event.ensures.1
-    (weaker_fault _ (EventFault (tree_of object) m (component_lines x)) P
+    (weaker_fault _ (EventComponentFault (tree_of object) m (component_lines x)) P
     (λ n h. (component_lines x, is_among all i x within here (sym c.if-is_named.ensures), h))
-    (subst (λ (t : Tree). RefusesBy (EventFault t m (component_lines x)) c.in_err-read_event.field-0.0) (ap tree_of c.in_ok-zones.ensures.object) c.in_err-read_event.ensures.fault))
+    (subst (λ (t : Tree). RefusesBy (EventComponentFault t m (component_lines x)) c.in_err-read_event.field-0.0) (ap tree_of c.in_ok-zones.ensures.object) c.in_err-read_event.ensures.fault))
 
 pub loop-component-preserved : goal.loop-component-preserved
 loop-component-preserved c =
@@ -41,11 +41,11 @@ loop-component-preserved c =
     let new = c.if-is_named.events.items in
     elim c.if-is_named.branch [
       | then-is_named+in_ok-read_event+in_ok-push w ↦
-          subst (λ vs. AllZip (SaysEvent object m) vs (map event_of new)) (sym (take_event all i x within here (sym w.if-is_named.ensures)))
+          subst (λ vs. AllZip (SaysEventComponent object m) vs (map component_of new)) (sym (take_event all i x within here (sym w.if-is_named.ensures)))
           (event_pushed object m (events_in (take i all)) (component_lines x) c.loop-component.events.items new w.in_ok-read_event.field-0 c.loop-component.invariant
-          (subst (λ (t : Tree). SaysEvent t m (component_lines x) (event_of w.in_ok-read_event.field-0)) (ap tree_of c.in_ok-zones.ensures.object) w.in_ok-read_event.ensures.says)
+          (subst (λ (t : Tree). SaysEventComponent t m (component_lines x) (component_of w.in_ok-read_event.field-0)) (ap tree_of c.in_ok-zones.ensures.object) w.in_ok-read_event.ensures.says)
           (ap (λ v. v.items) w.events-is ∙ w.in_ok-push.ensures.items))
       | else-is_named w ↦
-          subst (λ vs. AllZip (SaysEvent object m) vs (map event_of new)) (sym (take_other all i x within here (sym w.if-is_named.ensures)))
-          (subst (λ es. AllZip (SaysEvent object m) (events_in (take i all)) (map event_of es)) (sym (ap (λ v. v.items) w.events-is)) c.loop-component.invariant)
+          subst (λ vs. AllZip (SaysEventComponent object m) vs (map component_of new)) (sym (take_other all i x within here (sym w.if-is_named.ensures)))
+          (subst (λ es. AllZip (SaysEventComponent object m) (events_in (take i all)) (map component_of es)) (sym (ap (λ v. v.items) w.events-is)) c.loop-component.invariant)
     ]

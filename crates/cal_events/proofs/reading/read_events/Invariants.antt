@@ -1,12 +1,12 @@
 use Rattle.std.proofs.Common.{take, map}
 use Rattle.std.specs.List.{AllZip}
 use Rattle.ical_tree.specs.Tree.{component_children, tree_of}
-use Rattle.profile.specs.events.Events.{SaysEvent}
-use Rattle.cal_events.specs.Events.{event_of, method_read}
+use Rattle.profile.specs.events.EventComponents.{SaysEventComponent}
+use Rattle.cal_events.specs.Events.{component_of, method_read}
 use Rattle.cal_events.proofs.ReadingLemmas.{events_in}
 use Rattle.cal_events.proofs.reading.read_events.Given as goal
 
 -- the VEVENTs so far say the events so far
 abbrev pub invariant-loop-component : goal.invariant-loop-component
 invariant-loop-component l =
-    AllZip (SaysEvent (tree_of l.object) (method_read l.purpose)) (events_in (take l.component-index (component_children l.object))) (map event_of l.events.items)
+    AllZip (SaysEventComponent (tree_of l.object) (method_read l.purpose)) (events_in (take l.component-index (component_children l.object))) (map component_of l.events.items)

@@ -1,5 +1,5 @@
 use Rattle.std.proofs.Common.{◌∙◌, ◌++◌, ◌∷◌, [], List, ℤ, ap, not, to_z, of_z, w64, rules}
-use Rattle.cal_events.specs.Events.{event_of}
+use Rattle.cal_events.specs.Events.{component_of}
 use Rattle.cal_events.proofs.DraftKeys.{none_there}
 use Rattle.cal_events.proofs.SingleStartLemmas.{with_dtstart, without_dtstart}
 use Rattle.cal_events.proofs.single_starts.candidates.Goals as goal
@@ -7,7 +7,7 @@ use Rattle.cal_events.proofs.single_starts.candidates.Goals.{then-is_none+in_ok-
 
 pub returns : goal.returns
 returns c =
-    let master = event_of c.args.master.now in
+    let master = component_of c.args.master.now in
     let xs = c.if-is_none.instants.items in
     let copied = c.in_ok-instants.ensures ∙ c.deref.ensures.value in
     elim c.if-is_none.branch [

@@ -5,7 +5,7 @@ use Rattle.std.specs.Cmp.{unsigned_Decides}
 use Rattle.std.proofs.lemmas.Int.{ints, by_lt_z}
 use Rattle.profile.specs.series.Days.{day_index}
 use Rattle.profile.specs.events.EventRules.{IsOnDay}
-use Rattle.cal_events.specs.Events.{event_of}
+use Rattle.cal_events.specs.Events.{component_of}
 use Rattle.cal_events.specs.Instances.{AreWalked}
 use Rattle.cal_events.proofs.DraftKeys.{some_there}
 use Rattle.cal_events.proofs.InstanceLemmas.{last_of_rule}
@@ -22,7 +22,7 @@ start_on-start-requires-clause-day c =
 
 pub returns-then-start-instant : goal.returns-then-start-instant
 returns-then-start-instant c =
-    let event = event_of c.args.master.now in
+    let event = component_of c.args.master.now in
     let r = some_there c.args.master.now.rule (c.is_none.ensures ∙ ap not c.if-is_none.false) in
     let d = c.day_and_second-second.result in
     let on : IsOnDay c.args.master.now.times.start.local (day_index d.0) d.1 = (c.day_and_second-second.ensures.second, omega (arith, ints, c.day_and_second-second.ensures.sum, c.day_and_second-second.type_inv)) in
@@ -51,7 +51,7 @@ loop-day-smaller c =
 
 pub loop-day-preserved : goal.loop-day-preserved
 loop-day-preserved c =
-    let event = event_of c.args.master.now in
+    let event = component_of c.args.master.now in
     let r = some_there c.args.master.now.rule (c.is_none.ensures ∙ ap not c.if-is_none.false) in
     let d = c.day_and_second-second.result in
     let on : IsOnDay c.args.master.now.times.start.local (day_index d.0) d.1 = (c.day_and_second-second.ensures.second, omega (arith, ints, c.day_and_second-second.ensures.sum, c.day_and_second-second.type_inv)) in
@@ -65,7 +65,7 @@ loop-day-preserved c =
 
 pub returns : goal.returns
 returns c =
-    let event = event_of c.args.master.now in
+    let event = component_of c.args.master.now in
     let r = some_there c.args.master.now.rule (c.is_none.ensures ∙ ap not c.if-is_none.false) in
     let d = c.day_and_second-second.result in
     let on : IsOnDay c.args.master.now.times.start.local (day_index d.0) d.1 = (c.day_and_second-second.ensures.second, omega (arith, ints, c.day_and_second-second.ensures.sum, c.day_and_second-second.type_inv)) in

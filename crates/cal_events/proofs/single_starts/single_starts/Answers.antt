@@ -4,7 +4,7 @@ use Rattle.std.proofs.lemmas.List.{get_or_default}
 use Rattle.std.specs.Prelude.{IsTrue, Contains, ◌↔◌}
 use Rattle.std.specs.Ordering.{int_cmp}
 use Rattle.std.specs.List.Sorted.{IsSorted}
-use Rattle.cal_events.specs.Events.{event_of}
+use Rattle.cal_events.specs.Events.{component_of}
 use Rattle.cal_events.specs.SingleStarts.{IsCandidate, IsLast}
 use Rattle.cal_events.proofs.SingleStartLemmas.{AreSoFar, one_more, none_more, once_more, all_starts}
 use Rattle.cal_events.proofs.single_starts.single_starts.Goals as goal
@@ -12,7 +12,7 @@ use Rattle.cal_events.proofs.single_starts.single_starts.Goals.{then-not-is_last
 
 pub loop-instant-preserved : goal.loop-instant-preserved
 loop-instant-preserved c =
-    let event = event_of c.args.master.now in
+    let event = component_of c.args.master.now in
     let xs = c.sorted-instant-items.result.now in
     let k = c.loop-instant.instant-index in
     let x = get_or xs k (pos 0) in
@@ -33,6 +33,6 @@ loop-instant-preserved c =
 
 pub returns : goal.returns
 returns c =
-    let event = event_of c.args.master.now in
+    let event = component_of c.args.master.now in
     all_starts event c.sorted-instant-items.result.now c.loop-instant.starts.items c.loop-instant.instant-index c.loop-instant-test.false
     (subst (λ (l : List ℤ). (t : ℤ) → Contains l t ↔ IsCandidate event t) (sym c.sorted-instant-items.ensures) c.in_ok-candidates.ensures) c.loop-instant.invariant

@@ -1,7 +1,7 @@
 use Rattle.std.proofs.Common.{take}
-use Rattle.cal_events.specs.Events.{event_of}
+use Rattle.cal_events.specs.Events.{component_of}
 use Rattle.cal_events.proofs.SingleStartLemmas.{AreSoFar}
 use Rattle.cal_events.proofs.single_starts.single_starts.Given as goal
 
 abbrev pub invariant-loop-instant : goal.invariant-loop-instant
-invariant-loop-instant l = AreSoFar (event_of l.master) (take l.instant-index l.instant-items) l.starts.items
+invariant-loop-instant l = AreSoFar (component_of l.master) (take l.instant-index l.instant-items) l.starts.items

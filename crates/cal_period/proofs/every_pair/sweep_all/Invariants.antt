@@ -1,5 +1,5 @@
 use Rattle.std.proofs.Common.{◌≡◌, ◌+◌, ◌-◌, ◌^◌, ◌≤◌, List, length, map, min}
-use Rattle.profile.specs.checker.Instances.{Booked}
+use Rattle.profile.specs.checker.Instances.{Instance}
 use Rattle.cal_events.specs.SaidSeries.{series_said}
 use Rattle.cal_period.specs.Every.{AreLists, pairs_count, all_count}
 use Rattle.cal_period.proofs.EveryPair.{AreRowsClear}
@@ -10,5 +10,5 @@ abbrev pub invariant-loop-i : goal.invariant-loop-i
 invariant-loop-i l =
     AreRowsClear (map series_said l.series) l.i
     × (l.drawn ≤ 2 ^ 64 - 1)
-    × ((lists : List (List Booked)) → AreLists (map series_said l.series) lists
+    × ((lists : List (List Instance)) → AreLists (map series_said l.series) lists
     → min (l.drawn + pairs_count (map length lists) l.i (length lists - l.i)) (2 ^ 64 - 1) ≡ min (all_count lists) (2 ^ 64 - 1))

@@ -2,7 +2,7 @@ use Rattle.std.proofs.Common.{◌≡◌, ap, arith}
 use Rattle.std.proofs.lemmas.Int.{ints}
 use Rattle.profile.specs.checker.Instances.{horizon}
 use Rattle.cal_events.specs.SaidSeries.{series_said}
-use Rattle.cal_period.specs.Walks.{place_of}
+use Rattle.cal_period.specs.Walks.{walk_place}
 use Rattle.cal_period.proofs.Alone.{alone_first, alone_end, alone_found, alone_past}
 use Rattle.cal_period.proofs.Sweeping.{all_left, none_is, all_counted, some_counted, fewer_left}
 use Rattle.cal_period.proofs.sweep.sweep_alone.Goals as goal
@@ -35,10 +35,10 @@ loop-walk-preserved c =
 
 pub returns-clause-shared : goal.returns-clause-shared
 returns-clause-shared c =
-    let end : place_of c.loop-walk.walk.next ≡ horizon = ap place_of (none_is c.loop-walk.walk.next c.in_default.not-Some) in
+    let end : walk_place c.loop-walk.walk.next ≡ horizon = ap walk_place (none_is c.loop-walk.walk.next c.in_default.not-Some) in
     alone_end (series_said c.args.a.now) c.loop-walk.starts c.loop-walk.walk c.loop-walk.invariant (omega (arith, ints, end))
 
 pub returns-clause-drawn : goal.returns-clause-drawn
 returns-clause-drawn c =
-    let end : place_of c.loop-walk.walk.next ≡ horizon = ap place_of (none_is c.loop-walk.walk.next c.in_default.not-Some) in
+    let end : walk_place c.loop-walk.walk.next ≡ horizon = ap walk_place (none_is c.loop-walk.walk.next c.in_default.not-Some) in
     all_counted (series_said c.args.a.now) c.loop-walk.starts c.loop-walk.walk c.loop-walk.invariant.is_walk (omega (arith, ints, end))

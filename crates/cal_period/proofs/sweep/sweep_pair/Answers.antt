@@ -3,7 +3,7 @@ use Rattle.std.proofs.lemmas.Int.{ints}
 use Rattle.profile.specs.checker.Instances.{horizon}
 use Rattle.cal_events.specs.Calendars.{instance_of}
 use Rattle.cal_events.specs.SaidSeries.{series_said}
-use Rattle.cal_period.specs.Walks.{place_of}
+use Rattle.cal_period.specs.Walks.{walk_place}
 use Rattle.cal_period.proofs.Pairs.{pair_first, pair_turned, found_turned, pair_end, pair_counted, pair_at_most, pair_found, pair_past}
 use Rattle.cal_period.proofs.Sweeping.{all_left, fewer_left, place_before, place_after}
 use Rattle.cal_period.proofs.sweep.sweep_pair.Goals as goal
@@ -26,7 +26,7 @@ returns-in_default-clause-shared c =
     let f : FitsSigned w64 p = search rules in
     let g : FitsSigned w64 q = search rules in
     let l = place_before p q _ _ f g c.place.ensures c.place-in-loop-next.ensures c.if-place.true in
-    let end : place_of c.loop-next.first.next ≡ horizon = ap place_of c.in_default.is in
+    let end : walk_place c.loop-next.first.next ≡ horizon = ap walk_place c.in_default.is in
     pair_end (series_said c.args.a.now) (series_said c.args.b.now) c.loop-next.of_a c.loop-next.of_b c.loop-next.first c.loop-next.second c.loop-next.invariant (omega (arith, ints, end)) (omega (arith, ints, end, l))
 
 pub returns-in_default-clause-drawn : goal.returns-in_default-clause-drawn
@@ -36,7 +36,7 @@ returns-in_default-clause-drawn c =
     let f : FitsSigned w64 p = search rules in
     let g : FitsSigned w64 q = search rules in
     let l = place_before p q _ _ f g c.place.ensures c.place-in-loop-next.ensures c.if-place.true in
-    let end : place_of c.loop-next.first.next ≡ horizon = ap place_of c.in_default.is in
+    let end : walk_place c.loop-next.first.next ≡ horizon = ap walk_place c.in_default.is in
     pair_counted (series_said c.args.a.now) (series_said c.args.b.now) c.loop-next.of_a c.loop-next.of_b c.loop-next.first c.loop-next.second c.loop-next.invariant (omega (arith, ints, end)) (omega (arith, ints, end, l))
     c.saturating_add-drawn.result c.saturating_add-drawn.ensures
 
@@ -75,7 +75,7 @@ returns-in_default-next-clause-shared c =
     let f : FitsSigned w64 p = search rules in
     let g : FitsSigned w64 q = search rules in
     let l = place_after p q _ _ f g c.place.ensures c.place-in-loop-next.ensures c.if-place.false in
-    let end : place_of c.loop-next.second.next ≡ horizon = ap place_of c.in_default-next.is in
+    let end : walk_place c.loop-next.second.next ≡ horizon = ap walk_place c.in_default-next.is in
     pair_end (series_said c.args.a.now) (series_said c.args.b.now) c.loop-next.of_a c.loop-next.of_b c.loop-next.first c.loop-next.second c.loop-next.invariant (omega (arith, ints, end, l)) (omega (arith, ints, end))
 
 pub returns-in_default-next-clause-drawn : goal.returns-in_default-next-clause-drawn
@@ -85,7 +85,7 @@ returns-in_default-next-clause-drawn c =
     let f : FitsSigned w64 p = search rules in
     let g : FitsSigned w64 q = search rules in
     let l = place_after p q _ _ f g c.place.ensures c.place-in-loop-next.ensures c.if-place.false in
-    let end : place_of c.loop-next.second.next ≡ horizon = ap place_of c.in_default-next.is in
+    let end : walk_place c.loop-next.second.next ≡ horizon = ap walk_place c.in_default-next.is in
     pair_counted (series_said c.args.a.now) (series_said c.args.b.now) c.loop-next.of_a c.loop-next.of_b c.loop-next.first c.loop-next.second c.loop-next.invariant (omega (arith, ints, end, l)) (omega (arith, ints, end))
     c.saturating_add-drawn.result c.saturating_add-drawn.ensures
 

@@ -1,5 +1,5 @@
 use Rattle.std.proofs.Common.{map, sym, true, false}
-use Rattle.cal_rules.specs.Views.{entry_of}
+use Rattle.cal_rules.specs.Views.{weekday_number_of}
 use Rattle.ical_values.proofs.Exits.{if_none}
 use Rattle.cal_zones.specs.Shapes.{days_of}
 use Rattle.cal_zones.proofs.Named.{none_month, one_day_parts, names_at, months_at}
@@ -16,7 +16,7 @@ returns-in_err-days-clause-none c =
     if_none c.from_residual-in_err-days.result (λ r h.
     let o = one_day_parts rule r h in
     c.in_err-days.ensures.none r.month r.days
-    (names_at r.days rule.month_days c.month_days.result.now rule.weekdays (map entry_of c.weekdays.result.now) (sym c.month_days.ensures) (sym c.weekdays.ensures) o.days) o.each)
+    (names_at r.days rule.month_days c.month_days.result.now rule.weekdays (map weekday_number_of c.weekdays.result.now) (sym c.month_days.ensures) (sym c.weekdays.ensures) o.days) o.each)
 
 pub returns-clause-found : goal.returns-clause-found
 returns-clause-found c =
@@ -24,7 +24,7 @@ returns-clause-found c =
     let days = days_of c.in_ok-days.days in
     year_found c.new.result rule c.in_ok-month.month c.in_ok-days.days (sym c.if-not-is_plain_yearly.ensures)
     (months_at c.in_ok-month.month c.months.result.now rule.months true c.months.ensures c.in_ok-month.ensures.found)
-    (names_at days c.month_days.result.now rule.month_days (map entry_of c.weekdays.result.now) rule.weekdays c.month_days.ensures c.weekdays.ensures c.in_ok-days.ensures.found)
+    (names_at days c.month_days.result.now rule.month_days (map weekday_number_of c.weekdays.result.now) rule.weekdays c.month_days.ensures c.weekdays.ensures c.in_ok-days.ensures.found)
     c.new.ensures.value
 
 pub returns-clause-none : goal.returns-clause-none
@@ -33,5 +33,5 @@ returns-clause-none c =
     let days = days_of c.in_ok-days.days in
     year_none c.new.result rule c.in_ok-month.month c.in_ok-days.days
     (months_at c.in_ok-month.month c.months.result.now rule.months true c.months.ensures c.in_ok-month.ensures.found)
-    (names_at days c.month_days.result.now rule.month_days (map entry_of c.weekdays.result.now) rule.weekdays c.month_days.ensures c.weekdays.ensures c.in_ok-days.ensures.found)
+    (names_at days c.month_days.result.now rule.month_days (map weekday_number_of c.weekdays.result.now) rule.weekdays c.month_days.ensures c.weekdays.ensures c.in_ok-days.ensures.found)
     c.new.ensures.found

@@ -2,8 +2,8 @@ use Rattle.std.proofs.Common.{◌≡◌, ◌<◌, ◌≤◌, ℕ, ℤ, List, len
 use Rattle.std.specs.Prelude.{Contains}
 use Rattle.ical_tree.specs.Tree.{component_lines, component_children}
 use Rattle.ical_tree.specs.declared.component.Component.{Component}
-use Rattle.profile.specs.series.ZoneTexts.{is_part, Keeps, Strays, TimesFault}
-use Rattle.cal_zones.specs.Read.{SomeTimesFault, parts_of}
+use Rattle.profile.specs.series.ZoneTexts.{is_part, KeepsOffset, Strays, TimesFault}
+use Rattle.cal_zones.specs.Read.{SomeTimesFault, zone_parts}
 use Rattle.cal_zones.proofs.PartLemmas.{is_among, drop_other, drop_part, all_left, none_left}
 use Rattle.cal_zones.proofs.Reading.{fault_exit}
 use Rattle.cal_zones.proofs.read.all_keep.Goals as goal
@@ -17,7 +17,7 @@ returns-in_err-keeps-clause-fault c =
     let same = c.children-child-items.ensures in
     let within = subst (λ (l : List Component). i < length l) same c.loop-child-test.true in
     let here = subst (λ (l : List Component). x ≡ get_or l i x) same c.child-item.is in
-    fault_exit _ (SomeTimesFault (parts_of c.args.zone.now)) (TimesFault (component_lines x)) _
+    fault_exit _ (SomeTimesFault (zone_parts c.args.zone.now)) (TimesFault (component_lines x)) _
     (λ n h. (component_lines x, is_among is_part all i x within here (sym c.if-is_part.ensures), h)) c.from_residual.ensures.1 c.in_err-keeps.ensures.fault
 
 pub returns-then-not-branch-clause-no : goal.returns-then-not-branch-clause-no
@@ -42,9 +42,9 @@ loop-child-preserved c later =
     let k : ℤ = to_z w32 (of_z w32 c.args.offset) in
     elim c.if-is_part.branch [
       | then-is_part+in_ok-keeps+else-not-branch w ↦
-          c.loop-child.invariant (all_left (Keeps k) (component_lines x) _ _ (drop_part is_part all i x within here (sym w.if-is_part.ensures)) (w.in_ok-keeps.ensures.yes w.if-not-branch.false) later)
+          c.loop-child.invariant (all_left (KeepsOffset k) (component_lines x) _ _ (drop_part is_part all i x within here (sym w.if-is_part.ensures)) (w.in_ok-keeps.ensures.yes w.if-not-branch.false) later)
       | else-is_part w ↦
-          c.loop-child.invariant (subst (λ (l : List (List (List ℕ))). (part : List (List ℕ)) → Contains l part → Keeps k part) (sym (drop_other is_part all i x within here (sym w.if-is_part.ensures))) later)
+          c.loop-child.invariant (subst (λ (l : List (List (List ℕ))). (part : List (List ℕ)) → Contains l part → KeepsOffset k part) (sym (drop_other is_part all i x within here (sym w.if-is_part.ensures))) later)
     ]
 
 pub returns-clause-yes : goal.returns-clause-yes
@@ -52,5 +52,5 @@ returns-clause-yes c h =
     let all = component_children c.args.zone.now in
     let same = c.children-child-items.ensures in
     let done = subst (λ (l : List Component). length l ≤ c.loop-child.child-index) same c.loop-child-test.false in
-    subst (λ (z : ℤ). (part : List (List ℕ)) → Contains (parts_of c.args.zone.now) part → Keeps z part) (to_z-of_z c.ranges.offset)
+    subst (λ (z : ℤ). (part : List (List ℕ)) → Contains (zone_parts c.args.zone.now) part → KeepsOffset z part) (to_z-of_z c.ranges.offset)
     (c.loop-child.invariant (λ part there. absurd (none_left is_part all c.loop-child.child-index part done there)))

@@ -1,7 +1,7 @@
 use Rattle.ical_tree.specs.Tree.{component_lines}
 use Rattle.std.proofs.lemmas.Result.{IfOk-weaker}
 use Rattle.cal_zones.specs.Kinds.{zone_of}
-use Rattle.cal_zones.specs.Read.{Says, HasFault, SaysSingle, SingleFault, parts_of, standards_of, daylights_of}
+use Rattle.cal_zones.specs.Read.{SaysComponentZone, HasZoneFault, SaysSingle, SingleFault, zone_parts, standards_of, daylights_of}
 use Rattle.cal_zones.proofs.Reading.{weaker_fault, single_says, single_fault}
 use Rattle.cal_zones.proofs.read.read_changing.Goals as goal
 
@@ -9,12 +9,12 @@ pub returns-in-Some-clause-says : goal.returns-in-Some-clause-says
 returns-in-Some-clause-says c =
     let zone = c.args.zone.now in
     let part = component_lines c.in-Some.part.now in
-    IfOk-weaker _ (λ z. SaysSingle part (zone_of z)) (λ z. Says zone (zone_of z))
-    (λ z h. single_says (parts_of zone) (standards_of zone) (daylights_of zone) part (zone_of z) c.requires c.in-Some.ensures.found h) c.read_single.ensures.says
+    IfOk-weaker _ (λ z. SaysSingle part (zone_of z)) (λ z. SaysComponentZone zone (zone_of z))
+    (λ z h. single_says (zone_parts zone) (standards_of zone) (daylights_of zone) part (zone_of z) c.requires c.in-Some.ensures.found h) c.read_single.ensures.says
 
 pub returns-in-Some-clause-fault : goal.returns-in-Some-clause-fault
 returns-in-Some-clause-fault c =
     let zone = c.args.zone.now in
     let part = component_lines c.in-Some.part.now in
-    weaker_fault _ (SingleFault part) (HasFault zone)
-    (λ n h. single_fault (parts_of zone) (standards_of zone) (daylights_of zone) part n c.requires c.in-Some.ensures.found h) c.read_single.ensures.fault
+    weaker_fault _ (SingleFault part) (HasZoneFault zone)
+    (λ n h. single_fault (zone_parts zone) (standards_of zone) (daylights_of zone) part n c.requires c.in-Some.ensures.found h) c.read_single.ensures.fault

@@ -1,7 +1,7 @@
 use Rattle.ical_tree.specs.Tree.{component_lines, component_children}
 use Rattle.profile.specs.series.ZoneTexts.{other_parts}
 use Rattle.cal_zones.specs.Kinds.{zone_of}
-use Rattle.cal_zones.specs.Read.{HasFault, YearlyFault, in_standard, in_daylight, parts_of, standards_of, daylights_of}
+use Rattle.cal_zones.specs.Read.{HasZoneFault, YearlyFault, in_standard, in_daylight, zone_parts, standards_of, daylights_of}
 use Rattle.cal_zones.proofs.PartLemmas.{standard_is_part, daylight_is_part}
 use Rattle.cal_zones.proofs.Reading.{fault_exit, both_refused, both_say, both_fault}
 use Rattle.cal_zones.specs.Onsets.{observance_of}
@@ -20,7 +20,7 @@ returns-in_err-first-clause-fault c =
     let zone = c.args.zone.now in
     let p = component_lines c.in-Some.standard.now in
     let q = component_lines c.in-Some-only_named.daylight.now in
-    fault_exit _ (HasFault zone) (YearlyFault p) _ (λ n h. both_fault (parts_of zone) (standards_of zone) (daylights_of zone) p q n c.requires.differ c.in-Some.ensures.found c.in-Some-only_named.ensures.found
+    fault_exit _ (HasZoneFault zone) (YearlyFault p) _ (λ n h. both_fault (zone_parts zone) (standards_of zone) (daylights_of zone) p q n c.requires.differ c.in-Some.ensures.found c.in-Some-only_named.ensures.found
     (standard_is_part (component_children zone) p c.in-Some.ensures.found) (daylight_is_part (component_children zone) q c.in-Some-only_named.ensures.found) (in_standard h)) c.from_residual.ensures.1 c.in_err-first.ensures.fault
 
 pub returns-in_err-second-clause-fault : goal.returns-in_err-second-clause-fault
@@ -28,7 +28,7 @@ returns-in_err-second-clause-fault c =
     let zone = c.args.zone.now in
     let p = component_lines c.in-Some.standard.now in
     let q = component_lines c.in-Some-only_named.daylight.now in
-    fault_exit _ (HasFault zone) (YearlyFault q) _ (λ n h. both_fault (parts_of zone) (standards_of zone) (daylights_of zone) p q n c.requires.differ c.in-Some.ensures.found c.in-Some-only_named.ensures.found
+    fault_exit _ (HasZoneFault zone) (YearlyFault q) _ (λ n h. both_fault (zone_parts zone) (standards_of zone) (daylights_of zone) p q n c.requires.differ c.in-Some.ensures.found c.in-Some-only_named.ensures.found
     (standard_is_part (component_children zone) p c.in-Some.ensures.found) (daylight_is_part (component_children zone) q c.in-Some-only_named.ensures.found) (in_daylight h)) c.from_residual-in_err-second.ensures.1 c.in_err-second.ensures.fault
 
 pub returns-in_err-pair-clause-fault : goal.returns-in_err-pair-clause-fault
@@ -37,8 +37,8 @@ returns-in_err-pair-clause-fault c =
     let p = component_lines c.in-Some.standard.now in
     let q = component_lines c.in-Some-only_named.daylight.now in
     let n = c.in_err-pair.field-0.0.number in
-    err_exit _ (RefusesBy (HasFault zone)) _ c.from_residual-in_err-pair.ensures.1
-    (both_fault (parts_of zone) (standards_of zone) (daylights_of zone) p q n c.requires.differ c.in-Some.ensures.found c.in-Some-only_named.ensures.found
+    err_exit _ (RefusesBy (HasZoneFault zone)) _ c.from_residual-in_err-pair.ensures.1
+    (both_fault (zone_parts zone) (standards_of zone) (daylights_of zone) p q n c.requires.differ c.in-Some.ensures.found c.in-Some-only_named.ensures.found
     (standard_is_part (component_children zone) p c.in-Some.ensures.found) (daylight_is_part (component_children zone) q c.in-Some-only_named.ensures.found)
     (both_refused p q c.in_ok-first.first c.in_ok-second.second n c.in_ok-first.ensures.says c.in_ok-second.ensures.says c.in_ok-first.ensures.has_rule c.in_ok-second.ensures.has_rule c.in_err-pair.ensures.refuses))
 
@@ -50,5 +50,5 @@ returns-clause-says c =
     let a = observance_of c.in_ok-first.first in
     let b = observance_of c.in_ok-second.second in
     let ok = c.in_ok-pair.ensures in
-    both_say (parts_of zone) (standards_of zone) (daylights_of zone) p q (zone_of c.in_ok-pair.field-0) c.requires.differ c.in-Some.ensures.found c.in-Some-only_named.ensures.found
+    both_say (zone_parts zone) (standards_of zone) (daylights_of zone) p q (zone_of c.in_ok-pair.field-0) c.requires.differ c.in-Some.ensures.found c.in-Some-only_named.ensures.found
     (a, b, ok.ok, c.in_ok-first.ensures.says, c.in_ok-second.ensures.says, ok.accepted.0, ok.accepted.1)

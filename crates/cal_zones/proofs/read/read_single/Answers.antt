@@ -1,7 +1,7 @@
 use Rattle.std.proofs.Common.{ap, codes, subst, sym}
 use Rattle.ical_lines.specs.Fault.{RefusesBy}
 use Rattle.ical_tree.specs.Tree.{component_lines}
-use Rattle.cal_zones.specs.Onsets.{observance_of, rule_of}
+use Rattle.cal_zones.specs.Onsets.{observance_of, yearly_rule}
 use Rattle.cal_zones.specs.Read.{SingleFault, in_times, has_rule}
 use Rattle.profile.specs.events.Properties.{IsMissing}
 use Rattle.profile.specs.series.ZoneTexts.{SaysOnce}
@@ -24,7 +24,7 @@ returns-clause-says c =
     let once : SaysOnce (component_lines c.args.part.now) (observance_of o) = record {
       times = rw c.in_ok-properties.ensures at c.in_ok-observance.ensures.says;
       no_rule = subst (IsMissing (codes "RRULE")) c.in_ok-properties.ensures (c.has_line.ensures.missing c.if-has_line.false);
-      is = ap (rule_of o.day) c.in_ok-observance.ensures.no_rule;
+      is = ap (yearly_rule o.day) c.in_ok-observance.ensures.no_rule;
     } in
     (observance_of o, c.in_ok-single.ensures.ok, once, c.in_ok-single.ensures.accepted.1)
 
@@ -35,7 +35,7 @@ returns-in_err-single-clause-fault c =
     let once : SaysOnce lines (observance_of o) = record {
       times = rw c.in_ok-properties.ensures at c.in_ok-observance.ensures.says;
       no_rule = subst (IsMissing (codes "RRULE")) c.in_ok-properties.ensures (c.has_line.ensures.missing c.if-has_line.false);
-      is = ap (rule_of o.day) c.in_ok-observance.ensures.no_rule;
+      is = ap (yearly_rule o.day) c.in_ok-observance.ensures.no_rule;
     } in
     err_exit _ (RefusesBy (SingleFault lines)) _ c.from_residual-in_err-single.ensures.1
     (single_refused lines o _ once c.in_ok-observance.ensures.no_rule c.in_err-single.ensures.refuses)

@@ -1,9 +1,9 @@
 use Rattle.std.proofs.Common.{◌≡◌, sym, subst, ℤ, to_z, of_z, w32, Some, None}
 use Rattle.ical_tree.specs.Tree.{component_lines, component_children}
 use Rattle.profile.specs.series.Zones.{Zone}
-use Rattle.profile.specs.series.ZoneTexts.{is_part, PartsSay, Keeps, Strays, TimesFault, no_part, in_part, constant}
+use Rattle.profile.specs.series.ZoneTexts.{is_part, PartsSay, KeepsOffset, Strays, TimesFault, no_part, in_part, constant}
 use Rattle.cal_zones.specs.Onsets.{observance_of}
-use Rattle.cal_zones.specs.Read.{HasFault, SomeTimesFault, parts_of, standards_of, daylights_of}
+use Rattle.cal_zones.specs.Read.{HasZoneFault, SomeTimesFault, zone_parts, standards_of, daylights_of}
 use Rattle.cal_zones.proofs.Casts.{narrow}
 use Rattle.cal_zones.proofs.Reading.{fault_exit, some_times_fault}
 use Rattle.cal_zones.proofs.PartLemmas.{found_in, nothing_in}
@@ -15,12 +15,12 @@ returns-in_default-clause-fault c = no_part (nothing_in is_part (component_child
 pub returns-in_err-first-clause-fault : goal.returns-in_err-first-clause-fault
 returns-in_err-first-clause-fault c =
     let part = component_lines c.in-Some.part.now in
-    fault_exit _ (HasFault c.args.zone.now) (TimesFault part) _ (λ n h. in_part part (found_in is_part (component_children c.args.zone.now) (Some c.in-Some.part) c.in-Some.ensures) h) c.from_residual.ensures.1 c.in_err-first.ensures.fault
+    fault_exit _ (HasZoneFault c.args.zone.now) (TimesFault part) _ (λ n h. in_part part (found_in is_part (component_children c.args.zone.now) (Some c.in-Some.part) c.in-Some.ensures) h) c.from_residual.ensures.1 c.in_err-first.ensures.fault
 
 pub returns-in_err-all_keep-clause-fault : goal.returns-in_err-all_keep-clause-fault
 returns-in_err-all_keep-clause-fault c =
     let zone = c.args.zone.now in
-    fault_exit _ (HasFault zone) (SomeTimesFault (parts_of zone)) _ (some_times_fault (parts_of zone) (standards_of zone) (daylights_of zone))
+    fault_exit _ (HasZoneFault zone) (SomeTimesFault (zone_parts zone)) _ (some_times_fault (zone_parts zone) (standards_of zone) (daylights_of zone))
     c.from_residual-in_err-all_keep.ensures.1 c.in_err-all_keep.ensures.fault
 
 pub returns-then-branch-clause-says : goal.returns-then-branch-clause-says
@@ -29,9 +29,9 @@ returns-then-branch-clause-says c =
     let first = c.in_ok-first.first in
     let same : to_z w32 (of_z w32 first.offset_from) ≡ first.offset_from = narrow first.offset_from first.from in
     let keeps = c.in_ok-all_keep.ensures.yes c.if-branch.true in
-    subst (λ (z : Zone). PartsSay (parts_of zone) (standards_of zone) (daylights_of zone) z) (sym c.keeping.ensures)
+    subst (λ (z : Zone). PartsSay (zone_parts zone) (standards_of zone) (daylights_of zone) z) (sym c.keeping.ensures)
     (record {
-      form = constant first.offset_from (component_lines c.in-Some.part.now) (found_in is_part (component_children c.args.zone.now) (Some c.in-Some.part) c.in-Some.ensures) (λ other there. subst (λ (z : ℤ). Keeps z other) same (keeps other there));
+      form = constant first.offset_from (component_lines c.in-Some.part.now) (found_in is_part (component_children c.args.zone.now) (Some c.in-Some.part) c.in-Some.ensures) (λ other there. subst (λ (z : ℤ). KeepsOffset z other) same (keeps other there));
       matched = tt;
       spaced = tt;
     })

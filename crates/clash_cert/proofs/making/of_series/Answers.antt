@@ -1,6 +1,6 @@
 use Rattle.std.proofs.Common.{refl, sym, subst, arith, rules, w64, FitsSigned}
 use Rattle.std.proofs.lemmas.Int.{to_z-of_z}
-use Rattle.profile.specs.events.Meetings.{Meeting}
+use Rattle.profile.specs.events.Events.{Event}
 use Rattle.profile.specs.events.Starts.{IsInstance}
 use Rattle.cal_events.specs.Calendars.{instance_of}
 use Rattle.clash_cert.proofs.MakingLemmas.{named_by, series_in, series_there, keys_apart, shares_start}
@@ -19,7 +19,7 @@ returns c =
     let other = series_there xs all.series f.j c.index-series-shared-2.result r.is.b are r.within c.index-series-shared-2.is r.is.at_second in
     let fits_a : FitsSigned w64 f.first.start = search rules in
     let fits_b : FitsSigned w64 f.second.start = search rules in
-    let of_a = c.in_ok-of_first.ensures a (subst (λ (m : Meeting). IsInstance m a) one r.is.first) (sym (to_z-of_z w64 f.first.start fits_a)) in
-    let of_b = c.in_ok-of_second.ensures b (subst (λ (m : Meeting). IsInstance m b) other r.is.second) (sym (to_z-of_z w64 f.second.start fits_b)) in
+    let of_a = c.in_ok-of_first.ensures a (subst (λ (m : Event). IsInstance m a) one r.is.first) (sym (to_z-of_z w64 f.first.start fits_a)) in
+    let of_b = c.in_ok-of_second.ensures b (subst (λ (m : Event). IsInstance m b) other r.is.second) (sym (to_z-of_z w64 f.second.start fits_b)) in
     named_by all a b a b c.named.result refl refl (series_in all f.i r.is.a a r.is.at_first r.is.first) (series_in all f.j r.is.b b r.is.at_second r.is.second)
     (keys_apart all c.series-series.ensures.keys f.i f.j a b r.order r.within r.is) (shares_start a b r.is.shared) (c.named.ensures of_a of_b)

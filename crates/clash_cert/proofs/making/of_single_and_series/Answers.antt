@@ -1,7 +1,7 @@
 use Rattle.std.proofs.Common.{◌∙◌, refl, sym, subst, arith, rules, w64, FitsSigned}
 use Rattle.std.proofs.lemmas.Int.{to_z-of_z}
 use Rattle.std.proofs.lemmas.Option.{slice_get_within, get_or_from_slice_get}
-use Rattle.profile.specs.events.Meetings.{Meeting}
+use Rattle.profile.specs.events.Events.{Event}
 use Rattle.profile.specs.events.Starts.{IsInstance}
 use Rattle.cal_events.specs.Calendars.{instance_of}
 use Rattle.clash_cert.proofs.MakingLemmas.{named_by, lent, own_key, single_in, series_in, series_there, shares_turned}
@@ -22,7 +22,7 @@ returns c =
     let there = slice_get_within all.series f.series m r.sharer.at in
     let one = series_there xs all.series f.series c.index-series-beside.result m are there c.index-series-beside.is r.sharer.at in
     let fits : FitsSigned w64 f.instance.start = search rules in
-    let of_series = c.in_ok-of_series.ensures b (subst (λ (s : Meeting). IsInstance s b) one r.sharer.is) (sym (to_z-of_z w64 f.instance.start fits)) in
+    let of_series = c.in_ok-of_series.ensures b (subst (λ (s : Event). IsInstance s b) one r.sharer.is) (sym (to_z-of_z w64 f.instance.start fits)) in
     let single = slice_get_within all.singles f.single a r.at in
     named_by all a b (instance_of i) b c.named.result (lent all.singles f.single c.single.result i a c.single.ensures c.unwrap-single.ensures r.at) refl
     (single_in all f.single a r.at) (series_in all f.series m b r.sharer.at r.sharer.is)

@@ -2,7 +2,7 @@ use Rattle.std.proofs.Common.{◌≡◌, ◌∙◌, ◌++◌, ◌∷◌, List, �
 use Rattle.std.specs.Prelude.{Contains}
 use Rattle.profile.specs.text.Values.{duration_text}
 use Rattle.profile.specs.rooms.Messages.{WritesTimes, is_in_dates}
-use Rattle.profile.specs.series.Rules.{Parts}
+use Rattle.profile.specs.series.Rules.{Rule}
 use Rattle.profile.specs.series.Zones.{Zone}
 use Rattle.profile.specs.events.ZonedTimes.{clock_of}
 use Rattle.cal_events.specs.Events.{zone_said}
@@ -31,7 +31,7 @@ returns c =
     let written = c.in_ok-write_rule.ensures in
     let recurs : AppendsRule (clock_of (zone_said c.args.event.now.times.start)) c.args.event.now.rule c.write_duration.new.body.items c.write_rule.new.body.items =
     subst (λ (z : Zone). AppendsRule z c.args.event.now.rule c.write_duration.new.body.items c.write_rule.new.body.items) c.clock.ensures
-    (subst (λ (r : Option Parts). AppendsRule (zone_of c.clock.result) r c.write_duration.new.body.items c.write_rule.new.body.items) c.as_ref.ensures.value written) in
+    (subst (λ (r : Option Rule). AppendsRule (zone_of c.clock.result) r c.write_duration.new.body.items c.write_rule.new.body.items) c.as_ref.ensures.value written) in
     let zone = c.in_ok-write_zone.ensures in
     let excepted : c.deref-3.result.now ≡ filter is_in_dates c.args.event.now.exceptions.items = c.deref-3.ensures.value ∙ c.in_ok-exceptions.ensures ∙ ap (filter is_in_dates) c.deref-2.ensures.value in
     let duration = codes "DURATION:" ++ duration_text length.days length.seconds in

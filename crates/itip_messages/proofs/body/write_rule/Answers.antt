@@ -1,6 +1,6 @@
 use Rattle.std.proofs.Common.{◌≡◌, ◌∙◌, ◌∷◌, ◌++◌, [], Option, Some, codes, string_bytes, refl, sym, ap, subst}
 use Rattle.std.specs.Prelude.{option_copied, option_map}
-use Rattle.profile.specs.series.Rules.{Parts, Until, text_in}
+use Rattle.profile.specs.series.Rules.{Rule, Until, text_in}
 use Rattle.profile.specs.series.RuleTexts.{rule_text}
 use Rattle.profile.specs.events.Properties.{BothOrNeither}
 use Rattle.profile.specs.rooms.Messages.{WritesEnd, WritesRule}
@@ -20,7 +20,7 @@ returns c =
     let told = subst (λ (u : Option Until). BothOrNeither (WritesEnd clock) u end) c.until.ensures c.in_ok-end.ensures in
     let there : option_copied c.args.rule ≡ Some rule = ap option_copied c.in-Some.is in (
       (codes "RRULE:" ++ text) ∷ [],
-      subst (λ (r : Option Parts). WritesRule clock r ((codes "RRULE:" ++ text) ∷ [])) (sym there) (end, told, refl),
+      subst (λ (r : Option Rule). WritesRule clock r ((codes "RRULE:" ++ text) ∷ [])) (sym there) (end, told, refl),
       line_written c.args.body.now.items (codes "RRULE:") text _ _ _ c.in_ok-extend_from_slice.ensures.items
           (c.in_ok-write.ensures.ok ∙ ap (λ e. c.extend_from_slice.new.self.items ++ rule_text (text_in rule) e) c.as_deref.ensures.value) c.in_ok-extend_from_slice-2.ensures.items,
     )

@@ -6,7 +6,7 @@ use Rattle.std.proofs.lemmas.Iterator.Consumers.{YieldsList-end}
 use Rattle.std.proofs.lemmas.Iterator.Adapters.{YieldsList-from_vec}
 use Rattle.std.proofs.lemmas.List.{map-append, map-id}
 use Rattle.itip_order.specs.Parts.{slot_of}
-use Rattle.profile.specs.events.Events.{Attendee}
+use Rattle.profile.specs.events.EventComponents.{Attendee}
 use Rattle.itip_messages.specs.Attendees.{line_said}
 use Rattle.itip_messages.specs.Replies.{WritesLines}
 use Rattle.itip_messages.proofs.MeetingLines.{attendee_more}

@@ -1,6 +1,6 @@
 use Rattle.std.proofs.Common.{◌≡◌, ◌++◌, map}
 use Rattle.std.specs.List.{AllZip}
-use Rattle.cal_events.specs.Events.{event_of}
+use Rattle.cal_events.specs.Events.{component_of}
 use Rattle.itip_messages.specs.OrganiserObjects.{SaysObjectComponent}
 use Rattle.itip_messages.proofs.organiser_object.components_of.Given as goal
 
@@ -8,4 +8,4 @@ use Rattle.itip_messages.proofs.organiser_object.components_of.Given as goal
 abbrev pub invariant-loop-event : goal.invariant-loop-event
 invariant-loop-event l =
     (l.fn.events.items ≡ l.yielded ++ l.event-iterator.rest.items)
-    × AllZip SaysObjectComponent (map event_of l.yielded) l.components.items
+    × AllZip SaysObjectComponent (map component_of l.yielded) l.components.items

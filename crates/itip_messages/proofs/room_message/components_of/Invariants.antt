@@ -1,6 +1,6 @@
 use Rattle.std.proofs.Common.{◌≡◌, ◌++◌, map, option_map}
 use Rattle.std.specs.List.{AllZip}
-use Rattle.cal_events.specs.Events.{event_of}
+use Rattle.cal_events.specs.Events.{component_of}
 use Rattle.itip_order.specs.Parts.{revision_of}
 use Rattle.itip_messages.specs.Messages.{SaysComponent, method_said}
 use Rattle.itip_messages.proofs.room_message.components_of.Given as goal
@@ -9,4 +9,4 @@ use Rattle.itip_messages.proofs.room_message.components_of.Given as goal
 abbrev pub invariant-loop-event : goal.invariant-loop-event
 invariant-loop-event l =
     (l.fn.events.items ≡ l.yielded ++ l.event-iterator.rest.items)
-    × AllZip (SaysComponent (method_said l.method) (option_map revision_of l.whole)) (map event_of l.yielded) l.components.items
+    × AllZip (SaysComponent (method_said l.method) (option_map revision_of l.whole)) (map component_of l.yielded) l.components.items

@@ -1,5 +1,5 @@
 use Rattle.std.proofs.Common.{◌&&◌, ◌++◌, ◌∷◌, [], List, ◌∙◌, sym, ap, append-nil}
-use Rattle.organiser_books.specs.Attending.{is_other, sent_in}
+use Rattle.organiser_books.specs.Attending.{is_no_organiser, sent_in}
 use Rattle.ical_values.specs.Octets.{address_octets}
 use Rattle.organiser_books.proofs.Loops.{walked}
 use Rattle.organiser_books.proofs.Picking.{Entry, picked_no, picked_yes, sent_is}
@@ -11,7 +11,7 @@ loop-address-preserved-in_ok-push c =
     let e : Entry = (c.in-Some.address.now, c.in-Some.attendance.now) in (
       i.0 ++ e ∷ [],
       walked i.0 c.loop-address.address-iterator c.next.new.self c.args.attending.now.entries e c.in-Some.ensures.steps i.1,
-      picked_yes (λ (x : Entry). x.1.scheduled && is_other (address_octets c.args.organiser.now) x.0) i.0 e c.loop-address.sent.items c.push.new.self.items c.in_ok-clone.field-0 c.in_ok-push.ensures.items c.in_ok-clone.ensures.cases i.2 (sym c.is_sent_to.ensures ∙ c.if-is_sent_to.true),
+      picked_yes (λ (x : Entry). x.1.scheduled && is_no_organiser (address_octets c.args.organiser.now) x.0) i.0 e c.loop-address.sent.items c.push.new.self.items c.in_ok-clone.field-0 c.in_ok-push.ensures.items c.in_ok-clone.ensures.cases i.2 (sym c.is_sent_to.ensures ∙ c.if-is_sent_to.true),
     )
 
 pub loop-address-preserved : goal.loop-address-preserved
@@ -20,7 +20,7 @@ loop-address-preserved c =
     let e : Entry = (c.in-Some.address.now, c.in-Some.attendance.now) in (
       i.0 ++ e ∷ [],
       walked i.0 c.loop-address.address-iterator c.next.new.self c.args.attending.now.entries e c.in-Some.ensures.steps i.1,
-      picked_no (λ (x : Entry). x.1.scheduled && is_other (address_octets c.args.organiser.now) x.0) i.0 e c.loop-address.sent.items i.2 (sym c.is_sent_to.ensures ∙ c.if-is_sent_to.false),
+      picked_no (λ (x : Entry). x.1.scheduled && is_no_organiser (address_octets c.args.organiser.now) x.0) i.0 e c.loop-address.sent.items i.2 (sym c.is_sent_to.ensures ∙ c.if-is_sent_to.false),
     )
 
 pub returns : goal.returns

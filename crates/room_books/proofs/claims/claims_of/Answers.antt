@@ -2,7 +2,7 @@ use Rattle.std.proofs.Common.{◌≡◌, ◌∙◌, sym, subst, true, arith}
 use Rattle.std.specs.List.{AllZip, filter, list_any}
 use Rattle.std.proofs.lemmas.Grind.{common_steps}
 use Rattle.ical_values.specs.Octets.{address_octets}
-use Rattle.itip_messages.specs.Messages.{RepresentsMessage, is_for, has_part}
+use Rattle.itip_messages.specs.Messages.{RepresentsMessage, is_component_for, has_part}
 use Rattle.profile.specs.rooms.Messages as profile
 use Rattle.room_books.specs.Claiming.{AreClaimed, IsClaimIn}
 use Rattle.itip_messages.proofs.MessageLemmas.{addressed}
@@ -13,7 +13,7 @@ pub returns : goal.returns
 returns c =
     let room = address_octets c.args.room.now in
     let message = c.args.message.now in
-    let has : list_any (is_for room message) message.components.items ≡ true = grind (arith, common_steps) in
+    let has : list_any (is_component_for room message) message.components.items ≡ true = grind (arith, common_steps) in
     if_ok c.all_claims.result (λ claims. AllZip (IsClaimIn room message) (filter (has_part room message) message.components.items) claims.items) (λ claims. (said : profile.Message) → RepresentsMessage message said → AreClaimed room said claims.items)
     (λ claims z said s. all_claimed room message said s claims.items z has) c.all_claims.ensures
 

@@ -3,7 +3,7 @@ use Rattle.itip_order.proofs.Lists.{none_in_nil}
 use Rattle.itip_order.specs.Parts.{slot_of}
 use Rattle.profile.specs.rooms.Revisions.{Whole}
 use Rattle.cal_events.specs.declared.series.Series.{Series}
-use Rattle.room_books.specs.Claiming.{series_at, IsSameSeries}
+use Rattle.room_books.specs.Claiming.{series_wanted, IsSameSeries}
 use Rattle.room_books.proofs.claims.series_for.Goals as goal
 
 pub returns-in_ok-without-in-Some-clause-same : goal.returns-in_ok-without-in-Some-clause-same
@@ -11,6 +11,6 @@ returns-in_ok-without-in-Some-clause-same c =
     let component = c.args.component.now in
     let left = c.in_ok-without-in-Some.ensures in
     let slot : slot_of c.args.part.now.slot ≡ Whole = ap slot_of c.in-Whole.is in
-    let there : series_at (slot_of c.args.part.now.slot) component.series ≡ Some c.in-Some.series = ap (λ s. series_at s component.series) slot ∙ c.in-Some.is in
+    let there : series_wanted (slot_of c.args.part.now.slot) component.series ≡ Some c.in-Some.series = ap (λ s. series_wanted s component.series) slot ∙ c.in-Some.is in
     subst (λ (o : Option Series). IsSameSeries o (Some c.in_ok-without-in-Some.field-0)) (sym there)
     (λ b. ((λ h. ((left.instances b).0 h).0), λ h. (left.instances b).1 (h, λ k. none_in_nil b.start k)))

@@ -1,6 +1,6 @@
 use Rattle.std.proofs.Common.{◌∙◌, List, length, take, ap, arith}
 use Rattle.std.proofs.lemmas.List.{length-take-le, take_all}
-use Rattle.room_books.specs.declared.meeting.Given.{Given}
+use Rattle.room_books.specs.declared.meeting.PartAnswer.{PartAnswer}
 use Rattle.room_books.specs.Views.{all_series}
 use Rattle.room_books.proofs.WholeAlone.{few_series, whole_series}
 use Rattle.room_books.proofs.confirming.count_series.Goals as goal
@@ -18,4 +18,4 @@ overflow_add-count c =
 pub returns : goal.returns
 returns c =
     let own = c.answers_of-given-items.result.now in
-    c.loop-given.invariant ∙ ap (λ (l : List Given). length (all_series l)) (take_all c.loop-given.given-index own (omega arith) ∙ c.answers_of-given-items.ensures) ∙ ap length (whole_series c.args.answers.now)
+    c.loop-given.invariant ∙ ap (λ (l : List PartAnswer). length (all_series l)) (take_all c.loop-given.given-index own (omega arith) ∙ c.answers_of-given-items.ensures) ∙ ap length (whole_series c.args.answers.now)

@@ -1,6 +1,6 @@
 -- What shares no instant with what stays in the timeline shares none with what stays confirmed.
 use Rattle.std.proofs.Common.{Contains, sym, subst, ◌∙◌, ◌++◌}
-use Rattle.room_books.specs.Views.{others, booked_list, AreBusyIn}
+use Rattle.room_books.specs.Views.{others, instance_list, AreBusyIn}
 use Rattle.room_books.proofs.Leaving.{free_of_staying, staying_is}
 use Rattle.room_books.proofs.Places.{real_entry}
 use Rattle.room_books.proofs.decide.busy_beside.Goals as goal
@@ -8,7 +8,7 @@ use Rattle.room_books.proofs.decide.busy_beside.Goals as goal
 pub returns-in_err-asked : goal.returns-in_err-asked
 returns-in_err-asked c = λ kept parted.
     let k = c.args.key.now in let es = c.args.meetings.now.entries in
-    subst (AreBusyIn (others k es ++ booked_list k kept) (Contains c.args.wanted.now)) (sym c.from_residual.ensures) (λ s in_s.
+    subst (AreBusyIn (others k es ++ instance_list k kept) (Contains c.args.wanted.now)) (sym c.from_residual.ensures) (λ s in_s.
     free_of_staying k es c.get_index_of-own.ensures.unique c.get_index_of-own.result c.get_index_of-own.ensures.index
     c.args.timeline.now.busy.items c.requires.timed c.requires.apart c.args.gone.now kept parted s.span (c.in_err-asked.ensures s in_s))
 

@@ -2,7 +2,7 @@
 use Rattle.std.proofs.Common.{refl, subst}
 use Rattle.std.specs.Map.{lookup}
 use Rattle.room_books.specs.declared.meeting.Outcome.TheVariants.{Accepted, Declined}
-use Rattle.room_books.specs.Views.{booked_of, same_key, singles_by, HaveOverlap}
+use Rattle.room_books.specs.Views.{keyed_instance, same_key, singles_by, HaveOverlap}
 use Rattle.room_books.proofs.Deciding.{decides_own, decides_beside, decides_accept}
 use Rattle.room_books.proofs.Leaving.{parted_sorted}
 use Rattle.room_books.proofs.decide.decide.Goals as goal
@@ -20,7 +20,7 @@ returns-in-Some-busy_beside c = λ kept parted beside_is.
     let shared = c.in-Some-busy_beside.shared in
     let found = c.in-Some-busy_beside.ensures kept (parted_sorted (singles_by (lookup (same_key k) es)) c.args.gone.now c.in_ok-gone.gone kept c.in_ok-gone.ensures parted) in
     decides_beside k es c.keys_differ.ensures c.requires.clear c.requires.apart c.args.beside c.requires.few c.args.gone.now kept wanted parted beside_is
-    (Declined clash) clash shared.asked (booked_of shared.other.now shared.booked) refl c.if-wanted-beside.false found.0 found.1 found.2 c.in_ok-clash-2.ensures.0 c.in_ok-clash-2.ensures.1
+    (Declined clash) clash shared.asked (keyed_instance shared.other.now shared.booked) refl c.if-wanted-beside.false found.0 found.1 found.2 c.in_ok-clash-2.ensures.0 c.in_ok-clash-2.ensures.1
 
 pub returns : goal.returns
 returns c = λ kept parted beside_is.

@@ -3,14 +3,14 @@ use Rattle.std.proofs.Common.{Option, ◌∙◌, get_or, pos, refl, subst}
 use Rattle.std.specs.Prelude.{IfSome, IfNone}
 use Rattle.cal_events.specs.declared.instance.Single.{Single}
 use Rattle.cal_events.specs.declared.sweep.Overlap.{Overlap}
-use Rattle.cal_events.specs.Sweep.{AreApart, IsOverlap}
+use Rattle.cal_events.specs.Sweep.{AreSpansApart, IsOverlap}
 use Rattle.room_books.proofs.Deciding.{apart_separate, among, first_within, place_in, second_within, slots_differ, overlap_is}
 use Rattle.room_books.proofs.decide.own_overlap.Goals as goal
 
 pub returns-in_default : goal.returns-in_default
 returns-in_default c =
     apart_separate c.args.wanted.now c.deref.result.now (c.deref.ensures.value ∙ c.in_ok-spans.ensures)
-    (subst (λ (o : Option Overlap). IfNone o (AreApart c.deref.result.now)) c.in_default.is c.in_ok-overlap.ensures.none)
+    (subst (λ (o : Option Overlap). IfNone o (AreSpansApart c.deref.result.now)) c.in_default.is c.in_ok-overlap.ensures.none)
 
 pub returns : goal.returns
 returns c =

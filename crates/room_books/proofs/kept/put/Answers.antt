@@ -1,7 +1,7 @@
 use Rattle.std.proofs.Common.{◌∷◌, sym, subst, List}
 use Rattle.itip_order.specs.Parts.{slot_of}
-use Rattle.room_books.specs.declared.meeting.Given.{Given}
-use Rattle.room_books.specs.BySlot.{AreBySlot, Reordered, is_up_to, IsPlace}
+use Rattle.room_books.specs.declared.meeting.PartAnswer.{PartAnswer}
+use Rattle.room_books.specs.BySlot.{AreAnswersBySlot, Reordered, is_up_to, IsSplitAt}
 use Rattle.room_books.proofs.SlotPlaces.{put_by_slot, put_reordered}
 use Rattle.room_books.proofs.kept.put.Goals as goal
 
@@ -12,5 +12,5 @@ returns-clause-put c =
 
 pub returns-clause-by_slot : goal.returns-clause-by_slot
 returns-clause-by_slot c =
-    let at = subst (λ (l : List Given). IsPlace (is_up_to (slot_of c.args.given.slot)) l c.place_past-at.result) c.deref.ensures.value c.place_past-at.ensures in
-    subst AreBySlot (sym c.in_ok-insert.ensures.items) (put_by_slot c.args.answers.now.items c.args.given c.place_past-at.result c.requires at)
+    let at = subst (λ (l : List PartAnswer). IsSplitAt (is_up_to (slot_of c.args.given.slot)) l c.place_past-at.result) c.deref.ensures.value c.place_past-at.ensures in
+    subst AreAnswersBySlot (sym c.in_ok-insert.ensures.items) (put_by_slot c.args.answers.now.items c.args.given c.place_past-at.result c.requires at)

@@ -1,5 +1,5 @@
 use Rattle.std.proofs.Common.{◌∷◌, [], List, sym, subst, arith, append-nil, length-append}
-use Rattle.room_books.specs.declared.meeting.Given.{Given}
+use Rattle.room_books.specs.declared.meeting.PartAnswer.{PartAnswer}
 use Rattle.room_books.specs.BySlot.{Reordered}
 use Rattle.room_books.proofs.Reordering.{re_more_behind, re_same}
 use Rattle.room_books.proofs.kept.put_all.Goals as goal
@@ -7,7 +7,7 @@ use Rattle.room_books.proofs.kept.put_all.Goals as goal
 pub loop-given-init : goal.loop-given-init
 loop-given-init c =
     let old = c.args.answers.now.items in (
-      subst (λ (l : List Given). Reordered l old) (sym (append-nil old)) (re_same old),
+      subst (λ (l : List PartAnswer). Reordered l old) (sym (append-nil old)) (re_same old),
       c.requires,
       omega arith,
       omega arith,

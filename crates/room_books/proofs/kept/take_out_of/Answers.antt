@@ -2,8 +2,8 @@ use Rattle.std.proofs.Common.{◌≡◌, ◌++◌, not, ap, sym, ◌∙◌, List
 use Rattle.std.specs.List.{remove}
 use Rattle.std.proofs.lemmas.List.{take-append-drop}
 use Rattle.itip_order.specs.Parts.{slot_of}
-use Rattle.room_books.specs.declared.meeting.Given.{Given}
-use Rattle.room_books.specs.BySlot.{AreBySlot, is_at, is_below, is_up_to, IsPlace}
+use Rattle.room_books.specs.declared.meeting.PartAnswer.{PartAnswer}
+use Rattle.room_books.specs.BySlot.{AreAnswersBySlot, is_at, is_below, is_up_to, IsSplitAt}
 use Rattle.room_books.proofs.SlotPlaces.{by_slot_filter, in_order, one_out, others_at}
 use Rattle.room_books.proofs.kept.take_out_of.Goals as goal
 
@@ -19,7 +19,7 @@ pub loop-place-preserved : goal.loop-place-preserved
 loop-place-preserved c =
     let old = c.args.answers.now.items in let from = c.place_before-from.result in let place = c.loop-place._place in
     let before = c.loop-place.invariant in let test = c.loop-place-test.true in
-    let to = subst (λ (l : List Given). IsPlace (is_up_to (slot_of c.args.slot)) l c.place_past-to.result) c.deref-2.ensures.value c.place_past-to.ensures in
+    let to = subst (λ (l : List PartAnswer). IsSplitAt (is_up_to (slot_of c.args.slot)) l c.place_past-to.result) c.deref-2.ensures.value c.place_past-to.ensures in
     let within = to.within in let b3 = before.3 in let b1 = before.1 in let len = c.remove.ensures.len in (
       c.remove.ensures.items ∙ ap (λ l. remove l from) before.0 ∙ one_out old from place b3 (omega (arith, test, within)),
       omega (arith, b1, len),
@@ -30,8 +30,8 @@ loop-place-preserved c =
 pub returns-clause-items : goal.returns-clause-items
 returns-clause-items c =
     let old = c.args.answers.now.items in let slot = slot_of c.args.slot in
-    let first = subst (λ (l : List Given). IsPlace (is_below slot) l c.place_before-from.result) c.deref.ensures.value c.place_before-from.ensures in
-    let past = subst (λ (l : List Given). IsPlace (is_up_to slot) l c.place_past-to.result) c.deref-2.ensures.value c.place_past-to.ensures in
+    let first = subst (λ (l : List PartAnswer). IsSplitAt (is_below slot) l c.place_before-from.result) c.deref.ensures.value c.place_before-from.ensures in
+    let past = subst (λ (l : List PartAnswer). IsSplitAt (is_up_to slot) l c.place_past-to.result) c.deref-2.ensures.value c.place_past-to.ensures in
     let order = in_order old slot c.place_before-from.result c.place_past-to.result first past in
     let test = c.loop-place-test.false in
     let end : c.loop-place._place ≡ c.place_past-to.result = omega (arith, order, test) in
@@ -40,7 +40,7 @@ returns-clause-items c =
 pub returns-clause-by_slot : goal.returns-clause-by_slot
 returns-clause-by_slot c =
     let old = c.args.answers.now.items in let slot = slot_of c.args.slot in
-    subst AreBySlot (sym (returns-clause-items c)) (by_slot_filter (λ g. not (is_at slot g)) old c.requires)
+    subst AreAnswersBySlot (sym (returns-clause-items c)) (by_slot_filter (λ g. not (is_at slot g)) old c.requires)
 
 pub returns-clause-len : goal.returns-clause-len
 returns-clause-len c = let before = c.loop-place.invariant.1 in let low = c.loop-place.invariant.3 in omega (arith, before, low)

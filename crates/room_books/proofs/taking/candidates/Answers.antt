@@ -1,7 +1,7 @@
 use Rattle.std.proofs.Common.{◌++◌, ◌∷◌, [], sym, subst, List, take, arith}
 use Rattle.std.specs.List.{AllZip}
 use denote.Ref.{Bor}
-use Rattle.room_books.specs.declared.meeting.Given.{Given}
+use Rattle.room_books.specs.declared.meeting.PartAnswer.{PartAnswer}
 use Rattle.room_books.specs.declared.claim.Claim.{Claim}
 use Rattle.room_books.specs.Takings.{IsAccepted}
 use Rattle.room_books.proofs.Loops.{zip_push, one_more}
@@ -9,10 +9,10 @@ use Rattle.room_books.proofs.taking.candidates.Goals as goal
 
 pub loop-claim-preserved : goal.loop-claim-preserved
 loop-claim-preserved c =
-    let R : Bor Claim → Given → Type 0 = λ claim given. IsAccepted c.args.held.now claim.now c.args.moment given in
+    let R : Bor Claim → PartAnswer → Type 0 = λ claim given. IsAccepted c.args.held.now claim.now c.args.moment given in
     let asked = c.args.asked.now in
     let i = c.loop-claim.claim-index in
     let more = one_more asked i c.claim-item.result (omega arith) c.claim-item.is in
     subst (λ (l : List (Bor Claim)). AllZip R l c.push.new.self.items) (sym more)
-    (subst (λ (l : List Given). AllZip R (take i asked ++ c.claim-item.result ∷ []) l) (sym c.in_ok-push.ensures.items)
+    (subst (λ (l : List PartAnswer). AllZip R (take i asked ++ c.claim-item.result ∷ []) l) (sym c.in_ok-push.ensures.items)
     (zip_push R (take i asked) c.loop-claim.given.items c.claim-item.result c.in_ok-accepted.field-0 c.loop-claim.invariant c.in_ok-accepted.ensures))

@@ -1,14 +1,14 @@
 use Rattle.std.proofs.Common.{List, sym, subst, arith}
 use Rattle.std.specs.List.{Contains}
 use Rattle.std.proofs.lemmas.List.{take_all}
-use Rattle.room_books.specs.declared.meeting.Given.{Given}
+use Rattle.room_books.specs.declared.meeting.PartAnswer.{PartAnswer}
 use Rattle.itip_order.specs.Parts.{part_of}
 use Rattle.room_books.proofs.Looking.{one_confirms}
 use Rattle.room_books.proofs.taking.confirms_all.Goals as goal
 
 pub returns : goal.returns
 returns c = λ yes_it history represented given among.
-    c.loop-given.invariant history represented given (subst (λ (l : List Given). Contains l given) (sym (take_all c.loop-given.given-index c.args.answers.now (omega arith))) among)
+    c.loop-given.invariant history represented given (subst (λ (l : List PartAnswer). Contains l given) (sym (take_all c.loop-given.given-index c.args.answers.now (omega arith))) among)
 
 pub loop-given-preserved : goal.loop-given-preserved
 loop-given-preserved c = λ history represented.

@@ -3,9 +3,9 @@ use Rattle.std.specs.List.{Contains}
 use Rattle.itip_order.specs.Parts.{part_of}
 use Rattle.itip_order.specs.Registers.{RepresentsHistory}
 use Rattle.profile.specs.rooms.Revisions.{Part}
-use Rattle.room_books.specs.declared.meeting.Given.{Given}
+use Rattle.room_books.specs.declared.meeting.PartAnswer.{PartAnswer}
 use Rattle.room_books.specs.Takings.{LeavesAll}
 use Rattle.room_books.proofs.taking.confirms_all.Given as goal
 
 abbrev pub invariant-loop-given : goal.invariant-loop-given
-invariant-loop-given l = (history : List Part) → RepresentsHistory l.held history → (given : Given) → Contains (take l.given-index l.answers) given → LeavesAll l.slots history (part_of l.part) given
+invariant-loop-given l = (history : List Part) → RepresentsHistory l.held history → (given : PartAnswer) → Contains (take l.given-index l.answers) given → LeavesAll l.slots history (part_of l.part) given

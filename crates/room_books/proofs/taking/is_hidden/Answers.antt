@@ -1,7 +1,7 @@
 use Rattle.std.proofs.Common.{◌≡◌, FitsSigned, to_z, of_z, w64, rules, arith}
 use Rattle.std.proofs.lemmas.Int.{ints}
 use Rattle.itip_order.specs.Parts.{part_of}
-use Rattle.room_books.specs.Takings.{booked_in}
+use Rattle.room_books.specs.Takings.{part_instance}
 use Rattle.room_books.proofs.taking.is_hidden.Goals as goal
 
 pub returns : goal.returns
@@ -9,4 +9,4 @@ returns c = λ history s.
     let t = c.args.single.slot in
     let fits : FitsSigned w64 t = search rules in
     let same : t ≡ to_z w64 (of_z w64 t) = omega (arith, ints) in
-    c.is_start_hidden.ensures history s (booked_in (part_of c.args.part.now) c.args.single) same
+    c.is_start_hidden.ensures history s (part_instance (part_of c.args.part.now) c.args.single) same

@@ -3,7 +3,7 @@ use Rattle.std.proofs.lemmas.Int.{ints}
 use Rattle.itip_order.specs.Parts.{part_of}
 use Rattle.profile.specs.rooms.Revisions.{At}
 use Rattle.profile.specs.rooms.Rooms as rooms
-use Rattle.room_books.specs.Takings.{booked_in}
+use Rattle.room_books.specs.Takings.{part_instance}
 use Rattle.room_books.specs.Touching.{is_touched}
 use Rattle.room_books.proofs.taking.is_hidden_by.Goals as goal
 
@@ -12,7 +12,7 @@ returns-then-is_touched c = λ history s.
     let p = part_of c.args.part.now in let t = c.args.single.slot in
     let fits : FitsSigned w64 t = search rules in
     let same : to_z w64 (of_z w64 t) ≡ t = omega (arith, ints) in
-    let hidden = rooms.is_hidden history p (booked_in p c.args.single) in
+    let hidden = rooms.is_hidden history p (part_instance p c.args.single) in
     c.is_hidden.ensures history s ∙ ap (λ (x : Bool). x && hidden) (sym c.if-is_touched.true ∙ c.is_touched.ensures ∙ ap (λ (u : ℤ). is_touched c.args.slots.now (At u)) same)
 
 pub returns-else-is_touched : goal.returns-else-is_touched
@@ -20,5 +20,5 @@ returns-else-is_touched c = λ history s.
     let p = part_of c.args.part.now in let t = c.args.single.slot in
     let fits : FitsSigned w64 t = search rules in
     let same : to_z w64 (of_z w64 t) ≡ t = omega (arith, ints) in
-    let hidden = rooms.is_hidden history p (booked_in p c.args.single) in
+    let hidden = rooms.is_hidden history p (part_instance p c.args.single) in
     c.if-is_touched.false ∙ ap (λ (x : Bool). x && hidden) (sym c.if-is_touched.false ∙ c.is_touched.ensures ∙ ap (λ (u : ℤ). is_touched c.args.slots.now (At u)) same)

@@ -8,7 +8,7 @@ use Rattle.itip_order.specs.Parts.{part_of, slot_of}
 use Rattle.itip_order.specs.Registers.{shown}
 use Rattle.profile.specs.rooms.Revisions as revisions
 use Rattle.profile.specs.rooms.Revisions.{Part, Whole, slot_cmp}
-use Rattle.room_books.specs.Keeping.{WritesEntries, accepted_slots, entry_of, has_slot, is_hiding}
+use Rattle.room_books.specs.Keeping.{WritesEntries, accepted_slots, kept_entry_of, has_slot, is_hiding}
 use Rattle.room_books.proofs.Loops.{walked}
 use Rattle.room_books.proofs.Writing.{part_written}
 use Rattle.room_books.proofs.texts.write_meeting.Goals as goal
@@ -22,8 +22,8 @@ loop-part-preserved c =
     let among : c.is_among-shown.result ≡ has_slot slots part.slot = c.is_among-shown.ensures ∙ ap (λ l. has_slot l part.slot) c.deref-in-loop-part.ensures.value in (
       i.0 ++ part ∷ [],
       walked i.0 c.loop-part.part-iterator c.next.new.self (shown c.args.meeting.now.held) part c.in-Some.ensures.steps i.1,
-      part_written (λ p. entry_of hides (has_slot slots p.slot) p) (address_octets c.args.room.now) i.0 part c.args.zones.now c.loop-part.zones c.write_kept.new.zones c.args.object.now c.loop-part.object c.write_kept.new.object i.2
-          (subst (λ (s : Bool). WritesEntries (address_octets c.args.room.now) (entry_of hides s part) c.loop-part.zones c.write_kept.new.zones c.loop-part.object c.write_kept.new.object) among c.in_ok-write_kept.ensures),
+      part_written (λ p. kept_entry_of hides (has_slot slots p.slot) p) (address_octets c.args.room.now) i.0 part c.args.zones.now c.loop-part.zones c.write_kept.new.zones c.args.object.now c.loop-part.object c.write_kept.new.object i.2
+          (subst (λ (s : Bool). WritesEntries (address_octets c.args.room.now) (kept_entry_of hides s part) c.loop-part.zones c.write_kept.new.zones c.loop-part.object c.write_kept.new.object) among c.in_ok-write_kept.ensures),
     )
 
 pub returns : goal.returns
@@ -38,4 +38,4 @@ returns c =
     let hides : c.is_among-hides.result ≡ is_hiding c.args.meeting.now = c.is_among-hides.ensures ∙ ap (λ l. has_slot l Whole) c.deref-2.ensures.value ∙ same Whole in
     let all : i.0 ≡ shown held = sym (append-nil i.0) ∙ ap (λ l. i.0 ++ l) (sym c.in-None.ensures.steps.0) ∙ i.1 in
     subst (λ (l : List (Bool × Part)). WritesEntries (address_octets c.args.room.now) l c.args.zones.now c.loop-part.zones c.args.object.now c.loop-part.object)
-    (ap (flat_map (λ p. entry_of c.is_among-hides.result (has_slot slots p.slot) p)) all ∙ (λ j. flat_map (λ p. entry_of (hides j) (same p.slot j) p) (shown held))) i.2
+    (ap (flat_map (λ p. kept_entry_of c.is_among-hides.result (has_slot slots p.slot) p)) all ∙ (λ j. flat_map (λ p. kept_entry_of (hides j) (same p.slot j) p) (shown held))) i.2

@@ -1,6 +1,6 @@
 use Rattle.std.proofs.Common.{Bool, ℤ, sym, subst, rules}
 use Rattle.std.proofs.lemmas.Result.{err_from_is_err_and}
-use Rattle.profile.specs.streams.Streams.{Hosts, IsPreamble}
+use Rattle.profile.specs.streams.Streams.{Config, IsPreamble}
 use Rattle.sched_box.specs.Config.{config_hosts}
 use Rattle.sched_box.proofs.PreambleLemmas.{opened, opens_not, long_stream, refused_is, stops_after}
 use Rattle.sched_box.proofs.preamble.read_preamble.Goals as goal
@@ -19,7 +19,7 @@ returns-in-Ok-clause-opens g c =
 pub returns-in-Err-Refused-clause-none : goal.returns-in-Err-Refused-clause-none
 returns-in-Err-Refused-clause-none g c =
     let same = c.as_slice.ensures.value in
-    let none = refused_is ((closed : Bool) (moment : ℤ) (hosts : Hosts) → IsPreamble closed c.as_slice.result.now moment hosts → ⊥) _ c.in-Err-Refused.refusal (search rules) c.in-Err-Refused.ensures.none in
+    let none = refused_is ((closed : Bool) (moment : ℤ) (hosts : Config) → IsPreamble closed c.as_slice.result.now moment hosts → ⊥) _ c.in-Err-Refused.refusal (search rules) c.in-Err-Refused.ensures.none in
     opens_not _ _ _ c.in_ok-octets.ensures.takes (λ closed moment hosts says. none closed moment hosts (subst (λ o. IsPreamble closed o moment hosts) (sym same) says))
 
 pub returns-in-Err-Refused-clause-stops : goal.returns-in-Err-Refused-clause-stops

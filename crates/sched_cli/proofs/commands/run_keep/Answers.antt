@@ -1,6 +1,6 @@
 use Rattle.std.proofs.Common.{◌≡◌, rules}
 use Rattle.ical_values.specs.Octets.{address_octets}
-use Rattle.sched_cli.specs.Commands.{text_of}
+use Rattle.sched_cli.specs.Commands.{kept_text}
 use Rattle.sched_cli.proofs.Keeping.{cut_kept}
 use Rattle.sched_cli.proofs.commands.run_keep.Goals as goal
 use Rattle.sched_cli.proofs.commands.run_keep.Goals.{in-Calendar, in-Certificate}
@@ -9,6 +9,6 @@ pub returns-after-kept-clause-cut : goal.returns-after-kept-clause-cut
 returns-after-kept-clause-cut g c =
     let calendar = c.in-Ok.calendar.items in
     let certificate = c.in-Ok.certificate.items in
-    let is : c.as_slice.result.now ≡ text_of c.args.kept calendar certificate = elim c.match-kept.branch [ in-Calendar w ↦ search rules | in-Certificate w ↦ search rules ] in
+    let is : c.as_slice.result.now ≡ kept_text c.args.kept calendar certificate = elim c.match-kept.branch [ in-Calendar w ↦ search rules | in-Certificate w ↦ search rules ] in
     cut_kept c.args.kept (g.R.Input.remaining c.args.reader.now) (g.R.Input.remaining c.keep_stream.new.reader) (g.W.Output.contents c.args.writer.now) (g.W.Output.contents c.write_out.new.writer)
     (address_octets c.args.room.now) calendar certificate c.as_slice.result.now c.write_out.result c.in-Ok.ensures.keeps is c.write_out.ensures.cut

@@ -1,4 +1,4 @@
-use Rattle.profile.specs.events.Meetings.{MeetingTextFault}
+use Rattle.profile.specs.events.Events.{EventTextFault}
 use Rattle.cal_events.specs.SaidMeetings.{said_meeting}
 use Rattle.sched_cli.proofs.Printing.{expanded}
 use Rattle.sched_cli.proofs.Saying.{refused_at_3, said_read, said_write}
@@ -6,7 +6,7 @@ use Rattle.sched_cli.proofs.expand.run_expand.Goals as goal
 
 pub returns-in-Err-clause-refused : goal.returns-in-Err-clause-refused
 returns-in-Err-clause-refused g c =
-    refused_at_3 (MeetingTextFault c.args.octets.now) c.report_read.result _ _ _ _ c.report_read.ensures.status c.in-Err.ensures.fault c.report_read.ensures.says
+    refused_at_3 (EventTextFault c.args.octets.now) c.report_read.result _ _ _ _ c.report_read.ensures.status c.in-Err.ensures.fault c.report_read.ensures.says
 
 pub returns-in-Err-clause-said : goal.returns-in-Err-clause-said
 returns-in-Err-clause-said g c = said_read _ _ _ _ _ c.report_read.ensures.status c.report_read.ensures.says

@@ -1,6 +1,6 @@
 use Rattle.std.proofs.Common.{◌∙◌, Bool, codes, sym, ap, subst, refl, arith}
 use Rattle.ical_lines.specs.Fault.{RefusesBy}
-use Rattle.profile.specs.events.Events.{EventFault, adds_instances, may_lack_start, in_times, in_rule, in_occurrences, twice}
+use Rattle.profile.specs.events.EventComponents.{EventComponentFault, adds_instances, may_lack_start, in_times, in_rule, in_occurrences, twice}
 use Rattle.profile.specs.events.Occurrences.{entries_named, EntriesFault, bad_additions, bad_exceptions, recurs, recurs_as_instance}
 use Rattle.profile.specs.events.EventRules.{EventRuleFault}
 use Rattle.profile.specs.events.ZonedTimes.{EventTimesFault}
@@ -15,17 +15,17 @@ pub returns-in_err-uid-clause-fault : goal.returns-in_err-uid-clause-fault
 returns-in_err-uid-clause-fault c =
     let m = method_read c.args.purpose in
     let object = object_of c.args.zones.now in
-    err_exit _ (RefusesBy (EventFault object m c.args.properties.now)) _ c.from_residual.ensures.1 (c.in_err-uid.ensures.fault object m)
+    err_exit _ (RefusesBy (EventComponentFault object m c.args.properties.now)) _ c.from_residual.ensures.1 (c.in_err-uid.ensures.fault object m)
 
 pub returns-in_err-organiser-clause-fault : goal.returns-in_err-organiser-clause-fault
 returns-in_err-organiser-clause-fault c =
     let object = object_of c.args.zones.now in
-    err_exit _ (RefusesBy (EventFault object (method_read c.args.purpose) c.args.properties.now)) _ c.from_residual-in_err-organiser.ensures.1
+    err_exit _ (RefusesBy (EventComponentFault object (method_read c.args.purpose) c.args.properties.now)) _ c.from_residual-in_err-organiser.ensures.1
     (c.in_err-organiser.ensures.fault object)
 
 pub returns-in_err-cancelled-clause-fault : goal.returns-in_err-cancelled-clause-fault
 returns-in_err-cancelled-clause-fault c =
-    let P = EventFault (object_of c.args.zones.now) (method_read c.args.purpose) c.args.properties.now in
+    let P = EventComponentFault (object_of c.args.zones.now) (method_read c.args.purpose) c.args.properties.now in
     err_exit _ (RefusesBy P) _ c.from_residual-in_err-cancelled.ensures.1
     (subst P (sym c.in_err-cancelled.ensures.refuses) (twice (codes "STATUS") (4, omega arith, refl) c.in_err-cancelled.ensures.twice))
 
@@ -33,7 +33,7 @@ pub returns-in_err-said_recurrence-clause-fault : goal.returns-in_err-said_recur
 returns-in_err-said_recurrence-clause-fault c =
     let object = object_of c.args.zones.now in
     let m = method_read c.args.purpose in
-    err_exit _ (RefusesBy (EventFault object m c.args.properties.now)) _ c.from_residual-in_err-said_recurrence.ensures.1
+    err_exit _ (RefusesBy (EventComponentFault object m c.args.properties.now)) _ c.from_residual-in_err-said_recurrence.ensures.1
     (in_occurrences (c.in_err-said_recurrence.ensures.fault (adds_instances m)))
 
 pub returns-in_err-said_additions-clause-fault : goal.returns-in_err-said_additions-clause-fault
@@ -41,8 +41,8 @@ returns-in_err-said_additions-clause-fault c =
     let object = object_of c.args.zones.now in
     let m = method_read c.args.purpose in
     let lines = c.args.properties.now in
-    err_exit _ (RefusesBy (EventFault object m lines)) _ c.from_residual-in_err-said_additions.ensures.1
-    (weaker_fault _ (EntriesFault object (codes "RDATE") (entries_named (codes "RDATE") lines)) (EventFault object m lines) (λ n h. in_occurrences (bad_additions h))
+    err_exit _ (RefusesBy (EventComponentFault object m lines)) _ c.from_residual-in_err-said_additions.ensures.1
+    (weaker_fault _ (EntriesFault object (codes "RDATE") (entries_named (codes "RDATE") lines)) (EventComponentFault object m lines) (λ n h. in_occurrences (bad_additions h))
     c.in_err-said_additions.ensures.fault)
 
 pub returns-in_err-said_exceptions-clause-fault : goal.returns-in_err-said_exceptions-clause-fault
@@ -50,8 +50,8 @@ returns-in_err-said_exceptions-clause-fault c =
     let object = object_of c.args.zones.now in
     let m = method_read c.args.purpose in
     let lines = c.args.properties.now in
-    err_exit _ (RefusesBy (EventFault object m lines)) _ c.from_residual-in_err-said_exceptions.ensures.1
-    (weaker_fault _ (EntriesFault object (codes "EXDATE") (entries_named (codes "EXDATE") lines)) (EventFault object m lines) (λ n h. in_occurrences (bad_exceptions h))
+    err_exit _ (RefusesBy (EventComponentFault object m lines)) _ c.from_residual-in_err-said_exceptions.ensures.1
+    (weaker_fault _ (EntriesFault object (codes "EXDATE") (entries_named (codes "EXDATE") lines)) (EventComponentFault object m lines) (λ n h. in_occurrences (bad_exceptions h))
     c.in_err-said_exceptions.ensures.fault)
 
 pub returns-in_err-recurrence-clause-fault : goal.returns-in_err-recurrence-clause-fault
@@ -59,7 +59,7 @@ returns-in_err-recurrence-clause-fault c =
     let object = object_of c.args.zones.now in
     let m = method_read c.args.purpose in
     let lines = c.args.properties.now in
-    err_exit _ (RefusesBy (EventFault object m lines)) _ c.from_residual-in_err-recurrence.ensures.1
+    err_exit _ (RefusesBy (EventComponentFault object m lines)) _ c.from_residual-in_err-recurrence.ensures.1
     (in_occurrences (c.in_err-recurrence.ensures.fault object lines c.in_ok-said_recurrence.ensures.said (adds_instances m)))
 
 pub returns-in_err-additions-clause-fault : goal.returns-in_err-additions-clause-fault
@@ -67,14 +67,14 @@ returns-in_err-additions-clause-fault c =
     let object = object_of c.args.zones.now in
     let m = method_read c.args.purpose in
     let lines = c.args.properties.now in
-    err_exit _ (RefusesBy (EventFault object m lines)) _ c.from_residual-in_err-additions.ensures.1
+    err_exit _ (RefusesBy (EventComponentFault object m lines)) _ c.from_residual-in_err-additions.ensures.1
     (in_occurrences (c.in_err-additions.ensures.fault object lines c.in_ok-said_additions.ensures.listed (adds_instances m)))
 
 pub returns-in_err-refuse_recurring_instance-clause-fault : goal.returns-in_err-refuse_recurring_instance-clause-fault
 returns-in_err-refuse_recurring_instance-clause-fault c =
     let m = method_read c.args.purpose in
     let lines = c.args.properties.now in
-    let P = EventFault (object_of c.args.zones.now) m lines in
+    let P = EventComponentFault (object_of c.args.zones.now) m lines in
     err_exit _ (RefusesBy P) _ c.from_residual-in_err-refuse_recurring_instance.ensures.1
     (subst P (sym c.in_err-refuse_recurring_instance.ensures.number)
     (in_occurrences (recurs (ap (λ b. recurs_as_instance b lines) (sym c.adds_instances.ensures) ∙ c.in_err-refuse_recurring_instance.ensures.recurs))))
@@ -84,7 +84,7 @@ returns-in_err-said-clause-fault c =
     let object = object_of c.args.zones.now in
     let m = method_read c.args.purpose in
     let lines = c.args.properties.now in
-    err_exit _ (RefusesBy (EventFault object m lines)) _ c.from_residual-in_err-said.ensures.1
+    err_exit _ (RefusesBy (EventComponentFault object m lines)) _ c.from_residual-in_err-said.ensures.1
     (in_times (subst (λ (b : Bool). EventTimesFault b object lines c.in_err-said.field-0.0.number) c.may_lack_start.ensures c.in_err-said.ensures.fault))
 
 pub returns-in_err-said_rule-clause-fault : goal.returns-in_err-said_rule-clause-fault
@@ -92,21 +92,21 @@ returns-in_err-said_rule-clause-fault c =
     let object = object_of c.args.zones.now in
     let m = method_read c.args.purpose in
     let lines = c.args.properties.now in
-    err_exit _ (RefusesBy (EventFault object m lines)) _ c.from_residual-in_err-said_rule.ensures.1
-    (weaker_fault _ (EventRuleFault object lines) (EventFault object m lines) (λ n h. in_rule h) (c.in_err-said_rule.ensures.fault object))
+    err_exit _ (RefusesBy (EventComponentFault object m lines)) _ c.from_residual-in_err-said_rule.ensures.1
+    (weaker_fault _ (EventRuleFault object lines) (EventComponentFault object m lines) (λ n h. in_rule h) (c.in_err-said_rule.ensures.fault object))
 
 pub returns-in_err-attendees-clause-fault : goal.returns-in_err-attendees-clause-fault
 returns-in_err-attendees-clause-fault c =
     let object = object_of c.args.zones.now in
     let m = method_read c.args.purpose in
-    err_exit _ (RefusesBy (EventFault object m c.args.properties.now)) _ c.from_residual-in_err-attendees.ensures.1 (c.in_err-attendees.ensures.fault object m)
+    err_exit _ (RefusesBy (EventComponentFault object m c.args.properties.now)) _ c.from_residual-in_err-attendees.ensures.1 (c.in_err-attendees.ensures.fault object m)
 
 pub returns-in_err-times-clause-fault : goal.returns-in_err-times-clause-fault
 returns-in_err-times-clause-fault c =
     let object = object_of c.args.zones.now in
     let m = method_read c.args.purpose in
     let lines = c.args.properties.now in
-    err_exit _ (RefusesBy (EventFault object m lines)) _ c.from_residual-in_err-times.ensures.1
+    err_exit _ (RefusesBy (EventComponentFault object m lines)) _ c.from_residual-in_err-times.ensures.1
     (in_times (c.in_err-times.ensures.fault (may_lack_start m) object lines (subst (λ (b : Bool). AreSaidBy b object lines c.in_ok-said.said) c.may_lack_start.ensures c.in_ok-said.ensures.said)))
 
 pub returns-in_err-rule-clause-fault : goal.returns-in_err-rule-clause-fault
@@ -114,8 +114,8 @@ returns-in_err-rule-clause-fault c =
     let object = object_of c.args.zones.now in
     let m = method_read c.args.purpose in
     let lines = c.args.properties.now in
-    err_exit _ (RefusesBy (EventFault object m lines)) _ c.from_residual-in_err-rule.ensures.1
-    (weaker_fault _ (EventRuleFault object lines) (EventFault object m lines) (λ n h. in_rule h)
+    err_exit _ (RefusesBy (EventComponentFault object m lines)) _ c.from_residual-in_err-rule.ensures.1
+    (weaker_fault _ (EventRuleFault object lines) (EventComponentFault object m lines) (λ n h. in_rule h)
     (c.in_err-rule.ensures.fault (may_lack_start m) object lines c.in_ok-said_rule.ensures.said c.has.ensures
     (c.in_ok-times.ensures.says (may_lack_start m) object lines (subst (λ (b : Bool). AreSaidBy b object lines c.in_ok-said.said) c.may_lack_start.ensures c.in_ok-said.ensures.said))))
 

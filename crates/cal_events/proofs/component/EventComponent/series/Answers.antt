@@ -1,8 +1,8 @@
 use Rattle.std.proofs.Common.{◌∙◌, [], sym}
 use Rattle.std.specs.Prelude.{is_some}
 use Rattle.std.proofs.lemmas.Bool.{and_parts}
-use Rattle.profile.specs.events.Meetings.{is_master}
-use Rattle.cal_events.specs.Events.{event_of}
+use Rattle.profile.specs.events.Events.{is_master}
+use Rattle.cal_events.specs.Events.{component_of}
 use Rattle.cal_events.specs.SaidSeries.{series_said}
 use Rattle.cal_events.proofs.SeriesLemmas.{series_of, steady_ends}
 use Rattle.cal_events.proofs.component.EventComponent.series.Goals as goal
@@ -11,10 +11,10 @@ pub of_copy-requires-clause-clock : goal.of_copy-requires-clause-clock
 of_copy-requires-clause-clock c = (c.requires.steady.meaning, c.requires.steady.ascends)
 
 pub of_copy-requires-clause-ends : goal.of_copy-requires-clause-ends
-of_copy-requires-clause-ends c = steady_ends (event_of c.args.self.now) [] c.requires.steady
+of_copy-requires-clause-ends c = steady_ends (component_of c.args.self.now) [] c.requires.steady
 
 pub returns : goal.returns
 returns c =
-    let event = event_of c.args.self.now in
+    let event = component_of c.args.self.now in
     let both = and_parts (is_master event) (is_some event.rule) (sym c.is_series.ensures ∙ c.if-not-is_series.false) in
     series_of event both.0 both.1 (series_said c.in_ok-of_copy.field-0) c.in_ok-of_copy.ensures

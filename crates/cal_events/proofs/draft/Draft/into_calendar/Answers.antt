@@ -4,7 +4,7 @@ use Rattle.std.proofs.lemmas.List.Sorted.{IsPermutation-sym}
 use Rattle.ical_lines.specs.Fault.{RefusesBy}
 use Rattle.ical_values.proofs.Exits.{err_exit}
 use Rattle.profile.specs.events.Confirmed.{Confirmed}
-use Rattle.cal_events.specs.Calendars.{key_of, booked_in}
+use Rattle.cal_events.specs.Calendars.{key_of, named_instance}
 use Rattle.cal_events.specs.SaidSeries.{series_said}
 use Rattle.cal_events.specs.Drafts.{master_keys, IsTwoOf}
 use Rattle.cal_events.specs.declared.instance.InstanceKey.{InstanceKey}
@@ -49,7 +49,7 @@ invariant_of-result c =
     let overrides = overrides_there entries r.1 r.2.entries c.in_ok-singles.ensures.differ in
     let shown = c.in_ok-singles.ensures.shown in
     let are = confirmed_of r.0 r.1 c.args.self r.2 left shown c.in_ok-singles.series.items c.in_ok-singles.ensures.ruled in
-    let all : Confirmed = record { series = map series_said c.in_ok-singles.series.items; singles = map (booked_in entries) left } in (
+    let all : Confirmed = record { series = map series_said c.in_ok-singles.series.items; singles = map (named_instance entries) left } in (
       different_keys r.0 r.1 c.args.self r.2 left shown masters overrides,
       left_within r.0 r.1 c.args.self r.2 left shown,
       own_keys r.0 r.1 all are masters overrides r.2.said,

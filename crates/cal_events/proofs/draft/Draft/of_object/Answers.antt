@@ -9,8 +9,8 @@ use Rattle.ical_tree.specs.declared.component.Component.{Component}
 use Rattle.profile.specs.text.Trees.{Tree}
 use Rattle.profile.specs.faults.Faults.{is_calendar_fault}
 use Rattle.profile.specs.checker.Calendars.{CalendarFault}
-use Rattle.profile.specs.events.Events.{EventFault, SaysEvent}
-use Rattle.cal_events.specs.Events.{event_of, vevents_of}
+use Rattle.profile.specs.events.EventComponents.{EventComponentFault, SaysEventComponent}
+use Rattle.cal_events.specs.Events.{component_of, vevents_of}
 use Rattle.cal_events.specs.Drafts.{IsDraft}
 use Rattle.cal_events.proofs.EventLemmas.{push_zip}
 use Rattle.cal_events.proofs.ReadingLemmas.{events_in, is_among, take_other, take_event, event_refuses}
@@ -32,7 +32,7 @@ returns-in_err-event-clause-fault c =
     let here = subst (λ (l : List Component). x ≡ get_or l i x) same c.component-item.is in
     err_exit _ (RefusesBy (CalendarFault (tree_of object))) _ c.from_residual-in_err-event.ensures.1
     (event_refuses (tree_of object) (vevents_of object) (component_lines x) _ (vevents_tree object) (is_among all i x within here (sym c.if-is_named.ensures))
-    (subst (λ (t : Tree). RefusesBy (EventFault t None (component_lines x)) c.in_err-event.field-0.0) (ap tree_of c.in_ok-zones.ensures.object) c.in_err-event.ensures.fault))
+    (subst (λ (t : Tree). RefusesBy (EventComponentFault t None (component_lines x)) c.in_err-event.field-0.0) (ap tree_of c.in_ok-zones.ensures.object) c.in_err-event.ensures.fault))
 
 pub loop-component-preserved : goal.loop-component-preserved
 loop-component-preserved c =
@@ -47,15 +47,15 @@ loop-component-preserved c =
     let before = c.loop-component.invariant in
     elim c.if-is_named.branch [
       | then-is_named+in_ok-event+in_ok-add w ↦ (
-        before.0 ++ event_of w.in_ok-event.event ∷ [],
-        subst (λ vs. AllZip (SaysEvent object None) vs (before.0 ++ event_of w.in_ok-event.event ∷ [])) (sym (take_event all i x within here (sym w.if-is_named.ensures)))
-            (push_zip (SaysEvent object None) (events_in (take i all)) before.0 (component_lines x) (event_of w.in_ok-event.event) before.1
-            (subst (λ (t : Tree). SaysEvent t None (component_lines x) (event_of w.in_ok-event.event)) (ap tree_of c.in_ok-zones.ensures.object) w.in_ok-event.ensures.says)),
-        subst (IsDraft room (before.0 ++ event_of w.in_ok-event.event ∷ [])) (sym w.draft-is) (w.in_ok-add.ensures before.0 before.2),
+        before.0 ++ component_of w.in_ok-event.event ∷ [],
+        subst (λ vs. AllZip (SaysEventComponent object None) vs (before.0 ++ component_of w.in_ok-event.event ∷ [])) (sym (take_event all i x within here (sym w.if-is_named.ensures)))
+            (push_zip (SaysEventComponent object None) (events_in (take i all)) before.0 (component_lines x) (component_of w.in_ok-event.event) before.1
+            (subst (λ (t : Tree). SaysEventComponent t None (component_lines x) (component_of w.in_ok-event.event)) (ap tree_of c.in_ok-zones.ensures.object) w.in_ok-event.ensures.says)),
+        subst (IsDraft room (before.0 ++ component_of w.in_ok-event.event ∷ [])) (sym w.draft-is) (w.in_ok-add.ensures before.0 before.2),
       )
       | else-is_named w ↦ (
         before.0,
-        subst (λ vs. AllZip (SaysEvent object None) vs before.0) (sym (take_other all i x within here (sym w.if-is_named.ensures))) before.1,
+        subst (λ vs. AllZip (SaysEventComponent object None) vs before.0) (sym (take_other all i x within here (sym w.if-is_named.ensures))) before.1,
         subst (IsDraft room before.0) (sym w.draft-is) before.2,
       )
     ]
@@ -65,7 +65,7 @@ returns-clause-says c =
     let object = tree_of c.args.object.now in
     let h = c.loop-component.invariant in
     let all = take_all c.loop-component.component-index (component_children c.args.object.now) (subst (λ (l : List Component). length l ≤ c.loop-component.component-index) c.children-component-items.ensures c.loop-component-test.false) in
-    let says = subst (λ vs. AllZip (SaysEvent object None) vs h.0) (ap events_in all ∙ sym (vevents_tree c.args.object.now)) h.1 in
+    let says = subst (λ vs. AllZip (SaysEventComponent object None) vs h.0) (ap events_in all ∙ sym (vevents_tree c.args.object.now)) h.1 in
     record { events = h.0; says = says; is = h.2 }
 
 pub returns-in_err-event-clause-refuses : goal.returns-in_err-event-clause-refuses

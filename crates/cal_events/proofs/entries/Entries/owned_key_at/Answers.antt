@@ -1,7 +1,7 @@
 use Rattle.std.proofs.Common.{◌≡◌, ◌∙◌, ◌<◌, [], length, map, sym, ap, subst, arith, to_z, of_z, w64, rules}
 use Rattle.std.proofs.lemmas.List.{get_or-map}
 use Rattle.ical_values.specs.Octets.{address_octets}
-use Rattle.cal_events.specs.declared.entries.Entry.{Entry}
+use Rattle.cal_events.specs.declared.entries.ComponentName.{ComponentName}
 use Rattle.cal_events.proofs.EntryLemmas.{entry_in, uid_in, key_there}
 use Rattle.cal_events.proofs.entries.Entries.owned_key_at.Goals as goal
 
@@ -22,7 +22,7 @@ index-requires-2 c =
     let k = c.args.place in
     let l = entry_in os us es c.args.self.now c.self.view_is c.self.invariant.0 k c.requires in
     let in_it : c.index.result.now.organiser < length c.self.inside.organisers.items =
-    subst (λ (e : Entry). e.organiser < length c.self.inside.organisers.items) (sym c.index.ensures) (c.self.invariant.1 k c.index.result.now l) in
+    subst (λ (e : ComponentName). e.organiser < length c.self.inside.organisers.items) (sym c.index.ensures) (c.self.invariant.1 k c.index.result.now l) in
     omega (arith, in_it, c.self.inside.organisers.ok.0)
 
 pub at-requires : goal.at-requires
@@ -42,7 +42,7 @@ returns c =
     let e = c.index.result.now in
     let l = entry_in os us es c.args.self.now c.self.view_is c.self.invariant.0 k c.requires in
     let in_it : e.organiser < length c.self.inside.organisers.items =
-    subst (λ (x : Entry). x.organiser < length c.self.inside.organisers.items) (sym c.index.ensures) (c.self.invariant.1 k e l) in
+    subst (λ (x : ComponentName). x.organiser < length c.self.inside.organisers.items) (sym c.index.ensures) (c.self.invariant.1 k e l) in
     let slot : to_z w64 (of_z w64 c.args.slot) ≡ c.args.slot = search rules in
     let same = c.in_ok-clone.ensures.cases in
     key_there os us es c.args.self.now c.self.view_is c.self.invariant.0 k c.requires _ _ _ c.args.slot e c.index.ensures

@@ -4,8 +4,8 @@ use Rattle.std.proofs.lemmas.List.{length-map}
 use Rattle.ical_values.specs.Octets.{address_octets}
 use Rattle.cal_events.specs.Entries.{Name, names_of}
 use Rattle.cal_events.specs.Names.{name_said}
-use Rattle.cal_events.specs.Events.{event_of}
-use Rattle.cal_events.specs.declared.entries.Entry.{Entry}
+use Rattle.cal_events.specs.Events.{component_of}
+use Rattle.cal_events.specs.declared.entries.ComponentName.{ComponentName}
 use Rattle.cal_events.proofs.EntryLemmas.{Within, pushed}
 use Rattle.cal_events.proofs.entries.Entries.push.Goals as goal
 
@@ -14,10 +14,10 @@ returns-in-Ok c =
     let os = map address_octets c.self.inside.organisers.items in
     let es = c.self.inside.entries.items in
     let us = c.self.inside.uids in
-    let event = event_of c.args.event.now in
+    let event = component_of c.args.event.now in
     let more = c.in_ok-organiser.ensures.keeps in
-    let e : Entry = record { organiser = c.in_ok-organiser.organiser; recurrence = c.args.event.now.recurrence } in
-    let within : Within os es = subst (λ (n : ℕ). All (λ (x : Entry). x.organiser < n) es) (sym (length-map c.self.inside.organisers.items address_octets)) c.self.invariant.1 in
+    let e : ComponentName = record { organiser = c.in_ok-organiser.organiser; recurrence = c.args.event.now.recurrence } in
+    let within : Within os es = subst (λ (n : ℕ). All (λ (x : ComponentName). x.organiser < n) es) (sym (length-map c.self.inside.organisers.items address_octets)) c.self.invariant.1 in
     ap (λ (l : List (List ℕ)). names_of l c.push-2.new.self c.push.new.self.items) more.1
     ∙ ap (λ (l : List (List ℕ)). names_of (os ++ more.0) l c.push.new.self.items) (c.in-Ok.ensures.added ∙ ap (λ (u : List ℕ). us ++ u ∷ []) c.as_str.ensures)
     ∙ ap (names_of (os ++ more.0) (us ++ event.uid ∷ [])) c.in_ok-push.ensures.items

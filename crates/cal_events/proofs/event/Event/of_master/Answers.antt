@@ -1,9 +1,9 @@
 use Rattle.std.proofs.Common.{subst}
 use Rattle.std.proofs.lemmas.Option.{same_Some}
-use Rattle.cal_events.specs.Events.{event_of}
+use Rattle.cal_events.specs.Events.{component_of}
 use Rattle.cal_events.specs.Instances.{HasGoodClock}
 use Rattle.cal_events.specs.declared.component.EventComponent.{EventComponent}
 use Rattle.cal_events.proofs.event.Event.of_master.Goals as goal
 
 pub into_event-requires-clause-clock : goal.into_event-requires-clause-clock
-into_event-requires-clause-clock c component is = subst (λ (m : EventComponent). HasGoodClock (event_of m)) (same_Some c.args.master component is) c.requires.clock
+into_event-requires-clause-clock c component is = subst (λ (m : EventComponent). HasGoodClock (component_of m)) (same_Some c.args.master component is) c.requires.clock

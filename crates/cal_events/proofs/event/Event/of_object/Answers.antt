@@ -2,10 +2,10 @@ use Rattle.std.proofs.Common.{◌≡◌, sym, subst, ap, map}
 use Rattle.std.specs.Prelude.{option_map, None}
 use Rattle.ical_lines.specs.Fault.{RefusesBy}
 use Rattle.ical_tree.specs.Tree.{tree_of}
-use Rattle.profile.specs.events.Meetings.{SaysMeeting, MeetingFault}
-use Rattle.profile.specs.checker.Instances.{Booked}
+use Rattle.profile.specs.events.Events.{SaysEvent, EventFault}
+use Rattle.profile.specs.checker.Instances.{Instance}
 use Rattle.ical_values.proofs.Exits.{err_exit}
-use Rattle.cal_events.specs.Events.{event_of}
+use Rattle.cal_events.specs.Events.{component_of}
 use Rattle.cal_events.specs.OneMeeting.{meeting_of}
 use Rattle.cal_events.specs.SaidMeetings.{said_meeting}
 use Rattle.cal_events.proofs.OneInstance.{one_at, dated}
@@ -15,7 +15,7 @@ use Rattle.cal_events.proofs.event.Event.of_object.Goals as goal
 
 pub returns-in_err-components-clause-fault : goal.returns-in_err-components-clause-fault
 returns-in_err-components-clause-fault c =
-    err_exit _ (RefusesBy (MeetingFault (tree_of c.args.object.now) None)) _ c.from_residual.ensures.1 c.in_err-components.ensures.fault
+    err_exit _ (RefusesBy (EventFault (tree_of c.args.object.now) None)) _ c.from_residual.ensures.1 c.in_err-components.ensures.fault
 
 pub into_event-requires-clause-clock : goal.into_event-requires-clause-clock
 into_event-requires-clause-clock c =
@@ -25,7 +25,7 @@ into_event-requires-clause-clock c =
 
 pub into_event-requires-clause-ends : goal.into_event-requires-clause-ends
 into_event-requires-clause-ends c a b =
-    λ h k start slot. ap (λ (x : Booked). x.end) (one_at (tree_of c.args.object.now) (meeting_of c.in_ok-components.components) c.in_ok-components.ensures.says a b h k start slot)
+    λ h k start slot. ap (λ (x : Instance). x.end) (one_at (tree_of c.args.object.now) (meeting_of c.in_ok-components.components) c.in_ok-components.ensures.says a b h k start slot)
 
 pub into_event-requires-clause-dated : goal.into_event-requires-clause-dated
 into_event-requires-clause-dated c a =
@@ -36,5 +36,5 @@ returns-clause-says c =
     let same = c.in_ok-into_event.ensures in
     let components = c.in_ok-components.components in
     let event = c.in_ok-into_event.field-0 in
-    let is : meeting_of components ≡ said_meeting event = λ i. record { master = option_map event_of (sym same.0 i); overrides = map event_of (sym same.1 i) } in
-    subst (SaysMeeting (tree_of c.args.object.now) None) is c.in_ok-components.ensures.says
+    let is : meeting_of components ≡ said_meeting event = λ i. record { master = option_map component_of (sym same.0 i); overrides = map component_of (sym same.1 i) } in
+    subst (SaysEvent (tree_of c.args.object.now) None) is c.in_ok-components.ensures.says

@@ -4,7 +4,7 @@ use Rattle.std.proofs.lemmas.Result.{IfErr-weaker}
 use Rattle.ical_lines.specs.Fault.{RefusesBy}
 use Rattle.ical_tree.specs.Tree.{IsObjectOf, tree_of}
 use Rattle.ical_tree.proofs.RefusalLemmas.{text_refuses, tree_refuses}
-use Rattle.profile.specs.events.Meetings.{MeetingFault, MeetingTextFault}
+use Rattle.profile.specs.events.Events.{EventFault, EventTextFault}
 use Rattle.cal_events.proofs.MeetingLemmas.{meeting_spelled, fault_there, object_refused}
 use Rattle.cal_events.proofs.event.Event.read.Goals as goal
 
@@ -24,5 +24,5 @@ returns-clause-spells c =
 pub returns-clause-fault : goal.returns-clause-fault
 returns-clause-fault c =
     let object = subst (λ (ls : List (List ℕ)). IsObjectOf true c.in_ok-object.object ls) c.in_ok-text.ensures.lines c.in_ok-object.ensures.spelled in
-    IfErr-weaker _ (RefusesBy (MeetingFault (tree_of c.in_ok-object.object) None)) (RefusesBy (MeetingTextFault c.args.bytes.now))
+    IfErr-weaker _ (RefusesBy (EventFault (tree_of c.in_ok-object.object) None)) (RefusesBy (EventTextFault c.args.bytes.now))
     (fault_there c.args.bytes.now c.in_ok-object.object object) c.of_object.ensures.fault

@@ -1,10 +1,10 @@
 use Rattle.std.proofs.Common.{◌≡◌, ◌∙◌, codes, subst, sym, inl, inr, rules}
 use Rattle.std.specs.Prelude.{Option, Some}
 use Rattle.ical_lines.specs.Fault.{RefusesBy}
-use Rattle.profile.specs.series.Rules.{Parts, RuleText}
+use Rattle.profile.specs.series.Rules.{Rule, RuleText}
 use Rattle.profile.specs.events.Properties.{BothOrNeither, is_of}
 use Rattle.profile.specs.events.ZonedTimes.{clock_of}
-use Rattle.profile.specs.events.EventRules.{GivesRule, IsOutside, EventRuleFault}
+use Rattle.profile.specs.events.EventRules.{GivesRule, IsOutsideRule, EventRuleFault}
 use Rattle.cal_events.specs.Events.{times_of}
 use Rattle.ical_values.proofs.Exits.{err_exit}
 use Rattle.cal_events.proofs.RuleLemmas.{outside_refuses, some_named, says_beside, says_without}
@@ -17,7 +17,7 @@ returns-in-Some-clause-says c lines said has = says_without lines (times_of c.ar
 pub returns-in_ok-rule_from-in-Some-2-clause-says : goal.returns-in_ok-rule_from-in-Some-2-clause-says
 returns-in_ok-rule_from-in-Some-2-clause-says c lines said has =
     let t = times_of c.args.times.now in
-    let rule : Parts = c.in_ok-rule_from-in-Some-2.field-0 in
+    let rule : Rule = c.in_ok-rule_from-in-Some-2.field-0 in
     let gives : GivesRule (clock_of t.zone) t.local c.in-Some-2.text rule = search rules in
     says_beside lines t c.args.self.text said (Some rule) (sym has ∙ c.if-not-has_start.false)
     (subst (λ (o : Option RuleText). BothOrNeither (GivesRule (clock_of t.zone) t.local) o (Some rule)) (sym c.in-Some-2.is) gives)
@@ -25,9 +25,9 @@ returns-in_ok-rule_from-in-Some-2-clause-says c lines said has =
 pub returns-in_err-rule_from-in-Some-2-clause-fault : goal.returns-in_err-rule_from-in-Some-2-clause-fault
 returns-in_err-rule_from-in-Some-2-clause-fault c may object lines said has times =
     let t = times_of c.args.times.now in
-    let outside : RefusesBy (λ n. (n ≡ 34) × IsOutside (clock_of t.zone) t.local c.in-Some-2.text) c.in_err-rule_from-in-Some-2.field-0.0 = search rules in
+    let outside : RefusesBy (λ n. (n ≡ 34) × IsOutsideRule (clock_of t.zone) t.local c.in-Some-2.text) c.in_err-rule_from-in-Some-2.field-0.0 = search rules in
     err_exit _ (RefusesBy (EventRuleFault object lines)) _ c.from_residual.ensures.1
-    (weaker_fault _ (λ n. (n ≡ 34) × IsOutside (clock_of t.zone) t.local c.in-Some-2.text) (EventRuleFault object lines)
+    (weaker_fault _ (λ n. (n ≡ 34) × IsOutsideRule (clock_of t.zone) t.local c.in-Some-2.text) (EventRuleFault object lines)
     (λ n h. elim times [
       | inl starts ↦ outside_refuses object lines t c.args.self.text c.in-Some-2.text n c.in-Some-2.is said starts h
       | inr (_, none) ↦ absurd (some_named (is_of (codes "DTSTART")) lines (sym has ∙ c.if-not-has_start.false) none.missing)

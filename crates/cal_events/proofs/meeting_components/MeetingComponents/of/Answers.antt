@@ -1,7 +1,7 @@
 use Rattle.std.proofs.Common.{◌≡◌, ◌∙◌, ◌++◌, ◌∷◌, [], ap, not, arith, rules, ℤ, FitsSigned, to_z, of_z, w64}
 use Rattle.std.specs.Prelude.{Some, is_some}
 use Rattle.std.proofs.lemmas.Int.{ints}
-use Rattle.profile.specs.events.Meetings.{is_master, is_override}
+use Rattle.profile.specs.events.Events.{is_master, is_override}
 use Rattle.cal_events.proofs.MeetingLemmas.{pushed, passed, instant_pushed}
 use Rattle.cal_events.proofs.meeting_components.MeetingComponents.of.Goals as goal
 

@@ -2,7 +2,7 @@ use Rattle.std.proofs.Common.{◌==◌, ◌++◌, ◌∷◌, [], List, sym, ap, 
 use Rattle.std.specs.List.{slice_split}
 use Rattle.ical_lines.specs.Fault.{RefusesBy}
 use Rattle.ical_lines.specs.Text.{line_text}
-use Rattle.profile.specs.events.Occurrences.{Entry, entries_of, EntriesFault}
+use Rattle.profile.specs.events.Occurrences.{ListedTime, entries_of, EntriesFault}
 use Rattle.cal_rules.proofs.Cuts.{all_left, cut_more, cut_done}
 use Rattle.ical_values.proofs.Exits.{err_exit}
 use Rattle.cal_events.specs.Zones.{object_of}
@@ -18,7 +18,7 @@ loop-text-init c =
       all_left 44 text _ _ (omega arith) s.text s.has_more s.pattern c.into_iter-text-iterator.ensures.into_iter_gives,
       [],
       ap (slice_split (λ x. x == 44)) (sym c.value.ensures),
-      λ done a. subst (λ (es : List Entry). AreListed (object_of c.args.zones.now) (name_of c.args.listing) es c.args.self.now) (sym (append-nil done)) a,
+      λ done a. subst (λ (es : List ListedTime). AreListed (object_of c.args.zones.now) (name_of c.args.listing) es c.args.self.now) (sym (append-nil done)) a,
     )
 
 pub loop-text-preserved : goal.loop-text-preserved
@@ -31,7 +31,7 @@ loop-text-preserved c =
       more.2,
       i.2 ++ text ∷ [],
       (text_next line text i.2 i.0 more.0 [] i.3 more.1).0,
-      λ done a. subst (λ (es : List Entry). AreListed (object_of c.args.zones.now) (name_of c.args.listing) es c.add.new.self) (sym (text_next line text i.2 i.0 more.0 done i.3 more.1).1)
+      λ done a. subst (λ (es : List ListedTime). AreListed (object_of c.args.zones.now) (name_of c.args.listing) es c.add.new.self) (sym (text_next line text i.2 i.0 more.0 done i.3 more.1).1)
           (c.in_ok-add.ensures.adds (done ++ on_line line i.2) (i.4 done a)),
     )
 
@@ -52,4 +52,4 @@ returns-clause-adds c done a =
     let i = c.loop-text.invariant in
     let line = line_text c.args.line in
     let none = cut_done c.loop-text.text-iterator c.next.new.self i.0 i.1 c.in-None.ensures.steps in
-    subst (λ (es : List Entry). AreListed (object_of c.args.zones.now) (name_of c.args.listing) (done ++ es) c.loop-text.self) (texts_end line i.2 i.0 i.3 none) (i.4 done a)
+    subst (λ (es : List ListedTime). AreListed (object_of c.args.zones.now) (name_of c.args.listing) (done ++ es) c.loop-text.self) (texts_end line i.2 i.0 i.3 none) (i.4 done a)

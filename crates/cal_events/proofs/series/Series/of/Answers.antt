@@ -1,6 +1,6 @@
 use Rattle.std.proofs.Common.{sym, subst}
-use Rattle.profile.specs.events.Events.{Event as Said}
-use Rattle.cal_events.specs.Events.{event_of}
+use Rattle.profile.specs.events.EventComponents.{EventComponent as Said}
+use Rattle.cal_events.specs.Events.{component_of}
 use Rattle.cal_events.specs.Instances.{HasGoodClock}
 use Rattle.cal_events.specs.Overlapping.{HaveOneEnd}
 use Rattle.cal_events.proofs.Clocks.{clock_good}
@@ -11,8 +11,8 @@ use Rattle.cal_events.proofs.series.Series.of.Goals as goal
 pub of_master-requires-clause-clock : goal.of_master-requires-clause-clock
 of_master-requires-clause-clock c =
     let said = c.requires.said in
-    subst HasGoodClock (sym c.in_ok-master.ensures) (clock_good said.0 said.1 (event_of c.args.master) said.2)
+    subst HasGoodClock (sym c.in_ok-master.ensures) (clock_good said.0 said.1 (component_of c.args.master) said.2)
 
 pub of_master-requires-clause-ends : goal.of_master-requires-clause-ends
 of_master-requires-clause-ends c =
-    subst (λ (e : Said). HaveOneEnd (of_master e)) (sym c.in_ok-master.ensures) (ruled_ends (event_of c.args.master) c.requires.said c.deref.result.now)
+    subst (λ (e : Said). HaveOneEnd (of_master e)) (sym c.in_ok-master.ensures) (ruled_ends (component_of c.args.master) c.requires.said c.deref.result.now)

@@ -1,5 +1,5 @@
 use Rattle.std.proofs.Common.{sym, subst}
-use Rattle.profile.specs.events.Events.{Event as Said}
+use Rattle.profile.specs.events.EventComponents.{EventComponent as Said}
 use Rattle.cal_events.specs.Instances.{HasGoodClock}
 use Rattle.cal_events.specs.Overlapping.{HaveOneEnd}
 use Rattle.cal_events.proofs.OwnSingles.{of_master}

@@ -1,8 +1,8 @@
 use Rattle.std.proofs.Common.{◌≡◌, ◌∙◌, sym, subst, to_z, of_z, w64, FitsSigned, rules, to_z-of_z}
 use Rattle.std.proofs.lemmas.Option.{same_Some}
-use Rattle.profile.specs.events.Events.{Event as Said}
+use Rattle.profile.specs.events.EventComponents.{EventComponent as Said}
 use Rattle.profile.specs.events.Starts.{IsWidth}
-use Rattle.cal_events.specs.Events.{event_of}
+use Rattle.cal_events.specs.Events.{component_of}
 use Rattle.cal_events.proofs.series.Series.width.Goals as goal
 
 pub returns : goal.returns
@@ -10,5 +10,5 @@ returns c = λ master is.
     let n = c.width.result in
     let fits : FitsSigned w64 n = search rules in
     let cast : to_z w64 (of_z w64 n) ≡ n = to_z-of_z fits in
-    let same : event_of c.master.result.now ≡ master = same_Some (event_of c.master.result.now) master (sym c.master.ensures.master ∙ is) in
+    let same : component_of c.master.result.now ≡ master = same_Some (component_of c.master.result.now) master (sym c.master.ensures.master ∙ is) in
     rw cast (subst (λ (m : Said). IsWidth m.times n) same c.width.ensures.width)

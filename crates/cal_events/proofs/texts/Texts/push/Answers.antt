@@ -2,7 +2,7 @@ use Rattle.std.proofs.Common.{◌≡◌, ◌∙◌, ◌∷◌, ◌++◌, ℕ, Li
 use Rattle.std.specs.Prelude.{string_bytes}
 use Rattle.std.specs.Str.{IsCharBoundary}
 use Rattle.std.proofs.lemmas.Str.{IsCharBoundary-at_seam}
-use Rattle.cal_events.specs.Texts.{pieces, are_pieces}
+use Rattle.cal_events.specs.Texts.{pieces_between, are_pieces}
 use Rattle.cal_events.proofs.TextLemmas.{pushed, pushed_are}
 use Rattle.cal_events.proofs.texts.Texts.push.Goals as goal
 
@@ -35,5 +35,5 @@ returns-in-Ok-clause-added c =
     let ends = c.self.inside.ends.items in
     let end : c.len-end.result ≡ length (joined ++ more) = omega (arith, c.len-end.ensures, c.push_str.new.self.bytes.ok.0, ap length longer) in
     let more_ends : c.push.new.self.items ≡ ends ++ length (joined ++ more) ∷ [] = c.in-Ok.ensures.items ∙ ap (λ n. ends ++ n ∷ []) end in
-    ap (λ (l : List ℕ). pieces l 0 c.push.new.self.items) longer ∙ ap (pieces (joined ++ more) 0) more_ends
+    ap (λ (l : List ℕ). pieces_between l 0 c.push.new.self.items) longer ∙ ap (pieces_between (joined ++ more) 0) more_ends
     ∙ pushed joined more 0 ends c.self.invariant ∙ ap (λ (l : List (List ℕ)). l ++ more ∷ []) c.self.view_is

@@ -2,7 +2,7 @@ use Rattle.std.proofs.Common.{refl, map, None, Some, rules}
 use Rattle.std.proofs.lemmas.Result.{IfErr-weaker}
 use Rattle.profile.specs.series.RuleTexts.{Interval, Count, EndsAt, WeekStart, ByMonth, ByMonthDay, ByDay, BySetPosition}
 use Rattle.cal_days.specs.Views.{frequency_of}
-use Rattle.cal_rules.specs.Views.{entry_of, until_of}
+use Rattle.cal_rules.specs.Views.{weekday_number_of, until_of}
 use Rattle.cal_rules.proofs.Parted.{named, unmarked, unnamed, no_name, no_frequency_part}
 use Rattle.cal_rules.proofs.Taking.{seen, agree, took, took_list, only_memory}
 use Rattle.cal_rules.proofs.parts.Parts.enter.Goals as goal
@@ -82,7 +82,7 @@ pub returns-in-BYDAY-clause-enters :
 returns-in-BYDAY-clause-enters c =
     let here = named (Some ByDay) c.args.part.now c.in-Some.name c.in-Some.value c.in-Some.ensures.cases c.in-BYDAY.is in
     let others = agree (Some ByDay) c.args.self.now (record c.args.self.now { weekdays = c.put_list-in-BYDAY.new.field }) (λ _. refl) (λ _. refl) (λ _. refl) (λ _. refl) (λ _. refl) (λ _. refl) (λ _. refl) (λ d. absurd (d refl)) (λ _. refl) in
-    took_list (Some ByDay) c.args.part.now c.in-Some.value.now c.args.self.now (record c.args.self.now { weekdays = c.put_list-in-BYDAY.new.field }) here (λ xs. map entry_of xs.items) c.read_entries.result c.args.self.now.weekdays c.put_list-in-BYDAY.new.field c.put_list-in-BYDAY.result
+    took_list (Some ByDay) c.args.part.now c.in-Some.value.now c.args.self.now (record c.args.self.now { weekdays = c.put_list-in-BYDAY.new.field }) here (λ xs. map weekday_number_of xs.items) c.read_entries.result c.args.self.now.weekdays c.put_list-in-BYDAY.new.field c.put_list-in-BYDAY.result
     (λ none. (ByDay, c.in-Some.value.now, here, none)) c.read_entries.ensures.reads c.read_entries.ensures.none refl refl others c.put_list-in-BYDAY.ensures.puts
 
 pub returns-in-BYDAY-clause-refuses : goal.returns-in-BYDAY-clause-refuses

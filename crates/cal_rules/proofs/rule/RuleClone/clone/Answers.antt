@@ -2,7 +2,7 @@ use Rattle.std.proofs.Common.{◌∙◌, ◌≤◌, sym, ap, subst}
 use Rattle.profile.specs.series.Rules.{RuleText, rule_of, IsAllowed}
 use Rattle.profile.specs.series.Days.{day_index}
 use Rattle.cal_rules.specs.Known.{AreFacts}
-use Rattle.cal_rules.specs.Counted.{EndsAt}
+use Rattle.cal_rules.specs.Counted.{RuleEndsAt}
 use Rattle.cal_rules.proofs.rule.RuleClone.clone.Goals as goal
 
 pub returns : goal.returns
@@ -13,4 +13,4 @@ returns c =
 pub invariant_of-result : goal.invariant_of-result
 invariant_of-result c =
     let rule = c.self.inside in
-    subst (λ (text : RuleText). (1 ≤ text.interval) × AreFacts rule.start × EndsAt (rule_of text rule.start.index (day_index rule.last)) rule.end × IsAllowed text) (sym c.in_ok-written.ensures.cases) c.self.invariant
+    subst (λ (text : RuleText). (1 ≤ text.interval) × AreFacts rule.start × RuleEndsAt (rule_of text rule.start.index (day_index rule.last)) rule.end × IsAllowed text) (sym c.in_ok-written.ensures.cases) c.self.invariant

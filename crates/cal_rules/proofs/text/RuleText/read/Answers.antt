@@ -3,7 +3,7 @@ use Rattle.std.proofs.Common.{◌++◌, [], ◌∷◌, refl, arith}
 use Rattle.ical_lines.specs.Fault.{RefusesBy}
 use Rattle.ical_lines.specs.declared.fault.Fault.TheVariants.{Refused}
 use Rattle.profile.specs.series.RuleTexts.{rule_parts, IsLeastRuleFault}
-use Rattle.cal_rules.specs.Views.{text_of}
+use Rattle.cal_rules.specs.Views.{rule_text_said}
 use Rattle.cal_rules.proofs.Cuts.{all_left, cut_more, cut_done}
 use Rattle.cal_rules.proofs.OneRule.{least_unknown, is_allowed}
 use Rattle.cal_rules.proofs.Taking.{next_part, next_there, all_taken}
@@ -40,7 +40,7 @@ invariant_of-result c =
     let i = c.loop-part.invariant in
     let done = cut_done c.loop-part.part-iterator c.next.new.self i.0 i.1 c.in-None.ensures.steps in
     let spelled = c.in_ok-written.ensures.says c.args.text.now (all_taken (rule_parts c.args.text.now) i.2 i.0 c.loop-part.parts i.3 done i.4) in
-    is_allowed c.args.text.now (text_of c.in_ok-written.written) spelled.says spelled.together spelled.one_end
+    is_allowed c.args.text.now (rule_text_said c.in_ok-written.written) spelled.says spelled.together spelled.one_end
 
 pub returns-clause-reads : goal.returns-clause-reads
 returns-clause-reads c =

@@ -1,7 +1,7 @@
 use Rattle.std.proofs.Common.{ℕ, List, ◌≤◌, ◌<◌, length, subst}
 use Rattle.std.specs.Prelude.{IfNone}
 use Rattle.profile.specs.checker.Instances.{IsClear}
-use Rattle.profile.specs.events.Meetings.{Meeting}
+use Rattle.profile.specs.events.Events.{Event}
 use Rattle.cal_period.specs.Every.{IsPairClear}
 use Rattle.cal_period.proofs.EveryPair.{where_none}
 use Rattle.clash_cert.proofs.MakingLemmas.{singles_clear, all_clear}
@@ -13,4 +13,4 @@ returns-in-None-clause-clear c =
     let clear = subst (λ o. IfNone o (IsClear all.singles)) c.in_default.is c.in_ok-overlap.ensures.clear in
     let pairs = where_none c.sweep_all.result.shared _ _ c.in-None.is c.sweep_all.ensures.shared in
     all_clear all (singles_clear all clear c.in_default-single_beside_series.ensures)
-    (subst (λ (l : List Meeting). (p q : ℕ) → p ≤ q → q < length l → IsPairClear l p q) c.series.ensures.are pairs)
+    (subst (λ (l : List Event). (p q : ℕ) → p ≤ q → q < length l → IsPairClear l p q) c.series.ensures.are pairs)

@@ -6,7 +6,7 @@ use Rattle.ical_tree.specs.Tree.{tree_of}
 use Rattle.ical_values.specs.Octets.{address_octets, text_octets}
 use Rattle.ical_values.proofs.Exits.{err_exit}
 use Rattle.profile.specs.organisers.Objects.{AreOfMeeting, has_one_attendee, is_of_attendee}
-use Rattle.cal_events.specs.Events.{event_of}
+use Rattle.cal_events.specs.Events.{component_of}
 use Rattle.cal_events.specs.declared.component.EventComponent.{EventComponent}
 use Rattle.itip_messages.specs.OrganiserObjects.{IsNotOneEach, IsOrganiserFault, operation_said}
 use Rattle.itip_messages.proofs.ObjectLemmas.{as_they_are, said_by_tree, stamp_given, slot_dated, event_is_ready, organiser_given, meeting_wrong, attendee_wrong, of_meeting}
@@ -22,7 +22,7 @@ pub returns-in_err-judge_attendees-clause-fault : goal.returns-in_err-judge_atte
 returns-in_err-judge_attendees-clause-fault c =
     let operation = operation_said c.args.operation in
     let number = c.in_err-judge_attendees.field-0.0.number in
-    let wrong = subst (λ (l : List EventComponent). IsNotOneEach operation (map event_of l) number) c.deref.ensures.value c.in_err-judge_attendees.ensures.fault in
+    let wrong = subst (λ (l : List EventComponent). IsNotOneEach operation (map component_of l) number) c.deref.ensures.value c.in_err-judge_attendees.ensures.fault in
     err_exit _ (RefusesBy (IsOrganiserFault (tree_of c.args.object.now) operation)) _ c.from_residual-in_err-judge_attendees.ensures.1
     (attendee_wrong c.args.operation _ c.purpose.ensures c.args.object.now c.in_ok-events.events.items c.in_ok-events.ensures.says number wrong)
 
@@ -50,9 +50,9 @@ returns-clause-says c =
     let uid = text_octets c.in_ok-organiser.uid in
     let says = said_by_tree c.args.operation _ c.purpose.ensures c.args.object.now items events.says in
     let first = subst (λ (l : List EventComponent). Contains l name.0) c.deref-2.ensures.value name.1 in
-    let are : AreOfMeeting organiser uid (map event_of items) = of_meeting items organiser uid name.0 events.some events.one events.masters events.differ first name.2 name.3 in
-    let one_each = subst (λ (l : List EventComponent). is_of_attendee operation ≡ true → list_all has_one_attendee (map event_of l) ≡ true) c.deref.ensures.value c.in_ok-judge_attendees.ensures.each in (
-      record { operation = operation; organiser = organiser; uid = uid; events = map event_of items },
+    let are : AreOfMeeting organiser uid (map component_of items) = of_meeting items organiser uid name.0 events.some events.one events.masters events.differ first name.2 name.3 in
+    let one_each = subst (λ (l : List EventComponent). is_of_attendee operation ≡ true → list_all has_one_attendee (map component_of l) ≡ true) c.deref.ensures.value c.in_ok-judge_attendees.ensures.each in (
+      record { operation = operation; organiser = organiser; uid = uid; events = map component_of items },
       refl,
       record { operation = refl; organiser = refl; uid = refl; are = are; each = c.in_ok-components.ensures },
       λ named. record { operation = named; says = says; are = are; one_each = one_each },

@@ -4,7 +4,7 @@ use Rattle.std.specs.List.{AllZip}
 use Rattle.std.specs.List.Sorted.{IsPermutation}
 use Rattle.std.proofs.lemmas.List.Sorted.{IsPermutation-sym, Contains-permutation, length_permutation}
 use Rattle.cal_events.specs.declared.component.EventComponent.{EventComponent}
-use Rattle.cal_events.specs.Events.{event_of}
+use Rattle.cal_events.specs.Events.{component_of}
 use Rattle.cal_events.specs.OneMeeting.{meeting_of}
 use Rattle.profile.specs.rooms.Revisions as revisions
 use Rattle.itip_messages.specs.Messages.{SaysComponent, method_said}
@@ -64,9 +64,9 @@ returns c =
     (Contains-permutation sorted events name.0 (IsPermutation-sym events sorted c.sort_by_slot.ensures.same) (subst (λ (l : List EventComponent). Contains l name.0) c.deref.ensures.value name.1)) in
     record {
       method = refl;
-      organiser = λ e c'. one_organiser meeting c.requires (event_of name.0) e first c' _ name.2;
-      uid = λ e c'. one_uid meeting c.requires (event_of name.0) e first c' _ name.3;
-      events = map event_of sorted;
+      organiser = λ e c'. one_organiser meeting c.requires (component_of name.0) e first c' _ name.2;
+      uid = λ e c'. one_uid meeting c.requires (component_of name.0) e first c' _ name.3;
+      events = map component_of sorted;
       by_slot = sorted_by_slot meeting c.requires events sorted c.in_ok-events.ensures c.sort_by_slot.ensures.same c.sort_by_slot.ensures.rises;
-      each = subst (λ (w : Option revisions.Revision). AllZip (SaysComponent (method_said c.args.method) w) (map event_of sorted) c.in_ok-components.components.items) c.whole_revision-whole.ensures c.in_ok-components.ensures;
+      each = subst (λ (w : Option revisions.Revision). AllZip (SaysComponent (method_said c.args.method) w) (map component_of sorted) c.in_ok-components.components.items) c.whole_revision-whole.ensures c.in_ok-components.ensures;
     }

@@ -4,7 +4,7 @@ use Rattle.ical_values.specs.Octets.{address_octets, text_octets}
 use Rattle.profile.specs.organisers.Organisers.{most_sequence}
 use Rattle.itip_messages.specs.declared.organiser_object.ObjectComponent.{ObjectComponent}
 use Rattle.itip_order.specs.declared.part.Revision.{Revision}
-use Rattle.organiser_books.specs.declared.meeting.Meeting.{Meeting}
+use Rattle.organiser_books.specs.declared.meeting.StoredMeeting.{StoredMeeting}
 use Rattle.organiser_books.specs.Calls.{sent_of}
 use Rattle.organiser_books.specs.Representation.{same_text}
 use Rattle.organiser_books.specs.Storing.{sequence_then}
@@ -23,7 +23,7 @@ returns-clause-steps c = λ said is book keeps.
     let meetings = get same_text c.args.self.now.meetings in
     let made = c.in_ok-attending.field-0 in
     let revision : Revision = record { sequence = c.in-Some.sequence; stamp = c.args.now } in
-    let meeting : Meeting = record { revision = revision; components = object.components; attending = made.attending; object = made.object; answers = c.new.result } in
+    let meeting : StoredMeeting = record { revision = revision; components = object.components; attending = made.attending; object = made.object; answers = c.new.result } in
     let same : sequence_then _ c.deref.result.now ≡ sequence_then (meetings object.uid) object.components.items = λ i. sequence_then (c.get.ensures.value i) (c.deref.ensures.value i) in
     let r = is_stored (address_octets c.args.self.now.address) object said is book meetings keeps.each c.args.now meeting (c.in-Some.ensures.is ∙ same) refl
     (get same_text c.insert.new.self) c.in_ok-insert.ensures.updates.0 (map sent_of made.sent.items)

@@ -8,10 +8,10 @@ use Rattle.profile.specs.organisers.Objects as objects
 use Rattle.profile.specs.organisers.Organisers.{OrganiserBook, last_store}
 use Rattle.itip_messages.specs.OrganiserObjects.{RepresentsObject}
 use Rattle.itip_messages.specs.declared.organiser_object.ObjectComponent.{ObjectComponent}
-use Rattle.organiser_books.specs.declared.meeting.Meeting.{Meeting}
+use Rattle.organiser_books.specs.declared.meeting.StoredMeeting.{StoredMeeting}
 use Rattle.organiser_books.specs.declared.organiser.Organiser.{Organiser}
 use Rattle.organiser_books.specs.Calls.{CallFault}
-use Rattle.organiser_books.specs.Representation.{heard_of, is_ahead, is_strange, same_text, AreSeen, IsReplyFault, Keeps, RepresentsAt}
+use Rattle.organiser_books.specs.Representation.{heard_said, is_ahead, is_strange, same_text, AreSeen, IsReplyFault, Keeps, RepresentsAt}
 use Rattle.organiser_books.proofs.Replying.{fault_exit, keeps_same, replied}
 use Rattle.organiser_books.proofs.Taking.{reply_fault, unknown_fault}
 use Rattle.organiser_books.proofs.organiser.Organiser.take_reply.Goals as goal
@@ -20,7 +20,7 @@ pub returns-in_default-clause-fault : goal.returns-in_default-clause-fault
 returns-in_default-clause-fault c = λ said is book keeps.
     let object = c.args.object.now in
     let uid = text_octets object.uid in
-    let found : RepresentsAt book uid None (last_store uid book) = subst (λ (o : Option Meeting). RepresentsAt book uid o (last_store uid book)) (sym c.in_default.ensures.value) (keeps.each object.uid) in
+    let found : RepresentsAt book uid None (last_store uid book) = subst (λ (o : Option StoredMeeting). RepresentsAt book uid o (last_store uid book)) (sym c.in_default.ensures.value) (keeps.each object.uid) in
     unknown_fault (address_octets c.args.self.now.address) object said is book objects.Reply (sym is.operation ∙ c.in_ok-expect.ensures.kind) (sym is.organiser ∙ c.in_ok-expect.ensures.own) refl found
 
 pub returns-in_err-take_reply-clause-fault : goal.returns-in_err-take_reply-clause-fault
@@ -32,7 +32,7 @@ returns-in_err-take_reply-clause-fault c =
     fault_exit _ (λ n. (said : objects.OrganiserObject) → RepresentsObject object said → (book : OrganiserBook) → Keeps c.args.self.now book → CallFault objects.Reply address said book n)
     (IsReplyFault m c.deref.result.now) _
     (λ n fault said is book keeps.
-    let found : RepresentsAt book uid (Some m) (last_store uid book) = subst (λ (o : Option Meeting). RepresentsAt book uid o (last_store uid book)) (sym c.in-Some.ensures.value) (keeps.each object.uid) in
+    let found : RepresentsAt book uid (Some m) (last_store uid book) = subst (λ (o : Option StoredMeeting). RepresentsAt book uid o (last_store uid book)) (sym c.in-Some.ensures.value) (keeps.each object.uid) in
     reply_fault address object said is book m found n (sym is.operation ∙ c.in_ok-expect.ensures.kind) (sym is.organiser ∙ c.in_ok-expect.ensures.own) (subst (λ (l : List ObjectComponent). IsReplyFault m l n) c.deref.ensures.value fault))
     c.from_residual-in_err-take_reply.ensures.1 c.in_err-take_reply.ensures.refuses
 
@@ -61,5 +61,5 @@ returns-clause-steps c = λ said is book keeps.
     c.take_reply.ensures.revision c.take_reply.ensures.components c.take_reply.ensures.attending c.take_reply.ensures.object
     (sym is.operation ∙ c.in_ok-expect.ensures.kind) (sym is.organiser ∙ c.in_ok-expect.ensures.own)
     (ap (is_ahead m) (sym c.deref.ensures.value) ∙ c.in_ok-take_reply.ensures.sent) (ap (is_strange m) (sym c.deref.ensures.value) ∙ c.in_ok-take_reply.ensures.known)
-    (λ s replies rev seen. subst (λ (l : List ObjectComponent). AreSeen n s (replies ++ flat_map (heard_of s.uid) l)) c.deref.ensures.value (c.in_ok-take_reply.ensures.seen s replies rev seen)) in
+    (λ s replies rev seen. subst (λ (l : List ObjectComponent). AreSeen n s (replies ++ flat_map (heard_said s.uid) l)) c.deref.ensures.value (c.in_ok-take_reply.ensures.seen s replies rev seen)) in
     (r.0, record { each = r.1 })

@@ -7,7 +7,7 @@ use Rattle.profile.specs.organisers.Sent.{IsMeetingText}
 use Rattle.itip_order.specs.Parts.{revision_of}
 use Rattle.itip_messages.specs.OrganiserObjects.{SaysObjectComponent}
 use Rattle.itip_messages.specs.declared.organiser_object.ObjectComponent.{ObjectComponent}
-use Rattle.organiser_books.specs.declared.meeting.Meeting.{Meeting}
+use Rattle.organiser_books.specs.declared.meeting.StoredMeeting.{StoredMeeting}
 use Rattle.organiser_books.specs.Shown.{ShowsAnswered}
 use Rattle.organiser_books.specs.Representation.{RepresentsAt}
 use Rattle.organiser_books.proofs.Books.{represented_known}
@@ -19,7 +19,7 @@ returns c = λ book keeps.
     let uid = text_octets c.args.uid.now in
     let organiser = address_octets c.args.self.now.address in
     let m = c.in-Some.meeting.now in
-    let found : RepresentsAt book uid (Some m) (last_store uid book) = subst (λ (o : Option Meeting). RepresentsAt book uid o (last_store uid book)) (sym c.in-Some.ensures.value) (keeps.each c.args.uid.now) in
+    let found : RepresentsAt book uid (Some m) (last_store uid book) = subst (λ (o : Option StoredMeeting). RepresentsAt book uid o (last_store uid book)) (sym c.in-Some.ensures.value) (keeps.each c.args.uid.now) in
     let known = represented_known book uid m (last_store uid book) found in
     let stored = known.0 in
     let w = c.in_ok-write_meeting.ensures.ok in

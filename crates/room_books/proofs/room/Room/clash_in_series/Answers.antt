@@ -2,7 +2,7 @@
 use Rattle.std.proofs.Common.{◌≡◌, ◌++◌, ◌∙◌, List, None, Some, Contains, Vec, length, vec_len, rules, sym, subst}
 use Rattle.room_books.specs.declared.recurring.Recurring.{Recurring}
 use Rattle.room_books.specs.Recurrings.{AreBeside, AreNewClear}
-use Rattle.room_books.specs.Views.{beside, booked_list, others}
+use Rattle.room_books.specs.Views.{beside, instance_list, others}
 use Rattle.room_books.proofs.ClearBeside.{all_clear, new_named, none_some, single_named}
 use Rattle.room_books.proofs.Places.{others_differ}
 use Rattle.room_books.proofs.RoomSeries.{now_of, other_series_differ, pushed_both, pushed_from}
@@ -17,7 +17,7 @@ returns-in_default c = λ own parted was_clear singles_clear.
     let k = c.args.key.now in let es = c.args.self.now.meetings.entries in let singles = c.args.singles.now in
     let kept = now_of c.args.kept.now in let wanted = now_of c.args.wanted.now in
     let first = c.in_ok-all.all.items in let mid = c.push_all.new.all.items in let all = c.push_all-2.new.all.items in
-    let booked = others k es ++ booked_list k own in
+    let booked = others k es ++ instance_list k own in
     let from = c.len-from.result in
     elim c.match-single_beside.branch [
       | in-Some w ↦ absurd (none_some w.in-Some.shared (sym c.in_default.is ∙ w.found-is))
@@ -35,7 +35,7 @@ returns c = λ own parted one.
     let k = c.args.key.now in let es = c.args.self.now.meetings.entries in let singles = c.args.singles.now in
     let kept = now_of c.args.kept.now in let wanted = now_of c.args.wanted.now in
     let first = c.in_ok-all.all.items in let mid = c.push_all.new.all.items in let all = c.push_all-2.new.all.items in
-    let booked = others k es ++ booked_list k own in
+    let booked = others k es ++ instance_list k own in
     let from = c.len-from.result in
     let x = c.in-Some-found.shared in let clash = c.in_ok-clash.clash in
     elim c.match-single_beside.branch [

@@ -3,7 +3,7 @@ use Rattle.std.proofs.Common.{◌≡◌, ◌∙◌, ◌++◌, List, Some, None, 
 use Rattle.std.specs.Map.{lookup}
 use Rattle.profile.specs.rooms.Rooms.{is_accept}
 use Rattle.cal_events.specs.declared.instance.Single.{Single}
-use Rattle.room_books.specs.declared.meeting.Given.{Given}
+use Rattle.room_books.specs.declared.meeting.PartAnswer.{PartAnswer}
 use Rattle.room_books.specs.declared.meeting.Outcome.TheVariants.{Declined, Limit}
 use Rattle.room_books.specs.declared.answer.LimitKind.TheVariants as limits
 use Rattle.room_books.specs.BySlot.{left_without}
@@ -26,7 +26,7 @@ returns-then-len-others c =
     let k = c.args.key.now in let es = c.args.self.now.meetings.entries in let before = c.answers_before-before.result.now in
     let kept = kept_then (lookup (same_key k) es) c.args.lost.now c.args.left.now in let candidates = c.args.candidates.now in
     let n = series_beside k es c.keys_differ.ensures before c.count_series.result c.args.self.now.series c.answers_before-before.ensures.are c.count_series.ensures c.args.self.now.series_counted in
-    let is : all_series (left_without c.args.lost.now before ++ c.args.left.now) ≡ all_series kept = ap (λ (l : List Given). all_series (left_without c.args.lost.now l ++ c.args.left.now)) c.answers_before-before.ensures.are in
+    let is : all_series (left_without c.args.lost.now before ++ c.args.left.now) ≡ all_series kept = ap (λ (l : List PartAnswer). all_series (left_without c.args.lost.now l ++ c.args.left.now)) c.answers_before-before.ensures.are in
     let a = lent_long c.in_ok-kept.kept (all_series kept) c.len.result (c.in_ok-kept.ensures ∙ is) c.len.ensures in
     let b = lent_long c.in_ok-wanted.wanted (all_series candidates) c.len-2.result c.in_ok-wanted.ensures c.len-2.ensures in
     let many = c.if-len-others.true in
@@ -37,7 +37,7 @@ returns-then-not-is_accept c =
     let k = c.args.key.now in let es = c.args.self.now.meetings.entries in let before = c.answers_before-before.result.now in
     let kept = kept_then (lookup (same_key k) es) c.args.lost.now c.args.left.now in let candidates = c.args.candidates.now in
     let n = series_beside k es c.keys_differ.ensures before c.count_series.result c.args.self.now.series c.answers_before-before.ensures.are c.count_series.ensures c.args.self.now.series_counted in
-    let is : all_series (left_without c.args.lost.now before ++ c.args.left.now) ≡ all_series kept = ap (λ (l : List Given). all_series (left_without c.args.lost.now l ++ c.args.left.now)) c.answers_before-before.ensures.are in
+    let is : all_series (left_without c.args.lost.now before ++ c.args.left.now) ≡ all_series kept = ap (λ (l : List PartAnswer). all_series (left_without c.args.lost.now l ++ c.args.left.now)) c.answers_before-before.ensures.are in
     let a = lent_long c.in_ok-kept.kept (all_series kept) c.len.result (c.in_ok-kept.ensures ∙ is) c.len.ensures in
     let b = lent_long c.in_ok-wanted.wanted (all_series candidates) c.len-2.result c.in_ok-wanted.ensures c.len-2.ensures in
     let within = c.if-len-others.false in
@@ -53,7 +53,7 @@ returns-in-Some c =
     let k = c.args.key.now in let es = c.args.self.now.meetings.entries in let before = c.answers_before-before.result.now in
     let kept = kept_then (lookup (same_key k) es) c.args.lost.now c.args.left.now in let candidates = c.args.candidates.now in
     let n = series_beside k es c.keys_differ.ensures before c.count_series.result c.args.self.now.series c.answers_before-before.ensures.are c.count_series.ensures c.args.self.now.series_counted in
-    let is : all_series (left_without c.args.lost.now before ++ c.args.left.now) ≡ all_series kept = ap (λ (l : List Given). all_series (left_without c.args.lost.now l ++ c.args.left.now)) c.answers_before-before.ensures.are in
+    let is : all_series (left_without c.args.lost.now before ++ c.args.left.now) ≡ all_series kept = ap (λ (l : List PartAnswer). all_series (left_without c.args.lost.now l ++ c.args.left.now)) c.answers_before-before.ensures.are in
     let a = lent_long c.in_ok-kept.kept (all_series kept) c.len.result (c.in_ok-kept.ensures ∙ is) c.len.ensures in
     let b = lent_long c.in_ok-wanted.wanted (all_series candidates) c.len-2.result c.in_ok-wanted.ensures c.len-2.ensures in
     let within = c.if-len-others.false in
@@ -72,7 +72,7 @@ returns c =
     let k = c.args.key.now in let es = c.args.self.now.meetings.entries in let before = c.answers_before-before.result.now in
     let kept = kept_then (lookup (same_key k) es) c.args.lost.now c.args.left.now in let candidates = c.args.candidates.now in
     let n = series_beside k es c.keys_differ.ensures before c.count_series.result c.args.self.now.series c.answers_before-before.ensures.are c.count_series.ensures c.args.self.now.series_counted in
-    let is : all_series (left_without c.args.lost.now before ++ c.args.left.now) ≡ all_series kept = ap (λ (l : List Given). all_series (left_without c.args.lost.now l ++ c.args.left.now)) c.answers_before-before.ensures.are in
+    let is : all_series (left_without c.args.lost.now before ++ c.args.left.now) ≡ all_series kept = ap (λ (l : List PartAnswer). all_series (left_without c.args.lost.now l ++ c.args.left.now)) c.answers_before-before.ensures.are in
     let a = lent_long c.in_ok-kept.kept (all_series kept) c.len.result (c.in_ok-kept.ensures ∙ is) c.len.ensures in
     let b = lent_long c.in_ok-wanted.wanted (all_series candidates) c.len-2.result c.in_ok-wanted.ensures c.len-2.ensures in
     let within = c.if-len-others.false in

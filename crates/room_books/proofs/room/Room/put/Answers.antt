@@ -6,7 +6,7 @@ use Rattle.indexmap.specs.IndexMap.{insert_entry}
 use Rattle.room_books.specs.declared.kept.Meeting.{Meeting}
 use Rattle.std.specs.Map.{lookup}
 use Rattle.std.proofs.lemmas.List.Sorted.{IsPermutation-sym, IsPermutation-trans}
-use Rattle.room_books.specs.declared.meeting.Given.{Given}
+use Rattle.room_books.specs.declared.meeting.PartAnswer.{PartAnswer}
 use Rattle.room_books.specs.declared.timeline.Busy.{Busy}
 use Rattle.room_books.specs.Takings.{answers_by, answers_then}
 use Rattle.room_books.specs.Views.{confirmed_at, meeting_singles, all_singles, all_series, all_confirmed, all_recurring, in_room, others, same_key, series_at, series_by, singles_by, AreAllApart, AreRecurring, IsClearIn}
@@ -105,7 +105,7 @@ invariant_of-self-3 c =
     let gone = c.args.gone.now in let added = c.args.added.now in
     let answers = answers_then (answers_by (lookup (same_key k) es)) c.args.changes in
     let now = all_singles answers in
-    let own = re_flat (λ (g : Given). g.singles.items) answers m.answers.items put.made.answers_are in
+    let own = re_flat (λ (g : PartAnswer). g.singles.items) answers m.answers.items put.made.answers_are in
     let is = IsPermutation-trans (shifts.kept ++ added) now (meeting_singles m) (IsPermutation-sym now (shifts.kept ++ added) shifts.after_is) (re_permutation now (meeting_singles m) own) in
     let joins = joins_reordered (others k es) k answers m.answers.items put.made.answers_are c.requires.joins in
     let shift = subst (λ (n : ℕ). IsShift n gone shifts.kept added c.reserve.new.self.busy.items) (sym c.in_ok-place.ensures.place)

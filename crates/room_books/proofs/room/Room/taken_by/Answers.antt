@@ -4,7 +4,7 @@ use Rattle.std.specs.Map.{lookup}
 use Rattle.itip_order.specs.Registers.{RepresentsHistory}
 use Rattle.profile.specs.rooms.Revisions.{Part}
 use Rattle.room_books.specs.declared.kept.Meeting.{Meeting}
-use Rattle.room_books.specs.declared.meeting.Given.{Given}
+use Rattle.room_books.specs.declared.meeting.PartAnswer.{PartAnswer}
 use Rattle.room_books.specs.BySlot.{Reordered}
 use Rattle.room_books.specs.Takings.{answers_by, answers_then, held_after, parts_said, IsMade}
 use Rattle.room_books.specs.Views.{same_key}
@@ -26,7 +26,7 @@ returns-clause-after c = λ is_key fit book st meeting is.
 pub returns-clause-replies : goal.returns-clause-replies
 returns-clause-replies c = λ own meeting fit is_own is meets.
     let held = c.held_with-held.ensures ∙ ap (λ (o : Option Meeting). held_after o c.args.more.now) c.get.ensures.value in
-    c.in_ok-reply.ensures c.args.key.now own meeting fit is_own (record { held_is = is.held_is ∙ sym held; answers_are = subst (λ (l : List Given). Reordered (answers_then l c.in_ok-settled.settled.changes) meeting.answers.items) (sym c.answers_before-answers.ensures.are) is.answers_are }) meets
+    c.in_ok-reply.ensures c.args.key.now own meeting fit is_own (record { held_is = is.held_is ∙ sym held; answers_are = subst (λ (l : List PartAnswer). Reordered (answers_then l c.in_ok-settled.settled.changes) meeting.answers.items) (sym c.answers_before-answers.ensures.are) is.answers_are }) meets
 
 pub returns-clause-refreshes : goal.returns-clause-refreshes
 returns-clause-refreshes c = λ before after b a.

@@ -3,7 +3,7 @@ use Rattle.std.specs.List.{Contains}
 use Rattle.std.specs.Prelude.{option_copied}
 use Rattle.itip_order.specs.Parts.{part_of, slot_of}
 use Rattle.profile.specs.rooms.Revisions.{Part}
-use Rattle.room_books.specs.declared.meeting.Given.{Given}
+use Rattle.room_books.specs.declared.meeting.PartAnswer.{PartAnswer}
 use Rattle.room_books.specs.declared.kept.Meeting.{Meeting}
 use Rattle.room_books.specs.BySlot.{givens, left_without, taken_at}
 use Rattle.room_books.specs.Instants.{IsParted, IsSplit}
@@ -32,11 +32,11 @@ returns-clause-kept c =
     let slots_are : c.deref-3.result.now ≡ lost = c.deref-3.ensures.value ∙ sym lost_is in
     let out_is : givens c.deref-4.result.now ≡ taken_at lost answers = ap givens c.deref-4.ensures.value ∙ c.in_ok-out.ensures ∙ (λ i. taken_at (slots_are i) (c.deref-2.ensures.value i)) in
     let some : KeepsSome part slots meeting.held after (taken_at lost answers) left =
-    subst (λ (l : List Given). KeepsSome part slots meeting.held after l left) out_is (subst (λ (held : List Part). KeepsSome part slots held after (givens c.deref-4.result.now) left) c.alone-before.ensures c.in_ok-kept.ensures.left) in
+    subst (λ (l : List PartAnswer). KeepsSome part slots meeting.held after l left) out_is (subst (λ (held : List Part). KeepsSome part slots held after (givens c.deref-4.result.now) left) c.alone-before.ensures c.in_ok-kept.ensures.left) in
     subst (λ (o : Option Meeting). KeepsAll part slots o after (kept_then o lost left)) (sym (ap option_copied c.in-Some.is))
     (keeps_all part slots meeting after lost left some
     (λ given among untouched. subst (λ (held : List Part). IsLeftAlone slots held after part given) c.alone-before.ensures
-    (c.in_ok-lost.ensures.others given (subst (λ (l : List Given). Contains l given) (sym c.deref.ensures.value) among) (sym (ap (λ l. is_touched l (slot_of given.slot)) lost_is) ∙ untouched))))
+    (c.in_ok-lost.ensures.others given (subst (λ (l : List PartAnswer). Contains l given) (sym c.deref.ensures.value) among) (sym (ap (λ l. is_touched l (slot_of given.slot)) lost_is) ∙ untouched))))
 
 pub returns-clause-parted : goal.returns-clause-parted
 returns-clause-parted c =
@@ -46,14 +46,14 @@ returns-clause-parted c =
     let slots_are : c.deref-3.result.now ≡ lost = c.deref-3.ensures.value ∙ sym lost_is in
     let out_is : givens c.deref-4.result.now ≡ taken_at lost answers = ap givens c.deref-4.ensures.value ∙ c.in_ok-out.ensures ∙ (λ i. taken_at (slots_are i) (c.deref-2.ensures.value i)) in
     subst (λ (o : Option Meeting). IsParted (singles_by o) gone (all_singles (kept_then o lost left))) (sym (ap option_copied c.in-Some.is))
-    (whole_parted answers (taken_at lost answers) (left_without lost answers) left gone (re_parts (λ (g : Given). is_touched lost (slot_of g.slot)) answers)
-    (subst (λ (l : List Given). IsSplit (all_singles l) gone (all_singles left)) out_is c.in_ok-kept.ensures.split))
+    (whole_parted answers (taken_at lost answers) (left_without lost answers) left gone (re_parts (λ (g : PartAnswer). is_touched lost (slot_of g.slot)) answers)
+    (subst (λ (l : List PartAnswer). IsSplit (all_singles l) gone (all_singles left)) out_is c.in_ok-kept.ensures.split))
 
 pub returns-in_default-clause-fewer : goal.returns-in_default-clause-fewer
 returns-in_default-clause-fewer c =
     let lost = c.new.result.items in let left = c.new-in_default.result.items in
     subst (λ (o : Option Meeting). AreFewer (series_by o) (all_series (kept_then o lost left))) (sym (ap option_copied c.in_default.is))
-    (subst (λ (l : List Given). AreFewer [] (all_series l)) (sym c.new-in_default.ensures.items) (fewer_none []))
+    (subst (λ (l : List PartAnswer). AreFewer [] (all_series l)) (sym c.new-in_default.ensures.items) (fewer_none []))
 
 pub returns-clause-fewer : goal.returns-clause-fewer
 returns-clause-fewer c =
@@ -63,5 +63,5 @@ returns-clause-fewer c =
     let slots_are : c.deref-3.result.now ≡ lost = c.deref-3.ensures.value ∙ sym lost_is in
     let out_is : givens c.deref-4.result.now ≡ taken_at lost answers = ap givens c.deref-4.ensures.value ∙ c.in_ok-out.ensures ∙ (λ i. taken_at (slots_are i) (c.deref-2.ensures.value i)) in
     subst (λ (o : Option Meeting). AreFewer (series_by o) (all_series (kept_then o lost left))) (sym (ap option_copied c.in-Some.is))
-    (all_fewer answers (taken_at lost answers) (left_without lost answers) left (re_parts (λ (g : Given). is_touched lost (slot_of g.slot)) answers)
-    (subst (λ (l : List Given). AreFewer (all_series l) (all_series left)) out_is c.in_ok-kept.ensures.fewer))
+    (all_fewer answers (taken_at lost answers) (left_without lost answers) left (re_parts (λ (g : PartAnswer). is_touched lost (slot_of g.slot)) answers)
+    (subst (λ (l : List PartAnswer). AreFewer (all_series l) (all_series left)) out_is c.in_ok-kept.ensures.fewer))

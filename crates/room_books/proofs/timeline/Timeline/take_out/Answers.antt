@@ -3,7 +3,7 @@ use Rattle.std.proofs.Common.{ℤ, List, sym, ◌∙◌, subst, rules, w64, Fits
 use Rattle.std.proofs.lemmas.Bool.{true≢false}
 use Rattle.std.proofs.lemmas.Int.{to_z-of_z}
 use Rattle.room_books.specs.declared.timeline.Busy.{Busy}
-use Rattle.room_books.specs.Timelines.{AreBusy, IsPlaceAfter, IsTaken, busy_in}
+use Rattle.room_books.specs.Timelines.{AreBusy, IsPlaceAfter, IsTakenOut, busy_in}
 use Rattle.room_books.proofs.Timelines.{taken_within, taken_busy, taken_out, nothing_out}
 use Rattle.room_books.proofs.timeline.Timeline.take_out.Goals as goal
 
@@ -30,7 +30,7 @@ returns-then-holds_instants-clause-taken c =
     let fits : FitsSigned w64 c.args.single.span.start = search rules in
     let at = subst (λ (t : ℤ). IsPlaceAfter c.args.self.now.busy.items t c.place_after-at.result) (to_z-of_z w64 c.args.single.span.start fits) c.place_after-at.ensures in
     let there = c.requires.held (c.holds_instants.ensures.0 c.if-holds_instants.true) in
-    subst (λ (l : List Busy). IsTaken (busy_in c.args.place c.args.single) c.args.self.now.busy.items l) (sym c.remove.ensures.items)
+    subst (λ (l : List Busy). IsTakenOut (busy_in c.args.place c.args.single) c.args.self.now.busy.items l) (sym c.remove.ensures.items)
     (taken_out c.args.self.now.busy.items (busy_in c.args.place c.args.single) c.args.self.now.apart there c.place_after-at.result at)
 
 pub returns-else-holds_instants-clause-taken : goal.returns-else-holds_instants-clause-taken

@@ -3,7 +3,7 @@ use Rattle.profile.specs.rooms.Rooms as rooms
 use Rattle.room_books.specs.Views.{outcome_of}
 use Rattle.room_books.specs.declared.meeting.Outcome.{Outcome}
 use Rattle.room_books.specs.declared.meeting.Outcome.TheVariants.{Accepted, Declined, Limit}
-use Rattle.room_books.proofs.meeting.Given.decided.Goals as goal
+use Rattle.room_books.proofs.meeting.PartAnswer.decided.Goals as goal
 use Rattle.room_books.specs.contracts.meeting.OutcomeClone.TheImpl.{by_variants}
 
 said : (o p : Outcome) → by_variants o p → outcome_of p ≡ outcome_of o

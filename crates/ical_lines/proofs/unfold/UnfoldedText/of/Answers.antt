@@ -5,7 +5,7 @@ use Rattle.std.proofs.lemmas.Bool.{false≢true}
 use Rattle.profile.specs.text.Lines.{logical_lines, physical_lines, is_continuation}
 use Rattle.ical_lines.proofs.UnfoldLemmas.{lines_of-lent, lines_of-owned}
 use Rattle.ical_lines.proofs.Utf8Lemmas.{text_not_utf8}
-use Rattle.ical_lines.proofs.unfold.Text.of.Goals as goal
+use Rattle.ical_lines.proofs.unfold.UnfoldedText.of.Goals as goal
 
 pub returns-in_default-clause-refuses : goal.returns-in_default-clause-refuses
 returns-in_default-clause-refuses c =

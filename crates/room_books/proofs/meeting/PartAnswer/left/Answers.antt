@@ -3,7 +3,7 @@ use Rattle.room_books.specs.Instants.{Sheds}
 use Rattle.cal_events.specs.declared.instance.Single.{Single}
 use Rattle.itip_order.specs.Parts.{part_of}
 use Rattle.room_books.specs.Takings.{left_beside}
-use Rattle.room_books.proofs.meeting.Given.left.Goals as goal
+use Rattle.room_books.proofs.meeting.PartAnswer.left.Goals as goal
 
 pub returns-clause-left : goal.returns-clause-left
 returns-clause-left c = record {

@@ -3,7 +3,7 @@ use Rattle.ical_lines.specs.Text.{line_text}
 use Rattle.profile.specs.rooms.Messages.{MethodFault, two_methods}
 use Rattle.ical_values.proofs.Exits.{refusal_exit}
 use Rattle.itip_messages.proofs.MessageLemmas.{word_refuses}
-use Rattle.itip_messages.proofs.message.Kind.of.Goals as goal
+use Rattle.itip_messages.proofs.message.Addressee.of.Goals as goal
 
 pub returns-in_err-line-clause-fault : goal.returns-in_err-line-clause-fault
 returns-in_err-line-clause-fault c =

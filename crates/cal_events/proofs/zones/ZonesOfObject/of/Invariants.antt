@@ -1,7 +1,7 @@
 use Rattle.std.proofs.Common.{take}
 use Rattle.ical_tree.specs.Tree.{component_children}
 use Rattle.cal_events.specs.Zones.{AreZonesAmong}
-use Rattle.cal_events.proofs.zones.Zones.of.Given as goal
+use Rattle.cal_events.proofs.zones.ZonesOfObject.of.Given as goal
 
 -- the VTIMEZONEs so far are there
 abbrev pub invariant-loop-child : goal.invariant-loop-child

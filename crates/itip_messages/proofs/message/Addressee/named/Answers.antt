@@ -1,7 +1,7 @@
 use Rattle.std.proofs.Common.{◌≡◌, ℕ, List, true, codes, refl, subst}
 use Rattle.std.proofs.lemmas.Slice.Eq.{bytes_eq-Decides}
 use Rattle.profile.specs.text.Lines.{is_same_name}
-use Rattle.itip_messages.proofs.message.Kind.named.Goals as goal
+use Rattle.itip_messages.proofs.message.Addressee.named.Goals as goal
 
 -- the edit `a_reply_is_a_store` is refused at once by it
 pub returns-then-eq_ignore_ascii_case-4-clause-named : goal.returns-then-eq_ignore_ascii_case-4-clause-named

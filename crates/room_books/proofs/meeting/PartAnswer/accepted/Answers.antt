@@ -2,7 +2,7 @@ use Rattle.std.proofs.Common.{refl, subst, ◌∙◌, ap}
 use Rattle.room_books.specs.Instants.{IsPartOf}
 use Rattle.itip_order.specs.Parts.{part_of}
 use Rattle.room_books.specs.Takings.{left_in}
-use Rattle.room_books.proofs.meeting.Given.accepted.Goals as goal
+use Rattle.room_books.proofs.meeting.PartAnswer.accepted.Goals as goal
 
 pub returns : goal.returns
 returns c = record {

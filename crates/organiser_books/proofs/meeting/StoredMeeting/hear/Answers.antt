@@ -5,19 +5,19 @@ use Rattle.std.specs.Map.{keys_of, lookup}
 use Rattle.std.proofs.lemmas.Bool.{not-false, both_ways, eq-eqb}
 use Rattle.indexmap.specs.IndexMap.{keys}
 use Rattle.ical_values.specs.Octets.{address_octets}
-use Rattle.profile.specs.events.Events as events
+use Rattle.profile.specs.events.EventComponents as events
 use Rattle.profile.specs.organisers.Organisers.{Heard}
 use Rattle.cal_events.specs.Events.{attendee_of}
 use Rattle.profile.specs.rooms.Revisions.{Revision}
 use Rattle.itip_order.specs.Parts.{slot_of, revision_of}
-use Rattle.organiser_books.specs.declared.answers.Answer.{Answer}
+use Rattle.organiser_books.specs.declared.answers.AttendeeAnswer.{AttendeeAnswer}
 use Rattle.organiser_books.specs.declared.answers.AnswerKey.{AnswerKey}
-use Rattle.organiser_books.specs.Answers.{key_at, later_answer, same_key}
+use Rattle.organiser_books.specs.Answers.{answer_key_at, later_answer, same_answer_key}
 use Rattle.organiser_books.specs.Attending.{attendance_of}
 use Rattle.organiser_books.specs.Representation.{heard_by, is_unknown, AreSeen}
 use Rattle.organiser_books.proofs.Lines.{same_itself}
 use Rattle.organiser_books.proofs.Hearing.{first_line, heard_new, heard_other, Seen}
-use Rattle.organiser_books.proofs.meeting.Meeting.hear.Goals as goal
+use Rattle.organiser_books.proofs.meeting.StoredMeeting.hear.Goals as goal
 
 pub returns-in_default-get_index_of-clause-seen : goal.returns-in_default-get_index_of-clause-seen
 returns-in_default-get_index_of-clause-seen c = λ stored replies revision seen known.
@@ -37,9 +37,9 @@ returns-clause-seen c = λ stored replies revision seen known.
     let h : Heard = record { uid = stored.uid; attendee = (attendee_of attendee).address; slot = slot_of component.slot; revision = revision_of component.revision; answer = (attendee_of attendee).participation } in
     let now : (component.revision.sequence == stored.revision.sequence) ≡ true =
     ap (λ (r : Revision). component.revision.sequence == r.sequence) (sym revision) ∙ not-false _ (sym c.ne.ensures ∙ c.if-ne.false) in
-    let answer : Answer = record { stamp = component.revision.stamp; status = attendee.status } in
-    let more : (other : AnswerKey) → lookup (same_key other) c.put.new.answers.entries ≡ cond (same_key (key_at place h.slot) other) (Some (later_answer (lookup (same_key (key_at place h.slot)) answers) answer)) (lookup (same_key other) answers) =
-    λ other. c.put.ensures.put other ∙ ap (λ (k : AnswerKey). cond (same_key k other) (Some (later_answer (lookup (same_key k) answers) answer)) (lookup (same_key other) answers)) c.at.ensures in
+    let answer : AttendeeAnswer = record { stamp = component.revision.stamp; status = attendee.status } in
+    let more : (other : AnswerKey) → lookup (same_answer_key other) c.put.new.answers.entries ≡ cond (same_answer_key (answer_key_at place h.slot) other) (Some (later_answer (lookup (same_answer_key (answer_key_at place h.slot)) answers) answer)) (lookup (same_answer_key other) answers) =
+    λ other. c.put.ensures.put other ∙ ap (λ (k : AnswerKey). cond (same_answer_key k other) (Some (later_answer (lookup (same_answer_key k) answers) answer)) (lookup (same_answer_key other) answers)) c.at.ensures in
     subst (λ (l : List events.Attendee). Seen keys stored (replies ++ heard_by stored.uid component l) c.put.new.answers.entries) (sym line.1)
     (heard_new keys stored replies attendee.address h place answer answers c.put.new.answers.entries (same_itself stored.uid) now (sym c.in-Some-get_index_of.ensures.index)
     (record { stamp = refl; status = refl }) more seen)
