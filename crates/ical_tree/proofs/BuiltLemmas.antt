@@ -4,7 +4,7 @@ use Rattle.std.proofs.lemmas.List.{append_assoc, append-nil, reverse-append, len
 use Rattle.std.proofs.lemmas.Bool.{not-true, false≢true}
 use Rattle.profile.specs.text.Lines.{line_value, is_same_name}
 use Rattle.profile.specs.text.Objects.{Opens, Closes, is_begin, is_none, is_property, is_end, is_calendar_name, may_begin}
-use Rattle.profile.specs.text.Objects.SpellsBody.{nothing, property, component}
+use Rattle.ical_tree.specs.Tree.SpellsParts.{nothing, property, component}
 use Rattle.ical_tree.specs.declared.component.Component.{Component}
 use Rattle.ical_tree.specs.Tree.{component_name, component_lines, component_children, SpellsParts}
 use Rattle.ical_tree.specs.Reading.{Built, Open, open_of, with_lines, open_names}

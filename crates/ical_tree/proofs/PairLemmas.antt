@@ -8,6 +8,7 @@ use Rattle.std.proofs.Math.Bool.{and-false}
 use Rattle.profile.specs.text.Lines.{line_name, line_value, is_same_name}
 use Rattle.profile.specs.text.Objects.{is_begin, is_end, is_property, Opens, Closes, SpellsBody, is_none, now_open, opened_from, misplaced, misplaced_begin, misplaced_end, misplaced_property, is_calendar_name, fits, some_misplaced, all_fit}
 use Rattle.profile.specs.text.Objects.SpellsBody.{nothing, property, component}
+use Rattle.profile.specs.text.Trees.{Tree, tree_name}
 
 abbrev Lines : Type 0
 Lines = List (List ℕ)
@@ -154,12 +155,12 @@ stays_whole name begin end inner o c k stack =
     ap (λ s. opened_from s (inner ++ end ∷ [])) (now_begin stack begin name o)
     ∙ (opened-append (name ∷ stack) inner (end ∷ []) ∙ (ap (λ s. now_open s end) (k (name ∷ stack)) ∙ now_end (name ∷ stack) end name c))
 
-pub stays : {T : Type 0} {name : T → List ℕ} {own : T → Lines} {inside : T → List T} {depth : ℕ} {lines : Lines} {parts : List T} {body : Lines} → SpellsBody name own inside depth lines parts body → Stays body
+pub stays : {depth : ℕ} {lines : Lines} {parts : List Tree} {body : Lines} → SpellsBody depth lines parts body → Stays body
 stays nothing = λ stack. refl
 stays (property {body = body} line h b) = λ stack.
     opened-append stack body (line ∷ []) ∙ (ap (λ s. now_open s line) (stays b stack) ∙ now_property stack line h)
-stays {name = name} (component {body = body} part begin end inner v o e b rest) = λ stack.
-    opened-append stack body (begin ∷ (inner ++ end ∷ [])) ∙ (ap (λ s. opened_from s (begin ∷ (inner ++ end ∷ []))) (stays rest stack) ∙ stays_whole (name part) begin end inner o e (stays b) stack)
+stays (component {body = body} part begin end inner v o e b rest) = λ stack.
+    opened-append stack body (begin ∷ (inner ++ end ∷ [])) ∙ (ap (λ s. opened_from s (begin ∷ (inner ++ end ∷ []))) (stays rest stack) ∙ stays_whole (tree_name part) begin end inner o e (stays b) stack)
 
 pub fine_whole : (n : ℕ) (stack : Lines) (started : Bool) (name begin end : List ℕ) (inner : Lines) → Opens begin name → Closes end name → Stays inner
     → misplaced n stack started begin ≡ false → any_misplaced n (name ∷ stack) true inner ≡ false → any_misplaced n stack started (begin ∷ (inner ++ end ∷ [])) ≡ false
@@ -168,12 +169,12 @@ fine_whole n stack started name begin end inner o c k m f =
     let rest : any_misplaced n (name ∷ stack) true (inner ++ end ∷ []) ≡ false = fine-append n (name ∷ stack) inner (end ∷ []) f (ap (λ s. any_misplaced n s true (end ∷ [])) (k (name ∷ stack)) ∙ last) in
     or_from (misplaced n stack started begin) (any_misplaced n (now_open stack begin) true (inner ++ end ∷ [])) m (ap (λ s. any_misplaced n s true (inner ++ end ∷ [])) (now_begin stack begin name o) ∙ rest)
 
-pub fine : {T : Type 0} {name : T → List ℕ} {own : T → Lines} {inside : T → List T} {depth : ℕ} {lines : Lines} {parts : List T} {body : Lines} → SpellsBody name own inside depth lines parts body → (n : ℕ) (x : List ℕ) (stack : Lines) → length stack + depth ≤ 7 → any_misplaced n (x ∷ stack) true body ≡ false
+pub fine : {depth : ℕ} {lines : Lines} {parts : List Tree} {body : Lines} → SpellsBody depth lines parts body → (n : ℕ) (x : List ℕ) (stack : Lines) → length stack + depth ≤ 7 → any_misplaced n (x ∷ stack) true body ≡ false
 fine nothing = λ n x stack h. refl
 fine (property {body = body} line p b) = λ n x stack h.
     let last : any_misplaced n (x ∷ stack) true (line ∷ []) ≡ false = or_from (misplaced n (x ∷ stack) true line) false (fine_property n x stack line p) refl in
     fine-append n (x ∷ stack) body (line ∷ []) (fine b n x stack h) (ap (λ s. any_misplaced n s true (line ∷ [])) (stays b (x ∷ stack)) ∙ last)
-fine {name = name} (component {body = body} part begin end inner v o e b rest) = λ n x stack h.
-    let within : any_misplaced n (name part ∷ x ∷ stack) true inner ≡ false = fine b n (name part) (x ∷ stack) (omega arith) in
-    let last : any_misplaced n (x ∷ stack) true (begin ∷ (inner ++ end ∷ [])) ≡ false = fine_whole n (x ∷ stack) true (name part) begin end inner o e (stays b) (fine_begin n x stack true begin (name part) v o (omega arith)) within in
+fine (component {body = body} part begin end inner v o e b rest) = λ n x stack h.
+    let within : any_misplaced n (tree_name part ∷ x ∷ stack) true inner ≡ false = fine b n (tree_name part) (x ∷ stack) (omega arith) in
+    let last : any_misplaced n (x ∷ stack) true (begin ∷ (inner ++ end ∷ [])) ≡ false = fine_whole n (x ∷ stack) true (tree_name part) begin end inner o e (stays b) (fine_begin n x stack true begin (tree_name part) v o (omega arith)) within in
     fine-append n (x ∷ stack) body (begin ∷ (inner ++ end ∷ [])) (fine rest n x stack h) (ap (λ s. any_misplaced n s true (begin ∷ (inner ++ end ∷ []))) (stays rest (x ∷ stack)) ∙ last)

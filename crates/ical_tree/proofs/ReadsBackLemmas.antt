@@ -12,7 +12,8 @@ use Rattle.std.proofs.lemmas.List.Folds.{list_all-append}
 use Rattle.std.proofs.lemmas.Str.{IsUtf8-from_ascii, is_utf8-from_IsUtf8, IsUtf8-from_is_utf8, IsUtf8-drop, IsUtf8-nil, IsCharBoundary-after_ascii}
 use Rattle.std.proofs.lemmas.Str.Ascii.{IsAscii-cons, IsAscii-nil}
 use Rattle.profile.specs.text.Lines.{outside_from, outside, line_value, is_same_name, is_control, has_control, lacks_colon, has_bad_name, has_bad_quote, is_faulty, is_content, logical_lines, reads_as_lines}
-use Rattle.profile.specs.text.Objects.{nothing, property, component, is_property, Opens, Closes, has_version}
+use Rattle.profile.specs.text.Objects.{is_property, Opens, Closes, has_version}
+use Rattle.ical_tree.specs.Tree.SpellsParts.{nothing, property, component}
 use Rattle.profile.specs.text.Trees.{tree_own}
 use Rattle.ical_lines.proofs.ContentLemmas.{lines_back, lines_fine, read_content, read_fine}
 use Rattle.ical_lines.proofs.ReadBackLemmas.{property_utf8}

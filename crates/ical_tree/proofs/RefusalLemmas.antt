@@ -11,6 +11,7 @@ use Rattle.ical_tree.specs.declared.component.Component.{Component}
 use Rattle.ical_tree.specs.Tree.{component_name}
 use Rattle.ical_tree.specs.Reading.{Built, Open, open_of, IsRefusalOf, TreeHas, SpellsOf, IsCalendar, open_names, with_lines}
 use Rattle.ical_tree.proofs.BuiltLemmas.{outermost, opens, names-with}
+use Rattle.ical_tree.proofs.TreeOfLemmas.{body_tree}
 use Rattle.ical_tree.proofs.PairLemmas.{opened-append, any_misplaced, after, after_first, none-append, all_fit_from, found_later, now_begin, fine_begin, fine_first, stays_whole, stays, fine_whole, fine}
 
 -- ---- BEGIN of a component that may not begin here
@@ -49,14 +50,14 @@ is_none-push (l ∷ lines) line = refl
 
 pub built_opened : (cs : List Open) (closed : Option Component) (done : List (List ℕ)) → Built cs closed done → opened done ≡ open_names cs
 built_opened [] None done b = ap opened b
-built_opened [] (Some c) done b = ap opened b.0.are ∙ stays_whole (component_name c) b.0.begin b.0.end b.0.body b.0.opens b.0.closes (stays b.0.holds) []
+built_opened [] (Some c) done b = ap opened b.0.are ∙ stays_whole (component_name c) b.0.begin b.0.end b.0.body b.0.opens b.0.closes (stays (body_tree b.0.holds)) []
 built_opened (c ∷ around) closed done b =
     let o = b.1 in
     ap opened o.are
     ∙ (opened-append [] b.0 (o.begin ∷ o.body)
     ∙ (ap (λ s. opened_from s (o.begin ∷ o.body)) (built_opened around closed b.0 b.2)
     ∙ (ap (λ s. opened_from s o.body) (now_begin (open_names around) o.begin c.name o.opens)
-    ∙ stays o.holds (c.name ∷ open_names around))))
+    ∙ stays (body_tree o.holds) (c.name ∷ open_names around))))
 
 begin_fits : (n : ℕ) (c : Open) (around : List Open) (closed : Option Component) (before : List (List ℕ)) (begin : List ℕ) → Opens begin c.name → length around ≤ 7 → may_begin (open_names around) (is_some closed) c.name ≡ true → Built around closed before → misplaced n (open_names around) (after false before) begin ≡ false
 begin_fits n c [] None before begin o l h b = ap (λ ls. misplaced n [] (after false ls) begin) b ∙ fine_first n begin c.name o (outermost None (is_calendar_name c.name) h).1
@@ -69,12 +70,12 @@ built_none : (n : ℕ) (cs : List Open) (closed : Option Component) (done : List
 built_none n [] None done b = ap (any_misplaced n [] false) b
 built_none n [] (Some c) done b =
     let s = b.0 in
-    ap (any_misplaced n [] false) s.are ∙ fine_whole n [] false (component_name c) s.begin s.end s.body s.opens s.closes (stays s.holds) (fine_first n s.begin (component_name c) s.opens b.1) (fine s.holds n (component_name c) [] (omega arith))
+    ap (any_misplaced n [] false) s.are ∙ fine_whole n [] false (component_name c) s.begin s.end s.body s.opens s.closes (stays (body_tree s.holds)) (fine_first n s.begin (component_name c) s.opens b.1) (fine (body_tree s.holds) n (component_name c) [] (omega arith))
 built_none n (c ∷ around) closed done b =
     let o = b.1 in
     let l = b.3 in
     let deep : length (open_names around) + (7 - length around) ≤ 7 = omega (arith, length-map around (λ c. c.name)) in
-    let inner : any_misplaced n (now_open (open_names around) o.begin) true o.body ≡ false = ap (λ s. any_misplaced n s true o.body) (now_begin (open_names around) o.begin c.name o.opens) ∙ fine o.holds n c.name (open_names around) deep in
+    let inner : any_misplaced n (now_open (open_names around) o.begin) true o.body ≡ false = ap (λ s. any_misplaced n s true o.body) (now_begin (open_names around) o.begin c.name o.opens) ∙ fine (body_tree o.holds) n c.name (open_names around) deep in
     let here : any_misplaced n (open_names around) (after false b.0) (o.begin ∷ o.body) ≡ false = or_from (misplaced n (open_names around) (after false b.0) o.begin) (any_misplaced n (now_open (open_names around) o.begin) true o.body) (begin_fits n c around closed b.0 o.begin o.opens l b.4 b.2) inner in
     ap (any_misplaced n [] false) o.are
     ∙ none-append n [] false b.0 (o.begin ∷ o.body) (built_none n around closed b.0 b.2) (ap (λ s. any_misplaced n s (after false b.0) (o.begin ∷ o.body)) (built_opened around closed b.0 b.2) ∙ here)

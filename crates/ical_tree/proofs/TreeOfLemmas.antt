@@ -3,11 +3,13 @@ use Rattle.std.proofs.Common.{◌≡◌, ℕ, ◌+◌, suc, Bool, nat_lt, ◌&&�
 use Rattle.std.specs.Prelude.{count_by}
 use Rattle.std.proofs.lemmas.List.{map-append}
 use Rattle.profile.specs.text.Lines.{is_same_name}
-use Rattle.profile.specs.text.Objects.{SpellsBody, nothing, property, component, is_calendar_name, Opens, Closes, SpellsTree, IsObject, has_version, count_inside}
+use Rattle.profile.specs.text.Objects.{SpellsBody, is_calendar_name, Opens, Closes, SpellsTree, IsObject, has_version, count_inside}
+use Rattle.profile.specs.text.Objects.SpellsBody.{nothing as no_tree, property as tree_property, component as tree_component}
 use Rattle.profile.specs.text.Trees.{Tree, tree, trees_list, tree_name, tree_own, tree_inside}
 use Rattle.ical_tree.specs.declared.component.Component.{Component}
 use Rattle.ical_tree.specs.declared.component.Component.TheFolds.{fold_out-Component}
 use Rattle.ical_tree.specs.Tree.{component_name, component_lines, component_children, IsObjectOf, trees_of, tree_step, tree_of, SpellsParts, count_children}
+use Rattle.ical_tree.specs.Tree.SpellsParts.{nothing, property, component}
 use Rattle.ical_tree.specs.Reading.{SpellsOf}
 
 abbrev Lines : Type 0
@@ -46,12 +48,12 @@ holds_tree : (depth : ℕ) (c : Component) (body : Lines) → BodyT depth (compo
 holds_tree depth c body b =
     subst (λ (own : Lines). BodyT depth own (tree_inside (tree_of c)) body) (sym (tree_of-own c)) (subst (λ (ts : List Tree). BodyT depth (component_lines c) ts body) (sym (tree_of-inside c)) b)
 
-body_tree : {depth : ℕ} {own : Lines} {parts : List Component} {body : Lines} → SpellsParts depth own parts body → BodyT depth own (map tree_of parts) body
-body_tree nothing = nothing
-body_tree (property line h b) = property line h (body_tree b)
+pub body_tree : {depth : ℕ} {own : Lines} {parts : List Component} {body : Lines} → SpellsParts depth own parts body → BodyT depth own (map tree_of parts) body
+body_tree nothing = no_tree
+body_tree (property line h b) = tree_property line h (body_tree b)
 body_tree (component {depth = d} {lines = own} {parts = ps} {body = body} part begin end inner v o e b rest) =
     subst (λ (ts : List Tree). BodyT (suc d) own ts (body ++ begin ∷ (inner ++ end ∷ []))) (sym (map-append tree_of ps (part ∷ [])))
-    (component (tree_of part) begin end inner (ap is_calendar_name (tree_of-name part) ∙ v) (opens_tree begin part o) (closes_tree end part e) (holds_tree d part inner (body_tree b)) (body_tree rest))
+    (tree_component (tree_of part) begin end inner (ap is_calendar_name (tree_of-name part) ∙ v) (opens_tree begin part o) (closes_tree end part e) (holds_tree d part inner (body_tree b)) (body_tree rest))
 
 pub spells_tree : (depth : ℕ) (c : Component) (lines : Lines) → SpellsOf depth c lines → SpellsT depth (tree_of c) lines
 spells_tree depth c lines s = record {

@@ -1,9 +1,9 @@
 -- The tree of components that a list of lines spells (RFC 5545 3.4, 3.6).
--- A component is anything that shows its name, its own lines, and the components inside it.
 use Rattle.std.specs.Prelude.{◌≡◌, ◌⊎◌, ℕ, suc, Bool, true, false, not, ◌&&◌, ◌||◌, ◌==◌, nat_le, nat_lt, List, [], ◌∷◌, ◌++◌, length, take, drop, filter, count_by, codes, if◌then◌else◌}
 use Rattle.std.specs.List.{slice_split, join_with_byte, list_any}
 use Rattle.std.specs.Str.{bytes_eq, str_to_ascii_lowercase}
 use Rattle.profile.specs.text.Lines.{line_name, line_value, is_same_name, is_continuation, is_filled, physical_lines, unfolded, logical_lines, without_mark, without_return}
+use Rattle.profile.specs.text.Trees.{Tree, tree_name, tree_own, tree_inside}
 
 abbrev pub is_begin : List ℕ → Bool
 is_begin line = is_same_name (line_name line) (codes "BEGIN")
@@ -110,34 +110,37 @@ abbrev pub lines_have : ℕ → List (List ℕ) → Bool
 lines_have number lines =
     some_misplaced number [] false lines || (number == 21 && (all_fit [] false lines && not (is_none (opened lines)))) || (number == 23 && is_none lines)
 
-module _ {T : Type 0} (name : T → List ℕ) (own : T → List (List ℕ)) (inside : T → List T) where
-  -- `body` spells these properties and components, each in their order, components at most `depth` deep and none a VCALENDAR
-  pub data SpellsBody : ℕ → List (List ℕ) → List T → List (List ℕ) → Type 0 where
-    nothing : {depth : ℕ} → SpellsBody depth [] [] []
-    property : {depth : ℕ} {lines : List (List ℕ)} {parts : List T} {body : List (List ℕ)} (line : List ℕ) → is_property line ≡ true → SpellsBody depth lines parts body → SpellsBody depth (lines ++ line ∷ []) parts (body ++ line ∷ [])
-    component : {depth : ℕ} {lines : List (List ℕ)} {parts : List T} {body : List (List ℕ)} (part : T) (begin end : List ℕ) (inner : List (List ℕ)) → is_calendar_name (name part) ≡ false → Opens begin (name part) → Closes end (name part) → SpellsBody depth (own part) (inside part) inner → SpellsBody (suc depth) lines parts body → SpellsBody (suc depth) lines (parts ++ part ∷ []) (body ++ begin ∷ (inner ++ end ∷ []))
+-- `body` spells these properties and components, each in their order, components at most `depth` deep and none a VCALENDAR
+pub data SpellsBody : ℕ → List (List ℕ) → List Tree → List (List ℕ) → Type 0 where
+  nothing : {depth : ℕ} → SpellsBody depth [] [] []
+  property : {depth : ℕ} {lines : List (List ℕ)} {parts : List Tree} {body : List (List ℕ)} (line : List ℕ)
+      → is_property line ≡ true → SpellsBody depth lines parts body → SpellsBody depth (lines ++ line ∷ []) parts (body ++ line ∷ [])
+  component : {depth : ℕ} {lines : List (List ℕ)} {parts : List Tree} {body : List (List ℕ)} (part : Tree) (begin end : List ℕ) (inner : List (List ℕ))
+      → is_calendar_name (tree_name part) ≡ false → Opens begin (tree_name part) → Closes end (tree_name part)
+      → SpellsBody depth (tree_own part) (tree_inside part) inner → SpellsBody (suc depth) lines parts body
+      → SpellsBody (suc depth) lines (parts ++ part ∷ []) (body ++ begin ∷ (inner ++ end ∷ []))
 
-  -- the lines spell the component: its BEGIN, its body, its END
-  pub record SpellsTree (depth : ℕ) (whole : T) (lines : List (List ℕ)) : Type 0 where
-    pub begin : List ℕ
-    pub end : List ℕ
-    pub body : List (List ℕ)
-    pub are : lines ≡ begin ∷ (body ++ end ∷ [])
-    pub opens : Opens begin (name whole)
-    pub closes : Closes end (name whole)
-    pub holds : SpellsBody depth (own whole) (inside whole) body
+-- the lines spell the component: its BEGIN, its body, its END
+pub record SpellsTree (depth : ℕ) (whole : Tree) (lines : List (List ℕ)) : Type 0 where
+  pub begin : List ℕ
+  pub end : List ℕ
+  pub body : List (List ℕ)
+  pub are : lines ≡ begin ∷ (body ++ end ∷ [])
+  pub opens : Opens begin (tree_name whole)
+  pub closes : Closes end (tree_name whole)
+  pub holds : SpellsBody depth (tree_own whole) (tree_inside whole) body
 
-  -- how many components of this name are directly inside
-  abbrev pub count_inside : List ℕ → T → ℕ
-  count_inside kind whole = count_by (λ part. is_same_name (name part) kind) (inside whole)
+-- how many components of this name are directly inside
+abbrev pub count_inside : List ℕ → Tree → ℕ
+count_inside name whole = count_by (λ part. is_same_name (tree_name part) name) (tree_inside whole)
 
-  -- the lines spell one VCALENDAR, with components nested at most 8 deep, and one VERSION, which is `2.0`
-  -- (RFC 5545 3.4, 3.7.4); 8 deep is the whole and 7 inside it. The depth is this profile's choice
-  pub record IsObject (bounded : Bool) (whole : T) (lines : List (List ℕ)) : Type 0 where
-    pub spelled : SpellsTree 7 whole lines
-    pub calendar : is_calendar_name (name whole) ≡ true
-    pub version : has_version (own whole) ≡ true
-    pub events : (bounded && nat_lt most_events (count_inside (codes "VEVENT") whole)) ≡ false
+-- the lines spell one VCALENDAR, with components nested at most 8 deep, and one VERSION, which is `2.0`
+-- (RFC 5545 3.4, 3.7.4); 8 deep is the whole and 7 inside it. The depth is this profile's choice
+pub record IsObject (bounded : Bool) (whole : Tree) (lines : List (List ℕ)) : Type 0 where
+  pub spelled : SpellsTree 7 whole lines
+  pub calendar : is_calendar_name (tree_name whole) ≡ true
+  pub version : has_version (tree_own whole) ≡ true
+  pub events : (bounded && nat_lt most_events (count_inside (codes "VEVENT") whole)) ≡ false
 
 -- ---- the cut of a stream into objects; where an object ends is this profile's choice
 
