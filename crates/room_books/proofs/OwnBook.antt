@@ -8,7 +8,7 @@ use Rattle.profile.specs.rooms.Messages.{Outcome}
 use Rattle.std.proofs.lemmas.Bool.{and_parts, both_ways, false_from_ne_true}
 use Rattle.itip_order.proofs.Order.{is_eq_true}
 use Rattle.profile.specs.rooms.Revisions.{Part, in_view, is_whole, same_meeting, meeting_cmp}
-use Rattle.profile.specs.rooms.Rooms.{Claim, PartAnswer, Book, Withdrawn, Repeated, Stale, kind_of, kind_of_outcome, is_fresh, is_same, is_set, lacks_whole, wants_whole, parts_of, asked, answered}
+use Rattle.profile.specs.rooms.Rooms.{Claim, PartAnswer, Book, Cancelled, Repeated, Stale, kind_of, kind_of_outcome, is_fresh, is_same, is_set, lacks_whole, wants_whole, parts_of, asked, answered}
 use Rattle.room_books.specs.declared.meeting.MeetingKey.{MeetingKey}
 use Rattle.room_books.specs.declared.kept.Meeting.{Meeting}
 use Rattle.room_books.specs.Representation.{is_of_meeting, of_meeting, answers_of, book_of, book_after, AreFitting, IsOwn, Represents}
@@ -36,7 +36,7 @@ kind_same : (before after before' after' : List Part) (claims : List Claim) (out
     → list_any (is_same before after) (parts_of claims) ≡ list_any (is_same before' after') (parts_of claims) → kind_of before after claims outcome ≡ kind_of before' after' claims outcome
 kind_same before after before' after' [] outcome a f s = refl
 kind_same before after before' after' (c ∷ cs) outcome a f s =
-    λ i. if nat_lt 0 (length (a i)) then kind_of_outcome outcome else (if f i then Withdrawn else (if s i then Repeated else Stale))
+    λ i. if nat_lt 0 (length (a i)) then kind_of_outcome outcome else (if f i then Cancelled else (if s i then Repeated else Stale))
 
 -- the wholes of a part's meeting are among the parts of that meeting
 wholes_own : (k : MeetingKey) (h : List Part) (p : Part) → is_of_meeting k p ≡ true → list_any (λ other. is_whole other && same_meeting other p) (of_meeting k h) ≡ list_any (λ other. is_whole other && same_meeting other p) h

@@ -41,9 +41,9 @@ use Rattle.itip_messages.specs.BodyTexts.{content_in}
 abbrev pub kind_view : Kind → rooms.Kind
 kind_view kind.Accepted = rooms.Accepted
 kind_view (kind.Declined clash) = rooms.Declined (owned_key_of clash.first) (owned_key_of clash.second) clash.instant
-kind_view (kind.Limit limits.Series) = rooms.SeriesSpent
-kind_view (kind.Limit limits.Singles) = rooms.SinglesSpent
-kind_view kind.Cancelled = rooms.Withdrawn
+kind_view (kind.Limit limits.Series) = rooms.Limit rooms.Series
+kind_view (kind.Limit limits.Singles) = rooms.Limit rooms.Singles
+kind_view kind.Cancelled = rooms.Cancelled
 kind_view kind.Repeated = rooms.Repeated
 kind_view kind.Stale = rooms.Stale
 kind_view kind.NotAddressed = rooms.NotAddressed

@@ -6,7 +6,8 @@ use Rattle.std.specs.declared.cmp.Ordering.TheVariants.{Less}
 use Rattle.profile.specs.checker.Instances.{Key, Instance, AreClashing, AreClear, instance_cmp}
 use Rattle.profile.specs.events.Events.{Event}
 use Rattle.profile.specs.events.Starts.{IsInstance}
-use Rattle.profile.specs.rooms.Revisions.{Part, Body, At, Set, Absent, Cancelled, in_view, is_whole, same_meeting, same_part, same_place}
+use Rattle.profile.specs.rooms.Revisions.{Part, Body, At, in_view, is_whole, same_meeting, same_part, same_place}
+use Rattle.profile.specs.rooms.Revisions as revisions
 use Rattle.profile.specs.rooms.Messages.{Content, Outcome, Accept, Busy, SeriesLimit, SinglesLimit}
 
 -- ---- what a room keeps
@@ -105,9 +106,9 @@ lacks_whole taken part = not (list_any (λ other. is_whole other && same_meeting
 
 -- the part is to take place
 abbrev pub is_set_body : Body → Bool
-is_set_body (Set octets) = true
-is_set_body Absent = false
-is_set_body Cancelled = false
+is_set_body (revisions.Set octets) = true
+is_set_body revisions.Absent = false
+is_set_body revisions.Cancelled = false
 
 abbrev pub is_set : Part → Bool
 is_set part = is_set_body part.body
@@ -183,12 +184,16 @@ Runs before (d ∷ ds) after = (mid : Book) × (outcome : Outcome) × IsStep bef
 
 -- ---- what became of a message
 
+-- which limit of a room a message would pass
+pub data LimitKind : Type 0 where
+  Series : LimitKind
+  Singles : LimitKind
+
 pub data Kind : Type 0 where
   Accepted : Kind
   Declined : Key → Key → ℤ → Kind
-  SeriesSpent : Kind
-  SinglesSpent : Kind
-  Withdrawn : Kind
+  Limit : LimitKind → Kind
+  Cancelled : Kind
   Repeated : Kind
   Stale : Kind
   NotAddressed : Kind
@@ -196,15 +201,15 @@ pub data Kind : Type 0 where
 abbrev pub kind_of_outcome : Outcome → Kind
 kind_of_outcome Accept = Accepted
 kind_of_outcome (Busy a b t) = Declined a b t
-kind_of_outcome SeriesLimit = SeriesSpent
-kind_of_outcome SinglesLimit = SinglesSpent
+kind_of_outcome SeriesLimit = Limit Series
+kind_of_outcome SinglesLimit = Limit Singles
 
--- decided where a part was asked; else withdrawn where a part is fresh, repeated where one is the same, stale where none is
+-- decided where a part was asked; else cancelled where a part is fresh, repeated where one is the same, stale where none is
 abbrev pub kind_of : List Part → List Part → List Claim → Outcome → Kind
 kind_of before after [] outcome = NotAddressed
 kind_of before after (c ∷ cs) outcome =
     if nat_lt 0 (length (asked before after (c ∷ cs))) then kind_of_outcome outcome
-    else (if list_any (is_fresh before after) (parts_of (c ∷ cs)) then Withdrawn
+    else (if list_any (is_fresh before after) (parts_of (c ∷ cs)) then Cancelled
     else (if list_any (is_same before after) (parts_of (c ∷ cs)) then Repeated else Stale))
 
 -- the parts that a reply shows: in the view after, and to take place
