@@ -1,11 +1,10 @@
-"""Counts what has to be read of the definitions: for each path, the definitions of profile that its names use, file by file.
+"""Counts what has to be read to believe a clause of a call: the clause, and the definitions that its names use, file by file.
 
-    python3 bench/reading_paths.py [FILE.name ..]
+    python3 bench/reading_paths.py [CRATE/src/FILE.rt.FUNCTION.CLAUSE ..]
 
-where FILE is as in `streams/Streams`.
-
-Without names: the three paths of docs/DEFINITIONS.md, a line a file, in the order in which the files use each other. A definition is a block
-between empty lines, its comment with it; it uses the names of profile that its text has. Lines that are empty, and imports, aren't counted.
+Without names: the paths of docs/DEFINITIONS.md, a line a file. Followed are the names of `specs/` of every crate of the repository: those of
+`profile`, and the *representation specs*, by which a crate says what its values represent. A definition is a block between empty lines, its
+comment with it. Not followed are std, and Rust's own types. Lines that are empty, and imports, aren't counted.
 """
 
 import re
@@ -14,75 +13,127 @@ from pathlib import Path
 
 from repository import ROOT
 
-SPECS = ROOT / "crates" / "profile" / "specs"
-IMPORT = re.compile(r"^use Rattle\.profile\.specs\.([\w.]+)\.\{([^}]*)\}", re.MULTILINE)
+CRATES = ROOT / "crates"
+IMPORT = re.compile(r"^\s*(?:ghost |pub )*use Rattle\.(\w+)\.specs\.([\w.]+?)(?:\.\{([^}]*)\}| as (\w+));?\s*$", re.MULTILINE)
 # in a module with parameters a definition is indented
-DEFINED = re.compile(r"^ *(?:pub )?(?:abbrev|data|record)(?: pub)? (\w+)", re.MULTILINE)
+DEFINED = re.compile(r"^ *(?:pub )?(?:abbrev|unfoldable|data|record)(?: pub)? ([^\s:({]+)", re.MULTILINE)
 CONSTRUCTOR = re.compile(r"^ +(\w+) :", re.MULTILINE)
-WORD = re.compile(r"[A-Za-z_]\w*")
+WORD = re.compile(r"(?:([A-Za-z_]\w*)\.)?([A-Za-z_][\w-]*)")
 
 PATHS = {
-    "the checker's yes": ["Headline.YesMeansFree"],
-    "the headline": ["Headline.KeptTextsPass", "Headline.YesMeansFree", "Headline.AcceptedWhereClear"],
-    "all of what serve writes": ["streams/Streams.AnswersStream", "faults/First.text_fault"],
+    "the checker's yes": ["clash_check/src/checking.rt.check.free"],
+    "the headline": [
+        "room_books/src/room.rt.kept.passes",
+        "room_books/src/room.rt.kept.spells",
+        "clash_check/src/checking.rt.check.free",
+        "room_books/src/room.rt.take.accepted",
+        "room_books/src/room.rt.take.declined",
+    ],
+    "all of what serve writes": ["sched_box/src/serving.rt.serve_stream.whole"],
 }
 
 
+def imports(text):
+    """Where the names of a file come from: those that it names, and those behind the name of a module."""
+    names, modules = {}, {}
+    for crate, module, listed, alias in IMPORT.findall(text):
+        where = (crate, module.replace(".", "/"))
+        if alias:
+            modules[alias] = where
+        for item in filter(None, (it.strip() for it in listed.split(","))):
+            name, _, own = item.partition(" as ")
+            names[(own or name).strip()] = (where, name.strip())
+    return names, modules
+
+
 class File:
-    """The blocks of a file, by the names that they define, and where its other names come from."""
+    """The blocks of a file of `specs/`, by the names that they define, and where its other names come from."""
 
     def __init__(self, path):
         text = path.read_text(encoding="utf-8")
-        self.imports = {}
-        for module, names in IMPORT.findall(text):
-            self.imports |= {name.strip(): module.replace(".", "/") for name in names.split(",")}
+        self.names, self.modules = imports(text)
         self.blocks, self.named = [], {}
         for block in text.split("\n\n"):
-            lines = [line for line in block.split("\n") if line.strip() and not line.startswith("use ")]
+            lines = [line for line in block.split("\n") if line.strip() and not line.lstrip().startswith("use ")]
             names = DEFINED.findall("\n".join(lines))
-            if any(line.lstrip().startswith("pub data ") for line in lines):
+            if any(line.lstrip().startswith(("pub data ", "data ")) for line in lines):
                 names += CONSTRUCTOR.findall("\n".join(lines))
             for name in names:
                 self.named.setdefault(name, len(self.blocks))
             self.blocks.append(lines)
 
 
-def read(files, wanted):
-    """The blocks that names use, as (module, number of the block)."""
-    found, left = set(), [tuple(name.split(".")) for name in wanted]
+def wanted(file, where, text):
+    """The definitions that a text names, as (place of a file, name)."""
+    for module, name in WORD.findall("\n".join(line.split("--")[0] for line in text.split("\n"))):
+        if module and module in file.modules:
+            yield file.modules[module], name
+            continue
+        for word in filter(None, (module, name)):
+            if word in file.named:
+                yield where, word
+            elif word in file.names:
+                yield file.names[word]
+
+
+def read(files, start):
+    """The blocks that definitions use, as (place of a file, number of the block)."""
+    found, left = set(), list(start)
     while left:
-        module, name = left.pop()
-        file = files[module]
+        where, name = left.pop()
+        file = files.get(where)
+        if file is None:
+            continue
         if name not in file.named:
-            if name in file.imports:
-                left.append((file.imports[name], name))
+            if name in file.names and file.names[name][0] != where:
+                left.append(file.names[name])
             continue
-        block = (module, file.named[name])
-        if block in found:
-            continue
-        found.add(block)
-        code = "\n".join(line.split("--")[0] for line in file.blocks[block[1]])
-        left += [(module, word) for word in set(WORD.findall(code)) if word in file.named or word in file.imports]
+        block = (where, file.named[name])
+        if block not in found:
+            found.add(block)
+            left += wanted(file, where, "\n".join(file.blocks[block[1]]))
     return found
 
 
-def below(files, module):
-    """The files that a file uses, each after those that it uses itself, and the file."""
-    for name in dict.fromkeys(files[module].imports.values()):
-        yield from below(files, name)
-    yield module
+def clause(path):
+    """The text of a clause of a function, and the names of its file."""
+    file, function, name = re.fullmatch(r"(.+\.rt)\.(\w+)\.(\w+)", path).groups()
+    text = (CRATES / file).read_text(encoding="utf-8")
+    begin = re.search(rf"^ *pub(?:\(crate\))? fn {function}\b", text, re.MULTILINE)
+    if not begin:
+        sys.exit(f"no function {function} in {file}")
+    head = re.compile(rf"^ *ensures {name} \{{", re.MULTILINE).search(text, begin.start())
+    if not head:
+        sys.exit(f"no clause {name} of {function} in {file}")
+    end, depth = head.end(), 1
+    while depth:
+        depth += {"{": 1, "}": -1}.get(text[end], 0)
+        end += 1
+    own = File.__new__(File)
+    own.names, own.modules = imports(text)
+    own.named = {}
+    return own, text[head.start() : end]
 
 
 def main():
-    files = {str(path.relative_to(SPECS).with_suffix("")): File(path) for path in sorted(SPECS.rglob("*.antt")) if path.stem[0].isupper() and path.stem != "Lib"}
-    order = list(dict.fromkeys(module for name in files for module in below(files, name)))
-    paths = {"the names given": sys.argv[1:]} if sys.argv[1:] else PATHS
-    for path, names in paths.items():
-        blocks = read(files, names)
-        lines = {module: sum(len(files[m].blocks[b]) for m, b in blocks if m == module) for module, _ in blocks}
-        print(f"{path}: {sum(lines.values())} lines, {len(blocks)} blocks")
-        for module in sorted(lines, key=order.index):
-            print(f"    {module} {lines[module]}")
+    files = {}
+    for path in sorted(CRATES.glob("*/specs/**/*.antt")):
+        crate, _, *rest = path.relative_to(CRATES).with_suffix("").parts
+        files[(crate, "/".join(rest))] = File(path)
+    paths = {"the clauses given": sys.argv[1:]} if sys.argv[1:] else PATHS
+    for path, clauses in paths.items():
+        blocks, contracts = set(), 0
+        for one in clauses:
+            own, text = clause(one)
+            contracts += len(text.split("\n"))
+            blocks |= read(files, wanted(own, None, text))
+        lines = {}
+        for where, block in blocks:
+            lines[where] = lines.get(where, 0) + len(files[where].blocks[block])
+        profile = sum(count for (crate, _), count in lines.items() if crate == "profile")
+        print(f"{path}: {sum(lines.values()) + contracts} lines: {contracts} of contracts, {profile} of profile, {sum(lines.values()) - profile} of representation specs")
+        for where in sorted(lines, key=lambda it: (it[0] != "profile", it)):
+            print(f"    {where[0]}/{where[1]} {lines[where]}")
 
 
 if __name__ == "__main__":
