@@ -18,7 +18,9 @@ IMPORT = re.compile(r"^\s*(?:ghost |pub )*use Rattle\.(\w+)\.specs\.([\w.]+?)(?:
 # in a module with parameters a definition is indented
 DEFINED = re.compile(r"^ *(?:pub )?(?:abbrev|unfoldable|data|record)(?: pub)? ([^\s:({]+)", re.MULTILINE)
 CONSTRUCTOR = re.compile(r"^ +(\w+) :", re.MULTILINE)
-WORD = re.compile(r"(?:([A-Za-z_]\w*)\.)?([A-Za-z_][\w-]*)")
+WORD = re.compile(r"(?:([A-Za-z_][\w-]*)\.)?([A-Za-z_][\w-]*)")
+# a field where a record is declared or made, and those that are looked at behind a dot
+FIELD = re.compile(r"(?m)^ +pub \w+ :|[{;] *\w+ =(?!=)|(?<=\)|\d)\.\w+")
 
 PATHS = {
     "the checker's yes": ["clash_check/src/checking.rt.check.free"],
@@ -64,16 +66,17 @@ class File:
 
 
 def wanted(file, where, text):
-    """The definitions that a text names, as (place of a file, name)."""
-    for module, name in WORD.findall("\n".join(line.split("--")[0] for line in text.split("\n"))):
-        if module and module in file.modules:
+    """The definitions that a text names, as (place of a file, name). What only names a field isn't one."""
+    code = FIELD.sub(" ", "\n".join(line.split("--")[0] for line in text.split("\n")))
+    for module, name in WORD.findall(code):
+        if module in file.modules:
             yield file.modules[module], name
             continue
-        for word in filter(None, (module, name)):
-            if word in file.named:
-                yield where, word
-            elif word in file.names:
-                yield file.names[word]
+        word = module or name
+        if word in file.named:
+            yield where, word
+        elif word in file.names:
+            yield file.names[word]
 
 
 def read(files, start):
