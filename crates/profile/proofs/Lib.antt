@@ -9,3 +9,4 @@ mod OccurrenceExamples
 mod StartExamples
 mod ConfirmedExamples
 mod OrganiserExamples
+pub mod Repeats

@@ -1,6 +1,7 @@
 -- days, rules and zones
 pub mod Days
 pub mod Rules
+pub mod Repeating
 pub mod RuleTexts
 pub mod Zones
 pub mod ZoneTexts
