@@ -20,3 +20,4 @@ pub mod WholeRule
 pub mod InOrder
 pub mod SameDays
 pub mod PlainRule
+pub mod Shifts

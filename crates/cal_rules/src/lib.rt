@@ -4,6 +4,7 @@
 
 mod cursor;
 mod facts;
+mod law;
 mod listing;
 mod parts;
 mod rule;
@@ -12,6 +13,7 @@ mod values;
 mod write;
 mod written;
 
+pub use law::{base_days_repeat, rule_days_repeat};
 pub use rule::{Days, Rule};
 pub use text::{RuleText, one_rule};
 pub use write::{rule_reads_back, values_read_back, weekday_word, written_means_the_same};

@@ -136,8 +136,10 @@ one_residue m r w a b c d t narrow p q differ short brief x y = by (cases_lt (p.
   where
     u : ℕ
     u = p.0 + q.1
+
     v : ℕ
     v = q.0 + p.1
+
     by : (u < v) ⊎ (v ≤ u) → ⊥
     by (inl less) =
         let n = far m u v less in
@@ -176,6 +178,7 @@ residues_alone These m w all narrow starts short clear a b c d t these those dif
       where
         apart : (p.0 ≢ q.0) → ⊥
         apart differ = clear p.0 q.0 p.1 q.1 differ (arcs_meet m p.0 q.0 w w a b c d t p.2 q.2 (short a b these) (short c d those) x y)
+
         which : (p.0 < q.0) ⊎ (q.0 ≤ p.0) → ⊥
         which (inl less) = apart (λ e. omega (arith, less, e))
         which (inr most) = again (cases_lt q.0 p.0)

@@ -2,6 +2,7 @@
 pub mod Days
 pub mod Rules
 pub mod Repeating
+pub mod Periods
 pub mod RuleTexts
 pub mod Zones
 pub mod ZoneTexts
