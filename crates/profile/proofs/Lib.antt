@@ -10,3 +10,4 @@ mod StartExamples
 mod ConfirmedExamples
 mod OrganiserExamples
 pub mod Repeats
+pub mod ZoneRepeats
