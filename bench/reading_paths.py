@@ -22,8 +22,8 @@ CONSTRUCTOR = re.compile(r"^ +(\w+) :", re.MULTILINE)
 WORD = re.compile(r"[A-Za-z_]\w*")
 
 PATHS = {
-    "the checker's yes": ["Headline.YesMeansFree"],
-    "the headline": ["Headline.KeptTextsPass", "Headline.YesMeansFree", "Headline.AcceptedWhereClear"],
+    "the checker's yes": ["Headline.IsFree", "Calendars.CertificateHolds"],
+    "the headline": ["Headline.KeptTextsPass", "Headline.IsFree", "Headline.AcceptedWhereClear", "Headline.DeclineNamesClash"],
     "all of what serve writes": ["streams/Streams.AnswersStream", "faults/First.text_fault"],
 }
 
