@@ -22,8 +22,8 @@ CONSTRUCTOR = re.compile(r"^ +(\w+) :", re.MULTILINE)
 WORD = re.compile(r"[A-Za-z_]\w*")
 
 PATHS = {
-    "the checker's yes": ["Headline.IsFree", "Calendars.CertificateHolds"],
-    "the headline": ["Headline.KeptTextsPass", "Headline.IsFree", "Headline.AcceptedWhereClear", "Headline.DeclineNamesClash"],
+    "the checker's yes": ["Headline.IsFree", "checker/Calendars.CertificateHolds"],
+    "the headline": ["Headline.KeptTextsPass", "Headline.IsFree", "Headline.AcceptedWhereClear", "Headline.DeclineNamesClash", "streams/Streams.IsReached"],
     "all of what serve writes": ["streams/Streams.AnswersStream", "faults/First.text_fault"],
 }
 
