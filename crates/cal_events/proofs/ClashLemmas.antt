@@ -1,6 +1,6 @@
 -- From places that share an instant to instances that clash, and back.
 use Rattle.std.proofs.Common.{◌≡◌, ◌≢◌, ℕ, ◌<◌, pos, ◌≤ℤ◌, List, [], ◌∷◌, map, length, get_or, subst, sym, refl, ap, ◌∙◌, inl, inr, arith}
-use Rattle.std.specs.Prelude.{Option, Some, None, IfSome, IfNone, Result, Ok, Err, IfOk}
+use Rattle.std.specs.Prelude.{Contains, Option, Some, None, IfSome, IfNone, Result, Ok, Err, IfOk}
 use Rattle.std.proofs.lemmas.Bool.{cases_order}
 use Rattle.std.proofs.lemmas.List.{get_or-map, get_or_default, length-map}
 use Rattle.std.proofs.lemmas.Option.{IfSome_then}
@@ -53,8 +53,6 @@ names all keys found o =
       first = get_or_default all found.first a d hi;
       second = get_or_default all found.second b d hj;
       clash = record {
-        first = (found.first, hi, get_or_default all found.first a d hi);
-        second = (found.second, hj, get_or_default all found.second b d hj);
         differ = different all keys found.first found.second d hi hj o.shared.differ;
         before = o.shared.before;
         in_first = subst (λ (s : Span). IsWithin s.start s.end found.instant) ea o.shared.in_first;
@@ -64,18 +62,16 @@ names all keys found o =
       earlier = subst (λ (s : Span). s.start ≤ℤ found.instant) ea o.earlier;
     }
 
-clear : (all : List Instance) → AreSpansApart (map when all) → IsClear all
-clear all apart a b t h =
-    let i = h.first.0 in
-    let j = h.second.0 in
+clear : (all : List Instance) → AreSpansApart (map when all) → IsClear (Contains all)
+clear all apart a b t (i, within_a, is_a) (j, within_b, is_b) h =
     let n : length (map when all) ≡ length all = length-map all when in
-    let ea : span_at (map when all) i ≡ when a = span_is all i a h.first.1 ∙ ap when h.first.2 in
-    let eb : span_at (map when all) j ≡ when b = span_is all j b h.second.1 ∙ ap when h.second.2 in
+    let ea : span_at (map when all) i ≡ when a = span_is all i a within_a ∙ ap when is_a in
+    let eb : span_at (map when all) j ≡ when b = span_is all j b within_b ∙ ap when is_b in
     apart i j t (record {
-      first_in = omega (arith, n, h.first.1);
-      second_in = omega (arith, n, h.second.1);
+      first_in = omega (arith, n, within_a);
+      second_in = omega (arith, n, within_b);
       differ = λ e. h.differ (ap (λ (x : Instance). x.key)
-          (sym h.first.2 ∙ get_or_default all i a b h.first.1 ∙ ap (λ k. get_or all k b) e ∙ h.second.2));
+          (sym is_a ∙ get_or_default all i a b within_a ∙ ap (λ k. get_or all k b) e ∙ is_b));
       before = h.before;
       in_first = subst (λ (s : Span). IsWithin s.start s.end t) (sym ea) h.in_first;
       in_second = subst (λ (s : Span). IsWithin s.start s.end t) (sym eb) h.in_second;
@@ -89,7 +85,7 @@ clash_from_overlap all entries bs spans seen r keys view e f h =
     (λ found o. names all (subst HaveDifferentKeys view keys) found o)
 
 pub clear_from_none : (all : List Instance) (entries : List Name) (bs : List Single) (spans seen : List Span) (r : Option Overlap) → map (named_instance entries) bs ≡ all
-    → spans ≡ map span_of bs → seen ≡ spans → IfNone r (AreSpansApart seen) → IfNone r (IsClear all)
+    → spans ≡ map span_of bs → seen ≡ spans → IfNone r (AreSpansApart seen) → IfNone r (IsClear (Contains all))
 clear_from_none all entries bs spans seen None view e f h =
     clear all (subst AreSpansApart (f ∙ e ∙ spans_is entries bs ∙ ap (map when) view) h)
 clear_from_none all entries bs spans seen (Some found) view e f h = h
@@ -100,6 +96,6 @@ clash_from_sweep all entries bs spans seen (Ok o) keys view e f h = clash_from_o
 clash_from_sweep all entries bs spans seen (Err x) keys view e f h = h
 
 pub clear_from_sweep : (all : List Instance) (entries : List Name) (bs : List Single) (spans seen : List Span) {E : Type 0} (r : Result (Option Overlap) E) → map (named_instance entries) bs ≡ all
-    → spans ≡ map span_of bs → seen ≡ spans → IfOk r (λ o. IfNone o (AreSpansApart seen)) → IfOk r (λ o. IfNone o (IsClear all))
+    → spans ≡ map span_of bs → seen ≡ spans → IfOk r (λ o. IfNone o (AreSpansApart seen)) → IfOk r (λ o. IfNone o (IsClear (Contains all)))
 clear_from_sweep all entries bs spans seen (Ok o) view e f h = clear_from_none all entries bs spans seen o view e f h
 clear_from_sweep all entries bs spans seen (Err x) view e f h = h

@@ -1,9 +1,9 @@
 -- The definitions at worked examples.
-use Rattle.std.proofs.Common.{◌≡◌, ℕ, ℤ, pos, negsuc, true, false, List, [], ◌∷◌, get_or, refl, ap, arith, lit<}
+use Rattle.std.proofs.Common.{◌≡◌, ℕ, ℤ, pos, negsuc, true, false, List, get_or, refl, ap, arith}
 use Rattle.std.specs.Prelude.{codes}
 use Rattle.std.specs.declared.cmp.Ordering.TheVariants.{Less}
 use Rattle.std.proofs.lemmas.Int.{ints}
-use Rattle.profile.specs.checker.Instances.{Key, Instance, IsClash, IsWithin, horizon, instance_cmp}
+use Rattle.profile.specs.checker.Instances.{Key, Instance, AreClashing, IsWithin, horizon, instance_cmp}
 use Rattle.cal_events.specs.Sweep.{holds_instant}
 
 -- an instance of Ann's meeting in these seconds, named by its start
@@ -18,10 +18,8 @@ abbrev second : Instance
 second = meeting (codes "b") (pos 1741599000) (pos 1741602600)
 
 -- they clash at 09:30Z
-half_an_hour : IsClash (first ∷ second ∷ []) first second (pos 1741599000)
+half_an_hour : AreClashing first second (pos 1741599000)
 half_an_hour = record {
-  first = (0, lit< tt, refl);
-  second = (1, lit< tt, refl);
   differ = λ e. let h : 97 ≡ 98 = ap (λ (k : Key). get_or k.uid 0 0) e in absurd (omega (arith, h));
   before = omega (arith, ints);
   in_first = (omega (arith, ints), omega (arith, ints));
@@ -33,7 +31,7 @@ earlier_first : instance_cmp first second ≡ Less
 earlier_first = refl
 
 -- one instance doesn't clash with itself
-not_with_itself : (t : ℤ) → IsClash (first ∷ []) first first t → ⊥
+not_with_itself : (t : ℤ) → AreClashing first first t → ⊥
 not_with_itself t h = h.differ refl
 
 -- an end is in no instance: 10:00Z after 10:00Z is clear
@@ -51,10 +49,8 @@ last_hours = meeting (codes "a") (pos 253402297200) (pos 253402304400)
 abbrev last_minutes : Instance
 last_minutes = meeting (codes "b") (pos 253402299000) (pos 253402299600)
 
-last_clash : IsClash (last_hours ∷ last_minutes ∷ []) last_hours last_minutes (pos 253402299000)
+last_clash : AreClashing last_hours last_minutes (pos 253402299000)
 last_clash = record {
-  first = (0, lit< tt, refl);
-  second = (1, lit< tt, refl);
   differ = λ e. let h : 97 ≡ 98 = ap (λ (k : Key). get_or k.uid 0 0) e in absurd (omega (arith, h));
   before = omega (arith, ints);
   in_first = (omega (arith, ints), omega (arith, ints));

@@ -1,6 +1,6 @@
 -- The clash that two places of a list name.
 use Rattle.std.specs.Prelude.{List, ◌≡◌, ◌<◌, ◌≤ℤ◌, length, slice_index_or}
-use Rattle.profile.specs.checker.Instances.{Instance, IsClash}
+use Rattle.profile.specs.checker.Instances.{Instance, AreClashing}
 use Rattle.cal_events.specs.declared.sweep.Overlap.{Overlap}
 
 -- the instances at the two places clash at the instant: the second's start, and the first starts no later
@@ -11,6 +11,6 @@ pub record Names (all : List Instance) (found : Overlap) : Type 0 where
   pub second_in : found.second < length all
   pub first : slice_index_or all found.first a ≡ a
   pub second : slice_index_or all found.second b ≡ b
-  pub clash : IsClash all a b found.instant
+  pub clash : AreClashing a b found.instant
   pub later : found.instant ≡ b.start
   pub earlier : a.start ≤ℤ found.instant

@@ -1,5 +1,5 @@
 //! A room's calendar: what is confirmed in it, series and singles, both in the calendar's order.
-ghost use Rattle.std.specs.Prelude.{◌≡◌, ◌<◌, map, length, option_map, IfOk, IfNone, IfSome};
+ghost use Rattle.std.specs.Prelude.{◌≡◌, ◌<◌, map, length, option_map, Contains, IfOk, IfNone, IfSome};
 ghost use Rattle.std.specs.List.{slice_get};
 ghost use Rattle.std.specs.Iterator.{YieldsFirstBy, item_count};
 ghost use Rattle.profile.specs.checker.Instances.{IsClear};
@@ -111,7 +111,7 @@ impl Calendar {
     /// where the singles are clear. Fails only when out of memory.
     pub fn first_overlap(&self, alloc: Global) -> Result<Option<Overlap>, AllocError>
         ensures clash { IfOk result (λ r. IfSome r (Names self.now.singles)) }
-        ensures clear { IfOk result (λ r. IfNone r (IsClear self.now.singles)) }
+        ensures clear { IfOk result (λ r. IfNone r (IsClear (Contains self.now.singles))) }
     {
         let spans = spans_of(alloc, &self.singles)?;
         first_overlap(alloc, &spans)

@@ -11,7 +11,7 @@ use Rattle.std.proofs.lemmas.List.{length-map}
 use Rattle.std.specs.List.{slice_get}
 use Rattle.std.proofs.lemmas.Bool.{false≢true, cases_lt}
 use Rattle.std.proofs.lemmas.Option.{same_Some, slice_get-get_or, slice_get_within, get_or_from_slice_get}
-use Rattle.profile.specs.checker.Instances.{Key, Instance as SaidInstance, IsClash, IsClear, AreClashing, AreClear, instance_cmp, key_cmp}
+use Rattle.profile.specs.checker.Instances.{Key, Instance as SaidInstance, IsClear, AreClashing, AreClear, instance_cmp, key_cmp}
 use Rattle.profile.specs.checker.Certificates.{Claims, IsClaims, text_of, CertificateHoldsFor}
 use Rattle.profile.specs.events.Events.{Event}
 use Rattle.profile.specs.events.Starts.{IsInstance, SharesInstant}
@@ -191,9 +191,9 @@ single_in all place b e = inl (place, slice_get_within all.singles place b e, ge
 pub series_in : (all : Confirmed) (place : ℕ) (series : Event) (b : SaidInstance) → slice_get all.series place ≡ Some series → IsInstance series b → IsOneOf all b
 series_in all place series b e h = inr (series, (place, slice_get_within all.series place series e, get_or_from_slice_get all.series place series series e), h)
 
--- two instances of one list clash as two of what is confirmed
-pub shares : (all : List SaidInstance) (a b : SaidInstance) (t : ℤ) → IsClash all a b t → SharesInstant a.start a.end b.start b.end
-shares all a b t c = record { instant = t; before = c.before; in_first = c.in_first; in_second = c.in_second }
+-- two instances that clash share an instant
+pub shares : (a b : SaidInstance) (t : ℤ) → AreClashing a b t → SharesInstant a.start a.end b.start b.end
+shares a b t c = record { instant = t; before = c.before; in_first = c.in_first; in_second = c.in_second }
 
 pub shares_turned : (start end from to : ℤ) → SharesInstant start end from to → SharesInstant from to start end
 shares_turned start end from to s = record { instant = s.instant; before = s.before; in_first = s.in_second; in_second = s.in_first }
@@ -204,9 +204,9 @@ shares_start a b s = record { instant = s.instant; before = s.before; in_first =
 -- ---- what is clear
 
 -- where two singles never clash, and no single shares an instant with a series, no single clashes
-pub singles_clear : (all : Confirmed) → IsClear all.singles → ((single : SaidInstance) → Contains all.singles single → HasNoSharer all.series single.start single.end)
+pub singles_clear : (all : Confirmed) → IsClear (Contains all.singles) → ((single : SaidInstance) → Contains all.singles single → HasNoSharer all.series single.start single.end)
     → AreClear (Contains all.singles) (IsOneOf all)
-singles_clear all clear apart a b t x (inl y) c = clear a b t (record { first = x; second = y; differ = c.differ; before = c.before; in_first = c.in_first; in_second = c.in_second })
+singles_clear all clear apart a b t x (inl y) c = clear a b t x y c
 singles_clear all clear apart a b t x (inr y) c = apart a x b y (record { instant = t; before = c.before; in_first = c.in_second; in_second = c.in_first })
 
 -- and where all pairs of series are clear, all are
@@ -237,7 +237,7 @@ certificate_holds all c h singles series clear = record {
 }
 
 -- of singles alone, without series, all are clear where the singles are
-pub singles_alone : (all : List SaidInstance) → IsClear all → AreClear (IsOneOf (record { series = []; singles = all })) (IsOneOf (record { series = []; singles = all }))
-singles_alone all clear a b t (inl x) (inl y) c = clear a b t (record { first = x; second = y; differ = c.differ; before = c.before; in_first = c.in_first; in_second = c.in_second })
+pub singles_alone : (all : List SaidInstance) → IsClear (Contains all) → AreClear (IsOneOf (record { series = []; singles = all })) (IsOneOf (record { series = []; singles = all }))
+singles_alone all clear a b t (inl x) (inl y) c = clear a b t x y c
 singles_alone all clear a b t (inr (m, (k, w, e), h)) y c = absurd (omega (arith, w))
 singles_alone all clear a b t (inl x) (inr (m, (k, w, e), h)) c = absurd (omega (arith, w))

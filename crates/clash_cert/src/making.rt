@@ -98,7 +98,7 @@ fn of_singles(calendar: &Calendar, overlap: Overlap) -> Result<Clash, AllocError
     let b = calendar.single(overlap.second).unwrap();
     let of_a = calendar.key(overlap.first)?.unwrap();
     let of_b = calendar.key(overlap.second)?.unwrap();
-    Ok(named(&a, &b, of_a, of_b))
+    Ok(clash_of(&a, &b, of_a, of_b))
 }
 
 /// The clash of a single and an instance of a series.
@@ -114,7 +114,7 @@ fn of_single_and_series(
     let of_single = calendar.key(beside.single)?.unwrap();
     let series = calendar.series();
     let of_series = series[beside.series].key(alloc, beside.instance.start)?;
-    Ok(named(&single, &beside.instance, of_single, of_series))
+    Ok(clash_of(&single, &beside.instance, of_single, of_series))
 }
 
 /// The clash of two instances of series.
@@ -125,11 +125,12 @@ fn of_series(alloc: Global, calendar: &Calendar, shared: Shared<'_>) -> Result<C
     let series = calendar.series();
     let of_first = series[shared.i].key(alloc, shared.first.start)?;
     let of_second = series[shared.j].key(alloc, shared.second.start)?;
-    Ok(named(&shared.first, &shared.second, of_first, of_second))
+    Ok(clash_of(&shared.first, &shared.second, of_first, of_second))
 }
 
-/// The clash of two instances, whose keys are owned.
-fn named(a: &Instance<'_>, b: &Instance<'_>, of_a: OwnedKey, of_b: OwnedKey) -> Clash
+/// The clash of two instances, whose keys are owned: the lesser by start, organiser, UID and slot is first, and the instant is the later
+/// start.
+pub fn clash_of(a: &Instance<'_>, b: &Instance<'_>, of_a: OwnedKey, of_b: OwnedKey) -> Clash
     ensures { owned_key_of of_a ≡ (instance_of a.now).key → owned_key_of of_b ≡ (instance_of b.now).key → IsNamedAs (instance_of a.now) (instance_of b.now) result }
 {
     let instant = later_start(a, b);

@@ -87,9 +87,21 @@ pub refused_iff : NoFault → (room calendar text : List ℕ) (n : ℕ) (v : Ver
 refused_iff none room calendar text n Yes f h = absurd h
 refused_iff none room calendar text n (No why) f h = (λ e. absurd (no_is_not_yes why e), λ c. absurd (none room calendar c.confirmed n c.spells f))
 
+-- ---- what a yes means
+
+-- where the yes says this, it says what follows
+pub yes_says : (C F : Type 0) {E : Type 0} (r : Result Checked E) → (C → F) → IfOk r (λ checked. (checked.verdict ≡ Yes) ↔ C) → IfOk r (λ checked. checked.verdict ≡ Yes → F)
+yes_says C F (Ok checked) f h = λ e. f (h.0 e)
+yes_says C F (Err e) f h = h
+
+-- a no isn't a yes
+pub no_yes : (F : Type 0) (n first second : ℕ) (v : Verdict) → IsNo n first second v → v ≡ Yes → F
+no_yes F n first second Yes h e = absurd h
+no_yes F n first second (No why) h e = absurd (no_is_not_yes why e)
+
 -- ---- what a certificate that holds means
 
-pub certificate_clear : (all : Confirmed) (text : List ℕ) → CertificateHoldsFor all text → AreClear (IsOneOf all) (IsOneOf all)
+pub certificate_clear : (all : Confirmed) (text : List ℕ) → CertificateHoldsFor all text → IsClear (IsOneOf all)
 certificate_clear all text s =
     all_clear all s.singles
     (λ p q l w m n at_m at_n.
@@ -172,13 +184,13 @@ singles_clash all o n = record {
   a = n.a;
   b = n.b;
   t = o.instant;
-  first = n.clash.first;
-  second = inl n.clash.second;
-  clash = record { differ = n.clash.differ; before = n.clash.before; in_first = n.clash.in_first; in_second = n.clash.in_second };
+  first = (o.first, n.first_in, n.first);
+  second = inl (o.second, n.second_in, n.second);
+  clash = n.clash;
 }
 
 -- both searches in one answer
-pub clear_or_clash : (all : Confirmed) → HaveOwnKeys all → IsClear all.singles → (o : Option Beside) (b : Bool) → is_some o ≡ not b → IsBesideOr all o
+pub clear_or_clash : (all : Confirmed) → HaveOwnKeys all → IsClear (Contains all.singles) → (o : Option Beside) (b : Bool) → is_some o ≡ not b → IsBesideOr all o
     → MatchBool b (AreClear (Contains all.singles) (IsOneOf all)) (HasClash (Contains all.singles) (IsOneOf all))
 clear_or_clash all own clear None true e h = singles_clear all clear h
 clear_or_clash all own clear None false e h = absurd (true≢false (sym e))

@@ -1,6 +1,7 @@
 //! Checking: a certificate's text against a calendar, and a clash against a calendar.
 ghost use Rattle.std.specs.Prelude.{ℕ, List, ◌≡◌, ◌-◌, ◌^◌, ◌<ℤ◌, ◌≤ℤ◌, ◌↔◌, ◌⊎◌, IsTrue, IfOk, IfNone, IfSome, Contains, MatchBool, map, min};
-ghost use Rattle.profile.specs.checker.Instances.{Instance as SaidInstance, AreClear, HasClash, IsWithin};
+ghost use Rattle.profile.specs.Headline.{IsFree};
+ghost use Rattle.profile.specs.checker.Instances.{Instance as SaidInstance, AreClear, HasClash, IsClear, IsWithin};
 ghost use Rattle.profile.specs.events.Starts.{IsInstance};
 ghost use Rattle.profile.specs.events.Confirmed.{Confirmed, IsInSeries, IsOneOf};
 ghost use Rattle.profile.specs.checker.Calendars.{CertificateHolds};
@@ -11,6 +12,7 @@ ghost use Rattle.cal_events.specs.SaidSeries.{series_said};
 ghost use Rattle.clash_cert.specs.Makings.{IsClashIn};
 ghost use Rattle.clash_check.specs.Verdicts.{IsVerdict, MakesFew, IsRefusedCalendar, IsJudgement, HasThatKey, ShareInstant, singles_count};
 
+use crate::law::yes_means_free;
 use crate::verdict::{Checked, Verdict, Why};
 use cal_events::{
     Calendar, HORIZON, Instance, OwnedKey, Series, known_by_start, one_calendar_text,
@@ -30,6 +32,8 @@ pub fn check(
     certificate: &[u8],
     room: &Address,
 ) -> Result<Checked, AllocError>
+    // On yes no two of the instances that the calendar's octets confirm for the room share an instant before year 10000.
+    ensures free { IfOk result (λ checked. checked.verdict ≡ Verdict.Yes → IsFree (address_octets room.now) calendar.now) }
     // Yes exactly where the certificate holds for what the calendar's octets spell.
     ensures yes { IfOk result (λ checked. (checked.verdict ≡ Verdict.Yes) ↔ CertificateHolds (address_octets room.now) calendar.now certificate.now) }
     // The calendar is refused, or this is the judgement of its confirmed instances.
@@ -37,6 +41,7 @@ pub fn check(
         ⊎ IsJudgement (address_octets room.now) calendar.now certificate.now checked) }
 {
     one_calendar_text();
+    yes_means_free();
     match Calendar::read(alloc, calendar, room) {
         Ok(calendar) => judge_read(alloc, &calendar, certificate),
         Err(Fault::Refused(_)) => Ok(Checked::no(Why::CALENDAR, 0)),
@@ -50,10 +55,13 @@ pub fn judge_read(
     calendar: &Calendar,
     certificate: &[u8],
 ) -> Result<Checked, AllocError>
+    // On yes no two instances of the calendar, of singles and of series, share an instant before year 10000.
+    ensures clear { IfOk result (λ checked. checked.verdict ≡ Verdict.Yes → IsClear (IsOneOf calendar.now)) }
     ensures verdict { IfOk result (λ checked. IsVerdict calendar.now certificate.now checked.verdict) }
     ensures yes { IfOk result (λ checked. (checked.verdict ≡ Verdict.Yes) ↔ CertificateHoldsFor calendar.now certificate.now) }
     ensures made { IfOk result (MakesFew calendar.now) }
 {
+    certificate_means_clear();
     match Certificate::read(alloc, certificate) {
         Ok(certificate) => judge(alloc, calendar, certificate),
         Err(CertFault::Line(line)) => Ok(Checked::no_at(Why::TEXT, line, 0, 0)),
@@ -121,7 +129,7 @@ fn made_of_singles(calendar: &Calendar) -> u64
 
 /// A certificate that holds is enough: no two of all confirmed instances clash, of singles and of series.
 pub fn certificate_means_clear()
-    ensures { (all : Confirmed) (text : List ℕ) → CertificateHoldsFor all text → AreClear (IsOneOf all) (IsOneOf all) }
+    ensures { (all : Confirmed) (text : List ℕ) → CertificateHoldsFor all text → IsClear (IsOneOf all) }
 {}
 
 /// Is this a clash of two confirmed instances of the calendar?

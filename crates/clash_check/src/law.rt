@@ -1,6 +1,8 @@
 //! What the checker's yes means, in plain words: laws, with nothing to do.
 
-ghost use Rattle.profile.specs.Headline.{YesMeansFree};
+ghost use Rattle.std.specs.Prelude.{ℕ, List};
+ghost use Rattle.profile.specs.Headline.{IsFree};
+ghost use Rattle.profile.specs.checker.Calendars.{CertificateHolds};
 
 use crate::checking::certificate_means_clear;
 use cal_events::{series_and_singles_divide, singles_are_confirmed};
@@ -8,7 +10,7 @@ use cal_events::{series_and_singles_divide, singles_are_confirmed};
 /// Where the certificate holds for the room's calendar, no two of the instances that the calendar's octets confirm for the room share an
 /// instant before year 10000.
 pub fn yes_means_free()
-    ensures { YesMeansFree }
+    ensures { (room calendar certificate : List ℕ) → CertificateHolds room calendar certificate → IsFree room calendar }
 {
     certificate_means_clear();
     series_and_singles_divide();

@@ -1,6 +1,7 @@
 pub mod Attendees
 pub mod Replies
 pub mod Refreshes
+pub mod Components
 pub mod Messages
 pub mod OrganiserObjects
 pub mod Readings

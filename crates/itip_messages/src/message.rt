@@ -1,12 +1,12 @@
 //! A message, read: to rooms, or to an organiser (RFC 5546 1.4, 3.2; RFC 4791 4.1, RFC 6638 3.2). METHOD says which; an object without METHOD
 //! is a meeting that its organiser stores.
-ghost use Rattle.std.specs.Prelude.{◌≡◌, true, codes, IsTrue, IfOk, IfErr};
+ghost use Rattle.std.specs.Prelude.{◌≡◌, ℕ, List, true, codes, IsTrue, IfOk, IfErr};
 ghost use Rattle.ical_lines.specs.Fault.{RefusesOnly, RefusesBy};
 ghost use Rattle.ical_lines.specs.Text.{line_text};
 ghost use Rattle.ical_tree.specs.Tree.{tree_of};
 ghost use Rattle.profile.specs.faults.Faults.{is_message_fault};
 ghost use Rattle.profile.specs.text.Lines.{line_value};
-ghost use Rattle.profile.specs.rooms.Messages.{MethodFault, MessageFault};
+ghost use Rattle.profile.specs.rooms.Messages.{Message as SaidMessage, MethodFault, MessageFault, SaysMessage, SpellsMessage};
 ghost use Rattle.itip_messages.specs.Readings.{IsKindWord, IsMessageOf, IsSpelled, NamesKind, ReadFault, WordFault};
 
 use crate::organiser_object::{Operation, OrganiserObject};
@@ -39,9 +39,10 @@ impl Message {
         Message::of_object(alloc, &object)
     }
 
-    /// The message that an object is.
+    /// The message that an object is. Where it says one, some octets spell that.
     /// Refused: as by `read`, except for the object.
-    pub fn of_object(alloc: Global, object: &Component) -> Result<Message, Fault>
+    fn of_object(alloc: Global, object: &Component) -> Result<Message, Fault>
+        requires spelled { (said : SaidMessage) → SaysMessage (tree_of object.now) said → (octets : List ℕ) × SpellsMessage octets said }
         ensures says { IfOk result (IsMessageOf (tree_of object.now)) }
         ensures refuses { IfErr result (RefusesOnly is_message_fault) }
         ensures fault { IfErr result (RefusesBy (MessageFault (tree_of object.now))) }

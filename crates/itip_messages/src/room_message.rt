@@ -1,6 +1,6 @@
 //! A message to rooms: a REQUEST, an ADD or a CANCEL, its meeting, and what each VEVENT says (RFC 5546 1.4, 3.2). The VEVENTs are in the
 //! order of their slots: the whole meeting first, and then its instances.
-ghost use Rattle.std.specs.Prelude.{◌≡◌, ◌++◌, ◌||◌, ◌&&◌, ◌==◌, ◌<◌, [], List, Contains, Some, true, codes, length, map, option_map, IsTrue, IsSome, IfOk, IfErr, OnOk};
+ghost use Rattle.std.specs.Prelude.{◌≡◌, ◌++◌, ◌||◌, ◌&&◌, ◌==◌, ◌<◌, ℕ, [], List, Contains, Some, true, codes, length, map, option_map, IsTrue, IsSome, IfOk, IfErr, OnOk};
 ghost use Rattle.std.specs.List.{AllZip};
 ghost use Rattle.std.specs.List.Sorted.{IsPermutation, IsSortedByKey};
 ghost use Rattle.ical_lines.specs.Fault.{RefusesOnly, RefusesBy};
@@ -8,14 +8,14 @@ ghost use Rattle.ical_tree.specs.Tree.{tree_of};
 ghost use Rattle.ical_values.specs.Octets.{address_octets, text_octets};
 ghost use Rattle.profile.specs.faults.Faults.{is_message_fault};
 ghost use Rattle.profile.specs.events.Events.{Event, EventFault, SaysEvent};
-ghost use Rattle.profile.specs.rooms.Messages.{cancels, is_add, is_cancel, later_of, own_revision, raised_to};
+ghost use Rattle.profile.specs.rooms.Messages.{SpellsMessage, cancels, is_add, is_cancel, later_of, own_revision, raised_to};
 ghost use Rattle.profile.specs.rooms.Revisions.{slot_cmp};
 ghost use Rattle.cal_events.specs.Events.{component_of};
 ghost use Rattle.cal_events.specs.OneMeeting.{meeting_of};
 ghost use Rattle.cal_events.specs.declared.component.EventComponent.{EventComponent};
 ghost use Rattle.itip_order.specs.Parts.{slot_of, revision_of};
 ghost use Rattle.itip_messages.specs.Bodies.{IsReady};
-ghost use Rattle.itip_messages.specs.Messages.{IsDated, IsOfMessage, SaysComponent, RepresentsMessage, component_names, event_slot, method_said, purpose_of};
+ghost use Rattle.itip_messages.specs.Components.{AreRead, IsDated, IsOfMessage, SaysComponent, component_names, event_slot, method_said, purpose_of};
 
 use crate::attendees::Attendees;
 use crate::body::canonical_body;
@@ -136,23 +136,28 @@ impl MessageComponent {
     }
 }
 
-/// A message to rooms: all its components are of one meeting, the UID of one ORGANIZER.
+/// A message to rooms, as some octets spell it: all its components are of one meeting, the UID of one ORGANIZER.
 #[derive(Drop)]
 pub struct RoomMessage {
     method: Method,
     organiser: Address,
     uid: Text,
     components: Vec<MessageComponent>,
+    pub ghost read: { ∥ AreRead method organiser uid components.items ∥₁ },
 }
 
 impl RoomMessage {
-    /// The message of that method that an object is.
+    ghost use Rattle.itip_messages.specs.Messages.{RepresentsMessage};
+
+    /// The message of that method that an object is. Where it says one, some octets spell that.
     /// Refused: as by `MeetingComponents::read`.
     pub(crate) fn read(
         alloc: Global,
         object: &Component,
         method: Method,
     ) -> Result<RoomMessage, Fault>
+        requires spelled { (meeting : Event) → SaysEvent (tree_of object.now) (Some (method_said method)) meeting
+            → (octets : List ℕ) × SpellsMessage octets (record { method = method_said method; meeting = meeting }) }
         ensures says { IfOk result (λ message. (meeting : Event) × SaysEvent (tree_of object.now) (Some (method_said method)) meeting
             × RepresentsMessage message (record { method = method_said method; meeting = meeting })) }
         ensures refuses { IfErr result (RefusesOnly is_message_fault) }
@@ -162,13 +167,15 @@ impl RoomMessage {
         Ok(RoomMessage::of(alloc, method, meeting)?)
     }
 
-    /// The message of that method that the VEVENTs of a meeting are. In time n log n; it fails only when out of memory.
+    /// The message of that method that the VEVENTs of a meeting are, which some octets spell. In time n log n; it fails only when out of
+    /// memory.
     fn of(
         alloc: Global,
         method: Method,
         meeting: MeetingComponents,
     ) -> Result<RoomMessage, AllocError>
-        requires { IsOfMessage (meeting_of meeting) }
+        requires one { IsOfMessage (meeting_of meeting) }
+        requires spelled { (octets : List ℕ) × SpellsMessage octets (record { method = method_said method; meeting = meeting_of meeting }) }
         ensures { IfOk result (λ message. RepresentsMessage message (record { method = method_said method; meeting = meeting_of meeting })) }
     {
         let whole = whole_revision(&meeting.master);

@@ -223,7 +223,7 @@ module _ (others : Confirmed) (k : MeetingKey) (own singles : List Single) (kept
   turned_clash : (a b : Instance) (t : ℤ) → AreClashing a b t → AreClashing b a t
   turned_clash a b t c = record { differ = λ e. c.differ (sym e); before = c.before; in_first = c.in_second; in_second = c.in_first }
 
-  module _ (was_clear : IsClearIn before) (singles_clear : IsClear (others.singles ++ instance_list k (own ++ singles)))
+  module _ (was_clear : IsClearIn before) (singles_clear : IsClear (Contains (others.singles ++ instance_list k (own ++ singles))))
       (single_clear : AreBeside (Contains singles) all None) (new_clear : AreNewClear (others.singles ++ instance_list k own) all from wanted None) where
     single_and_series : (a b : Instance) (t : ℤ) → Contains (others.singles ++ instance_list k (own ++ singles)) a → RecursAt b → AreClashing a b t → ⊥
     single_and_series a b t c f clash = elim (single_when a c) [
@@ -275,7 +275,7 @@ module _ (others : Confirmed) (k : MeetingKey) (own singles : List Single) (kept
         ]
 
     pub all_clear : IsClearIn now
-    all_clear a b t (inl x) (inl y) c = singles_clear a b t (record { first = x; second = y; differ = c.differ; before = c.before; in_first = c.in_first; in_second = c.in_second })
+    all_clear a b t (inl x) (inl y) c = singles_clear a b t x y c
     all_clear a b t (inl x) (inr y) c = single_and_series a b t x (recurs_there b y) c
     all_clear a b t (inr x) (inl y) c = single_and_series b a t y (recurs_there a x) (turned_clash a b t c)
     all_clear a b t (inr x) (inr y) c = two_series a b t (recurs_there a x) (recurs_there b y) c

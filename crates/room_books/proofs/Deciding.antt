@@ -20,15 +20,14 @@ use Rattle.cal_events.specs.declared.sweep.Span.{Span}
 use Rattle.cal_events.specs.declared.sweep.Overlap.{Overlap as Found}
 use Rattle.profile.specs.checker.Instances.{Key, Instance, IsWithin, IsClear, key_cmp, instance_cmp}
 use Rattle.profile.specs.rooms.Messages as messages
-use Rattle.profile.specs.rooms.Rooms as rooms
-use Rattle.profile.specs.rooms.Rooms.{is_accept}
+use Rattle.profile.specs.rooms.Rooms.{NamesClash, is_accept}
 use Rattle.std.specs.Map.{lookup, keys_of}
 use Rattle.room_books.specs.declared.meeting.MeetingKey.{MeetingKey}
 use Rattle.cal_events.specs.declared.instance.Single.{Single}
 use Rattle.room_books.specs.declared.kept.Meeting.{Meeting}
 use Rattle.room_books.specs.declared.meeting.Outcome.{Outcome}
 use Rattle.room_books.specs.Instants.{HaveInstant, IsLater, IsParted, Overlap, AreSeparate}
-use Rattle.room_books.specs.Takings.{DecidesAmong, IsDecision, NamesListedClash}
+use Rattle.room_books.specs.Takings.{DecidesAmong, IsDecision}
 use Rattle.room_books.specs.Views.{all_confirmed, keyed_instance, instance_list, others, outcome_of, same_key, singles_by, slots_of, spans_of, instance_span, AreAllApart, HaveOverlap, IsFree}
 use Rattle.room_books.proofs.Leaving.{Apart, kept_separate, kept_within}
 use Rattle.room_books.proofs.Pairs.{map_from, pairs_append, pairs_from}
@@ -57,7 +56,7 @@ later_is_first a b t l h = elim l.one [ inl e ↦ e | inr e ↦ (let s = l.first
 
 -- two instances that share an instant are named as a decline does
 pub names_these : (these : Instance → Type 0) (x y : Instance) (clash : Clash) → these x → these y → x.key ≢ y.key → Overlap (instance_span x) (instance_span y)
-    → IsLater (instance_span x) (instance_span y) clash.instant → AreNamed x y clash.instant clash → rooms.NamesClash these (owned_key_of clash.first) (owned_key_of clash.second) clash.instant
+    → IsLater (instance_span x) (instance_span y) clash.instant → AreNamed x y clash.instant clash → NamesClash these (owned_key_of clash.first) (owned_key_of clash.second) clash.instant
 names_these these x y clash in_x in_y differ overlap later named =
     let shared = overlap clash.instant later in
     elim (cases_Bool (is_lt (instance_cmp y x))) [
@@ -91,29 +90,14 @@ names_these these x y clash in_x in_y differ overlap later named =
           }
     ]
 
--- two of a list
-pub names_two : (all : List Instance) (x y : Instance) (clash : Clash) → Contains all x → Contains all y → x.key ≢ y.key → Overlap (instance_span x) (instance_span y)
-    → IsLater (instance_span x) (instance_span y) clash.instant → AreNamed x y clash.instant clash → NamesListedClash all (owned_key_of clash.first) (owned_key_of clash.second) clash.instant
-names_two all x y clash in_x in_y differ overlap later named =
-    let n = names_these (Contains all) x y clash in_x in_y differ overlap later named in
-    record {
-      a = n.a;
-      b = n.b;
-      clash = record { first = n.of_first; second = n.of_second; differ = n.clash.differ; before = n.clash.before; in_first = n.clash.in_first; in_second = n.clash.in_second };
-      first_is = n.first_is;
-      second_is = n.second_is;
-      ordered = n.ordered;
-      later = n.later;
-    }
-
--- and two of more than a list
-pub names_more : (all : List Instance) (these : Instance → Type 0) (first second : Key) (t : ℤ) → ((b : Instance) → Contains all b → these b) → NamesListedClash all first second t → rooms.NamesClash these first second t
-names_more all these first second t within n = record {
+-- two of some of them are two of all
+pub names_more : (some all : Instance → Type 0) (first second : Key) (t : ℤ) → ((b : Instance) → some b → all b) → NamesClash some first second t → NamesClash all first second t
+names_more some all first second t within n = record {
   a = n.a;
   b = n.b;
-  of_first = within n.a n.clash.first;
-  of_second = within n.b n.clash.second;
-  clash = record { differ = n.clash.differ; before = n.clash.before; in_first = n.clash.in_first; in_second = n.clash.in_second };
+  of_first = within n.a n.of_first;
+  of_second = within n.b n.of_second;
+  clash = n.clash;
   first_is = n.first_is;
   second_is = n.second_is;
   ordered = n.ordered;
@@ -140,33 +124,31 @@ module _ (all : List Instance) (k : MeetingKey) (kept wanted : List Single) (dif
 
   -- two own ones clash
   pub own_named : (s r : Single) (clash : Clash) → Contains (kept ++ wanted) s → Contains (kept ++ wanted) r → s.slot ≢ r.slot → Overlap s.span r.span
-      → IsLater s.span r.span clash.instant → AreNamed (keyed_instance k s) (keyed_instance k r) clash.instant clash → NamesListedClash both (owned_key_of clash.first) (owned_key_of clash.second) clash.instant
+      → IsLater s.span r.span clash.instant → AreNamed (keyed_instance k s) (keyed_instance k r) clash.instant clash → NamesClash (Contains both) (owned_key_of clash.first) (owned_key_of clash.second) clash.instant
   own_named s r clash in_s in_r slots overlap later named =
-      names_two both (keyed_instance k s) (keyed_instance k r) clash (own_in s in_s) (own_in r in_r) (λ e. slots (ap (λ (z : Key). z.slot) e)) overlap later named
+      names_these (Contains both) (keyed_instance k s) (keyed_instance k r) clash (own_in s in_s) (own_in r in_r) (λ e. slots (ap (λ (z : Key). z.slot) e)) overlap later named
 
   -- one that is asked for clashes with one that stays confirmed, of another meeting or of the same
   pub staying_named : AllPairs ◌≢◌ (slots_of (kept ++ wanted)) → (s : Single) (b : Instance) (clash : Clash) → Contains wanted s → Contains (all ++ instance_list k kept) b → Overlap s.span (instance_span b)
-      → IsLater s.span (instance_span b) clash.instant → AreNamed (keyed_instance k s) b clash.instant clash → NamesListedClash both (owned_key_of clash.first) (owned_key_of clash.second) clash.instant
+      → IsLater s.span (instance_span b) clash.instant → AreNamed (keyed_instance k s) b clash.instant clash → NamesClash (Contains both) (owned_key_of clash.first) (owned_key_of clash.second) clash.instant
   staying_named distinct s b clash in_s in_b overlap later named = elim (Contains-append_cases all (instance_list k kept) b in_b) [
-    | inl other ↦ names_two both (keyed_instance k s) b clash (own_in s (Contains-append_right kept wanted s in_s)) (Contains-append_left all (instance_list k (kept ++ wanted)) b other)
+    | inl other ↦ names_these (Contains both) (keyed_instance k s) b clash (own_in s (Contains-append_right kept wanted s in_s)) (Contains-append_left all (instance_list k (kept ++ wanted)) b other)
         (λ e. differ s b other (sym e)) overlap later named
     | inr mine ↦
         let r = in_booked k kept b mine in
         let slots : AllPairs ◌≢◌ (slots_of kept ++ slots_of wanted) = subst (AllPairs ◌≢◌) (map-append (λ (x : Single). x.slot) kept wanted) distinct in
         let apart = pairs_across ◌≢◌ (slots_of kept) (slots_of wanted) (pairs_to ◌≢◌ (slots_of kept ++ slots_of wanted) slots) r.0.slot s.slot (map_from (λ (x : Single). x.slot) kept r.0 r.1) (map_from (λ (x : Single). x.slot) wanted s in_s) in
         let key : b.key.slot ≡ r.0.slot = sym (ap (λ (z : Instance). z.key.slot) r.2) in
-        names_two both (keyed_instance k s) b clash (own_in s (Contains-append_right kept wanted s in_s))
+        names_these (Contains both) (keyed_instance k s) b clash (own_in s (Contains-append_right kept wanted s in_s))
         (subst (Contains both) r.2 (own_in r.0 (Contains-append_left kept wanted r.0 r.1)))
         (λ e. apart (sym key ∙ sym (ap (λ (z : Key). z.slot) e))) overlap later named
   ]
 
   -- none do: those kept were clear beside the others, those that are asked for are free of them, and its own share no instant
-  module _ (clear : IsClear (all ++ instance_list k kept)) (free : (s : Single) → Contains wanted s → IsFree all s.span) (separate : AreSeparate (kept ++ wanted)) where
+  module _ (clear : IsClear (Contains (all ++ instance_list k kept))) (free : (s : Single) → Contains wanted s → IsFree all s.span) (separate : AreSeparate (kept ++ wanted)) where
     beside : (b : Instance) (s : Single) (t : ℤ) → Contains all b → Contains (kept ++ wanted) s → HaveInstant s.span (instance_span b) t → ⊥
     beside b s t in_b in_s h = elim (Contains-append_cases kept wanted s in_s) [
-      | inl old ↦ clear b (keyed_instance k s) t record {
-        first = Contains-append_left all (instance_list k kept) b in_b;
-        second = Contains-append_right all (instance_list k kept) (keyed_instance k s) (booked_from k kept s old);
+      | inl old ↦ clear b (keyed_instance k s) t (Contains-append_left all (instance_list k kept) b in_b) (Contains-append_right all (instance_list k kept) (keyed_instance k s) (booked_from k kept s old)) record {
         differ = differ s b in_b;
         before = h.before;
         in_first = h.in_second;
@@ -190,17 +172,17 @@ module _ (all : List Instance) (k : MeetingKey) (kept wanted : List Single) (dif
         order : (m n : ℕ) → (m < n) ⊎ ((n < m) ⊎ (m ≡ n))
         order m n = grind arith
 
-    pub clear_all : IsClear both
-    clear_all a b t c = elim (Contains-append_cases all (instance_list k (kept ++ wanted)) a c.first) [
-      | inl a_other ↦ elim (Contains-append_cases all (instance_list k (kept ++ wanted)) b c.second) [
-        | inl b_other ↦ clear a b t record { first = Contains-append_left all (instance_list k kept) a a_other; second = Contains-append_left all (instance_list k kept) b b_other; differ = c.differ; before = c.before; in_first = c.in_first; in_second = c.in_second }
+    pub clear_all : IsClear (Contains both)
+    clear_all a b t in_a in_b c = elim (Contains-append_cases all (instance_list k (kept ++ wanted)) a in_a) [
+      | inl a_other ↦ elim (Contains-append_cases all (instance_list k (kept ++ wanted)) b in_b) [
+        | inl b_other ↦ clear a b t (Contains-append_left all (instance_list k kept) a a_other) (Contains-append_left all (instance_list k kept) b b_other) c
         | inr b_own ↦ (
             let s = in_booked k (kept ++ wanted) b b_own in
             beside a s.0 t a_other s.1 (subst (λ (z : Instance). HaveInstant (instance_span z) (instance_span a) t) (sym s.2) (record { in_first = c.in_second; in_second = c.in_first; before = c.before })))
       ]
       | inr a_own ↦ (
           let r = in_booked k (kept ++ wanted) a a_own in
-          elim (Contains-append_cases all (instance_list k (kept ++ wanted)) b c.second) [
+          elim (Contains-append_cases all (instance_list k (kept ++ wanted)) b in_b) [
             | inl b_other ↦ beside b r.0 t b_other r.1 (subst (λ (z : Instance). HaveInstant (instance_span z) (instance_span b) t) (sym r.2) (record { in_first = c.in_first; in_second = c.in_second; before = c.before }))
             | inr b_own ↦ (
                 let s = in_booked k (kept ++ wanted) b b_own in
@@ -300,7 +282,7 @@ place_in all place x d l e = slice_get-get_or all place d l ∙ ap Some e
 
 -- ---- what is decided
 
-module _ (k : MeetingKey) (es : List (MeetingKey × Meeting)) (distinct_keys : IsDistinct same_key (keys_of es)) (clear : IsClear (all_confirmed es)) (apart : AreAllApart es)
+module _ (k : MeetingKey) (es : List (MeetingKey × Meeting)) (distinct_keys : IsDistinct same_key (keys_of es)) (clear : IsClear (Contains (all_confirmed es))) (apart : AreAllApart es)
     (beside : ℕ) (few : beside ≤ 10_000) (gone kept wanted : List Single) (parted : IsParted (singles_by (lookup (same_key k) es)) gone kept) (beside_is : beside ≡ length (others k es) + length kept) where
   abbrev other : List Instance
   other = others k es
@@ -321,7 +303,7 @@ module _ (k : MeetingKey) (es : List (MeetingKey × Meeting)) (distinct_keys : I
   busy_not_accept a b t e = true≢false (sym (ap is_accept e))
 
   pub decides_clash : (outcome : Outcome) (clash : Clash) → outcome_of outcome ≡ messages.Busy (owned_key_of clash.first) (owned_key_of clash.second) clash.instant → length wanted ≤ 10_000 - beside
-      → (AllPairs ◌≢◌ (slots_of (kept ++ wanted)) → NamesListedClash (other ++ instance_list k (kept ++ wanted)) (owned_key_of clash.first) (owned_key_of clash.second) clash.instant) → IsDecision other k kept wanted outcome
+      → (AllPairs ◌≢◌ (slots_of (kept ++ wanted)) → NamesClash (Contains (other ++ instance_list k (kept ++ wanted))) (owned_key_of clash.first) (owned_key_of clash.second) clash.instant) → IsDecision other k kept wanted outcome
   decides_clash outcome clash is few_more named = record {
     decides = λ distinct. subst (DecidesAmong (other ++ instance_list k (kept ++ wanted))) (sym is) (few_all other k kept wanted own_differ beside beside_is few few_more, named distinct);
     joins = λ accepted. absurd (busy_not_accept (owned_key_of clash.first) (owned_key_of clash.second) clash.instant (sym is ∙ accepted));

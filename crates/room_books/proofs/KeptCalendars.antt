@@ -16,9 +16,9 @@ use Rattle.profile.specs.checker.Calendars.{SpellsCalendar, CertificateHolds}
 use Rattle.profile.specs.checker.Instances.{Instance, Key}
 use Rattle.profile.specs.rooms.Messages.{opening_lines, slot_of, slot_named}
 use Rattle.profile.specs.rooms.Revisions.{Part, Slot, Whole, At, in_view, is_whole, same_meeting, same_part, same_place, slot_cmp}
-use Rattle.profile.specs.rooms.Rooms.{Claim, PartAnswer, Book, Delivery, Runs, empty_book, Confirms, Recurring, confirmed_series, confirmed_singles, is_confirmed, is_hidden, is_set}
+use Rattle.profile.specs.rooms.Rooms.{Claim, PartAnswer, Book, Confirms, Recurring, confirmed_series, confirmed_singles, is_confirmed, is_hidden, is_set}
 use Rattle.profile.specs.rooms.Kept.{KeptComponent, Shown, Hidden, part_kept, IsKept, IsKeptComponent, AreKept, IsKeptEvent, IsKeptCalendar, kept_certificate, zone_texts, zones_kept}
-use Rattle.profile.specs.streams.Streams.{AsksFor, IsDelivered}
+use Rattle.profile.specs.streams.Streams.{AsksFor, IsReached}
 use Rattle.cal_events.proofs.OwnSingles.{master_alone}
 use Rattle.itip_order.proofs.Lasting.{view_taken}
 use Rattle.itip_order.proofs.Lists.{in_head, in_tail, any_at, any_from}
@@ -27,6 +27,7 @@ use Rattle.itip_messages.proofs.ContentLines.{LinesBack, ReadsLines, no_method}
 use Rattle.clash_cert.proofs.MakingLemmas.{certificate_holds}
 use Rattle.room_books.specs.BySlot.{Reordered}
 use Rattle.room_books.specs.Representation.{Pairwise}
+use Rattle.room_books.specs.Keeping.{SpellsConfirmed}
 use Rattle.room_books.proofs.AcceptedSlots.{slot_same}
 use Rattle.room_books.proofs.KeptAnswers.{IsAskedFor, shows_back, hides_back, set_body, set_zone, asked_room, IsRoom}
 use Rattle.room_books.proofs.KeptEntries.{SamePlace, EntriesDiffer, place_there, place_from, meeting_from, claims_confirmed, claims_kept, claims_same, entries_differ, entry_placed, of_claims}
@@ -411,14 +412,6 @@ zip_long R [] (y ∷ ys) z = absurd z
 zip_long R (x ∷ xs) [] z = absurd z
 zip_long R (x ∷ xs) (y ∷ ys) z = let n = zip_long R xs ys z.1 in omega (arith, n)
 
--- the calendar spells as many singles and as many series as the book has confirmed, and the same instances
-pub record SpellsConfirmed (room : List ℕ) (book : Book) (calendar : List ℕ) : Type 0 where
-  pub all : Confirmed
-  pub spells : SpellsCalendar room calendar all
-  pub singles : length all.singles ≡ length (confirmed_singles book)
-  pub series : length all.series ≡ length (confirmed_series book)
-  pub exact : (b : Instance) → IsOneOf all b ↔ Confirms book b
-
 module _ (room : List ℕ) (book : Book) (keeps : KeepsAll room book) (entries : List KeptComponent) (are : AreKept book entries) where
   claims : Reordered (claims_kept entries) (claims_confirmed book)
   claims = claims_same book entries are keeps.sound.known keeps.once
@@ -475,11 +468,9 @@ keeps_pass back reads zone_back room book keeps calendar c =
           (λ a b t x y clash. keeps.sound.good.clear a b t ((s.exact a).0 x) ((s.exact b).0 y) clash);
     }
 
-pub kept_same : LinesBack → ReadsLines → ZoneBack → (room : List ℕ) (deliveries : List Delivery) → ((d : Delivery) → Contains deliveries d → IsDelivered room d)
-    → (book : Book) → Runs empty_book deliveries book → (calendar : List ℕ) → IsKeptCalendar room book calendar → SpellsConfirmed room book calendar
-kept_same back reads zone_back room deliveries f book runs = keeps_same back reads zone_back room book (runs_keep room deliveries book f runs)
+pub kept_same : LinesBack → ReadsLines → ZoneBack → (room : List ℕ) (book : Book) → IsReached room book → (calendar : List ℕ) → IsKeptCalendar room book calendar → SpellsConfirmed room book calendar
+kept_same back reads zone_back room book r = keeps_same back reads zone_back room book (runs_keep room r.deliveries book r.delivered r.runs)
 
 -- whatever messages come, what is kept after them passes
-pub kept_passes : LinesBack → ReadsLines → ZoneBack → (room : List ℕ) (deliveries : List Delivery) → ((d : Delivery) → Contains deliveries d → IsDelivered room d)
-    → (book : Book) → Runs empty_book deliveries book → (calendar : List ℕ) → IsKeptCalendar room book calendar → CertificateHolds room calendar (kept_certificate book)
-kept_passes back reads zone_back room deliveries f book runs = keeps_pass back reads zone_back room book (runs_keep room deliveries book f runs)
+pub kept_passes : LinesBack → ReadsLines → ZoneBack → (room : List ℕ) (book : Book) (calendar : List ℕ) → IsReached room book → IsKeptCalendar room book calendar → CertificateHolds room calendar (kept_certificate book)
+kept_passes back reads zone_back room book calendar r = keeps_pass back reads zone_back room book (runs_keep room r.deliveries book r.delivered r.runs) calendar

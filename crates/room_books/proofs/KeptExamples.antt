@@ -14,7 +14,7 @@ use Rattle.profile.specs.text.Values.{SpellsDate, SpellsDuration, WritesStamp, I
 use Rattle.profile.specs.text.Trees.{Tree, tree, none, more}
 use Rattle.profile.specs.text.Objects.{IsObject}
 use Rattle.profile.specs.text.Objects.SpellsBody.{nothing, property}
-use Rattle.profile.specs.checker.Instances.{Instance, IsWithin}
+use Rattle.profile.specs.checker.Instances.{Instance, IsClear, IsWithin}
 use Rattle.profile.specs.series.Days.{Daily, days_before_year, days_of_months, greatest, year_of, month_of, year_days_before, year_days_after, month_days_before, month_days_after, weekday_of, period_of}
 use Rattle.profile.specs.series.Rules.{Rule, RuleText, UntilDay, rule_of, is_rule_day, is_within_count, is_counted, is_placed, mates_before, mates_after, is_mate, count_days, is_base, is_in_step, passes, passes_month, passes_month_day, passes_weekday, go_together}
 use Rattle.profile.specs.series.RuleTexts.{rule_parts, after_key, months_from, numbers_from, entries_from, SpellsRule, IsKnownPart, EndsAt as UntilKey}
@@ -28,7 +28,7 @@ use Rattle.profile.specs.events.Confirmed.{AreApart, AreOfRule, IsOfSeries, alon
 use Rattle.profile.specs.rooms.Messages as messages
 use Rattle.profile.specs.rooms.Messages.{Content, SpellsMessage, IsContent, IsPart, WritesTimes, Accept, no_content, opening_lines}
 use Rattle.profile.specs.rooms.Revisions.{Part, Whole, At, Cancelled, Set, is_whole, slot_cmp}
-use Rattle.profile.specs.rooms.Rooms.{PartAnswer, Book, Claim, Confirms, Delivery, IsClear, IsShownInSeries, Recurring, Runs, empty_book, confirmed_series, is_hidden, answered}
+use Rattle.profile.specs.rooms.Rooms.{PartAnswer, Book, Claim, Confirms, Delivery, IsShownInSeries, Recurring, Runs, empty_book, confirmed_series, is_hidden, answered}
 use Rattle.profile.specs.streams.Streams.{IsDelivered}
 use Rattle.profile.specs.rooms.Kept.{KeptComponent, Shown, Hidden, part_kept, IsKeptComponent, AreKeptOf, IsKept, IsKeptCalendar}
 use Rattle.cal_events.proofs.Meanings.{utc_instant, utc_means}
@@ -565,7 +565,7 @@ recurring = record { part = part; meeting = series }
 of_it : (taken : List Part) (b : Instance) → IsShownInSeries taken (recurring ∷ []) b → IsInstance series b
 of_it taken b l = subst (λ (r : Recurring). IsInstance r.meeting b) (only recurring l.series l.among) l.is
 
-clear_both : IsClear once_taken
+clear_both : IsClear (Confirms once_taken)
 clear_both a b t c d clash = by (found a c) (found b d)
   where
     found : (x : Instance) → Confirms once_taken x → (x ≡ first) ⊎ (x ≡ second)

@@ -1,4 +1,6 @@
 pub mod Loops
+pub mod Accepting
+pub mod Reaching
 pub mod Pairs
 pub mod Views
 pub mod Keys

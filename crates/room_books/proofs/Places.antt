@@ -275,7 +275,7 @@ module _ (k : MeetingKey) (es : List Entry) (distinct : IsDistinct same_key (key
   ]
 
   -- each instance of a meeting that is clear beside the others shares no instant with what other places hold
-  pub free_but_own : (items : List Busy) → IsTimelineOf (confirmed_at es) items → (singles : List Single) → IsClear (others k es ++ instance_list k singles)
+  pub free_but_own : (items : List Busy) → IsTimelineOf (confirmed_at es) items → (singles : List Single) → IsClear (Contains (others k es ++ instance_list k singles))
       → (s : Single) → Contains singles s → IsFreeBut (place_of k es) items s.span
   free_but_own items timeline singles clear s c b t there n h =
       let e = real_entry es items timeline b there in
@@ -283,9 +283,7 @@ module _ (k : MeetingKey) (es : List Entry) (distinct : IsDistinct same_key (key
       let booked = keyed_instance e.0.0 b.single in
       let among : Contains (others k es) booked = flat_from (filter (is_other k) es) e.0 booked
       (filter_from (is_other k) es e.0 (entry_in es b.place e.0 e.1) (ap not other)) (booked_from e.0.0 (meeting_singles e.0.1) b.single e.2) in
-      clear booked (keyed_instance k s) t record {
-        first = Contains-append_left (others k es) (instance_list k singles) booked among;
-        second = Contains-append_right (others k es) (instance_list k singles) (keyed_instance k s) (booked_from k singles s c);
+      clear booked (keyed_instance k s) t (Contains-append_left (others k es) (instance_list k singles) booked among) (Contains-append_right (others k es) (instance_list k singles) (keyed_instance k s) (booked_from k singles s c)) record {
         differ = booked_differs k e.0.0 s b.single other;
         before = h.before;
         in_first = h.in_second;
@@ -299,13 +297,11 @@ slots_at singles i j d differ less within same =
     (get_or-map (λ (s : Single). s.slot) singles i d d.slot (omega (arith, less, within)) ∙ same ∙ sym (get_or-map (λ (s : Single). s.slot) singles j d d.slot within))
 
 -- the instances of a meeting that are clear share no instant
-pub clear_separate : (k : MeetingKey) (all : List Instance) (singles : List Single) → IsClear (all ++ instance_list k singles) → AllPairs ◌≢◌ (slots_of singles) → AreSeparate singles
+pub clear_separate : (k : MeetingKey) (all : List Instance) (singles : List Single) → IsClear (Contains (all ++ instance_list k singles)) → AllPairs ◌≢◌ (slots_of singles) → AreSeparate singles
 clear_separate k all singles clear differ i j d less within t h =
     let place : (n : ℕ) → n < length singles → Contains (all ++ instance_list k singles) (keyed_instance k (get_or singles n d)) =
     λ n l. Contains-append_right all (instance_list k singles) (keyed_instance k (get_or singles n d)) (booked_from k singles (get_or singles n d) (Contains-get_or singles n d l)) in
-    clear (keyed_instance k (get_or singles i d)) (keyed_instance k (get_or singles j d)) t record {
-      first = place i (omega (arith, less, within));
-      second = place j within;
+    clear (keyed_instance k (get_or singles i d)) (keyed_instance k (get_or singles j d)) t (place i (omega (arith, less, within))) (place j within) record {
       differ = λ e. slots_at singles i j d differ less within (ap (λ (z : Key). z.slot) e);
       before = h.before;
       in_first = h.in_first;

@@ -52,7 +52,7 @@ module _ (k : MeetingKey) (m : Meeting) where
   put_same (e ∷ es) distinct = put_same_at e es (same_key k e.0) refl distinct (put_same es (IsDistinct-tail same_key e.0 (keys_of es) distinct))
 
   -- they are clear where the others and its own are
-  pub put_clear : (es : List (MeetingKey × Meeting)) → IsDistinct same_key (keys_of es) → IsClear (others k es ++ instance_list k (meeting_singles m)) → IsClear (all_confirmed (insert_entry same_key es k m))
+  pub put_clear : (es : List (MeetingKey × Meeting)) → IsDistinct same_key (keys_of es) → IsClear (Contains (others k es ++ instance_list k (meeting_singles m))) → IsClear (Contains (all_confirmed (insert_entry same_key es k m)))
   put_clear es distinct clear = clear_same (all_confirmed (insert_entry same_key es k m)) (others k es ++ instance_list k (meeting_singles m)) (put_same es distinct) clear
 
 -- ---- what all confirmed before
@@ -80,9 +80,8 @@ module _ (k : MeetingKey) (es : List (MeetingKey × Meeting)) (kept : List Singl
   ]
 
   -- the others and some of its own are clear where all are
-  pub clear_kept : IsClear (all_confirmed es) → IsClear (others k es ++ instance_list k kept)
-  clear_kept clear a b t c =
-      clear a b t record { first = kept_in a c.first; second = kept_in b c.second; differ = c.differ; before = c.before; in_first = c.in_first; in_second = c.in_second }
+  pub clear_kept : IsClear (Contains (all_confirmed es)) → IsClear (Contains (others k es ++ instance_list k kept))
+  clear_kept clear a b t in_a in_b clash = clear a b t (kept_in a in_a) (kept_in b in_b) clash
 
 -- ---- the counts that a change asks for
 

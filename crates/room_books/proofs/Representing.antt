@@ -218,6 +218,16 @@ refreshes_all : (room : List ℕ) (k : MeetingKey) (book : Book) (claims : List 
 refreshes_all room k book claims fit adds moment None r = sym (wants_own k book claims fit adds) ∙ r
 refreshes_all room k book claims fit adds moment (Some octets) r = (sym (wants_own k book claims fit adds) ∙ r.0, r.1)
 
+-- the meetings with that after the claims put in its place represent the book after them
+pub now_represents : (entries entries' : Entries) (book : Book) (k : MeetingKey) (claims : List Claim) (moment : ℤ) (kind : Kind) (m : Meeting) → 0 < length claims
+    → Represents entries book → AreFitting k claims → (after : IsMeetingAfter book k claims moment kind m) → entries' ≡ insert_entry same_key entries k m
+    → ((q : MeetingKey) → lookup (same_key q) entries' ≡ cond (same_key k q) (Some m) (lookup (same_key q) entries))
+    → Represents entries' (book_after book claims moment after.outcome)
+now_represents entries entries' book k claims moment kind m some st fit after put updates =
+    let order : AreKeysOf (keys_of entries') (first_parts (book.taken ++ parts_of claims)) =
+    subst (λ (l : Entries). AreKeysOf (keys_of l) (first_parts (book.taken ++ parts_of claims))) (sym put) (arrive_all entries book.taken k m claims some fit st.order) in
+    represents_now entries entries' book k claims moment kind m st fit after order updates
+
 -- from the meeting after the claims, put in its place, and the reply by its own book
 pub claims_step : (room : List ℕ) (entries entries' : Entries) (book : Book) (k : MeetingKey) (claims : List Claim) (moment : ℤ) (kind : Kind) (m : Meeting) (reply : Option (List ℕ)) (adds : Bool) (refresh : Option (List ℕ)) → 0 < length claims
     → Represents entries book → AreFitting k claims → IsMeetingAfter book k claims moment kind m → entries' ≡ insert_entry same_key entries k m
@@ -226,10 +236,8 @@ pub claims_step : (room : List ℕ) (entries entries' : Entries) (book : Book) (
     → ((before taken : List Part) → HasHistory (lookup (same_key k) entries) before → RepresentsHistory m.held taken → Refreshes room adds before taken claims moment refresh)
     → StepsWith room entries' book claims moment kind reply adds refresh
 claims_step room entries entries' book k claims moment kind m reply adds refresh some st fit after put updates shows asks =
-    let order : AreKeysOf (keys_of entries') (first_parts (book.taken ++ parts_of claims)) =
-    subst (λ (l : Entries). AreKeysOf (keys_of l) (first_parts (book.taken ++ parts_of claims))) (sym put) (arrive_all entries book.taken k m claims some fit st.order) in
     let now : Book = book_after book claims moment after.outcome in
-    let represents : Represents entries' now = represents_now entries entries' book k claims moment kind m st fit after order updates in
+    let represents : Represents entries' now = now_represents entries entries' book k claims moment kind m some st fit after put updates in
     record {
       steps = record { outcome = after.outcome; after = now; step = after.step; represents = represents; kind_is = after.kind_is };
       replies = replies_all room k now claims reply fit.of_it (shows (book_of k now) (own_of k entries' now represents) after.meets);

@@ -45,7 +45,7 @@ put_apart k m (e ∷ es) h s x c = at_test (same_key k e.0) (put_apart k m es (�
     at_test false r d = elim (in_cons e (insert_entry same_key es k m) x d) [ inl here ↦ subst (λ (z : MeetingKey × Meeting). AreSeparate (meeting_singles z.1)) here (h e (in_head e es)) | inr there ↦ r there ]
 
 -- what a meeting keeps may be confirmed beside the others
-pub kept_joins : (k : MeetingKey) (es : List (MeetingKey × Meeting)) (kept : List Single) → IsDistinct same_key (keys_of es) → IsClear (all_confirmed es) → AreAllApart es → length (all_confirmed es) ≤ 10_000
+pub kept_joins : (k : MeetingKey) (es : List (MeetingKey × Meeting)) (kept : List Single) → IsDistinct same_key (keys_of es) → IsClear (Contains (all_confirmed es)) → AreAllApart es → length (all_confirmed es) ≤ 10_000
     → IsPartOf kept (singles_by (lookup (same_key k) es)) → MayJoin (others k es) k kept
 kept_joins k es kept distinct clear apart few part = record {
   few = (let n = others_count k es distinct in let s = part.shorter in let m = length-map kept (keyed_instance k) in omega (arith, n, s, m, few, length-append (others k es) (instance_list k kept)));

@@ -6,18 +6,18 @@ use Rattle.std.specs.List.{Contains, filter, flat_map}
 use Rattle.std.proofs.lemmas.Bool.{and_parts, and_from, true≢false, both_ways, not-true, not_from_false, false_from_ne_true, lt-ltb}
 use Rattle.std.proofs.lemmas.List.Elements.{Contains-append_left, Contains-append_right, Contains-append_cases, filter-append}
 use Rattle.std.proofs.lemmas.Grind.{flat_map-append}
-use Rattle.profile.specs.checker.Instances.{Instance}
+use Rattle.profile.specs.checker.Instances.{Instance, IsClear}
 use Rattle.profile.specs.events.Events.{Event}
 use Rattle.profile.specs.rooms.Revisions.{Part, in_view}
 use Rattle.profile.specs.rooms.Messages.{Outcome, Accept, Busy, SeriesLimit, SinglesLimit}
-use Rattle.profile.specs.rooms.Rooms.{Claim, PartAnswer, Book, Confirms, IsClear, IsWithinLimits, Recurring, empty_book, is_accept, is_confirmed, is_hidden, left_of, recurring_in, singles_confirmed, confirmed_singles, confirmed_series, is_fresh, is_set, parts_of, asked, Decides, answered, IsStep, Delivery, Runs}
+use Rattle.profile.specs.rooms.Rooms.{Claim, PartAnswer, Book, Confirms, IsWithinLimits, Recurring, empty_book, is_accept, is_confirmed, is_hidden, left_of, recurring_in, singles_confirmed, confirmed_singles, confirmed_series, is_fresh, is_set, parts_of, asked, Decides, answered, IsStep, Delivery, Runs}
 use Rattle.itip_order.proofs.Lists.{in_cons, in_head, in_tail, none_in_nil, filter_at}
 use Rattle.room_books.proofs.Pairs.{flat_at, map_at, map_from}
 use Rattle.room_books.proofs.Views.{view_back, hidden_stays}
 
 -- clear, and within the limits
 pub record Good (book : Book) : Type 0 where
-  pub clear : IsClear book
+  pub clear : IsClear (Confirms book)
   pub few : IsWithinLimits book
 
 -- each answer's part was taken

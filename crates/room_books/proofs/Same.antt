@@ -1,8 +1,8 @@
 -- Lists with the same elements, and as many.
-use Rattle.std.proofs.Common.{◌≡◌, ℤ, List, ◌++◌, inl, inr, refl, sym, ◌∙◌, length, arith, length-append}
+use Rattle.std.proofs.Common.{◌≡◌, List, ◌++◌, inl, inr, refl, sym, ◌∙◌, length, arith, length-append}
 use Rattle.std.specs.List.{Contains}
 use Rattle.std.proofs.lemmas.List.Elements.{Contains-append_left, Contains-append_right, Contains-append_cases}
-use Rattle.profile.specs.checker.Instances.{Instance, IsClash, IsClear}
+use Rattle.profile.specs.checker.Instances.{Instance, IsClear}
 
 -- the same elements, and as many
 pub record AreSame {X : Type 0} (xs ys : List X) : Type 0 where
@@ -44,9 +44,5 @@ module _ {X : Type 0} where
   pub same_turned : (xs ys : List X) → AreSame xs ys → AreSame ys xs
   same_turned xs ys same = record { to = same.from; from = same.to; long = sym same.long }
 
-clash_same : (xs ys : List Instance) → AreSame xs ys → (a b : Instance) (t : ℤ) → IsClash xs a b t → IsClash ys a b t
-clash_same xs ys same a b t c =
-    record { first = same.to a c.first; second = same.to b c.second; differ = c.differ; before = c.before; in_first = c.in_first; in_second = c.in_second }
-
-pub clear_same : (xs ys : List Instance) → AreSame xs ys → IsClear ys → IsClear xs
-clear_same xs ys same clear a b t c = clear a b t (clash_same xs ys same a b t c)
+pub clear_same : (xs ys : List Instance) → AreSame xs ys → IsClear (Contains ys) → IsClear (Contains xs)
+clear_same xs ys same clear a b t in_a in_b clash = clear a b t (same.to a in_a) (same.to b in_b) clash

@@ -1,7 +1,7 @@
 -- The decision of singles and series: by the limits, by the singles alone, and by the series.
 use Rattle.std.proofs.Common.{◌≡◌, ◌∙◌, ◌≤◌, ◌<◌, ◌+◌, ℕ, ℤ, true, false, List, ◌++◌, inl, length, Option, None, Some, Vec, vec_len, refl, rules, subst, sym, ap, arith, length-append}
 use denote.Ref.{Bor}
-use Rattle.std.specs.List.{IsDistinct}
+use Rattle.std.specs.List.{Contains, IsDistinct}
 use Rattle.std.specs.Map.{lookup, keys_of}
 use Rattle.std.proofs.lemmas.Bool.{true≢false, both_ways}
 use Rattle.std.proofs.lemmas.List.{length-map}
@@ -48,7 +48,7 @@ module _ (others : Confirmed) (k : MeetingKey) (kept candidates : List PartAnswe
   module _ (few : length now.series ≤ most_series) where
     among_of : (o : messages.Outcome) → is_accept o ≡ false → DecidesAmong now.singles o → DecidesOf now o
     among_of messages.Accept h d = absurd (true≢false h)
-    among_of (messages.Busy first second t) h d = (record { series = few; singles = d.0 }, names_more now.singles (IsOneOf now) first second t (λ b c. inl c) d.1)
+    among_of (messages.Busy first second t) h d = (record { series = few; singles = d.0 }, names_more (Contains now.singles) (IsOneOf now) first second t (λ b c. inl c) d.1)
     among_of messages.SeriesLimit h d = absurd d
     among_of messages.SinglesLimit h d = (few, d)
 

@@ -1,5 +1,5 @@
 -- What is written of what a room keeps.
-use Rattle.std.specs.Prelude.{◌≡◌, ℕ, Bool, true, false, not, List, [], ◌∷◌, ◌++◌, ◌&&◌, codes, decimal, filter, map, if◌then◌else◌}
+use Rattle.std.specs.Prelude.{◌≡◌, ◌↔◌, ℕ, Bool, true, false, not, List, [], ◌∷◌, ◌++◌, ◌&&◌, codes, decimal, filter, length, map, if◌then◌else◌}
 use Rattle.std.specs.List.{flat_map, list_any, AllZip}
 use Rattle.std.specs.Option.{option_to_list}
 use Rattle.std.specs.Ordering.{is_eq}
@@ -10,7 +10,10 @@ use Rattle.profile.specs.rooms.Revisions as revisions
 use Rattle.profile.specs.rooms.Revisions.{Part, is_whole, same_meeting, slot_cmp}
 use Rattle.profile.specs.rooms.Messages.{TellsSlot}
 use Rattle.profile.specs.text.Values.{WritesStamp, escaped}
-use Rattle.profile.specs.rooms.Rooms.{Claim, PartAnswer as SaidAnswer, Book, is_accept, is_confirmed, is_set}
+use Rattle.profile.specs.checker.Calendars.{SpellsCalendar}
+use Rattle.profile.specs.checker.Instances.{Instance}
+use Rattle.profile.specs.events.Confirmed.{Confirmed, IsOneOf}
+use Rattle.profile.specs.rooms.Rooms.{Claim, PartAnswer as SaidAnswer, Book, Confirms, confirmed_series, confirmed_singles, is_accept, is_confirmed, is_set}
 use Rattle.profile.specs.rooms.Kept.{first_parts, Shown, Hidden, IsKeptEvent}
 use Rattle.profile.specs.text.Lines.{written}
 use Rattle.itip_messages.specs.Zoning.{with_zones}
@@ -37,6 +40,14 @@ kept book = kept_parts book (first_parts book.taken)
 -- the claims that they answer
 abbrev pub claims_of : List SaidAnswer → List Claim
 claims_of answers = map (λ a. a.claim) answers
+
+-- the calendar spells what the book confirms: as many singles, as many series, and the same instances
+pub record SpellsConfirmed (room : List ℕ) (book : Book) (calendar : List ℕ) : Type 0 where
+  pub all : Confirmed
+  pub spells : SpellsCalendar room calendar all
+  pub singles : length all.singles ≡ length (confirmed_singles book)
+  pub series : length all.series ≡ length (confirmed_series book)
+  pub exact : (booked : Instance) → IsOneOf all booked ↔ Confirms book booked
 
 -- ---- by the meetings
 

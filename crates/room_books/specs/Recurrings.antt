@@ -70,7 +70,7 @@ AreNewClear singles all from wanted (Some x) = AreClearFrom all from (Some x) �
 -- meeting are of one
 abbrev pub AreClearBeside : Confirmed → MeetingKey → List Single → List Series → List Single → List Series → Option Clash → Type 0
 AreClearBeside others key own kept singles wanted None =
-    IsClearIn (joined others key own kept) → IsClear (others.singles ++ instance_list key (own ++ singles)) → IsClearIn (joined others key (own ++ singles) (kept ++ wanted))
+    IsClearIn (joined others key own kept) → IsClear (Contains (others.singles ++ instance_list key (own ++ singles))) → IsClearIn (joined others key (own ++ singles) (kept ++ wanted))
 AreClearBeside others key own kept singles wanted (Some clash) =
     AreOfOneMeeting (own ++ singles) (kept ++ wanted)
     → NamesClash (IsOneOf (joined others key (own ++ singles) (kept ++ wanted))) (owned_key_of clash.first) (owned_key_of clash.second) clash.instant

@@ -9,15 +9,16 @@ use Rattle.ical_values.specs.Octets.{address_octets, text_octets}
 use Rattle.itip_order.specs.Registers.{RepresentsHistory, together}
 use Rattle.itip_order.specs.declared.part.Slot.{Slot as OwnSlot}
 use Rattle.itip_order.specs.Parts.{slot_of}
-use Rattle.profile.specs.checker.Instances.{Instance}
+use Rattle.profile.specs.checker.Instances.{Instance, IsClear}
 use Rattle.profile.specs.events.Events.{Event as Series}
 use Rattle.profile.specs.events.Starts.{IsInstance}
 use Rattle.profile.specs.events.Confirmed.{IsInSeries}
 use Rattle.profile.specs.text.Values.{IsClockSeconds}
 use Rattle.profile.specs.rooms.Revisions.{Part, Slot, Whole, At, Body, Set, Absent, Cancelled, in_view}
 use Rattle.profile.specs.rooms.Messages.{Outcome}
-use Rattle.profile.specs.rooms.Rooms.{Claim, PartAnswer as SaidAnswer, Book, Kind, Recurring, is_set, parts_of, asked, answered, singles_confirmed, series_confirmed, IsClear, IsShownInSeries, IsStep, IsWithinLimits, kind_of}
+use Rattle.profile.specs.rooms.Rooms.{Claim, PartAnswer as SaidAnswer, Book, Confirms, Kind, Recurring, is_set, parts_of, asked, answered, singles_confirmed, series_confirmed, IsShownInSeries, IsStep, IsWithinLimits, kind_of}
 use Rattle.profile.specs.rooms.Kept.{Replies, Refreshes, first_parts}
+use Rattle.profile.specs.streams.Streams.{IsReached}
 use Rattle.itip_messages.specs.Messages as messages
 use Rattle.room_books.specs.declared.meeting.MeetingKey.{MeetingKey}
 use Rattle.room_books.specs.declared.kept.Meeting.{Meeting}
@@ -176,9 +177,15 @@ pub record Represents (entries : List (MeetingKey × Meeting)) (book : Book) : T
   pub fit : (answer : SaidAnswer) → Contains book.answers answer → IsFitting answer.claim
   pub dated : (part : Part) → Contains book.taken part → SlotDated part.slot
   pub once : Pairwise (λ a b. a.claim.part ≢ b.claim.part) book.answers
-  pub clear : IsClear book
+  pub clear : IsClear (Confirms book)
   pub few : IsWithinLimits book
   pub meets : (key : MeetingKey) → MeetsAt (book_of key book) key (lookup (same_key key) entries)
+
+-- the meetings represent a book that some messages lead to
+pub record HaveReached (room : List ℕ) (entries : List (MeetingKey × Meeting)) : Type 0 where
+  pub book : Book
+  pub reached : IsReached room book
+  pub represents : Represents entries book
 
 -- the book after these claims, where this was decided
 abbrev pub book_after : Book → List Claim → ℤ → Outcome → Book

@@ -8,12 +8,11 @@ use Rattle.cal_events.specs.Calendars.{owned_key_of}
 use Rattle.itip_order.specs.Registers.{RepresentsHistory, IsInView, HasNone, at_slot, together}
 use Rattle.itip_order.specs.declared.part.Slot.{Slot}
 use Rattle.itip_order.specs.Parts.{part_of, slot_of}
-use Rattle.profile.specs.checker.Instances.{Key, Instance, IsClash, IsClear, instance_cmp}
+use Rattle.profile.specs.checker.Instances.{Instance, IsClear}
 use Rattle.profile.specs.events.Starts.{IsInstance}
 use Rattle.profile.specs.events.Confirmed.{Confirmed, IsOneOf}
 use Rattle.cal_events.specs.SaidSeries.{series_said}
 use Rattle.cal_events.specs.declared.series.Series.{Series}
-use Rattle.std.specs.declared.cmp.Ordering.TheVariants.{Less}
 use Rattle.profile.specs.rooms.Revisions as revisions
 use Rattle.profile.specs.rooms.Messages as messages
 use Rattle.profile.specs.rooms.Rooms as rooms
@@ -192,20 +191,10 @@ pub record IsDecided (candidate : PartAnswer) (outcome : Outcome) (given : PartA
   pub singles : given.singles.items ≡ (if rooms.is_accept (outcome_of outcome) then candidate.singles.items else [])
   pub series : given.series ≡ (if rooms.is_accept (outcome_of outcome) then candidate.series else None)
 
--- the two keys are those of a clash, at the later start; the lesser by start, organiser, UID and slot comes first
-pub record NamesListedClash (all : List Instance) (first second : Key) (t : ℤ) : Type 0 where
-  pub a : Instance
-  pub b : Instance
-  pub clash : IsClash all a b t
-  pub first_is : a.key ≡ first
-  pub second_is : b.key ≡ second
-  pub ordered : instance_cmp a b ≡ Less
-  pub later : t ≡ b.start
-
 -- what is decided where these singles would be confirmed: the limit is looked at first, then whether any two clash; any clash may be named
 abbrev pub DecidesAmong : List Instance → messages.Outcome → Type 0
-DecidesAmong all messages.Accept = (length all ≤ rooms.most_singles) × IsClear all
-DecidesAmong all (messages.Busy first second t) = (length all ≤ rooms.most_singles) × NamesListedClash all first second t
+DecidesAmong all messages.Accept = (length all ≤ rooms.most_singles) × IsClear (Contains all)
+DecidesAmong all (messages.Busy first second t) = (length all ≤ rooms.most_singles) × rooms.NamesClash (Contains all) first second t
 DecidesAmong all messages.SinglesLimit = rooms.most_singles < length all
 DecidesAmong all messages.SeriesLimit = ⊥
 

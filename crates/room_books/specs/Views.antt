@@ -7,7 +7,7 @@ use Rattle.ical_values.specs.Octets.{address_octets, text_octets}
 use Rattle.cal_events.specs.Calendars.{owned_key_of}
 use Rattle.cal_events.specs.SaidSeries.{series_said}
 use Rattle.cal_events.specs.declared.series.Series.{Series}
-use Rattle.profile.specs.checker.Instances.{Instance, IsClear, AreClear}
+use Rattle.profile.specs.checker.Instances.{Instance, IsClear}
 use Rattle.profile.specs.events.EventComponents.{EventComponent}
 use Rattle.profile.specs.events.Events.{Event as Whole}
 use Rattle.profile.specs.events.Starts.{IsInstance}
@@ -117,7 +117,7 @@ HaveOverlap singles (Some p) = Contains singles p.0 × Contains singles p.1 × (
 -- what a meeting keeps and asks for may be confirmed beside these: within the limit, clear, and itself apart
 pub record MayJoin (others : List Instance) (key : MeetingKey) (singles : List Single) : Type 0 where
   pub few : length (others ++ instance_list key singles) ≤ most_singles
-  pub clear : IsClear (others ++ instance_list key singles)
+  pub clear : IsClear (Contains (others ++ instance_list key singles))
   pub separate : AreSeparate singles
 
 -- no two instances of one meeting share an instant
@@ -199,7 +199,7 @@ joined others key singles series = record { series = others.series ++ series_lis
 
 -- no two of these instances clash
 abbrev pub IsClearIn : Confirmed → Type 0
-IsClearIn all = AreClear (IsOneOf all) (IsOneOf all)
+IsClearIn all = IsClear (IsOneOf all)
 
 -- with these a meeting may be confirmed beside the others: their series are within the limit, and all is clear
 pub record SeriesMayJoin (others : Confirmed) (key : MeetingKey) (singles : List Single) (series : List Series) : Type 0 where

@@ -1,12 +1,11 @@
 //! The decision: may instances of a meeting be confirmed beside those that are?
 
 ghost use Rattle.std.specs.Prelude.{◌≡◌, ◌≤◌, ◌+◌, ◌++◌, List, IfOk, length, map, Contains};
-ghost use Rattle.std.specs.Ordering.{is_lt};
 ghost use Rattle.std.specs.List.{IsDistinct};
 ghost use Rattle.std.specs.Map.{lookup};
 ghost use Rattle.indexmap.specs.IndexMap.{keys};
-ghost use Rattle.profile.specs.checker.Instances.{instance_cmp, IsClear};
-ghost use Rattle.clash_cert.specs.Makings.{AreNamed, HasKeys};
+ghost use Rattle.profile.specs.checker.Instances.{IsClear};
+ghost use Rattle.clash_cert.specs.Makings.{AreNamed};
 ghost use Rattle.cal_events.specs.declared.instance.Single.{Single};
 ghost use Rattle.room_books.specs.Views.{all_confirmed, keyed_instance, instance_list, confirmed_at, others, same_key, singles_by, spans_of, AreAllApart, RecursIn, AreBusyIn, HaveOverlap};
 ghost use Rattle.room_books.specs.Instants.{IsLater, IsParted};
@@ -19,7 +18,7 @@ use crate::kept::Meeting;
 use crate::meeting::{MeetingKey, Outcome};
 use crate::timeline::Timeline;
 use cal_events::{Series, Single, Span, first_overlap};
-use clash_cert::Clash;
+use clash_cert::{Clash, clash_of};
 use indexmap::IndexMap;
 use std::alloc::{AllocError, Global};
 
@@ -53,7 +52,7 @@ pub(crate) fn decide(
     wanted: &[Single],
 ) -> Result<Outcome, AllocError>
     requires timed { IsTimelineOf (confirmed_at meetings.now.entries) timeline.now.busy.items }
-    requires clear { IsClear (all_confirmed meetings.now.entries) }
+    requires clear { IsClear (Contains (all_confirmed meetings.now.entries)) }
     requires apart { AreAllApart meetings.now.entries }
     requires few { beside ≤ 10_000 }
     ensures { IfOk result (λ outcome. (kept : List Single)
@@ -154,15 +153,7 @@ fn spans_in(alloc: Global, singles: &[Single]) -> Result<Vec<Span>, AllocError>
     Ok(spans)
 }
 
-/// The later of two starts.
-fn later_start(a: Span, b: Span) -> i64
-    ensures { IsLater a b result }
-{
-    if a.start < b.start { b.start } else { a.start }
-}
-
-/// The clash of two instances: the lesser by start, organiser, UID and slot is first, and the instant is the later
-/// start.
+/// The clash of an instance that is asked for and one that stays confirmed, of these meetings.
 pub(crate) fn clash_between(
     key: &MeetingKey,
     asked: Single,
@@ -172,39 +163,10 @@ pub(crate) fn clash_between(
     ensures { IfOk result (λ clash. IsLater asked.span booked.span clash.instant
         × AreNamed (keyed_instance key.now asked) (keyed_instance other.now booked) clash.instant clash) }
 {
-    let instant = later_start(asked.span, booked.span);
-    if is_before(other, booked, key, asked) {
-        return in_order(other, booked, key, asked, instant);
-    }
-    in_order(key, asked, other, booked, instant)
-}
-
-/// Whether the first instance is less by start, organiser, UID and slot.
-fn is_before(a: &MeetingKey, first: Single, b: &MeetingKey, second: Single) -> bool
-    ensures { result ≡ is_lt (instance_cmp (keyed_instance a.now first) (keyed_instance b.now second)) }
-{
-    let a = a.instance(first);
-    let b = b.instance(second);
-    a.start.cmp(&b.start).then(a.key.cmp(&b.key)).is_lt()
-}
-
-/// The clash that names two instances in this order.
-fn in_order(
-    a: &MeetingKey,
-    first: Single,
-    b: &MeetingKey,
-    second: Single,
-    instant: i64,
-) -> Result<Clash, AllocError>
-    ensures { IfOk result (HasKeys (keyed_instance a.now first) (keyed_instance b.now second) instant) }
-{
-    let first = a.owned(first)?;
-    let second = b.owned(second)?;
-    Ok(Clash {
-        first,
-        second,
-        instant,
-    })
+    let of_asked = key.owned(asked)?;
+    let of_booked = other.owned(booked)?;
+    let (asked, booked) = (key.instance(asked), other.instance(booked));
+    Ok(clash_of(&asked, &booked, of_asked, of_booked))
 }
 
 /// What a map says of its keys: no two are of one meeting.

@@ -1,19 +1,20 @@
 //! What holds of each room, whatever it takes: laws, with nothing to do.
 
 ghost use Rattle.std.specs.Prelude.{◌≡◌, ◌↔◌, ℕ, ℤ, List, length, Contains};
-ghost use Rattle.profile.specs.checker.Instances.{Instance};
+ghost use Rattle.profile.specs.checker.Instances.{Instance, IsClear};
 ghost use Rattle.profile.specs.events.Confirmed.{Confirmed, IsOneOf};
-ghost use Rattle.profile.specs.rooms.Rooms.{PartAnswer, Book, Delivery, Runs, empty_book, IsClear, IsWithinLimits};
+ghost use Rattle.profile.specs.rooms.Messages.{Outcome};
+ghost use Rattle.profile.specs.rooms.Rooms.{PartAnswer, Book, Claim, Delivery, IsStep, Runs, empty_book, kind_of, IsWithinLimits};
 ghost use Rattle.profile.specs.rooms.Rooms.{Confirms, confirmed_series, confirmed_singles};
-ghost use Rattle.profile.specs.streams.Streams.{IsDelivered, AllAnswers, Box, Hosted, Config, new_box};
+ghost use Rattle.profile.specs.streams.Streams.{IsDelivered, IsReached, AllAnswers, Box, Hosted, Config, new_box};
 ghost use Rattle.profile.specs.rooms.Kept.{IsKeptCalendar, kept_certificate};
 ghost use Rattle.profile.specs.checker.Calendars.{CertificateHolds, SpellsCalendar};
-ghost use Rattle.profile.specs.Headline.{AcceptedWhereClear, KeptTextsPass};
+ghost use Rattle.profile.specs.Headline.{AcceptedWhereClear, DeclineNamesClash};
 
 /// Whatever messages a room took, one after another from the first: no two of its confirmed instances of
 /// different keys hold the room in the same second, and its series and its single instances are within their limits.
 pub fn runs_stay_clear()
-    ensures clear { (deliveries : List Delivery) (book : Book) → Runs empty_book deliveries book → IsClear book }
+    ensures clear { (deliveries : List Delivery) (book : Book) → Runs empty_book deliveries book → IsClear (Confirms book) }
     ensures few { (deliveries : List Delivery) (book : Book) → Runs empty_book deliveries book → IsWithinLimits book }
 {}
 
@@ -30,13 +31,17 @@ pub fn answers_stay()
 /// A new revision is accepted exactly where no two of the instances that would be confirmed with it hold the room in the same second,
 /// and the limits are kept; and a decline for a clash names two of them and a second in both.
 pub fn accepted_where_clear()
-    ensures { AcceptedWhereClear }
+    ensures accepted { (before : Book) (claims : List Claim) (moment : ℤ) (outcome : Outcome) (after : Book) → IsStep before claims moment outcome after
+        → AcceptedWhereClear before claims moment (kind_of before.taken after.taken claims outcome) }
+    ensures declined { (before : Book) (claims : List Claim) (moment : ℤ) (outcome : Outcome) (after : Book) → IsStep before claims moment outcome after
+        → DeclineNamesClash before claims moment (kind_of before.taken after.taken claims outcome) }
 {}
 
 /// Whatever messages come, in any order and repeated: the calendar that a room keeps after them spells what it has
 /// confirmed, and the certificate beside it holds for that calendar.
 pub fn kept_texts_pass()
-    ensures { KeptTextsPass }
+    ensures { (room : List ℕ) (book : Book) (calendar : List ℕ) → IsReached room book → IsKeptCalendar room book calendar
+        → CertificateHolds room calendar (kept_certificate book) }
 {
     ical_lines::lines_read_back();
     cal_zones::zone_reads_back();

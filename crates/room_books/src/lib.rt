@@ -17,7 +17,7 @@ pub mod room;
 mod series;
 mod slots;
 mod taking;
-mod texts;
+pub mod texts;
 mod timeline;
 
 pub use answer::{Answer, Kind, LimitKind};
@@ -26,3 +26,4 @@ pub use laws::{
     served_texts_pass,
 };
 pub use room::Room;
+pub use texts::KeptTexts;

@@ -70,7 +70,7 @@ pub(crate) fn clash_from<'a>(all: &[Recurring<'a>], from: usize) -> Option<Share
 {
     for place in from..all.len() {
         let Recurring { key, series } = all[place];
-        if let Some(shared) = series_beside(series, &all[..place]) {
+        if let Some(shared) = clash_with(series, &all[..place]) {
             return Some(shared);
         }
         if let Some((asked, booked)) = alone(series) {
@@ -85,7 +85,7 @@ pub(crate) fn clash_from<'a>(all: &[Recurring<'a>], from: usize) -> Option<Share
 }
 
 /// An instance of a series, and one of one of these series that shares an instant with it.
-fn series_beside<'a>(series: &Series, all: &[Recurring<'a>]) -> Option<SharedInstant<'a>>
+fn clash_with<'a>(series: &Series, all: &[Recurring<'a>]) -> Option<SharedInstant<'a>>
     ensures { AreBeside (Recurs series.now) all.now result }
 {
     for recurring in all {

@@ -13,7 +13,9 @@ ghost use Rattle.profile.specs.rooms.Revisions as revisions;
 ghost use Rattle.profile.specs.checker.Instances.{IsClear};
 ghost use Rattle.itip_messages.specs.Messages.{RepresentsMessage};
 ghost use Rattle.profile.specs.rooms.Messages as profile;
-ghost use Rattle.profile.specs.streams.Streams.{AreClaims};
+ghost use Rattle.profile.specs.streams.Streams.{AreClaims, IsDelivered, IsReached};
+ghost use Rattle.profile.specs.Headline.{AcceptedWhereClear, DeclineNamesClash, KeptTextsPass};
+ghost use Rattle.profile.specs.checker.Calendars.{CertificateHolds};
 ghost use Rattle.profile.specs.rooms.Rooms as rooms;
 ghost use Rattle.profile.specs.rooms.Rooms.{Book, empty_book};
 ghost use Rattle.profile.specs.rooms.Kept.{kept_certificate, IsKeptCalendar, Refreshes, Replies};
@@ -22,6 +24,7 @@ ghost use Rattle.room_books.specs.Views.{same_key, all_confirmed, all_singles, i
 ghost use Rattle.room_books.specs.Views.{all_recurring, all_series, beside, in_room, other_recurring, recurring_at, series_at, series_by, AreFewer, AreRecurring, IsClearIn, MayJoin};
 ghost use Rattle.room_books.specs.Recurrings.{recurring_said, AreAllOf, AreClearBeside, AreNewClear};
 ghost use Rattle.cal_events.specs.declared.instance.Single.{Single};
+ghost use Rattle.room_books.specs.Keeping.{SpellsConfirmed};
 ghost use Rattle.room_books.specs.Timelines.{IsTimelineOf};
 ghost use Rattle.room_books.specs.Takings.{answers_by, answers_then, claims_said, held_after, kept_then, kind_view, octets_in, parts_said, refresh_octets};
 ghost use Rattle.room_books.specs.Takings.{reply_octets};
@@ -30,7 +33,7 @@ ghost use Rattle.std.specs.List.Sorted.{IsSortedByKey};
 ghost use Rattle.itip_order.specs.Parts.{slot_of};
 ghost use Rattle.profile.specs.rooms.Revisions.{slot_cmp};
 ghost use Rattle.room_books.specs.Takings.{HasHistory, IsMade, IsDecision, IsWholeDecision, IsAnswered, IsKindOf, MayJoinAll};
-ghost use Rattle.room_books.specs.Representation.{Represents, StepsWith, AreFitting, IsMeetingAfter, IsOwn, Meets, IsPutIn, IsRenewed};
+ghost use Rattle.room_books.specs.Representation.{HaveReached, Represents, StepsWith, AreFitting, IsMeetingAfter, IsOwn, Meets, IsPutIn, IsRenewed};
 
 use crate::answer::{Answer, Kind, LimitKind};
 use crate::claim::Claim;
@@ -41,13 +44,14 @@ use crate::decide::{
 };
 use crate::gone::Gone;
 use crate::kept::{Changes, Meeting};
+use crate::laws::{kept_texts_pass, kept_texts_spell};
 use crate::meeting::{MeetingKey, Outcome, PartAnswer};
 use crate::recurring::{Recurring, clash_from, push_all, single_beside};
 use crate::refresh::refresh_to;
 use crate::reply::reply_to;
 use crate::slots::{answers_of, slots_of};
 use crate::taking::{AnswersKept, Views, candidates, decided, held_with, is_accept, parts_of};
-use crate::texts::{calendar_of, certificate_octets};
+use crate::texts::{KeptTexts, calendar_of, certificate_octets};
 use crate::timeline::Timeline;
 use cal_events::{Series, Single};
 use clash_cert::{Clash, Confirmed, make};
@@ -70,12 +74,14 @@ pub struct Room {
     series: usize,
     ghost timed: { IsTimelineOf (confirmed_at meetings.entries) timeline.busy.items },
     ghost counted: { timeline.confirmed ≡ length (all_confirmed meetings.entries) },
-    ghost clear: { IsClear (all_confirmed meetings.entries) },
+    ghost clear: { IsClear (Contains (all_confirmed meetings.entries)) },
     ghost apart: { AreAllApart meetings.entries },
     ghost recurs: { AreRecurring (series_at meetings.entries) recurring.items },
     ghost series_counted: { series ≡ length (all_recurring meetings.entries) },
     ghost series_few: { series ≤ 64 },
     ghost series_clear: { IsClearIn (in_room meetings.entries) },
+    // some messages led from the empty room here
+    ghost reached: { ∥ HaveReached (address_octets address) meetings.entries ∥₁ },
 }
 
 /// What a message does to the answers of its meeting, the instances that the meeting no longer confirms and those that it confirms now and
@@ -166,6 +172,12 @@ impl Room {
     /// refresh where an ADD brought something new of a meeting of which nothing of the whole was ever taken (RFC 5546 3.2.6).
     /// Where memory is refused nothing has changed.
     pub fn take(&mut self, message: &RoomMessage, now: Stamp) -> Result<Answer, AllocError>
+        // From each book that the room represents, it is accepted exactly where something is asked and the room stays clear and within its limits.
+        ensures accepted { IfOk result (λ answer. (said : profile.Message) → RepresentsMessage message.now said → (book : Book) → Represents self.old.meetings.entries book
+            → (claims : List rooms.Claim) × AreClaims (address_octets self.old.address) said claims × AcceptedWhereClear book claims now (kind_view answer.kind)) }
+        // Where it is declined for a clash, two instances of what would be confirmed are named, and an instant in both.
+        ensures declined { IfOk result (λ answer. (said : profile.Message) → RepresentsMessage message.now said → (book : Book) → Represents self.old.meetings.entries book
+            → (claims : List rooms.Claim) × AreClaims (address_octets self.old.address) said claims × DeclineNamesClash book claims now (kind_view answer.kind)) }
         // From each book that the room represents, it makes a step of the room machine, with the claims of the message.
         ensures steps { IfOk result (λ answer. (said : profile.Message) → RepresentsMessage message.now said → (book : Book) → Represents self.old.meetings.entries book
             → (claims : List rooms.Claim) × AreClaims (address_octets self.old.address) said claims
@@ -182,11 +194,34 @@ impl Room {
         Ok(answer)
     }
 
+    /// The calendar and the certificate that the room keeps. Whatever messages it took, in any order and repeated, they pass the checker.
+    pub fn kept(&self) -> Result<KeptTexts, AllocError>
+        ensures passes { IfOk result (λ texts. KeptTextsPass (address_octets self.now.address) texts.calendar.items texts.certificate.items) }
+        // The calendar spells exactly what a book confirms that messages led to and that the room represents.
+        ensures spells { IfOk result (λ texts. (book : Book) → IsReached (address_octets self.now.address) book → Represents self.now.meetings.entries book
+            → SpellsConfirmed (address_octets self.now.address) book texts.calendar.items) }
+        ensures calendar { IfOk result (λ texts. (book : Book) → Represents self.now.meetings.entries book → IsKeptCalendar (address_octets self.now.address) book texts.calendar.items) }
+        ensures certificate { IfOk result (λ texts. (book : Book) → Represents self.now.meetings.entries book → texts.certificate.items ≡ kept_certificate book) }
+    {
+        kept_texts_spell();
+        let calendar = self.calendar_text()?;
+        let certificate = self.certificate_text()?;
+        Ok(KeptTexts {
+            calendar,
+            certificate,
+        })
+    }
+
     /// The kept calendar: each accepted part in the view, and what hides instances of an accepted whole, the meetings in order of first arrival.
     pub fn calendar_text(&self) -> Result<Vec<u8>, AllocError>
-        ensures { IfOk result (λ text. (book : Book) → Represents self.now.meetings.entries book → IsKeptCalendar (address_octets self.now.address) book text.items) }
+        ensures kept { IfOk result (λ text. (book : Book) → Represents self.now.meetings.entries book → IsKeptCalendar (address_octets self.now.address) book text.items) }
+        // The certificate of a book that messages led to holds for it.
+        ensures passes { IfOk result (λ text. (book : Book) → IsReached (address_octets self.now.address) book → Represents self.now.meetings.entries book
+            → CertificateHolds (address_octets self.now.address) text.items (kept_certificate book)) }
     {
-        calendar_of(self.alloc, &self.meetings, &self.address)
+        kept_texts_pass();
+        let text = calendar_of(self.alloc, &self.meetings, &self.address)?;
+        Ok(text)
     }
 
     /// The certificate that holds for the kept calendar.
@@ -210,6 +245,8 @@ impl Room {
         now: Stamp,
     ) -> Result<Answer, AllocError>
         requires some { 0 < length claims.now }
+        requires delivered { ∥ IsDelivered (address_octets self.old.address) (record { claims = claims_said claims.now; moment = now })
+            × ((key : MeetingKey) → IsKeyOf (part_of first.now).organiser (part_of first.now).uid key → AreFitting key (claims_said claims.now)) ∥₁ }
         ensures steps { IfOk result (λ answer. ((key : MeetingKey) → IsKeyOf (part_of first.now).organiser (part_of first.now).uid key → AreFitting key (claims_said claims.now))
             → (book : Book) → Represents self.old.meetings.entries book
             → StepsWith (address_octets self.old.address) self.new.meetings.entries book (claims_said claims.now) now (kind_view answer.kind) (reply_octets answer) adds (refresh_octets answer)) }
@@ -567,6 +604,8 @@ impl Room {
             (all_singles (answers_then (answers_by (lookup (same_key key) self.old.meetings.entries)) changes)) }
         requires joins { MayJoin (others key self.old.meetings.entries) key (all_singles (answers_then (answers_by (lookup (same_key key) self.old.meetings.entries)) changes)) }
         requires recurs { MayJoinAll (beside key self.old.meetings.entries) key (answers_then (answers_by (lookup (same_key key) self.old.meetings.entries)) changes) }
+        requires reaches { (entries : List (MeetingKey × Meeting)) → IsPutIn key more changes self.old.meetings.entries entries
+            → ∥ HaveReached (address_octets self.old.address) entries ∥₁ }
         ensures put { OnOk result (IsPutIn key more changes self.old.meetings.entries self.new.meetings.entries) }
         ensures address { self.new.address ≡ self.old.address }
         ensures err { OnErr result (IsUnchanged self.old.meetings self.new.meetings) }

@@ -37,7 +37,7 @@ pub fn series_left(
 }
 
 /// A part's series without the starts that a part of these slots in the view hides.
-pub fn series_beside(
+pub fn series_without(
     alloc: Global,
     held: &Together<'_>,
     part: &Part,

@@ -29,7 +29,8 @@ pub fn slots_of(alloc: Global, claims: &[Claim]) -> Result<Vec<Slot>, AllocError
     Ok(slots)
 }
 
-fn put_in_order(slots: &mut Vec<Slot>)
+/// Puts slots in order.
+pub fn put_in_order(slots: &mut Vec<Slot>)
     ensures same { IsPermutation slots.old.items slots.new.items }
     ensures rises { IsSortedByKey slot_of slot_cmp slots.new.items }
 {

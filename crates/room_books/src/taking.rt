@@ -26,7 +26,7 @@ use crate::answer::Kind;
 use crate::claim::Claim;
 use crate::kept::Meeting;
 use crate::meeting::{Outcome, PartAnswer};
-use crate::series::{hides_start, series_beside, series_left};
+use crate::series::{hides_start, series_left, series_without};
 use crate::slots::{answers_at, answers_of, is_touched};
 use cal_events::Single;
 use ical_values::Stamp;
@@ -429,7 +429,7 @@ impl PartAnswer {
     {
         let outcome = self.outcome.clone()?;
         let singles = left_beside(alloc, held, part, slots, &self.singles, gone)?;
-        let series = series_beside(alloc, held, part, slots, &self.series)?;
+        let series = series_without(alloc, held, part, slots, &self.series)?;
         Ok(PartAnswer {
             slot: self.slot,
             moment: self.moment,

@@ -1,28 +1,35 @@
 //! What a room keeps, as octets: its calendar, and the certificate for it.
 
 ghost use Rattle.std.specs.Prelude.{◌≡◌, ◌∷◌, [], ℕ, List, true, false, IfOk, OnOk};
-ghost use Rattle.std.specs.List.Sorted.{IsPermutation, IsSortedByKey};
 ghost use Rattle.indexmap.specs.IndexMap.{values};
 ghost use Rattle.ical_values.specs.Octets.{address_octets};
-ghost use Rattle.itip_order.specs.Parts.{part_of, slot_of};
+ghost use Rattle.itip_order.specs.Parts.{part_of};
 ghost use Rattle.clash_cert.specs.Makings.{MadeHasCounts, IsCertificate};
 ghost use Rattle.profile.specs.checker.Certificates.{text_of};
 ghost use Rattle.profile.specs.rooms.Kept.{IsKeptCalendar};
-ghost use Rattle.profile.specs.rooms.Revisions.{is_whole, slot_cmp};
+ghost use Rattle.profile.specs.rooms.Revisions.{is_whole};
 ghost use Rattle.profile.specs.rooms.Rooms.{Book};
 ghost use Rattle.room_books.specs.Representation.{Represents};
-ghost use Rattle.room_books.specs.Keeping.{WritesEntries, WritesHead, accepted_slots, all_kept, kept_entry_of, has_slot, kept_in};
+ghost use Rattle.room_books.specs.Keeping.{WritesEntries, WritesHead, accepted_slots, all_kept, kept_entry_of, kept_in};
 
 use crate::decide::{Meetings, keys_differ};
 use crate::kept::Meeting;
 use crate::meeting::PartAnswer;
 use crate::reply::recurrence_of;
+use crate::slots::{is_touched, put_in_order};
 use crate::taking::is_accept;
 use clash_cert::Made;
 use ical_values::Address;
 use itip_messages::{ObjectWriter, Zones, write_body, write_slot};
 use itip_order::{Body, Part, Slot};
 use std::alloc::{AllocError, Global};
+
+/// What a room keeps, as octets.
+#[derive(Drop)]
+pub struct KeptTexts {
+    pub calendar: Vec<u8>,
+    pub certificate: Vec<u8>,
+}
 
 /// The kept calendar of a room, the meetings in order of first arrival: each accepted part in the view, and what hides instances of an
 /// accepted whole.
@@ -90,10 +97,10 @@ fn write_meeting(
 {
     // each part looks for its answer among them
     let mut accepted = slots_accepted(object.alloc(), &meeting.answers)?;
-    sort_slots(&mut accepted);
-    let hides = is_among(&accepted, Slot::Whole);
+    put_in_order(&mut accepted);
+    let hides = is_touched(&accepted, Slot::Whole);
     for part in meeting.held.view() {
-        let shown = is_among(&accepted, part.slot);
+        let shown = is_touched(&accepted, part.slot);
         write_kept(object, zones, part, shown, hides, room)?;
     }
     Ok(())
@@ -131,22 +138,6 @@ fn slots_accepted(alloc: Global, answers: &[PartAnswer]) -> Result<Vec<Slot>, Al
         }
     }
     Ok(slots)
-}
-
-/// Puts slots in order.
-fn sort_slots(slots: &mut Vec<Slot>)
-    ensures same { IsPermutation slots.old.items slots.new.items }
-    ensures rises { IsSortedByKey slot_of slot_cmp slots.new.items }
-{
-    slots.sort_unstable();
-}
-
-/// Whether a slot is among others, which are in order.
-fn is_among(sorted: &[Slot], slot: Slot) -> bool
-    requires { IsSortedByKey slot_of slot_cmp sorted.now }
-    ensures { result ≡ has_slot sorted.now (slot_of slot) }
-{
-    sorted.binary_search(&slot).is_ok()
 }
 
 /// The VEVENT of a part that is to take place: its own lines, and the room as the one attendee, who has accepted.

@@ -3,8 +3,6 @@
 use crate::parts::{body_text, slot_text};
 use example_cases::NoAnswer;
 use example_cases::answers::{append, yes_or_no};
-use ical_lines::{Limits, Unfolded};
-use ical_tree::read_object;
 use ical_values::Address;
 use itip_messages::{Message, Method, Operation, OrganiserObject, RoomMessage};
 use itip_order::Part;
@@ -68,9 +66,7 @@ fn room_message(alloc: Global, message: &RoomMessage) -> Result<String, NoAnswer
 }
 
 pub fn components(alloc: Global, octets: &[u8]) -> Result<String, NoAnswer> {
-    let text = Unfolded::read(alloc, octets, Limits::Message)?;
-    let object = read_object(alloc, &text, Limits::Message)?;
-    let count = match Message::of_object(alloc, &object)? {
+    let count = match Message::read(alloc, octets)? {
         Message::ToRooms(message) => message.components().len(),
         Message::ToOrganiser(object) => object.components.len(),
     };

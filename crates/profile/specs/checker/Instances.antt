@@ -1,5 +1,5 @@
 -- Instances, clash and clear. Seconds are whole numbers from 1970-01-01T00:00:00Z.
-use Rattle.std.specs.Prelude.{ℕ, ℤ, pos, List, ◌≢◌, ◌≤ℤ◌, ◌<ℤ◌, Contains}
+use Rattle.std.specs.Prelude.{ℕ, ℤ, pos, List, ◌≢◌, ◌≤ℤ◌, ◌<ℤ◌}
 use Rattle.std.specs.Ordering.{ordering_then, nat_cmp, int_cmp}
 use Rattle.std.specs.Cmp.Lexicographic.{slice_cmp}
 use Rattle.std.specs.declared.cmp.Ordering.{Ordering}
@@ -24,19 +24,6 @@ horizon = pos 253402300800
 abbrev pub IsWithin : ℤ → ℤ → ℤ → Type 0
 IsWithin start end t = (start ≤ℤ t) × (t <ℤ end)
 
--- two instances of all, of different keys, hold the room in the same second t, before the horizon
-pub record IsClash (all : List Instance) (a b : Instance) (t : ℤ) : Type 0 where
-  pub first : Contains all a
-  pub second : Contains all b
-  pub differ : a.key ≢ b.key
-  pub before : t <ℤ horizon
-  pub in_first : IsWithin a.start a.end t
-  pub in_second : IsWithin b.start b.end t
-
--- there is no clash
-abbrev pub IsClear : List Instance → Type 0
-IsClear all = (a b : Instance) (t : ℤ) → IsClash all a b t → ⊥
-
 -- two instances of different keys hold the room in the same second t, before the horizon
 pub record AreClashing (a b : Instance) (t : ℤ) : Type 0 where
   pub differ : a.key ≢ b.key
@@ -56,6 +43,10 @@ pub record HasClash (these those : Instance → Type 0) : Type 0 where
 -- none of these instances clashes with one of those
 abbrev pub AreClear : (Instance → Type 0) → (Instance → Type 0) → Type 0
 AreClear these those = (a b : Instance) (t : ℤ) → these a → those b → AreClashing a b t → ⊥
+
+-- no two of these instances clash
+abbrev pub IsClear : (Instance → Type 0) → Type 0
+IsClear these = AreClear these these
 
 -- keys by organiser and UID as octets, and then by slot
 abbrev pub key_cmp : Key → Key → Ordering

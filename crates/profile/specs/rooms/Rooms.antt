@@ -3,7 +3,7 @@ use Rattle.std.specs.Prelude.{◌≡◌, ◌⊎◌, ℕ, ◌<◌, ◌≤◌, Boo
 use Rattle.std.specs.Option.{option_to_list}
 use Rattle.std.specs.List.{flat_map, list_any}
 use Rattle.std.specs.declared.cmp.Ordering.TheVariants.{Less}
-use Rattle.profile.specs.checker.Instances.{Key, Instance, AreClashing, AreClear, instance_cmp}
+use Rattle.profile.specs.checker.Instances.{Key, Instance, AreClashing, IsClear, instance_cmp}
 use Rattle.profile.specs.events.Events.{Event}
 use Rattle.profile.specs.events.Starts.{IsInstance}
 use Rattle.profile.specs.rooms.Revisions.{Part, Body, At, in_view, is_whole, same_meeting, same_part, same_place}
@@ -88,10 +88,6 @@ confirmed_series book = series_confirmed book.taken book.answers
 abbrev pub Confirms : Book → Instance → Type 0
 Confirms book booked = Contains (confirmed_singles book) booked ⊎ IsShownInSeries book.taken (confirmed_series book) booked
 
--- no two confirmed instances clash
-abbrev pub IsClear : Book → Type 0
-IsClear book = AreClear (Confirms book) (Confirms book)
-
 -- ---- how new a part is, by the views before its message and after it
 
 abbrev pub is_fresh : List Part → List Part → Part → Bool
@@ -150,7 +146,7 @@ pub record NamesClash (these : Instance → Type 0) (first second : Key) (t : �
 abbrev pub Decides : Book → Outcome → Type 0
 Decides book SeriesLimit = most_series < length (confirmed_series book)
 Decides book SinglesLimit = (length (confirmed_series book) ≤ most_series) × (most_singles < length (confirmed_singles book))
-Decides book Accept = IsWithinLimits book × IsClear book
+Decides book Accept = IsWithinLimits book × IsClear (Confirms book)
 Decides book (Busy first second t) = IsWithinLimits book × NamesClash (Confirms book) first second t
 
 -- ---- a step

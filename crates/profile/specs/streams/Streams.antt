@@ -10,7 +10,7 @@ use Rattle.profile.specs.text.Trees.{Tree, tree_own}
 use Rattle.profile.specs.events.EventComponents.{EventComponent}
 use Rattle.profile.specs.events.Confirmed.{AreApart, AreOfRule}
 use Rattle.profile.specs.rooms.Messages.{Message, SpellsMessage, MessageTextFault, IsPart, AreBySlot, parts_for, is_add, Outcome}
-use Rattle.profile.specs.rooms.Rooms.{Claim, Book, Delivery, IsStep, empty_book, is_set}
+use Rattle.profile.specs.rooms.Rooms.{Claim, Book, Delivery, IsStep, Runs, empty_book, is_set}
 use Rattle.profile.specs.rooms.Kept.{Replies, Refreshes}
 use Rattle.profile.specs.organisers.Objects.{Operation, Store, Reply, Refresh, OrganiserObject, SpellsOrganiserObject}
 use Rattle.profile.specs.organisers.Organisers.{Stored, OrganiserBook, Sent, IsStore, StateFault, after_reply, empty_organiser, last_store}
@@ -167,6 +167,12 @@ pub record IsDelivered (room : List ℕ) (delivery : Delivery) : Type 0 where
   pub message : Message
   pub spells : SpellsMessage octets message
   pub are : AreClaims room message delivery.claims
+
+-- some messages, of any number and in any order, lead from the empty book to this one
+pub record IsReached (room : List ℕ) (book : Book) : Type 0 where
+  pub deliveries : List Delivery
+  pub delivered : (delivery : Delivery) → Contains deliveries delivery → IsDelivered room delivery
+  pub runs : Runs empty_book deliveries book
 
 -- what a box keeps of a room that it hosts
 pub record Hosted : Type 0 where

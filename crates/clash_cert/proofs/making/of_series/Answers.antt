@@ -21,5 +21,5 @@ returns c =
     let fits_b : FitsSigned w64 f.second.start = search rules in
     let of_a = c.in_ok-of_first.ensures a (subst (λ (m : Event). IsInstance m a) one r.is.first) (sym (to_z-of_z w64 f.first.start fits_a)) in
     let of_b = c.in_ok-of_second.ensures b (subst (λ (m : Event). IsInstance m b) other r.is.second) (sym (to_z-of_z w64 f.second.start fits_b)) in
-    named_by all a b a b c.named.result refl refl (series_in all f.i r.is.a a r.is.at_first r.is.first) (series_in all f.j r.is.b b r.is.at_second r.is.second)
-    (keys_apart all c.series-series.ensures.keys f.i f.j a b r.order r.within r.is) (shares_start a b r.is.shared) (c.named.ensures of_a of_b)
+    named_by all a b a b c.clash_of.result refl refl (series_in all f.i r.is.a a r.is.at_first r.is.first) (series_in all f.j r.is.b b r.is.at_second r.is.second)
+    (keys_apart all c.series-series.ensures.keys f.i f.j a b r.order r.within r.is) (shares_start a b r.is.shared) (c.clash_of.ensures of_a of_b)

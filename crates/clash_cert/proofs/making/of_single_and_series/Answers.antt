@@ -24,7 +24,7 @@ returns c =
     let fits : FitsSigned w64 f.instance.start = search rules in
     let of_series = c.in_ok-of_series.ensures b (subst (λ (s : Event). IsInstance s b) one r.sharer.is) (sym (to_z-of_z w64 f.instance.start fits)) in
     let single = slice_get_within all.singles f.single a r.at in
-    named_by all a b (instance_of i) b c.named.result (lent all.singles f.single c.single.result i a c.single.ensures c.unwrap-single.ensures r.at) refl
+    named_by all a b (instance_of i) b c.clash_of.result (lent all.singles f.single c.single.result i a c.single.ensures c.unwrap-single.ensures r.at) refl
     (single_in all f.single a r.at) (series_in all f.series m b r.sharer.at r.sharer.is)
     (c.series-series.ensures.keys.1 a b (f.single, single, get_or_from_slice_get all.singles f.single a a r.at) (m, (f.series, there, get_or_from_slice_get all.series f.series m m r.sharer.at), r.sharer.is))
-    (shares_turned b.start b.end a.start a.end r.sharer.shared) (c.named.ensures of_single of_series)
+    (shares_turned b.start b.end a.start a.end r.sharer.shared) (c.clash_of.ensures of_single of_series)

@@ -1,5 +1,5 @@
 use Rattle.std.proofs.Common.{ℕ, List, ◌≤◌, ◌<◌, length, subst}
-use Rattle.std.specs.Prelude.{IfNone}
+use Rattle.std.specs.Prelude.{Contains, IfNone}
 use Rattle.profile.specs.checker.Instances.{IsClear}
 use Rattle.profile.specs.events.Events.{Event}
 use Rattle.cal_period.specs.Every.{IsPairClear}
@@ -10,7 +10,7 @@ use Rattle.clash_cert.proofs.making.CalendarConfirmed.clash.Goals as goal
 pub returns-in-None-clause-clear : goal.returns-in-None-clause-clear
 returns-in-None-clause-clear c =
     let all = c.args.self.now in
-    let clear = subst (λ o. IfNone o (IsClear all.singles)) c.in_default.is c.in_ok-overlap.ensures.clear in
+    let clear = subst (λ o. IfNone o (IsClear (Contains all.singles))) c.in_default.is c.in_ok-overlap.ensures.clear in
     let pairs = where_none c.sweep_all.result.shared _ _ c.in-None.is c.sweep_all.ensures.shared in
     all_clear all (singles_clear all clear c.in_default-single_beside_series.ensures)
     (subst (λ (l : List Event). (p q : ℕ) → p ≤ q → q < length l → IsPairClear l p q) c.series.ensures.are pairs)

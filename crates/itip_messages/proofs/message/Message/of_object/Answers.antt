@@ -16,6 +16,12 @@ returns-in_err-method-clause-fault c =
     let own = subst (λ (ls : List (List ℕ)). MethodFault ls c.in_err-method.field-0.0.number) (c.in_ok-properties.ensures ∙ sym (tree_of-own object)) c.in_err-method.ensures.fault in
     err_exit _ (RefusesBy (MessageFault (tree_of object))) _ c.from_residual-in_err-method.ensures.1 (in_method own)
 
+-- the word of METHOD is the object's
+pub read-requires : goal.read-requires
+read-requires c =
+    let named = subst (λ (ls : List (List ℕ)). NamesKind ls c.in_ok-method.field-0) (c.in_ok-properties.ensures ∙ sym (tree_of-own c.args.object.now)) c.in_ok-method.ensures.named in
+    record { spelled = λ meeting says. c.requires.spelled (record { method = method_said c.in-ToRooms.method; meeting = meeting }) (record { method = rw c.in-ToRooms.is at named; says = says }) }
+
 pub returns-in_err-read-in-ToRooms-clause-fault : goal.returns-in_err-read-in-ToRooms-clause-fault
 returns-in_err-read-in-ToRooms-clause-fault c =
     let object = c.args.object.now in

@@ -1,5 +1,7 @@
 use Rattle.std.proofs.Common.{true, subst, List, ℕ}
-use Rattle.ical_tree.specs.Tree.{IsObjectOf}
+use Rattle.ical_tree.specs.Tree.{IsObjectOf, tree_of}
+use Rattle.ical_tree.proofs.TreeOfLemmas.{object_tree}
+use Rattle.profile.specs.text.Lines.{logical_lines}
 use Rattle.ical_tree.proofs.RefusalLemmas.{text_refuses, tree_refuses}
 use Rattle.itip_messages.proofs.TreeLemmas.{message_spelled, faults_there, object_refused}
 use Rattle.itip_messages.proofs.message.Message.read.Goals as goal
@@ -11,6 +13,14 @@ returns-in_err-text-clause-fault c =
 pub returns-in_err-object-clause-fault : goal.returns-in_err-object-clause-fault
 returns-in_err-object-clause-fault c =
     object_refused c.from_residual-in_err-object.result c.args.bytes.now c.in_err-object.field-0.0 c.from_residual-in_err-object.ensures.1 (tree_refuses true c.args.bytes.now _ _ c.in_ok-text.ensures.lines c.in_err-object.ensures.fault)
+
+pub of_object-requires : goal.of_object-requires
+of_object-requires c =
+    let object = subst (λ (ls : List (List ℕ)). IsObjectOf true c.in_ok-object.object ls) c.in_ok-text.ensures.lines c.in_ok-object.ensures.spelled in
+    record {
+      spelled = λ said says.
+          (c.args.bytes.now, record { lines = c.in_ok-text.ensures.reads; tree = tree_of c.in_ok-object.object; object = object_tree true c.in_ok-object.object (logical_lines c.args.bytes.now) object; says = says });
+    }
 
 pub returns-clause-spells : goal.returns-clause-spells
 returns-clause-spells c =

@@ -5,8 +5,13 @@ use Rattle.itip_messages.proofs.BySlot.{of_message}
 use Rattle.itip_messages.proofs.MessageLemmas.{in_message}
 use Rattle.itip_messages.proofs.room_message.RoomMessage.read.Goals as goal
 
-pub of-requires : goal.of-requires
-of-requires c =
+pub of-requires-clause-one : goal.of-requires-clause-one
+of-requires-clause-one c =
     let object = tree_of c.args.object.now in
     let meeting = meeting_of c.in_ok-meeting.meeting in
     of_message object (method_said c.args.method) meeting (in_message object c.args.method _ meeting c.purpose.ensures c.in_ok-meeting.ensures.says)
+
+pub of-requires-clause-spelled : goal.of-requires-clause-spelled
+of-requires-clause-spelled c =
+    let meeting = meeting_of c.in_ok-meeting.meeting in
+    c.requires.spelled meeting (in_message (tree_of c.args.object.now) c.args.method _ meeting c.purpose.ensures c.in_ok-meeting.ensures.says)

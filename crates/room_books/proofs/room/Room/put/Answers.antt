@@ -12,6 +12,8 @@ use Rattle.room_books.specs.Takings.{answers_by, answers_then}
 use Rattle.room_books.specs.Views.{confirmed_at, meeting_singles, all_singles, all_series, all_confirmed, all_recurring, in_room, others, same_key, series_at, series_by, singles_by, AreAllApart, AreRecurring, IsClearIn}
 use Rattle.room_books.specs.Timelines.{IsShift, IsChanged, IsTimelineOf}
 use Rattle.profile.specs.checker.Instances.{IsClear}
+use Rattle.ical_values.specs.Octets.{address_octets}
+use Rattle.room_books.specs.Representation.{HaveReached}
 use Rattle.room_books.proofs.Joining.{joins_reordered}
 use Rattle.room_books.proofs.Leaving.{parted_length}
 use Rattle.room_books.proofs.Places.{place_of, other_series_count, timeline_put, put_count, put_series_count, series_put}
@@ -65,6 +67,7 @@ invariant_of-self-2 c =
       series_counted = room.series_counted;
       series_few = room.series_few;
       series_clear = room.series_clear;
+      reached = room.reached;
     }
 
 pub invariant_of-self-in-Break-branch-3 : goal.invariant_of-self-in-Break-branch-3
@@ -74,12 +77,13 @@ invariant_of-self-in-Break-branch-3 c =
     record {
       timed = subst (λ l. IsTimelineOf (confirmed_at l) c.reserve.new.self.busy.items) (sym same) (subst (IsTimelineOf (confirmed_at room.meetings.entries)) (sym c.reserve.ensures.busy) room.timed);
       counted = c.reserve.ensures.confirmed ∙ room.counted ∙ ap (λ l. length (all_confirmed l)) (sym same);
-      clear = subst (λ l. IsClear (all_confirmed l)) (sym same) room.clear;
+      clear = subst (λ l. IsClear (Contains (all_confirmed l))) (sym same) room.clear;
       apart = subst AreAllApart (sym same) room.apart;
       recurs = subst (λ l. AreRecurring (series_at l) c.reserve-2.new.self.items) (sym same) (subst (AreRecurring (series_at room.meetings.entries)) (sym c.reserve-2.ensures.items) room.recurs);
       series_counted = room.series_counted ∙ ap (λ l. length (all_recurring l)) (sym same);
       series_few = room.series_few;
       series_clear = subst (λ l. IsClearIn (in_room l)) (sym same) room.series_clear;
+      reached = subst (λ l. ∥ HaveReached (address_octets room.address) l ∥₁) (sym same) room.reached;
     }
 
 pub overflow_sub-self : goal.overflow_sub-self
@@ -124,7 +128,7 @@ invariant_of-self-3 c =
           let a = parted_length now shifts.kept added shifts.after_is in let l = re_length now (meeting_singles m) own in let f = c.change.ensures.confirmed in let was = c.args.self.now.counted in
           let all = ap (λ l. length (all_confirmed l)) put.entries in
           omega (arith, n, b, r, a, l, f, was, all));
-      clear = subst (λ l. IsClear (all_confirmed l)) (sym put.entries) (put_clear k m es c.keys_differ.ensures joins.clear);
+      clear = subst (λ l. IsClear (Contains (all_confirmed l))) (sym put.entries) (put_clear k m es c.keys_differ.ensures joins.clear);
       apart = subst AreAllApart (sym put.entries) (put_apart k m es c.args.self.now.apart joins.separate);
       recurs = subst (λ l. AreRecurring (series_at l) c.mark.new.places.items) (sym put.entries)
           (recurring_put k m es c.reserve-2.new.self.items c.mark.new.places.items (subst (AreRecurring (series_at es)) (sym c.reserve-2.ensures.items) c.args.self.now.recurs)
@@ -133,4 +137,5 @@ invariant_of-self-3 c =
       series_counted = (let n = put_series_count k m es in let b = before in let a = after in let was = c.args.self.now.series_counted in let all = ap (λ l. length (all_recurring l)) put.entries in let o = other_series_count k es c.keys_differ.ensures in omega (arith, n, b, a, was, all, o));
       series_few = (let n = put_series_count k m es in let b = before in let a = after in let was = c.args.self.now.series_counted in let few = few_now in let o = other_series_count k es c.keys_differ.ensures in omega (arith, n, b, a, was, few, o));
       series_clear = subst (λ l. IsClearIn (in_room l)) (sym put.entries) (put_series_clear k m es c.keys_differ.ensures answers put.made.answers_are c.requires.recurs.clear);
+      reached = c.requires.reaches c.put_in.new.meetings.entries put;
     }

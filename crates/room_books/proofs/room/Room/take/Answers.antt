@@ -1,6 +1,7 @@
 -- The first claim says of which meeting all are.
 use Rattle.std.proofs.Common.{◌≡◌, ◌∙◌, Bool, List, [], None, Some, sym, ap, subst}
 use Rattle.std.specs.Prelude.{slice_get}
+use Rattle.std.proofs.Math.Logic.{∥∥₁_map}
 use Rattle.ical_values.specs.Octets.{address_octets}
 use Rattle.profile.specs.streams.Streams.{AreClaims}
 use Rattle.room_books.specs.declared.claim.Claim.{Claim}
@@ -10,6 +11,7 @@ use Rattle.room_books.specs.Representation.{StepsWith}
 use Rattle.itip_messages.specs.Messages.{method_said}
 use Rattle.itip_messages.specs.declared.room_message.Method.{Method}
 use Rattle.profile.specs.rooms.Messages.{is_add}
+use Rattle.room_books.proofs.Accepting.{steps_accept, steps_decline}
 use Rattle.room_books.proofs.Claiming.{first_in, none_first}
 use Rattle.room_books.proofs.RoomSteps.{none_steps}
 use Rattle.room_books.proofs.room.Room.take.Goals as goal
@@ -24,6 +26,17 @@ returns-in_default-clause-steps c = λ message says book st.
       none_steps room c.args.self.now.meetings.entries book c.args.now (kind_view c.silent.result.kind) _ _ _ st (ap kind_view c.silent.ensures.kind) c.silent.ensures.reply c.silent.ensures.refresh,
     )
 
+-- the message is one that octets spell
+pub take_claims-requires-clause-delivered : goal.take_claims-requires-clause-delivered
+take_claims-requires-clause-delivered c = ∥∥₁_map c.args.message.now.read (λ read.
+    let claims = c.deref-2.result.now in
+    let first = c.in-Some.first.now in
+    let claimed = subst (AreClaimed (address_octets c.args.self.now.address) read.said) (sym c.deref-2.ensures.value) (c.in_ok-claims.ensures read.said read.are) in
+    let is : Some first ≡ slice_get claims 0 = subst (λ (l : List Claim). Some first ≡ slice_get l 0) (c.deref.ensures.value ∙ sym c.deref-2.ensures.value) c.in-Some.ensures.value in (
+      record { octets = read.octets; message = read.said; spells = read.spells; are = claimed.are },
+      λ key k. claimed.fit key first (first_in claims first is) k,
+    ))
+
 pub returns-clause-steps : goal.returns-clause-steps
 returns-clause-steps c = λ message says book st.
     let room = address_octets c.args.self.now.address in
@@ -37,3 +50,19 @@ returns-clause-steps c = λ message says book st.
           (c.is_add-adds.ensures ∙ ap (λ (m : Method). is_add (method_said m)) c.method.ensures ∙ ap is_add says.method)
           (c.in_ok-answer.ensures.steps (λ key k. claimed.fit key first (first_in claims first is) k) book st),
     )
+
+-- ---- where it is accepted, and what a decline names
+
+pub returns-in_default-clause-accepted : goal.returns-in_default-clause-accepted
+returns-in_default-clause-accepted c message says book st =
+    let s = returns-in_default-clause-steps c message says book st in (s.0, s.1, steps_accept _ _ _ _ _ _ _ _ _ s.2)
+
+pub returns-in_default-clause-declined : goal.returns-in_default-clause-declined
+returns-in_default-clause-declined c message says book st =
+    let s = returns-in_default-clause-steps c message says book st in (s.0, s.1, steps_decline _ _ _ _ _ _ _ _ _ s.2)
+
+pub returns-clause-accepted : goal.returns-clause-accepted
+returns-clause-accepted c message says book st = let s = returns-clause-steps c message says book st in (s.0, s.1, steps_accept _ _ _ _ _ _ _ _ _ s.2)
+
+pub returns-clause-declined : goal.returns-clause-declined
+returns-clause-declined c message says book st = let s = returns-clause-steps c message says book st in (s.0, s.1, steps_decline _ _ _ _ _ _ _ _ _ s.2)

@@ -1,6 +1,7 @@
 -- The claims are a step, and the reply shows what the book after it has.
 use Rattle.std.proofs.Common.{◌<◌, ◌∙◌, List, length, ap, subst, arith}
 use Rattle.std.specs.Map.{lookup}
+use Rattle.std.proofs.Math.Logic.{∥∥₁_map₂}
 use Rattle.itip_order.specs.Registers.{RepresentsHistory}
 use Rattle.profile.specs.rooms.Revisions.{Part}
 use Rattle.room_books.specs.Views.{same_key}
@@ -8,8 +9,27 @@ use Rattle.room_books.proofs.PutIn.{lookup_put}
 use Rattle.std.proofs.lemmas.List.{length-map}
 use Rattle.ical_values.specs.Octets.{address_octets}
 use Rattle.room_books.specs.Takings.{claim_said, claims_said, kind_view, octets_in}
-use Rattle.room_books.proofs.Representing.{claims_step}
+use Rattle.room_books.specs.Representation.{book_after}
+use Rattle.room_books.proofs.Reaching.{reached_then}
+use Rattle.room_books.proofs.Representing.{claims_step, now_represents}
 use Rattle.room_books.proofs.room.Room.take_claims.Goals as goal
+
+-- from a book that was reached, the claims lead to another
+pub put-requires-clause-reaches : goal.put-requires-clause-reaches
+put-requires-clause-reaches c entries put = ∥∥₁_map₂ c.args.self.now.reached c.requires.delivered (λ was delivered.
+    let room = address_octets c.args.self.now.address in
+    let es = c.args.self.now.meetings.entries in
+    let key = c.in_ok-key.key in
+    let claims = claims_said c.args.claims.now in
+    let some : 0 < length claims = omega (arith, length-map c.args.claims.now claim_said, c.requires.some) in
+    let fit = delivered.1 key c.in_ok-key.ensures in
+    let kind = kind_view c.in_ok-changes.field-0.kind in
+    let after = c.in_ok-changes.ensures.after c.in_ok-key.ensures fit was.book was.represents put.meeting put.made in
+    record {
+      book = book_after was.book claims c.args.now after.outcome;
+      reached = reached_then room was.book (record { claims = claims; moment = c.args.now }) after.outcome (book_after was.book claims c.args.now after.outcome) was.reached delivered.0 after.step;
+      represents = now_represents es entries was.book key claims c.args.now kind put.meeting some was.represents fit after put.entries (λ q. ap (lookup (same_key q)) put.entries ∙ lookup_put key q put.meeting es);
+    })
 
 pub returns-clause-steps : goal.returns-clause-steps
 returns-clause-steps c = λ fits book st.

@@ -3,7 +3,7 @@ use Rattle.std.proofs.lemmas.Int.{to_z-of_z}
 use Rattle.cal_events.specs.Calendars.{instance_of}
 use Rattle.clash_cert.specs.Makings.{IsLaterStart}
 use Rattle.clash_cert.proofs.MakingLemmas.{named_first}
-use Rattle.clash_cert.proofs.making.named.Goals as goal
+use Rattle.clash_cert.proofs.making.clash_of.Goals as goal
 
 pub returns-then-is_before : goal.returns-then-is_before
 returns-then-is_before c = λ of_a of_b.

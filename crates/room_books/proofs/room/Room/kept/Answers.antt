@@ -1,0 +1,16 @@
+-- What holds of the calendar for the certificate of each book holds for the one that is kept.
+use Rattle.std.proofs.Common.{sym, subst, List, ℕ}
+use Rattle.std.proofs.Math.Logic.{∥∥₁_map}
+use Rattle.ical_values.specs.Octets.{address_octets}
+use Rattle.profile.specs.checker.Calendars.{CertificateHolds}
+use Rattle.room_books.proofs.room.Room.kept.Goals as goal
+
+pub returns-clause-passes : goal.returns-clause-passes
+returns-clause-passes c = ∥∥₁_map c.args.self.now.reached (λ was.
+    subst (λ (text : List ℕ). CertificateHolds (address_octets c.args.self.now.address) c.in_ok-calendar.calendar.items text)
+    (sym (c.in_ok-certificate.ensures was.book was.represents)) (c.in_ok-calendar.ensures.passes was.book was.reached was.represents))
+
+pub returns-clause-spells : goal.returns-clause-spells
+returns-clause-spells c book reached st =
+    let s = c.kept_texts_spell.ensures (address_octets c.args.self.now.address) reached.deliveries book c.in_ok-calendar.calendar.items reached.delivered reached.runs (c.in_ok-calendar.ensures.kept book st) in
+    record { all = s.0; spells = s.1; singles = s.2; series = s.3; exact = s.4 }
