@@ -13,9 +13,9 @@ use Rattle.profile.specs.series.ZoneTexts.{AreMatched}
 use Rattle.profile.specs.events.ZonedTimes.{zone_named, SaysZoneOf, SpellsZoned, SaysZonedText, clock_of}
 use Rattle.profile.specs.events.EventComponents.{Method, EventComponent as SaidComponent, SaysEventComponent}
 use Rattle.profile.specs.events.Events.{is_master}
+use Rattle.cal_events.specs.Clocks.{IsAscending, HasGoodClock}
 use Rattle.cal_events.specs.Events.{component_of}
 use Rattle.cal_events.specs.declared.component.EventComponent.{EventComponent}
-use Rattle.cal_events.specs.Instances.{IsAscending, HasGoodClock}
 use Rattle.cal_events.proofs.OneTimes.{clock_one}
 
 abbrev Lines : Type 0

@@ -44,12 +44,12 @@ module _ (events : List EventComponent) (e f : EventComponent) (e_in : Contains 
           let x = master_alone e a m h.is in
           let y = override_alone f b slot n k.is in
           let at : b.key.slot ≡ a.start = ap (λ (key : Key). key.slot) (sym same ∙ x.key) in
-          h.shown (is_a_master e m) (record { override = f; among = f_in; of = ap meeting_of_key (sym y.key ∙ sym same ∙ x.key); is = y.slot ∙ ap Some at })
+          h.shown (is_a_master e m) (record { override = f; among = (f_in, ap meeting_of_key (sym y.key ∙ sym same ∙ x.key)); is = y.slot ∙ ap Some at })
       go (inr (slot, m)) (inl n) =
           let x = override_alone e a slot m h.is in
           let y = master_alone f b n k.is in
           let at : a.key.slot ≡ b.start = ap (λ (key : Key). key.slot) (same ∙ y.key) in
-          k.shown (is_a_master f n) (record { override = e; among = e_in; of = ap meeting_of_key (sym x.key ∙ same ∙ y.key); is = x.slot ∙ ap Some at })
+          k.shown (is_a_master f n) (record { override = e; among = (e_in, ap meeting_of_key (sym x.key ∙ same ∙ y.key)); is = x.slot ∙ ap Some at })
       go (inr (slot, m)) (inr (other, n)) =
           let x = override_alone e a slot m h.is in
           let y = override_alone f b other n k.is in

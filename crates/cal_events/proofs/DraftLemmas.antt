@@ -16,7 +16,7 @@ use Rattle.profile.specs.checker.Instances.{Key, Instance, key_cmp}
 use Rattle.profile.specs.events.EventComponents.{EventComponent, meeting_said}
 use Rattle.profile.specs.events.Events.{is_master}
 use Rattle.profile.specs.events.Starts.{IsInstance, ComesBefore}
-use Rattle.profile.specs.events.Confirmed.{Confirmed, alone, is_kept, is_series, IsSeries, IsReplaced, IsSingle, AreSingles, AreConfirmed, MastersDiffer, OverridesDiffer}
+use Rattle.profile.specs.events.Confirmed.{Confirmed, alone, is_kept, is_series, IsSeries, IsReplacedAmong, IsSingle, AreSingles, AreConfirmed, MastersDiffer, OverridesDiffer}
 use Rattle.cal_events.specs.Entries.{Name}
 use Rattle.cal_events.specs.Names.{name_said, name_at, meeting_at, recurrence_at}
 use Rattle.cal_events.specs.Calendars.{key_of, key_in, instance_as, named_instance, AreWithin, HaveDifferentKeys}
@@ -133,7 +133,7 @@ module _ (room : List ℕ) (events : List EventComponent) (entries : List Name) 
     abbrev own : Key
     own = key_in (meeting_said event) s.slot
 
-    found : list_any (λ key. is_eq (key_cmp key own)) keys ≡ true → IsReplaced events event s.slot
+    found : list_any (λ key. is_eq (key_cmp key own)) keys ≡ true → IsReplacedAmong events event s.slot
     found h =
         let r = any_key keys h in
         replaced_at events entries said event s.slot (Contains-permutation keys (override_keys entries) own (IsPermutation-sym (override_keys entries) keys same) (subst (Contains keys) (key_exact r.0 own r.2) r.1))
@@ -148,7 +148,7 @@ module _ (room : List ℕ) (events : List EventComponent) (entries : List Name) 
             go Equal e h rest = (x, (zero, omega arith, refl), e)
             go Greater e h rest = let r = rest h in (r.0, later x r.0 xs r.1, r.2)
 
-    lost : IsReplaced events event s.slot → list_any (λ key. is_eq (key_cmp key own)) keys ≡ true
+    lost : IsReplacedAmong events event s.slot → list_any (λ key. is_eq (key_cmp key own)) keys ≡ true
     lost r =
         let c = Contains-permutation (override_keys entries) keys own same (at_replaced events entries said event s.slot r) in
         list_any_at (λ key. is_eq (key_cmp key own)) keys c.0 own c.1 (ap (λ key. is_eq (key_cmp key own)) c.2 ∙ ap is_eq (key_itself own))
@@ -160,7 +160,7 @@ module _ (room : List ℕ) (events : List EventComponent) (entries : List Name) 
         ∙ ap (λ r. is_some r || not (list_any (λ key. is_eq (key_cmp key (key_in (meeting_at entries k) s.slot))) keys)) n.0
         ∙ ap (λ m. is_some event.recurrence || not (list_any (λ key. is_eq (key_cmp key (key_in m s.slot))) keys)) n.1
 
-    pub shown_so : shown s ≡ true → is_master event ≡ true → IsReplaced events event s.slot → ⊥
+    pub shown_so : shown s ≡ true → is_master event ≡ true → IsReplacedAmong events event s.slot → ⊥
     shown_so h master r = both (is_some event.recurrence) _ master (sym decided ∙ h) (lost r)
       where
         both : (a b : Bool) → not a ≡ true → (a || not b) ≡ true → b ≡ true → ⊥
@@ -168,7 +168,7 @@ module _ (room : List ℕ) (events : List EventComponent) (entries : List Name) 
         both false true m h t = false≢true h
         both false false m h t = false≢true t
 
-    pub so_shown : (is_master event ≡ true → IsReplaced events event s.slot → ⊥) → shown s ≡ true
+    pub so_shown : (is_master event ≡ true → IsReplacedAmong events event s.slot → ⊥) → shown s ≡ true
     so_shown h = decided ∙ either (is_some event.recurrence) _ (λ m t. h m (found t))
       where
         either : (a b : Bool) → (not a ≡ true → b ≡ true → ⊥) → (a || not b) ≡ true
@@ -207,7 +207,7 @@ module _ (room : List ℕ) (events : List EventComponent) (entries : List Name) 
             kept = own_one.kept;
             is = record {
               is = own_one.is;
-              shown = λ master r. shown_so k event w e s (entry_of_it s there.0) there.1 master (subst (IsReplaced events event) (sym (own_start s own_one.is master)) r);
+              shown = λ master r. shown_so k event w e s (entry_of_it s there.0) there.1 master (subst (IsReplacedAmong events event) (sym (own_start s own_one.is master)) r);
             };
             apart = own_one.apart;
           })
@@ -219,7 +219,7 @@ module _ (room : List ℕ) (events : List EventComponent) (entries : List Name) 
           let is = subst (IsInstance (alone event)) (sym r.2) single.is.is in
           subst (Contains (map (instance_as (meeting_said event)) (filter shown own))) r.2
           (in_mapped (instance_as (meeting_said event)) (filter shown own) s (in_filtered shown own s r.1 (so_shown k event w e s (entry_of_it s r.1) (λ master x.
-          single.is.shown master (subst (IsReplaced events event) (own_start s is master ∙ ap (λ (y : Instance). y.start) r.2) x)))))
+          single.is.shown master (subst (IsReplacedAmong events event) (own_start s is master ∙ ap (λ (y : Instance). y.start) r.2) x)))))
 
   -- of all of them
   pub shown_lists : (front es : List EventComponent) → events ≡ front ++ es → (singles : List Single) → AreDrawn room (length front) es singles

@@ -73,7 +73,7 @@ other_later b h =
     go (ap (λ (k : Key). k.slot) h.key) starts starts.given
   where
     go : b.key.slot ≡ b.start → IsStart master (moved ∷ []) b.start → (b.start ≡ first) ⊎ Contains (second ∷ []) b.start → ComesBefore instance b
-    go slot starts (inl e) = absurd (starts.not_overridden (0, omega arith, ap Some (sym e)))
+    go slot starts (inl e) = absurd (starts.not_replaced (record { override = moved; among = (0, omega arith, refl); is = ap Some (sym e) }))
     go slot starts (inr (zero, w, e)) = inr (e, omega (arith, ints, e, slot))
     go slot starts (inr (suc k, w, e)) = absurd (omega (arith, w))
 

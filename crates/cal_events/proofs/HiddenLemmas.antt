@@ -14,6 +14,7 @@ use Rattle.std.proofs.lemmas.List.Folds.{Any-from_list_any, list_any-from_Any}
 use Rattle.std.proofs.lemmas.List.Sorted.{Contains-permutation, IsPermutation-sym}
 use Rattle.profile.specs.checker.Instances.{horizon}
 use Rattle.profile.specs.events.EventComponents.{EventComponent as SaidComponent}
+use Rattle.profile.specs.events.Starts.{IsReplaced}
 use Rattle.cal_events.specs.Meetings.{IsInEventDates, instants_said}
 use Rattle.cal_events.specs.declared.component.EventComponent.{EventComponent}
 use Rattle.cal_events.specs.declared.instances.Bound.{Bound}
@@ -48,14 +49,25 @@ of_some [] t (k, w, e) = absurd (omega (arith, w))
 of_some (x ∷ xs) t (zero, w, e) = (0, omega arith, same_Some x t e)
 of_some (x ∷ xs) t (suc k, w, e) = let r = of_some xs t (k, omega (arith, w), e) in (suc r.0, omega (arith, r.1), r.2)
 
+-- an override replaces this instant where one is for it
+said_at : (os : List SaidComponent) (y : SaidComponent) (t : ℤ) → Contains os y → y.recurrence ≡ Some t → Contains (instants_said os) (Some t)
+said_at [] y t (k, w, e) is = absurd (omega (arith, w))
+said_at (o ∷ os) y t (zero, w, e) is = (0, omega arith, ap (λ (x : SaidComponent). x.recurrence) e ∙ is)
+said_at (o ∷ os) y t (suc k, w, e) is = let c = said_at os y t (k, omega (arith, w), e) is in (suc c.0, omega (arith, c.1), c.2)
+
+at_said : (os : List SaidComponent) (t : ℤ) → Contains (instants_said os) (Some t) → IsReplaced (Contains os) t
+at_said [] t (k, w, e) = absurd (omega (arith, w))
+at_said (o ∷ os) t (zero, w, e) = record { override = o; among = (0, omega arith, refl); is = e }
+at_said (o ∷ os) t (suc k, w, e) = let r = at_said os t (k, omega (arith, w), e) in record { override = r.override; among = (suc r.among.0, omega (arith, r.among.1), r.among.2); is = r.is }
+
 pub hides_made : (master : SaidComponent) (overrides : List SaidComponent) (instants hidden : List ℤ) → map Some instants ≡ instants_said overrides → IsPermutation (instants ++ master.exceptions) hidden → Hides master overrides hidden
 hides_made master overrides instants hidden said same t = (
   (λ none. (
     (λ c. none (Contains-permutation (instants ++ master.exceptions) hidden t same (Contains-append_right instants master.exceptions t c))),
-    λ o. none (Contains-permutation (instants ++ master.exceptions) hidden t same (Contains-append_left instants master.exceptions t (of_some instants t (subst (λ (l : List (Option ℤ)). Contains l (Some t)) (sym said) o)))),
+    λ o. none (Contains-permutation (instants ++ master.exceptions) hidden t same (Contains-append_left instants master.exceptions t (of_some instants t (subst (λ (l : List (Option ℤ)). Contains l (Some t)) (sym said) (said_at overrides o.override t o.among o.is))))),
   )),
   λ h c. elim (Contains-append_cases instants master.exceptions t (Contains-permutation hidden (instants ++ master.exceptions) t (IsPermutation-sym (instants ++ master.exceptions) hidden same) c)) [
-    | inl i ↦ h.1 (subst (λ (l : List (Option ℤ)). Contains l (Some t)) said (in_some instants t i))
+    | inl i ↦ h.1 (at_said overrides t (subst (λ (l : List (Option ℤ)). Contains l (Some t)) said (in_some instants t i)))
     | inr e ↦ h.0 e
   ],
 )
@@ -63,8 +75,8 @@ hides_made master overrides instants hidden said same t = (
 -- an instant that isn't before the bound is wanted where it is a start
 pub wanted_by : (master : SaidComponent) (overrides : List SaidComponent) (hidden : List ℤ) (bound : Bound) (t : ℤ) → Hides master overrides hidden → IsAfter bound t t → (IsInEventDates t × (Contains hidden t → ⊥)) ↔ IsWanted master overrides bound t
 wanted_by master overrides hidden bound t hides after = (
-  (λ h. let x = (hides t).0 h.1 in record { after = after; in_dates = h.0; not_excepted = x.0; not_overridden = x.1 }),
-  λ w. (w.in_dates, (hides t).1 (w.not_excepted, w.not_overridden)),
+  (λ h. let x = (hides t).0 h.1 in record { after = after; in_dates = h.0; not_excepted = x.0; not_replaced = x.1 }),
+  λ w. (w.in_dates, (hides t).1 (w.not_excepted, w.not_replaced)),
 )
 
 -- ---- those that are starts
@@ -82,11 +94,11 @@ adds_made master overrides hidden added hides are t = (
 pub first_wanted : (master : SaidComponent) (overrides : List SaidComponent) (added : List ℤ) (bound : Bound) (from : ℤ) (found : Option ℤ) → AddsStarts master overrides added
     → ((t : ℤ) → t <ℤ horizon → IsAfter bound t t ↔ (from ≤ℤ t)) → IsFirstFrom added from found → IsLeast (λ t. Contains master.additions t × IsWanted master overrides bound t) found
 first_wanted master overrides added bound from None adds after h = λ t c.
-    h t (has_at added t ((adds t).1 (has_from master.additions t c.0, c.1.in_dates, c.1.not_excepted, c.1.not_overridden))) ((after t c.1.in_dates.1).0 c.1.after)
+    h t (has_at added t ((adds t).1 (has_from master.additions t c.0, c.1.in_dates, c.1.not_excepted, c.1.not_replaced))) ((after t c.1.in_dates.1).0 c.1.after)
 first_wanted master overrides added bound from (Some x) adds after h =
     let a = (adds x).0 (has_from added x h.0) in (
-      (has_at master.additions x a.0, record { after = (after x a.1.1).1 h.1; in_dates = a.1; not_excepted = a.2; not_overridden = a.3 }),
-      λ u c. h.2 u (has_at added u ((adds u).1 (has_from master.additions u c.0, c.1.in_dates, c.1.not_excepted, c.1.not_overridden))) ((after u c.1.in_dates.1).0 c.1.after),
+      (has_at master.additions x a.0, record { after = (after x a.1.1).1 h.1; in_dates = a.1; not_excepted = a.2; not_replaced = a.3 }),
+      λ u c. h.2 u (has_at added u ((adds u).1 (has_from master.additions u c.0, c.1.in_dates, c.1.not_excepted, c.1.not_replaced))) ((after u c.1.in_dates.1).0 c.1.after),
     )
 
 -- one more that is one, and one more that isn't

@@ -14,7 +14,8 @@ use Rattle.profile.specs.events.Properties.{first_second}
 use Rattle.profile.specs.events.ZonedTimes.{clock_of}
 use Rattle.profile.specs.events.EventRules.{IsOnDay}
 use Rattle.profile.specs.events.EventComponents.{EventComponent as SaidComponent}
-use Rattle.profile.specs.events.Starts.{IsGiven, IsRuleStart, IsOverridden, IsStart, IsInstance, ComesBefore, EndsAt, key_at}
+use Rattle.profile.specs.events.Starts.{IsGiven, IsRuleStart, IsReplaced, IsStart, IsInstance, ComesBefore, EndsAt, key_at}
+use Rattle.cal_events.specs.Clocks.{IsAscending}
 use Rattle.cal_events.specs.Events.{component_of}
 use Rattle.cal_events.specs.SaidMeetings.{said_meeting}
 use Rattle.cal_events.specs.declared.event.Event as declared
@@ -22,30 +23,33 @@ use Rattle.cal_events.specs.declared.component.EventComponent.{EventComponent}
 use Rattle.cal_events.specs.declared.rule_days.RuleDays.{RuleDays}
 use Rattle.cal_events.specs.declared.instances.Bound.{Bound}
 use Rattle.cal_events.specs.declared.instances.InstancePlace.{InstancePlace}
-use Rattle.cal_events.specs.Instances.{IsAfter, IsBefore, IsAscending, IsWanted, NoneBefore, IsLeast, lesser, IsMovedTo, IsSoonest, IsSooner, IsPastSlot, HasPassed, IsHeldAt, IsHeld, IsAtPlace, own_place}
+use Rattle.cal_events.specs.Instances.{IsAfter, IsBefore, IsWanted, NoneBefore, IsLeast, lesser, IsMovedTo, IsSoonest, IsSooner, IsPastSlot, HasPassed, IsHeldAt, IsHeld, IsAtPlace, own_place}
 
 -- ---- overrides
 
-pub over_at : (os : List EventComponent) (t : ℤ) (k : ℕ) (d : EventComponent) → k < length os → (get_or os k d).recurrence ≡ Some t → IsOverridden (map component_of os) t
+pub over_at : (os : List EventComponent) (t : ℤ) (k : ℕ) (d : EventComponent) → k < length os → (get_or os k d).recurrence ≡ Some t → IsReplaced (Contains (map component_of os)) t
 over_at [] t k d w e = absurd (omega (arith, w))
-over_at (o ∷ os) t zero d w e = (0, omega arith, e)
-over_at (o ∷ os) t (suc k) d w e = let c = over_at os t k d (omega (arith, w)) e in (suc c.0, omega (arith, c.1), c.2)
+over_at (o ∷ os) t zero d w e = record { override = component_of o; among = (0, omega arith, refl); is = e }
+over_at (o ∷ os) t (suc k) d w e = let r = over_at os t k d (omega (arith, w)) e in record { override = r.override; among = (suc r.among.0, omega (arith, r.among.1), r.among.2); is = r.is }
 
-pub none_over : (os : List EventComponent) (t : ℤ) → ((k : ℕ) (d : EventComponent) → k < length os → (get_or os k d).recurrence ≡ Some t → ⊥) → IsOverridden (map component_of os) t → ⊥
-none_over [] t h (k, w, e) = absurd (omega (arith, w))
-none_over (o ∷ os) t h (zero, w, e) = h 0 o (omega arith) e
-none_over (o ∷ os) t h (suc k, w, e) = none_over os t (λ j d l. h (suc j) d (omega (arith, l))) (k, omega (arith, w), e)
+pub none_over : (os : List EventComponent) (t : ℤ) → ((k : ℕ) (d : EventComponent) → k < length os → (get_or os k d).recurrence ≡ Some t → ⊥) → IsReplaced (Contains (map component_of os)) t → ⊥
+none_over os t h r = go os h r.override r.among r.is
+  where
+    go : (os : List EventComponent) → ((k : ℕ) (d : EventComponent) → k < length os → (get_or os k d).recurrence ≡ Some t → ⊥) → (y : SaidComponent) → Contains (map component_of os) y → y.recurrence ≡ Some t → ⊥
+    go [] h y (k, w, e) is = absurd (omega (arith, w))
+    go (o ∷ os) h y (zero, w, e) is = h 0 o (omega arith) (ap (λ (x : SaidComponent). x.recurrence) e ∙ is)
+    go (o ∷ os) h y (suc k, w, e) is = go os (λ j d l. h (suc j) d (omega (arith, l))) y (k, omega (arith, w), e) is
 
 -- an instant that passes all tests but the last is wanted where that says no
 pub wanted_unless : (master : SaidComponent) (overrides : List SaidComponent) (bound : Bound) (t : ℤ) (xs : List ℤ) (o : Bool) → IsAfter bound t t → (first_second ≤ℤ t) × (t <ℤ horizon) → xs ≡ master.exceptions
-    → (Contains xs t → ⊥) → (IsTrue o ↔ IsOverridden overrides t) → IsTrue (not o) ↔ IsWanted master overrides bound t
-wanted_unless master overrides bound t xs true after dates e none h = ((λ x. absurd (false≢true x)), λ w. absurd (w.not_overridden (h.0 refl)))
+    → (Contains xs t → ⊥) → (IsTrue o ↔ IsReplaced (Contains overrides) t) → IsTrue (not o) ↔ IsWanted master overrides bound t
+wanted_unless master overrides bound t xs true after dates e none h = ((λ x. absurd (false≢true x)), λ w. absurd (w.not_replaced (h.0 refl)))
 wanted_unless master overrides bound t xs false after dates e none h = (
   (λ x. record {
     after = after;
     in_dates = dates;
     not_excepted = subst (λ (l : List ℤ). Contains l t → ⊥) e none;
-    not_overridden = λ y. false≢true (h.1 y);
+    not_replaced = λ y. false≢true (h.1 y);
   }),
   λ w. refl,
 )
@@ -217,10 +221,10 @@ module _ (master : SaidComponent) (overrides : List SaidComponent) (bound : Boun
   to_come t = IsStart master overrides t × IsAfter bound t t
 
   start_of : (t : ℤ) → (IsGiven master.times master.rule t ⊎ Contains master.additions t) → IsWanted master overrides bound t → IsStart master overrides t × IsAfter bound t t
-  start_of t g w = (record { given = g; in_dates = w.in_dates; not_excepted = w.not_excepted; not_overridden = w.not_overridden }, w.after)
+  start_of t g w = (record { given = g; in_dates = w.in_dates; not_excepted = w.not_excepted; not_replaced = w.not_replaced }, w.after)
 
   wanted_of : (t : ℤ) → IsStart master overrides t × IsAfter bound t t → IsWanted master overrides bound t
-  wanted_of t (s, a) = record { after = a; in_dates = s.in_dates; not_excepted = s.not_excepted; not_overridden = s.not_overridden }
+  wanted_of t (s, a) = record { after = a; in_dates = s.in_dates; not_excepted = s.not_excepted; not_replaced = s.not_replaced }
 
   pub first_of_both : (a b r : Option ℤ) → IsLeast (λ t. IsGiven master.times master.rule t × IsWanted master overrides bound t) a
       → IsLeast (λ t. Contains master.additions t × IsWanted master overrides bound t) b → r ≡ lesser a b → IsLeast (λ t. IsStart master overrides t × IsAfter bound t t) r
@@ -292,7 +296,7 @@ none_more : (master : SaidComponent) (overrides : List SaidComponent) (bound : B
     → NoneBefore master overrides (record { start = p.start; slot = Some p.slot }) day
 none_more master overrides bound p day a h rule e first second n on lt holds t means w =
     h rule e first second n on lt holds t means
-    (record { after = admitted bound p t t a w.after; in_dates = w.in_dates; not_excepted = w.not_excepted; not_overridden = w.not_overridden })
+    (record { after = admitted bound p t t a w.after; in_dates = w.in_dates; not_excepted = w.not_excepted; not_replaced = w.not_replaced })
 
 pub passed_more : (master : Option EventComponent) (os : List EventComponent) (bound : Bound) (p : InstancePlace) (days : RuleDays) → IsAfter bound p.start p.slot → HasPassed master os bound days
     → HasPassed master os (record { start = p.start; slot = Some p.slot }) days

@@ -43,7 +43,7 @@ pub mod ClashLemmas
 pub mod Distinct
 pub mod SweepLemmas
 mod Worked
-mod InstanceLemmas
+pub mod InstanceLemmas
 mod Clocks
 mod RuleDayLemmas
 mod Walks
@@ -52,6 +52,6 @@ mod InOrder
 mod HiddenLemmas
 pub mod WholeLists
 mod PlaceLemmas
-mod Overlaps
+pub mod Overlaps
 mod SingleStartLemmas
 pub mod OwnInstances

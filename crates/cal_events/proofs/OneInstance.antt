@@ -18,9 +18,9 @@ use Rattle.profile.specs.events.ZonedTimes.{zone_named, SaysZoneOf, SpellsZoned,
 use Rattle.profile.specs.events.Occurrences.{IsRecurrenceLine}
 use Rattle.profile.specs.events.EventComponents.{Method, EventComponent, SaysEventComponent}
 use Rattle.profile.specs.events.Events.{Event, is_master, is_override, InstancesDiffer, SaysEvent}
-use Rattle.profile.specs.events.Starts.{IsDaysLater, EndsAt, IsOverridden, IsOfMaster, IsOfOverride, IsInstance, key_at}
+use Rattle.profile.specs.events.Starts.{IsDaysLater, EndsAt, IsOfMaster, IsOfOverride, IsInstance, key_at}
+use Rattle.cal_events.specs.Clocks.{IsSteady}
 use Rattle.cal_events.specs.Meetings.{IsInEventDates}
-use Rattle.cal_events.specs.OwnInstances.{IsSteady}
 use Rattle.cal_zones.proofs.Zones.{unique, once_constant, once_single, once_pair}
 use Rattle.cal_events.proofs.Meanings.{one_meaning}
 use Rattle.cal_events.proofs.OneTimes.{Lines}
@@ -97,7 +97,7 @@ recurrence_named object line r slot h e = go line (subst (BothOrNeither (IsRecur
     go (Some l) (_, (_, _, _, _, dates)) = (dates.1, dates.2)
 
 -- its clocks, and where it starts
-times_sound : {may : Bool} (object : Tree) (lines : Lines) (times : EventTimes) → SaysTimes may object lines times → IsSteady (clock_of times.zone) × IsInEventDates times.start
+pub times_sound : {may : Bool} (object : Tree) (lines : Lines) (times : EventTimes) → SaysTimes may object lines times → IsSteady (clock_of times.zone) × IsInEventDates times.start
 times_sound object lines times (inl t) = (clock_steady object t.line (line_value t.line) times.zone times.local t.says, (t.in_dates.1, t.in_dates.2))
 times_sound object lines times (inr (_, t)) = (
   subst (λ (z : Option Zone). IsSteady (clock_of z)) (sym t.zone) utc_steady,
@@ -157,10 +157,6 @@ as_many [] k w = absurd (omega (arith, w))
 as_many (o ∷ os) zero w = omega arith
 as_many (o ∷ os) (suc k) w = let l = as_many os k (omega (arith, w)) in omega (arith, l)
 
-overridden : (os : List EventComponent) (y : EventComponent) (slot : ℤ) → Contains os y → y.recurrence ≡ Some slot → IsOverridden os slot
-overridden os y slot (k, w, e) is =
-    (k, as_many os k w, subst (λ (r : Option ℤ). get_or (map (λ event. event.recurrence) os) k r ≡ r) is (recurrence_at os y k w e))
-
 apart : (o : EventComponent) (os : List EventComponent) (y : EventComponent) → InstancesDiffer (o ∷ os) → Contains os y → o.recurrence ≡ y.recurrence → ⊥
 apart o os y d (k, w, e) same =
     let l = as_many os k w in
@@ -200,7 +196,7 @@ module _ (object : Tree) (meeting : Event) (s : SaysEvent object None meeting) w
   not_both : (a b : Instance) → IsOfMaster meeting a → IsOfOverride meeting b → a.key.slot ≡ b.key.slot → ⊥
   not_both a b h k same =
       let slot : b.key.slot ≡ a.start = sym same ∙ ap (λ (x : Key). x.slot) h.key in
-      h.starts.not_overridden (overridden meeting.overrides k.override a.start k.is (k.recurrence ∙ ap Some slot))
+      h.starts.not_replaced (record { override = k.override; among = k.is; is = k.recurrence ∙ ap Some slot })
 
   pub one_at : (a b : Instance) → IsInstance meeting a → IsInstance meeting b → a.start ≡ b.start → a.key.slot ≡ b.key.slot → a ≡ b
   one_at a b (inl h) (inl k) start slot =

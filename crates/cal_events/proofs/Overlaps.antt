@@ -1,9 +1,9 @@
 -- How the first instance that shares an instant with a span is found.
-use Rattle.std.proofs.Common.{◌≡◌, ◌∙◌, ap, sym, subst, inl, inr, ◌⊎◌, ℕ, suc, ◌+◌, ◌*◌, ◌<◌, ◌≤◌, List, [], ◌∷◌, ◌++◌, length, get_or, take, take_all, refl, arith, ℤ, pos, negsuc, ◌+ℤ◌, ◌-ℤ◌, ◌<ℤ◌, ◌≤ℤ◌, unsigned_abs, w64}
+use Rattle.std.proofs.Common.{Bool, true, ◌&&◌, ◌≡◌, ◌∙◌, ap, sym, subst, inl, inr, ◌⊎◌, ℕ, suc, ◌+◌, ◌*◌, ◌^◌, ◌<◌, ◌≤◌, List, [], ◌∷◌, ◌++◌, length, get_or, take, take_all, refl, arith, ℤ, pos, negsuc, ◌+ℤ◌, ◌-ℤ◌, ◌<ℤ◌, ◌≤ℤ◌, unsigned_abs, w64}
 use Rattle.std.specs.Prelude.{Option, Some, None, Contains, ◌↔◌, int_lt, IsTrue}
-use Rattle.std.specs.Int.{saturate_signed}
-use Rattle.std.proofs.lemmas.Bool.{cases_lt}
-use Rattle.std.proofs.lemmas.Int.{ints}
+use Rattle.std.specs.Int.{saturate_signed, int_max, int_min}
+use Rattle.std.proofs.lemmas.Bool.{cases_lt, and_parts}
+use Rattle.std.proofs.lemmas.Int.{ints, by_lt_z}
 use Rattle.std.proofs.lemmas.List.{take_more}
 use Rattle.std.proofs.lemmas.List.Elements.{Contains-push_cases}
 use Rattle.profile.specs.series.Zones.{IsBounds}
@@ -12,7 +12,7 @@ use Rattle.profile.specs.events.Properties.{first_second, length_seconds}
 use Rattle.profile.specs.events.ZonedTimes.{EventTimes, clock_of}
 use Rattle.profile.specs.events.Events.{Event}
 use Rattle.profile.specs.events.EventComponents.{EventComponent as SaidComponent}
-use Rattle.profile.specs.events.Starts.{IsInstance, ComesBefore, EndsAt, SharesInstant, IsFirstOverlap}
+use Rattle.profile.specs.events.Starts.{IsInstance, ComesBefore, EndsAt, Overlaps, SharesInstant, IsFirstOverlap, IsFirstSharer}
 use Rattle.cal_events.specs.Calendars.{instance_of}
 use Rattle.cal_events.specs.Events.{times_of}
 use Rattle.cal_events.specs.Instances.{IsAfter, IsPastSlot}
@@ -24,6 +24,8 @@ use Rattle.cal_events.specs.declared.component.EventComponent.{EventComponent}
 use Rattle.cal_events.specs.declared.instance.Instance.{Instance}
 use Rattle.cal_events.specs.declared.instances.Bound.{Bound}
 use Rattle.cal_events.specs.declared.instances.Instances.{Instances}
+use Rattle.cal_events.specs.declared.sweep.Span.{Span}
+use Rattle.cal_events.specs.Sweep.{IsBeforeHorizon}
 use Rattle.cal_events.specs.Overlapping.{HaveOneEnd, AreDated, LastAtMost, slots_left, places_left}
 use Rattle.cal_events.proofs.InstanceLemmas.{not_less, of_option, of_list}
 use Rattle.cal_events.proofs.WholeLists.{placed, after_later}
@@ -66,18 +68,68 @@ instance_lasts event n master overrides b (inr i) =
 
 -- ---- one instance beside a span
 
-pub shares_where : (first start end from to : ℤ) → (start ≤ℤ first) × (from ≤ℤ first) → (first ≡ start) ⊎ (first ≡ from) → first <ℤ end → first <ℤ to → IsTrue (int_lt first horizon) ↔ SharesInstant start end from to
-shares_where first start end from to least one in_end in_to = (
-  (λ h. record { instant = first; before = grind (arith, ints); in_first = (least.0, in_end); in_second = (least.1, in_to) }),
-  λ s. elim one [
-    | inl e ↦ let l : first <ℤ horizon = omega (arith, ints, e, s.before, s.in_first) in grind (arith, ints)
-    | inr e ↦ let l : first <ℤ horizon = omega (arith, ints, e, s.before, s.in_second) in grind (arith, ints)
-  ],
+-- the later of two is one of them, and no earlier than the other
+pub later_of : (x y m : ℤ) → m ≡ int_max x y → (x ≤ℤ m) × (y ≤ℤ m) × ((m ≡ x) ⊎ (m ≡ y))
+later_of x y m is =
+    by_lt_z y x
+    (λ l. let e : m ≡ x = grind (arith, ints, is, l) in (omega (arith, ints, e), omega (arith, ints, e, l), inl e))
+    (λ l. let e : m ≡ y = grind (arith, ints, is, l) in (omega (arith, ints, e, l), omega (arith, ints, e), inr e))
+
+pub between : (x y m : ℤ) → m ≡ int_max x y → (pos 0 ≤ℤ x) × (x <ℤ pos (2 ^ 50)) → (pos 0 ≤ℤ y) × (y <ℤ pos (2 ^ 50)) → (pos 0 ≤ℤ m) × (m <ℤ pos (2 ^ 50))
+between x y m is a b = let l = later_of x y m is in (omega (arith, ints, l.0, a.0), elim l.2 [ inl e ↦ omega (arith, ints, e, a.1) | inr e ↦ omega (arith, ints, e, b.1) ])
+
+pub earlier_of : (x y m : ℤ) → m ≡ int_min x y → (m ≤ℤ x) × (m ≤ℤ y) × ((m ≡ x) ⊎ (m ≡ y))
+earlier_of x y m is =
+    by_lt_z y x
+    (λ l. let e : m ≡ y = grind (arith, ints, is, l) in (omega (arith, ints, e, l), omega (arith, ints, e), inr e))
+    (λ l. let e : m ≡ x = grind (arith, ints, is, l) in (omega (arith, ints, e), omega (arith, ints, e, l), inl e))
+
+pub overlaps_where : (first start end from to : ℤ) (in_first : Bool) → int_lt first end ≡ in_first → first ≡ int_max start from → IsTrue (in_first && int_lt first to) ↔ Overlaps start end from to
+overlaps_where first start end from to in_first test is = (
+  (λ h.
+      let b = and_parts in_first (int_lt first to) h in
+      let c : int_lt first end ≡ true = test ∙ b.0 in
+      let d : int_lt first to ≡ true = b.1 in
+      record { instant = first; in_first = (latest.0, grind (arith, ints, c)); in_second = (latest.1, grind (arith, ints, d)) }),
+  λ s.
+      let early : first ≤ℤ s.instant = elim latest.2 [ inl e ↦ omega (arith, ints, e, s.in_first.0) | inr e ↦ omega (arith, ints, e, s.in_second.0) ] in
+      let in_end : first <ℤ end = omega (arith, ints, early, s.in_first.1) in
+      let in_to : first <ℤ to = omega (arith, ints, early, s.in_second.1) in
+      both in_first (int_lt first to) (sym test ∙ grind (arith, ints, in_end)) (grind (arith, ints, in_to)),
 )
+  where
+    latest : (start ≤ℤ first) × (from ≤ℤ first) × ((first ≡ start) ⊎ (first ≡ from))
+    latest = later_of start from first is
+
+    both : (a b : Bool) → a ≡ true → b ≡ true → (a && b) ≡ true
+    both a b p q = rw p q
+
+-- the seconds of a span before the horizon
+pub cut_there : (span : Span) (m : ℤ) → m ≡ int_min span.end horizon → IsBeforeHorizon span (record { start = span.start; end = m })
+cut_there span m is t =
+    let least = earlier_of span.end horizon m is in (
+      (λ w. ((w.0, omega (arith, ints, w.1, least.0)), omega (arith, ints, w.1, least.1))),
+      λ w. (w.0.0, elim least.2 [ inl e ↦ omega (arith, ints, e, w.0.1) | inr e ↦ omega (arith, ints, e, w.1) ]),
+    )
+
+-- of the seconds before the horizon
+pub sharer_of : (meeting : Event) (span cut : Span) → IsBeforeHorizon span cut → (found : Option SaidInstance) → IsFirstOverlap meeting cut.start cut.end found → IsFirstSharer meeting span.start span.end found
+sharer_of meeting span cut is = go
+  where
+    back : (start end : ℤ) → SharesInstant start end span.start span.end → Overlaps start end cut.start cut.end
+    back start end s = record { instant = s.instant; in_first = s.in_first; in_second = (is s.instant).1 (s.in_second, s.before) }
+
+    go : (found : Option SaidInstance) → IsFirstOverlap meeting cut.start cut.end found → IsFirstSharer meeting span.start span.end found
+    go None none = λ b h s. none b h (back b.start b.end s)
+    go (Some i) (of, (o, first)) =
+        let within = (is o.instant).0 o.in_second in (
+          of,
+          (record { instant = o.instant; before = within.1; in_first = o.in_first; in_second = within.0 }, λ b h s. first b h (back b.start b.end s)),
+        )
 
 -- ---- how many places are left
 
-abs_is : (d : ℤ) → pos 0 ≤ℤ d → pos (unsigned_abs d) ≡ d
+pub abs_is : (d : ℤ) → pos 0 ≤ℤ d → pos (unsigned_abs d) ≡ d
 abs_is (pos n) h = refl
 abs_is (negsuc n) h = absurd (omega (arith, ints, h))
 
@@ -103,7 +155,7 @@ less bound start slot s t (inr (same, past)) =
 
 pub record StillLeft (meeting : Event) (from to : ℤ) (left : Instances) : Type 0 where
   pub its : (b : SaidInstance) → IsLeft left b → IsInstance meeting b
-  pub all : (b : SaidInstance) → IsInstance meeting b → SharesInstant b.start b.end from to → IsLeft left b
+  pub all : (b : SaidInstance) → IsInstance meeting b → Overlaps b.start b.end from to → IsLeft left b
 
 module _ (meeting : Event) (from to : ℤ) where
   -- from so early on
@@ -118,17 +170,17 @@ module _ (meeting : Event) (from to : ℤ) where
   }
 
   module _ (old new : Instances) (h : StillLeft meeting from to old) where
-    pub none_shares : GivesFirst old None new → (b : SaidInstance) → IsInstance meeting b → SharesInstant b.start b.end from to → ⊥
+    pub none_shares : GivesFirst old None new → (b : SaidInstance) → IsInstance meeting b → Overlaps b.start b.end from to → ⊥
     none_shares given b is s = given.1.0 b (h.all b is s)
 
     module _ (i : Instance) (given : GivesFirst old (Some i) new) where
       abbrev it : SaidInstance
       it = instance_of i
 
-      first_of : (b : SaidInstance) → IsInstance meeting b → SharesInstant b.start b.end from to → ComesBefore b it → ⊥
+      first_of : (b : SaidInstance) → IsInstance meeting b → Overlaps b.start b.end from to → ComesBefore b it → ⊥
       first_of b is s = given.1.1 b (h.all b is s)
 
-      pub found : SharesInstant it.start it.end from to → IsFirstOverlap meeting from to (Some it)
+      pub found : Overlaps it.start it.end from to → IsFirstOverlap meeting from to (Some it)
       found s = (h.its it given.1.0, (s, first_of))
 
       -- all others start as late
@@ -140,7 +192,7 @@ module _ (meeting : Event) (from to : ℤ) where
       still b (is, after) =
           (subst (λ e. IsInstance (said_meeting e.now) b) given.0 is, after_later old.after it b given.1.0.1 (subst (λ (x : Bound). IsAfter x b.start b.key.slot) given.1.2 after))
 
-      pub passed_on : HaveOneEnd meeting → (SharesInstant it.start it.end from to → ⊥) → StillLeft meeting from to new
+      pub passed_on : HaveOneEnd meeting → (Overlaps it.start it.end from to → ⊥) → StillLeft meeting from to new
       passed_on ends not = record {
         its = λ b l. h.its b (still b l);
         all = λ b is s.
@@ -148,8 +200,8 @@ module _ (meeting : Event) (from to : ℤ) where
             elim (placed it b) [
               | inl before ↦ (subst (λ e. IsInstance (said_meeting e.now) b) (sym given.0) l.0, subst (λ (x : Bound). IsAfter x b.start b.key.slot) (sym given.1.2) before)
               | inr o ↦ elim o [
-                | inl same ↦ absurd (not (subst (λ (x : ℤ). SharesInstant x it.end from to) (sym same.0)
-                    (subst (λ (x : ℤ). SharesInstant b.start x from to) (sym (ends it b (h.its it given.1.0) is same.0 same.1)) s)))
+                | inl same ↦ absurd (not (subst (λ (x : ℤ). Overlaps x it.end from to) (sym same.0)
+                    (subst (λ (x : ℤ). Overlaps b.start x from to) (sym (ends it b (h.its it given.1.0) is same.0 same.1)) s)))
                 | inr first ↦ absurd (first_of b is s first)
               ]
             ];

@@ -6,9 +6,11 @@ use Rattle.std.proofs.lemmas.Option.{same_Some}
 use Rattle.std.proofs.lemmas.List.Elements.{All-nil, All-cons}
 use Rattle.profile.specs.checker.Instances.{Instance}
 use Rattle.profile.specs.events.Properties.{first_second}
-use Rattle.profile.specs.events.EventComponents.{EventComponent}
+use Rattle.profile.specs.events.EventComponents.{EventComponent as SaidComponent}
 use Rattle.profile.specs.events.Starts.{IsStart, IsInstance, EndsAt, ComesBefore, AreInstancesFrom, key_at}
 use Rattle.profile.specs.events.Confirmed.{alone, IsOfSeries, AreApart}
+use Rattle.cal_events.specs.Events.{component_of}
+use Rattle.cal_events.specs.declared.component.EventComponent.{EventComponent}
 use Rattle.cal_events.specs.OwnInstances.{own_instance_at, IsInstanceAt, IsTimely}
 use Rattle.cal_events.specs.SingleStarts.{IsSingleStart, IsOnRule, AreSingleStarts}
 use Rattle.cal_events.specs.declared.instance.Single.{Single}
@@ -18,7 +20,11 @@ use Rattle.cal_events.proofs.InOneOrder.{later, none_in, head_pairs, tail_pairs,
 use Rattle.cal_events.proofs.OwnSingles.{IsAtStart, alone_master, master_alone, alone_override, override_alone, one_by_key, of_both, is_a_master, not_a_master}
 use Rattle.cal_events.proofs.PlainSingles.{no_rule}
 
-module _ (event : EventComponent) (t : IsTimely event) where
+-- the times of each VEVENT that was read are such
+pub timely : (component : EventComponent) → IsTimely (component_of component)
+timely component = record { steady = component.steady; starts = component.named }
+
+module _ (event : SaidComponent) (t : IsTimely event) where
   abbrev booked : Single → Instance
   booked = own_instance_at event
 
@@ -136,7 +142,7 @@ module _ (event : EventComponent) (t : IsTimely event) where
 
 -- ---- one more start
 
-pub made_more : (event : EventComponent) (xs : List ℤ) (k : ℕ) (old new : List Single) (s : Single) → k < length xs → AllZip (λ start single. IsInstanceAt event start start single) (take k xs) old → new ≡ old ++ s ∷ []
+pub made_more : (event : SaidComponent) (xs : List ℤ) (k : ℕ) (old new : List Single) (s : Single) → k < length xs → AllZip (λ start single. IsInstanceAt event start start single) (take k xs) old → new ≡ old ++ s ∷ []
     → IsInstanceAt event (get_or xs k (pos 0)) (get_or xs k (pos 0)) s → AllZip (λ start single. IsInstanceAt event start start single) (take (k + 1) xs) new
 made_more event xs k old new s w z is m =
     subst (λ (l : List Single). AllZip (λ start single. IsInstanceAt event start start single) (take (k + 1) xs) l) (sym is)

@@ -11,12 +11,12 @@ use Rattle.profile.specs.events.EventComponents.{EventComponent, meeting_said}
 use Rattle.profile.specs.events.Events.{Event, is_master}
 use Rattle.profile.specs.events.Starts.{IsStart, IsRuleStart, IsInstance, EndsAt, ComesBefore, key_at}
 use Rattle.profile.specs.events.Confirmed.{alone, is_kept}
+use Rattle.cal_events.specs.Clocks.{IsSteady}
 use Rattle.cal_events.specs.Calendars.{instance_as}
 use Rattle.cal_events.specs.Drafts.{IsSaid, IsOwnInstance, AreOwnAt, IsMadeAt}
 use Rattle.cal_events.specs.SingleStarts.{IsSingleStart, AreSingleStarts}
 use Rattle.cal_events.specs.declared.calendar.PlacedSingle.{PlacedSingle as Single}
 use Rattle.cal_events.proofs.InOneOrder.{first_or_later, later, none_in, head_pairs, tail_pairs, cons_pairs}
-use Rattle.cal_events.specs.OwnInstances.{IsSteady}
 use Rattle.cal_events.proofs.OneInstance.{event_sound, end_one, booked_same}
 
 -- ---- an event by itself

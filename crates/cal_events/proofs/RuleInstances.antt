@@ -154,7 +154,7 @@ module _ (master : EventComponent) (one : (a b : Instance) → IsInstance (of_ma
 
   own : (t : ℤ) → IsGiven (component_of master).times (component_of master).rule t → IsShown t → IsOwn (booked t)
   own t given s = from_start (component_of master) (booked t) (record {
-    starts = record { given = inl given; in_dates = s.0; not_excepted = s.1; not_overridden = λ c. none_in _ c };
+    starts = record { given = inl given; in_dates = s.0; not_excepted = s.1; not_replaced = λ r. none_in _ r.among };
     key = refl;
     ends = (end_on master.times t).1;
   })

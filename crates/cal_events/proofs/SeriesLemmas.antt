@@ -15,12 +15,12 @@ use Rattle.profile.specs.events.EventComponents.{EventComponent as SaidComponent
 use Rattle.profile.specs.events.Events.{Event as Whole, is_master}
 use Rattle.profile.specs.events.ZonedTimes.{EventTimes, clock_of}
 use Rattle.profile.specs.events.Starts.{key_at, IsGiven, IsRuleStart, IsInstance, EndsAt}
-use Rattle.profile.specs.events.Confirmed.{IsReplaced, IsInstanceAmong, IsOfSeries, by_its_rule, IsSeries}
+use Rattle.profile.specs.events.Confirmed.{IsReplacedAmong, IsInstanceAmong, IsOfSeries, by_its_rule, IsSeries}
+use Rattle.cal_events.specs.Clocks.{IsSteady}
 use Rattle.cal_events.specs.Calendars.{key_in}
 use Rattle.cal_events.specs.Entries.{Name}
 use Rattle.cal_events.specs.Names.{name_said}
 use Rattle.cal_events.specs.Drafts.{override_key, override_keys, IsSaid}
-use Rattle.cal_events.specs.OwnInstances.{IsSteady}
 use Rattle.cal_events.specs.Ruled.{IsByItsRule, IsRuled, ruled_without}
 use Rattle.cal_events.specs.SaidSeries.{IsSeriesOf, IsSeriesWithout}
 use Rattle.cal_events.specs.Meetings.{IsInEventDates}
@@ -72,7 +72,7 @@ module _ (events : List SaidComponent) (master : SaidComponent) (is : is_master 
               given = inl g;
               in_dates = x.starts.in_dates;
               not_excepted = λ c. x.starts.not_excepted (Contains-append_left master.exceptions s.replaced b.start c);
-              not_overridden = x.starts.not_overridden;
+              not_replaced = x.starts.not_replaced;
             };
             key = x.key;
             ends = x.ends;
@@ -93,9 +93,9 @@ module _ (events : List SaidComponent) (master : SaidComponent) (is : is_master 
           in_dates = y.starts.in_dates;
           not_excepted = λ c. elim (in_one_of master.exceptions s.replaced b.start c) [
             | inl d ↦ y.starts.not_excepted d
-            | inr d ↦ among.shown is (All-contains (IsReplaced events master) s.replaced b.start s.are.each d)
+            | inr d ↦ among.shown is (All-contains (IsReplacedAmong events master) s.replaced b.start s.are.each d)
           ];
-          not_overridden = y.starts.not_overridden;
+          not_replaced = y.starts.not_replaced;
         };
         key = y.key;
         ends = y.ends;
@@ -106,7 +106,7 @@ pub one_series : (events : List SaidComponent) (master : SaidComponent) (a b : W
 one_series events master a b s t =
     let same : s.replaced ≡ t.replaced =
     one_order ◌<ℤ◌ (λ x l. absurd (omega (arith, ints, l))) (λ x y z l m. omega (arith, ints, l, m)) s.replaced t.replaced s.are.ascending t.are.ascending
-    (λ x c. t.are.all x (All-contains (IsReplaced events master) s.replaced x s.are.each c)) (λ x c. s.are.all x (All-contains (IsReplaced events master) t.replaced x t.are.each c)) in
+    (λ x c. t.are.all x (All-contains (IsReplacedAmong events master) s.replaced x s.are.each c)) (λ x c. s.are.all x (All-contains (IsReplacedAmong events master) t.replaced x t.are.each c)) in
     s.is ∙ ap (λ l. of_master (by_its_rule master l)) same ∙ sym t.is
 
 -- ---- what overrides replace
@@ -115,16 +115,16 @@ module _ (events : List SaidComponent) (entries : List Name) (said : entries ≡
   abbrev own : Key
   own = key_in (meeting_said event) slot
 
-  pub replaced_at : Contains (override_keys entries) own → IsReplaced events event slot
+  pub replaced_at : Contains (override_keys entries) own → IsReplacedAmong events event slot
   replaced_at c =
       let r = replaced_key events own (subst (λ (ks : List Key). Contains ks own) (entry_overrides entries events said) c) in
       let same_slot : slot ≡ r.2.0 = ap (λ (key : Key). key.slot) r.2.2 in
-      record { override = r.0; among = r.1; of = sym (ap (λ (key : Key). (key.organiser, key.uid)) r.2.2); is = r.2.1 ∙ ap Some (sym same_slot) }
+      record { override = r.0; among = (r.1, sym (ap (λ (key : Key). (key.organiser, key.uid)) r.2.2)); is = r.2.1 ∙ ap Some (sym same_slot) }
 
-  pub at_replaced : IsReplaced events event slot → Contains (override_keys entries) own
+  pub at_replaced : IsReplacedAmong events event slot → Contains (override_keys entries) own
   at_replaced r =
       subst (λ (ks : List Key). Contains ks own) (sym (entry_overrides entries events said))
-      (subst (Contains (filter_map override_key (map name_said events))) (ap (λ m. key_in m slot) r.of) (key_replaced events r.override slot r.among r.is))
+      (subst (Contains (filter_map override_key (map name_said events))) (ap (λ m. key_in m slot) r.among.1) (key_replaced events r.override slot r.among.0 r.is))
 
 -- what is made by the keys of the entries is the series
 pub series_made : (events : List SaidComponent) (entries : List Name) → entries ≡ map name_said events → (keys : List Key) → IsPermutation (override_keys entries) keys
@@ -139,7 +139,7 @@ series_made events entries said keys same master series h = record {
   is = h.is;
 }
   where
-    replaced : {t : ℤ} → Contains h.replaced t → IsReplaced events master t
+    replaced : {t : ℤ} → Contains h.replaced t → IsReplacedAmong events master t
     replaced {t} c =
         replaced_at events entries said master t
         (Contains-permutation keys (override_keys entries) (key_in (meeting_said master) t) (IsPermutation-sym (override_keys entries) keys same) ((h.slots.are t).0 c))
@@ -242,7 +242,7 @@ module _ (master : SaidComponent) (hidden : List ℤ) (b : Instance) where
             given = inl g;
             in_dates = x.starts.in_dates;
             not_excepted = λ c. x.starts.not_excepted (Contains-append_left master.exceptions hidden b.start c);
-            not_overridden = x.starts.not_overridden;
+            not_replaced = x.starts.not_replaced;
           };
           key = x.key;
           ends = x.ends;
@@ -258,7 +258,7 @@ module _ (master : SaidComponent) (hidden : List ℤ) (b : Instance) where
           given = inl h.given;
           in_dates = h.at.starts.in_dates;
           not_excepted = λ c. elim (in_one_of master.exceptions hidden b.start c) [ inl d ↦ h.at.starts.not_excepted d | inr d ↦ h.shown d ];
-          not_overridden = h.at.starts.not_overridden;
+          not_replaced = h.at.starts.not_replaced;
         };
         key = h.at.key;
         ends = h.at.ends;

@@ -15,8 +15,9 @@ use Rattle.profile.specs.events.EventComponents.{EventComponent}
 use Rattle.profile.specs.events.EventRules.{IsOnDay}
 use Rattle.profile.specs.events.ZonedTimes.{clock_of}
 use Rattle.profile.specs.events.Starts.{IsGiven, IsRuleStart}
+use Rattle.cal_events.specs.Clocks.{IsAscending}
 use Rattle.cal_events.specs.Meetings.{IsInEventDates}
-use Rattle.cal_events.specs.Instances.{IsAscending, IsAfter, IsWanted, NoneBefore}
+use Rattle.cal_events.specs.Instances.{IsAfter, IsWanted, NoneBefore}
 use Rattle.cal_events.specs.SingleStarts.{IsOnRule, IsSingleStart, AreSingleStarts, IsCandidate, IsLast, IsLeftOver}
 use Rattle.cal_events.specs.declared.instances.Bound.{Bound}
 use Rattle.cal_events.proofs.HiddenLemmas.{AreKept, kept_more, kept_past}
@@ -57,7 +58,7 @@ abbrev pub at : ℤ → Bound
 at instant = record { start = instant; slot = None }
 
 pub wanted_at : (master : EventComponent) (instant : ℤ) → IsInEventDates instant → (Contains master.exceptions instant → ⊥) → IsWanted master [] (at instant) instant
-wanted_at master instant named not = record { after = inr (refl, tt); in_dates = named; not_excepted = not; not_overridden = λ c. none_in _ c }
+wanted_at master instant named not = record { after = inr (refl, tt); in_dates = named; not_excepted = not; not_replaced = λ r. none_in _ r.among }
 
 pub early_unwanted : (master : EventComponent) (instant start : ℤ) → start <ℤ instant → IsWanted master [] (at instant) start → ⊥
 early_unwanted master instant start less w = go w.after
@@ -220,7 +221,7 @@ all_starts master xs starts k le are h =
     at_all t (inr added) = inr added
 
     one : (t : ℤ) → Contains xs t × IsLeftOver master t → IsSingleStart master t
-    one t (c, (named, not, apart)) = (record { given = at_all t ((are t).0 c); in_dates = named; not_excepted = not; not_overridden = λ o. none_in _ o }, apart)
+    one t (c, (named, not, apart)) = (record { given = at_all t ((are t).0 c); in_dates = named; not_excepted = not; not_replaced = λ r. none_in _ r.among }, apart)
 
     candidate : (t : ℤ) → (IsOnRule master t → ⊥) → IsGiven master.times master.rule t ⊎ Contains master.additions t → IsCandidate master t
     candidate t apart (inr added) = inr added

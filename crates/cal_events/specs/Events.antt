@@ -3,6 +3,7 @@ use Rattle.std.specs.Prelude.{ℕ, Bool, List, length, map, filter, option_map, 
 use Rattle.ical_values.specs.Octets.{address_octets, text_octets}
 use Rattle.ical_values.specs.declared.duration.Duration.{Duration}
 use Rattle.profile.specs.events.EventComponents as profile
+use Rattle.profile.specs.events.Events as meetings
 use Rattle.profile.specs.events.Properties as properties
 use Rattle.profile.specs.events.Properties.{length_seconds, time_kind}
 use Rattle.profile.specs.text.Trees.{Tree}
@@ -17,8 +18,8 @@ use Rattle.cal_events.specs.declared.event_times.Extent.{Extent}
 use Rattle.cal_events.specs.declared.event_times.Extent.TheVariants.{ToEnd, For}
 use Rattle.cal_events.specs.declared.event_times.EventTimes.{EventTimes}
 use Rattle.cal_events.specs.declared.zoned.ZonedTime.{ZonedTime}
-use Rattle.cal_events.specs.declared.component.TimeKind.{TimeKind}
-use Rattle.cal_events.specs.declared.component.TimeKind.TheVariants.{Date, DateTime, Period, Other}
+use Rattle.cal_events.specs.declared.utc_time.TimeKind.{TimeKind}
+use Rattle.cal_events.specs.declared.utc_time.TimeKind.TheVariants.{Date, DateTime, Period, Other}
 use Rattle.cal_events.specs.declared.component.Attendee.{Attendee}
 use Rattle.cal_events.specs.declared.component.EventComponent.{EventComponent}
 use Rattle.cal_events.specs.declared.component.PartStat.{PartStat}
@@ -74,6 +75,10 @@ component_of e = record {
   summary = text_octets e.summary;
   attendees = map attendee_of e.attendees.items;
 }
+
+-- the meeting that a master, if there is one, and overrides say
+abbrev pub meeting_with : Option EventComponent → List EventComponent → meetings.Event
+meeting_with master overrides = record { master = option_map component_of master; overrides = map component_of overrides }
 
 abbrev pub said_kind : TimeKind → properties.TimeKind
 said_kind DateTime = properties.DateTime

@@ -3,12 +3,12 @@ use Rattle.std.specs.Prelude.{◌≡◌, ◌⊎◌, ℕ, ◌<◌, true, Contains
 use Rattle.profile.specs.checker.Instances.{horizon}
 use Rattle.profile.specs.series.Days.{day_index}
 use Rattle.profile.specs.series.Rules.{Rule, is_rule_day}
-use Rattle.profile.specs.series.Zones.{Zone, Means, IsOneMeaning, local_time}
+use Rattle.profile.specs.series.Zones.{Means, local_time}
 use Rattle.profile.specs.events.Properties.{first_second}
 use Rattle.profile.specs.events.ZonedTimes.{clock_of}
 use Rattle.profile.specs.events.EventRules.{IsOnDay}
 use Rattle.profile.specs.events.EventComponents as profile
-use Rattle.profile.specs.events.Starts.{IsOverridden, IsStart}
+use Rattle.profile.specs.events.Starts.{IsReplaced, IsStart}
 use Rattle.cal_zones.specs.Kinds.{zone_of}
 use Rattle.cal_zones.specs.declared.clock.Clock.{Clock}
 use Rattle.cal_events.specs.Events.{component_of}
@@ -17,16 +17,6 @@ use Rattle.cal_events.specs.declared.rule_days.RuleDays.{RuleDays}
 use Rattle.cal_events.specs.RuleDaysLeft.{AreDaysOf}
 use Rattle.cal_events.specs.declared.instances.Bound.{Bound}
 use Rattle.cal_events.specs.declared.instances.InstancePlace.{InstancePlace}
-
--- ---- the clocks of a zone
-
--- a local time more than half a day later means a later instant
-abbrev pub IsAscending : Zone → Type 0
-IsAscending zone = (a b t u : ℤ) → Means zone a t → Means zone b u → (a +ℤ pos 43_200) <ℤ b → t <ℤ u
-
--- the clocks of DTSTART's zone show a local time at one instant, and one that is more than half a day later at a later one
-abbrev pub HasGoodClock : profile.EventComponent → Type 0
-HasGoodClock event = IsOneMeaning (clock_of event.times.zone) × IsAscending (clock_of event.times.zone)
 
 -- ---- what is left
 
@@ -48,7 +38,7 @@ pub record IsWanted (master : profile.EventComponent) (overrides : List profile.
   pub after : IsAfter bound instant instant
   pub in_dates : (first_second ≤ℤ instant) × (instant <ℤ horizon)
   pub not_excepted : Contains master.exceptions instant → ⊥
-  pub not_overridden : IsOverridden overrides instant → ⊥
+  pub not_replaced : IsReplaced (Contains overrides) instant → ⊥
 
 -- of a rule's days before that one none has such a start
 abbrev pub NoneBefore : profile.EventComponent → List profile.EventComponent → Bound → ℕ → Type 0

@@ -6,6 +6,7 @@ pub mod Clashes
 pub mod Sweep
 pub mod Events
 pub mod Zones
+pub mod Clocks
 pub mod Zoned
 pub mod Occurrences
 pub mod Meetings

@@ -1,12 +1,12 @@
 -- What the VEVENTs of one meeting represent, and the numbers of their refusals.
-use Rattle.std.specs.Prelude.{ℕ, Bool, ◌||◌, ◌==◌, map, option_map}
+use Rattle.std.specs.Prelude.{ℕ, Bool, ◌||◌, ◌==◌}
 use Rattle.profile.specs.faults.Faults.{is_between, is_meeting_event_fault}
 use Rattle.profile.specs.events.Events.{Event}
-use Rattle.cal_events.specs.Events.{component_of}
+use Rattle.cal_events.specs.Events.{meeting_with}
 use Rattle.cal_events.specs.declared.meeting_components.MeetingComponents.{MeetingComponents}
 
 abbrev pub meeting_of : MeetingComponents → Event
-meeting_of m = record { master = option_map component_of m.master; overrides = map component_of m.overrides.items }
+meeting_of m = meeting_with m.master m.overrides.items
 
 -- a fault of VEVENTs, or between them
 abbrev pub is_components_fault : ℕ → Bool

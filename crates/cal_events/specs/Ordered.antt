@@ -3,7 +3,7 @@ use Rattle.std.specs.Prelude.{◌≡◌, ◌↔◌, true, Contains, List, Option
 use Rattle.std.specs.List.{list_any}
 use Rattle.std.specs.Ordering.{int_eq}
 use Rattle.profile.specs.events.EventComponents.{EventComponent}
-use Rattle.profile.specs.events.Starts.{IsOverridden}
+use Rattle.profile.specs.events.Starts.{IsReplaced}
 use Rattle.cal_events.specs.Meetings.{IsInEventDates}
 
 -- the least of them that isn't before an instant, if there is one
@@ -18,7 +18,7 @@ HasInstant instants t = list_any (λ own. int_eq own t) instants ≡ true
 
 -- they are those that EXDATE names, and those that an override replaces
 abbrev pub Hides : EventComponent → List EventComponent → List ℤ → Type 0
-Hides master overrides hidden = (t : ℤ) → (Contains hidden t → ⊥) ↔ ((Contains master.exceptions t → ⊥) × (IsOverridden overrides t → ⊥))
+Hides master overrides hidden = (t : ℤ) → (Contains hidden t → ⊥) ↔ ((Contains master.exceptions t → ⊥) × (IsReplaced (Contains overrides) t → ⊥))
 
 -- they are those of the instants that are starts
 abbrev pub AreStartsOf : List ℤ → List ℤ → List ℤ → Type 0
@@ -27,4 +27,4 @@ AreStartsOf instants hidden starts = (t : ℤ) → Contains starts t ↔ (Contai
 -- they are the starts that RDATE gives
 abbrev pub AddsStarts : EventComponent → List EventComponent → List ℤ → Type 0
 AddsStarts master overrides added =
-    (t : ℤ) → HasInstant added t ↔ (HasInstant master.additions t × IsInEventDates t × (Contains master.exceptions t → ⊥) × (IsOverridden overrides t → ⊥))
+    (t : ℤ) → HasInstant added t ↔ (HasInstant master.additions t × IsInEventDates t × (Contains master.exceptions t → ⊥) × (IsReplaced (Contains overrides) t → ⊥))

@@ -1,21 +1,12 @@
 -- The instances of a VEVENT by itself, as they are made.
-use Rattle.std.specs.Prelude.{◌≡◌, ℤ, ◌-ℤ◌, ◌+ℤ◌, ◌≤ℤ◌, pos}
+use Rattle.std.specs.Prelude.{◌≡◌, ℤ}
 use Rattle.profile.specs.checker.Instances.{Instance}
-use Rattle.profile.specs.series.Zones.{Zone, IsOffsetAt, IsOneOffset, IsOneMeaning, Means}
 use Rattle.profile.specs.events.ZonedTimes.{clock_of}
 use Rattle.profile.specs.events.EventComponents.{EventComponent}
 use Rattle.profile.specs.events.Starts.{EndsAt, key_at}
-use Rattle.cal_events.specs.Instances.{IsAscending}
+use Rattle.cal_events.specs.Clocks.{IsSteady}
 use Rattle.cal_events.specs.Meetings.{IsInEventDates}
 use Rattle.cal_events.specs.declared.instance.Single.{Single}
-
--- at each instant the clocks have one offset, a local time means one instant, it isn't much later with another offset, and one that is much
--- later means a later instant
-pub record IsSteady (z : Zone) : Type 0 where
-  pub offset : IsOneOffset z
-  pub meaning : IsOneMeaning z
-  pub keeps : (t offset local u : ℤ) → IsOffsetAt z t offset → Means z local u → (local -ℤ offset) ≤ℤ (u +ℤ pos 43_200)
-  pub ascends : IsAscending z
 
 -- the times of an event are such as some VEVENT says
 pub record IsTimely (event : EventComponent) : Type 0 where

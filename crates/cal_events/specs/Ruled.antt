@@ -21,20 +21,7 @@ IsRuled event =
 
 -- a master by its rule alone, without these starts, as if EXDATE named them, and without its SUMMARY and who attends
 abbrev pub ruled_without : Said → List ℤ → Said
-ruled_without master starts = record {
-  uid = master.uid;
-  organiser = master.organiser;
-  stamp = master.stamp;
-  sequence = master.sequence;
-  cancelled = master.cancelled;
-  recurrence = master.recurrence;
-  times = master.times;
-  rule = master.rule;
-  additions = [];
-  exceptions = master.exceptions ++ starts;
-  summary = [];
-  attendees = [];
-}
+ruled_without master starts = record (by_its_rule master starts) { summary = []; attendees = [] }
 
 -- ---- the keys of one meeting
 

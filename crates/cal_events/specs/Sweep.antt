@@ -1,9 +1,13 @@
 -- Spans that share an instant, and the list that the sweep sorts.
-use Rattle.std.specs.Prelude.{ℕ, ℤ, pos, Bool, cond, ◌&&◌, List, [], ◌∷◌, ◌+◌, ◌<◌, ◌≢◌, ◌≡◌, ◌≤ℤ◌, ◌<ℤ◌, int_lt, length, slice_index_or}
+use Rattle.std.specs.Prelude.{ℕ, ℤ, pos, Bool, cond, ◌&&◌, List, [], ◌∷◌, ◌+◌, ◌<◌, ◌≢◌, ◌≡◌, ◌↔◌, ◌≤ℤ◌, ◌<ℤ◌, int_lt, length, slice_index_or}
 use Rattle.profile.specs.checker.Instances.{horizon, IsWithin}
 use Rattle.cal_events.specs.declared.sweep.Span.{Span}
 use Rattle.cal_events.specs.declared.sweep.Placed.{Placed}
 use Rattle.cal_events.specs.declared.sweep.Overlap.{Overlap}
+
+-- a span holds those seconds of another that come before the horizon
+abbrev pub IsBeforeHorizon : Span → Span → Type 0
+IsBeforeHorizon span cut = (t : ℤ) → IsWithin cut.start cut.end t ↔ (IsWithin span.start span.end t × (t <ℤ horizon))
 
 -- the span at a place; past the end one that holds no instant
 abbrev pub span_at : List Span → ℕ → Span

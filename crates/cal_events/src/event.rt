@@ -8,10 +8,10 @@ ghost use Rattle.ical_lines.specs.Fault.{RefusesOnly, RefusesBy};
 ghost use Rattle.ical_tree.specs.Tree.{tree_of};
 ghost use Rattle.profile.specs.checker.Instances.{Instance as SaidInstance};
 ghost use Rattle.profile.specs.events.Events.{Event as SaidEvent, is_master, is_override, AreOfOne, SaysEvent, SpellsEvent, EventFault, EventTextFault, is_meeting_fault};
-ghost use Rattle.cal_events.specs.Events.{component_of};
+ghost use Rattle.cal_events.specs.Clocks.{HasGoodClock};
+ghost use Rattle.cal_events.specs.Events.{component_of, meeting_with};
 ghost use Rattle.cal_events.specs.Meetings.{instants_said, IsNotOne, IsInEventDates};
 ghost use Rattle.profile.specs.events.Starts.{IsInstance, IsFirstOverlap};
-ghost use Rattle.cal_events.specs.Instances.{HasGoodClock};
 ghost use Rattle.cal_events.specs.Ordered.{Hides, AddsStarts, AreStartsOf};
 ghost use Rattle.cal_events.specs.Places.{ArePlaces};
 ghost use Rattle.cal_events.specs.Overlapping.{HaveOneEnd, AreDated};
@@ -22,7 +22,7 @@ use crate::instance::Instance;
 use crate::instances::{Instances, is_start};
 use crate::instants::Instants;
 use crate::meeting_components::MeetingComponents;
-use crate::overlapping::first_sharing;
+use crate::overlapping::first_overlapping;
 use crate::places::Places;
 use crate::sweep::Span;
 use ical_lines::{Fault, Limits, Unfolded};
@@ -44,8 +44,8 @@ pub struct Event {
     pub(crate) places: Places,
     ghost clock: { (component : EventComponent) → master ≡ Some component → HasGoodClock (component_of component) },
     ghost hides: { (component : EventComponent) → master ≡ Some component → Hides (component_of component) (map component_of overrides.items) hidden },
-    ghost ends: { HaveOneEnd (record { master = option_map component_of master; overrides = map component_of overrides.items }) },
-    ghost dated: { AreDated (record { master = option_map component_of master; overrides = map component_of overrides.items }) },
+    ghost ends: { HaveOneEnd (meeting_with master overrides.items) },
+    ghost dated: { AreDated (meeting_with master overrides.items) },
     ghost adds: { (component : EventComponent) → master ≡ Some component → AddsStarts (component_of component) (map component_of overrides.items) added },
     ghost placed: { ArePlaces overrides.items places },
 }
@@ -65,12 +65,12 @@ impl Event {
         Instances::from(self, from)
     }
 
-    /// The first of its instances, by start and then by slot, that shares an instant before the horizon with a span; None where none does.
+    /// The first of its instances, by start and then by slot, that shares an instant with a span; None where none does.
     /// It begins to look where one that starts earlier would be over.
     pub fn first_overlap(&self, span: Span) -> Option<Instance<'_>>
         ensures { IsFirstOverlap (said_meeting self.now) span.start span.end (option_map instance_of result) }
     {
-        first_sharing(self, span)
+        first_overlapping(self, span)
     }
 
     /// The event that octets spell: an object of one UID and one ORGANIZER, whose METHOD is ignored.
@@ -117,8 +117,8 @@ impl MeetingComponents {
     fn into_event(self, alloc: Global) -> Result<Event, AllocError>
         requires said { map Some self.instants.items ≡ instants_said (map component_of self.overrides.items) }
         requires clock { (component : EventComponent) → self.master ≡ Some component → HasGoodClock (component_of component) }
-        requires ends { HaveOneEnd (record { master = option_map component_of self.master; overrides = map component_of self.overrides.items }) }
-        requires dated { AreDated (record { master = option_map component_of self.master; overrides = map component_of self.overrides.items }) }
+        requires ends { HaveOneEnd (meeting_with self.master self.overrides.items) }
+        requires dated { AreDated (meeting_with self.master self.overrides.items) }
         ensures { IfOk result (λ event. (event.master ≡ self.master) × (event.overrides.items ≡ self.overrides.items)) }
     {
         let MeetingComponents {

@@ -28,7 +28,7 @@ use ical_values::{DAY_SECONDS, Duration, LocalTime, Stamp};
 const LONGEST: i64 = 366 * DAY_SECONDS;
 
 /// The first second that an event may name, 1969-12-31T00:00:00Z: a local time of 1970 may be as early.
-pub(crate) const FIRST_SECOND: i64 = -DAY_SECONDS;
+pub const FIRST_SECOND: i64 = -DAY_SECONDS;
 
 /// The times of an event, judged together.
 #[derive(Clone, Copy)]

@@ -6,13 +6,14 @@ ghost use Rattle.profile.specs.series.Days.{day_index};
 ghost use Rattle.profile.specs.series.Zones.{IsOneMeaning, IsNearEpoch, Means, local_time};
 ghost use Rattle.profile.specs.events.ZonedTimes.{clock_of};
 ghost use Rattle.profile.specs.checker.Instances.{Instance as SaidInstance, horizon};
-ghost use Rattle.profile.specs.events.Starts.{IsGiven, IsOverridden, IsStart, IsInstance, EndsAt, key_at};
+ghost use Rattle.profile.specs.events.Starts.{IsGiven, IsStart, IsInstance, EndsAt, key_at};
+ghost use Rattle.cal_events.specs.Clocks.{IsAscending, HasGoodClock};
 ghost use Rattle.cal_events.specs.Calendars.{key_of, instance_of};
 ghost use Rattle.cal_events.specs.SaidMeetings.{said_meeting};
 ghost use Rattle.cal_zones.specs.Kinds.{zone_of};
 ghost use Rattle.cal_events.specs.Events.{component_of, zone_said};
 ghost use Rattle.cal_events.specs.Meetings.{IsInEventDates};
-ghost use Rattle.cal_events.specs.Instances.{IsAfter, IsPastSlot, IsBefore, IsAscending, IsWanted, NoneBefore, AreWalked, StayWalked, IsLeast, lesser, IsAtPlace, IsMovedTo, IsSoonest, IsSooner, HasGoodClock, HasPassed, IsOfClock, HasClock, IsHeldAt, IsHeld, own_place};
+ghost use Rattle.cal_events.specs.Instances.{IsAfter, IsPastSlot, IsBefore, IsWanted, NoneBefore, AreWalked, StayWalked, IsLeast, lesser, IsAtPlace, IsMovedTo, IsSoonest, IsSooner, HasPassed, IsOfClock, HasClock, IsHeldAt, IsHeld, own_place};
 ghost use Rattle.cal_events.specs.declared.component.EventComponent.{EventComponent};
 
 use crate::component::EventComponent;

@@ -3,6 +3,7 @@
 
 pub mod calendar;
 pub mod component;
+mod component_values;
 mod draft;
 mod entries;
 mod event;
@@ -23,6 +24,7 @@ mod series;
 mod single_starts;
 pub mod sweep;
 mod texts;
+mod utc_time;
 mod whole;
 mod zoned;
 mod zones;
@@ -31,7 +33,7 @@ pub use calendar::{Calendar, Singles};
 pub use component::{Attendee, EventComponent, PartStat, Purpose, one_event};
 pub use event::{Event, one_instance, one_meeting};
 pub use event_rule::as_end;
-pub use event_times::EventTimes;
+pub use event_times::{EventTimes, FIRST_SECOND};
 pub use instance::{HORIZON, Instance, InstanceKey, OwnedKey, Single};
 pub use instances::Instances;
 pub use meeting_components::MeetingComponents;

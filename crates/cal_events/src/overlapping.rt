@@ -1,8 +1,8 @@
 //! The first instance of an event that shares an instant with a span.
 
-ghost use Rattle.std.specs.Prelude.{◌≡◌, ◌⊎◌, ◌↔◌, ◌^◌, pos, ℤ, ◌+ℤ◌, ◌≤ℤ◌, ◌<ℤ◌, Contains, IsTrue, option_map};
+ghost use Rattle.std.specs.Prelude.{◌↔◌, ◌^◌, pos, ℤ, ◌+ℤ◌, ◌≤ℤ◌, ◌<ℤ◌, Contains, IsTrue, option_map};
 ghost use Rattle.profile.specs.checker.Instances.{Instance as SaidInstance};
-ghost use Rattle.profile.specs.events.Starts.{IsInstance, SharesInstant, IsFirstOverlap};
+ghost use Rattle.profile.specs.events.Starts.{IsInstance, Overlaps, IsFirstOverlap};
 ghost use Rattle.cal_events.specs.Calendars.{instance_of};
 ghost use Rattle.cal_events.specs.Events.{times_of};
 ghost use Rattle.cal_events.specs.Overlapping.{LastAtMost};
@@ -11,11 +11,11 @@ ghost use Rattle.cal_events.specs.declared.component.EventComponent.{EventCompon
 
 use crate::component::EventComponent;
 use crate::event::Event;
-use crate::instance::{HORIZON, Instance};
+use crate::instance::Instance;
 use crate::sweep::Span;
 
-/// The first instance, by start and then by slot, that shares an instant before the horizon with a span.
-pub(crate) fn first_sharing<'a>(event: &'a Event, span: Span) -> Option<Instance<'a>>
+/// The first instance, by start and then by slot, that shares an instant with a span.
+pub(crate) fn first_overlapping<'a>(event: &'a Event, span: Span) -> Option<Instance<'a>>
     ensures { IsFirstOverlap (said_meeting event.now) span.start span.end (option_map instance_of result) }
 {
     let mut instances = event.instances(span.start.saturating_sub(longest(event)));
@@ -24,7 +24,7 @@ pub(crate) fn first_sharing<'a>(event: &'a Event, span: Span) -> Option<Instance
         if instance.start >= span.end {
             return None;
         }
-        if shares(instance.start, instance.end, span) {
+        if overlaps(instance.start, instance.end, span) {
             return Some(instance);
         }
         next = instances.next();
@@ -32,29 +32,12 @@ pub(crate) fn first_sharing<'a>(event: &'a Event, span: Span) -> Option<Instance
     None
 }
 
-/// Whether the time from one instant to another shares an instant before the horizon with a span.
-fn shares(start: i64, end: i64, span: Span) -> bool
-    ensures { IsTrue result ↔ SharesInstant start end span.start span.end }
+/// Whether the time from one instant to another shares an instant with a span.
+fn overlaps(start: i64, end: i64, span: Span) -> bool
+    ensures { IsTrue result ↔ Overlaps start end span.start span.end }
 {
-    let first = later(start, span.start);
-    if first >= end {
-        return false;
-    }
-    if first >= span.end {
-        return false;
-    }
-    first < HORIZON
-}
-
-/// The later of two instants.
-fn later(a: i64, b: i64) -> i64
-    ensures least { (a ≤ℤ result) × (b ≤ℤ result) }
-    ensures one { (result ≡ a) ⊎ (result ≡ b) }
-{
-    if a < b {
-        return b;
-    }
-    a
+    let first = start.max(span.start);
+    first < end && first < span.end
 }
 
 /// No instance of an event lasts longer, in exact seconds.
@@ -64,7 +47,7 @@ fn longest(event: &Event) -> i64
 {
     let of_overrides = longest_of(event.overrides.as_slice());
     match &event.master {
-        Some(master) => later(master.times.width(), of_overrides),
+        Some(master) => master.times.width().max(of_overrides),
         None => of_overrides,
     }
 }
@@ -74,9 +57,9 @@ fn longest_of(overrides: &[EventComponent]) -> i64
     ensures bound { (o : EventComponent) → Contains overrides.now o → LastAtMost (times_of o.times) result }
     ensures range { (pos 0 ≤ℤ result) × (result <ℤ pos (2 ^ 50)) }
 {
-    let mut longest = 0;
+    let mut longest: i64 = 0;
     for component in overrides {
-        longest = later(longest, component.times.width());
+        longest = longest.max(component.times.width());
     }
     longest
 }

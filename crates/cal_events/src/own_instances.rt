@@ -6,7 +6,7 @@ ghost use Rattle.profile.specs.events.Properties.{first_second};
 ghost use Rattle.profile.specs.events.Starts.{AreInstancesFrom};
 ghost use Rattle.profile.specs.events.Confirmed.{alone, AreApart};
 ghost use Rattle.cal_events.specs.Events.{component_of};
-ghost use Rattle.cal_events.specs.OwnInstances.{own_instance_at, IsInstanceAt, IsTimely};
+ghost use Rattle.cal_events.specs.OwnInstances.{own_instance_at, IsInstanceAt};
 
 use crate::component::EventComponent;
 use crate::instance::Single;
@@ -19,10 +19,8 @@ impl EventComponent {
     /// RECURRENCE-ID its own; of another one those at what RDATE adds, and where there is no RRULE at DTSTART, except for what EXDATE names.
     /// It fails only when out of memory.
     pub fn singles(&self, alloc: Global) -> Result<Vec<Single>, AllocError>
-        // of an event that some VEVENT says
-        requires { IsTimely (component_of self.now) }
         ensures apart { IfOk result (λ singles. AreApart (component_of self.now) (map (own_instance_at (component_of self.now)) singles.items)) }
-        ensures once { IfOk result (λ singles. self.now.rule ≡ None → IsTimely (component_of self.now)
+        ensures once { IfOk result (λ singles. self.now.rule ≡ None
             → AreInstancesFrom (alone (component_of self.now)) first_second (map (own_instance_at (component_of self.now)) singles.items)) }
     {
         if let Some(slot) = self.recurrence {

@@ -2,18 +2,17 @@
 ghost use Rattle.std.specs.Prelude.{◌≡◌, ◌≢◌, ◌↔◌, ◌≤ℤ◌, true, false, [], Some, is_some, map, option_map, filter, AllPairs, IfOk, MatchOption};
 ghost use Rattle.profile.specs.checker.Instances.{Instance as SaidInstance};
 ghost use Rattle.profile.specs.events.Events.{is_master};
-ghost use Rattle.profile.specs.events.Starts.{IsInstance, IsFirstOverlap, IsWidth};
+ghost use Rattle.profile.specs.events.Starts.{IsInstance, IsFirstOverlap, IsFirstSharer, IsWidth};
 ghost use Rattle.profile.specs.events.Confirmed.{by_its_rule, has_series};
 ghost use Rattle.profile.specs.events.EventComponents.{EventComponent as Said, meeting_said};
 ghost use Rattle.profile.specs.events.ZonedTimes.{clock_of};
 ghost use Rattle.cal_zones.specs.Kinds.{zone_of};
+ghost use Rattle.cal_events.specs.Clocks.{HasGoodClock};
 ghost use Rattle.cal_events.specs.Calendars.{key_of, owned_key_of, instance_of};
 ghost use Rattle.cal_events.specs.Drafts.{IsSaid, AreInOrder};
 ghost use Rattle.cal_events.specs.Events.{component_of};
-ghost use Rattle.cal_events.specs.Instances.{HasGoodClock};
 ghost use Rattle.cal_events.specs.Left.{IsLeft};
 ghost use Rattle.cal_events.specs.Overlapping.{HaveOneEnd};
-ghost use Rattle.cal_events.specs.OwnInstances.{IsTimely};
 ghost use Rattle.cal_events.specs.SaidMeetings.{said_meeting};
 ghost use Rattle.cal_events.specs.Ruled.{IsRuled, AreSlotsOf, IsByItsRule, cmp_to, is_key_of, ruled_without};
 
@@ -89,12 +88,19 @@ impl Series {
         self.event.instances(from)
     }
 
-    /// The first of its instances that shares an instant before the horizon with a span; None where none does. It begins to look where one
-    /// that starts earlier would be over.
+    /// The first of its instances that shares an instant with a span; None where none does. It begins to look where one that starts earlier
+    /// would be over.
     pub fn first_overlap(&self, span: Span) -> Option<Instance<'_>>
         ensures { IsFirstOverlap (series_said self.now) span.start span.end (option_map instance_of result) }
     {
         self.event.first_overlap(span)
+    }
+
+    /// The first that shares one before the horizon: the first that can clash with what lasts as long as the span.
+    pub fn first_sharer(&self, span: Span) -> Option<Instance<'_>>
+        ensures { IsFirstSharer (series_said self.now) span.start span.end (option_map instance_of result) }
+    {
+        self.first_overlap(span.before_horizon())
     }
 
     /// The rule by which it recurs.
@@ -151,8 +157,6 @@ impl EventComponent {
     /// The series of an event by itself: what its RRULE gives, except for what EXDATE names, and whatever other VEVENTs are for. None where it
     /// has no RRULE, or is for one instance. It fails only when out of memory.
     pub fn series(&self, alloc: Global) -> Result<Option<Series>, AllocError>
-        // of an event that some VEVENT says
-        requires { IsTimely (component_of self.now) }
         ensures { IfOk result (λ found. MatchOption found (has_series (component_of self.now) ≡ false) (λ series. IsSeriesOf (component_of self.now) (series_said series))) }
     {
         if !is_series(self) {

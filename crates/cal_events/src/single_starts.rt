@@ -1,8 +1,8 @@
 //! The starts of a master that belong to no series (RFC 5545 3.8.5.2, 3.8.5.1).
 ghost use Rattle.std.specs.Prelude.{◌≡◌, ◌↔◌, ℤ, true, is_some, Contains, IsTrue, IfOk};
 ghost use Rattle.std.specs.List.Sorted.{IsPermutation};
+ghost use Rattle.cal_events.specs.Clocks.{HasGoodClock};
 ghost use Rattle.cal_events.specs.Events.{component_of};
-ghost use Rattle.cal_events.specs.Instances.{HasGoodClock};
 ghost use Rattle.cal_events.specs.Meetings.{IsInEventDates};
 ghost use Rattle.cal_events.specs.SingleStarts.{AreSingleStarts, IsCandidate, IsLast, IsLeftOver, IsOnRule};
 

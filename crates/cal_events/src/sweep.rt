@@ -2,7 +2,7 @@
 //! instant are dropped, the others sorted by start, and then only neighbours are compared.
 ghost use Rattle.std.specs.Prelude.{◌≡◌, length, IfOk, IfNone, IfSome};
 ghost use Rattle.std.specs.List.{AllAdjacentBelow};
-ghost use Rattle.cal_events.specs.Sweep.{IsOverlap, AreSpansApart, AreNeighbours, placed_from, IsOverBefore};
+ghost use Rattle.cal_events.specs.Sweep.{IsBeforeHorizon, IsOverlap, AreSpansApart, AreNeighbours, placed_from, IsOverBefore};
 
 use crate::instance::HORIZON;
 use std::alloc::{AllocError, Global};
@@ -12,6 +12,18 @@ use std::alloc::{AllocError, Global};
 pub struct Span {
     pub start: i64,
     pub end: i64,
+}
+
+impl Span {
+    /// Those of its seconds that come before the horizon: from then on nothing is compared.
+    pub(crate) fn before_horizon(self) -> Span
+        ensures { IsBeforeHorizon self result }
+    {
+        Span {
+            start: self.start,
+            end: self.end.min(HORIZON),
+        }
+    }
 }
 
 /// Two places of a list whose spans share an instant, the earlier start first, and that instant:

@@ -1,7 +1,8 @@
 //! A time with its zone, as a start or an end: TZID names a VTIMEZONE of the object that the line is in
 //! (RFC 5545 3.2.19, 3.3.5, 3.6.5, 3.8.3.1). A VTIMEZONE that no line names isn't read.
-ghost use Rattle.std.specs.Prelude.{◌≡◌, ◌⊎◌, ℕ, List, Option, None, Some, ℤ, pos, IfOk, IfErr, OnOk};
+ghost use Rattle.std.specs.Prelude.{◌≡◌, ℕ, List, codes, Option, None, Some, ℤ, pos, MatchOption, IfOk, IfErr, OnOk};
 ghost use Rattle.ical_lines.specs.Text.{line_text};
+ghost use Rattle.profile.specs.text.Lines.{line_param};
 ghost use Rattle.profile.specs.text.Trees.{Tree};
 ghost use Rattle.profile.specs.text.Values.{SpellsLocal, SpellsStamp};
 ghost use Rattle.profile.specs.series.Zones as zones;
@@ -12,7 +13,7 @@ ghost use Rattle.cal_zones.specs.Kinds.{zone_of};
 ghost use Rattle.cal_events.specs.Zones.{object_of, AreRead};
 ghost use Rattle.cal_events.specs.Events.{zone_said};
 
-use crate::component::{TimeKind, is_date, kind_of, read_time};
+use crate::utc_time::{TimeKind, is_date, kind_of, read_time};
 use crate::zones::ZonesOfObject;
 use cal_zones::{Zone, one_zone};
 use ical_lines::{Line, Refusal};
@@ -115,7 +116,7 @@ pub fn one_zoned_time()
 /// Refused without TZID: 10, 11, 55 and 56, as a UTC time is. Refused with TZID: 11, 55 and 56, as a local time is.
 pub fn judge_time(line: Line<'_>, text: &str) -> Result<(), Refusal>
     ensures kind { OnOk result (time_kind (line_text line.entry) ≡ DateTime) }
-    ensures reads { OnOk result (((instant : ℤ) × SpellsStamp text.now instant) ⊎ IsLocalText text.now) }
+    ensures reads { OnOk result (MatchOption (line_param (codes "TZID") (line_text line.entry)) ((instant : ℤ) × SpellsStamp text.now instant) (λ _. IsLocalText text.now)) }
     ensures fault { IfErr result (λ e. (object : Tree) → ZonedTextFault object (line_text line.entry) text.now e.number) }
 {
     match line.param("TZID") {

@@ -1,5 +1,5 @@
 -- How many of the instances of a series start before an instant.
-use Rattle.std.proofs.Common.{◌≡◌, ◌∙◌, ap, refl, inl, inr, ℕ, zero, suc, ◌+◌, List, [], ◌∷◌, length, cond, true, false, Bool, arith, ℤ, ◌<ℤ◌, ◌≤ℤ◌}
+use Rattle.std.proofs.Common.{◌≡◌, ◌≤◌, ◌∙◌, ap, refl, sym, subst, inl, inr, ℕ, zero, suc, ◌+◌, List, [], ◌∷◌, length, cond, true, false, Bool, arith, ℤ, ◌<ℤ◌, ◌≤ℤ◌}
 use Rattle.std.specs.Prelude.{Contains, AllPairs, count_by, int_lt}
 use Rattle.std.proofs.lemmas.Int.{ints}
 use Rattle.std.proofs.lemmas.List.Sums.{sum_by-cons}
@@ -32,6 +32,14 @@ no_more t x xs h =
 pub count_none : (t : ℤ) (xs : List Instance) → ((y : Instance) → Contains xs y → t ≤ℤ y.start) → count_before t xs ≡ 0
 count_none t [] h = refl
 count_none t (x ∷ xs) h = no_more t x xs (h x (zero, omega arith, refl)) ∙ count_none t xs (λ y c. h y (later x y xs c))
+
+pub count_some : (t : ℤ) (i : Instance) (xs : List Instance) → i.start <ℤ t → Contains xs i → 1 ≤ count_before t xs
+count_some t i [] l c = absurd (none_in i c)
+count_some t i (x ∷ xs) l (zero, w, e) = let a = one_more t x xs (subst (λ (b : Instance). b.start <ℤ t) (sym e) l) in omega (arith, a)
+count_some t i (x ∷ xs) l (suc k, w, e) =
+    let a = count_some t i xs l (k, omega (arith, w), e) in
+    let b = with_first t x xs in
+    omega (arith, a, b)
 
 pub count_all : (t : ℤ) (xs : List Instance) → ((y : Instance) → Contains xs y → y.start <ℤ t) → count_before t xs ≡ length xs
 count_all t [] h = refl

@@ -5,7 +5,6 @@ use Rattle.std.specs.Int.{saturate_signed, int_max}
 use Rattle.std.proofs.lemmas.Bool.{cases_lt}
 use Rattle.std.proofs.lemmas.Int.{ints, by_lt_z}
 use Rattle.profile.specs.checker.Instances.{Instance as SaidInstance, horizon}
-use Rattle.profile.specs.series.Zones.{Zone, Means, IsBounds}
 use Rattle.profile.specs.events.ZonedTimes.{EventTimes, clock_of}
 use Rattle.profile.specs.events.EventComponents.{EventComponent as Said}
 use Rattle.profile.specs.events.Events.{Event as SaidEvent}
@@ -18,6 +17,7 @@ use Rattle.cal_events.specs.declared.instance.Instance.{Instance}
 use Rattle.cal_events.specs.declared.instances.Instances.{Instances}
 use Rattle.cal_events.specs.declared.series.Series.{Series}
 use Rattle.cal_events.proofs.DraftKeys.{some_there}
+use Rattle.cal_events.proofs.InstanceLemmas as instances
 use Rattle.cal_events.proofs.OwnSingles.{at_start}
 use Rattle.cal_events.proofs.SeriesLemmas.{alone_said}
 use Rattle.cal_period.specs.Walks.{AreAllLeft, AreLeftFrom}
@@ -26,17 +26,12 @@ use Rattle.cal_period.proofs.Going.{at_first, not_less}
 
 -- ---- how long instances last
 
--- a local time is later than an instant that means it by the least offset or more
-shown_later : (z : Zone) (least greatest local t : ℤ) → IsBounds z least greatest → Means z local t → (t +ℤ least) ≤ℤ local
-shown_later z least greatest local t b (inl h) = elim (b.one t h.shown.0 h.shown.1) [ inl e ↦ omega (arith, ints, e, h.shown.2) | inr e ↦ omega (arith, ints, e, h.shown.2, b.ordered) ]
-shown_later z least greatest local t b (inr h) = elim (b.sides h.onset h.listed) [ inl e ↦ omega (arith, ints, e.0, h.read) | inr e ↦ omega (arith, ints, e.0, h.read, b.ordered) ]
-
 within_width : (times : EventTimes) (n : ℤ) → IsWidth times n → (start end : ℤ) → EndsAt times start end → end ≤ℤ (start +ℤ n)
 within_width times n (inl (none, is)) start end (later, inl (z, same), e) = omega (arith, ints, none, is, same, e)
 within_width times n (inl (none, is)) start end (later, inr (some, x), e) = absurd (omega (arith, none, some))
 within_width times n (inr (some, w)) start end (later, inl (none, x), e) = absurd (omega (arith, none, some))
 within_width times n (inr (some, (least, greatest, b, is))) start end (later, inr (days, (offset, at, means)), e) =
-    let l = shown_later (clock_of times.zone) least greatest ((start +ℤ offset) +ℤ pos (86_400 * times.length.days)) later b means in
+    let l = instances.not_less (clock_of times.zone) least greatest ((start +ℤ offset) +ℤ pos (86_400 * times.length.days)) later b means in
     elim (b.one start offset at) [ inl o ↦ omega (arith, ints, b.ordered, is, l, e, o) | inr o ↦ omega (arith, ints, b.ordered, is, l, e, o) ]
 
 no_less : (times : EventTimes) (n : ℤ) → IsWidth times n → pos 0 ≤ℤ n

@@ -136,9 +136,9 @@ step_count drawn more count left total new m n h = omega (arith, m, n, h)
 pub end_count : (drawn total : ℕ) → drawn ≤ 18446744073709551615 → min (drawn + 0) 18446744073709551615 ≡ min total 18446744073709551615 → drawn ≡ min total 18446744073709551615
 end_count drawn total f h = omega (arith, f, h)
 
-pub found_count : (drawn more count left total new : ℕ) → more ≤ count → new ≡ min (drawn + more) 18446744073709551615
-    → min (drawn + (count + left)) 18446744073709551615 ≡ min total 18446744073709551615 → new ≤ total
-found_count drawn more count left total new m n h = omega (arith, m, n, h)
+pub found_count : (drawn more count left total new : ℕ) → (1 ≤ more) × (more ≤ count) → new ≡ min (drawn + more) 18446744073709551615
+    → min (drawn + (count + left)) 18446744073709551615 ≡ min total 18446744073709551615 → (1 ≤ new) × (new ≤ total)
+found_count drawn more count left total new m n h = (omega (arith, m, n), omega (arith, m, n, h))
 
 -- what is left of a row and of all rows
 pub row_left : (counts : List ℕ) (i j n : ℕ) → j < n → row_count counts i j (n - j) ≡ pair_count counts i j + row_count counts i (j + 1) (n - (j + 1))
@@ -189,7 +189,7 @@ module _ (all : List Event) (i j : ℕ) where
       subst (IsDrawn swept.shared swept.drawn) count (go swept.shared d x.0 y.0 x.1 y.1)
     where
       go : (o : Option (Instance × Instance)) → MatchOption o ((xs ys : List SaidInstance) → AreInstancesFrom a first_second xs → AreInstancesFrom b first_second ys → swept.drawn ≡ min (length xs + length ys) 18446744073709551615)
-          (λ _. (xs ys : List SaidInstance) → AreInstancesFrom a first_second xs → AreInstancesFrom b first_second ys → swept.drawn ≤ length xs + length ys)
+          (λ _. (xs ys : List SaidInstance) → AreInstancesFrom a first_second xs → AreInstancesFrom b first_second ys → (1 ≤ swept.drawn) × (swept.drawn ≤ length xs + length ys))
           → (xs ys : List SaidInstance) → AreInstancesFrom a first_second xs → AreInstancesFrom b first_second ys → IsDrawn o swept.drawn (length xs + length ys)
       go None f xs ys h k = f xs ys h k
       go (Some p) f xs ys h k = f xs ys h k
@@ -202,7 +202,7 @@ module _ (all : List Event) (i j : ℕ) where
       subst (IsDrawn swept.shared swept.drawn) count (go swept.shared d x.0 x.1)
     where
       go : (o : Option (Instance × Instance)) → MatchOption o ((xs : List SaidInstance) → AreInstancesFrom a first_second xs → swept.drawn ≡ min (length xs) 18446744073709551615)
-          (λ _. (xs : List SaidInstance) → AreInstancesFrom a first_second xs → swept.drawn ≤ length xs)
+          (λ _. (xs : List SaidInstance) → AreInstancesFrom a first_second xs → (1 ≤ swept.drawn) × (swept.drawn ≤ length xs))
           → (xs : List SaidInstance) → AreInstancesFrom a first_second xs → IsDrawn o swept.drawn (length xs)
       go None f xs h = f xs h
       go (Some p) f xs h = f xs h

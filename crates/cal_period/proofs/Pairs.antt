@@ -9,10 +9,10 @@ use Rattle.cal_events.specs.Calendars.{instance_of}
 use Rattle.cal_events.specs.declared.instance.Instance.{Instance}
 use Rattle.cal_events.specs.declared.instances.Instances.{Instances}
 use Rattle.cal_period.specs.Clear.{AreSeriesClear, ArePair}
-use Rattle.cal_period.specs.Swept.{IsCountOfBoth, IsAtMostBoth}
+use Rattle.cal_period.specs.Swept.{IsCountOfBoth, IsSomeOfBoth}
 use Rattle.cal_period.specs.Walks.{walk_place, IsBehind, IsWalkOf, BeginsWalk, GoesPast, MeetsInstance, MeetsNone}
 use Rattle.cal_period.specs.declared.walk.Walk.{Walk}
-use Rattle.cal_period.proofs.Sweeping.{Share, turned, start_turned, meets_none, met_behind, met_start, next_is, all_behind, all_counted, some_counted}
+use Rattle.cal_period.proofs.Sweeping.{Share, turned, start_turned, meets_none, met_behind, met_start, next_is, all_behind, all_counted, some_counted, one_counted}
 
 -- ---- two places
 
@@ -87,11 +87,15 @@ module _ (a b : Event) (of_a of_b : Instances) (first second : Walk) (at : IsPai
       let r = all_counted b of_b second at.in_second q ys k in
       omega (arith, e, l, r)
 
-  pub pair_at_most : (n : ℕ) → n ≡ min (first.count + second.count) 18446744073709551615 → IsAtMostBoth a b n
-  pair_at_most n e xs ys h k =
+  -- where one of the second is behind
+  pub pair_some : (last : Instance) → second.last ≡ Some last → (n : ℕ) → n ≡ min (first.count + second.count) 18446744073709551615 → IsSomeOfBoth a b n
+  pair_some last is n e xs ys h k =
       let l = some_counted a of_a first at.in_first xs h in
       let r = some_counted b of_b second at.in_second ys k in
-      omega (arith, e, l, r)
+      let o = one_counted b of_b second last at.in_second is ys k in (
+        omega (arith, e, o),
+        omega (arith, e, l, r),
+      )
 
   module _ (next : Instance) (is : first.next ≡ Some next) where
     pub pair_found : (last : Instance) → MeetsInstance second.last next last → ArePair a b (instance_of next) (instance_of last)

@@ -6,7 +6,7 @@ use Rattle.std.proofs.lemmas.Bool.{cases_lt}
 use Rattle.std.proofs.lemmas.Option.{same_Some, slice_get-get_or}
 use Rattle.profile.specs.checker.Instances.{Instance as SaidInstance}
 use Rattle.profile.specs.events.Events.{Event}
-use Rattle.profile.specs.events.Starts.{IsInstance, SharesInstant, IsFirstOverlap}
+use Rattle.profile.specs.events.Starts.{IsInstance, SharesInstant, IsFirstSharer}
 use Rattle.profile.specs.events.Confirmed.{Confirmed}
 use Rattle.cal_events.specs.Calendars.{instance_of}
 use Rattle.cal_events.specs.declared.instance.Instance.{Instance}
@@ -22,7 +22,7 @@ HasNoneBefore all start end place =
 
 module _ (all : List Event) (start end : ℤ) (place : ℕ) (series : Event) (at : slice_get all place ≡ Some series) where
   -- one more that has none
-  pub none_more : (o : Option Instance) → IsFirstOverlap series start end (option_map instance_of o) → o ≡ None → HasNoneBefore all start end place → HasNoneBefore all start end (place + 1)
+  pub none_more : (o : Option Instance) → IsFirstSharer series start end (option_map instance_of o) → o ≡ None → HasNoneBefore all start end place → HasNoneBefore all start end (place + 1)
   none_more None first e none k other w is b h s =
       elim (cases_lt k place) [
         | inl before ↦ none k other before is b h s
@@ -37,9 +37,9 @@ module _ (all : List Event) (start end : ℤ) (place : ℕ) (series : Event) (at
       never e = cc
 
   -- this one has
-  pub sharer_found : (o : Option Instance) (i : Instance) → IsFirstOverlap series start end (option_map instance_of o) → o ≡ Some i → IsSharer all start end place (instance_of i)
+  pub sharer_found : (o : Option Instance) (i : Instance) → IsFirstSharer series start end (option_map instance_of o) → o ≡ Some i → IsSharer all start end place (instance_of i)
   sharer_found o i first e =
-      let f : IsFirstOverlap series start end (Some (instance_of i)) = subst (λ (x : Option Instance). IsFirstOverlap series start end (option_map instance_of x)) e first in
+      let f : IsFirstSharer series start end (Some (instance_of i)) = subst (λ (x : Option Instance). IsFirstSharer series start end (option_map instance_of x)) e first in
       record { series = series; at = at; is = f.0; shared = f.1.0 }
 
 pub none_of_all : (all : List Event) (start end : ℤ) (place : ℕ) → length all ≤ place → HasNoneBefore all start end place → HasNoSharer all start end

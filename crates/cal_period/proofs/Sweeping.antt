@@ -1,5 +1,5 @@
 -- How a sweep goes on.
-use Rattle.std.proofs.Common.{◌≡◌, subst, refl, inl, inr, ℕ, ◌<◌, arith, ℤ, pos, negsuc, ◌-ℤ◌, ◌<ℤ◌, ◌≤ℤ◌, unsigned_abs, true, false, to_z, of_z, to_z-of_z, w64, FitsSigned}
+use Rattle.std.proofs.Common.{◌≡◌, subst, refl, inl, inr, ℕ, ◌<◌, ◌≤◌, List, length, arith, ℤ, pos, negsuc, ◌-ℤ◌, ◌<ℤ◌, ◌≤ℤ◌, unsigned_abs, true, false, to_z, of_z, to_z-of_z, w64, FitsSigned}
 use Rattle.std.specs.Prelude.{Option, Some, None, ◌↔◌, IfSome, int_lt, int_le}
 use Rattle.std.proofs.lemmas.Int.{ints}
 use Rattle.std.proofs.lemmas.List.Elements.{All-contains}
@@ -7,17 +7,18 @@ use Rattle.std.proofs.lemmas.List.Sums.{count_by-le-length}
 use Rattle.profile.specs.checker.Instances.{Instance as SaidInstance, horizon}
 use Rattle.profile.specs.events.Properties.{first_second}
 use Rattle.profile.specs.events.Events.{Event}
-use Rattle.profile.specs.events.Starts.{IsInstance, SharesInstant}
+use Rattle.profile.specs.events.Starts.{IsInstance, SharesInstant, AreInstancesFrom}
 use Rattle.cal_events.specs.Calendars.{instance_of}
 use Rattle.cal_events.specs.Left.{IsLeft}
 use Rattle.cal_events.specs.SaidSeries.{AreKnownByStart}
 use Rattle.cal_events.specs.declared.instance.Instance.{Instance}
 use Rattle.cal_events.specs.declared.instances.Instances.{Instances}
+use Rattle.cal_events.proofs.Overlaps.{abs_is}
 use Rattle.cal_period.specs.Clear.{ShareStart}
-use Rattle.cal_period.specs.Swept.{IsCountOf, IsAtMost}
+use Rattle.cal_period.specs.Swept.{IsCountOf, IsSomeOf}
 use Rattle.cal_period.specs.Walks.{walk_place, AreAllLeft, IsAhead, IsBehind, IsLastBehind, IsWalkOf, MeetsNone}
 use Rattle.cal_period.specs.declared.walk.Walk.{Walk}
-use Rattle.cal_period.proofs.Counts.{count_all}
+use Rattle.cal_period.proofs.Counts.{count_all, count_some}
 
 -- ---- two instances
 
@@ -88,19 +89,28 @@ all_counted series left walk s far xs are =
     omega (arith, n, all)
 
 -- never more
-pub some_counted : (series : Event) (left : Instances) (walk : Walk) → IsWalkOf series left walk → IsAtMost series walk.count
+pub some_counted : (series : Event) (left : Instances) (walk : Walk) → IsWalkOf series left walk → (xs : List SaidInstance) → AreInstancesFrom series first_second xs → walk.count ≤ length xs
 some_counted series left walk s xs are =
     let n = s.count xs are in
     let most = count_by-le-length (λ (b : SaidInstance). int_lt b.start (walk_place walk.next)) xs in
     omega (arith, n, most)
 
+-- and one, where one is behind
+pub one_counted : (series : Event) (left : Instances) (walk : Walk) (z : Instance) → IsWalkOf series left walk → walk.last ≡ Some z
+    → (xs : List SaidInstance) → AreInstancesFrom series first_second xs → 1 ≤ walk.count
+one_counted series left walk z s e xs are =
+    let behind = met_behind series (walk_place walk.next) walk.last z s.last e in
+    let there = are.all (instance_of z) behind.0 (s.ahead.known.dates (instance_of z) behind.0).0 in
+    let some = count_some (walk_place walk.next) (instance_of z) xs behind.1 there in
+    let n = s.count xs are in
+    omega (arith, n, some)
+
+pub found_counted : (series : Event) (left : Instances) (walk : Walk) (z : Instance) → IsWalkOf series left walk → walk.last ≡ Some z → IsSomeOf series walk.count
+found_counted series left walk z s e xs are = (one_counted series left walk z s e xs are, some_counted series left walk s xs are)
+
 -- how far it is to the horizon
 abbrev pub steps_left : Walk → ℕ
 steps_left walk = unsigned_abs (horizon -ℤ walk_place walk.next)
-
-abs_is : (d : ℤ) → pos 0 ≤ℤ d → pos (unsigned_abs d) ≡ d
-abs_is (pos n) h = refl
-abs_is (negsuc n) h = absurd (omega (arith, ints, h))
 
 pub fewer_left : (series : Event) (left : Instances) (old new : Walk) → IsAhead series left new.next → walk_place old.next <ℤ walk_place new.next → steps_left new < steps_left old
 fewer_left series left old new ahead further =

@@ -83,9 +83,9 @@ pairs_count counts i (suc n) = row_count counts i i (suc n) + pairs_count counts
 abbrev pub all_count : List (List Instance) → ℕ
 all_count lists = pairs_count (map length lists) 0 (length lists)
 
--- it went past this many, as far as 64 bits go, where nothing was found, and else past no more
+-- it went past this many, as far as 64 bits go, where nothing was found; else past some of them, at least one
 abbrev pub IsDrawn : {X : Type 0} → Option X → ℕ → ℕ → Type 0
-IsDrawn found drawn count = MatchOption found (drawn ≡ min count (2 ^ 64 - 1)) (λ _. drawn ≤ count)
+IsDrawn found drawn count = MatchOption found (drawn ≡ min count (2 ^ 64 - 1)) (λ _. (1 ≤ drawn) × (drawn ≤ count))
 
 abbrev pub IsAtDrawn : List Event → ℕ → ℕ → Swept → Type 0
 IsAtDrawn all i j swept = (lists : List (List Instance)) → AreLists all lists → IsDrawn swept.shared swept.drawn (pair_count (map length lists) i j)

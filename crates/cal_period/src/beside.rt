@@ -48,7 +48,7 @@ fn first_sharer(series: &[Series], span: Span) -> Option<(usize, Instance<'_>)>
     ensures { IsSharerOr (map series_said series.now) span.start span.end result }
 {
     for place in 0..series.len() {
-        if let Some(instance) = series[place].first_overlap(span) {
+        if let Some(instance) = series[place].first_sharer(span) {
             return Some((place, instance));
         }
     }

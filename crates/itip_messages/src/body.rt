@@ -15,16 +15,13 @@ ghost use Rattle.cal_events.specs.Events.{component_of, times_of};
 ghost use Rattle.itip_messages.specs.Bodies.{AppendsOthers, AppendsRule, AppendsStart, AppendsTimes, AppendsZone, EndIsTold, IsCanonical, IsCutAtZone, IsReady, IsTold, crlf_lines, zone_place};
 
 use cal_days::Day;
-use cal_events::{EventComponent, EventTimes, HORIZON, as_end};
+use cal_events::{EventComponent, EventTimes, FIRST_SECOND, HORIZON, as_end};
 use cal_rules::{Rule, Until};
 use cal_zones::Zone;
 use ical_values::shown::{date_text, stamp_text};
 use ical_values::{Duration, Stamp};
 use memchr::memchr;
 use std::alloc::{AllocError, Global};
-
-/// The first second that an event may name, 1969-12-31T00:00:00Z.
-const FIRST_SECOND: i64 = -86_400;
 
 /// Where the octets of the VTIMEZONE begin in those of a body; the body's length where there is none. No line before them has a `G`, which
 /// is the third octet of `BEGIN`.

@@ -52,7 +52,7 @@ without_a_rule_is_no_series = refl
 
 -- the declined override hides the start that it replaces, and isn't an instance itself
 hidden : IsInstanceAmong events master (record { key = key_at master (pos 100); start = pos 100; end = pos 101 }) → ⊥
-hidden i = i.shown refl (record { override = declined; among = (1, omega arith, refl); of = refl; is = refl })
+hidden i = i.shown refl (record { override = declined; among = ((1, omega arith, refl), refl); is = refl })
 
 -- the other start stays
 stays : IsConfirmed room events (record { key = key_at master (pos 200); start = pos 200; end = pos 201 })
@@ -64,11 +64,11 @@ stays = record {
     is = inl (record {
       master = master;
       is = refl;
-      starts = record { given = inr (0, omega arith, refl); in_dates = (omega (arith, ints), omega (arith, ints)); not_excepted = λ c. omega (arith, c.1); not_overridden = λ c. omega (arith, c.1) };
+      starts = record { given = inr (0, omega arith, refl); in_dates = (omega (arith, ints), omega (arith, ints)); not_excepted = λ c. omega (arith, c.1); not_replaced = λ r. omega (arith, r.among.1) };
       key = refl;
       ends = (pos 200, inl (refl, refl), refl);
     });
-    shown = λ _ replaced. other replaced.override replaced.among replaced.is;
+    shown = λ _ replaced. other replaced.override replaced.among.0 replaced.is;
   };
 }
   where

@@ -4,7 +4,7 @@ use Rattle.std.specs.Prelude.{Option, Some, None, Contains}
 use Rattle.std.proofs.lemmas.Int.{ints}
 use Rattle.profile.specs.events.EventComponents.{EventComponent}
 use Rattle.profile.specs.events.Events.{Event}
-use Rattle.profile.specs.events.Starts.{EndsAt, IsStart, IsInstance, SharesInstant, key_at}
+use Rattle.profile.specs.events.Starts.{EndsAt, IsStart, IsInstance, Overlaps, SharesInstant, key_at}
 
 -- an event in UTC without a rule, of one second, with these times beside it
 abbrev event : Option ℤ → ℤ → List ℤ → List ℤ → EventComponent
@@ -40,7 +40,7 @@ at_dtstart = record {
   given = inl refl;
   in_dates = (omega (arith, ints), omega (arith, ints));
   not_excepted = λ c. only c;
-  not_overridden = λ c. omega (arith, c.1);
+  not_replaced = λ r. omega (arith, r.among.1);
 }
   where
     only : Contains (pos 300 ∷ []) (pos 100) → ⊥
@@ -61,8 +61,8 @@ other = event (Some (pos 50)) (pos 60) [] []
 abbrev meeting : Event
 meeting = record { master = Some master; overrides = override ∷ other ∷ [] }
 
-overridden : IsStart master meeting.overrides (pos 100) → ⊥
-overridden s = s.not_overridden (0, omega arith, refl)
+replaced : IsStart master meeting.overrides (pos 100) → ⊥
+replaced s = s.not_replaced (record { override = override; among = (0, omega arith, refl); is = refl })
 
 moved : IsInstance meeting (record { key = key_at override (pos 100); start = pos 150; end = pos 151 })
 moved = inr (record { override = override; is = (0, omega arith, refl); recurrence = refl; key = refl; starts = refl; ends = (pos 150, inl (refl, refl), refl) })
@@ -71,11 +71,18 @@ added : IsInstance meeting (record { key = key_at other (pos 50); start = pos 60
 added = inr (record { override = other; is = (1, omega arith, refl); recurrence = refl; key = refl; starts = refl; ends = (pos 60, inl (refl, refl), refl) })
 
 -- one second of an hour is shared; an end is in no instance, and an instance of no length holds nothing
-last_second : SharesInstant (pos 0) (pos 3600) (pos 3599) (pos 7200)
-last_second = record { instant = pos 3599; before = omega (arith, ints); in_first = (omega (arith, ints), omega (arith, ints)); in_second = (omega (arith, ints), omega (arith, ints)) }
+last_second : Overlaps (pos 0) (pos 3600) (pos 3599) (pos 7200)
+last_second = record { instant = pos 3599; in_first = (omega (arith, ints), omega (arith, ints)); in_second = (omega (arith, ints), omega (arith, ints)) }
 
-touching : SharesInstant (pos 0) (pos 3600) (pos 3600) (pos 7200) → ⊥
+touching : Overlaps (pos 0) (pos 3600) (pos 3600) (pos 7200) → ⊥
 touching s = absurd (omega (arith, ints, s.in_first.1, s.in_second.0))
 
-empty_shares_nothing : SharesInstant (pos 100) (pos 100) (pos 0) (pos 3600) → ⊥
+empty_shares_nothing : Overlaps (pos 100) (pos 100) (pos 0) (pos 3600) → ⊥
 empty_shares_nothing s = absurd (omega (arith, ints, s.in_first.0, s.in_first.1))
+
+-- from year 10000 on an instance of its last hour overlaps what is there, and clashes with nothing
+in_10000 : Overlaps (pos 253_402_297_200) (pos 253_402_304_400) (pos 253_402_300_800) (pos 253_402_300_860)
+in_10000 = record { instant = pos 253_402_300_800; in_first = (omega (arith, ints), omega (arith, ints)); in_second = (omega (arith, ints), omega (arith, ints)) }
+
+in_10000_clashes_not : SharesInstant (pos 253_402_297_200) (pos 253_402_304_400) (pos 253_402_300_800) (pos 253_402_300_860) → ⊥
+in_10000_clashes_not s = absurd (omega (arith, ints, s.before, s.in_second.0))

@@ -11,7 +11,7 @@ use Rattle.profile.specs.text.Objects.{is_property, IsObject}
 use Rattle.profile.specs.events.EventComponents.{EventComponent, SaysEventComponent, meeting_said}
 use Rattle.profile.specs.events.Events.{Event, is_master}
 use Rattle.profile.specs.events.Starts.{IsInstance}
-use Rattle.profile.specs.events.Confirmed.{Confirmed, AreConfirmed, AreOfRule, AreSingles, IsOneOf, IsReplaced, IsSeries, alone, by_its_rule, has_series, is_kept, is_series}
+use Rattle.profile.specs.events.Confirmed.{Confirmed, AreConfirmed, AreOfRule, AreSingles, IsOneOf, IsReplacedAmong, IsSeries, alone, by_its_rule, has_series, is_kept, is_series}
 use Rattle.profile.specs.checker.Calendars.{SpellsCalendar, CertificateHolds}
 use Rattle.profile.specs.checker.Instances.{Instance, Key}
 use Rattle.profile.specs.rooms.Messages.{opening_lines, slot_of, slot_named}
@@ -261,12 +261,12 @@ module _ (room : List ℕ) (book : Book) (k : KeepsAll room book) (entries : Lis
     at_slot b own none = ap (λ (k : Key). k.slot) (master_alone said b none own).key
 
     -- what replaces an instance of the whole
-    replaces : (b : Instance) → IsInstance (alone said) b → is_master said ≡ true → IsReplaced saids said b.start → is_hidden book.taken claim.part b ≡ true
+    replaces : (b : Instance) → IsInstance (alone said) b → is_master said ≡ true → IsReplacedAmong saids said b.start → is_hidden book.taken claim.part b ≡ true
     replaces b own master r =
-        let found = zip_to (SaysEntry room) saids entries r.override z r.among in
+        let found = zip_to (SaysEntry room) saids entries r.override z r.among.0 in
         let none = master_whole said master in
         let whole : claim.part.slot ≡ Whole = sym s.slot ∙ ap slot_named none in
-        let meeting = sym found.2.meeting ∙ r.of ∙ s.meeting in
+        let meeting = sym found.2.meeting ∙ r.among.1 ∙ s.meeting in
         hidden_by claim b found.0 found.1 (ap (λ (o : Slot). is_eq (slot_cmp o Whole)) whole)
         (record {
           organiser = ap (λ (m : List ℕ × List ℕ). m.0) meeting;
@@ -280,16 +280,15 @@ module _ (room : List ℕ) (book : Book) (k : KeepsAll room book) (entries : Lis
 
     -- an event that says an entry of that place replaces it
     replaced_there : (b : Instance) (event : EventComponent) (entry : KeptComponent) (other : Part) → Contains saids event → SaysEntry room event entry → part_kept entry ≡ other → SamePlace other (record claim.part { slot = At b.key.slot }) → b.key.slot ≡ b.start
-        → IsReplaced saids said b.start
+        → IsReplacedAmong saids said b.start
     replaced_there b event entry other among e same place start = record {
       override = event;
-      among = among;
-      of = e.meeting ∙ (λ i. ((same i).organiser, (same i).uid)) ∙ (λ i. (place.organiser i, place.uid i)) ∙ sym s.meeting;
+      among = (among, e.meeting ∙ (λ i. ((same i).organiser, (same i).uid)) ∙ (λ i. (place.organiser i, place.uid i)) ∙ sym s.meeting);
       is = instant_there event.recurrence b.start (e.slot ∙ ap (λ (q : Part). q.slot) same ∙ place.slot ∙ ap At start);
     }
 
     -- and something replaces it
-    is_replaced : (b : Instance) → IsInstance (alone said) b → is_hidden book.taken claim.part b ≡ true → IsReplaced saids said b.start
+    is_replaced : (b : Instance) → IsInstance (alone said) b → is_hidden book.taken claim.part b ≡ true → IsReplacedAmong saids said b.start
     is_replaced b own h =
         let both = and_parts _ _ h in
         let found = any_at (λ other. in_view book.taken other && same_place other (record claim.part { slot = At b.key.slot })) book.taken both.1 in

@@ -333,7 +333,7 @@ own_first = record {
     given = inl first_starts;
     in_dates = (omega (arith, ints), omega (arith, ints));
     not_excepted = none_in_nil (pos 1_741_597_200);
-    not_overridden = none_in_nil (Some (pos 1_741_597_200));
+    not_replaced = λ r. none_in_nil r.override r.among;
   };
   key = refl;
   ends = (pos 1_741_597_200, inl (refl, refl), refl);

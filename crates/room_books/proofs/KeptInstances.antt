@@ -12,7 +12,7 @@ use Rattle.profile.specs.events.Properties.{first_second}
 use Rattle.profile.specs.events.EventComponents.{EventComponent}
 use Rattle.profile.specs.events.Events.{Event, is_master}
 use Rattle.profile.specs.events.Starts.{IsStart, IsGiven, IsInstance, IsRuleStart, ComesBefore, key_at}
-use Rattle.profile.specs.events.Confirmed.{alone, has_series, is_kept, AreApart, AreOfRule, AreSingles, IsInstanceAmong, IsOfSeries, IsReplaced, IsSeries, IsSingle}
+use Rattle.profile.specs.events.Confirmed.{alone, has_series, is_kept, AreApart, AreOfRule, AreSingles, IsInstanceAmong, IsOfSeries, IsReplacedAmong, IsSeries, IsSingle}
 use Rattle.profile.specs.rooms.Messages.{AreAscending, is_in_dates}
 use Rattle.profile.specs.rooms.Rooms.{Claim}
 use Rattle.profile.specs.streams.Streams.{AsksFor}
@@ -89,7 +89,7 @@ module _ (event : EventComponent) (number : ℕ) (organiser : List ℕ) (stamp :
     given = given_to t s.given;
     in_dates = s.in_dates;
     not_excepted = λ c. s.not_excepted (of_filtered is_in_dates event.exceptions t ((takes.exact t).0 c)).0;
-    not_overridden = s.not_overridden;
+    not_replaced = s.not_replaced;
   }
 
   start_from : (t : ℤ) → IsStart kept [] t → IsStart event [] t
@@ -97,7 +97,7 @@ module _ (event : EventComponent) (number : ℕ) (organiser : List ℕ) (stamp :
     given = given_from t s.given;
     in_dates = s.in_dates;
     not_excepted = λ c. s.not_excepted ((takes.exact t).1 (in_filtered is_in_dates event.exceptions t c (in_the_dates t s.in_dates.0 s.in_dates.1)));
-    not_overridden = s.not_overridden;
+    not_replaced = s.not_replaced;
   }
 
   at_start_to : (b : Instance) → IsAtStart event b → IsAtStart kept b
@@ -182,8 +182,8 @@ module _ (event : EventComponent) (number : ℕ) (organiser : List ℕ) (stamp :
 
 -- where what hides an instance of the event is what replaces it
 pub record IsHiding (saids : List EventComponent) (said : EventComponent) (hidden : Instance → Bool) : Type 0 where
-  pub replaced : (b : Instance) → IsInstance (alone said) b → hidden b ≡ true → IsReplaced saids said b.start
-  pub hides : (b : Instance) → IsInstance (alone said) b → is_master said ≡ true → IsReplaced saids said b.start → hidden b ≡ true
+  pub replaced : (b : Instance) → IsInstance (alone said) b → hidden b ≡ true → IsReplacedAmong saids said b.start
+  pub hides : (b : Instance) → IsInstance (alone said) b → is_master said ≡ true → IsReplacedAmong saids said b.start → hidden b ≡ true
   pub master : (b : Instance) → hidden b ≡ true → is_master said ≡ true
 
 module _ (saids : List EventComponent) (said : EventComponent) (hidden : Instance → Bool) (h : IsHiding saids said hidden) where

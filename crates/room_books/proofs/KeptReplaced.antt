@@ -9,7 +9,7 @@ use Rattle.std.proofs.lemmas.List.Elements.{All-contains, Contains-get_or}
 use Rattle.std.proofs.lemmas.Option.{same_Some}
 use Rattle.std.proofs.lemmas.Slice.Eq.{bytes_eq-Decides}
 use Rattle.profile.specs.events.EventComponents.{EventComponent, meeting_said}
-use Rattle.profile.specs.events.Confirmed.{AreReplaced, IsReplaced}
+use Rattle.profile.specs.events.Confirmed.{AreReplaced, IsReplacedAmong}
 use Rattle.cal_events.proofs.InOneOrder.{cons_pairs, head_pairs, tail_pairs}
 use Rattle.itip_order.proofs.Lists.{in_cons, in_head, in_tail, none_in_nil}
 
@@ -110,11 +110,11 @@ module _ (event : EventComponent) where
   replaced_more : (other : EventComponent) (events : List EventComponent) (xs : List ℤ) → AreReplaced events event xs → (ys : List ℤ) × AreReplaced (other ∷ events) event ys
   replaced_more other events xs are = by (replaces other)
     where
-      later : (t : ℤ) → IsReplaced events event t → IsReplaced (other ∷ events) event t
-      later t r = record { override = r.override; among = in_tail other events r.override r.among; of = r.of; is = r.is }
+      later : (t : ℤ) → IsReplacedAmong events event t → IsReplacedAmong (other ∷ events) event t
+      later t r = record { override = r.override; among = (in_tail other events r.override r.among.0, r.among.1); is = r.is }
 
-      at : (t : ℤ) → Contains xs t → IsReplaced events event t
-      at t c = All-contains (IsReplaced events event) xs t are.each c
+      at : (t : ℤ) → Contains xs t → IsReplacedAmong events event t
+      at t c = All-contains (IsReplacedAmong events event) xs t are.each c
 
       by : ((t : ℤ) × Replaces other t) ⊎ ((t : ℤ) → Replaces other t → ⊥) → (ys : List ℤ) × AreReplaced (other ∷ events) event ys
       by (inl (t, (of, is))) =
@@ -123,16 +123,16 @@ module _ (event : EventComponent) where
             record {
               each = λ i d l. each put (get_or put.list i d) (Contains-get_or put.list i d l);
               ascending = put.ascending;
-              all = λ u r. elim (in_cons other events r.override r.among) [
+              all = λ u r. elim (in_cons other events r.override r.among.0) [
                 | inl here ↦ subst (λ (z : ℤ). Contains put.list z) (same_Some t u (sym is ∙ ap (λ (e : EventComponent). e.recurrence) here ∙ r.is)) put.has
-                | inr there ↦ put.keeps u (are.all u (record { override = r.override; among = there; of = r.of; is = r.is }))
+                | inr there ↦ put.keeps u (are.all u (record { override = r.override; among = (there, r.among.1); is = r.is }))
               ];
             },
           )
         where
-          each : (put : IsPutIn t xs) (u : ℤ) → Contains put.list u → IsReplaced (other ∷ events) event u
+          each : (put : IsPutIn t xs) (u : ℤ) → Contains put.list u → IsReplacedAmong (other ∷ events) event u
           each put u c = elim (put.adds u c) [
-            | inl here ↦ record { override = other; among = in_head other events; of = of; is = is ∙ ap Some here }
+            | inl here ↦ record { override = other; among = (in_head other events, of); is = is ∙ ap Some here }
             | inr there ↦ later u (at u there)
           ]
       by (inr none) = (
@@ -140,9 +140,9 @@ module _ (event : EventComponent) where
         record {
           each = λ i d l. later (get_or xs i d) (are.each i d l);
           ascending = are.ascending;
-          all = λ u r. elim (in_cons other events r.override r.among) [
-            | inl here ↦ absurd (none u (subst (λ (e : EventComponent). Replaces e u) (sym here) (r.of, r.is)))
-            | inr there ↦ are.all u (record { override = r.override; among = there; of = r.of; is = r.is })
+          all = λ u r. elim (in_cons other events r.override r.among.0) [
+            | inl here ↦ absurd (none u (subst (λ (e : EventComponent). Replaces e u) (sym here) (r.among.1, r.is)))
+            | inr there ↦ are.all u (record { override = r.override; among = (there, r.among.1); is = r.is })
           ];
         },
       )
@@ -151,6 +151,6 @@ module _ (event : EventComponent) where
   pub replaced_by : (events : List EventComponent) → (xs : List ℤ) × AreReplaced events event xs
   replaced_by [] = (
     [],
-    record { each = λ i d l. absurd (omega (arith, l)); ascending = λ i j d l w. absurd (omega (arith, w)); all = λ t r. absurd (none_in_nil r.override r.among) },
+    record { each = λ i d l. absurd (omega (arith, l)); ascending = λ i j d l w. absurd (omega (arith, w)); all = λ t r. absurd (none_in_nil r.override r.among.0) },
   )
   replaced_by (other ∷ events) = let rest = replaced_by events in replaced_more other events rest.0 rest.1

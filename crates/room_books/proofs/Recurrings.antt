@@ -8,7 +8,7 @@ use Rattle.std.proofs.lemmas.List.{map-append}
 use Rattle.std.proofs.lemmas.Option.{slice_get-get_or, get_or_from_slice_get}
 use Rattle.itip_order.proofs.Lists.{in_cons}
 use Rattle.profile.specs.checker.Instances.{Key, Instance as SaidInstance}
-use Rattle.profile.specs.events.Starts.{IsInstance, IsFirstOverlap, SharesInstant}
+use Rattle.profile.specs.events.Starts.{IsInstance, IsFirstSharer, SharesInstant}
 use Rattle.cal_period.specs.Clear.{AreSeriesClear, AreTwo, IsSeriesClear, ShareStart}
 use Rattle.cal_events.specs.Calendars.{instance_of}
 use Rattle.cal_events.specs.SaidSeries.{series_said, AreKnownByStart}
@@ -64,18 +64,18 @@ pub span_as : (b : SaidInstance) (x : Single) → x.span.start ≡ b.start → x
 span_as b x start end = λ i. record { start = start i; end = end i }
 
 -- none shares an instant with a span
-pub none_shared : (s : Series) (span : Span) (found : Option Instance) → IsFirstOverlap (series_said s) span.start span.end (option_map instance_of found) → found ≡ None
+pub none_shared : (s : Series) (span : Span) (found : Option Instance) → IsFirstSharer (series_said s) span.start span.end (option_map instance_of found) → found ≡ None
     → (x : Single) (t : ℤ) → Recurs s x → HaveInstant span x.span t → ⊥
 none_shared s span found first none x t r h =
-    let clear = subst (λ (o : Option Instance). IsFirstOverlap (series_said s) span.start span.end (option_map instance_of o)) none first in
+    let clear = subst (λ (o : Option Instance). IsFirstSharer (series_said s) span.start span.end (option_map instance_of o)) none first in
     let shared : HaveInstant span (instance_span r.booked) t = subst (λ (z : Span). HaveInstant span z t) r.span h in
     clear r.booked r.is (record { instant = t; before = shared.before; in_first = shared.in_second; in_second = shared.in_first })
 
 -- the first that does
-pub first_shared : (s : Series) (span : Span) (found : Option Instance) (i : Instance) (x : Single) → IsFirstOverlap (series_said s) span.start span.end (option_map instance_of found) → found ≡ Some i
+pub first_shared : (s : Series) (span : Span) (found : Option Instance) (i : Instance) (x : Single) → IsFirstSharer (series_said s) span.start span.end (option_map instance_of found) → found ≡ Some i
     → x.slot ≡ i.key.slot → x.span.start ≡ i.start → x.span.end ≡ i.end → Recurs s x × Overlap span x.span
 first_shared s span found i x first some slot start end =
-    let is = subst (λ (o : Option Instance). IsFirstOverlap (series_said s) span.start span.end (option_map instance_of o)) some first in (
+    let is = subst (λ (o : Option Instance). IsFirstSharer (series_said s) span.start span.end (option_map instance_of o)) some first in (
       recurs_as s (instance_of i) x is.0 slot start end,
       overlap_turned x.span span (overlap_at x.span span (instance_of i) (span_as (instance_of i) x start end) is.1.0),
     )

@@ -35,7 +35,7 @@ module _ (key : MeetingKey) (s : Series) where
       let start = subst (λ t. IsStart own [] t) starts h.starts in
       subst (λ (w : Whole). IsInstance w (keyed_instance key x)) (sym rekeyed_is)
       (from_start (of_key key own) (keyed_instance key x) (record {
-        starts = record { given = start.given; in_dates = start.in_dates; not_excepted = start.not_excepted; not_overridden = start.not_overridden };
+        starts = record { given = start.given; in_dates = start.in_dates; not_excepted = start.not_excepted; not_replaced = start.not_replaced };
         key = ap (key_at (of_key key own)) slot;
         ends = subst (λ (z : Span). EndsAt own.times z.start z.end) (sym r.span) h.ends;
       }))
@@ -50,7 +50,7 @@ module _ (key : MeetingKey) (s : Series) where
         record {
           booked = before;
           is = subst (λ (w : Whole). IsInstance w before) (sym said_is) (from_start own before (record {
-            starts = record { given = h.starts.given; in_dates = h.starts.in_dates; not_excepted = h.starts.not_excepted; not_overridden = h.starts.not_overridden };
+            starts = record { given = h.starts.given; in_dates = h.starts.in_dates; not_excepted = h.starts.not_excepted; not_replaced = h.starts.not_replaced };
             key = refl;
             ends = h.ends;
           }));

@@ -56,7 +56,7 @@ fn series_at<'a>(single: Single, all: &[Recurring<'a>]) -> Option<(&'a MeetingKe
     ensures { IsBesideOne single all.now result }
 {
     for recurring in all {
-        if let Some(instance) = recurring.series.first_overlap(single.span) {
+        if let Some(instance) = recurring.series.first_sharer(single.span) {
             return Some((recurring.key, as_single(&instance)));
         }
     }

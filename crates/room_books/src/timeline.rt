@@ -84,7 +84,7 @@ impl Timeline {
             if is_gone(busy, own, gone) {
                 continue;
             }
-            if let Some(instance) = series.first_overlap(busy.single.span) {
+            if let Some(instance) = series.first_sharer(busy.single.span) {
                 return Some((as_single(&instance), *busy));
             }
         }

@@ -6,7 +6,7 @@ use Rattle.profile.specs.checker.Instances.{Instance}
 use Rattle.profile.specs.series.Rules.{Rule}
 use Rattle.profile.specs.events.EventComponents.{EventComponent, has_accepted, meeting_said}
 use Rattle.profile.specs.events.Events.{Event, is_master, is_override}
-use Rattle.profile.specs.events.Starts.{IsInstance, IsRuleStart, ComesBefore}
+use Rattle.profile.specs.events.Starts.{IsInstance, IsReplaced, IsRuleStart, ComesBefore}
 
 -- ---- the instances of the events of a calendar
 
@@ -14,17 +14,14 @@ use Rattle.profile.specs.events.Starts.{IsInstance, IsRuleStart, ComesBefore}
 abbrev pub alone : EventComponent → Event
 alone event = if is_override event then record { master = None; overrides = event ∷ [] } else record { master = Some event; overrides = [] }
 
--- an override of its meeting replaces this instant, whatever state it is in
-pub record IsReplaced (events : List EventComponent) (event : EventComponent) (instant : ℤ) : Type 0 where
-  pub override : EventComponent
-  pub among : Contains events override
-  pub of : meeting_said override ≡ meeting_said event
-  pub is : override.recurrence ≡ Some instant
+-- an override of its meeting replaces this instant
+abbrev pub IsReplacedAmong : List EventComponent → EventComponent → ℤ → Type 0
+IsReplacedAmong events event = IsReplaced (λ other. Contains events other × (meeting_said other ≡ meeting_said event))
 
 -- an instance of one of the events: of a master none that an override replaces. A cancelled master has none, and leaves its overrides as they are
 pub record IsInstanceAmong (events : List EventComponent) (event : EventComponent) (instance : Instance) : Type 0 where
   pub is : IsInstance (alone event) instance
-  pub shown : is_master event ≡ true → IsReplaced events event instance.start → ⊥
+  pub shown : is_master event ≡ true → IsReplacedAmong events event instance.start → ⊥
 
 -- ---- which of them are confirmed
 
@@ -66,26 +63,13 @@ is_series room event = is_kept room event && is_master event && is_some event.ru
 
 -- overrides of the event's meeting replace these instants, ascending
 pub record AreReplaced (events : List EventComponent) (event : EventComponent) (instants : List ℤ) : Type 0 where
-  pub each : All (IsReplaced events event) instants
+  pub each : All (IsReplacedAmong events event) instants
   pub ascending : AllPairs ◌<ℤ◌ instants
-  pub all : (instant : ℤ) → IsReplaced events event instant → Contains instants instant
+  pub all : (instant : ℤ) → IsReplacedAmong events event instant → Contains instants instant
 
 -- a master by its rule alone: without what RDATE adds, and without what overrides replace, as if EXDATE named it
 abbrev pub by_its_rule : EventComponent → List ℤ → EventComponent
-by_its_rule master replaced = record {
-  uid = master.uid;
-  organiser = master.organiser;
-  stamp = master.stamp;
-  sequence = master.sequence;
-  cancelled = master.cancelled;
-  recurrence = master.recurrence;
-  times = master.times;
-  rule = master.rule;
-  additions = [];
-  exceptions = master.exceptions ++ replaced;
-  summary = master.summary;
-  attendees = master.attendees;
-}
+by_its_rule master replaced = record master { additions = []; exceptions = master.exceptions ++ replaced }
 
 -- the series of a master among the events: a meeting of that alone
 pub record IsSeries (events : List EventComponent) (master : EventComponent) (series : Event) : Type 0 where

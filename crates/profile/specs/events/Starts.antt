@@ -1,6 +1,6 @@
 -- When a meeting takes place: its instances, from the master's rule, its RDATEs and EXDATEs, and the overrides (RFC 5545 3.8.5.3, 3.8.5.2,
 -- 3.8.5.1, 3.8.4.4). Instants are seconds from 1970-01-01T00:00:00Z. An instance is known by its start and its slot.
-use Rattle.std.specs.Prelude.{◌≡◌, ◌⊎◌, true, ℕ, ◌*◌, ◌<◌, ◌≤◌, Contains, AllPairs, All, List, [], length, map, MatchOption, Option, Some, None, unwrap_or, ℤ, pos, ◌+ℤ◌, ◌-ℤ◌, ◌≤ℤ◌, ◌<ℤ◌}
+use Rattle.std.specs.Prelude.{◌≡◌, ◌⊎◌, true, ℕ, ◌*◌, ◌<◌, ◌≤◌, Contains, AllPairs, All, List, [], length, MatchOption, Option, Some, None, unwrap_or, ℤ, pos, ◌+ℤ◌, ◌-ℤ◌, ◌≤ℤ◌, ◌<ℤ◌}
 use Rattle.profile.specs.checker.Instances.{Key, Instance, IsWithin, horizon}
 use Rattle.profile.specs.series.Rules.{Rule, is_rule_day}
 use Rattle.profile.specs.series.Zones.{Zone, IsOffsetAt, IsBounds, Means, local_time}
@@ -50,9 +50,11 @@ abbrev pub IsGiven : EventTimes → Option Rule → ℤ → Type 0
 IsGiven times None instant = instant ≡ times.start
 IsGiven times (Some rule) instant = IsRuleStart times rule instant
 
--- an override replaces this instant, whatever state it is in
-abbrev pub IsOverridden : List EventComponent → ℤ → Type 0
-IsOverridden overrides instant = Contains (map (λ event. event.recurrence) overrides) (Some instant)
+-- one of these overrides replaces this instant, whatever state it is in
+pub record IsReplaced (overrides : EventComponent → Type 0) (instant : ℤ) : Type 0 where
+  pub override : EventComponent
+  pub among : overrides override
+  pub is : override.recurrence ≡ Some instant
 
 -- its starts: by its rule or by RDATE, in the dates that an event may name, so before year 10000, except those that EXDATE names, and those
 -- that an override replaces
@@ -60,7 +62,7 @@ pub record IsStart (master : EventComponent) (overrides : List EventComponent) (
   pub given : IsGiven master.times master.rule instant ⊎ Contains master.additions instant
   pub in_dates : (first_second ≤ℤ instant) × (instant <ℤ horizon)
   pub not_excepted : Contains master.exceptions instant → ⊥
-  pub not_overridden : IsOverridden overrides instant → ⊥
+  pub not_replaced : IsReplaced (Contains overrides) instant → ⊥
 
 -- ---- instances
 
@@ -111,16 +113,29 @@ pub record AreFirst (meeting : Event) (limit : ℕ) (instances : List Instance) 
 
 -- ---- which share an instant with a span
 
--- what lasts from `start` to `end` shares an instant before the horizon with what lasts from `from` to `to`
+-- what lasts from `start` to `end` overlaps what lasts from `from` to `to`: they share an instant
+pub record Overlaps (start end from to : ℤ) : Type 0 where
+  pub instant : ℤ
+  pub in_first : IsWithin start end instant
+  pub in_second : IsWithin from to instant
+
+-- they share an instant before the horizon, as two instances that clash do
 pub record SharesInstant (start end from to : ℤ) : Type 0 where
   pub instant : ℤ
   pub before : instant <ℤ horizon
   pub in_first : IsWithin start end instant
   pub in_second : IsWithin from to instant
 
--- the first of the instances that does so, by start and then by slot, if there is one
+-- the first of the instances for which this holds, by start and then by slot, if there is one
+abbrev pub IsFirstOf : Event → (Instance → Type 0) → Option Instance → Type 0
+IsFirstOf meeting holds found =
+    MatchOption found ((b : Instance) → IsInstance meeting b → holds b → ⊥)
+    (λ i. IsInstance meeting i × (holds i × ((b : Instance) → IsInstance meeting b → holds b → ComesBefore b i → ⊥)))
+
+-- the first that overlaps a span
 abbrev pub IsFirstOverlap : Event → ℤ → ℤ → Option Instance → Type 0
-IsFirstOverlap meeting from to found =
-    MatchOption found ((b : Instance) → IsInstance meeting b → SharesInstant b.start b.end from to → ⊥)
-    (λ i. IsInstance meeting i
-    × (SharesInstant i.start i.end from to × ((b : Instance) → IsInstance meeting b → SharesInstant b.start b.end from to → ComesBefore b i → ⊥)))
+IsFirstOverlap meeting from to = IsFirstOf meeting (λ b. Overlaps b.start b.end from to)
+
+-- the first that shares an instant before the horizon with it
+abbrev pub IsFirstSharer : Event → ℤ → ℤ → Option Instance → Type 0
+IsFirstSharer meeting from to = IsFirstOf meeting (λ b. SharesInstant b.start b.end from to)

@@ -10,14 +10,14 @@ returns-in-Some c =
     let xs = c.args.series.now in
     let s = c.index-series-place.result in
     let at = said_at xs c.loop-place.place s c.loop-place-test.true c.index-series-place.is in
-    sharer_found (map series_said xs) c.args.span.start c.args.span.end c.loop-place.place (series_said s) at c.first_overlap.result c.in-Some.instance c.first_overlap.ensures c.in-Some.is
+    sharer_found (map series_said xs) c.args.span.start c.args.span.end c.loop-place.place (series_said s) at c.first_sharer.result c.in-Some.instance c.first_sharer.ensures c.in-Some.is
 
 pub loop-place-preserved : goal.loop-place-preserved
 loop-place-preserved c =
     let xs = c.args.series.now in
     let s = c.index-series-place.result in
     let at = said_at xs c.loop-place.place s c.loop-place-test.true c.index-series-place.is in
-    none_more (map series_said xs) c.args.span.start c.args.span.end c.loop-place.place (series_said s) at c.first_overlap.result c.first_overlap.ensures c.in_default.is c.loop-place.invariant
+    none_more (map series_said xs) c.args.span.start c.args.span.end c.loop-place.place (series_said s) at c.first_sharer.result c.first_sharer.ensures c.in_default.is c.loop-place.invariant
 
 pub returns : goal.returns
 returns c =

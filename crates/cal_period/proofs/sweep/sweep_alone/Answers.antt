@@ -4,7 +4,7 @@ use Rattle.profile.specs.checker.Instances.{horizon}
 use Rattle.cal_events.specs.SaidSeries.{series_said}
 use Rattle.cal_period.specs.Walks.{walk_place}
 use Rattle.cal_period.proofs.Alone.{alone_first, alone_end, alone_found, alone_past}
-use Rattle.cal_period.proofs.Sweeping.{all_left, none_is, all_counted, some_counted, fewer_left}
+use Rattle.cal_period.proofs.Sweeping.{all_left, none_is, all_counted, found_counted, fewer_left}
 use Rattle.cal_period.proofs.sweep.sweep_alone.Goals as goal
 
 pub loop-walk-init : goal.loop-walk-init
@@ -19,7 +19,8 @@ returns-in-Some-met_by-clause-shared c =
     alone_found (series_said c.args.a.now) c.loop-walk.starts c.loop-walk.walk c.loop-walk.invariant c.in-Some.next c.in-Some.is c.in-Some-met_by.last c.in-Some-met_by.ensures.meets
 
 pub returns-in-Some-met_by-clause-drawn : goal.returns-in-Some-met_by-clause-drawn
-returns-in-Some-met_by-clause-drawn c = some_counted (series_said c.args.a.now) c.loop-walk.starts c.loop-walk.walk c.loop-walk.invariant.is_walk
+returns-in-Some-met_by-clause-drawn c =
+    found_counted (series_said c.args.a.now) c.loop-walk.starts c.loop-walk.walk c.in-Some-met_by.last c.loop-walk.invariant.is_walk c.in-Some-met_by.ensures.meets.0
 
 pub loop-walk-smaller : goal.loop-walk-smaller
 loop-walk-smaller c =

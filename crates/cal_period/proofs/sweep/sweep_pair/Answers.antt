@@ -4,7 +4,7 @@ use Rattle.profile.specs.checker.Instances.{horizon}
 use Rattle.cal_events.specs.Calendars.{instance_of}
 use Rattle.cal_events.specs.SaidSeries.{series_said}
 use Rattle.cal_period.specs.Walks.{walk_place}
-use Rattle.cal_period.proofs.Pairs.{pair_first, pair_turned, found_turned, pair_end, pair_counted, pair_at_most, pair_found, pair_past}
+use Rattle.cal_period.proofs.Pairs.{pair_first, pair_turned, found_turned, pair_end, pair_counted, pair_some, pair_found, pair_past}
 use Rattle.cal_period.proofs.Sweeping.{all_left, fewer_left, place_before, place_after}
 use Rattle.cal_period.proofs.sweep.sweep_pair.Goals as goal
 
@@ -47,7 +47,8 @@ returns-in-Some-met_by-clause-shared c =
 
 pub returns-in-Some-met_by-clause-drawn : goal.returns-in-Some-met_by-clause-drawn
 returns-in-Some-met_by-clause-drawn c =
-    pair_at_most (series_said c.args.a.now) (series_said c.args.b.now) c.loop-next.of_a c.loop-next.of_b c.loop-next.first c.loop-next.second c.loop-next.invariant c.saturating_add-drawn.result c.saturating_add-drawn.ensures
+    pair_some (series_said c.args.a.now) (series_said c.args.b.now) c.loop-next.of_a c.loop-next.of_b c.loop-next.first c.loop-next.second c.loop-next.invariant c.in-Some-met_by.last
+    c.in-Some-met_by.ensures.meets.0 c.saturating_add-drawn.result c.saturating_add-drawn.ensures
 
 pub loop-next-smaller-then-place : goal.loop-next-smaller-then-place
 loop-next-smaller-then-place c =
@@ -98,8 +99,13 @@ returns-in-Some-met_by-2-clause-shared c =
     (pair_found b a c.loop-next.of_b c.loop-next.of_a c.loop-next.second c.loop-next.first at c.in-Some-next.next c.in-Some-next.is c.in-Some-met_by-2.last c.in-Some-met_by-2.ensures.meets)
 
 pub returns-in-Some-met_by-2-clause-drawn : goal.returns-in-Some-met_by-2-clause-drawn
-returns-in-Some-met_by-2-clause-drawn c =
-    pair_at_most (series_said c.args.a.now) (series_said c.args.b.now) c.loop-next.of_a c.loop-next.of_b c.loop-next.first c.loop-next.second c.loop-next.invariant c.saturating_add-drawn.result c.saturating_add-drawn.ensures
+returns-in-Some-met_by-2-clause-drawn c = λ xs ys h k.
+    let a = series_said c.args.a.now in
+    let b = series_said c.args.b.now in
+    let at = pair_turned a b c.loop-next.of_a c.loop-next.of_b c.loop-next.first c.loop-next.second c.loop-next.invariant in
+    let both = c.saturating_add-drawn.ensures in
+    let some = pair_some b a c.loop-next.of_b c.loop-next.of_a c.loop-next.second c.loop-next.first at c.in-Some-met_by-2.last c.in-Some-met_by-2.ensures.meets.0 c.saturating_add-drawn.result (omega (arith, both)) ys xs k h in
+    (some.0, omega (arith, some.1))
 
 pub loop-next-smaller : goal.loop-next-smaller
 loop-next-smaller c =

@@ -4,9 +4,10 @@ use Rattle.profile.specs.events.EventComponents.{EventComponentFault, adds_insta
 use Rattle.profile.specs.events.Occurrences.{entries_named, EntriesFault, bad_additions, bad_exceptions, recurs, recurs_as_instance}
 use Rattle.profile.specs.events.EventRules.{EventRuleFault}
 use Rattle.profile.specs.events.ZonedTimes.{EventTimesFault}
-use Rattle.cal_events.specs.Events.{method_read}
+use Rattle.cal_events.specs.Events.{method_read, times_of}
 use Rattle.cal_events.specs.Zoned.{AreSaidBy}
 use Rattle.cal_events.specs.Zones.{object_of}
+use Rattle.cal_events.proofs.OneInstance.{times_sound}
 use Rattle.cal_events.proofs.ZonedLemmas.{weaker_fault}
 use Rattle.ical_values.proofs.Exits.{err_exit}
 use Rattle.cal_events.proofs.component.EventComponent.read.Goals as goal
@@ -146,3 +147,12 @@ returns-clause-says c = record {
   summary = c.in_ok-summary.ensures;
   attendees = c.in_ok-attendees.ensures.reads;
 }
+
+pub invariant_of-result : goal.invariant_of-result
+invariant_of-result c =
+    let object = object_of c.args.zones.now in
+    let lines = c.args.properties.now in
+    let may = may_lack_start (method_read c.args.purpose) in
+    let t = times_sound {may = may} object lines (times_of c.in_ok-times.times)
+    (c.in_ok-times.ensures.says may object lines (subst (λ (b : Bool). AreSaidBy b object lines c.in_ok-said.said) c.may_lack_start.ensures c.in_ok-said.ensures.said)) in
+    record { steady = t.0; named = t.1 }

@@ -8,10 +8,10 @@ use Rattle.cal_events.proofs.SeriesLemmas.{series_of, steady_ends}
 use Rattle.cal_events.proofs.component.EventComponent.series.Goals as goal
 
 pub of_copy-requires-clause-clock : goal.of_copy-requires-clause-clock
-of_copy-requires-clause-clock c = (c.requires.steady.meaning, c.requires.steady.ascends)
+of_copy-requires-clause-clock c = (c.args.self.now.steady.meaning, c.args.self.now.steady.ascends)
 
 pub of_copy-requires-clause-ends : goal.of_copy-requires-clause-ends
-of_copy-requires-clause-ends c = steady_ends (component_of c.args.self.now) [] c.requires.steady
+of_copy-requires-clause-ends c = steady_ends (component_of c.args.self.now) [] c.args.self.now.steady
 
 pub returns : goal.returns
 returns c =

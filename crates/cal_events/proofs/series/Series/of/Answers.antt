@@ -1,7 +1,7 @@
 use Rattle.std.proofs.Common.{sym, subst}
 use Rattle.profile.specs.events.EventComponents.{EventComponent as Said}
+use Rattle.cal_events.specs.Clocks.{HasGoodClock}
 use Rattle.cal_events.specs.Events.{component_of}
-use Rattle.cal_events.specs.Instances.{HasGoodClock}
 use Rattle.cal_events.specs.Overlapping.{HaveOneEnd}
 use Rattle.cal_events.proofs.Clocks.{clock_good}
 use Rattle.cal_events.proofs.OwnSingles.{of_master}

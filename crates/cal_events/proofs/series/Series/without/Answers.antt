@@ -3,8 +3,8 @@ use Rattle.std.specs.Prelude.{option_map}
 use Rattle.std.proofs.lemmas.Option.{same_Some}
 use Rattle.std.proofs.lemmas.Result.{IfOk-weaker}
 use Rattle.profile.specs.events.EventComponents.{EventComponent as Said}
+use Rattle.cal_events.specs.Clocks.{HasGoodClock}
 use Rattle.cal_events.specs.Events.{component_of}
-use Rattle.cal_events.specs.Instances.{HasGoodClock}
 use Rattle.cal_events.specs.Overlapping.{HaveOneEnd}
 use Rattle.cal_events.specs.Ruled.{ruled_without}
 use Rattle.cal_events.specs.SaidSeries.{series_said, IsSeriesWithout}

@@ -15,7 +15,7 @@ nothing = record { single = record { slot = pos 0; span = record { start = pos 0
 pub returns-in-Some : goal.returns-in-Some
 returns-in-Some c =
     let b = get_or c.deref-busy-items.result.now c.loop-busy.busy-index nothing in
-    let f = first_shared c.args.series.now b.single.span c.first_overlap.result c.in-Some.instance c.as_single.result c.first_overlap.ensures c.in-Some.is
+    let f = first_shared c.args.series.now b.single.span c.first_sharer.result c.in-Some.instance c.as_single.result c.first_sharer.ensures c.in-Some.is
     c.as_single.ensures.slot c.as_single.ensures.start c.as_single.ensures.end in (
       f.0,
       (
@@ -36,7 +36,7 @@ loop-busy-preserved c =
     let P = IsNoneTaken (is_leaving c.args.own c.args.gone.now) (Recurs c.args.series.now) in
     let b = get_or c.deref-busy-items.result.now c.loop-busy.busy-index nothing in
     more_lent P c.args.self.now.busy.items c.deref-busy-items.result.now c.deref-busy-items.ensures.value c.loop-busy.busy-index nothing c.loop-busy-test.true
-    (λ s t is stays h. none_shared c.args.series.now b.single.span c.first_overlap.result c.first_overlap.ensures c.in_default.is s t is (turned s.span b.single.span t h)) c.loop-busy.invariant
+    (λ s t is stays h. none_shared c.args.series.now b.single.span c.first_sharer.result c.first_sharer.ensures c.in_default.is s t is (turned s.span b.single.span t h)) c.loop-busy.invariant
 
 pub returns : goal.returns
 returns c = λ s is b t among stays h.

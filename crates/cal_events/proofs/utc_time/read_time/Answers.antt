@@ -3,7 +3,7 @@ use Rattle.std.proofs.lemmas.Result.{IfErr-weaker}
 use Rattle.ical_lines.specs.Text.{line_text}
 use Rattle.profile.specs.events.Properties.{DateTime, Date, Period, Other, time_kind, KindFault}
 use Rattle.cal_events.proofs.EventLemmas.{kind_fault, time_said}
-use Rattle.cal_events.proofs.component.read_time.Goals as goal
+use Rattle.cal_events.proofs.utc_time.read_time.Goals as goal
 
 pub returns-in-DateTime-clause-reads : goal.returns-in-DateTime-clause-reads
 returns-in-DateTime-clause-reads c = time_said _ (line_text c.args.line) c.args.text.now c.in-DateTime.ensures c.read_date_time.ensures.reads

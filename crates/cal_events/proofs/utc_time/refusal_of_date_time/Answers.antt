@@ -1,7 +1,7 @@
 use Rattle.std.proofs.Common.{◌∙◌, sym, inl, inr}
 use Rattle.std.proofs.lemmas.Bool.{true≢false}
 use Rattle.cal_events.proofs.EventLemmas.{local_test}
-use Rattle.cal_events.proofs.component.refusal_of_date_time.Goals as goal
+use Rattle.cal_events.proofs.utc_time.refusal_of_date_time.Goals as goal
 
 pub returns-else-is_ok-clause-fault : goal.returns-else-is_ok-clause-fault
 returns-else-is_ok-clause-fault c =

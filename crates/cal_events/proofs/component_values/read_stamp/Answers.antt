@@ -9,7 +9,7 @@ use Rattle.profile.specs.events.EventComponents.{twice, bad_stamp, no_stamp_give
 use Rattle.cal_events.specs.Events.{method_read}
 use Rattle.cal_events.proofs.EventLemmas.{some_line}
 use Rattle.ical_values.proofs.Exits.{refusal_exit}
-use Rattle.cal_events.proofs.component.read_stamp.Goals as goal
+use Rattle.cal_events.proofs.component_values.read_stamp.Goals as goal
 
 pub returns-in_err-line-clause-fault : goal.returns-in_err-line-clause-fault
 returns-in_err-line-clause-fault c object =

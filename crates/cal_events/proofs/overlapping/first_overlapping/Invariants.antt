@@ -1,6 +1,6 @@
 use Rattle.cal_events.specs.SaidMeetings.{said_meeting}
 use Rattle.cal_events.proofs.Overlaps.{IsAhead, steps_left}
-use Rattle.cal_events.proofs.overlapping.first_sharing.Given as goal
+use Rattle.cal_events.proofs.overlapping.first_overlapping.Given as goal
 
 abbrev pub invariant-loop-next : goal.invariant-loop-next
 invariant-loop-next l = IsAhead (said_meeting l.event) l.span.start l.span.end l.next l.instances

@@ -9,7 +9,7 @@ use Rattle.profile.specs.events.Properties.{IsNoSequence}
 use Rattle.profile.specs.events.EventComponents.{twice, bad_sequence}
 use Rattle.cal_events.proofs.EventLemmas.{some_line, sequence_said}
 use Rattle.ical_values.proofs.Exits.{refusal_exit, err_both}
-use Rattle.cal_events.proofs.component.read_sequence.Goals as goal
+use Rattle.cal_events.proofs.component_values.read_sequence.Goals as goal
 
 pub returns-in_err-line-clause-fault : goal.returns-in_err-line-clause-fault
 returns-in_err-line-clause-fault c = λ object m.

@@ -10,7 +10,7 @@ use Rattle.profile.specs.events.EventComponents.{twice, bad_organiser, no_organi
 use Rattle.cal_events.specs.Events.{method_read}
 use Rattle.cal_events.proofs.EventLemmas.{by_number, some_line}
 use Rattle.ical_values.proofs.Exits.{err_exit}
-use Rattle.cal_events.proofs.component.read_organiser.Goals as goal
+use Rattle.cal_events.proofs.component_values.read_organiser.Goals as goal
 
 pub returns-in_err-line-clause-fault : goal.returns-in_err-line-clause-fault
 returns-in_err-line-clause-fault c object =

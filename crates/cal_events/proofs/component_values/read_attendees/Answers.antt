@@ -9,8 +9,8 @@ use Rattle.cal_events.specs.Events.{attendee_of}
 use Rattle.cal_events.specs.declared.component.Attendee.{Attendee}
 use Rattle.cal_events.proofs.EventLemmas.{attendee_pushed, attendee_fault, one_other}
 use Rattle.ical_values.proofs.Exits.{err_exit}
-use Rattle.cal_events.proofs.component.read_attendees.Goals as goal
-use Rattle.cal_events.proofs.component.read_attendees.Goals.{then-is_named+in_ok-read_attendee+in_ok-push, else-is_named}
+use Rattle.cal_events.proofs.component_values.read_attendees.Goals as goal
+use Rattle.cal_events.proofs.component_values.read_attendees.Goals.{then-is_named+in_ok-read_attendee+in_ok-push, else-is_named}
 
 pub returns-in_err-read_attendee-clause-fault : goal.returns-in_err-read_attendee-clause-fault
 returns-in_err-read_attendee-clause-fault c = λ object m.

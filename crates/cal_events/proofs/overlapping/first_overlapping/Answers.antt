@@ -4,12 +4,12 @@ use Rattle.std.specs.Int.{saturate_signed}
 use Rattle.std.proofs.lemmas.Bool.{true≢false}
 use Rattle.std.proofs.lemmas.Int.{ints}
 use Rattle.profile.specs.events.Properties.{first_second}
-use Rattle.profile.specs.events.Starts.{SharesInstant}
+use Rattle.profile.specs.events.Starts.{Overlaps}
 use Rattle.cal_events.specs.Left.{GivesFirst}
 use Rattle.cal_events.specs.SaidMeetings.{said_meeting}
 use Rattle.cal_events.specs.declared.instance.Instance.{Instance}
 use Rattle.cal_events.proofs.Overlaps.{left_first, found, too_late, passed_on, one_fewer, steps_left, ended, at_most}
-use Rattle.cal_events.proofs.overlapping.first_sharing.Goals as goal
+use Rattle.cal_events.proofs.overlapping.first_overlapping.Goals as goal
 
 pub loop-next-init : goal.loop-next-init
 loop-next-init c =
@@ -43,7 +43,7 @@ loop-next-preserved c =
     let start : to_z w64 (of_z w64 i.start) ≡ i.start = to_z-of_z fits_start in
     let fits_end : FitsSigned w64 i.end = search rules in
     let end : to_z w64 (of_z w64 i.end) ≡ i.end = to_z-of_z fits_end in
-    let not : SharesInstant i.start i.end from to → ⊥ = λ s. true≢false (sym (c.shares.ensures.1 (rw (start, end) s)) ∙ c.if-shares.false) in
+    let not : Overlaps i.start i.end from to → ⊥ = λ s. true≢false (sym (c.overlaps.ensures.1 (rw (start, end) s)) ∙ c.if-overlaps.false) in
     record {
       old = c.loop-next.instances;
       still = passed_on (said_meeting event) from to ahead.old c.loop-next.instances ahead.still i given event.ends not;
@@ -62,7 +62,7 @@ loop-next-smaller c =
     let start : to_z w64 (of_z w64 i.start) ≡ i.start = to_z-of_z fits_start in
     let fits_end : FitsSigned w64 i.end = search rules in
     let end : to_z w64 (of_z w64 i.end) ≡ i.end = to_z-of_z fits_end in
-    let not : SharesInstant i.start i.end from to → ⊥ = λ s. true≢false (sym (c.shares.ensures.1 (rw (start, end) s)) ∙ c.if-shares.false) in
+    let not : Overlaps i.start i.end from to → ⊥ = λ s. true≢false (sym (c.overlaps.ensures.1 (rw (start, end) s)) ∙ c.if-overlaps.false) in
     let still = passed_on (said_meeting event) from to ahead.old c.loop-next.instances ahead.still i given event.ends not in
     let new = c.next-next-in-Some.new.self in
     let next = c.next-next-in-Some.result in
@@ -84,8 +84,8 @@ returns-then-instance-span c =
     let late = rw (cast_to, start) at c.if-instance-span.true in
     too_late (said_meeting event) from to ahead.old c.loop-next.instances ahead.still i given (grind (arith, ints, late))
 
-pub returns-then-shares : goal.returns-then-shares
-returns-then-shares c =
+pub returns-then-overlaps : goal.returns-then-overlaps
+returns-then-overlaps c =
     let event = c.args.event.now in
     let from = c.args.span.start in
     let to = c.args.span.end in
@@ -96,7 +96,7 @@ returns-then-shares c =
     let start : to_z w64 (of_z w64 i.start) ≡ i.start = to_z-of_z fits_start in
     let fits_end : FitsSigned w64 i.end = search rules in
     let end : to_z w64 (of_z w64 i.end) ≡ i.end = to_z-of_z fits_end in
-    found (said_meeting event) from to ahead.old c.loop-next.instances ahead.still i given (rw (start, end) at (c.shares.ensures.0 c.if-shares.true))
+    found (said_meeting event) from to ahead.old c.loop-next.instances ahead.still i given (rw (start, end) at (c.overlaps.ensures.0 c.if-overlaps.true))
 
 pub returns : goal.returns
 returns c = ended (said_meeting c.args.event.now) c.args.span.start c.args.span.end c.loop-next.next c.loop-next.instances c.loop-next.invariant c.in_default.not-Some

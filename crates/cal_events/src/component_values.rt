@@ -1,0 +1,135 @@
+//! The values of a VEVENT's properties, each read by itself: UID, ORGANIZER, DTSTAMP, SEQUENCE, STATUS, SUMMARY and ATTENDEE.
+ghost use Rattle.std.specs.Prelude.{ℕ, List, ◌≡◌, Some, map, codes, option_map, true, IfOk, IfErr, IsTrue, Option};
+ghost use Rattle.std.specs.List.{AllZip};
+ghost use Rattle.ical_lines.specs.Fault.{RefusesOnly, RefusesBy};
+ghost use Rattle.ical_lines.specs.Text.{line_text};
+ghost use Rattle.ical_values.specs.Octets.{address_octets, text_octets};
+ghost use Rattle.profile.specs.text.Trees.{Tree};
+ghost use Rattle.profile.specs.faults.Faults.{is_event_fault};
+ghost use Rattle.profile.specs.events.EventComponents.{Method, is_by_server, summary_of, SaysSequence, IsAttendee, EventComponentFault};
+ghost use Rattle.profile.specs.events.Occurrences.{SaysStatus};
+ghost use Rattle.profile.specs.events.Properties.{OccursMoreThanOnce, lines_named, Says, IsUidLine, IsAddressLine, IsStampLine, IsNoAddress};
+ghost use Rattle.cal_events.specs.Events.{is_message, method_read, attendee_of};
+
+use crate::component::{Attendee, PartStat, Purpose};
+use crate::properties::{first_named, optional, required};
+use ical_lines::{Fault, Line, Refusal};
+use ical_tree::Properties;
+use ical_values::{Address, Sequence, Stamp, Text};
+use std::alloc::{AllocError, Global};
+
+pub(crate) fn read_uid(alloc: Global, properties: &Properties<'_>) -> Result<Text, Fault>
+    ensures reads { IfOk result (λ uid. Says (codes "UID") true IsUidLine properties.now (Some (text_octets uid))) }
+    ensures refuses { IfErr result (RefusesOnly is_event_fault) }
+    ensures fault { (object : Tree) (method : Option Method) → IfErr result (RefusesBy (EventComponentFault object method properties.now)) }
+{
+    let line = required(properties, "UID")?;
+    Text::read_uid(alloc, line.value())
+}
+
+pub(crate) fn read_organiser(
+    alloc: Global,
+    properties: &Properties<'_>,
+    purpose: Purpose,
+) -> Result<Option<Address>, Fault>
+    ensures reads { IfOk result (λ found. Says (codes "ORGANIZER") (is_message purpose) IsAddressLine properties.now (option_map address_octets found)) }
+    ensures refuses { IfErr result (RefusesOnly is_event_fault) }
+    ensures fault { (object : Tree) → IfErr result (RefusesBy (EventComponentFault object (method_read purpose) properties.now)) }
+{
+    match optional(properties, "ORGANIZER")? {
+        Some(line) => Ok(Some(Address::read(alloc, line.value())?)),
+        None if purpose.is_message() => Err(Fault::Refused(Refusal::NO_ORGANIZER)),
+        None => Ok(None),
+    }
+}
+
+pub(crate) fn read_stamp(
+    properties: &Properties<'_>,
+    purpose: Purpose,
+) -> Result<Option<Stamp>, Refusal>
+    ensures reads { IfOk result (λ found. Says (codes "DTSTAMP") (is_message purpose) IsStampLine properties.now found) }
+    ensures refuses { IfErr result (λ e. IsTrue (is_event_fault e.number)) }
+    ensures fault { (object : Tree) → IfErr result (λ e. EventComponentFault object (method_read purpose) properties.now e.number) }
+{
+    match optional(properties, "DTSTAMP")? {
+        Some(line) => Ok(Some(Stamp::read(line.value())?)),
+        None if purpose.is_message() => Err(Refusal::BAD_PROPERTY),
+        None => Ok(None),
+    }
+}
+
+pub(crate) fn read_sequence(properties: &Properties<'_>) -> Result<Sequence, Refusal>
+    ensures reads { IfOk result (SaysSequence properties.now) }
+    ensures refuses { IfErr result (λ e. IsTrue (is_event_fault e.number)) }
+    ensures fault { (object : Tree) (method : Option Method) → IfErr result (λ e. EventComponentFault object method properties.now e.number) }
+{
+    match optional(properties, "SEQUENCE")? {
+        Some(line) => Sequence::read(line.value()),
+        None => Ok(Sequence::zero()),
+    }
+}
+
+/// Whether STATUS is CANCELLED, caseless.
+/// Refused: 61 where it occurs twice.
+pub(crate) fn read_cancelled(properties: &Properties<'_>) -> Result<bool, Refusal>
+    ensures reads { IfOk result (SaysStatus properties.now) }
+    ensures refuses { IfErr result (λ e. e.number ≡ 61) }
+    ensures twice { IfErr result (λ _. OccursMoreThanOnce (codes "STATUS") properties.now) }
+{
+    match optional(properties, "STATUS")? {
+        Some(line) => Ok(line.value().eq_ignore_ascii_case("CANCELLED")),
+        None => Ok(false),
+    }
+}
+
+/// SUMMARY, the first of several; empty where it is missing. It fails only when out of memory.
+pub(crate) fn read_summary(alloc: Global, properties: &Properties<'_>) -> Result<Text, AllocError>
+    ensures { IfOk result (λ text. text_octets text ≡ summary_of properties.now) }
+{
+    match first_named(properties, "SUMMARY") {
+        Some(line) => Text::read(alloc, line.value()),
+        None => Text::of(alloc, ""),
+    }
+}
+
+pub(crate) fn read_attendees(
+    alloc: Global,
+    properties: &Properties<'_>,
+) -> Result<Vec<Attendee>, Fault>
+    ensures reads { IfOk result (λ v. AllZip IsAttendee (lines_named (codes "ATTENDEE") properties.now) (map attendee_of v.items)) }
+    ensures refuses { IfErr result (RefusesOnly is_event_fault) }
+    ensures fault { (object : Tree) (method : Option Method) → IfErr result (RefusesBy (EventComponentFault object method properties.now)) }
+{
+    let mut attendees = Vec::new(alloc);
+    for line in properties.lines() {
+        if line.is_named("ATTENDEE") {
+            attendees.push(read_attendee(alloc, *line)?)?;
+        }
+    }
+    Ok(attendees)
+}
+
+fn read_attendee(alloc: Global, line: Line<'_>) -> Result<Attendee, Fault>
+    ensures reads { IfOk result (λ attendee. IsAttendee (line_text line.entry) (attendee_of attendee)) }
+    ensures refuses { IfErr result (RefusesOnly is_event_fault) }
+    ensures fault { IfErr result (RefusesBy (λ n. (n ≡ 15) × IsNoAddress (line_text line.entry))) }
+{
+    let address = Address::read(alloc, line.value())?;
+    let status = PartStat::of(line.param("PARTSTAT"));
+    let scheduled = is_by_server(line);
+    Ok(Attendee {
+        address,
+        status,
+        scheduled,
+    })
+}
+
+/// Whether it is left to the server to send messages to an attendee.
+fn is_by_server(line: Line<'_>) -> bool
+    ensures { result ≡ is_by_server (line_text line.entry) }
+{
+    match line.param("SCHEDULE-AGENT") {
+        Some(agent) => agent.eq_ignore_ascii_case("SERVER"),
+        None => true,
+    }
+}
