@@ -8,11 +8,11 @@ ghost use Rattle.ical_values.specs.Octets.{address_octets};
 ghost use Rattle.profile.specs.organisers.Organisers.{Heard, Stored};
 ghost use Rattle.cal_events.specs.Events.{participation_of};
 ghost use Rattle.itip_order.specs.Parts.{revision_of, slot_of};
-ghost use Rattle.organiser_books.specs.Attending.{attendance_of, is_sent};
+ghost use Rattle.organiser_books.specs.Attending.{attendance_of, is_told};
 ghost use Rattle.organiser_books.specs.Representation.{answer_in, answered, heard_said, is_ahead, is_strange, is_unknown, AreSeen, IsReplyFault};
 
 use crate::answers::{AnswerKey, AttendeeAnswer, AttendeeAnswers, put};
-use crate::attending::{Attending, is_sent};
+use crate::attending::{Attending, is_told};
 use cal_events::PartStat;
 use ical_lines::{Fault, Refusal};
 use ical_values::Address;
@@ -42,11 +42,11 @@ impl StoredMeeting {
         self.attending.contains_key(address)
     }
 
-    /// Whether the server sends messages to this address.
-    pub fn is_sent(&self, address: &Address) -> bool
-        ensures { result ≡ is_sent (address_octets address.now) self.now.attending.entries }
+    /// Whether the last store sent this attendee a message.
+    pub fn is_told(&self, address: &Address) -> bool
+        ensures { result ≡ is_told (address_octets address.now) self.now.attending.entries }
     {
-        is_sent(&self.attending, address)
+        is_told(&self.attending, address)
     }
 
     /// What an attendee answered for a slot.

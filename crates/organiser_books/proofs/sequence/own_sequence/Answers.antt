@@ -1,4 +1,4 @@
-use Rattle.std.proofs.Common.{◌∙◌, take, sym, ap, max, arith}
+use Rattle.std.proofs.Common.{◌∙◌, take, sym, ap, max}
 use Rattle.organiser_books.specs.Storing.{own_in}
 use Rattle.organiser_books.proofs.Loops.{one_more}
 use Rattle.organiser_books.proofs.Sends.{own_push}

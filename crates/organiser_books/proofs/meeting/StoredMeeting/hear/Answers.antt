@@ -1,10 +1,7 @@
-use Rattle.std.proofs.Common.{◌≡◌, ◌∙◌, ◌++◌, Bool, true, false, not, is_some, cond, Some, List, ap, sym, subst, refl, append-nil}
+use Rattle.std.proofs.Common.{◌≡◌, ◌∙◌, ◌++◌, true, false, is_some, cond, Some, List, ap, sym, subst, refl}
 use Rattle.std.specs.Prelude.{◌==◌}
-use Rattle.std.specs.List.{filter, position}
 use Rattle.std.specs.Map.{keys_of, lookup}
-use Rattle.std.proofs.lemmas.Bool.{not-false, both_ways, eq-eqb}
-use Rattle.indexmap.specs.IndexMap.{keys}
-use Rattle.ical_values.specs.Octets.{address_octets}
+use Rattle.std.proofs.lemmas.Bool.{not-false, both_ways}
 use Rattle.profile.specs.events.EventComponents as events
 use Rattle.profile.specs.organisers.Organisers.{Heard}
 use Rattle.cal_events.specs.Events.{attendee_of}
@@ -14,9 +11,9 @@ use Rattle.organiser_books.specs.declared.answers.AttendeeAnswer.{AttendeeAnswer
 use Rattle.organiser_books.specs.declared.answers.AnswerKey.{AnswerKey}
 use Rattle.organiser_books.specs.Answers.{answer_key_at, later_answer, same_answer_key}
 use Rattle.organiser_books.specs.Attending.{attendance_of}
-use Rattle.organiser_books.specs.Representation.{heard_by, is_unknown, AreSeen}
+use Rattle.organiser_books.specs.Representation.{heard_by, is_unknown}
 use Rattle.organiser_books.proofs.Lines.{same_itself}
-use Rattle.organiser_books.proofs.Hearing.{first_line, heard_new, heard_other, Seen}
+use Rattle.organiser_books.proofs.Hearing.{first_line, heard_new, Seen}
 use Rattle.organiser_books.proofs.meeting.StoredMeeting.hear.Goals as goal
 
 pub returns-in_default-get_index_of-clause-seen : goal.returns-in_default-get_index_of-clause-seen

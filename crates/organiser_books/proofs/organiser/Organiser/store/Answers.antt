@@ -1,8 +1,7 @@
-use Rattle.std.proofs.Common.{◌≡◌, ◌∙◌, ◌<◌, refl, ℕ, List, map, Option, None, Some, ap, sym, subst}
+use Rattle.std.proofs.Common.{◌≡◌, ◌∙◌, ◌<◌, refl, ℕ, map, sym, subst}
 use Rattle.indexmap.specs.IndexMap.{get}
-use Rattle.ical_values.specs.Octets.{address_octets, text_octets}
+use Rattle.ical_values.specs.Octets.{address_octets}
 use Rattle.profile.specs.organisers.Organisers.{most_sequence}
-use Rattle.itip_messages.specs.declared.organiser_object.ObjectComponent.{ObjectComponent}
 use Rattle.itip_order.specs.declared.part.Revision.{Revision}
 use Rattle.organiser_books.specs.declared.meeting.StoredMeeting.{StoredMeeting}
 use Rattle.organiser_books.specs.Calls.{sent_of}
@@ -25,8 +24,8 @@ returns-clause-steps c = λ said is book keeps.
     let revision : Revision = record { sequence = c.in-Some.sequence; stamp = c.args.now } in
     let meeting : StoredMeeting = record { revision = revision; components = object.components; attending = made.attending; object = made.object; answers = c.new.result } in
     let same : sequence_then _ c.deref.result.now ≡ sequence_then (meetings object.uid) object.components.items = λ i. sequence_then (c.get.ensures.value i) (c.deref.ensures.value i) in
-    let r = is_stored (address_octets c.args.self.now.address) object said is book meetings keeps.each c.args.now meeting (c.in-Some.ensures.is ∙ same) refl
-    (get same_text c.insert.new.self) c.in_ok-insert.ensures.updates.0 (map sent_of made.sent.items)
+    let r = is_stored (address_octets c.args.self.now.address) object said is book meetings keeps.each c.args.now meeting (c.in-Some.ensures.is ∙ same) refl (map sent_of made.sent.items)
+    (get same_text c.insert.new.self) c.in_ok-insert.ensures.updates.0
     (sym is.operation ∙ c.in_ok-expect.ensures.kind) (sym is.organiser ∙ c.in_ok-expect.ensures.own) c.in-Some.ensures.fits
-    refl c.in_ok-attending.ensures.attending c.new.ensures.empty c.in_ok-attending.ensures.sends in
+    refl c.in_ok-attending.ensures.attending c.new.ensures.empty c.in_ok-attending.ensures.sends c.in_ok-attending.ensures.told in
     (r.0, (r.1.0, r.1.1, record { each = r.1.2 }))

@@ -26,7 +26,7 @@ returns-then-is_strange-clause-fault c = λ said is book keeps.
     let m = c.in-Some.meeting.now in
     let found : RepresentsAt book uid (Some m) (last_store uid book) = subst (λ (o : Option StoredMeeting). RepresentsAt book uid o (last_store uid book)) (sym c.in-Some.ensures.value) (keeps.each object.uid) in
     let strange = sym (c.is_strange.ensures ∙ ap (is_strange m) c.deref.ensures.value) ∙ c.if-is_strange.true in
-    strange_fault (address_octets c.args.self.now.address) object said is book m found objects.Refresh (sym is.operation ∙ c.in_ok-expect.ensures.kind) (sym is.organiser ∙ c.in_ok-expect.ensures.own) refl strange
+    strange_fault (address_octets c.args.self.now.address) object said is book m found objects.Refresh (sym is.operation ∙ c.in_ok-expect.ensures.kind) (sym is.organiser ∙ c.in_ok-expect.ensures.own) refl (λ e. absurd (refresh_reply e)) strange
 
 pub returns-clause-steps : goal.returns-clause-steps
 returns-clause-steps c = λ said is book keeps.

@@ -1,9 +1,8 @@
-use Rattle.std.proofs.Common.{◌≡◌, ◌∙◌, ◌++◌, refl, Bool, cond, true, is_some, ℕ, List, Option, None, Some, ap, sym, subst}
+use Rattle.std.proofs.Common.{◌∙◌, ◌++◌, refl, is_some, List, Option, None, Some, ap, sym, subst}
 use Rattle.std.specs.List.{flat_map}
 use Rattle.ical_values.proofs.Exits.{any_err}
 use Rattle.indexmap.specs.IndexMap.{get}
 use Rattle.ical_values.specs.Octets.{address_octets, text_octets}
-use Rattle.ical_values.specs.declared.text.Text.{Text}
 use Rattle.profile.specs.organisers.Objects as objects
 use Rattle.profile.specs.organisers.Organisers.{OrganiserBook, last_store}
 use Rattle.itip_messages.specs.OrganiserObjects.{RepresentsObject}
