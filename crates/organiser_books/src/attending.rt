@@ -37,7 +37,7 @@ pub(crate) fn attending(
 {
     let mut attending = IndexMap::new(alloc);
     for (place, component) in components.iter().enumerate() {
-        note_all(&mut attending, place, component.attendees.lines())?;
+        note_all(&mut attending, place, component.attendees().lines())?;
     }
     Ok(attending)
 }

@@ -66,7 +66,7 @@ impl StoredMeeting {
     fn is_ahead(&self, components: &[ObjectComponent]) -> bool
         ensures { result ≡ is_ahead self.now components.now }
     {
-        components.iter().any(|component| component.revision.sequence > self.revision.sequence)
+        components.iter().any(|component| component.revision().sequence > self.revision.sequence)
     }
 
     /// Whether one who isn't an attendee speaks in one of the components.
@@ -82,7 +82,7 @@ impl StoredMeeting {
     fn is_unknown(&self, component: &ObjectComponent) -> bool
         ensures { result ≡ is_unknown self.now component.now.attendees }
     {
-        match component.attendees.lines().first() {
+        match component.attendees().lines().first() {
             Some(attendee) => !self.has_attendee(&attendee.address),
             None => false,
         }
@@ -142,22 +142,23 @@ impl StoredMeeting {
             → AreSeen self.new stored (replies ++ heard_said stored.uid component.now) }
         ensures spare { spare self.old.answers ≤ spare self.new.answers + 1 }
     {
-        if component.revision.sequence != self.revision.sequence {
+        let revision = component.revision();
+        if revision.sequence != self.revision.sequence {
             return;
         }
-        let Some(attendee) = component.attendees.lines().first() else {
+        let Some(attendee) = component.attendees().lines().first() else {
             return;
         };
         let Some(place) = self.attending.get_index_of(&attendee.address) else {
             return;
         };
         let answer = AttendeeAnswer {
-            stamp: component.revision.stamp,
+            stamp: revision.stamp,
             status: attendee.status,
         };
         put(
             &mut self.answers,
-            AnswerKey::at(place, component.slot),
+            AnswerKey::at(place, component.slot()),
             answer,
         );
     }

@@ -86,7 +86,7 @@ impl Organiser {
         ensures err { OnErr result ((book : OrganiserBook) → Keeps self.old book → Keeps self.new book) }
     {
         self.expect(&object, Operation::Store)?;
-        let Some(sequence) = sequence_after(self.meetings.get(&object.uid), &object.components)
+        let Some(sequence) = sequence_after(self.meetings.get(object.uid()), object.components())
         else {
             return Err(Fault::Refused(Refusal::SEQUENCE_SPENT));
         };
@@ -99,12 +99,7 @@ impl Organiser {
             object: octets,
             sent,
         } = self.made(&object, &revision)?;
-        let OrganiserObject {
-            operation: _,
-            organiser: _organiser,
-            uid,
-            components,
-        } = object;
+        let (uid, components) = object.into_meeting();
         let meeting = StoredMeeting {
             revision,
             components,
@@ -129,10 +124,10 @@ impl Organiser {
         ensures err { OnErr result ((book : OrganiserBook) → Keeps self.old book → Keeps self.new book) }
     {
         self.expect(object, Operation::Reply)?;
-        let Some(meeting) = self.meetings.get_mut(&object.uid) else {
+        let Some(meeting) = self.meetings.get_mut(object.uid()) else {
             return Err(Fault::Refused(Refusal::NOT_SENT));
         };
-        meeting.take_reply(&object.components)?;
+        meeting.take_reply(object.components())?;
         Ok(())
     }
 
@@ -147,10 +142,10 @@ impl Organiser {
             → CallFault profile.Refresh (address_of self.now) said book n)) }
     {
         self.expect(object, Operation::Refresh)?;
-        let Some(meeting) = self.meetings.get(&object.uid) else {
+        let Some(meeting) = self.meetings.get(object.uid()) else {
             return Err(Fault::Refused(Refusal::NOT_SENT));
         };
-        if meeting.is_strange(&object.components) {
+        if meeting.is_strange(object.components()) {
             return Err(Fault::Refused(Refusal::NOT_AN_ATTENDEE));
         }
         Ok(meeting.object.clone()?)
@@ -198,10 +193,10 @@ impl Organiser {
         ensures fault { IfErr result (RefusesBy (λ n. (said : profile.OrganiserObject) → RepresentsObject object.now said → (book : OrganiserBook)
             → CallFault (operation_said operation) (address_of self.now) said book n)) }
     {
-        if object.operation != operation {
+        if object.operation() != operation {
             return Err(Fault::Refused(Refusal::BAD_METHOD));
         }
-        if object.organiser != self.address {
+        if *object.organiser() != self.address {
             return Err(Fault::Refused(Refusal::NOT_HOSTED));
         }
         Ok(())
@@ -216,16 +211,16 @@ impl Organiser {
             → LastAttends before (get same_text self.now.meetings object.now.uid)
             → SendsObject (address_of self.now) object.now revision.now events before made.object.items (map sent_of made.sent.items)) }
     {
-        let mut attending = attending(self.alloc, &object.components)?;
+        let mut attending = attending(self.alloc, object.components())?;
         let to = sent(self.alloc, &self.address, &attending)?;
-        let gone = self.gone(&object.uid, &attending)?;
+        let gone = self.gone(object.uid(), &attending)?;
         tell(&mut attending, &to);
         tell(&mut attending, &gone);
         let text = MeetingText {
-            uid: &object.uid,
-            organiser: &object.organiser,
+            uid: object.uid(),
+            organiser: object.organiser(),
             revision: *revision,
-            components: &object.components,
+            components: object.components(),
         };
         let Sending { object, sent } = send(self.alloc, &text, to, gone)?;
         Ok(Composed {
