@@ -123,10 +123,11 @@ class Stored:
                 flags[address] |= by_server
         self.named, self.sent_to = set(flags), [it for it in flags if flags[it] and it != organiser]
         gone = [it for it in gone if it not in self.sent_to]
+        self.told = self.sent_to + gone
         self.seen = {}
         if any(it.cancelled and not it.instance for it in events):
-            self.object = self.cancel(self.sent_to + gone, True)
-            self.sent = [self.object] if self.sent_to + gone else []
+            self.object = self.cancel(self.told, True)
+            self.sent = [self.object] if self.told else []
         else:
             self.object = self.text("REQUEST", lambda event, address: "PARTSTAT=NEEDS-ACTION;RSVP=TRUE")
             self.sent = [self.object] if self.sent_to else []
@@ -153,7 +154,7 @@ class Stored:
     def shown(self):
         def parameters(event, address):
             status = self.seen.get((event.instance, address), ("", 0))[1]
-            return f"PARTSTAT={RANKS[status]}" + ";SCHEDULE-STATUS=1.1" * (address in self.sent_to)
+            return f"PARTSTAT={RANKS[status]}" + ";SCHEDULE-STATUS=1.1" * (address in self.told)
         return self.text(None, parameters)
 
 

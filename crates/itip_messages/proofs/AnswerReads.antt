@@ -45,7 +45,7 @@ slot_named (At t) lines (text, w, e) = subst (SlotNamed (At t)) (sym e) (record 
 
 -- ---- the room's line, and the lines of the outcome
 
-abbrev room_line : Outcome → List ℕ → List ℕ
+abbrev pub room_line : Outcome → List ℕ → List ℕ
 room_line outcome room = codes "ATTENDEE;PARTSTAT=" ++ partstat outcome ++ codes ":" ++ room
 
 record RoomNamed (line : List ℕ) (lines : Lines) : Type 0 where
@@ -75,7 +75,7 @@ room_says SinglesLimit room r = record { address = (r.address, sym r.lower); par
 -- ---- the own lines
 
 -- the lines of a name, part by part
-both_named : (name : List ℕ) (a b xs ys : Lines) → lines_named name a ≡ xs → lines_named name b ≡ ys → lines_named name (a ++ b) ≡ xs ++ ys
+pub both_named : (name : List ℕ) (a b xs ys : Lines) → lines_named name a ≡ xs → lines_named name b ≡ ys → lines_named name (a ++ b) ≡ xs ++ ys
 both_named name a b xs ys p q = filter-append (is_of name) a b ∙ ap₂ (λ x y. x ++ y) p q
 
 module _ (room : List ℕ) (part : Part) (moment : ℤ) (outcome : Outcome) (slot status : Lines) (stamp : List ℕ) (s : SlotNamed part.slot slot) (r : RoomNamed (room_line outcome room) (room_line outcome room ∷ status)) where
@@ -128,7 +128,7 @@ module _ (room : List ℕ) (part : Part) (moment : ℤ) (outcome : Outcome) (slo
   }
 
 -- the VEVENT's own lines
-tail_of : (a b : List ℕ) (xs ys : Lines) → a ∷ xs ≡ b ∷ ys → xs ≡ ys
+pub tail_of : (a b : List ℕ) (xs ys : Lines) → a ∷ xs ≡ b ∷ ys → xs ≡ ys
 tail_of a b xs ys e = cc
 
 pub answer_reads : (room : List ℕ) (part : Part) (moment : ℤ) (outcome : Outcome) (lines own : Lines) → IsReadAddress room → IsReadAddress part.organiser → IsUid part.uid → part.revision.sequence < 2 ^ 31

@@ -19,6 +19,11 @@ pub mod ReplyLines
 pub mod ReplyReads
 pub mod RefreshReads
 pub mod AnswerReads
+pub mod PartTexts
+pub mod NoLonger
+pub mod HeardEvents
+pub mod HeardObjects
+pub mod HeardLaws
 pub mod OneMessage
 pub mod SentTexts
 pub mod SentBehind

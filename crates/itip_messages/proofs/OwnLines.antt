@@ -61,7 +61,7 @@ event_again event recurrence organiser revision rule additions exceptions cancel
 
 -- ---- filters
 
-none_of_both : {X : Type 0} (p q : X → Bool) (xs : List X) → list_any p xs ≡ false → list_any q xs ≡ false → list_any (λ x. p x || q x) xs ≡ false
+pub none_of_both : {X : Type 0} (p q : X → Bool) (xs : List X) → list_any p xs ≡ false → list_any q xs ≡ false → list_any (λ x. p x || q x) xs ≡ false
 none_of_both p q [] e d = refl
 none_of_both {X = X} p q (x ∷ xs) e d = by (p x) (q x) (none_of_both p q xs) e d
   where

@@ -9,6 +9,7 @@ use Rattle.ical_values.proofs.Escapes.{read_back}
 use Rattle.ical_values.proofs.Readings.{stamp_written}
 use Rattle.ical_values.proofs.ShownValues.{shown_stamp}
 use Rattle.itip_messages.specs.ReadBack.{IsTextAddress, IsTextValue, IsReadAddress, IsVevent, ReadsAs, SaysRefresh}
+use Rattle.itip_messages.proofs.AnswerReads.{tail_of}
 use Rattle.itip_messages.proofs.CleanText.{clean_address}
 use Rattle.itip_messages.proofs.CleanUids.{clean_text}
 use Rattle.itip_messages.proofs.ObjectTree.{Lines}
@@ -20,7 +21,7 @@ use Rattle.itip_messages.proofs.ReplyReads.{object_reads}
 abbrev asked : (room organiser uid stamp : List ℕ) → Lines
 asked room organiser uid stamp = (codes "UID:" ++ escaped uid) ∷ (codes "DTSTAMP:" ++ stamp) ∷ (codes "ORGANIZER:" ++ organiser) ∷ (codes "ATTENDEE:" ++ room) ∷ []
 
-event_read : (room organiser uid : List ℕ) (moment : ℤ) (lines : Lines) → IsTextAddress room → IsTextAddress organiser → IsTextValue uid → IsRefreshEvent room organiser uid moment lines → OneRead lines
+pub event_read : (room organiser uid : List ℕ) (moment : ℤ) (lines : Lines) → IsTextAddress room → IsTextAddress organiser → IsTextValue uid → IsRefreshEvent room organiser uid moment lines → OneRead lines
 event_read room organiser uid moment lines r o u e =
     let attendee = own_more (codes "ATTENDEE:" ++ room) [] (attendee_line room (clean_address room r)) refl own_none in
     let organised = own_more (codes "ORGANIZER:" ++ organiser) _ (organiser_line organiser (clean_address organiser o)) refl attendee in
@@ -45,9 +46,6 @@ own_says room organiser uid stamp moment home of_it is_uid at = record {
   stamp = record { line = Some (codes "DTSTAMP:" ++ stamp); once = refl; present = λ _. refl; is = at };
   attendees = (record { address = (home.address, sym home.lower); participation = refl; scheduled = refl }, tt);
 }
-
-tail_of : (a b : List ℕ) (xs ys : Lines) → a ∷ xs ≡ b ∷ ys → xs ≡ ys
-tail_of a b xs ys e = cc
 
 pub refresh_says : (room organiser uid : List ℕ) (moment : ℤ) (lines own : Lines) → IsReadAddress room → IsReadAddress organiser → IsUid uid
     → IsRefreshEvent room organiser uid moment lines → IsVevent own lines → SaysRefresh room organiser uid moment own

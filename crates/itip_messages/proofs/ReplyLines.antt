@@ -82,7 +82,7 @@ pub record OneRead (lines : Lines) : Type 0 where
   pub are : IsVevent own lines
   pub good : AreOwn own
 
-one_read : (room : List ℕ) (lines : Lines) → IsTextAddress room → IsAnswer room lines → OneRead lines
+pub one_read : (room : List ℕ) (lines : Lines) → IsTextAddress room → IsAnswer room lines → OneRead lines
 one_read room lines r a =
     let s = a.shows in
     let w = a.writable in

@@ -8,7 +8,7 @@ use Rattle.profile.specs.text.Trees.{Tree}
 use Rattle.profile.specs.events.EventComponents.{Accepted, Attendee, Declined, Delegated, EventComponent, IsAttendee, NeedsAction, Participation, Request, SaysEventComponent, Tentative}
 use Rattle.profile.specs.events.Properties.{is_of}
 use Rattle.profile.specs.organisers.Objects.{OrganiserObject, SpellsOrganiserObject, Store}
-use Rattle.profile.specs.organisers.Organisers.{OrganiserBook, ShowsSeen, Stored, participation_word, scheduled_in, sent_status}
+use Rattle.profile.specs.organisers.Organisers.{OrganiserBook, ShowsSeen, Stored, participation_word, sent_status}
 use Rattle.profile.specs.organisers.Sent.{IsMeetingText}
 use Rattle.ical_lines.proofs.CleanLines.{IsClean, valued}
 use Rattle.itip_messages.specs.SentBack.{HasAnswered, IsSentAddress, SpellsShown}
@@ -100,9 +100,9 @@ shows Declined false address = record {
   says = λ s. record { address = (s.read.address, sym s.read.lower); participation = refl; scheduled = refl };
 }
 
-shown_reads_line : (organiser : List ℕ) (book : OrganiserBook) (stored : Stored) → ReadsLine (ShowsSeen organiser book stored) (HasAnswered book stored)
-shown_reads_line organiser book stored slot attendee line s (answer, seen, e) =
-    let sent = list_any (bytes_eq attendee.address) (scheduled_in organiser stored.events) in
+shown_reads_line : (book : OrganiserBook) (stored : Stored) → ReadsLine (ShowsSeen book stored) (HasAnswered book stored)
+shown_reads_line book stored slot attendee line s (answer, seen, e) =
+    let sent = list_any (bytes_eq attendee.address) stored.told in
     let h = shows answer sent attendee.address in
     let said = shown_attendee answer attendee.address in
     let text : IsAttendeeText (shown_line answer sent attendee.address) said = record { content = h.content (clean_address attendee.address (text_of attendee.address s)); property = h.property; named = h.named; says = h.says s } in
@@ -117,10 +117,10 @@ as_events object (v ∷ vs) [] z = absurd z
 as_events object (v ∷ vs) (e ∷ events) z = (as_event object v e z.0, as_events object vs events z.1)
 
 pub shown_reads : LinesBack → ReadsLines → ZoneBack → (read : List ℕ) (said : OrganiserObject) (book : OrganiserBook) (stored : Stored) (octets : List ℕ) → SpellsOrganiserObject read said → said.operation ≡ Store → stored.events ≡ said.events
-    → stored.revision.sequence < 2 ^ 31 → IsMeetingText None said.organiser said.uid stored.revision (ShowsSeen said.organiser book stored) stored.events octets → is_too_long octets ≡ false → SpellsShown book stored octets
+    → stored.revision.sequence < 2 ^ 31 → IsMeetingText None said.organiser said.uid stored.revision (ShowsSeen book stored) stored.events octets → is_too_long octets ≡ false → SpellsShown book stored octets
 shown_reads back reads zone_back read said book stored octets s store same small t short =
     let f = subst (λ (events : List EventComponent). AreStored said.organiser said.uid events) (sym same) (stored_events read said s store) in
-    let b = written_back back reads zone_back None no_method (ShowsSeen said.organiser book stored) (HasAnswered book stored) (shown_reads_line said.organiser book stored) said.organiser said.uid stored.revision stored.events octets f small t short in
+    let b = written_back back reads zone_back None no_method (ShowsSeen book stored) (HasAnswered book stored) (shown_reads_line book stored) said.organiser said.uid stored.revision stored.events octets f small t short in
     record {
       shown = b.saids;
       each = b.each;

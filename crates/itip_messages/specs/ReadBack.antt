@@ -1,16 +1,20 @@
 -- What octets of a reply or a refresh read back as, and which texts can be in them.
-use Rattle.std.specs.Prelude.{◌≡◌, ℕ, ◌<◌, ◌^◌, not, ◌||◌, ◌==◌, true, false, List, [], ◌∷◌, ◌++◌, codes, Option, None, Some, ℤ}
+use Rattle.std.specs.Prelude.{◌≡◌, ℕ, ◌<◌, ◌^◌, not, ◌||◌, ◌==◌, true, false, List, [], ◌∷◌, ◌++◌, codes, Contains, Option, None, Some, ℤ, pos}
 use Rattle.std.specs.List.{flat_map, list_all, AllZip}
 use Rattle.std.specs.Str.{IsUtf8}
 use Rattle.profile.specs.text.Lines.{is_control, logical_lines, reads_as_lines}
 use Rattle.profile.specs.text.Objects.{IsObject}
 use Rattle.profile.specs.text.Trees.{Tree, tree_own, vevents}
 use Rattle.profile.specs.text.Values.{IsAddress, lower_case}
-use Rattle.profile.specs.events.EventComponents.{IsAttendee, Participation, NeedsAction, Accepted, Declined}
+use Rattle.profile.specs.events.EventComponents.{EventComponent, IsAttendee, Participation, NeedsAction, Accepted, Declined}
 use Rattle.profile.specs.events.Properties.{Says, IsUidLine, IsAddressLine, IsSequenceLine, IsStampLine, lines_named}
+use Rattle.profile.specs.events.ZonedTimes.{EventTimes}
+use Rattle.profile.specs.organisers.Objects.{Reply, Refresh, SpellsOrganiserObject}
+use Rattle.profile.specs.organisers.Organisers.{Heard, heard_in}
 use Rattle.profile.specs.checker.Instances.{Key}
 use Rattle.profile.specs.rooms.Revisions.{Part, Slot, Whole, At}
 use Rattle.profile.specs.rooms.Messages.{Outcome, Accept, Busy, SeriesLimit, SinglesLimit, IsReplyEvent, object_lines}
+use Rattle.profile.specs.rooms.Rooms.{PartAnswer, Book, Claim, answers_part}
 
 -- ---- texts
 
@@ -103,3 +107,89 @@ pub record SaysRefresh (room organiser uid : List ℕ) (moment : ℤ) (own : Lis
   pub organiser_line : Says (codes "ORGANIZER") true IsAddressLine own (Some organiser)
   pub stamp : Says (codes "DTSTAMP") true IsStampLine own (Some moment)
   pub attendees : AllZip IsAttendee (lines_named (codes "ATTENDEE") own) (record { address = room; participation = NeedsAction; scheduled = true } ∷ [])
+
+-- ---- what an organiser hears of it
+
+-- the times of what says none
+abbrev pub no_times : EventTimes
+no_times = record { zone = None; local = pos 0; start = pos 0; length = record { days = 0; seconds = 0 } }
+
+-- the event of a REPLY: a room's answer to a part, decided at a moment
+abbrev pub answer_event : List ℕ → Part → ℤ → Outcome → EventComponent
+answer_event room part moment outcome = record {
+  uid = part.uid;
+  organiser = Some part.organiser;
+  stamp = Some moment;
+  sequence = part.revision.sequence;
+  cancelled = false;
+  recurrence = instant_of_slot part.slot;
+  times = no_times;
+  rule = None;
+  additions = [];
+  exceptions = [];
+  summary = [];
+  attendees = record { address = room; participation = participation_answered outcome; scheduled = true } ∷ [];
+}
+
+-- and what is heard of it: the slot and the SEQUENCE that are answered, when, and whether the room has accepted
+abbrev pub answer_heard : List ℕ → Part → ℤ → Outcome → Heard
+answer_heard room part moment outcome = record {
+  uid = part.uid;
+  attendee = room;
+  slot = part.slot;
+  revision = record { sequence = part.revision.sequence; stamp = moment };
+  answer = participation_answered outcome;
+}
+
+-- the event of a REFRESH: a room asks for a meeting, at a moment
+abbrev pub refresh_event : (room organiser uid : List ℕ) → ℤ → EventComponent
+refresh_event room organiser uid moment = record {
+  uid = uid;
+  organiser = Some organiser;
+  stamp = Some moment;
+  sequence = 0;
+  cancelled = false;
+  recurrence = None;
+  times = no_times;
+  rule = None;
+  additions = [];
+  exceptions = [];
+  summary = [];
+  attendees = record { address = room; participation = NeedsAction; scheduled = true } ∷ [];
+}
+
+-- the instances that the answers of a book name have texts as keys
+abbrev pub AreTextAnswers : Book → Type 0
+AreTextAnswers book = (answer : PartAnswer) → Contains book.answers answer → IsTextOutcome answer.outcome
+
+-- the book has an answer to the claim's part, and the event says it
+abbrev pub SaysAnswerTo : List ℕ → Book → Claim → EventComponent → Type 0
+SaysAnswerTo room book claim event =
+    (answer : PartAnswer) × Contains book.answers answer × (answers_part claim.part answer ≡ true)
+    × (event ≡ answer_event room claim.part answer.moment answer.outcome)
+
+-- and this is heard of it
+abbrev pub IsAnswerTo : List ℕ → Book → Claim → Heard → Type 0
+IsAnswerTo room book claim heard =
+    (answer : PartAnswer) × Contains book.answers answer × (answers_part claim.part answer ≡ true)
+    × (heard ≡ answer_heard room claim.part answer.moment answer.outcome)
+
+-- the octets spell a REPLY of one meeting, in which an organiser hears the book's answers to these claims, and nothing else
+pub record SpellsReply (room : List ℕ) (book : Book) (claims : List Claim) (octets : List ℕ) : Type 0 where
+  pub organiser : List ℕ
+  pub uid : List ℕ
+  pub events : List EventComponent
+  pub spells : SpellsOrganiserObject octets (record { operation = Reply; organiser = organiser; uid = uid; events = events })
+  pub says : AllZip (SaysAnswerTo room book) claims events
+  pub heard : AllZip (IsAnswerTo room book) claims (heard_in events)
+
+-- the octets spell a REFRESH, by which the room asks at that moment for the meeting of one of these claims
+pub record SpellsRefresh (room : List ℕ) (claims : List Claim) (moment : ℤ) (octets : List ℕ) : Type 0 where
+  pub claim : Claim
+  pub of_them : Contains claims claim
+  pub spells : SpellsOrganiserObject octets (record {
+    operation = Refresh;
+    organiser = claim.part.organiser;
+    uid = claim.part.uid;
+    events = refresh_event room claim.part.organiser claim.part.uid moment ∷ [];
+  })

@@ -1,17 +1,16 @@
 -- What octets that an organiser wrote read back as: the message that they spell, and its parts.
-use Rattle.std.specs.Prelude.{◌≡◌, ◌↔◌, ◌∷◌, filter, ℕ, ◌<◌, ◌^◌, Bool, true, List, [], map, Option, Some, None, pos}
+use Rattle.std.specs.Prelude.{◌≡◌, ◌↔◌, ◌∷◌, filter, ℕ, ◌<◌, ◌^◌, Bool, true, List, [], map, Option, Some, None}
 use Rattle.std.specs.List.{AllZip}
 use Rattle.std.specs.Str.{IsUtf8}
 use Rattle.profile.specs.series.Rules.{Rule, is_rule_day}
 use Rattle.profile.specs.text.Values.{IsUid}
 use Rattle.profile.specs.events.EventComponents.{Attendee, EventComponent, Participation, Request, Cancel, NeedsAction}
 use Rattle.profile.specs.events.Events.{Event, SpellsEvent, is_master, is_override}
-use Rattle.profile.specs.events.ZonedTimes.{EventTimes}
 use Rattle.profile.specs.organisers.Objects.{counted}
 use Rattle.profile.specs.organisers.Organisers.{IsSeenOf, OrganiserBook, Stored}
 use Rattle.profile.specs.rooms.Messages.{AreAscending, AreParts, Content, IsContent, Message, SpellsMessage, is_in_dates, slot_of}
 use Rattle.profile.specs.rooms.Revisions.{Part, Slot, Whole, Cancelled, Revision}
-use Rattle.itip_messages.specs.ReadBack.{IsReadAddress, IsTextValue}
+use Rattle.itip_messages.specs.ReadBack.{IsReadAddress, IsTextValue, no_times}
 
 -- ---- texts
 
@@ -32,10 +31,6 @@ pub record IsSentName (organiser uid : List ℕ) (revision : Revision) : Type 0 
 -- an attendee of whom a line says no more than the address
 abbrev pub attendee_at : List ℕ → Attendee
 attendee_at address = record { address = address; participation = NeedsAction; scheduled = true }
-
--- the times of what says none
-abbrev pub no_times : EventTimes
-no_times = record { zone = None; local = pos 0; start = pos 0; length = record { days = 0; seconds = 0 } }
 
 -- the event of a CANCEL: whose it is, which revision, whether it is called off, and whom it is for
 abbrev pub cancel_event : (organiser uid : List ℕ) → Revision → Bool → List (List ℕ) → EventComponent

@@ -1,12 +1,14 @@
 //! What octets say as a message, and what a reply or a refresh that was written reads back as.
-ghost use Rattle.std.specs.Prelude.{◌≡◌, ◌<◌, ◌^◌, ◌∷◌, [], ℕ, ℤ, List, Contains, Some, codes};
+ghost use Rattle.std.specs.Prelude.{◌≡◌, ◌<◌, ◌^◌, ◌∷◌, [], ℕ, ℤ, false, List, Contains, Some, codes};
 ghost use Rattle.std.specs.List.{flat_map};
-ghost use Rattle.profile.specs.rooms.Messages.{IsRefreshEvent, IsReplyEvent, Outcome, object_lines};
+ghost use Rattle.profile.specs.rooms.Kept.{Refreshes, Replies};
+ghost use Rattle.profile.specs.rooms.Messages.{IsRefreshEvent, IsReplyEvent, Message, Outcome, SpellsMessage, is_add, object_lines};
 ghost use Rattle.profile.specs.rooms.Revisions.{Part};
+ghost use Rattle.profile.specs.rooms.Rooms.{Book, Claim, shown};
 ghost use Rattle.profile.specs.text.Values.{IsUid};
-ghost use Rattle.profile.specs.text.Lines.{written};
-ghost use Rattle.profile.specs.streams.Streams.{ObjectFault, Said, Spells};
-ghost use Rattle.itip_messages.specs.ReadBack.{IsTextAddress, IsTextValue, IsReadAddress, IsAnswer, IsVevent, ReadsAs, SaysAnswer, SaysRefresh};
+ghost use Rattle.profile.specs.text.Lines.{is_too_long, written};
+ghost use Rattle.profile.specs.streams.Streams.{AreClaims, ObjectFault, Said, Spells};
+ghost use Rattle.itip_messages.specs.ReadBack.{AreTextAnswers, IsTextAddress, IsTextValue, IsReadAddress, IsAnswer, IsVevent, ReadsAs, SaysAnswer, SaysRefresh, SpellsRefresh, SpellsReply};
 
 use cal_events::one_event;
 use ical_tree::one_tree;
@@ -51,6 +53,29 @@ pub fn refreshes_read_back()
     ensures says { (room organiser uid : List ℕ) (moment : ℤ) (lines own : List (List ℕ))
         → IsReadAddress room → IsReadAddress organiser → IsUid uid
         → IsRefreshEvent room organiser uid moment lines → IsVevent own lines → SaysRefresh room organiser uid moment own }
+{
+    ical_lines::lines_read_back();
+}
+
+/// Whatever a room answers to a message that octets spelled, an organiser hears: the octets of the REPLY spell an object of one meeting, with an
+/// event for each part that the reply shows, in their order. It says the slot and the SEQUENCE that are answered, the moment as DTSTAMP, and
+/// that the room, its one attendee, has accepted or declined; so what is heard in it is exactly the book's answers to these parts (RFC 5546
+/// 3.2.3). Required are clashing instances named in UTF-8, as those of messages are, and octets within the limits of a message.
+pub fn replies_are_heard()
+    ensures { (read : List ℕ) (message : Message) (room : List ℕ) (book : Book) (claims : List Claim) (octets : List ℕ)
+        → SpellsMessage read message → AreClaims room message claims → AreTextAnswers book
+        → Replies room book claims (Some octets) → is_too_long octets ≡ false → SpellsReply room book (shown book.taken claims) octets }
+{
+    ical_lines::lines_read_back();
+}
+
+/// Whatever a room asks for when such a message comes, an organiser hears: the octets of the REFRESH spell an object that asks for the meeting of
+/// the message, at that moment, with the room as its one attendee (RFC 5546 3.2.6). Required are octets within the limits of a message.
+pub fn refreshes_are_heard()
+    ensures { (read : List ℕ) (message : Message) (room : List ℕ) (before after : List Part) (claims : List Claim) (moment : ℤ) (octets : List ℕ)
+        → SpellsMessage read message → AreClaims room message claims
+        → Refreshes room (is_add message.method) before after claims moment (Some octets) → is_too_long octets ≡ false
+        → SpellsRefresh room claims moment octets }
 {
     ical_lines::lines_read_back();
 }

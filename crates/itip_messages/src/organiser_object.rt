@@ -54,21 +54,15 @@ impl Operation {
     }
 }
 
-/// What one VEVENT of such an object says.
+/// What one VEVENT of such an object says. It is made where an object is read, and nowhere else.
 #[derive(Drop)]
 pub struct ObjectComponent {
-    /// The instance that RECURRENCE-ID names, else the whole meeting.
-    pub slot: Slot,
-    /// Its own SEQUENCE and DTSTAMP.
-    pub revision: Revision,
-    /// Whether its STATUS is CANCELLED (RFC 5545 3.8.1.11).
-    pub cancelled: bool,
-    /// The body in its one form, and its VTIMEZONE after it.
-    pub canonical: Vec<u8>,
-    /// SUMMARY, empty where it is missing.
-    pub summary: Text,
-    /// The ATTENDEE lines in the order of the text.
-    pub attendees: Attendees,
+    pub(crate) slot: Slot,
+    pub(crate) revision: Revision,
+    pub(crate) cancelled: bool,
+    pub(crate) canonical: Vec<u8>,
+    pub(crate) summary: Text,
+    pub(crate) attendees: Attendees,
 }
 
 impl ObjectComponent {
@@ -92,19 +86,57 @@ impl ObjectComponent {
             attendees,
         })
     }
+
+    /// The instance that RECURRENCE-ID names, else the whole meeting.
+    pub fn slot(&self) -> Slot
+        ensures { result ≡ self.now.slot }
+    {
+        self.slot
+    }
+
+    /// Its own SEQUENCE and DTSTAMP.
+    pub fn revision(&self) -> Revision
+        ensures { result ≡ self.now.revision }
+    {
+        self.revision
+    }
+
+    /// Whether its STATUS is CANCELLED (RFC 5545 3.8.1.11).
+    pub fn is_cancelled(&self) -> bool
+        ensures { result ≡ self.now.cancelled }
+    {
+        self.cancelled
+    }
+
+    /// The body in its one form, and its VTIMEZONE after it.
+    pub fn canonical(&self) -> &[u8]
+        ensures { result.now ≡ self.now.canonical.items }
+    {
+        self.canonical.as_slice()
+    }
+
+    /// SUMMARY, empty where it is missing.
+    pub fn summary(&self) -> &Text
+        ensures { result.now ≡ self.now.summary }
+    {
+        &self.summary
+    }
+
+    /// The ATTENDEE lines in the order of the text.
+    pub fn attendees(&self) -> &Attendees
+        ensures { result.now ≡ self.now.attendees }
+    {
+        &self.attendees
+    }
 }
 
-/// What comes to an organiser: all its components are of one meeting, the UID of one ORGANIZER.
+/// What comes to an organiser: all its components are of one meeting, the UID of one ORGANIZER. It is read, and made in no other way.
 #[derive(Drop)]
 pub struct OrganiserObject {
-    /// What is asked.
-    pub operation: Operation,
-    /// The ORGANIZER's address.
-    pub organiser: Address,
-    /// The UID that all its VEVENTs have, its escapes read (RFC 5545 3.8.4.7).
-    pub uid: Text,
-    /// The VEVENTs, in the order of the text.
-    pub components: Vec<ObjectComponent>,
+    operation: Operation,
+    organiser: Address,
+    uid: Text,
+    components: Vec<ObjectComponent>,
 }
 
 impl OrganiserObject {
@@ -129,6 +161,48 @@ impl OrganiserObject {
             uid,
             components,
         })
+    }
+
+    /// What is asked.
+    pub fn operation(&self) -> Operation
+        ensures { result ≡ self.now.operation }
+    {
+        self.operation
+    }
+
+    /// The ORGANIZER's address.
+    pub fn organiser(&self) -> &Address
+        ensures { result.now ≡ self.now.organiser }
+    {
+        &self.organiser
+    }
+
+    /// The UID that all its VEVENTs have, its escapes read (RFC 5545 3.8.4.7).
+    pub fn uid(&self) -> &Text
+        ensures { result.now ≡ self.now.uid }
+    {
+        &self.uid
+    }
+
+    /// The VEVENTs, in the order of the text.
+    pub fn components(&self) -> &[ObjectComponent]
+        ensures { result.now ≡ self.now.components.items }
+    {
+        self.components.as_slice()
+    }
+
+    /// The UID and the VEVENTs, taken out of it.
+    pub fn into_meeting(self) -> (Text, Vec<ObjectComponent>)
+        ensures uid { result.0 ≡ self.uid }
+        ensures components { result.1 ≡ self.components }
+    {
+        let OrganiserObject {
+            operation: _,
+            organiser: _organiser,
+            uid,
+            components,
+        } = self;
+        (uid, components)
     }
 }
 

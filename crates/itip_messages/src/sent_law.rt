@@ -56,7 +56,7 @@ pub fn requests_read_back()
 pub fn shown_reads_back()
     ensures { (read : List ℕ) (said : OrganiserObject) (book : OrganiserBook) (stored : Stored) (octets : List ℕ)
         → SpellsOrganiserObject read said → said.operation ≡ Store → stored.events ≡ said.events → stored.revision.sequence < 2 ^ 31
-        → IsMeetingText None said.organiser said.uid stored.revision (ShowsSeen said.organiser book stored) stored.events octets
+        → IsMeetingText None said.organiser said.uid stored.revision (ShowsSeen book stored) stored.events octets
         → is_too_long octets ≡ false → SpellsShown book stored octets }
 {
     ical_lines::lines_read_back();

@@ -1,12 +1,12 @@
 -- What an organiser keeps, after a store and after a reply.
-use Rattle.std.proofs.Common.{◌≡◌, ◌∙◌, ℕ, ◌+◌, ◌<◌, ◌≤◌, Bool, true, false, not, ◌&&◌, ◌||◌, cond, List, [], ◌∷◌, ◌++◌, Option, None, Some, refl, sym, ap, subst, inl, inr, arith}
+use Rattle.std.proofs.Common.{◌≡◌, ◌∙◌, ℕ, ◌<◌, ◌≤◌, Bool, true, false, ◌&&◌, cond, List, [], ◌∷◌, ◌++◌, Option, None, Some, refl, sym, ap, subst, inl, inr, arith}
 use Rattle.std.specs.Prelude.{◌==◌}
-use Rattle.std.specs.List.{AllZip, filter, find, flat_map, list_any, Contains}
+use Rattle.std.specs.List.{AllZip, filter, find, Contains}
 use Rattle.std.specs.Str.{bytes_eq}
 use Rattle.std.specs.Ordering.{is_eq}
-use Rattle.std.proofs.lemmas.Bool.{true≢false, and_parts, cases_Bool, both_ways, false_from_ne_true, eqb-true}
+use Rattle.std.proofs.lemmas.Bool.{and_parts, both_ways, false_from_ne_true, eqb-true}
 use Rattle.std.proofs.lemmas.List.Elements.{Contains-append_cases, filter-append}
-use Rattle.itip_order.proofs.Lists.{filter_at, in_head, in_cons, in_tail, none_in_nil}
+use Rattle.itip_order.proofs.Lists.{in_head, in_tail}
 use Rattle.ical_values.specs.Octets.{text_octets}
 use Rattle.ical_values.specs.declared.text.Text.{Text}
 use Rattle.profile.specs.rooms.Revisions.{Slot, slot_cmp}
@@ -15,9 +15,9 @@ use Rattle.organiser_books.specs.declared.meeting.StoredMeeting.{StoredMeeting}
 use Rattle.organiser_books.specs.Representation.{answer_in, same_text, AreSeen, LatestOf, RepresentsStored, RepresentsAt}
 use Rattle.itip_order.specs.Parts.{revision_of}
 use Rattle.itip_messages.specs.OrganiserObjects.{SaysObjectComponent}
-use Rattle.organiser_books.specs.Attending.{lists_said, AreAttending}
+use Rattle.organiser_books.specs.Attending.{is_told, lists_said, AreAttending}
 use Rattle.organiser_books.proofs.Latest.{latest_turned}
-use Rattle.organiser_books.proofs.Lines.{same_back, same_is, same_itself}
+use Rattle.organiser_books.proofs.Lines.{same_is}
 
 -- an organiser's meetings, by their UIDs, keep a book
 abbrev pub KeepsAll : (Text → Option StoredMeeting) → OrganiserBook → Type 0
@@ -78,7 +78,7 @@ module _ (meetings after : Text → Option StoredMeeting) (book : OrganiserBook)
   other_represented q None None h = h
   other_represented q None (Some s) h = h
   other_represented q (Some m) None h = h
-  other_represented q (Some m) (Some s) h = record { revision = h.revision; components = h.components; attending = h.attending; object = h.object; seen = h.seen; sent = h.sent }
+  other_represented q (Some m) (Some s) h = record { revision = h.revision; components = h.components; attending = h.attending; object = h.object; told = h.told; seen = h.seen; sent = h.sent }
 
   pub keeps_stored : KeepsAll after next
   keeps_stored q = by (same_text uid q) refl
@@ -128,6 +128,7 @@ module _ (book : OrganiserBook) (heard : List Heard) (uid : List ℕ) (of_it : (
     components = h.components;
     attending = h.attending;
     object = h.object;
+    told = h.told;
     seen = λ slot a. subst (λ l. LatestOf l (answer_in m slot a)) (sym (filter-append (answers_store s slot a) heard book.replies ∙ ap (λ l. l ++ filter (answers_store s slot a) book.replies) (none_of s slot a apart heard of_it))) (h.seen slot a);
     sent = λ x c same. elim (Contains-append_cases heard book.replies x c) [
       | inl new ↦ absurd (both_ways _ apart (subst (λ u. bytes_eq u s.uid ≡ true) (of_it x new) same))
@@ -146,6 +147,7 @@ module _ (book : OrganiserBook) (heard : List Heard) (uid : List ℕ) (of_it : (
     components = subst (λ l. AllZip SaysObjectComponent stored.events l.items) (sym c) h.components;
     attending = subst (λ l. AreAttending (lists_said stored.events) l.entries) (sym a) h.attending;
     object = ap (λ l. l.items) o ∙ h.object;
+    told = λ q. ap (λ l. is_told q l.entries) a ∙ h.told q;
     seen = λ slot q. latest_turned (answers_store stored slot q) book.replies heard (answer_in n slot q) (seen slot q);
     sent = λ x k same. elim (Contains-append_cases heard book.replies x k) [ inl new ↦ sent x new | inr old ↦ h.sent x old same ];
   }

@@ -1,5 +1,5 @@
 -- The latest of what was answered, with one more answer; and in whatever order they are.
-use Rattle.std.proofs.Common.{◌≡◌, ◌∙◌, ℕ, ℤ, Bool, true, false, cond, List, [], ◌∷◌, ◌++◌, Option, None, Some, refl, sym, ap, subst, inl, inr}
+use Rattle.std.proofs.Common.{◌≡◌, ◌∙◌, Bool, true, false, cond, List, [], ◌∷◌, ◌++◌, Option, None, Some, refl, sym, ap, subst, inl, inr}
 use Rattle.std.specs.List.{filter, list_all, Contains}
 use Rattle.std.specs.declared.cmp.Ordering.{Ordering}
 use Rattle.std.specs.declared.cmp.Ordering.TheVariants.{Less, Equal, Greater}
@@ -7,11 +7,10 @@ use Rattle.std.specs.Ordering.{is_le, is_gt, int_cmp, nat_cmp, ordering_reverse,
 use Rattle.std.specs.Cmp.{IsTotalOrder}
 use Rattle.std.proofs.lemmas.Bool.{true≢false}
 use Rattle.std.proofs.lemmas.Cmp.{int_cmp_total, nat_cmp_total, on_total, then_total, tied_itself, upto}
-use Rattle.std.proofs.lemmas.List.Elements.{Contains-append_left, Contains-append_right, Contains-append_cases, Contains-push, filter-append}
-use Rattle.itip_order.proofs.Lists.{all_at, all_from, in_cons, in_head, in_tail, none_in_nil}
-use Rattle.profile.specs.events.EventComponents.{NeedsAction, Participation}
+use Rattle.std.proofs.lemmas.List.Elements.{Contains-append_left, Contains-append_right, Contains-append_cases, filter-append}
+use Rattle.itip_order.proofs.Lists.{all_at, all_from, in_cons, in_head, none_in_nil}
+use Rattle.profile.specs.events.EventComponents.{NeedsAction}
 use Rattle.profile.specs.organisers.Organisers.{Heard, IsLatestOf, heard_cmp, rank}
-use Rattle.cal_events.specs.Events.{participation_of}
 use Rattle.organiser_books.specs.declared.answers.AttendeeAnswer.{AttendeeAnswer}
 use Rattle.organiser_books.specs.Answers.{answer_cmp, later_answer}
 use Rattle.organiser_books.specs.Representation.{answered, IsHeardAnswer, IsLatestHeard, LatestOf}

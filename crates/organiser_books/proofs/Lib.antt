@@ -6,6 +6,7 @@ pub mod Latest
 pub mod Hearing
 pub mod Sends
 pub mod Said
+pub mod Telling
 pub mod Books
 pub mod Taking
 pub mod Replying

@@ -1,17 +1,17 @@
 -- The attendees in memory, with one more line.
-use Rattle.std.proofs.Common.{◌≡◌, ◌∙◌, ℕ, ◌+◌, ◌≤◌, Bool, true, false, not, ◌&&◌, ◌||◌, cond, List, [], ◌∷◌, ◌++◌, map, Option, None, Some, refl, sym, ap, subst, append-nil, append_assoc, arith, inl, inr}
+use Rattle.std.proofs.Common.{◌≡◌, ◌∙◌, ℕ, ◌+◌, Bool, true, false, ◌||◌, cond, List, [], ◌∷◌, ◌++◌, map, Option, None, Some, refl, sym, ap, subst, append-nil, append_assoc, arith, inl, inr}
 use Rattle.std.proofs.lemmas.List.{map-append}
 use Rattle.std.specs.Prelude.{◌==◌}
-use Rattle.std.specs.List.{filter, flat_map, list_any}
-use Rattle.std.specs.Map.{lookup, set_value, keys_of}
+use Rattle.std.specs.List.{flat_map, list_any}
+use Rattle.std.specs.Map.{set_value, keys_of}
 use Rattle.std.specs.Str.{bytes_eq}
-use Rattle.std.proofs.lemmas.Bool.{true≢false, or_parts, or_from, or_left, or_right, cases_Bool, eq-eqb, ne_eqb, both_ways}
+use Rattle.std.proofs.lemmas.Bool.{or_parts, or_right, cases_Bool, eq-eqb, ne_eqb, both_ways}
 use Rattle.ical_values.specs.Octets.{address_octets}
 use Rattle.ical_values.specs.declared.address.Address.{Address}
 use Rattle.profile.specs.events.EventComponents.{Attendee}
 use Rattle.profile.specs.rooms.Kept.{each_once}
 use Rattle.organiser_books.specs.declared.attending.Attendance.{Attendance}
-use Rattle.organiser_books.specs.Attending.{Entries, addresses_in, attendance_of, is_address, names, noted_too, schedules_line, Attends, IsAttending, AreAttending, IsNoted, Noted, AreNoted}
+use Rattle.organiser_books.specs.Attending.{Entries, addresses_in, attendance_of, is_address, names, noted_too, schedules_line, Attends, AreAttending, IsNoted, Noted, AreNoted, AreUntold, is_told_in}
 use Rattle.organiser_books.proofs.Loops.{any_push, flat_push}
 use Rattle.organiser_books.proofs.Lines.{among_lines, all_unnamed, names_push, once_push, same_is, same_itself, schedules_other, schedules_own, unnamed}
 
@@ -66,6 +66,7 @@ noted_same done place own more q (Some a) n s h = record {
   scheduled = h.scheduled ∙ ap (λ b. list_any (schedules_line q) done || b) (sym s);
   last = h.last ∙ sym n;
   up_to = h.up_to;
+  untold = h.untold;
 }
 
 or_false : (b : Bool) → (b || false) ≡ b
@@ -90,12 +91,13 @@ module _ (done : List (List Attendee)) (place : ℕ) (own : List Attendee) (a : 
   own_noted : (known : Attendance) → IsNoted done place own a.address known → IsNoted done place more a.address (noted_too known place a.scheduled)
   own_noted known h = by (known.component == place) refl
     where
-      by : (b : Bool) → (known.component == place) ≡ b → IsNoted done place more a.address (cond b known (record { scheduled = known.scheduled || a.scheduled; component = place }))
+      by : (b : Bool) → (known.component == place) ≡ b → IsNoted done place more a.address (cond b known (record known { scheduled = known.scheduled || a.scheduled; component = place }))
       by true e = record {
         named = or_right _ _ own_named;
         scheduled = h.scheduled ∙ ap (λ b. list_any (schedules_line a.address) done || b) (sym (schedules_own a.address own a (same_itself a.address) ∙ ap (λ b. cond b (schedules_line a.address own) a.scheduled) (sym h.last ∙ e)));
         last = e ∙ sym own_named;
         up_to = h.up_to;
+        untold = h.untold;
       }
       by false e =
           let none : names a.address own ≡ false = sym h.last ∙ e in
@@ -106,10 +108,11 @@ module _ (done : List (List Attendee)) (place : ℕ) (own : List Attendee) (a : 
             scheduled = λ i. before i || sym now i;
             last = eq-eqb place place refl ∙ sym own_named;
             up_to = omega arith;
+            untold = h.untold;
           }
 
   -- who wasn't
-  new_noted : Noted done place own a.address None → IsNoted done place more a.address (record { scheduled = a.scheduled; component = place })
+  new_noted : Noted done place own a.address None → IsNoted done place more a.address (record { scheduled = a.scheduled; component = place; told = false })
   new_noted h =
       let both = or_parts _ _ h in
       let before : list_any (schedules_line a.address) done ≡ false = all_unnamed a.address done both.0 in
@@ -119,6 +122,7 @@ module _ (done : List (List Attendee)) (place : ℕ) (own : List Attendee) (a : 
         scheduled = λ i. sym before i || sym now i;
         last = eq-eqb place place refl ∙ sym own_named;
         up_to = omega arith;
+        untold = refl;
       }
 
   -- the addresses, each once
@@ -146,7 +150,7 @@ module _ (done : List (List Attendee)) (place : ℕ) (own : List Attendee) (a : 
       is = subst (Noted done place own a.address) e (h.each a.address)
 
   -- with one of an address that isn't
-  pub noted_new : (es new : Entries) (key : Address) → address_octets key ≡ a.address → attendance_of a.address es ≡ None → new ≡ es ++ (key, record { scheduled = a.scheduled; component = place }) ∷ []
+  pub noted_new : (es new : Entries) (key : Address) → address_octets key ≡ a.address → attendance_of a.address es ≡ None → new ≡ es ++ (key, record { scheduled = a.scheduled; component = place; told = false }) ∷ []
       → AreNoted done place own es → AreNoted done place more new
   noted_new es new key k e w h = record {
     order = ap (λ l. map address_octets (keys_of l)) w ∙ ap (map address_octets) (map-append (λ (x : Address × Attendance). x.0) es _) ∙ map-append address_octets (keys_of es) (key ∷ [])
@@ -188,6 +192,7 @@ next_noted done place own es h = record {
       scheduled = n.scheduled ∙ sym (or_false _ ∙ any_push (schedules_line q) done own);
       last = ne_eqb a.component (place + 1) (λ e. let up = n.up_to in omega (arith, e, up));
       up_to = let up = n.up_to in omega (arith, up);
+      untold = n.untold;
     }
 
 -- after the last
@@ -200,3 +205,11 @@ all_noted lists place es h = record {
     at_entry : (q : List ℕ) (r : Option Attendance) → Noted lists place [] q r → Attends lists q r
     at_entry q None n = sym (or_false _) ∙ n
     at_entry q (Some a) n = record { named = sym (or_false _) ∙ n.named; scheduled = n.scheduled ∙ or_false _ }
+
+-- none of them was told yet
+pub none_told : (lists : List (List Attendee)) (place : ℕ) (es : Entries) → AreNoted lists place [] es → AreUntold es
+none_told lists place es h q = at_entry (attendance_of q es) (h.each q)
+  where
+    at_entry : (r : Option Attendance) → Noted lists place [] q r → is_told_in r ≡ false
+    at_entry None n = refl
+    at_entry (Some a) n = n.untold

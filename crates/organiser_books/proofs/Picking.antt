@@ -1,14 +1,13 @@
 -- Attendees in memory that pass a test, and what they are in the book.
-use Rattle.std.proofs.Common.{◌≡◌, ◌∙◌, ℕ, Bool, true, false, not, ◌&&◌, ◌||◌, cond, List, [], ◌∷◌, ◌++◌, map, Option, None, Some, refl, sym, ap, subst, inl, inr}
+use Rattle.std.proofs.Common.{◌≡◌, ◌∙◌, ℕ, Bool, true, false, not, ◌&&◌, ◌||◌, List, [], ◌∷◌, ◌++◌, map, Option, None, Some, refl, sym, ap, subst, inl, inr}
 use Rattle.std.specs.List.{filter, flat_map, list_any, Contains, IsDistinct}
-use Rattle.std.specs.Map.{lookup, keys_of}
+use Rattle.std.specs.Map.{keys_of}
 use Rattle.std.specs.Str.{bytes_eq}
 use Rattle.std.specs.Cmp.{IsEquivalence, both_ways as same_tests}
-use Rattle.std.proofs.lemmas.Bool.{true≢false, and_parts, and_from, cases_Bool, both_ways, false_from_ne_true}
+use Rattle.std.proofs.lemmas.Bool.{true≢false, cases_Bool, both_ways}
 use Rattle.std.proofs.lemmas.List.{map-append}
-use Rattle.std.proofs.lemmas.List.Elements.{filter-append}
 use Rattle.std.proofs.lemmas.Map.Views.{any-filter_same, lookup-from_Contains}
-use Rattle.itip_order.proofs.Lists.{any_at, any_from, filter_at, filter_from, in_cons, in_head, in_tail, none_in_nil}
+use Rattle.itip_order.proofs.Lists.{any_at, any_from, filter_at, filter_from, in_head, in_tail}
 use Rattle.ical_values.specs.Octets.{address_octets}
 use Rattle.ical_values.specs.declared.address.Address.{Address}
 use Rattle.profile.specs.events.EventComponents.{Attendee}
@@ -17,7 +16,7 @@ use Rattle.profile.specs.organisers.Organisers.{without}
 use Rattle.organiser_books.specs.declared.attending.Attendance.{Attendance}
 use Rattle.organiser_books.specs.Attending.{Entries, addresses_in, attendance_of, gone_in, is_no_organiser, is_sent, is_sent_in, names, scheduled_among, schedules_line, sent_among, sent_in, Attends, AreAttending}
 use Rattle.organiser_books.proofs.Loops.{any_flat, any_map, filter_both, filter_no, filter_of_map, filter_yes, same_filter}
-use Rattle.organiser_books.proofs.Lines.{all_unnamed, among_lines, same_back, same_is, same_itself}
+use Rattle.organiser_books.proofs.Lines.{all_unnamed, same_back, same_is, same_itself}
 use Rattle.organiser_books.proofs.Noting.{same_address}
 
 abbrev pub Entry : Type 0

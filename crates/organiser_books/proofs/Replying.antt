@@ -1,16 +1,15 @@
 -- A REPLY that is taken, and one that isn't.
-use Rattle.std.proofs.Common.{◌≡◌, ◌∙◌, ℕ, ◌<◌, ◌≤◌, Bool, true, false, cond, List, [], ◌∷◌, ◌++◌, Option, None, Some, refl, sym, ap, subst, inl, inr, arith, Result, Ok, Err, IfErr, IsErrAnd}
+use Rattle.std.proofs.Common.{◌≡◌, ◌∙◌, ℕ, ◌≤◌, Bool, true, false, cond, List, [], ◌∷◌, ◌++◌, Option, None, Some, refl, sym, ap, subst, inl, inr, arith, Result, Ok, Err, IfErr, IsErrAnd}
 use Rattle.std.specs.Prelude.{nat_lt}
-use Rattle.std.specs.List.{flat_map, list_any, position, Contains, AllZip}
+use Rattle.std.specs.List.{flat_map, position, Contains, AllZip}
 use Rattle.std.specs.Map.{keys_of}
-use Rattle.std.specs.Str.{bytes_eq}
 use Rattle.std.proofs.lemmas.Bool.{both_ways, cases_lt, lt-ltb}
 use Rattle.std.proofs.lemmas.List.Elements.{Contains-append_cases}
 use Rattle.itip_order.proofs.Lists.{any_from, in_cons, in_head, in_tail, none_in_nil}
 use Rattle.ical_lines.specs.Fault.{RefusesBy}
 use Rattle.ical_lines.specs.declared.fault.Fault.{Fault}
 use Rattle.ical_lines.specs.declared.fault.Fault.TheVariants.{Memory, Refused}
-use Rattle.ical_values.specs.Octets.{address_octets, text_octets}
+use Rattle.ical_values.specs.Octets.{text_octets}
 use Rattle.ical_values.specs.declared.text.Text.{Text}
 use Rattle.profile.specs.events.EventComponents.{Attendee, EventComponent}
 use Rattle.profile.specs.rooms.Messages.{own_revision}
@@ -22,12 +21,12 @@ use Rattle.itip_order.specs.Parts.{revision_of}
 use Rattle.itip_messages.specs.OrganiserObjects.{SaysObjectComponent, RepresentsObject}
 use Rattle.itip_messages.specs.declared.organiser_object.OrganiserObject.{OrganiserObject}
 use Rattle.organiser_books.specs.declared.meeting.StoredMeeting.{StoredMeeting}
-use Rattle.organiser_books.specs.Attending.{is_address, lists_said, AreAttending}
+use Rattle.organiser_books.specs.Attending.{is_address, is_told, lists_said, AreAttending}
 use Rattle.organiser_books.specs.Calls.{MayTake}
-use Rattle.organiser_books.specs.Representation.{answer_at, answer_in, heard_said, is_ahead, is_strange, same_text, AreSeen, LatestOf, RepresentsStored, RepresentsAt}
+use Rattle.organiser_books.specs.Representation.{answer_at, heard_said, is_ahead, is_strange, same_text, AreSeen, LatestOf, RepresentsStored, RepresentsAt}
 use Rattle.organiser_books.proofs.Books.{keeps_heard, own_heard, represented_known, stored_own, KeepsAll}
 use Rattle.organiser_books.proofs.Lines.{same_is}
-use Rattle.organiser_books.proofs.Said.{heard_are, uids_are}
+use Rattle.organiser_books.proofs.Said.{uids_are}
 use Rattle.organiser_books.proofs.Taking.{ahead_is, heard_is, may_take}
 
 -- the exit of a `?`
@@ -114,6 +113,7 @@ keeps_same book uid meetings after m n found put r c a o e keeps q = by (same_te
       components = subst (λ l. AllZip SaysObjectComponent s.events l.items) (sym c) h.components;
       attending = subst (λ l. AreAttending (lists_said s.events) l.entries) (sym a) h.attending;
       object = ap (λ l. l.items) o ∙ h.object;
+      told = λ x. ap (λ l. is_told x l.entries) a ∙ h.told x;
       seen = same_seen m n s book.replies a e h.seen;
       sent = h.sent;
     }

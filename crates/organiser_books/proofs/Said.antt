@@ -1,29 +1,26 @@
 -- What was read of an object says what its events do.
-use Rattle.std.proofs.Common.{◌≡◌, ◌∙◌, ℕ, max, ℤ, Bool, true, false, not, is_some, ◌&&◌, ◌||◌, cond, List, [], ◌∷◌, ◌++◌, map, Option, None, Some, refl, sym, ap, subst}
-use Rattle.std.specs.Prelude.{nat_lt, unwrap_or}
+use Rattle.std.proofs.Common.{◌≡◌, ◌∙◌, ℕ, max, ℤ, Bool, true, false, not, is_some, ◌&&◌, ◌||◌, cond, List, [], ◌∷◌, ◌++◌, Option, None, Some, refl, sym, ap}
+use Rattle.std.specs.Prelude.{nat_lt}
 use Rattle.std.specs.List.{AllZip, flat_map, filter, list_any, Contains}
 use Rattle.std.specs.Str.{bytes_eq}
 use Rattle.itip_order.proofs.Lists.{in_head, in_tail}
-use Rattle.profile.specs.events.EventComponents.{Attendee, EventComponent, meeting_said}
-use Rattle.profile.specs.events.Events.{is_master}
+use Rattle.profile.specs.events.EventComponents.{Attendee, EventComponent}
 use Rattle.profile.specs.rooms.Revisions as Revisions
-use Rattle.profile.specs.rooms.Messages.{names_room, own_revision, slot_named}
-use Rattle.profile.specs.rooms.Messages as messages
+use Rattle.profile.specs.rooms.Messages.{slot_named}
 use Rattle.profile.specs.rooms.Kept.{each_once}
-use Rattle.profile.specs.organisers.Objects as objects
-use Rattle.profile.specs.organisers.Objects.{AreOfMeeting, counted}
+use Rattle.profile.specs.organisers.Objects.{AreOfMeeting}
 use Rattle.profile.specs.organisers.Organisers as profile
 use Rattle.profile.specs.organisers.Organisers.{Heard, attendees_of, heard_in, is_attendee, is_called_off, own_sequence, left_to_server, scheduled_in}
 use Rattle.itip_order.specs.declared.part.Slot.{Slot}
 use Rattle.itip_order.specs.declared.part.Slot.TheVariants.{Whole, At}
-use Rattle.itip_order.specs.Parts.{revision_of, slot_of}
+use Rattle.itip_order.specs.Parts.{slot_of}
 use Rattle.itip_messages.specs.OrganiserObjects.{SaysObjectComponent}
 use Rattle.itip_messages.specs.declared.organiser_object.ObjectComponent.{ObjectComponent}
 use Rattle.organiser_books.specs.Attending.{addresses_in, attendance_of, lists_of, lists_said, names, scheduled_among, schedules_line, sent_among, Attends, AreAttending, Entries}
 use Rattle.organiser_books.specs.declared.attending.Attendance.{Attendance}
 use Rattle.organiser_books.specs.declared.meeting.StoredMeeting.{StoredMeeting}
 use Rattle.organiser_books.specs.Representation.{heard_by, heard_said, is_unknown}
-use Rattle.organiser_books.specs.Storing.{cancels_whole, calls_off, is_whole_slot, own_in}
+use Rattle.organiser_books.specs.Storing.{calls_off, is_whole_slot, own_in}
 use Rattle.organiser_books.proofs.Loops.{any_flat, any_map, flat_of_map}
 
 -- ---- events and their lines

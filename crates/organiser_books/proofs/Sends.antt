@@ -1,7 +1,6 @@
 -- An object that is sent to some, and nothing where there is nobody.
-use Rattle.std.proofs.Common.{◌≡◌, ◌∙◌, ℕ, ◌+◌, max, Bool, true, false, List, [], ◌∷◌, ◌++◌, map, length, refl, sym, ap, arith, inl, inr}
+use Rattle.std.proofs.Common.{◌≡◌, ◌∙◌, ℕ, max, List, [], ◌∷◌, ◌++◌, length, refl, ap, arith}
 use Rattle.std.specs.List.{AllZip}
-use Rattle.std.proofs.lemmas.Bool.{cases_Bool}
 use Rattle.profile.specs.organisers.Organisers.{Sends}
 use Rattle.itip_messages.specs.declared.organiser_object.ObjectComponent.{ObjectComponent}
 use Rattle.organiser_books.specs.Storing.{own_in, sent_to}

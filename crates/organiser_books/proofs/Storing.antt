@@ -1,16 +1,18 @@
 -- A meeting that is stored.
-use Rattle.std.proofs.Common.{◌≡◌, ◌∙◌, ℕ, ℤ, ◌+◌, ◌<◌, ◌≤◌, max, Bool, true, false, cond, List, [], ◌∷◌, ◌++◌, Option, None, Some, refl, sym, ap, subst, inl, inr, arith}
-use Rattle.std.specs.List.{AllZip, filter, Contains, position}
+use Rattle.std.proofs.Common.{◌≡◌, ◌∙◌, ℕ, ℤ, ◌+◌, ◌<◌, ◌≤◌, max, Bool, true, false, ◌&&◌, ◌||◌, cond, List, [], ◌∷◌, ◌++◌, Option, None, Some, refl, sym, ap, subst, arith, append-nil}
+use Rattle.std.specs.List.{AllZip, filter, flat_map, list_any, Contains, position}
 use Rattle.std.specs.Map.{keys_of}
 use Rattle.std.specs.Str.{bytes_eq}
 use Rattle.std.proofs.lemmas.Bool.{true≢false, both_ways}
+use Rattle.std.proofs.lemmas.Grind.{flat_map-append}
+use Rattle.std.proofs.lemmas.List.Folds.{list_any-append}
 use Rattle.ical_values.specs.Octets.{address_octets, text_octets}
 use Rattle.ical_values.specs.declared.text.Text.{Text}
 use Rattle.profile.specs.events.EventComponents.{Attendee, EventComponent}
 use Rattle.profile.specs.rooms.Revisions.{Revision, Slot}
 use Rattle.profile.specs.organisers.Objects as objects
 use Rattle.profile.specs.organisers.Objects.{is_of_attendee}
-use Rattle.profile.specs.organisers.Organisers.{Heard, OrganiserBook, Sent, Stored, StateFault, SendsStore, IsStore, answers_store, is_called_off, last_events, last_store, most_sequence, own_sequence, scheduled_in, sequence_after, without}
+use Rattle.profile.specs.organisers.Organisers.{Heard, OrganiserBook, Sent, Sends, Stored, StateFault, SendsStore, IsStore, answers_store, is_attendee, is_called_off, last_events, last_store, most_sequence, scheduled_in, sequence_after, without}
 use Rattle.profile.specs.organisers.Organisers.StateFault.{unknown, ahead, spent, stranger}
 use Rattle.itip_order.specs.Parts.{revision_of}
 use Rattle.itip_messages.specs.OrganiserObjects.{SaysObjectComponent, RepresentsObject}
@@ -19,13 +21,14 @@ use Rattle.itip_messages.specs.declared.organiser_object.OrganiserObject.{Organi
 use Rattle.organiser_books.specs.declared.answers.AttendeeAnswer.{AttendeeAnswer}
 use Rattle.organiser_books.specs.declared.answers.AnswerKey.{AnswerKey}
 use Rattle.organiser_books.specs.declared.meeting.StoredMeeting.{StoredMeeting}
-use Rattle.organiser_books.specs.Attending.{is_address, lists_of, lists_said, sent_among, AreAttending}
+use Rattle.organiser_books.specs.Attending.{is_address, is_told, lists_of, lists_said, names, sent_among, AreAttending}
 use Rattle.organiser_books.specs.Calls.{CallFault, MayTake}
 use Rattle.organiser_books.specs.Calls.CallFault.{in_state}
-use Rattle.organiser_books.specs.Representation.{answer_at, answer_in, same_text, LatestOf, RepresentsStored, RepresentsAt}
-use Rattle.organiser_books.specs.Storing.{calls_off, own_in, sequence_then, LastAttends, SendsObject, SendsTo}
+use Rattle.organiser_books.specs.Representation.{answer_at, same_text, LatestOf, RepresentsStored, RepresentsAt}
+use Rattle.organiser_books.specs.Storing.{calls_off, is_told_by, sequence_then, LastAttends, SendsObject, SendsTo}
 use Rattle.organiser_books.proofs.Books.{keeps_stored, none_answer, stored_own, KeepsAll}
-use Rattle.organiser_books.proofs.Said.{lists_are, off_are, own_are, scheduled_are}
+use Rattle.organiser_books.proofs.Said.{attendee_is, lists_are, off_are, own_are, scheduled_are}
+use Rattle.organiser_books.proofs.Picking.{among_passing}
 
 -- ---- beside what was there
 
@@ -53,9 +56,24 @@ module _ (book : OrganiserBook) (uid : List ℕ) (events : List EventComponent) 
       let most = represents.sent h c (subst (λ u. bytes_eq h.uid u ≡ true) (sym (own s refl)) same) in
       omega (arith, most)
 
-sends_store : (b : Bool) (organiser : List ℕ) (stored : Stored) (gone : List (List ℕ)) (sent : List Sent) → SendsTo b organiser stored (scheduled_in organiser stored.events) gone sent → SendsStore b organiser stored gone sent
-sends_store true organiser stored gone sent h = h
-sends_store false organiser stored gone sent h = h
+-- whoever was told
+sends_store : (b : Bool) (organiser : List ℕ) (stored : Stored) (told gone : List (List ℕ)) (sent : List Sent) → SendsTo b organiser stored (scheduled_in organiser stored.events) gone sent → SendsStore b organiser (record stored { told = told }) gone sent
+sends_store true organiser stored told gone sent h = h
+sends_store false organiser stored told gone sent h = h
+
+-- ---- to whom
+
+abbrev receivers : List Sent → List (List ℕ)
+receivers sent = flat_map (λ one. one.to) sent
+
+sends_to : (IsSuch : List ℕ → Type 0) (to : List (List ℕ)) (sent : List Sent) → Sends IsSuch to sent → receivers sent ≡ to
+sends_to IsSuch [] sent e = ap receivers e
+sends_to IsSuch (first ∷ others) sent (octets, is, e) = ap receivers e ∙ append-nil (first ∷ others)
+
+store_to : (b : Bool) (organiser : List ℕ) (stored : Stored) (gone : List (List ℕ)) (sent : List Sent) → SendsStore b organiser stored gone sent → receivers sent ≡ scheduled_in organiser stored.events ++ gone
+store_to true organiser stored gone sent h = sends_to _ (scheduled_in organiser stored.events ++ gone) sent h.1
+store_to false organiser stored gone sent (requests, cancels, is, to, out, e) =
+    ap receivers e ∙ flat_map-append (λ (one : Sent). one.to) requests cancels ∙ (λ i. sends_to _ (scheduled_in organiser stored.events) requests to i ++ sends_to _ gone cancels out i)
 
 no_answer : (p : Option ℕ) (slot : Slot) (answers : List (AnswerKey × AttendeeAnswer)) → answers ≡ [] → answer_at p slot answers ≡ None
 no_answer None slot answers e = refl
@@ -80,9 +98,21 @@ module _ (address : List ℕ) (object : OrganiserObject) (said : objects.Organis
   pub spent_fault : said.operation ≡ objects.Store → said.organiser ≡ address → most_sequence < sequence_then (meetings object.uid) object.components.items → CallFault objects.Store address said book 72
   spent_fault kind own most = in_state kind own (spent kind (subst (λ n. most_sequence < n) sequence_is most))
 
-  module _ (moment : ℤ) (meeting : StoredMeeting) (sequence : meeting.revision.sequence ≡ sequence_then (meetings object.uid) object.components.items) (stamp : meeting.revision.stamp ≡ moment) where
+  module _ (moment : ℤ) (meeting : StoredMeeting) (sequence : meeting.revision.sequence ≡ sequence_then (meetings object.uid) object.components.items) (stamp : meeting.revision.stamp ≡ moment) (sent : List Sent) where
+    abbrev bare : Stored
+    bare = record { uid = said.uid; events = said.events; revision = record { sequence = sequence_after last said.events; stamp = moment }; object = meeting.object.items; told = [] }
+
+    abbrev told : List (List ℕ)
+    told = filter (λ address. is_attendee address said.events) (receivers sent)
+
     abbrev stored : Stored
-    stored = record { uid = said.uid; events = said.events; revision = record { sequence = sequence_after last said.events; stamp = moment }; object = meeting.object.items }
+    stored = record bare { told = told }
+
+    abbrev to : List (List ℕ)
+    to = scheduled_in said.organiser said.events
+
+    abbrev gone : List (List ℕ)
+    gone = without (scheduled_in said.organiser (last_events last)) to
 
     abbrev next : OrganiserBook
     next = record book { stores = stored ∷ book.stores }
@@ -94,12 +124,14 @@ module _ (address : List ℕ) (object : OrganiserObject) (said : objects.Organis
     below = all_below book said.uid said.events object.components.items is.each (meetings object.uid) last (λ s e. stored_own said.uid book.stores s e) represents
 
     -- the meeting represents it
-    meeting_represented : meeting.components.items ≡ object.components.items → AreAttending (lists_of object.components.items) meeting.attending.entries → meeting.answers.entries ≡ [] → RepresentsStored meeting next stored
-    meeting_represented components attending none = record {
+    meeting_represented : meeting.components.items ≡ object.components.items → AreAttending (lists_of object.components.items) meeting.attending.entries → meeting.answers.entries ≡ []
+        → ((address : List ℕ) → is_told address meeting.attending.entries ≡ list_any (bytes_eq address) told) → RepresentsStored meeting next stored
+    meeting_represented components attending none was_told = record {
       revision = revision_is;
       components = subst (AllZip SaysObjectComponent said.events) (sym components) is.each;
       attending = subst (λ l. AreAttending l meeting.attending.entries) (lists_are said.events object.components.items is.each) attending;
       object = refl;
+      told = was_told;
       seen = λ slot q. subst (LatestOf (filter (answers_store stored slot q) book.replies)) (sym (no_answer (position (is_address q) (keys_of meeting.attending.entries)) slot meeting.answers.entries none)) (none_answer stored slot q book.replies below);
       sent = λ h c same. let less = below h c same in omega (arith, less);
     }
@@ -107,43 +139,59 @@ module _ (address : List ℕ) (object : OrganiserObject) (said : objects.Organis
     scheduled_is : sent_among said.organiser (lists_of object.components.items) ≡ scheduled_in said.organiser said.events
     scheduled_is = ap (sent_among said.organiser) (lists_are said.events object.components.items is.each) ∙ sym (scheduled_are said.organiser said.events)
 
+    gone_same : without (sent_among said.organiser (lists_said (last_events last))) (sent_among said.organiser (lists_of object.components.items)) ≡ gone
+    gone_same = λ i. without (sym (scheduled_are said.organiser (last_events last)) i) (scheduled_is i)
+
+    last_is : LastAttends (lists_said (last_events last)) (meetings object.uid)
+    last_is = last_attends book said.uid said.events object.components.items is.each (meetings object.uid) last represents
+
     -- what is sent
-    is_sent : (sent : List Sent) → ((events : List EventComponent) (before : List (List Attendee)) → AllZip SaysObjectComponent events object.components.items → LastAttends before (meetings object.uid)
+    is_sent : ((events : List EventComponent) (before : List (List Attendee)) → AllZip SaysObjectComponent events object.components.items → LastAttends before (meetings object.uid)
         → SendsObject said.organiser object meeting.revision events before meeting.object.items sent)
-        → SendsStore (is_called_off said.events) said.organiser stored (without (scheduled_in said.organiser (last_events last)) (scheduled_in said.organiser said.events)) sent
-    is_sent sent sends =
-        let before = lists_said (last_events last) in
-        let s = sends said.events before is.each (last_attends book said.uid said.events object.components.items is.each (meetings object.uid) last represents) in
-        let to = scheduled_in said.organiser said.events in
-        let gone = without (scheduled_in said.organiser (last_events last)) (scheduled_in said.organiser said.events) in
-        let gone_same : without (sent_among said.organiser before) (sent_among said.organiser (lists_of object.components.items)) ≡ gone = λ i. without (sym (scheduled_are said.organiser (last_events last)) i) (scheduled_is i) in
-        let made : Stored = record { uid = text_octets object.uid; events = said.events; revision = revision_of meeting.revision; object = meeting.object.items } in
-        let same : made ≡ stored = λ i. record { uid = is.uid i; events = said.events; revision = revision_is i; object = meeting.object.items } in
+        → SendsStore (is_called_off said.events) said.organiser stored gone sent
+    is_sent sends =
+        let s = sends said.events (lists_said (last_events last)) is.each last_is in
+        let made : Stored = record { uid = text_octets object.uid; events = said.events; revision = revision_of meeting.revision; object = meeting.object.items; told = [] } in
+        let same : made ≡ bare = λ i. record { uid = is.uid i; events = said.events; revision = revision_is i; object = meeting.object.items; told = [] } in
         let off = off_are said.events object.components.items is.each in
         let s1 = subst (λ g. SendsTo (calls_off object.components.items) (address_octets object.organiser) made (sent_among said.organiser (lists_of object.components.items)) g sent) gone_same s in
         let s2 = subst (λ t. SendsTo (calls_off object.components.items) (address_octets object.organiser) made t gone sent) scheduled_is s1 in
         let s3 = subst (λ m. SendsTo (calls_off object.components.items) (address_octets object.organiser) m to gone sent) same s2 in
-        let s4 = subst (λ o. SendsTo (calls_off object.components.items) o stored to gone sent) is.organiser s3 in
-        let s5 = subst (λ b. SendsTo b said.organiser stored to gone sent) off s4 in
-        sends_store (is_called_off said.events) said.organiser stored gone sent s5
+        let s4 = subst (λ o. SendsTo (calls_off object.components.items) o bare to gone sent) is.organiser s3 in
+        let s5 = subst (λ b. SendsTo b said.organiser bare to gone sent) off s4 in
+        sends_store (is_called_off said.events) said.organiser bare told gone sent s5
+
+    -- and to whom
+    was_sent : SendsStore (is_called_off said.events) said.organiser stored gone sent → ((before : List (List Attendee)) → LastAttends before (meetings object.uid)
+        → (address : List ℕ) → is_told address meeting.attending.entries ≡ is_told_by said.organiser before (lists_of object.components.items) address)
+        → (address : List ℕ) → is_told address meeting.attending.entries ≡ list_any (bytes_eq address) told
+    was_sent s tells q =
+        tells (lists_said (last_events last)) last_is q
+        ∙ (λ i. list_any (names q) (lists_are said.events object.components.items is.each i) && (list_any (bytes_eq q) (scheduled_is i) || list_any (bytes_eq q) (gone_same i)))
+        ∙ (λ i. sym (attendee_is q said.events) i && sym (list_any-append (bytes_eq q) to gone) i)
+        ∙ ap (λ (l : List (List ℕ)). is_attendee q said.events && list_any (bytes_eq q) l) (sym (store_to (is_called_off said.events) said.organiser stored gone sent s))
+        ∙ sym (among_passing (λ address. is_attendee address said.events) q (receivers sent))
 
     no_fault : said.operation ≡ objects.Store → meeting.revision.sequence ≤ most_sequence → (n : ℕ) → StateFault said book n → ⊥
     no_fault kind fits n (unknown speaks none) = true≢false (sym speaks ∙ ap is_of_attendee kind)
     no_fault kind fits n (ahead reply s e before) = store_reply (sym kind ∙ reply)
     no_fault kind fits n (spent store most) = let same = sequence ∙ sequence_is in absurd (omega (arith, most, fits, same))
-    no_fault kind fits n (stranger speaks s e strange) = true≢false (sym speaks ∙ ap is_of_attendee kind)
+    no_fault kind fits n (stranger speaks s e none strange) = true≢false (sym speaks ∙ ap is_of_attendee kind)
 
-    pub is_stored : (after : Text → Option StoredMeeting) → ((q : Text) → after q ≡ cond (same_text object.uid q) (Some meeting) (meetings q)) → (sent : List Sent)
+    pub is_stored : (after : Text → Option StoredMeeting) → ((q : Text) → after q ≡ cond (same_text object.uid q) (Some meeting) (meetings q))
         → said.operation ≡ objects.Store → said.organiser ≡ address → meeting.revision.sequence ≤ most_sequence
         → meeting.components.items ≡ object.components.items → AreAttending (lists_of object.components.items) meeting.attending.entries → meeting.answers.entries ≡ []
         → ((events : List EventComponent) (before : List (List Attendee)) → AllZip SaysObjectComponent events object.components.items → LastAttends before (meetings object.uid)
         → SendsObject address object meeting.revision events before meeting.object.items sent)
+        → ((before : List (List Attendee)) → LastAttends before (meetings object.uid) → (q : List ℕ) → is_told q meeting.attending.entries ≡ is_told_by address before (lists_of object.components.items) q)
         → MayTake objects.Store address said book × ((x : OrganiserBook) × IsStore moment said book sent x × KeepsAll after x)
-    is_stored after put sent kind organiser fits components attending none sends = (
-      record { kind = kind; organiser = organiser; allowed = no_fault kind fits },
-      (
-        next,
-        record { stored = stored; of_meeting = refl; events = refl; revision = refl; sends = is_sent sent (λ given before each last_is. subst (λ o. SendsObject o object meeting.revision given before meeting.object.items sent) (sym organiser) (sends given before each last_is)); kept = refl },
-        keeps_stored meetings after book object.uid meeting stored (sym is.uid) (meeting_represented components attending none) put keeps,
-      ),
-    )
+    is_stored after put kind organiser fits components attending none sends tells =
+        let s = is_sent (λ given before each last_was. subst (λ o. SendsObject o object meeting.revision given before meeting.object.items sent) (sym organiser) (sends given before each last_was)) in
+        let t = was_sent s (λ before last_was q. tells before last_was q ∙ ap (λ o. is_told_by o before (lists_of object.components.items) q) (sym organiser)) in (
+          record { kind = kind; organiser = organiser; allowed = no_fault kind fits },
+          (
+            next,
+            record { stored = stored; of_meeting = refl; events = refl; revision = refl; sends = s; told = refl; kept = refl },
+            keeps_stored meetings after book object.uid meeting stored (sym is.uid) (meeting_represented components attending none t) put keeps,
+          ),
+        )

@@ -1,35 +1,30 @@
 -- What the calls of an organiser take, answer and refuse.
-use Rattle.std.proofs.Common.{◌≡◌, ◌∙◌, ℕ, ◌+◌, ◌<◌, ◌≤◌, Bool, true, false, not, is_some, ◌&&◌, ◌||◌, cond, List, [], ◌∷◌, ◌++◌, map, Option, None, Some, refl, sym, ap, subst, inl, inr, arith}
-use Rattle.std.specs.Prelude.{◌⊎◌, codes, nat_lt}
-use Rattle.std.specs.List.{AllZip, filter, flat_map, list_any, Contains}
-use Rattle.std.specs.Str.{bytes_eq}
-use Rattle.std.proofs.lemmas.Bool.{true≢false, both_ways, cases_lt, lt-ltb, le-ltb, false_from_ne_true}
-use Rattle.std.proofs.lemmas.List.Elements.{Contains-get_or}
-use Rattle.itip_order.proofs.Lists.{any_from}
-use Rattle.ical_values.specs.Octets.{address_octets, text_octets}
+use Rattle.std.proofs.Common.{◌≡◌, ◌∙◌, ℕ, Bool, true, false, not, is_some, List, [], ◌∷◌, ◌++◌, Option, None, Some, refl, sym, ap, subst, inl, inr}
+use Rattle.std.specs.Prelude.{codes, nat_lt}
+use Rattle.std.specs.List.{AllZip, flat_map, list_any}
+use Rattle.std.proofs.lemmas.Bool.{true≢false, both_ways}
+use Rattle.ical_values.specs.Octets.{text_octets}
 use Rattle.profile.specs.events.EventComponents.{Attendee, EventComponent, Participation}
 use Rattle.profile.specs.rooms.Revisions.{Revision, Slot}
 use Rattle.profile.specs.organisers.Objects as objects
 use Rattle.profile.specs.organisers.Objects.{is_of_attendee}
-use Rattle.profile.specs.organisers.Organisers.{Heard, OrganiserBook, Stored, StateFault, heard_in, is_attendee, last_store, most_sequence, own_sequence, sequence_after, scheduled_in, sent_status, participation_word, IsSeen, ShowsSeen}
+use Rattle.profile.specs.organisers.Organisers.{Heard, OrganiserBook, Stored, StateFault, heard_in, is_attendee, last_store, sent_status, participation_word, IsSeen, ShowsSeen}
 use Rattle.profile.specs.organisers.Organisers.StateFault.{unknown, ahead, spent, stranger}
 use Rattle.profile.specs.organisers.Sent.{IsComponentText, IsMeetingText}
-use Rattle.itip_order.specs.Parts.{revision_of}
-use Rattle.itip_messages.specs.OrganiserObjects.{operation_said, SaysObjectComponent, RepresentsObject}
+use Rattle.itip_messages.specs.OrganiserObjects.{operation_said, RepresentsObject}
 use Rattle.itip_messages.specs.declared.organiser_object.Operation.{Operation}
 use Rattle.itip_messages.specs.declared.organiser_object.Operation.TheVariants.{Store, Reply, Refresh}
 use Rattle.itip_messages.specs.declared.organiser_object.OrganiserObject.{OrganiserObject}
 use Rattle.itip_messages.specs.contracts.organiser_object.OperationPartialEq.TheImpl as operations
 use Rattle.organiser_books.specs.declared.meeting.StoredMeeting.{StoredMeeting}
-use Rattle.organiser_books.specs.Attending.{attendance_of, is_sent, lists_said}
+use Rattle.organiser_books.specs.Attending.{attendance_of, lists_said}
 use Rattle.organiser_books.specs.Calls.{CallFault, MayTake}
 use Rattle.organiser_books.specs.Calls.CallFault.{in_state}
 use Rattle.organiser_books.specs.Shown.{ShowsAnswered}
-use Rattle.organiser_books.specs.Representation.{answer_in, answered, heard_said, is_ahead, is_strange, AreSeen, IsReplyFault, RepresentsStored, RepresentsAt}
+use Rattle.organiser_books.specs.Representation.{answer_in, answered, heard_said, is_ahead, is_strange, IsReplyFault, RepresentsStored, RepresentsAt}
 use Rattle.organiser_books.proofs.Books.{represented_known, represented_unknown}
 use Rattle.organiser_books.proofs.Latest.{latest_is}
-use Rattle.organiser_books.proofs.Picking.{among_sent}
-use Rattle.organiser_books.proofs.Said.{ahead_are, attendee_is, heard_are, known_is, scheduled_are, strangers_are, uids_are}
+use Rattle.organiser_books.proofs.Said.{ahead_are, attendee_is, heard_are, known_is, strangers_are, uids_are}
 
 -- ---- what is asked
 
@@ -83,8 +78,11 @@ module _ (address : List ℕ) (object : OrganiserObject) (said : objects.Organis
     strange_is : is_strange m object.components.items ≡ list_any (λ (h : Heard). not (is_attendee h.attendee known.0.events)) (heard_in said.events)
     strange_is = strangers_are known.0.events m known.2.attending said.uid object.components.items ∙ ap (list_any (λ (h : Heard). not (is_attendee h.attendee known.0.events))) heard_is
 
-    pub strange_fault : (op : objects.Operation) → said.operation ≡ op → said.organiser ≡ address → is_of_attendee op ≡ true → is_strange m object.components.items ≡ true → CallFault op address said book 73
-    strange_fault op kind own speaks strange = in_state kind own (stranger (ap is_of_attendee kind ∙ speaks) known.0 (last_is ∙ known.1) (sym strange_is ∙ strange))
+    -- nothing is ahead, or it isn't looked at
+    pub strange_fault : (op : objects.Operation) → said.operation ≡ op → said.organiser ≡ address → is_of_attendee op ≡ true → (op ≡ objects.Reply → is_ahead m object.components.items ≡ false) → is_strange m object.components.items ≡ true
+        → CallFault op address said book 73
+    strange_fault op kind own speaks sent strange =
+        in_state kind own (stranger (ap is_of_attendee kind ∙ speaks) known.0 (last_is ∙ known.1) (λ reply. sym ahead_is ∙ sent (sym kind ∙ reply)) (sym strange_is ∙ strange))
 
     pub ahead_fault : said.operation ≡ objects.Reply → said.organiser ≡ address → is_ahead m object.components.items ≡ true → CallFault objects.Reply address said book 71
     ahead_fault kind own before = in_state kind own (ahead kind known.0 (last_is ∙ known.1) (sym ahead_is ∙ before))
@@ -92,7 +90,7 @@ module _ (address : List ℕ) (object : OrganiserObject) (said : objects.Organis
     pub reply_fault : (n : ℕ) → said.operation ≡ objects.Reply → said.organiser ≡ address → IsReplyFault m object.components.items n → CallFault objects.Reply address said book n
     reply_fault n kind own fault = elim fault [
       | inl f ↦ subst (CallFault objects.Reply address said book) (sym f.0) (ahead_fault kind own f.1)
-      | inr f ↦ subst (CallFault objects.Reply address said book) (sym f.0) (strange_fault objects.Reply kind own refl f.1)
+      | inr f ↦ subst (CallFault objects.Reply address said book) (sym f.0) (strange_fault objects.Reply kind own refl (λ _. f.1) f.2)
     ]
 
     -- nothing is wrong with what an attendee says
@@ -104,7 +102,7 @@ module _ (address : List ℕ) (object : OrganiserObject) (said : objects.Organis
           let same = some_is stored known.0 (sym last ∙ last_is ∙ known.1) in
           both_ways _ (sym ahead_is ∙ sent (sym kind ∙ reply)) (subst (λ (s : Stored). list_any (λ (e : EventComponent). nat_lt s.revision.sequence e.sequence) said.events ≡ true) same before)
       no_fault n (spent store most) = true≢false (sym speaks ∙ ap is_of_attendee (sym kind ∙ store))
-      no_fault n (stranger a stored last strange) =
+      no_fault n (stranger a stored last none strange) =
           let same = some_is stored known.0 (sym last ∙ last_is ∙ known.1) in
           both_ways _ (sym strange_is ∙ names) (subst (λ (s : Stored). list_any (λ (h : Heard). not (is_attendee h.attendee s.events)) (heard_in said.events) ≡ true) same strange)
 
@@ -161,9 +159,9 @@ text_lift method organiser uid revision R S f events octets t = record {
 abbrev shown : List ℕ → Participation → Bool → List ℕ
 shown address p b = codes "ATTENDEE;PARTSTAT=" ++ participation_word p ++ sent_status b ++ codes ":" ++ address
 
-pub shows_seen : (organiser : List ℕ) (m : StoredMeeting) (book : OrganiserBook) (stored : Stored) → RepresentsStored m book stored → (slot : Slot) (a : Attendee) (line : List ℕ) → ShowsAnswered organiser m slot a line → ShowsSeen organiser book stored slot a line
-shows_seen organiser m book stored h slot a line is = (
+pub shows_seen : (m : StoredMeeting) (book : OrganiserBook) (stored : Stored) → RepresentsStored m book stored → (slot : Slot) (a : Attendee) (line : List ℕ) → ShowsAnswered m slot a line → ShowsSeen book stored slot a line
+shows_seen m book stored h slot a line is = (
   answered (answer_in m slot a.address),
   latest_is _ (answer_in m slot a.address) (h.seen slot a.address),
-  is ∙ ap (shown a.address (answered (answer_in m slot a.address))) (sym (ap (list_any (bytes_eq a.address)) (scheduled_are organiser stored.events) ∙ among_sent organiser (lists_said stored.events) m.attending.entries h.attending a.address)),
+  is ∙ ap (shown a.address (answered (answer_in m slot a.address))) (h.told a.address),
 )

@@ -1,5 +1,5 @@
 -- The attendees of a meeting, as an organiser has them in memory. Components count here only as their ATTENDEE lines.
-use Rattle.std.specs.Prelude.{◌≡◌, ℕ, ◌≤◌, ◌==◌, Bool, true, false, not, ◌||◌, ◌&&◌, if◌then◌else◌, List, [], ◌∷◌, ◌++◌, map, filter, Option, None, Some}
+use Rattle.std.specs.Prelude.{◌≡◌, ℕ, ◌≤◌, ◌==◌, Bool, true, false, not, ◌||◌, ◌&&◌, if◌then◌else◌, List, ◌++◌, map, filter, Option, None, Some, option_map}
 use Rattle.std.specs.List.{flat_map, list_any}
 use Rattle.std.specs.Map.{lookup, keys_of}
 use Rattle.std.specs.Str.{bytes_eq}
@@ -69,6 +69,7 @@ pub record IsNoted (done : List (List Attendee)) (place : ℕ) (own : List Atten
   pub scheduled : attendance.scheduled ≡ (list_any (schedules_line address) done || schedules_line address own)
   pub last : (attendance.component == place) ≡ names address own
   pub up_to : attendance.component ≤ place
+  pub untold : attendance.told ≡ false
 
 abbrev pub Noted : List (List Attendee) → ℕ → List Attendee → List ℕ → Option Attendance → Type 0
 Noted done place own address None = (list_any (names address) done || names address own) ≡ false
@@ -80,7 +81,7 @@ pub record AreNoted (done : List (List Attendee)) (place : ℕ) (own : List Atte
 
 -- with one more line of the component in a place
 abbrev pub noted_too : Attendance → ℕ → Bool → Attendance
-noted_too known place scheduled = if known.component == place then known else record { scheduled = known.scheduled || scheduled; component = place }
+noted_too known place scheduled = if known.component == place then known else record known { scheduled = known.scheduled || scheduled; component = place }
 
 -- the server sends it messages, as is known in memory
 abbrev pub is_sent_in : Option Attendance → Bool
@@ -89,6 +90,26 @@ is_sent_in (Some attendance) = attendance.scheduled
 
 abbrev pub is_sent : List ℕ → Entries → Bool
 is_sent address entries = is_sent_in (attendance_of address entries)
+
+-- the attendee was sent a message, as is known in memory
+abbrev pub is_told_in : Option Attendance → Bool
+is_told_in None = false
+is_told_in (Some attendance) = attendance.told
+
+abbrev pub is_told : List ℕ → Entries → Bool
+is_told address entries = is_told_in (attendance_of address entries)
+
+-- none was yet
+abbrev pub AreUntold : Entries → Type 0
+AreUntold entries = (address : List ℕ) → is_told address entries ≡ false
+
+abbrev pub told_too : Bool → Attendance → Attendance
+told_too here attendance = record attendance { told = attendance.told || here }
+
+-- the same after these were sent a message
+pub record AreTold (to : List (List ℕ)) (before after : Entries) : Type 0 where
+  pub order : keys_of after ≡ keys_of before
+  pub each : (address : List ℕ) → attendance_of address after ≡ option_map (told_too (list_any (bytes_eq address) to)) (attendance_of address before)
 
 -- it isn't the organiser
 abbrev pub is_no_organiser : List ℕ → Address → Bool

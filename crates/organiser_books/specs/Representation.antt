@@ -1,5 +1,5 @@
 -- What an organiser represents: the last stores and what was answered to them, of all that was ever stored and answered.
-use Rattle.std.specs.Prelude.{◌≡◌, ◌⊎◌, ℕ, ◌≤◌, nat_lt, Bool, true, false, not, is_some, List, [], ◌∷◌, ◌++◌, filter, position, Contains, Option, None, Some}
+use Rattle.std.specs.Prelude.{◌≡◌, ◌⊎◌, ℕ, ◌≤◌, nat_lt, Bool, true, false, not, is_some, List, [], ◌∷◌, filter, position, Contains, Option, None, Some}
 use Rattle.std.specs.List.{AllZip, list_all, list_any}
 use Rattle.std.specs.Map.{lookup, keys_of}
 use Rattle.std.specs.Str.{bytes_eq}
@@ -19,7 +19,7 @@ use Rattle.organiser_books.specs.declared.answers.AnswerKey.{AnswerKey}
 use Rattle.organiser_books.specs.declared.meeting.StoredMeeting.{StoredMeeting}
 use Rattle.organiser_books.specs.declared.organiser.Organiser.{Organiser}
 use Rattle.organiser_books.specs.Answers.{same_answer_key, answer_key_at}
-use Rattle.organiser_books.specs.Attending.{is_address, lists_said, AreAttending, attendance_of}
+use Rattle.organiser_books.specs.Attending.{is_address, is_told, lists_said, AreAttending, attendance_of}
 
 abbrev pub address_of : Organiser → List ℕ
 address_of organiser = address_octets organiser.address
@@ -88,9 +88,10 @@ is_ahead meeting components = list_any (λ component. nat_lt meeting.revision.se
 abbrev pub is_strange : StoredMeeting → List ObjectComponent → Bool
 is_strange meeting components = list_any (λ component. is_unknown meeting component.attendees) components
 
--- what can be wrong with the components of a REPLY
+-- what can be wrong with the components of a REPLY: the SEQUENCEs are looked at first
 abbrev pub IsReplyFault : StoredMeeting → List ObjectComponent → ℕ → Type 0
-IsReplyFault meeting components n = ((n ≡ 71) × (is_ahead meeting components ≡ true)) ⊎ ((n ≡ 73) × (is_strange meeting components ≡ true))
+IsReplyFault meeting components n =
+    ((n ≡ 71) × (is_ahead meeting components ≡ true)) ⊎ ((n ≡ 73) × (is_ahead meeting components ≡ false) × (is_strange meeting components ≡ true))
 
 -- ---- meetings
 
@@ -100,6 +101,7 @@ pub record RepresentsStored (meeting : StoredMeeting) (book : OrganiserBook) (st
   pub components : AllZip SaysObjectComponent stored.events meeting.components.items
   pub attending : AreAttending (lists_said stored.events) meeting.attending.entries
   pub object : meeting.object.items ≡ stored.object
+  pub told : (address : List ℕ) → is_told address meeting.attending.entries ≡ list_any (bytes_eq address) stored.told
   pub seen : AreSeen meeting stored book.replies
   pub sent : (heard : Heard) → Contains book.replies heard → bytes_eq heard.uid stored.uid ≡ true → heard.revision.sequence ≤ stored.revision.sequence
 

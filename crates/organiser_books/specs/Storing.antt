@@ -1,6 +1,7 @@
 -- What a store makes, as what was read of it says.
-use Rattle.std.specs.Prelude.{◌≡◌, ℕ, ◌+◌, Bool, true, false, ◌&&◌, max, List, [], ◌∷◌, ◌++◌, Option, None, Some}
+use Rattle.std.specs.Prelude.{◌≡◌, ℕ, ◌+◌, Bool, true, false, ◌&&◌, ◌||◌, max, List, [], ◌∷◌, ◌++◌, Option, None, Some}
 use Rattle.std.specs.List.{list_any}
+use Rattle.std.specs.Str.{bytes_eq}
 use Rattle.ical_values.specs.Octets.{address_octets, text_octets}
 use Rattle.profile.specs.events.EventComponents.{Attendee, EventComponent}
 use Rattle.profile.specs.organisers.Organisers.{Sent, Sends, Stored, without}
@@ -13,7 +14,7 @@ use Rattle.itip_messages.specs.declared.organiser_object.ObjectComponent.{Object
 use Rattle.itip_order.specs.declared.part.Revision.{Revision}
 use Rattle.itip_messages.specs.declared.organiser_object.OrganiserObject.{OrganiserObject}
 use Rattle.organiser_books.specs.declared.meeting.StoredMeeting.{StoredMeeting}
-use Rattle.organiser_books.specs.Attending.{lists_of, sent_among, AreAttending}
+use Rattle.organiser_books.specs.Attending.{lists_of, names, sent_among, AreAttending}
 
 -- the greatest SEQUENCE of these components
 abbrev pub own_in : List ObjectComponent → ℕ
@@ -38,7 +39,7 @@ calls_off components = list_any cancels_whole components
 
 -- the store of a meeting that is written, with what was made of it
 abbrev pub stored_of : MeetingText → List EventComponent → List ℕ → Stored
-stored_of meeting events object = record { uid = text_octets meeting.uid.now; events = events; revision = revision_of meeting.revision; object = object }
+stored_of meeting events object = record { uid = text_octets meeting.uid.now; events = events; revision = revision_of meeting.revision; object = object; told = [] }
 
 -- an object that is sent to these, where there are some
 abbrev pub sent_to : List (List ℕ) → List ℕ → List Sent
@@ -60,9 +61,15 @@ abbrev pub LastAttends : List (List Attendee) → Option StoredMeeting → Type 
 LastAttends lists None = lists ≡ []
 LastAttends lists (Some last) = AreAttending lists last.attending.entries
 
+-- the address is one of the attendees, and it was sent messages or no longer is
+abbrev pub is_told_by : List ℕ → List (List Attendee) → List (List Attendee) → List ℕ → Bool
+is_told_by organiser before lists address =
+    list_any (names address) lists
+    && (list_any (bytes_eq address) (sent_among organiser lists) || list_any (bytes_eq address) (without (sent_among organiser before) (sent_among organiser lists)))
+
 -- what is made of these events by an object that is stored with this revision
 abbrev pub SendsObject : List ℕ → OrganiserObject → Revision → List EventComponent → List (List Attendee) → List ℕ → List Sent → Type 0
 SendsObject organiser object revision events before octets sent =
     SendsTo (calls_off object.components.items) (address_octets object.organiser)
-    (record { uid = text_octets object.uid; events = events; revision = revision_of revision; object = octets })
+    (record { uid = text_octets object.uid; events = events; revision = revision_of revision; object = octets; told = [] })
     (sent_among organiser (lists_of object.components.items)) (without (sent_among organiser before) (sent_among organiser (lists_of object.components.items))) sent

@@ -5,7 +5,7 @@ ghost use Rattle.ical_values.specs.Octets.{address_octets};
 ghost use Rattle.profile.specs.events.EventComponents as events;
 ghost use Rattle.profile.specs.organisers.Organisers.{without};
 ghost use Rattle.cal_events.specs.Events.{attendee_of};
-ghost use Rattle.organiser_books.specs.Attending.{lists_of, is_no_organiser, is_sent, sent_among, AreAttending, AreNoted};
+ghost use Rattle.organiser_books.specs.Attending.{lists_of, is_no_organiser, is_sent, is_told, sent_among, AreAttending, AreNoted, AreTold, AreUntold};
 
 use cal_events::Attendee;
 use ical_values::Address;
@@ -23,6 +23,8 @@ pub(crate) struct Attendance {
     pub scheduled: bool,
     /// The place of the last component that names it. Of several lines of one address in a component the first counts.
     pub component: usize,
+    /// Whether it was sent a message, be it the REQUEST or a CANCEL.
+    pub told: bool,
 }
 
 /// The attendees of these components, each line looked at once.
@@ -30,11 +32,12 @@ pub(crate) fn attending(
     alloc: Global,
     components: &[ObjectComponent],
 ) -> Result<Attending, AllocError>
-    ensures { IfOk result (λ attending. AreAttending (lists_of components.now) attending.entries) }
+    ensures attending { IfOk result (λ attending. AreAttending (lists_of components.now) attending.entries) }
+    ensures untold { IfOk result (λ attending. AreUntold attending.entries) }
 {
     let mut attending = IndexMap::new(alloc);
     for (place, component) in components.iter().enumerate() {
-        note_all(&mut attending, place, component.attendees.lines())?;
+        note_all(&mut attending, place, component.attendees().lines())?;
     }
     Ok(attending)
 }
@@ -63,6 +66,7 @@ fn note(attending: &mut Attending, place: usize, attendee: &Attendee) -> Result<
     let attendance = Attendance {
         scheduled: attendee.scheduled,
         component: place,
+        told: false,
     };
     attending.insert(address, attendance)?;
     Ok(())
@@ -81,12 +85,41 @@ impl Attendance {
         Attendance {
             scheduled: self.scheduled || scheduled,
             component: place,
+            told: self.told,
         }
     }
 }
 
+/// Notes that these were sent a message, those of them that are attendees.
+pub(crate) fn tell(attending: &mut Attending, to: &[Address])
+    ensures { AreTold (map address_octets to.now) attending.old.entries attending.new.entries }
+{
+    for address in to {
+        tell_one(attending, address);
+    }
+}
+
+/// Notes that this one was sent a message, if it is an attendee.
+fn tell_one(attending: &mut Attending, address: &Address)
+    ensures { AreTold (address_octets address.now ∷ []) attending.old.entries attending.new.entries }
+{
+    if let Some(attendance) = attending.get_mut(address) {
+        attendance.told = true;
+    }
+}
+
+/// Whether this one is an attendee who was sent a message.
+pub(crate) fn is_told(attending: &Attending, address: &Address) -> bool
+    ensures { result ≡ is_told (address_octets address.now) attending.now.entries }
+{
+    match attending.get(address) {
+        Some(attendance) => attendance.told,
+        None => false,
+    }
+}
+
 /// Whether the server sends messages to this address.
-pub(crate) fn is_sent(attending: &Attending, address: &Address) -> bool
+fn is_sent(attending: &Attending, address: &Address) -> bool
     ensures { result ≡ is_sent (address_octets address.now) attending.now.entries }
 {
     match attending.get(address) {

@@ -8,11 +8,11 @@ ghost use Rattle.ical_values.specs.Octets.{address_octets};
 ghost use Rattle.profile.specs.organisers.Organisers.{Heard, Stored};
 ghost use Rattle.cal_events.specs.Events.{participation_of};
 ghost use Rattle.itip_order.specs.Parts.{revision_of, slot_of};
-ghost use Rattle.organiser_books.specs.Attending.{attendance_of, is_sent};
+ghost use Rattle.organiser_books.specs.Attending.{attendance_of, is_told};
 ghost use Rattle.organiser_books.specs.Representation.{answer_in, answered, heard_said, is_ahead, is_strange, is_unknown, AreSeen, IsReplyFault};
 
 use crate::answers::{AnswerKey, AttendeeAnswer, AttendeeAnswers, put};
-use crate::attending::{Attending, is_sent};
+use crate::attending::{Attending, is_told};
 use cal_events::PartStat;
 use ical_lines::{Fault, Refusal};
 use ical_values::Address;
@@ -42,11 +42,11 @@ impl StoredMeeting {
         self.attending.contains_key(address)
     }
 
-    /// Whether the server sends messages to this address.
-    pub fn is_sent(&self, address: &Address) -> bool
-        ensures { result ≡ is_sent (address_octets address.now) self.now.attending.entries }
+    /// Whether the last store sent this attendee a message.
+    pub fn is_told(&self, address: &Address) -> bool
+        ensures { result ≡ is_told (address_octets address.now) self.now.attending.entries }
     {
-        is_sent(&self.attending, address)
+        is_told(&self.attending, address)
     }
 
     /// What an attendee answered for a slot.
@@ -66,7 +66,7 @@ impl StoredMeeting {
     fn is_ahead(&self, components: &[ObjectComponent]) -> bool
         ensures { result ≡ is_ahead self.now components.now }
     {
-        components.iter().any(|component| component.revision.sequence > self.revision.sequence)
+        components.iter().any(|component| component.revision().sequence > self.revision.sequence)
     }
 
     /// Whether one who isn't an attendee speaks in one of the components.
@@ -82,7 +82,7 @@ impl StoredMeeting {
     fn is_unknown(&self, component: &ObjectComponent) -> bool
         ensures { result ≡ is_unknown self.now component.now.attendees }
     {
-        match component.attendees.lines().first() {
+        match component.attendees().lines().first() {
             Some(attendee) => !self.has_attendee(&attendee.address),
             None => false,
         }
@@ -142,22 +142,23 @@ impl StoredMeeting {
             → AreSeen self.new stored (replies ++ heard_said stored.uid component.now) }
         ensures spare { spare self.old.answers ≤ spare self.new.answers + 1 }
     {
-        if component.revision.sequence != self.revision.sequence {
+        let revision = component.revision();
+        if revision.sequence != self.revision.sequence {
             return;
         }
-        let Some(attendee) = component.attendees.lines().first() else {
+        let Some(attendee) = component.attendees().lines().first() else {
             return;
         };
         let Some(place) = self.attending.get_index_of(&attendee.address) else {
             return;
         };
         let answer = AttendeeAnswer {
-            stamp: component.revision.stamp,
+            stamp: revision.stamp,
             status: attendee.status,
         };
         put(
             &mut self.answers,
-            AnswerKey::at(place, component.slot),
+            AnswerKey::at(place, component.slot()),
             answer,
         );
     }

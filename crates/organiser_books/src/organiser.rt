@@ -1,6 +1,6 @@
 //! An organiser's meetings: the last store of each, what was made of it, and what its attendees answered to it.
 
-ghost use Rattle.std.specs.Prelude.{◌≡◌, List, map, option_map, IfOk, IfErr, OnOk, OnErr};
+ghost use Rattle.std.specs.Prelude.{◌≡◌, ℕ, List, map, option_map, IfOk, IfErr, OnOk, OnErr};
 ghost use Rattle.std.specs.List.{AllZip};
 ghost use Rattle.indexmap.specs.IndexMap.{get};
 ghost use Rattle.ical_lines.specs.Fault.{RefusesOnly, RefusesBy};
@@ -12,11 +12,11 @@ ghost use Rattle.cal_events.specs.Events.{participation_of};
 ghost use Rattle.itip_order.specs.Parts.{slot_of};
 ghost use Rattle.itip_messages.specs.OrganiserObjects.{operation_said, SaysObjectComponent, RepresentsObject};
 ghost use Rattle.organiser_books.specs.Representation.{Keeps, address_of, same_text};
-ghost use Rattle.organiser_books.specs.Attending.{lists_of, sent_among, AreAttending};
-ghost use Rattle.organiser_books.specs.Storing.{LastAttends, SendsObject};
+ghost use Rattle.organiser_books.specs.Attending.{is_told, lists_of, sent_among, AreAttending};
+ghost use Rattle.organiser_books.specs.Storing.{LastAttends, SendsObject, is_told_by};
 ghost use Rattle.organiser_books.specs.Calls.{AnswersRefresh, CallFault, MayTake, is_call_fault, sent_of};
 
-use crate::attending::{Attending, attending, gone, sent};
+use crate::attending::{Attending, attending, gone, sent, tell};
 use crate::meeting::StoredMeeting;
 use crate::outgoing::Outgoing;
 use crate::sending::{Sending, send};
@@ -86,7 +86,7 @@ impl Organiser {
         ensures err { OnErr result ((book : OrganiserBook) → Keeps self.old book → Keeps self.new book) }
     {
         self.expect(&object, Operation::Store)?;
-        let Some(sequence) = sequence_after(self.meetings.get(&object.uid), &object.components)
+        let Some(sequence) = sequence_after(self.meetings.get(object.uid()), object.components())
         else {
             return Err(Fault::Refused(Refusal::SEQUENCE_SPENT));
         };
@@ -99,12 +99,7 @@ impl Organiser {
             object: octets,
             sent,
         } = self.made(&object, &revision)?;
-        let OrganiserObject {
-            operation: _,
-            organiser: _organiser,
-            uid,
-            components,
-        } = object;
+        let (uid, components) = object.into_meeting();
         let meeting = StoredMeeting {
             revision,
             components,
@@ -129,10 +124,10 @@ impl Organiser {
         ensures err { OnErr result ((book : OrganiserBook) → Keeps self.old book → Keeps self.new book) }
     {
         self.expect(object, Operation::Reply)?;
-        let Some(meeting) = self.meetings.get_mut(&object.uid) else {
+        let Some(meeting) = self.meetings.get_mut(object.uid()) else {
             return Err(Fault::Refused(Refusal::NOT_SENT));
         };
-        meeting.take_reply(&object.components)?;
+        meeting.take_reply(object.components())?;
         Ok(())
     }
 
@@ -147,10 +142,10 @@ impl Organiser {
             → CallFault profile.Refresh (address_of self.now) said book n)) }
     {
         self.expect(object, Operation::Refresh)?;
-        let Some(meeting) = self.meetings.get(&object.uid) else {
+        let Some(meeting) = self.meetings.get(object.uid()) else {
             return Err(Fault::Refused(Refusal::NOT_SENT));
         };
-        if meeting.is_strange(&object.components) {
+        if meeting.is_strange(object.components()) {
             return Err(Fault::Refused(Refusal::NOT_AN_ATTENDEE));
         }
         Ok(meeting.object.clone()?)
@@ -185,10 +180,7 @@ impl Organiser {
             components: &meeting.components,
         };
         let mut octets = Vec::new(self.alloc);
-        let shown = Shown {
-            meeting,
-            organiser: &self.address,
-        };
+        let shown = Shown { meeting };
         write_meeting(None, &text, &shown, &mut octets)?;
         Ok(Some(octets))
     }
@@ -201,10 +193,10 @@ impl Organiser {
         ensures fault { IfErr result (RefusesBy (λ n. (said : profile.OrganiserObject) → RepresentsObject object.now said → (book : OrganiserBook)
             → CallFault (operation_said operation) (address_of self.now) said book n)) }
     {
-        if object.operation != operation {
+        if object.operation() != operation {
             return Err(Fault::Refused(Refusal::BAD_METHOD));
         }
-        if object.organiser != self.address {
+        if *object.organiser() != self.address {
             return Err(Fault::Refused(Refusal::NOT_HOSTED));
         }
         Ok(())
@@ -213,18 +205,22 @@ impl Organiser {
     /// What is made of an object that is stored with this revision.
     fn made(&self, object: &OrganiserObject, revision: &Revision) -> Result<Composed, AllocError>
         ensures attending { IfOk result (λ made. AreAttending (lists_of object.now.components.items) made.attending.entries) }
+        ensures told { IfOk result (λ made. (before : List (List Attendee)) → LastAttends before (get same_text self.now.meetings object.now.uid)
+            → (address : List ℕ) → is_told address made.attending.entries ≡ is_told_by (address_of self.now) before (lists_of object.now.components.items) address) }
         ensures sends { IfOk result (λ made. (events : List EventComponent) (before : List (List Attendee)) → AllZip SaysObjectComponent events object.now.components.items
             → LastAttends before (get same_text self.now.meetings object.now.uid)
             → SendsObject (address_of self.now) object.now revision.now events before made.object.items (map sent_of made.sent.items)) }
     {
-        let attending = attending(self.alloc, &object.components)?;
+        let mut attending = attending(self.alloc, object.components())?;
         let to = sent(self.alloc, &self.address, &attending)?;
-        let gone = self.gone(&object.uid, &attending)?;
+        let gone = self.gone(object.uid(), &attending)?;
+        tell(&mut attending, &to);
+        tell(&mut attending, &gone);
         let text = MeetingText {
-            uid: &object.uid,
-            organiser: &object.organiser,
+            uid: object.uid(),
+            organiser: object.organiser(),
             revision: *revision,
-            components: &object.components,
+            components: object.components(),
         };
         let Sending { object, sent } = send(self.alloc, &text, to, gone)?;
         Ok(Composed {

@@ -109,7 +109,7 @@ fn calls_off(components: &[ObjectComponent]) -> bool
 fn cancels_whole(component: &ObjectComponent) -> bool
     ensures { result ≡ cancels_whole component.now }
 {
-    matches!(component.slot, Slot::Whole) && component.cancelled
+    matches!(component.slot(), Slot::Whole) && component.is_cancelled()
 }
 
 /// The REQUEST of a meeting.

@@ -31,7 +31,7 @@ fn own_sequence(components: &[ObjectComponent]) -> u32
 {
     let mut greatest: u32 = 0;
     for component in components {
-        greatest = greatest.max(component.revision.sequence.number());
+        greatest = greatest.max(component.revision().sequence.number());
     }
     greatest
 }

@@ -1,4 +1,4 @@
-//! How the attendees of a meeting are shown: with what they answered, and whether they were sent it (RFC 6638 3.2.9, 7.3).
+//! How the attendees of a meeting are shown: with what they answered, and whether they were sent a message (RFC 6638 3.2.9, 7.3).
 
 ghost use Rattle.std.specs.Prelude.{◌≡◌, ◌++◌, codes, string_bytes, IfOk};
 ghost use Rattle.profile.specs.organisers.Organisers.{participation_word, sent_status};
@@ -7,7 +7,6 @@ ghost use Rattle.organiser_books.specs.Shown.{ShowsAttendee};
 
 use crate::meeting::StoredMeeting;
 use cal_events::{Attendee, PartStat};
-use ical_values::Address;
 use itip_messages::{AttendeeLines, ObjectWriter};
 use itip_order::Slot;
 use std::alloc::{AllocError, Global};
@@ -16,7 +15,6 @@ use std::alloc::{AllocError, Global};
 #[derive(Clone, Copy)]
 pub(crate) struct Shown<'a> {
     pub meeting: &'a StoredMeeting,
-    pub organiser: &'a Address,
 }
 
 impl AttendeeLines for Shown<'_> {
@@ -29,7 +27,7 @@ impl AttendeeLines for Shown<'_> {
         attendee: &Attendee,
     ) -> Result<(), AllocError> {
         let status = self.meeting.answered(slot, &attendee.address);
-        let sent = attendee.address != *self.organiser && self.meeting.is_sent(&attendee.address);
+        let sent = self.meeting.is_told(&attendee.address);
         let name = named(object.alloc(), status, sent)?;
         object.named(name.as_str(), attendee.address.as_str())
     }
@@ -57,7 +55,7 @@ fn word_of(status: PartStat) -> &'static str
     }
 }
 
-/// SCHEDULE-STATUS, where it was sent the meeting (RFC 6638 7.3).
+/// SCHEDULE-STATUS, where it was sent a message (RFC 6638 7.3).
 fn status_of(sent: bool) -> &'static str
     ensures { result.now ≡ sent_status sent }
 {

@@ -93,7 +93,7 @@ the_greatest_at_first : sequence_after None events ≡ 2
 the_greatest_at_first = refl
 
 abbrev stored_at : ℕ → Stored
-stored_at sequence = record { uid = codes "s"; events = events; revision = record { sequence = sequence; stamp = pos 5 }; object = [] }
+stored_at sequence = record { uid = codes "s"; events = events; revision = record { sequence = sequence; stamp = pos 5 }; object = []; told = [] }
 
 one_more_than_the_last : sequence_after (Some (stored_at 2)) events ≡ 3
 one_more_than_the_last = refl

@@ -55,7 +55,7 @@ impl Organisers {
         ensures keeps { IfErr result (IfRefused (KeepBooks self.old.organisers.items self.new.organisers.items
             × (answers.new.items ≡ answers.old.items))) }
     {
-        let Some(place) = self.directory.place_of(&object.organiser) else {
+        let Some(place) = self.directory.place_of(object.organiser()) else {
             return Err(Fault::Refused(Refusal::NOT_HOSTED));
         };
         take_at(&mut self.organisers, place, object, now, answers)
@@ -117,7 +117,7 @@ fn take_object(
     ensures keeps { IfErr result (IfRefused (KeepsBook organiser.old organiser.new × (answers.new.items ≡ answers.old.items))) }
     ensures address { address_of organiser.new ≡ address_of organiser.old }
 {
-    match object.operation {
+    match object.operation() {
         Operation::Store => {
             let sent = organiser.store(object, now)?;
             append_sent(&sent, answers)?;

@@ -73,7 +73,7 @@ fn taken_line(message: &Message) -> &'static str
             Method::Add => "not refused: an ADD\n",
             Method::Cancel => "not refused: a CANCEL\n",
         },
-        Message::ToOrganiser(object) => match object.operation {
+        Message::ToOrganiser(object) => match object.operation() {
             Operation::Store => "not refused: a store\n",
             Operation::Reply => "not refused: a REPLY\n",
             Operation::Refresh => "not refused: a REFRESH\n",

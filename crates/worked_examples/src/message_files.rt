@@ -20,19 +20,19 @@ pub fn message(alloc: Global, octets: &[u8]) -> Result<String, NoAnswer> {
 /// What is asked, the organiser and the UID, and of each component, in the order of the text, its slot, SEQUENCE and SUMMARY and how many
 /// ATTENDEE lines it has.
 fn organiser_object(alloc: Global, object: &OrganiserObject) -> Result<String, NoAnswer> {
-    let operation = match object.operation {
+    let operation = match object.operation() {
         Operation::Store => "store",
         Operation::Reply => "reply",
         Operation::Refresh => "refresh",
     };
-    let organiser = object.organiser.as_str();
-    let uid = object.uid.as_str();
+    let organiser = object.organiser().as_str();
+    let uid = object.uid().as_str();
     let mut list = format!(in alloc; "{operation}, {organiser}, {uid}")?;
-    for component in &object.components {
-        let slot = slot_text(alloc, component.slot)?;
-        let sequence = component.revision.sequence.number();
-        let summary = component.summary.as_str();
-        let attendees = component.attendees.lines().len();
+    for component in object.components() {
+        let slot = slot_text(alloc, component.slot())?;
+        let sequence = component.revision().sequence.number();
+        let summary = component.summary().as_str();
+        let attendees = component.attendees().lines().len();
         let item = format!(in alloc; "{slot} {sequence} {summary:?} {attendees}")?;
         append(&mut list, ", ", item.as_str())?;
     }
@@ -68,7 +68,7 @@ fn room_message(alloc: Global, message: &RoomMessage) -> Result<String, NoAnswer
 pub fn components(alloc: Global, octets: &[u8]) -> Result<String, NoAnswer> {
     let count = match Message::read(alloc, octets)? {
         Message::ToRooms(message) => message.components().len(),
-        Message::ToOrganiser(object) => object.components.len(),
+        Message::ToOrganiser(object) => object.components().len(),
     };
     Ok(count.to_string(alloc)?)
 }

@@ -88,7 +88,7 @@ fn take(alloc: Global, organiser: &mut Organiser, octets: &[u8]) -> Result<(), F
     let Message::ToOrganiser(object) = Message::read(alloc, octets)? else {
         return Ok(());
     };
-    match object.operation {
+    match object.operation() {
         Operation::Store => {
             sent(organiser, object)?;
             Ok(())

@@ -14,13 +14,14 @@ use Rattle.profile.specs.organisers.Sent.{IsRequest, IsCancel, IsMeetingText}
 
 -- ---- what an organiser keeps
 
--- a meeting as it was stored: its events in the order of the text, SEQUENCE and DTSTAMP of what was sent, and the octets that were made of it: its
--- REQUEST, or its CANCEL where it was called off
+-- a meeting as it was stored: its events in the order of the text, SEQUENCE and DTSTAMP of what was sent, the octets that were made of it: its
+-- REQUEST, or its CANCEL where it was called off; and those of its attendees whom this store sent a message
 pub record Stored : Type 0 where
   pub uid : List ℕ
   pub events : List EventComponent
   pub revision : Revision
   pub object : List ℕ
+  pub told : List (List ℕ)
 
 -- what one VEVENT of a REPLY says: who answers, for which slot of the meeting, to which SEQUENCE and when, and what
 pub record Heard : Type 0 where
@@ -119,6 +120,7 @@ pub record IsStore (moment : ℤ) (said : OrganiserObject) (before : OrganiserBo
   pub revision : stored.revision ≡ record { sequence = sequence_after (last_store said.uid before) said.events; stamp = moment }
   pub sends : SendsStore (is_called_off said.events) said.organiser stored
       (without (scheduled_in said.organiser (last_events (last_store said.uid before))) (scheduled_in said.organiser said.events)) sent
+  pub told : stored.told ≡ filter (λ address. is_attendee address said.events) (flat_map (λ one. one.to) sent)
   pub kept : after ≡ record before { stores = stored ∷ before.stores }
 
 -- ---- a reply
@@ -187,19 +189,19 @@ participation_word Declined = codes "DECLINED"
 abbrev pub sent_status : Bool → List ℕ
 sent_status sent = if sent then codes ";SCHEDULE-STATUS=1.1" else []
 
--- the line of an attendee of this slot: what is seen of it, and whether it was sent the meeting
-abbrev pub ShowsSeen : List ℕ → OrganiserBook → Stored → Slot → Attendee → List ℕ → Type 0
-ShowsSeen organiser book stored slot attendee line =
+-- the line of an attendee of this slot: what is seen of it, and whether the store sent it a message, be it the REQUEST or a CANCEL
+abbrev pub ShowsSeen : OrganiserBook → Stored → Slot → Attendee → List ℕ → Type 0
+ShowsSeen book stored slot attendee line =
     (answer : Participation) × IsSeenOf book stored slot attendee.address answer
     × (line ≡ codes "ATTENDEE;PARTSTAT=" ++ participation_word answer
-    ++ sent_status (list_any (bytes_eq attendee.address) (scheduled_in organiser stored.events)) ++ codes ":" ++ attendee.address)
+    ++ sent_status (list_any (bytes_eq attendee.address) stored.told) ++ codes ":" ++ attendee.address)
 
 -- the meeting of this UID as it was last sent, with what is seen of its attendees; None for a meeting that isn't known
 abbrev pub IsShown : List ℕ → OrganiserBook → List ℕ → Option (List ℕ) → Type 0
 IsShown organiser book uid None = last_store uid book ≡ None
 IsShown organiser book uid (Some octets) =
     (stored : Stored) × (last_store uid book ≡ Some stored)
-    × IsMeetingText None organiser uid stored.revision (ShowsSeen organiser book stored) stored.events octets
+    × IsMeetingText None organiser uid stored.revision (ShowsSeen book stored) stored.events octets
 
 -- ---- what can be wrong with an object beside what the organiser keeps, by the number of its refusal
 
@@ -214,6 +216,7 @@ pub data StateFault (said : OrganiserObject) (book : OrganiserBook) : ℕ → Ty
       → list_any (λ event. nat_lt stored.revision.sequence event.sequence) said.events ≡ true → StateFault said book 71
   -- no greater SEQUENCE is left
   spent : said.operation ≡ Store → most_sequence < sequence_after (last_store said.uid book) said.events → StateFault said book 72
-  -- one who isn't an attendee of the meeting speaks
+  -- one who isn't an attendee of the meeting speaks; in a REPLY the SEQUENCEs are looked at first
   stranger : is_of_attendee said.operation ≡ true → (stored : Stored) → last_store said.uid book ≡ Some stored
+      → (said.operation ≡ Reply → list_any (λ event. nat_lt stored.revision.sequence event.sequence) said.events ≡ false)
       → list_any (λ heard. not (is_attendee heard.attendee stored.events)) (heard_in said.events) ≡ true → StateFault said book 73

@@ -1,4 +1,4 @@
-use Rattle.std.proofs.Common.{◌≡◌, ◌∙◌, ◌++◌, ◌∷◌, [], sym, ap, subst, None}
+use Rattle.std.proofs.Common.{◌≡◌, ◌∙◌, ◌++◌, ◌∷◌, [], sym, ap, subst, None, false}
 use Rattle.std.specs.Map.{set_value}
 use Rattle.indexmap.proofs.CallerLemmas.{insert_entry-new}
 use Rattle.ical_values.specs.Octets.{address_octets}
@@ -22,7 +22,7 @@ returns c = λ done own h.
     let es = c.args.attending.now.entries in
     let address = c.in_ok-address.address in
     let attendee = attendee_of c.args.attendee.now in
-    let value : Attendance = record { scheduled = attendee.scheduled; component = c.args.place } in
+    let value : Attendance = record { scheduled = attendee.scheduled; component = c.args.place; told = false } in
     let was : attendance_of attendee.address es ≡ None = sym c.in_default.ensures.value in
     let same : m ≡ c.args.attending.now = c.get_mut.follows.holds-at-none in
     let none : attendance_of (address_octets address) m.entries ≡ None = subst (λ l. attendance_of (address_octets address) l.entries ≡ None) (sym same) (ap (λ q. attendance_of q es) c.in_ok-address.ensures.cases ∙ was) in

@@ -1,8 +1,7 @@
-use Rattle.std.proofs.Common.{◌≡◌, ◌∙◌, ◌++◌, true, List, ℕ, map, sym, ap, subst}
+use Rattle.std.proofs.Common.{◌≡◌, ◌∙◌, ◌++◌, true, List, map, sym, ap, subst}
 use Rattle.std.proofs.lemmas.List.{map-append}
 use Rattle.ical_values.specs.Octets.{address_octets, text_octets}
-use Rattle.ical_values.specs.declared.address.Address.{Address}
-use Rattle.profile.specs.organisers.Organisers.{Sent, Sends}
+use Rattle.profile.specs.organisers.Organisers.{Sends}
 use Rattle.profile.specs.organisers.Sent.{IsCancel}
 use Rattle.itip_order.specs.Parts.{revision_of}
 use Rattle.organiser_books.specs.Calls.{sent_of}

@@ -1,4 +1,4 @@
-use Rattle.std.proofs.Common.{◌≡◌, ◌∙◌, Option, Some, sym, subst}
+use Rattle.std.proofs.Common.{◌∙◌, Option, Some, sym, subst}
 use Rattle.ical_values.specs.Octets.{address_octets, text_octets}
 use Rattle.profile.specs.events.EventComponents.{Participation}
 use Rattle.profile.specs.organisers.Organisers.{IsSeen, last_store}

@@ -24,10 +24,10 @@ returns c = λ book keeps.
     let stored = known.0 in
     let w = c.in_ok-write_meeting.ensures.ok in
     let written = w.1 stored.events (subst (λ (l : List ObjectComponent). AllZip SaysObjectComponent stored.events l) (sym c.deref.ensures.value) known.2.components) in
-    let lifted = text_lift None organiser uid (revision_of m.revision) (ShowsAnswered organiser m) (ShowsSeen organiser book stored) (shows_seen organiser m book stored known.2) stored.events w.0 written in
+    let lifted = text_lift None organiser uid (revision_of m.revision) (ShowsAnswered m) (ShowsSeen book stored) (shows_seen m book stored known.2) stored.events w.0 written in
     let octets : c.write_meeting.new.out.items ≡ w.0 = w.2 ∙ ap (λ (l : List ℕ). l ++ w.0) c.new-octets.ensures.items in (
       stored,
       known.1,
-      subst (λ (r : Revision). IsMeetingText None organiser uid r (ShowsSeen organiser book stored) stored.events c.write_meeting.new.out.items) known.2.revision
-          (subst (IsMeetingText None organiser uid (revision_of m.revision) (ShowsSeen organiser book stored) stored.events) (sym octets) lifted),
+      subst (λ (r : Revision). IsMeetingText None organiser uid r (ShowsSeen book stored) stored.events c.write_meeting.new.out.items) known.2.revision
+          (subst (IsMeetingText None organiser uid (revision_of m.revision) (ShowsSeen book stored) stored.events) (sym octets) lifted),
     )
