@@ -124,10 +124,9 @@ fn keep_hosted<R: Input>(
     let Some(kept) = books.room_at(room) else {
         return Err(not_hosted());
     };
-    let calendar = kept.calendar_text()?;
-    let certificate = kept.certificate_text()?;
+    let texts = kept.kept()?;
     served_texts_pass();
-    Ok((calendar, certificate))
+    Ok((texts.calendar, texts.certificate))
 }
 
 /// What a room gets that the box doesn't host: 90.

@@ -16,13 +16,13 @@ returns-clause-keeps g c =
     let serves = c.in_ok-serve_objects.ensures.serves (new_box hosts) c.in_ok-books.ensures.kept in
     let among = c.in-Some.ensures.found in
     keeps_texts c.args.now hosts news _ c.in_ok-serve_objects.field-0 kept (address_octets c.args.room.now) _ _ serves among
-    c.in-Some.ensures.address c.in_ok-calendar.ensures c.in_ok-certificate.ensures
+    c.in-Some.ensures.address c.in_ok-texts.ensures.calendar c.in_ok-texts.ensures.certificate
 
 pub returns-clause-passes : goal.returns-clause-passes
 returns-clause-passes g c =
     let k = returns-clause-keeps g c in
     let room = address_octets c.args.room.now in
-    let calendar = c.in_ok-calendar.calendar.items in
+    let calendar = c.in_ok-texts.texts.calendar.items in
     subst (λ text. CertificateHolds room calendar text) (sym k.certificate_is)
     (subst (λ a. CertificateHolds a calendar (kept_certificate k.kept.book)) k.at
     (c.served_texts_pass.ensures c.args.now (config_hosts c.args.config.now) 1 k.objects k.after k.octets k.refused k.answers k.kept k.has calendar (subst (λ a. IsKeptCalendar a k.kept.book calendar) (sym k.at) k.calendar_is)))
@@ -34,14 +34,8 @@ returns-in_err-serve_objects-clause-bound g c =
     rw (p.1, p.2)
     (keeping_stopped c.args.now (new_box hosts) c.serve_objects.new.books (g.R.Input.remaining c.args.reader.now) (g.R.Input.remaining c.serve_objects.new.reader) _ _ _ _ (c.in_err-serve_objects.ensures.serves (new_box hosts) c.in_ok-books.ensures.kept) c.in_err-serve_objects.ensures.cause)
 
-pub returns-in_err-calendar-clause-bound : goal.returns-in_err-calendar-clause-bound
-returns-in_err-calendar-clause-bound g c =
+pub returns-in_err-texts-clause-bound : goal.returns-in_err-texts-clause-bound
+returns-in_err-texts-clause-bound g c =
     let (after, kept, all) = c.in_ok-serve_objects.ensures.serves (new_box (config_hosts c.args.config.now)) c.in_ok-books.ensures.kept in
-    let p = err_from_is_err_and c.from_residual-in_err-calendar.result c.from_residual-in_err-calendar.ensures.1 in
-    rw (p.1, p.2) all.bound
-
-pub returns-in_err-certificate-clause-bound : goal.returns-in_err-certificate-clause-bound
-returns-in_err-certificate-clause-bound g c =
-    let (after, kept, all) = c.in_ok-serve_objects.ensures.serves (new_box (config_hosts c.args.config.now)) c.in_ok-books.ensures.kept in
-    let p = err_from_is_err_and c.from_residual-in_err-certificate.result c.from_residual-in_err-certificate.ensures.1 in
+    let p = err_from_is_err_and c.from_residual-in_err-texts.result c.from_residual-in_err-texts.ensures.1 in
     rw (p.1, p.2) all.bound
