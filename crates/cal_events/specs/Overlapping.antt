@@ -4,7 +4,7 @@ use Rattle.profile.specs.checker.Instances.{Instance, horizon}
 use Rattle.profile.specs.events.ZonedTimes.{EventTimes}
 use Rattle.profile.specs.events.Events.{Event}
 use Rattle.profile.specs.events.Starts.{IsInstance, EndsAt}
-use Rattle.cal_events.specs.Meetings.{IsInEventDates}
+use Rattle.cal_events.specs.MeetingComponents.{IsInEventDates}
 use Rattle.cal_events.specs.declared.instances.Bound.{Bound}
 
 -- instances of one start and one slot end then

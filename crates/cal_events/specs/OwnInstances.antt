@@ -5,7 +5,7 @@ use Rattle.profile.specs.events.ZonedTimes.{clock_of}
 use Rattle.profile.specs.events.EventComponents.{EventComponent}
 use Rattle.profile.specs.events.Starts.{EndsAt, key_at}
 use Rattle.cal_events.specs.Clocks.{IsSteady}
-use Rattle.cal_events.specs.Meetings.{IsInEventDates}
+use Rattle.cal_events.specs.MeetingComponents.{IsInEventDates}
 use Rattle.cal_events.specs.declared.instance.Single.{Single}
 
 -- the times of an event are such as some VEVENT says

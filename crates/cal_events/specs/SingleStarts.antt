@@ -3,7 +3,7 @@ use Rattle.std.specs.Prelude.{◌≡◌, ◌⊎◌, ◌<◌, ◌-◌, All, AllPa
 use Rattle.profile.specs.series.Rules.{Rule}
 use Rattle.profile.specs.events.EventComponents.{EventComponent}
 use Rattle.profile.specs.events.Starts.{IsStart, IsRuleStart}
-use Rattle.cal_events.specs.Meetings.{IsInEventDates}
+use Rattle.cal_events.specs.MeetingComponents.{IsInEventDates}
 
 -- its rule gives a start at an instant
 abbrev pub IsOnRule : EventComponent → ℤ → Type 0

@@ -5,7 +5,7 @@ use Rattle.profile.specs.series.Zones.{Zone, Means}
 use Rattle.profile.specs.events.EventRules.{IsRuleText}
 use Rattle.profile.specs.events.Properties.{Length, LastsFor, OccursAtMostOnce, IsMissing, Says}
 use Rattle.profile.specs.events.ZonedTimes.{is_in_zone, IsInDates, SaysZonedTime, clock_of}
-use Rattle.cal_events.specs.Events.{length_of, zone_said}
+use Rattle.cal_events.specs.Component.{length_of, zone_said}
 use Rattle.cal_events.specs.declared.event_rule.SaidRule.{SaidRule}
 use Rattle.cal_events.specs.declared.event_times.Extent.{Extent}
 use Rattle.cal_events.specs.declared.event_times.Extent.TheVariants.{ToEnd, For}

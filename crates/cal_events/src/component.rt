@@ -9,7 +9,7 @@ ghost use Rattle.profile.specs.events.Properties.{length_seconds, TimeFault};
 ghost use Rattle.profile.specs.events.ZonedTimes.{clock_of};
 ghost use Rattle.cal_zones.specs.Kinds.{zone_of};
 ghost use Rattle.cal_events.specs.Zones.{object_of, AreRead};
-ghost use Rattle.cal_events.specs.Meetings.{IsInEventDates};
+ghost use Rattle.cal_events.specs.MeetingComponents.{IsInEventDates};
 ghost use Rattle.cal_events.specs.Clocks.{IsSteady};
 
 use crate::component_values::{
@@ -47,7 +47,7 @@ pub enum Purpose {
 }
 
 impl Purpose {
-    ghost use Rattle.cal_events.specs.Events.{is_message, method_read};
+    ghost use Rattle.cal_events.specs.Component.{is_message, method_read};
 
     /// Whether it is a message, in which ORGANIZER and DTSTAMP are required.
     pub(crate) fn is_message(self) -> bool
@@ -82,7 +82,7 @@ pub enum PartStat {
 }
 
 impl PartStat {
-    ghost use Rattle.cal_events.specs.Events.{participation_of};
+    ghost use Rattle.cal_events.specs.Component.{participation_of};
 
     /// The status that a PARTSTAT word names (caseless); NeedsAction where it is missing or unknown.
     pub fn of(word: Option<&str>) -> PartStat
@@ -139,7 +139,7 @@ pub struct EventComponent {
 }
 
 impl EventComponent {
-    ghost use Rattle.cal_events.specs.Events.{component_of, length_of, method_read, participation_of};
+    ghost use Rattle.cal_events.specs.Component.{component_of, length_of, method_read, participation_of};
 
     /// Reads the properties of a VEVENT, whose times may name these zones.
     /// Refused, in this order: of UID, ORGANIZER, DTSTAMP, SEQUENCE and STATUS 10 and 14 to 16 for a value, 61 and 63 for one that

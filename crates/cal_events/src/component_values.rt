@@ -9,7 +9,7 @@ ghost use Rattle.profile.specs.faults.Faults.{is_event_fault};
 ghost use Rattle.profile.specs.events.EventComponents.{Method, is_by_server, summary_of, SaysSequence, IsAttendee, EventComponentFault};
 ghost use Rattle.profile.specs.events.Occurrences.{SaysStatus};
 ghost use Rattle.profile.specs.events.Properties.{OccursMoreThanOnce, lines_named, Says, IsUidLine, IsAddressLine, IsStampLine, IsNoAddress};
-ghost use Rattle.cal_events.specs.Events.{is_message, method_read, attendee_of};
+ghost use Rattle.cal_events.specs.Component.{is_message, method_read, attendee_of};
 
 use crate::component::{Attendee, PartStat, Purpose};
 use crate::properties::{first_named, optional, required};

@@ -10,10 +10,10 @@ ghost use Rattle.profile.specs.events.Events.{is_master};
 ghost use Rattle.profile.specs.events.Starts.{EndsAt};
 ghost use Rattle.profile.specs.series.Zones.{IsNearEpoch};
 ghost use Rattle.profile.specs.events.Confirmed.{is_kept, AreConfirmed, MastersDiffer, OverridesDiffer};
-ghost use Rattle.cal_events.specs.Events.{component_of};
-ghost use Rattle.cal_events.specs.Calendars.{key_of, AreWithin};
-ghost use Rattle.cal_events.specs.Drafts.{AreOwnAt, IsDraft, IsDraftOf, IsDraftIn, IsSaid, AreSorted, AreInOrder, master_keys, override_keys, is_shown_in, AreSinglesShown, IsTwoOf};
-ghost use Rattle.cal_events.specs.Masters.{AreMasters, AreSeriesOf, AreRuled};
+ghost use Rattle.cal_events.specs.Component.{component_of};
+ghost use Rattle.cal_events.specs.Calendar.{key_of, AreWithin};
+ghost use Rattle.cal_events.specs.Draft.{AreOwnAt, IsDraft, IsDraftOf, IsDraftIn, IsSaid, AreSorted, AreInOrder, master_keys, override_keys, is_shown_in, AreSinglesShown, IsTwoOf};
+ghost use Rattle.cal_events.specs.Draft.{AreMasters, AreSeriesOf, AreRuled};
 ghost use Rattle.cal_events.specs.declared.calendar.PlacedSingle.{PlacedSingle};
 
 use crate::calendar::{Calendar, PlacedSingle};

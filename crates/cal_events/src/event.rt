@@ -9,10 +9,10 @@ ghost use Rattle.ical_tree.specs.Tree.{tree_of};
 ghost use Rattle.profile.specs.checker.Instances.{Instance as SaidInstance};
 ghost use Rattle.profile.specs.events.Events.{Event as SaidEvent, is_master, is_override, AreOfOne, SaysEvent, SpellsEvent, EventFault, EventTextFault, is_meeting_fault};
 ghost use Rattle.cal_events.specs.Clocks.{HasGoodClock};
-ghost use Rattle.cal_events.specs.Events.{component_of, meeting_with};
-ghost use Rattle.cal_events.specs.Meetings.{instants_said, IsNotOne, IsInEventDates};
+ghost use Rattle.cal_events.specs.Component.{component_of, meeting_with};
+ghost use Rattle.cal_events.specs.MeetingComponents.{instants_said, IsNotOne, IsInEventDates};
 ghost use Rattle.profile.specs.events.Starts.{IsInstance, IsFirstOverlap};
-ghost use Rattle.cal_events.specs.Ordered.{Hides, AddsStarts, AreStartsOf};
+ghost use Rattle.cal_events.specs.Instants.{Hides, AddsStarts, AreStartsOf};
 ghost use Rattle.cal_events.specs.Places.{ArePlaces};
 ghost use Rattle.cal_events.specs.Overlapping.{HaveOneEnd, AreDated};
 ghost use Rattle.cal_events.specs.declared.component.EventComponent.{EventComponent};
@@ -52,9 +52,9 @@ pub struct Event {
 
 impl Event {
     ghost use Rattle.profile.specs.events.Starts.{IsInstance};
-    ghost use Rattle.cal_events.specs.SaidMeetings.{said_meeting};
-    ghost use Rattle.cal_events.specs.Left.{IsLeft};
-    ghost use Rattle.cal_events.specs.Calendars.{instance_of};
+    ghost use Rattle.cal_events.specs.Event.{said_meeting};
+    ghost use Rattle.cal_events.specs.Instances.{IsLeft};
+    ghost use Rattle.cal_events.specs.Calendar.{instance_of};
 
     /// Its instances that start at an instant or later, in seconds from 1970-01-01T00:00:00Z: each once, by start and then by slot. Takes no
     /// memory, and looks at nothing that comes before.

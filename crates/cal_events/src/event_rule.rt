@@ -11,7 +11,7 @@ ghost use Rattle.profile.specs.events.Properties.{is_of};
 ghost use Rattle.profile.specs.events.ZonedTimes.{SaysTimes, clock_of};
 ghost use Rattle.profile.specs.events.EventRules as event_rules;
 ghost use Rattle.profile.specs.events.EventRules.{IsLastAllowed, AllowsNone, GivesRule, SaysEventRule, IsOutsideRule, EventRuleFault};
-ghost use Rattle.cal_events.specs.Events.{times_of, zone_said};
+ghost use Rattle.cal_events.specs.Component.{times_of, zone_said};
 ghost use Rattle.cal_events.specs.Zoned.{IsRuleSaid};
 
 use crate::event_times::{EventTimes, FIRST_SECOND};

@@ -10,7 +10,7 @@ ghost use Rattle.cal_zones.specs.Kinds.{zone_of};
 ghost use Rattle.profile.specs.faults.Faults.{is_event_fault};
 ghost use Rattle.profile.specs.events.Properties.{length_seconds, OccursAtMostOnce, IsMissing};
 ghost use Rattle.profile.specs.events.ZonedTimes.{is_in_zone, IsInDates, ZonedTimeFault, SaysTimes, EventTimesFault};
-ghost use Rattle.cal_events.specs.Events.{times_of, length_of, GivesLength, ExtentFault};
+ghost use Rattle.cal_events.specs.Component.{times_of, length_of, GivesLength, ExtentFault};
 ghost use Rattle.cal_events.specs.Zones.{object_of, AreRead};
 ghost use Rattle.cal_events.specs.Overlapping.{LastAtMost};
 ghost use Rattle.cal_events.specs.Zoned.{EndsSo, IsExtentIn, IsAlone, AreSaid, AreSaidAlone, AreSaidBy, IsInYears};

@@ -1,6 +1,6 @@
 //! Instances: a meeting's hold on the room for one span of time, and which one it is.
 ghost use Rattle.std.specs.Prelude.{◌≡◌};
-ghost use Rattle.cal_events.specs.Calendars.{key_of, owned_key_of};
+ghost use Rattle.cal_events.specs.Calendar.{key_of, owned_key_of};
 
 use crate::sweep::Span;
 use ical_values::{Address, Text};

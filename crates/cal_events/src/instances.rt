@@ -8,11 +8,11 @@ ghost use Rattle.profile.specs.events.ZonedTimes.{clock_of};
 ghost use Rattle.profile.specs.checker.Instances.{Instance as SaidInstance, horizon};
 ghost use Rattle.profile.specs.events.Starts.{IsGiven, IsStart, IsInstance, EndsAt, key_at};
 ghost use Rattle.cal_events.specs.Clocks.{IsAscending, HasGoodClock};
-ghost use Rattle.cal_events.specs.Calendars.{key_of, instance_of};
-ghost use Rattle.cal_events.specs.SaidMeetings.{said_meeting};
+ghost use Rattle.cal_events.specs.Calendar.{key_of, instance_of};
+ghost use Rattle.cal_events.specs.Event.{said_meeting};
 ghost use Rattle.cal_zones.specs.Kinds.{zone_of};
-ghost use Rattle.cal_events.specs.Events.{component_of, zone_said};
-ghost use Rattle.cal_events.specs.Meetings.{IsInEventDates};
+ghost use Rattle.cal_events.specs.Component.{component_of, zone_said};
+ghost use Rattle.cal_events.specs.MeetingComponents.{IsInEventDates};
 ghost use Rattle.cal_events.specs.Instances.{IsAfter, IsPastSlot, IsBefore, IsWanted, NoneBefore, AreWalked, StayWalked, IsLeast, lesser, IsAtPlace, IsMovedTo, IsSoonest, IsSooner, HasPassed, IsOfClock, HasClock, IsHeldAt, IsHeld, own_place};
 ghost use Rattle.cal_events.specs.declared.component.EventComponent.{EventComponent};
 
@@ -102,7 +102,7 @@ pub struct Instances<'a> {
 }
 
 impl<'a> Instances<'a> {
-    ghost use Rattle.cal_events.specs.Left.{IsLeft};
+    ghost use Rattle.cal_events.specs.Instances.{IsLeft};
 
     /// Those that start at an instant or later.
     pub(crate) fn from(event: &'a Event, from: i64) -> Instances<'a>
@@ -124,7 +124,7 @@ impl<'a> Instances<'a> {
 
 impl<'a> Iterator for Instances<'a> {
     ghost use Rattle.std.specs.Iterator.{endless};
-    ghost use Rattle.cal_events.specs.Left.{GivesFirst};
+    ghost use Rattle.cal_events.specs.Instances.{GivesFirst};
 
     type Item = Instance<'a>;
 

@@ -2,7 +2,7 @@
 
 ghost use Rattle.std.specs.Prelude.{◌≡◌, ◌≢◌, ◌↔◌, AllPairs, Contains, IsTrue, MatchBool};
 ghost use Rattle.std.specs.List.Sorted.{IsPermutation};
-ghost use Rattle.cal_events.specs.Ordered.{IsFirstFrom};
+ghost use Rattle.cal_events.specs.Instants.{IsFirstFrom};
 
 use std::marker::Model;
 

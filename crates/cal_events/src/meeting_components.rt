@@ -7,8 +7,8 @@ ghost use Rattle.ical_lines.specs.Fault.{RefusesOnly, RefusesBy};
 ghost use Rattle.ical_tree.specs.Tree.{tree_of};
 ghost use Rattle.profile.specs.events.EventComponents.{EventComponent as SaidComponent, SaysEventComponent};
 ghost use Rattle.profile.specs.events.Events.{as_added, components_of, is_same_meeting, is_master, is_override, taken_by, AreOfOne, InstancesDiffer, SaysEvent, EventFault};
-ghost use Rattle.cal_events.specs.Events.{component_of, method_read, vevents_of};
-ghost use Rattle.cal_events.specs.Meetings.{instants_said, IsNotOne, SharesSlot};
+ghost use Rattle.cal_events.specs.Component.{component_of, method_read, vevents_of};
+ghost use Rattle.cal_events.specs.MeetingComponents.{instants_said, IsNotOne, SharesSlot};
 
 use crate::component::{EventComponent, Purpose};
 use crate::instants::Instants;
@@ -29,7 +29,7 @@ pub struct MeetingComponents {
 }
 
 impl MeetingComponents {
-    ghost use Rattle.cal_events.specs.OneMeeting.{meeting_of, is_components_fault};
+    ghost use Rattle.cal_events.specs.MeetingComponents.{meeting_of, is_components_fault};
 
     /// The VEVENTs of an object, read for a purpose. Those of an ADD are taken as the instances of their own starts.
     /// Refused: as by `EventComponent::read` for one of them; 66 where there is none; 62 for two UIDs or two ORGANIZERs; 53 for two without

@@ -3,10 +3,10 @@
 ghost use Rattle.std.specs.Prelude.{◌↔◌, ◌^◌, pos, ℤ, ◌+ℤ◌, ◌≤ℤ◌, ◌<ℤ◌, Contains, IsTrue, option_map};
 ghost use Rattle.profile.specs.checker.Instances.{Instance as SaidInstance};
 ghost use Rattle.profile.specs.events.Starts.{IsInstance, Overlaps, IsFirstOverlap};
-ghost use Rattle.cal_events.specs.Calendars.{instance_of};
-ghost use Rattle.cal_events.specs.Events.{times_of};
+ghost use Rattle.cal_events.specs.Calendar.{instance_of};
+ghost use Rattle.cal_events.specs.Component.{times_of};
 ghost use Rattle.cal_events.specs.Overlapping.{LastAtMost};
-ghost use Rattle.cal_events.specs.SaidMeetings.{said_meeting};
+ghost use Rattle.cal_events.specs.Event.{said_meeting};
 ghost use Rattle.cal_events.specs.declared.component.EventComponent.{EventComponent};
 
 use crate::component::EventComponent;

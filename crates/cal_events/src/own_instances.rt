@@ -5,7 +5,7 @@ ghost use Rattle.profile.specs.series.Zones.{IsNearEpoch};
 ghost use Rattle.profile.specs.events.Properties.{first_second};
 ghost use Rattle.profile.specs.events.Starts.{AreInstancesFrom};
 ghost use Rattle.profile.specs.events.Confirmed.{alone, AreApart};
-ghost use Rattle.cal_events.specs.Events.{component_of};
+ghost use Rattle.cal_events.specs.Component.{component_of};
 ghost use Rattle.cal_events.specs.OwnInstances.{own_instance_at, IsInstanceAt};
 
 use crate::component::EventComponent;

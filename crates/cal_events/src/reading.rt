@@ -11,7 +11,7 @@ ghost use Rattle.profile.specs.events.Confirmed.{Confirmed, IsConfirmed, IsInSer
 ghost use Rattle.profile.specs.text.Trees.{Tree};
 ghost use Rattle.ical_tree.specs.Tree.{component_lines, tree_of};
 ghost use Rattle.cal_events.specs.Zones.{object_of, AreRead};
-ghost use Rattle.cal_events.specs.Events.{IsFaultAmong, method_read, component_of, vevents_of};
+ghost use Rattle.cal_events.specs.Component.{IsFaultAmong, method_read, component_of, vevents_of};
 
 use crate::calendar::Calendar;
 use crate::component::{EventComponent, Purpose, one_event};

@@ -5,7 +5,7 @@ ghost use Rattle.std.specs.Prelude.{◌≡◌, ◌+◌, ℕ, ◌∷◌, Some, No
 ghost use Rattle.std.specs.Iterator.{YieldsFirstBy};
 ghost use Rattle.profile.specs.series.Days.{day_index};
 ghost use Rattle.profile.specs.series.Rules.{Rule as SaidRule, IsNextDay};
-ghost use Rattle.cal_events.specs.RuleDaysLeft.{AreDaysOf, days_to_come, rest_to_come, AreStepped};
+ghost use Rattle.cal_events.specs.RuleDays.{AreDaysOf, days_to_come, rest_to_come, AreStepped};
 
 use cal_days::Day;
 use cal_rules::{Days, Rule};

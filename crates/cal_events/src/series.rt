@@ -8,13 +8,13 @@ ghost use Rattle.profile.specs.events.EventComponents.{EventComponent as Said, m
 ghost use Rattle.profile.specs.events.ZonedTimes.{clock_of};
 ghost use Rattle.cal_zones.specs.Kinds.{zone_of};
 ghost use Rattle.cal_events.specs.Clocks.{HasGoodClock};
-ghost use Rattle.cal_events.specs.Calendars.{key_of, owned_key_of, instance_of};
-ghost use Rattle.cal_events.specs.Drafts.{IsSaid, AreInOrder};
-ghost use Rattle.cal_events.specs.Events.{component_of};
-ghost use Rattle.cal_events.specs.Left.{IsLeft};
+ghost use Rattle.cal_events.specs.Calendar.{key_of, owned_key_of, instance_of};
+ghost use Rattle.cal_events.specs.Draft.{IsSaid, AreInOrder};
+ghost use Rattle.cal_events.specs.Component.{component_of};
+ghost use Rattle.cal_events.specs.Instances.{IsLeft};
 ghost use Rattle.cal_events.specs.Overlapping.{HaveOneEnd};
-ghost use Rattle.cal_events.specs.SaidMeetings.{said_meeting};
-ghost use Rattle.cal_events.specs.Ruled.{IsRuled, AreSlotsOf, IsByItsRule, cmp_to, is_key_of, ruled_without};
+ghost use Rattle.cal_events.specs.Event.{said_meeting};
+ghost use Rattle.cal_events.specs.Series.{IsRuled, AreSlotsOf, IsByItsRule, cmp_to, is_key_of, ruled_without};
 
 use crate::component::EventComponent;
 use crate::draft::is_series;
@@ -39,7 +39,7 @@ pub struct Series {
 }
 
 impl Series {
-    ghost use Rattle.cal_events.specs.SaidSeries.{series_said, IsMasterOf, IsSeriesWithout};
+    ghost use Rattle.cal_events.specs.Series.{series_said, IsMasterOf, IsSeriesWithout};
 
     /// The series of a master, where overrides replace these instances, in order. It fails only when out of memory.
     pub(crate) fn of(
@@ -152,7 +152,7 @@ impl Series {
 }
 
 impl EventComponent {
-    ghost use Rattle.cal_events.specs.SaidSeries.{series_said, IsSeriesOf};
+    ghost use Rattle.cal_events.specs.Series.{series_said, IsSeriesOf};
 
     /// The series of an event by itself: what its RRULE gives, except for what EXDATE names, and whatever other VEVENTs are for. None where it
     /// has no RRULE, or is for one instance. It fails only when out of memory.

@@ -2,8 +2,8 @@
 ghost use Rattle.std.specs.Prelude.{◌≡◌, ◌↔◌, ℤ, true, is_some, Contains, IsTrue, IfOk};
 ghost use Rattle.std.specs.List.Sorted.{IsPermutation};
 ghost use Rattle.cal_events.specs.Clocks.{HasGoodClock};
-ghost use Rattle.cal_events.specs.Events.{component_of};
-ghost use Rattle.cal_events.specs.Meetings.{IsInEventDates};
+ghost use Rattle.cal_events.specs.Component.{component_of};
+ghost use Rattle.cal_events.specs.MeetingComponents.{IsInEventDates};
 ghost use Rattle.cal_events.specs.SingleStarts.{AreSingleStarts, IsCandidate, IsLast, IsLeftOver, IsOnRule};
 
 use crate::component::EventComponent;

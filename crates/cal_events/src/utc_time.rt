@@ -4,7 +4,7 @@ ghost use Rattle.ical_lines.specs.Text.{line_text};
 ghost use Rattle.profile.specs.faults.Faults.{is_event_fault};
 ghost use Rattle.profile.specs.text.Values.{SpellsStamp};
 ghost use Rattle.profile.specs.events.Properties.{malformed_number, IsDateText, IsLocalText, UnfixedOrMalformed, time_kind, DateTime, KindFault};
-ghost use Rattle.cal_events.specs.Events.{said_kind, IsTime};
+ghost use Rattle.cal_events.specs.Component.{said_kind, IsTime};
 
 use ical_lines::{Line, Refusal};
 use ical_values::date::read_date;

@@ -11,7 +11,7 @@ ghost use Rattle.profile.specs.events.Properties.{time_kind, DateTime, IsLocalTe
 ghost use Rattle.profile.specs.events.ZonedTimes.{SpellsZoned, SaysZonedText, SaysZonedTime, clock_of, DateOrMalformed, LocalFault, InZoneFault, ZonedTextFault, ZonedTimeFault};
 ghost use Rattle.cal_zones.specs.Kinds.{zone_of};
 ghost use Rattle.cal_events.specs.Zones.{object_of, AreRead};
-ghost use Rattle.cal_events.specs.Events.{zone_said};
+ghost use Rattle.cal_events.specs.Component.{zone_said};
 
 use crate::utc_time::{TimeKind, is_date, kind_of, read_time};
 use crate::zones::ZonesOfObject;

@@ -4,7 +4,7 @@ use Rattle.std.specs.Prelude.{Some, ◌≢◌}
 use Rattle.std.proofs.lemmas.Int.{ints}
 use Rattle.profile.specs.checker.Instances.{Key, Instance as SaidInstance, horizon}
 use Rattle.profile.specs.events.Events.{Event}
-use Rattle.cal_events.specs.Calendars.{instance_of}
+use Rattle.cal_events.specs.Calendar.{instance_of}
 use Rattle.cal_events.specs.declared.instance.Instance.{Instance}
 use Rattle.cal_events.specs.declared.instances.Instances.{Instances}
 use Rattle.cal_period.specs.Clear.{IsSeriesClear, AreTwo}

@@ -6,8 +6,8 @@ use Rattle.std.proofs.lemmas.List.Sums.{sum_by-cons}
 use Rattle.profile.specs.checker.Instances.{Instance}
 use Rattle.profile.specs.events.Events.{Event}
 use Rattle.profile.specs.events.Starts.{IsInstance, ComesBefore}
-use Rattle.cal_events.specs.SaidSeries.{AreKnownByStart}
-use Rattle.cal_events.proofs.InOneOrder.{later, none_in, head_pairs, tail_pairs}
+use Rattle.cal_events.specs.Series.{AreKnownByStart}
+use Rattle.cal_events.proofs.shared_lemmas.InOneOrder.{later, none_in, head_pairs, tail_pairs}
 
 abbrev pub count_before : ℤ → List Instance → ℕ
 count_before t xs = count_by (λ (b : Instance). int_lt b.start t) xs

@@ -9,17 +9,17 @@ use Rattle.profile.specs.events.ZonedTimes.{EventTimes, clock_of}
 use Rattle.profile.specs.events.EventComponents.{EventComponent as Said}
 use Rattle.profile.specs.events.Events.{Event as SaidEvent}
 use Rattle.profile.specs.events.Starts.{IsInstance, EndsAt, IsWidth}
-use Rattle.cal_events.specs.Calendars.{instance_of}
-use Rattle.cal_events.specs.Events.{component_of}
-use Rattle.cal_events.specs.Left.{IsLeft, GivesFirst}
-use Rattle.cal_events.specs.SaidSeries.{series_said, IsMasterOf, AreKnownByStart}
+use Rattle.cal_events.specs.Calendar.{instance_of}
+use Rattle.cal_events.specs.Component.{component_of}
+use Rattle.cal_events.specs.Instances.{IsLeft, GivesFirst}
+use Rattle.cal_events.specs.Series.{series_said, IsMasterOf, AreKnownByStart}
 use Rattle.cal_events.specs.declared.instance.Instance.{Instance}
 use Rattle.cal_events.specs.declared.instances.Instances.{Instances}
 use Rattle.cal_events.specs.declared.series.Series.{Series}
-use Rattle.cal_events.proofs.DraftKeys.{some_there}
-use Rattle.cal_events.proofs.InstanceLemmas as instances
-use Rattle.cal_events.proofs.OwnSingles.{at_start}
-use Rattle.cal_events.proofs.SeriesLemmas.{alone_said}
+use Rattle.cal_events.proofs.shared_lemmas.DraftKeys.{some_there}
+use Rattle.cal_events.proofs.shared_lemmas.InstanceLemmas as instances
+use Rattle.cal_events.proofs.shared_lemmas.OwnSingles.{at_start}
+use Rattle.cal_events.proofs.shared_lemmas.SeriesLemmas.{alone_said}
 use Rattle.cal_period.specs.Walks.{AreAllLeft, AreLeftFrom}
 use Rattle.cal_period.specs.Onward.{IsFirstStart, MeetFrom, IsEntry}
 use Rattle.cal_period.proofs.Going.{at_first, not_less}

@@ -10,8 +10,8 @@ use Rattle.profile.specs.checker.Instances.{Instance as SaidInstance, AreClashin
 use Rattle.profile.specs.events.Properties.{first_second}
 use Rattle.profile.specs.events.Events.{Event}
 use Rattle.profile.specs.events.Starts.{IsInstance, AreInstancesFrom}
-use Rattle.cal_events.specs.Calendars.{instance_of}
-use Rattle.cal_events.specs.SaidSeries.{series_said}
+use Rattle.cal_events.specs.Calendar.{instance_of}
+use Rattle.cal_events.specs.Series.{series_said}
 use Rattle.cal_events.specs.declared.instance.Instance.{Instance}
 use Rattle.cal_events.specs.declared.series.Series.{Series}
 use Rattle.cal_period.specs.Clear.{AreSeriesClear, IsSeriesClear, ArePair, AreTwo}

@@ -7,15 +7,14 @@ use Rattle.profile.specs.checker.Instances.{Instance as SaidInstance, horizon}
 use Rattle.profile.specs.events.Properties.{first_second}
 use Rattle.profile.specs.events.Events.{Event}
 use Rattle.profile.specs.events.Starts.{IsInstance, ComesBefore}
-use Rattle.cal_events.specs.Calendars.{instance_of}
-use Rattle.cal_events.specs.Instances.{IsAfter}
-use Rattle.cal_events.specs.Left.{IsLeft, GivesFirst}
-use Rattle.cal_events.specs.SaidMeetings.{said_meeting}
-use Rattle.cal_events.specs.SaidSeries.{AreKnownByStart}
+use Rattle.cal_events.specs.Calendar.{instance_of}
+use Rattle.cal_events.specs.Instances.{IsAfter, IsLeft, GivesFirst}
+use Rattle.cal_events.specs.Event.{said_meeting}
+use Rattle.cal_events.specs.Series.{AreKnownByStart}
 use Rattle.cal_events.specs.declared.instance.Instance.{Instance}
 use Rattle.cal_events.specs.declared.instances.Bound.{Bound}
 use Rattle.cal_events.specs.declared.instances.Instances.{Instances}
-use Rattle.cal_events.proofs.WholeLists.{order, after_later}
+use Rattle.cal_events.proofs.shared_lemmas.WholeLists.{order, after_later}
 use Rattle.cal_period.specs.Walks.{walk_place, AreAllLeft, AreLeftFrom, AreCounted, IsAhead, IsBehind, IsLastBehind, IsLastSince, BeginsWalk, EntersWalk, GoesPast, GoesOn, EndsLater}
 use Rattle.cal_period.specs.declared.walk.Walk.{Walk}
 use Rattle.cal_period.proofs.Counts.{count_none, count_past, earlier}

@@ -5,7 +5,7 @@ use Rattle.profile.specs.checker.Instances.{Instance as SaidInstance}
 use Rattle.profile.specs.events.Events.{Event}
 use Rattle.profile.specs.events.Starts.{IsInstance, SharesInstant}
 use Rattle.profile.specs.events.Confirmed.{Confirmed, IsInSeries}
-use Rattle.cal_events.specs.Calendars.{instance_of}
+use Rattle.cal_events.specs.Calendar.{instance_of}
 use Rattle.cal_events.specs.declared.instance.Instance.{Instance}
 use Rattle.cal_period.specs.declared.beside.Beside.{Beside}
 

@@ -7,7 +7,7 @@ use Rattle.profile.specs.checker.Certificates.{IsPairBefore}
 use Rattle.profile.specs.events.Properties.{first_second}
 use Rattle.profile.specs.events.Events.{Event}
 use Rattle.profile.specs.events.Starts.{IsInstance, AreInstancesFrom}
-use Rattle.cal_events.specs.Calendars.{instance_of}
+use Rattle.cal_events.specs.Calendar.{instance_of}
 use Rattle.cal_period.specs.Clear.{ShareStart}
 use Rattle.cal_period.specs.declared.sweep.Swept.{Swept}
 use Rattle.cal_period.specs.declared.every_pair.Shared.{Shared}

@@ -3,7 +3,7 @@ use Rattle.std.specs.Prelude.{◌≡◌, ◌⊎◌, ℤ, ◌≤ℤ◌, ◌<ℤ�
 use Rattle.profile.specs.checker.Instances.{Instance as SaidInstance, horizon}
 use Rattle.profile.specs.events.Events.{Event}
 use Rattle.profile.specs.events.Starts.{IsInstance}
-use Rattle.cal_events.specs.Calendars.{instance_of}
+use Rattle.cal_events.specs.Calendar.{instance_of}
 use Rattle.cal_events.specs.declared.instance.Instance.{Instance}
 use Rattle.cal_period.specs.Clear.{AreSeriesClear, ArePair}
 

@@ -4,7 +4,7 @@ use Rattle.profile.specs.checker.Instances.{Instance}
 use Rattle.profile.specs.events.Properties.{first_second}
 use Rattle.profile.specs.events.Events.{Event}
 use Rattle.profile.specs.events.Starts.{AreInstancesFrom}
-use Rattle.cal_events.specs.Calendars.{instance_of}
+use Rattle.cal_events.specs.Calendar.{instance_of}
 use Rattle.cal_period.specs.Clear.{AreSeriesClear, IsSeriesClear, ArePair, AreTwo}
 use Rattle.cal_period.specs.declared.sweep.Swept.{Swept}
 

@@ -1,6 +1,6 @@
 //! Singles of a calendar beside its series. No memory is taken.
 ghost use Rattle.std.specs.Prelude.{map};
-ghost use Rattle.cal_events.specs.SaidSeries.{series_said};
+ghost use Rattle.cal_events.specs.Series.{series_said};
 ghost use Rattle.cal_period.specs.Besides.{IsBesideOr, IsSingleOr, IsSharerOr};
 
 use cal_events::{Calendar, Instance, Series, Span};

@@ -1,6 +1,6 @@
 //! A search for a clash of two series. It goes past the starts of both from where the later of them begins, less a width, to the end of the one
 //! that ends first. No memory is taken.
-ghost use Rattle.cal_events.specs.SaidSeries.{series_said};
+ghost use Rattle.cal_events.specs.Series.{series_said};
 ghost use Rattle.cal_period.specs.Onward.{IsSharedByPair, IsFirstStart, MeetFrom, IsEntry};
 
 use crate::abreast::{Turn, turn_of};

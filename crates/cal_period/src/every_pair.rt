@@ -1,6 +1,6 @@
 //! A sweep through all pairs of series: each with itself, and with those after it. No memory is taken.
 ghost use Rattle.std.specs.Prelude.{◌≤◌, ◌<◌, length, map};
-ghost use Rattle.cal_events.specs.SaidSeries.{series_said};
+ghost use Rattle.cal_events.specs.Series.{series_said};
 ghost use Rattle.cal_period.specs.Every.{IsAtSwept, IsAtDrawn, IsRowSwept, IsRowDrawn, AreAllSwept, AreAllDrawn};
 
 use crate::sweep::{Swept, sweep_alone, sweep_pair};

@@ -1,5 +1,5 @@
 //! A sweep through the starts of two series, or of one, up to the horizon. No memory is taken.
-ghost use Rattle.cal_events.specs.SaidSeries.{series_said};
+ghost use Rattle.cal_events.specs.Series.{series_said};
 ghost use Rattle.cal_period.specs.Swept.{IsPairSwept, ArePairDrawn, IsAloneSwept, AreAloneDrawn};
 
 use crate::walk::Walk;

@@ -16,8 +16,8 @@ use Rattle.profile.specs.checker.Certificates.{Claims, IsClaims, text_of, Certif
 use Rattle.profile.specs.events.Events.{Event}
 use Rattle.profile.specs.events.Starts.{IsInstance, SharesInstant}
 use Rattle.profile.specs.events.Confirmed.{Confirmed, IsInSeries, IsOneOf}
-use Rattle.cal_events.specs.Calendars.{instance_of, owned_key_of, HaveOwnKeys}
-use Rattle.cal_events.specs.SaidSeries.{series_said}
+use Rattle.cal_events.specs.Calendar.{instance_of, owned_key_of, HaveOwnKeys}
+use Rattle.cal_events.specs.Series.{series_said}
 use Rattle.cal_events.specs.declared.series.Series.{Series}
 use Rattle.cal_period.proofs.EveryPair.{said_at}
 use Rattle.cal_events.specs.declared.instance.Instance.{Instance}
@@ -25,7 +25,7 @@ use Rattle.cal_events.specs.declared.instance.OwnedKey.{OwnedKey}
 use Rattle.cal_period.specs.Clear.{ShareStart}
 use Rattle.cal_period.specs.Besides.{HasNoSharer}
 use Rattle.cal_period.specs.Every.{IsPairClear, PairShares}
-use Rattle.cal_events.proofs.KeyLemmas.{key_total, key_exact}
+use Rattle.cal_events.proofs.draft_lemmas.KeyLemmas.{key_total, key_exact}
 use Rattle.clash_cert.specs.declared.making.Clash.{Clash}
 use Rattle.clash_cert.specs.Makings.{HasKeys, IsNamedClash, IsNamedAs, AreNamed, IsLaterStart}
 use Rattle.ical_values.proofs.Facts.{is_lt_true}

@@ -5,7 +5,7 @@ use Rattle.std.specs.declared.cmp.Ordering.TheVariants.{Less}
 use Rattle.profile.specs.checker.Instances.{Instance, AreClashing, instance_cmp}
 use Rattle.profile.specs.checker.Certificates.{text_of, CertificateHoldsFor}
 use Rattle.profile.specs.events.Confirmed.{Confirmed, IsOneOf}
-use Rattle.cal_events.specs.Calendars.{owned_key_of}
+use Rattle.cal_events.specs.Calendar.{owned_key_of}
 use Rattle.clash_cert.specs.declared.making.Clash.{Clash}
 use Rattle.clash_cert.specs.declared.making.Made.{Made}
 use Rattle.clash_cert.specs.declared.making.Made.TheVariants as made

@@ -5,7 +5,7 @@ use Rattle.profile.specs.checker.Calendars.{CertificateHolds, SpellsCalendar, Is
 use Rattle.profile.specs.checker.Certificates.{CertificateHoldsFor}
 use Rattle.profile.specs.events.Confirmed.{Confirmed, IsInSeries, IsOneOf}
 use Rattle.profile.specs.checker.Instances.{Instance, AreClear, IsWithin, horizon}
-use Rattle.cal_events.proofs.KeyLemmas.{same_or_other}
+use Rattle.cal_events.proofs.draft_lemmas.KeyLemmas.{same_or_other}
 
 -- what is confirmed isn't neither a single nor of a series
 one_of : (all : Confirmed) (instance : Instance) → ((IsInSeries all.series instance → ⊥) → Contains all.singles instance) → (IsOneOf all instance → ⊥) → ⊥

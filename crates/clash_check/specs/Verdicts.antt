@@ -7,7 +7,7 @@ use Rattle.profile.specs.checker.Certificates.{CertificateHoldsFor, IsWrongText,
 use Rattle.profile.specs.events.Confirmed.{Confirmed}
 use Rattle.cal_events.specs.declared.instance.Instance.{Instance}
 use Rattle.cal_events.specs.declared.instance.OwnedKey.{OwnedKey}
-use Rattle.cal_events.specs.Calendars.{key_of, owned_key_of, HaveDifferentKeys, HaveOwnKeys}
+use Rattle.cal_events.specs.Calendar.{key_of, owned_key_of, HaveDifferentKeys, HaveOwnKeys}
 use Rattle.cal_period.specs.Every.{AreLists, all_count}
 use Rattle.clash_check.specs.declared.verdict.Checked.{Checked}
 use Rattle.clash_check.specs.declared.verdict.Verdict.{Verdict}

@@ -7,8 +7,8 @@ ghost use Rattle.profile.specs.events.Confirmed.{Confirmed, IsInSeries, IsOneOf}
 ghost use Rattle.profile.specs.checker.Calendars.{CertificateHolds};
 ghost use Rattle.profile.specs.checker.Certificates.{Claims, CertificateHoldsFor, HasCounts, SpellsCertificate};
 ghost use Rattle.ical_values.specs.Octets.{address_octets};
-ghost use Rattle.cal_events.specs.Calendars.{instance_of, owned_key_of};
-ghost use Rattle.cal_events.specs.SaidSeries.{series_said};
+ghost use Rattle.cal_events.specs.Calendar.{instance_of, owned_key_of};
+ghost use Rattle.cal_events.specs.Series.{series_said};
 ghost use Rattle.clash_cert.specs.Makings.{IsClashIn};
 ghost use Rattle.clash_check.specs.Verdicts.{IsVerdict, MakesFew, IsRefusedCalendar, IsJudgement, HasThatKey, ShareInstant, singles_count};
 

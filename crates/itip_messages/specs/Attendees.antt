@@ -4,7 +4,7 @@ use Rattle.ical_values.specs.Octets.{address_octets}
 use denote.Ref.{Bor}
 use Rattle.profile.specs.events.EventComponents as events
 use Rattle.cal_events.specs.declared.component.Attendee.{Attendee}
-use Rattle.cal_events.specs.Events.{attendee_of}
+use Rattle.cal_events.specs.Component.{attendee_of}
 
 -- the octets of its address
 abbrev pub octets_of : Attendee → List ℕ

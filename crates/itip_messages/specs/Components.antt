@@ -5,8 +5,8 @@ use Rattle.std.specs.Str.{bytes_eq}
 use Rattle.profile.specs.events.EventComponents.{EventComponent as SaidComponent}
 use Rattle.profile.specs.events.Confirmed.{AreApart, has_series}
 use Rattle.cal_events.specs.OwnInstances.{own_instance_at}
-use Rattle.cal_events.specs.SaidSeries.{IsSeriesOf, series_said}
-use Rattle.itip_messages.specs.Bodies.{IsCanonical, IsReady}
+use Rattle.cal_events.specs.Series.{IsSeriesOf, series_said}
+use Rattle.itip_messages.specs.Body.{IsCanonical, IsReady}
 use Rattle.profile.specs.rooms.Messages as profile
 use Rattle.profile.specs.rooms.Messages.{SpellsMessage, cancels, raised_to, own_revision, AreBySlot}
 use Rattle.profile.specs.events.EventComponents as events
@@ -21,7 +21,7 @@ use Rattle.itip_messages.specs.declared.room_message.MessageComponent.{MessageCo
 use Rattle.cal_events.specs.declared.component.EventComponent.{EventComponent}
 use Rattle.cal_events.specs.declared.component.Purpose.{Purpose}
 use Rattle.cal_events.specs.declared.component.Purpose.TheVariants as purposes
-use Rattle.cal_events.specs.Events.{component_of}
+use Rattle.cal_events.specs.Component.{component_of}
 use Rattle.itip_messages.specs.declared.room_message.Method.{Method}
 use Rattle.itip_messages.specs.declared.room_message.Method.TheVariants.{Request, Add, Cancel}
 
@@ -68,7 +68,7 @@ pub record AreOfMessage (asking : Method) (by : Address) (named : Text) (compone
   pub each : AllZip (SaysComponent said.method (option_map own_revision said.meeting.master)) events components
 
 -- and octets spell that
-pub record AreRead (asking : Method) (by : Address) (named : Text) (components : List MessageComponent) : Type 0 where
+pub record AreLinesRead (asking : Method) (by : Address) (named : Text) (components : List MessageComponent) : Type 0 where
   pub octets : List ℕ
   pub said : profile.Message
   pub spells : SpellsMessage octets said

@@ -6,7 +6,7 @@ ghost use Rattle.std.specs.Ordering.{nat_cmp};
 ghost use Rattle.std.specs.Cmp.Lexicographic.{slice_cmp};
 ghost use Rattle.std.specs.Str.{bytes_eq};
 ghost use Rattle.ical_values.specs.Octets.{address_octets};
-ghost use Rattle.cal_events.specs.Events.{attendee_of};
+ghost use Rattle.cal_events.specs.Component.{attendee_of};
 ghost use Rattle.profile.specs.organisers.Objects.{counted};
 ghost use Rattle.itip_messages.specs.Attendees.{line_said, octets_of};
 
@@ -34,7 +34,7 @@ impl Model for Attendees {
     ghost use Rattle.std.specs.Cmp.Lexicographic.{slice_cmp};
     ghost use Rattle.ical_values.specs.Octets.{address_octets};
     ghost use Rattle.profile.specs.events.EventComponents as events;
-    ghost use Rattle.cal_events.specs.Events.{attendee_of};
+    ghost use Rattle.cal_events.specs.Component.{attendee_of};
     ghost use Rattle.itip_messages.specs.Attendees.{octets_of};
 
     ghost Value = { List events.Attendee };

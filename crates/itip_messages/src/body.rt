@@ -11,8 +11,8 @@ ghost use Rattle.profile.specs.events.Properties.{BothOrNeither};
 ghost use Rattle.profile.specs.rooms.Messages.{AreAscending, Content, IsContent, WritesEnd, canonical, is_in_dates, list_lines};
 ghost use Rattle.cal_rules.specs.Views.{until_of};
 ghost use Rattle.cal_zones.specs.Kinds.{zone_of};
-ghost use Rattle.cal_events.specs.Events.{component_of, times_of};
-ghost use Rattle.itip_messages.specs.Bodies.{AppendsOthers, AppendsRule, AppendsStart, AppendsTimes, AppendsZone, EndIsTold, IsCanonical, IsCutAtZone, IsReady, IsTold, crlf_lines, zone_place};
+ghost use Rattle.cal_events.specs.Component.{component_of, times_of};
+ghost use Rattle.itip_messages.specs.Body.{AppendsOthers, AppendsRule, AppendsStart, AppendsTimes, AppendsZone, EndIsTold, IsCanonical, IsCutAtZone, IsReady, IsTold, crlf_lines, zone_place};
 
 use cal_days::Day;
 use cal_events::{EventComponent, EventTimes, FIRST_SECOND, HORIZON, as_end};

@@ -3,7 +3,7 @@ ghost use Rattle.std.specs.Prelude.{◌≡◌, ◌++◌, ℕ, Some, codes, strin
 ghost use Rattle.std.specs.Str.Lines.{lines};
 ghost use Rattle.profile.specs.rooms.Kept.{renamed};
 ghost use Rattle.profile.specs.text.Lines.{folded, written};
-ghost use Rattle.itip_messages.specs.BodyTexts.{WritesBody, WritesText, name_of, named_lines};
+ghost use Rattle.itip_messages.specs.BodyText.{WritesBody, WritesText, name_of, named_lines};
 
 use crate::body::zone_lines;
 use crate::writer::ObjectWriter;

@@ -3,8 +3,8 @@ ghost use Rattle.std.specs.Prelude.{◌≡◌, ◌++◌, map, OnOk, OnErr};
 ghost use Rattle.profile.specs.text.Lines.{written};
 ghost use Rattle.ical_values.specs.Octets.{address_octets};
 ghost use Rattle.ical_values.specs.Written.{Appends};
-ghost use Rattle.itip_messages.specs.Replies.{WritesLines};
-ghost use Rattle.itip_messages.specs.Meetings.{IsCancelEvent, IsCancelOf, attendee_lines};
+ghost use Rattle.itip_messages.specs.Reply.{WritesLines};
+ghost use Rattle.itip_messages.specs.MeetingText.{IsCancelEvent, IsCancelOf, attendee_lines};
 
 use crate::event_lines::{write_revision, write_status};
 use crate::writer::ObjectWriter;

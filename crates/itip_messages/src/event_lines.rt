@@ -4,8 +4,8 @@ ghost use Rattle.profile.specs.text.Lines.{written};
 ghost use Rattle.profile.specs.rooms.Revisions.{At};
 ghost use Rattle.profile.specs.organisers.Sent.{TellsRevision, status_lines};
 ghost use Rattle.itip_order.specs.Parts.{revision_of, slot_of};
-ghost use Rattle.itip_messages.specs.BodyTexts.{WritesSlot};
-ghost use Rattle.itip_messages.specs.Replies.{WritesLines};
+ghost use Rattle.itip_messages.specs.BodyText.{WritesSlot};
+ghost use Rattle.itip_messages.specs.Reply.{WritesLines};
 
 use crate::writer::ObjectWriter;
 use ical_values::Stamp;

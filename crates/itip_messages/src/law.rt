@@ -8,7 +8,7 @@ ghost use Rattle.profile.specs.rooms.Rooms.{Book, Claim, shown};
 ghost use Rattle.profile.specs.text.Values.{IsUid};
 ghost use Rattle.profile.specs.text.Lines.{is_too_long, written};
 ghost use Rattle.profile.specs.streams.Streams.{AreClaims, ObjectFault, Said, Spells};
-ghost use Rattle.itip_messages.specs.ReadBack.{AreTextAnswers, IsTextAddress, IsTextValue, IsReadAddress, IsAnswer, IsVevent, ReadsAs, SaysAnswer, SaysRefresh, SpellsRefresh, SpellsReply};
+ghost use Rattle.itip_messages.specs.Law.{AreTextAnswers, IsTextAddress, IsTextValue, IsReadAddress, IsAnswer, IsVevent, ReadsAs, SaysAnswer, SaysRefresh, SpellsRefresh, SpellsReply};
 
 use cal_events::one_event;
 use ical_tree::one_tree;

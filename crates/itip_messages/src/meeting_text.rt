@@ -7,10 +7,10 @@ ghost use Rattle.profile.specs.rooms.Revisions as revisions;
 ghost use Rattle.profile.specs.organisers.Objects.{counted};
 ghost use Rattle.profile.specs.organisers.Sent.{IsAsked};
 ghost use Rattle.ical_values.specs.Written.{Appends};
-ghost use Rattle.cal_events.specs.Events.{attendee_of};
+ghost use Rattle.cal_events.specs.Component.{attendee_of};
 ghost use Rattle.itip_order.specs.Parts.{slot_of};
-ghost use Rattle.itip_messages.specs.Replies.{WritesLines, text_now};
-ghost use Rattle.itip_messages.specs.Meetings.{IsRequestOf, IsTextOf, WritesComponent, WritesComponents, WritesLine};
+ghost use Rattle.itip_messages.specs.Reply.{WritesLines, text_now};
+ghost use Rattle.itip_messages.specs.MeetingText.{IsRequestOf, IsTextOf, WritesComponent, WritesComponents, WritesLine};
 
 use crate::body_text::write_body;
 use crate::event_lines::{write_revision, write_slot, write_status};

@@ -7,7 +7,7 @@ ghost use Rattle.ical_tree.specs.Tree.{tree_of};
 ghost use Rattle.profile.specs.faults.Faults.{is_message_fault};
 ghost use Rattle.profile.specs.text.Lines.{line_value};
 ghost use Rattle.profile.specs.rooms.Messages.{Message as SaidMessage, MethodFault, MessageFault, SaysMessage, SpellsMessage};
-ghost use Rattle.itip_messages.specs.Readings.{IsKindWord, IsMessageOf, IsSpelled, NamesKind, ReadFault, WordFault};
+ghost use Rattle.itip_messages.specs.Message.{IsKindWord, IsMessageOf, IsSpelled, NamesKind, ReadFault, WordFault};
 
 use crate::organiser_object::{Operation, OrganiserObject};
 use crate::room_message::{Method, RoomMessage};

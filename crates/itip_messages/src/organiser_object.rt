@@ -8,11 +8,11 @@ ghost use Rattle.ical_tree.specs.Tree.{tree_of};
 ghost use Rattle.profile.specs.faults.Faults.{is_message_fault};
 ghost use Rattle.profile.specs.organisers.Objects.{has_one_attendee, is_of_attendee};
 ghost use Rattle.ical_values.specs.Octets.{address_octets};
-ghost use Rattle.cal_events.specs.Events.{component_of};
+ghost use Rattle.cal_events.specs.Component.{component_of};
 ghost use Rattle.cal_events.specs.declared.component.EventComponent.{EventComponent};
-ghost use Rattle.itip_messages.specs.Bodies.{IsReady};
-ghost use Rattle.itip_messages.specs.Messages.{IsDated, event_slot};
-ghost use Rattle.itip_messages.specs.OrganiserObjects.{IsNotOneEach, IsOrganiserObjectOf, IsOrganiserFault, SaysObjectComponent, operation_said, operation_purpose};
+ghost use Rattle.itip_messages.specs.Body.{IsReady};
+ghost use Rattle.itip_messages.specs.RoomMessage.{IsDated, event_slot};
+ghost use Rattle.itip_messages.specs.OrganiserObject.{IsNotOneEach, IsOrganiserObjectOf, IsOrganiserFault, SaysObjectComponent, operation_said, operation_purpose};
 
 use crate::attendees::Attendees;
 use crate::body::canonical_body;

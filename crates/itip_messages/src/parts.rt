@@ -6,7 +6,7 @@ ghost use Rattle.ical_values.specs.Octets.{address_octets};
 ghost use Rattle.itip_order.specs.Parts.{part_of, parts_of};
 ghost use Rattle.profile.specs.rooms.Messages as profile;
 ghost use Rattle.profile.specs.rooms.Messages.{AreParts};
-ghost use Rattle.itip_messages.specs.Messages.{RepresentsMessage, component_names, has_part, is_component_for, part_for, message_parts_for};
+ghost use Rattle.itip_messages.specs.RoomMessage.{RepresentsMessage, component_names, has_part, is_component_for, part_for, message_parts_for};
 
 use crate::room_message::{MessageComponent, Method, RoomMessage};
 use ical_values::Address;

@@ -1,8 +1,8 @@
 //! Refreshes of a room (RFC 5546 3.2.6): it asks for a meeting of which it has only instances.
 ghost use Rattle.std.specs.Prelude.{◌≡◌, OnOk, OnErr};
 ghost use Rattle.ical_values.specs.Written.{Appends};
-ghost use Rattle.itip_messages.specs.Replies.{WritesLines};
-ghost use Rattle.itip_messages.specs.Refreshes.{IsRefreshText, IsRefreshLines};
+ghost use Rattle.itip_messages.specs.Reply.{WritesLines};
+ghost use Rattle.itip_messages.specs.Refresh.{IsRefreshText, IsRefreshLines};
 
 use crate::writer::ObjectWriter;
 use ical_values::{Address, Stamp, Text};

@@ -3,9 +3,9 @@ ghost use Rattle.std.specs.Prelude.{◌≡◌, ◌↔◌, ◌++◌, ◌∷◌, [
 ghost use Rattle.profile.specs.text.Lines.{folded};
 ghost use Rattle.profile.specs.text.Values.{IsClockSeconds, WritesStamp};
 ghost use Rattle.profile.specs.rooms.Messages.{TellsSlot, TellsOutcome, IsKeyText, word, word_octet, is_word_octet, hexadecimal};
-ghost use Rattle.cal_events.specs.Calendars.{key_of as instance_key};
+ghost use Rattle.cal_events.specs.Calendar.{key_of as instance_key};
 ghost use Rattle.ical_values.specs.Written.{Appends};
-ghost use Rattle.itip_messages.specs.Replies.{IsConflict, IsReplyText, IsWrittenEvent, WritesEvents, WritesLines, attendee_line, busy, conflict_key, decision_outcome, slot_at};
+ghost use Rattle.itip_messages.specs.Reply.{IsConflict, IsReplyText, IsWrittenEvent, WritesEvents, WritesLines, attendee_line, busy, conflict_key, decision_outcome, slot_at};
 
 use crate::writer::ObjectWriter;
 use cal_events::InstanceKey;

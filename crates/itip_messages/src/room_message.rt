@@ -10,12 +10,12 @@ ghost use Rattle.profile.specs.faults.Faults.{is_message_fault};
 ghost use Rattle.profile.specs.events.Events.{Event, EventFault, SaysEvent};
 ghost use Rattle.profile.specs.rooms.Messages.{SpellsMessage, cancels, is_add, is_cancel, later_of, own_revision, raised_to};
 ghost use Rattle.profile.specs.rooms.Revisions.{slot_cmp};
-ghost use Rattle.cal_events.specs.Events.{component_of};
-ghost use Rattle.cal_events.specs.OneMeeting.{meeting_of};
+ghost use Rattle.cal_events.specs.Component.{component_of};
+ghost use Rattle.cal_events.specs.MeetingComponents.{meeting_of};
 ghost use Rattle.cal_events.specs.declared.component.EventComponent.{EventComponent};
 ghost use Rattle.itip_order.specs.Parts.{slot_of, revision_of};
-ghost use Rattle.itip_messages.specs.Bodies.{IsReady};
-ghost use Rattle.itip_messages.specs.Components.{AreRead, IsDated, IsOfMessage, SaysComponent, component_names, event_slot, method_said, purpose_of};
+ghost use Rattle.itip_messages.specs.Body.{IsReady};
+ghost use Rattle.itip_messages.specs.Components.{AreLinesRead, IsDated, IsOfMessage, SaysComponent, component_names, event_slot, method_said, purpose_of};
 
 use crate::attendees::Attendees;
 use crate::body::canonical_body;
@@ -143,11 +143,11 @@ pub struct RoomMessage {
     organiser: Address,
     uid: Text,
     components: Vec<MessageComponent>,
-    pub ghost read: { ∥ AreRead method organiser uid components.items ∥₁ },
+    pub ghost read: { ∥ AreLinesRead method organiser uid components.items ∥₁ },
 }
 
 impl RoomMessage {
-    ghost use Rattle.itip_messages.specs.Messages.{RepresentsMessage};
+    ghost use Rattle.itip_messages.specs.RoomMessage.{RepresentsMessage};
 
     /// The message of that method that an object is. Where it says one, some octets spell that.
     /// Refused: as by `MeetingComponents::read`.

@@ -7,7 +7,7 @@ ghost use Rattle.profile.specs.organisers.Organisers.{OrganiserBook, ShowsSeen, 
 ghost use Rattle.profile.specs.rooms.Messages.{AreParts, SpellsMessage};
 ghost use Rattle.profile.specs.rooms.Revisions.{Revision};
 ghost use Rattle.profile.specs.text.Lines.{is_too_long};
-ghost use Rattle.itip_messages.specs.SentBack.{IsSentAddress, IsSentName, SpellsRequest, SpellsShown, cancel_message, cancel_part};
+ghost use Rattle.itip_messages.specs.SentLaw.{IsSentAddress, IsSentName, SpellsRequest, SpellsShown, cancel_message, cancel_part};
 
 /// What an organiser read of a store can be sent: its organiser and its UID, and the addresses of its attendees.
 pub fn stored_texts_can_be_sent()

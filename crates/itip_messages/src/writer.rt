@@ -5,7 +5,7 @@ ghost use Rattle.profile.specs.text.Values.{escaped};
 ghost use Rattle.profile.specs.rooms.Messages.{opening_lines, method_lines};
 ghost use Rattle.ical_values.specs.Octets.{text_octets};
 ghost use Rattle.ical_values.specs.Written.{Appends};
-ghost use Rattle.itip_messages.specs.Replies.{IsWrittenStampLine, text_now};
+ghost use Rattle.itip_messages.specs.Reply.{IsWrittenStampLine, text_now};
 
 use ical_lines::fold::{write_line, write_pieces};
 use ical_values::shown::{escaped_text, sequence_text, stamp_text};

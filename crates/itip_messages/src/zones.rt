@@ -2,7 +2,7 @@
 ghost use Rattle.std.specs.Prelude.{◌≡◌, [], ◌++◌, ◌+◌, ◌<◌, ◌^◌, ℕ, List, Some, length, map, slice_get, IfOk, OnOk};
 ghost use Rattle.profile.specs.rooms.Kept.{kept_zone_name, zone_texts};
 ghost use Rattle.profile.specs.rooms.Messages.{zone_text};
-ghost use Rattle.itip_messages.specs.Zoning.{with_zone};
+ghost use Rattle.itip_messages.specs.Zones.{with_zone};
 
 use crate::writer::ObjectWriter;
 use indexmap::IndexSet;

@@ -14,7 +14,7 @@ use Rattle.profile.specs.organisers.Organisers.{Heard, OrganiserBook, Stored, an
 use Rattle.organiser_books.specs.declared.meeting.StoredMeeting.{StoredMeeting}
 use Rattle.organiser_books.specs.Representation.{answer_in, same_text, AreSeen, LatestOf, RepresentsStored, RepresentsAt}
 use Rattle.itip_order.specs.Parts.{revision_of}
-use Rattle.itip_messages.specs.OrganiserObjects.{SaysObjectComponent}
+use Rattle.itip_messages.specs.OrganiserObject.{SaysObjectComponent}
 use Rattle.organiser_books.specs.Attending.{is_told, lists_said, AreAttending}
 use Rattle.organiser_books.proofs.Latest.{latest_turned}
 use Rattle.organiser_books.proofs.Lines.{same_is}

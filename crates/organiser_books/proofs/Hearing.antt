@@ -15,7 +15,7 @@ use Rattle.profile.specs.rooms.Revisions.{Slot, Whole, At, slot_cmp}
 use Rattle.profile.specs.organisers.Organisers.{Heard, Stored, answers_store}
 use Rattle.profile.specs.events.EventComponents as events
 use Rattle.cal_events.specs.declared.component.Attendee.{Attendee}
-use Rattle.cal_events.specs.Events.{attendee_of}
+use Rattle.cal_events.specs.Component.{attendee_of}
 use Rattle.organiser_books.specs.declared.answers.AttendeeAnswer.{AttendeeAnswer}
 use Rattle.organiser_books.specs.declared.answers.AnswerKey.{AnswerKey}
 use Rattle.organiser_books.specs.Answers.{answer_key_at, later_answer, same_answer_key}

@@ -18,7 +18,7 @@ use Rattle.profile.specs.organisers.Objects as objects
 use Rattle.profile.specs.organisers.Organisers as profile
 use Rattle.profile.specs.organisers.Organisers.{Heard, OrganiserBook, Stored, after_reply, heard_in, last_store}
 use Rattle.itip_order.specs.Parts.{revision_of}
-use Rattle.itip_messages.specs.OrganiserObjects.{SaysObjectComponent, RepresentsObject}
+use Rattle.itip_messages.specs.OrganiserObject.{SaysObjectComponent, RepresentsObject}
 use Rattle.itip_messages.specs.declared.organiser_object.OrganiserObject.{OrganiserObject}
 use Rattle.organiser_books.specs.declared.meeting.StoredMeeting.{StoredMeeting}
 use Rattle.organiser_books.specs.Attending.{is_address, is_told, lists_said, AreAttending}

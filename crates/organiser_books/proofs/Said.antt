@@ -14,7 +14,7 @@ use Rattle.profile.specs.organisers.Organisers.{Heard, attendees_of, heard_in, i
 use Rattle.itip_order.specs.declared.part.Slot.{Slot}
 use Rattle.itip_order.specs.declared.part.Slot.TheVariants.{Whole, At}
 use Rattle.itip_order.specs.Parts.{slot_of}
-use Rattle.itip_messages.specs.OrganiserObjects.{SaysObjectComponent}
+use Rattle.itip_messages.specs.OrganiserObject.{SaysObjectComponent}
 use Rattle.itip_messages.specs.declared.organiser_object.ObjectComponent.{ObjectComponent}
 use Rattle.organiser_books.specs.Attending.{addresses_in, attendance_of, lists_of, lists_said, names, scheduled_among, schedules_line, sent_among, Attends, AreAttending, Entries}
 use Rattle.organiser_books.specs.declared.attending.Attendance.{Attendance}

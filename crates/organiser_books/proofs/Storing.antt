@@ -15,7 +15,7 @@ use Rattle.profile.specs.organisers.Objects.{is_of_attendee}
 use Rattle.profile.specs.organisers.Organisers.{Heard, OrganiserBook, Sent, Sends, Stored, StateFault, SendsStore, IsStore, answers_store, is_attendee, is_called_off, last_events, last_store, most_sequence, scheduled_in, sequence_after, without}
 use Rattle.profile.specs.organisers.Organisers.StateFault.{unknown, ahead, spent, stranger}
 use Rattle.itip_order.specs.Parts.{revision_of}
-use Rattle.itip_messages.specs.OrganiserObjects.{SaysObjectComponent, RepresentsObject}
+use Rattle.itip_messages.specs.OrganiserObject.{SaysObjectComponent, RepresentsObject}
 use Rattle.itip_messages.specs.declared.organiser_object.ObjectComponent.{ObjectComponent}
 use Rattle.itip_messages.specs.declared.organiser_object.OrganiserObject.{OrganiserObject}
 use Rattle.organiser_books.specs.declared.answers.AttendeeAnswer.{AttendeeAnswer}

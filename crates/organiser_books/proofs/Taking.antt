@@ -11,7 +11,7 @@ use Rattle.profile.specs.organisers.Objects.{is_of_attendee}
 use Rattle.profile.specs.organisers.Organisers.{Heard, OrganiserBook, Stored, StateFault, heard_in, is_attendee, last_store, sent_status, participation_word, IsSeen, ShowsSeen}
 use Rattle.profile.specs.organisers.Organisers.StateFault.{unknown, ahead, spent, stranger}
 use Rattle.profile.specs.organisers.Sent.{IsComponentText, IsMeetingText}
-use Rattle.itip_messages.specs.OrganiserObjects.{operation_said, RepresentsObject}
+use Rattle.itip_messages.specs.OrganiserObject.{operation_said, RepresentsObject}
 use Rattle.itip_messages.specs.declared.organiser_object.Operation.{Operation}
 use Rattle.itip_messages.specs.declared.organiser_object.Operation.TheVariants.{Store, Reply, Refresh}
 use Rattle.itip_messages.specs.declared.organiser_object.OrganiserObject.{OrganiserObject}

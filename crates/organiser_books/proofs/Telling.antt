@@ -10,7 +10,7 @@ use Rattle.std.proofs.lemmas.List.Folds.{list_any-append}
 use Rattle.ical_values.specs.Octets.{address_octets}
 use Rattle.profile.specs.events.EventComponents.{Attendee}
 use Rattle.organiser_books.specs.declared.attending.Attendance.{Attendance}
-use Rattle.organiser_books.specs.Attending.{AreAttending, AreTold, AreUntold, Attends, Entries, attendance_of, is_address, is_told, is_told_in, names, told_too}
+use Rattle.organiser_books.specs.Attending.{AreAttending, AreSentTo, AreUntold, Attends, Entries, attendance_of, is_address, is_told, is_told_in, names, told_too}
 use Rattle.organiser_books.proofs.Lines.{same_is, same_itself}
 use Rattle.organiser_books.proofs.Noting.{set_other, set_own}
 use Rattle.organiser_books.proofs.Said.{known_is}
@@ -33,10 +33,10 @@ told_both : (a b : Bool) (r : Option Attendance) → option_map (told_too b) (op
 told_both a b None = refl
 told_both a b (Some k) = λ i. Some (record k { told = or_assoc k.told a b i })
 
-pub told_nobody : (es : Entries) → AreTold [] es es
+pub told_nobody : (es : Entries) → AreSentTo [] es es
 told_nobody es = record { order = refl; each = λ q. sym (told_none (attendance_of q es)) }
 
-pub told_then : (xs ys : List (List ℕ)) (es fs gs : Entries) → AreTold xs es fs → AreTold ys fs gs → AreTold (xs ++ ys) es gs
+pub told_then : (xs ys : List (List ℕ)) (es fs gs : Entries) → AreSentTo xs es fs → AreSentTo ys fs gs → AreSentTo (xs ++ ys) es gs
 told_then xs ys es fs gs h k = record {
   order = k.order ∙ h.order;
   each = λ q.
@@ -47,7 +47,7 @@ told_then xs ys es fs gs h k = record {
 }
 
 -- one who is known
-pub told_known : (a : List ℕ) (es new : Entries) (known : Attendance) → attendance_of a es ≡ Some known → keys_of new ≡ keys_of es → new ≡ set_value (is_address a) es (record known { told = true }) → AreTold (a ∷ []) es new
+pub told_known : (a : List ℕ) (es new : Entries) (known : Attendance) → attendance_of a es ≡ Some known → keys_of new ≡ keys_of es → new ≡ set_value (is_address a) es (record known { told = true }) → AreSentTo (a ∷ []) es new
 told_known a es new known e k w = record {
   order = k;
   each = λ q. elim (cases_Bool (bytes_eq a q)) [
@@ -69,7 +69,7 @@ told_known a es new known e k w = record {
     ]
 
 -- one who isn't
-pub told_unknown : (a : List ℕ) (es : Entries) → attendance_of a es ≡ None → AreTold (a ∷ []) es es
+pub told_unknown : (a : List ℕ) (es : Entries) → attendance_of a es ≡ None → AreSentTo (a ∷ []) es es
 told_unknown a es e = record {
   order = refl;
   each = λ q. elim (cases_Bool (bytes_eq q a)) [
@@ -83,7 +83,7 @@ told_unknown a es e = record {
 -- ---- whom they are
 
 -- they are attendees as before
-pub told_attending : (lists : List (List Attendee)) (to : List (List ℕ)) (es new : Entries) → AreAttending lists es → AreTold to es new → AreAttending lists new
+pub told_attending : (lists : List (List Attendee)) (to : List (List ℕ)) (es new : Entries) → AreAttending lists es → AreSentTo to es new → AreAttending lists new
 told_attending lists to es new are t = record {
   order = ap (map address_octets) t.order ∙ are.order;
   each = λ q. subst (Attends lists q) (sym (t.each q)) (at_entry q (list_any (bytes_eq q) to) (attendance_of q es) (are.each q));
@@ -94,7 +94,7 @@ told_attending lists to es new are t = record {
     at_entry q b (Some k) h = record { named = h.named; scheduled = h.scheduled }
 
 -- they are those of them who were told, where nobody was before
-pub told_are : (lists : List (List Attendee)) (to : List (List ℕ)) (es new : Entries) → AreAttending lists es → AreUntold es → AreTold to es new → (q : List ℕ) → is_told q new ≡ (list_any (names q) lists && list_any (bytes_eq q) to)
+pub told_are : (lists : List (List Attendee)) (to : List (List ℕ)) (es new : Entries) → AreAttending lists es → AreUntold es → AreSentTo to es new → (q : List ℕ) → is_told q new ≡ (list_any (names q) lists && list_any (bytes_eq q) to)
 told_are lists to es new are untold t q = ap is_told_in (t.each q) ∙ at_entry (list_any (bytes_eq q) to) (attendance_of q es) (untold q) ∙ ap (λ b. b && list_any (bytes_eq q) to) (known_is lists es q are)
   where
     at_entry : (b : Bool) (r : Option Attendance) → is_told_in r ≡ false → is_told_in (option_map (told_too b) r) ≡ (is_some r && b)

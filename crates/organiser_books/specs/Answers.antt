@@ -2,7 +2,7 @@
 use Rattle.std.specs.Prelude.{ℕ, Bool, if◌then◌else◌, Option, None, Some}
 use Rattle.std.specs.Ordering.{is_le, nat_cmp, int_cmp, ordering_then}
 use Rattle.std.specs.declared.cmp.Ordering.{Ordering}
-use Rattle.cal_events.specs.Events.{participation_of}
+use Rattle.cal_events.specs.Component.{participation_of}
 use Rattle.profile.specs.rooms.Revisions.{Slot, Whole, At}
 use Rattle.profile.specs.organisers.Organisers.{rank}
 use Rattle.organiser_books.specs.declared.answers.AttendeeAnswer.{AttendeeAnswer}

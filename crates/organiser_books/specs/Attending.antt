@@ -107,7 +107,7 @@ abbrev pub told_too : Bool → Attendance → Attendance
 told_too here attendance = record attendance { told = attendance.told || here }
 
 -- the same after these were sent a message
-pub record AreTold (to : List (List ℕ)) (before after : Entries) : Type 0 where
+pub record AreSentTo (to : List (List ℕ)) (before after : Entries) : Type 0 where
   pub order : keys_of after ≡ keys_of before
   pub each : (address : List ℕ) → attendance_of address after ≡ option_map (told_too (list_any (bytes_eq address) to)) (attendance_of address before)
 

@@ -10,9 +10,9 @@ use Rattle.ical_values.specs.declared.text.Text.{Text}
 use Rattle.profile.specs.rooms.Revisions.{Slot}
 use Rattle.profile.specs.events.EventComponents.{Attendee, Participation, NeedsAction}
 use Rattle.profile.specs.organisers.Organisers.{OrganiserBook, Stored, Heard, last_store, answers_store, heard_cmp}
-use Rattle.cal_events.specs.Events.{participation_of}
+use Rattle.cal_events.specs.Component.{participation_of}
 use Rattle.itip_order.specs.Parts.{revision_of, slot_of}
-use Rattle.itip_messages.specs.OrganiserObjects.{SaysObjectComponent}
+use Rattle.itip_messages.specs.OrganiserObject.{SaysObjectComponent}
 use Rattle.itip_messages.specs.declared.organiser_object.ObjectComponent.{ObjectComponent}
 use Rattle.organiser_books.specs.declared.answers.AttendeeAnswer.{AttendeeAnswer}
 use Rattle.organiser_books.specs.declared.answers.AnswerKey.{AnswerKey}

@@ -3,7 +3,7 @@
 ghost use Rattle.std.specs.Prelude.{◌≡◌, ◌+◌, ◌<◌, ◌≤◌, cond, Some};
 ghost use Rattle.indexmap.specs.IndexMap.{get, spare};
 ghost use Rattle.profile.specs.organisers.Organisers.{rank};
-ghost use Rattle.cal_events.specs.Events.{participation_of};
+ghost use Rattle.cal_events.specs.Component.{participation_of};
 ghost use Rattle.itip_order.specs.Parts.{slot_of};
 ghost use Rattle.organiser_books.specs.Answers.{answer_cmp, answer_key_at, same_answer_key, later_answer};
 

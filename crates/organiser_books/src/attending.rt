@@ -4,8 +4,8 @@ ghost use Rattle.std.specs.Prelude.{◌≡◌, ◌&&◌, not, ◌++◌, ◌∷�
 ghost use Rattle.ical_values.specs.Octets.{address_octets};
 ghost use Rattle.profile.specs.events.EventComponents as events;
 ghost use Rattle.profile.specs.organisers.Organisers.{without};
-ghost use Rattle.cal_events.specs.Events.{attendee_of};
-ghost use Rattle.organiser_books.specs.Attending.{lists_of, is_no_organiser, is_sent, is_told, sent_among, AreAttending, AreNoted, AreTold, AreUntold};
+ghost use Rattle.cal_events.specs.Component.{attendee_of};
+ghost use Rattle.organiser_books.specs.Attending.{lists_of, is_no_organiser, is_sent, is_told, sent_among, AreAttending, AreNoted, AreSentTo, AreUntold};
 
 use cal_events::Attendee;
 use ical_values::Address;
@@ -92,7 +92,7 @@ impl Attendance {
 
 /// Notes that these were sent a message, those of them that are attendees.
 pub(crate) fn tell(attending: &mut Attending, to: &[Address])
-    ensures { AreTold (map address_octets to.now) attending.old.entries attending.new.entries }
+    ensures { AreSentTo (map address_octets to.now) attending.old.entries attending.new.entries }
 {
     for address in to {
         tell_one(attending, address);
@@ -101,7 +101,7 @@ pub(crate) fn tell(attending: &mut Attending, to: &[Address])
 
 /// Notes that this one was sent a message, if it is an attendee.
 fn tell_one(attending: &mut Attending, address: &Address)
-    ensures { AreTold (address_octets address.now ∷ []) attending.old.entries attending.new.entries }
+    ensures { AreSentTo (address_octets address.now ∷ []) attending.old.entries attending.new.entries }
 {
     if let Some(attendance) = attending.get_mut(address) {
         attendance.told = true;

@@ -6,7 +6,7 @@ ghost use Rattle.indexmap.specs.IndexMap.{spare};
 ghost use Rattle.ical_lines.specs.Fault.{RefusesBy};
 ghost use Rattle.ical_values.specs.Octets.{address_octets};
 ghost use Rattle.profile.specs.organisers.Organisers.{Heard, Stored};
-ghost use Rattle.cal_events.specs.Events.{participation_of};
+ghost use Rattle.cal_events.specs.Component.{participation_of};
 ghost use Rattle.itip_order.specs.Parts.{revision_of, slot_of};
 ghost use Rattle.organiser_books.specs.Attending.{attendance_of, is_told};
 ghost use Rattle.organiser_books.specs.Representation.{answer_in, answered, heard_said, is_ahead, is_strange, is_unknown, AreSeen, IsReplyFault};

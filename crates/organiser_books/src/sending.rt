@@ -7,7 +7,7 @@ ghost use Rattle.profile.specs.organisers.Organisers as profile;
 ghost use Rattle.profile.specs.organisers.Organisers.{Sends};
 ghost use Rattle.profile.specs.organisers.Sent.{IsCancel};
 ghost use Rattle.itip_order.specs.Parts.{revision_of};
-ghost use Rattle.itip_messages.specs.Meetings.{AreWritten, IsRequestOf};
+ghost use Rattle.itip_messages.specs.MeetingText.{AreWritten, IsRequestOf};
 ghost use Rattle.organiser_books.specs.Calls.{sent_of};
 ghost use Rattle.organiser_books.specs.Storing.{calls_off, cancels_whole, sent_to, stored_of, SendsTo};
 

@@ -2,7 +2,7 @@
 
 ghost use Rattle.std.specs.Prelude.{◌≡◌, ◌++◌, codes, string_bytes, IfOk};
 ghost use Rattle.profile.specs.organisers.Organisers.{participation_word, sent_status};
-ghost use Rattle.cal_events.specs.Events.{participation_of};
+ghost use Rattle.cal_events.specs.Component.{participation_of};
 ghost use Rattle.organiser_books.specs.Shown.{ShowsAttendee};
 
 use crate::meeting::StoredMeeting;

@@ -44,7 +44,7 @@ pub struct Answer {
 }
 
 impl Answer {
-    ghost use Rattle.room_books.specs.Takings.{refresh_octets, reply_octets};
+    ghost use Rattle.room_books.specs.Taking.{refresh_octets, reply_octets};
 
     /// An answer that sends nothing.
     pub fn silent(kind: Kind) -> Answer

@@ -3,7 +3,7 @@
 ghost use Rattle.std.specs.Prelude.{◌≡◌, true};
 ghost use Rattle.itip_order.specs.Parts.{part_of};
 ghost use Rattle.profile.specs.rooms.Rooms.{is_set};
-ghost use Rattle.room_books.specs.Wholes.{is_of_whole};
+ghost use Rattle.room_books.specs.Claim.{is_of_whole};
 
 use cal_events::{Series, Single};
 use itip_order::{Body, Part};

@@ -3,12 +3,12 @@
 ghost use Rattle.std.specs.Prelude.{◌≡◌, ◌<◌, ◌^◌, [], ◌∷◌, filter, true, IfOk, Option, if◌then◌else◌};
 ghost use Rattle.std.specs.List.{AllZip, list_any};
 ghost use Rattle.ical_values.specs.Octets.{address_octets};
-ghost use Rattle.itip_messages.specs.Messages.{RepresentsMessage, has_part};
+ghost use Rattle.itip_messages.specs.RoomMessage.{RepresentsMessage, has_part};
 ghost use Rattle.itip_order.specs.Parts.{part_of};
-ghost use Rattle.room_books.specs.Wholes.{is_of_whole};
+ghost use Rattle.room_books.specs.Claim.{is_of_whole};
 ghost use Rattle.profile.specs.rooms.Messages as profile;
 ghost use Rattle.profile.specs.rooms.Rooms.{is_set};
-ghost use Rattle.room_books.specs.Claiming.{series_asked, AreClaimed, IsAsking, IsClaimIn, IsSameSeries};
+ghost use Rattle.room_books.specs.Claims.{series_asked, AreClaimed, IsAsking, IsClaimIn, IsSameSeries};
 
 use crate::claim::{Claim, takes_place};
 use cal_events::Series;

@@ -4,8 +4,8 @@ ghost use Rattle.std.specs.Prelude.{◌≡◌, ◌++◌, length, map, IfOk, OnOk
 ghost use Rattle.std.specs.List.Sorted.{IsSortedByKey};
 ghost use Rattle.itip_order.specs.Parts.{slot_of};
 ghost use Rattle.profile.specs.rooms.Revisions.{slot_cmp};
-ghost use Rattle.room_books.specs.BySlot.{AreAnswersBySlot, left_without};
-ghost use Rattle.room_books.specs.Views.{all_series, all_singles};
+ghost use Rattle.room_books.specs.Slots.{AreAnswersBySlot, left_without};
+ghost use Rattle.room_books.specs.Meeting.{all_series, all_singles};
 
 use crate::meeting::PartAnswer;
 use crate::slots::{answers_of, is_touched};

@@ -7,10 +7,10 @@ ghost use Rattle.indexmap.specs.IndexMap.{keys};
 ghost use Rattle.profile.specs.checker.Instances.{IsClear};
 ghost use Rattle.clash_cert.specs.Makings.{AreNamed};
 ghost use Rattle.cal_events.specs.declared.instance.Single.{Single};
-ghost use Rattle.room_books.specs.Views.{all_confirmed, keyed_instance, instance_list, confirmed_at, others, same_key, singles_by, spans_of, AreAllApart, RecursIn, AreBusyIn, HaveOverlap};
-ghost use Rattle.room_books.specs.Instants.{IsLater, IsParted};
-ghost use Rattle.room_books.specs.Takings.{IsDecision};
-ghost use Rattle.room_books.specs.Timelines.{IsTimelineOf};
+ghost use Rattle.room_books.specs.Meeting.{all_confirmed, keyed_instance, instance_list, confirmed_at, others, same_key, singles_by, spans_of, AreAllApart, RecursIn, AreBusyIn, HaveOverlap};
+ghost use Rattle.room_books.specs.Gone.{IsLater, IsParted};
+ghost use Rattle.room_books.specs.Taking.{IsDecision};
+ghost use Rattle.room_books.specs.Timeline.{IsTimelineOf};
 
 use crate::answer::LimitKind;
 use crate::gone::Gone;

@@ -2,8 +2,8 @@
 
 ghost use Rattle.std.specs.Prelude.{◌≡◌, IfOk};
 ghost use Rattle.std.specs.List.Sorted.{IsPermutation, IsSortedByKey};
-ghost use Rattle.room_books.specs.Instants.{single_cmp, the_single};
-ghost use Rattle.room_books.specs.Timelines.{has_single};
+ghost use Rattle.room_books.specs.Gone.{single_cmp, the_single};
+ghost use Rattle.room_books.specs.Timeline.{has_single};
 
 use cal_events::Single;
 use std::alloc::{AllocError, Global};
@@ -20,7 +20,7 @@ impl Model for Gone {
     ghost use Rattle.std.specs.Prelude.{List};
     ghost use Rattle.std.specs.List.Sorted.{IsSortedByKey};
     ghost use Rattle.cal_events.specs.declared.instance.Single.{Single};
-    ghost use Rattle.room_books.specs.Instants.{single_cmp, the_single};
+    ghost use Rattle.room_books.specs.Gone.{single_cmp, the_single};
 
     ghost Value = { List Single };
 

@@ -5,7 +5,7 @@ ghost use Rattle.std.specs.List.Sorted.{IsSortedByKey};
 ghost use Rattle.std.specs.Vec.{vec_len, vec_capacity};
 ghost use Rattle.itip_order.specs.Parts.{slot_of};
 ghost use Rattle.profile.specs.rooms.Revisions.{slot_cmp};
-ghost use Rattle.room_books.specs.BySlot.{AreAnswersBySlot, HasRoom, Reordered, is_at, left_without};
+ghost use Rattle.room_books.specs.Slots.{AreAnswersBySlot, HasRoom, Reordered, is_at, left_without};
 
 use crate::meeting::PartAnswer;
 use crate::slots::{place_before, place_past};
@@ -33,7 +33,7 @@ pub struct Meeting {
 }
 
 impl Changes {
-    ghost use Rattle.room_books.specs.Takings.{answers_then};
+    ghost use Rattle.room_books.specs.Taking.{answers_then};
 
     /// The answers of these slots, in order, go; and these come, in any order.
     pub fn of(alloc: Global, lost: Vec<Slot>, new: Vec<PartAnswer>) -> Result<Changes, AllocError>
@@ -49,7 +49,7 @@ impl Changes {
 
 impl Meeting {
     ghost use Rattle.itip_order.specs.Registers.{together};
-    ghost use Rattle.room_books.specs.Takings.{answers_then, IsMade};
+    ghost use Rattle.room_books.specs.Taking.{answers_then, IsMade};
 
     /// One of which nothing was taken before.
     pub fn new(held: Held, changes: Changes) -> Meeting

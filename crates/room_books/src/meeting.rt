@@ -1,7 +1,7 @@
 //! The name of a meeting, and the answers to its parts.
 
 ghost use Rattle.std.specs.Prelude.{◌≡◌, true, IfOk};
-ghost use Rattle.room_books.specs.Wholes.{is_of_whole};
+ghost use Rattle.room_books.specs.Claim.{is_of_whole};
 
 use crate::answer::LimitKind;
 use cal_events::{Instance, InstanceKey, OwnedKey, Series, Single};
@@ -19,8 +19,8 @@ pub struct MeetingKey {
 
 impl MeetingKey {
     ghost use Rattle.ical_values.specs.Octets.{address_octets, text_octets};
-    ghost use Rattle.cal_events.specs.Calendars.{instance_of, owned_key_of};
-    ghost use Rattle.room_books.specs.Views.{keyed_instance, IsKeyOf};
+    ghost use Rattle.cal_events.specs.Calendar.{instance_of, owned_key_of};
+    ghost use Rattle.room_books.specs.Meeting.{keyed_instance, IsKeyOf};
 
     /// The name of the meeting that has this ORGANIZER's address and this UID, both copied (RFC 5545 3.8.4.7).
     /// It fails only when out of memory.

@@ -2,8 +2,8 @@
 
 ghost use Rattle.std.specs.Prelude.{◌≡◌, ◌++◌, ◌≤◌, length, map, Contains, OnOk};
 ghost use Rattle.cal_events.specs.declared.series.Series.{Series};
-ghost use Rattle.room_books.specs.Views.{Recurs};
-ghost use Rattle.room_books.specs.Recurrings.{AreBeside, AreClearFrom, IsSharedAlone, IsBesideOne, keyed_of};
+ghost use Rattle.room_books.specs.Meeting.{Recurs};
+ghost use Rattle.room_books.specs.Recurring.{AreBeside, AreClearFrom, IsSharedAlone, IsBesideOne, keyed_of};
 
 use crate::decide::SharedInstant;
 use crate::meeting::MeetingKey;

@@ -3,7 +3,7 @@
 ghost use Rattle.std.specs.Prelude.{IfOk};
 ghost use Rattle.ical_values.specs.Octets.{address_octets};
 ghost use Rattle.itip_order.specs.Parts.{part_of};
-ghost use Rattle.room_books.specs.Replying.{IsRefreshOf};
+ghost use Rattle.room_books.specs.Reply.{IsRefreshOf};
 
 use ical_values::{Address, Stamp};
 use itip_messages::{Refresh, write_refresh};

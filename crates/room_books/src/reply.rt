@@ -4,17 +4,17 @@ ghost use Rattle.std.specs.Prelude.{◌≡◌, IfOk, IfSome, IfNone, OnOk, List}
 ghost use Rattle.ical_values.specs.Octets.{address_octets};
 ghost use Rattle.itip_order.specs.Parts.{part_of, slot_of};
 ghost use Rattle.itip_order.specs.Registers.{RepresentsHistory};
-ghost use Rattle.itip_messages.specs.Replies.{WritesLines, decision_outcome, slot_at as recurrence_slot};
+ghost use Rattle.itip_messages.specs.Reply.{WritesLines, decision_outcome, slot_at as recurrence_slot};
 ghost use Rattle.profile.specs.rooms.Revisions as revisions;
 ghost use Rattle.profile.specs.rooms.Rooms.{Book};
 ghost use Rattle.profile.specs.rooms.Kept.{Replies};
 ghost use Rattle.room_books.specs.declared.meeting.MeetingKey.{MeetingKey};
 ghost use Rattle.room_books.specs.declared.kept.Meeting.{Meeting};
-ghost use Rattle.room_books.specs.Views.{outcome_of};
-ghost use Rattle.room_books.specs.Takings.{answers_then, claims_said, octets_in, IsMade, OutcomeDated};
-ghost use Rattle.room_books.specs.Representation.{AreFitting, IsOwn, Meets, SlotDated};
-ghost use Rattle.room_books.specs.BySlot.{AreAnswersBySlot};
-ghost use Rattle.room_books.specs.Replying.{AreShown, CanTell, AllTell, IsEventIn, IsReplyOf, ShowsGiven, WritesAnswers};
+ghost use Rattle.room_books.specs.Meeting.{outcome_of};
+ghost use Rattle.room_books.specs.Taking.{answers_then, claims_said, octets_in, IsMade, OutcomeDated};
+ghost use Rattle.room_books.specs.Room.{AreFitting, IsOwn, Meets, SlotDated};
+ghost use Rattle.room_books.specs.Slots.{AreAnswersBySlot};
+ghost use Rattle.room_books.specs.Reply.{AreShown, CanTell, AllTell, IsEventIn, IsReplyOf, ShowsGiven, WritesAnswers};
 
 use crate::answer::LimitKind;
 use crate::claim::Claim;

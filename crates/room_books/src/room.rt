@@ -11,7 +11,7 @@ ghost use Rattle.itip_order.specs.Parts.{part_of};
 ghost use Rattle.itip_order.specs.Registers.{RepresentsHistory};
 ghost use Rattle.profile.specs.rooms.Revisions as revisions;
 ghost use Rattle.profile.specs.checker.Instances.{IsClear};
-ghost use Rattle.itip_messages.specs.Messages.{RepresentsMessage};
+ghost use Rattle.itip_messages.specs.RoomMessage.{RepresentsMessage};
 ghost use Rattle.profile.specs.rooms.Messages as profile;
 ghost use Rattle.profile.specs.streams.Streams.{AreClaims, IsDelivered, IsReached};
 ghost use Rattle.profile.specs.Headline.{AcceptedWhereClear, DeclineNamesClash, KeptTextsPass};
@@ -19,21 +19,21 @@ ghost use Rattle.profile.specs.checker.Calendars.{CertificateHolds};
 ghost use Rattle.profile.specs.rooms.Rooms as rooms;
 ghost use Rattle.profile.specs.rooms.Rooms.{Book, empty_book};
 ghost use Rattle.profile.specs.rooms.Kept.{kept_certificate, IsKeptCalendar, Refreshes, Replies};
-ghost use Rattle.room_books.specs.Instants.{AreSeparate, IsParted, Shifts};
-ghost use Rattle.room_books.specs.Views.{same_key, all_confirmed, all_singles, instance_list, confirmed_at, singles_by, others, AreAllApart, IsKeyOf};
-ghost use Rattle.room_books.specs.Views.{all_recurring, all_series, beside, in_room, other_recurring, recurring_at, series_at, series_by, AreFewer, AreRecurring, IsClearIn, MayJoin};
-ghost use Rattle.room_books.specs.Recurrings.{recurring_said, AreAllOf, AreClearBeside, AreNewClear};
+ghost use Rattle.room_books.specs.Gone.{AreSeparate, IsParted, Shifts};
+ghost use Rattle.room_books.specs.Meeting.{same_key, all_confirmed, all_singles, instance_list, confirmed_at, singles_by, others, AreAllApart, IsKeyOf};
+ghost use Rattle.room_books.specs.Meeting.{all_recurring, all_series, beside, in_room, other_recurring, recurring_at, series_at, series_by, AreFewer, AreRecurring, IsClearIn, MayJoin};
+ghost use Rattle.room_books.specs.Recurring.{recurring_said, AreAllOf, AreClearBeside, AreNewClear};
 ghost use Rattle.cal_events.specs.declared.instance.Single.{Single};
-ghost use Rattle.room_books.specs.Keeping.{SpellsConfirmed};
-ghost use Rattle.room_books.specs.Timelines.{IsTimelineOf};
-ghost use Rattle.room_books.specs.Takings.{answers_by, answers_then, claims_said, held_after, kept_then, kind_view, octets_in, parts_said, refresh_octets};
-ghost use Rattle.room_books.specs.Takings.{reply_octets};
-ghost use Rattle.room_books.specs.BySlot.{AreAnswersBySlot};
+ghost use Rattle.room_books.specs.Texts.{SpellsConfirmed};
+ghost use Rattle.room_books.specs.Timeline.{IsTimelineOf};
+ghost use Rattle.room_books.specs.Taking.{answers_by, answers_then, claims_said, held_after, kept_then, kind_view, octets_in, parts_said, refresh_octets};
+ghost use Rattle.room_books.specs.Taking.{reply_octets};
+ghost use Rattle.room_books.specs.Slots.{AreAnswersBySlot};
 ghost use Rattle.std.specs.List.Sorted.{IsSortedByKey};
 ghost use Rattle.itip_order.specs.Parts.{slot_of};
 ghost use Rattle.profile.specs.rooms.Revisions.{slot_cmp};
-ghost use Rattle.room_books.specs.Takings.{HasHistory, IsMade, IsDecision, IsWholeDecision, IsAnswered, IsKindOf, MayJoinAll};
-ghost use Rattle.room_books.specs.Representation.{HaveReached, Represents, StepsWith, AreFitting, IsMeetingAfter, IsOwn, Meets, IsPutIn, IsRenewed};
+ghost use Rattle.room_books.specs.Taking.{HasHistory, IsMade, IsDecision, IsWholeDecision, IsAnswered, IsKindOf, MayJoinAll};
+ghost use Rattle.room_books.specs.Room.{HaveReached, Represents, StepsWith, AreFitting, IsMeetingAfter, IsOwn, Meets, IsPutIn, IsRenewed};
 
 use crate::answer::{Answer, Kind, LimitKind};
 use crate::claim::Claim;
@@ -116,7 +116,7 @@ struct Answered {
 
 /// What a room has confirmed is clear, whatever it takes.
 impl Confirmed for Room {
-    ghost use Rattle.room_books.specs.Views.{in_room};
+    ghost use Rattle.room_books.specs.Meeting.{in_room};
 
     ghost confirmed = { λ room. in_room room.meetings.entries };
 

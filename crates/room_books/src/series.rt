@@ -8,9 +8,9 @@ ghost use Rattle.profile.specs.checker.Instances.{Instance};
 ghost use Rattle.profile.specs.events.Starts.{IsInstance};
 ghost use Rattle.profile.specs.rooms.Revisions as revisions;
 ghost use Rattle.profile.specs.rooms.Rooms as rooms;
-ghost use Rattle.cal_events.specs.SaidSeries.{series_said};
-ghost use Rattle.room_books.specs.Takings.{is_hidden_by, AreHiddenStarts, IsHiddenStart, IsSeriesLeft};
-ghost use Rattle.room_books.specs.Views.{AreFewer};
+ghost use Rattle.cal_events.specs.Series.{series_said};
+ghost use Rattle.room_books.specs.Taking.{is_hidden_by, AreHiddenStarts, IsHiddenStart, IsSeriesLeft};
+ghost use Rattle.room_books.specs.Meeting.{AreFewer};
 
 use crate::taking::is_start_hidden;
 use cal_events::Series;

@@ -5,10 +5,10 @@ ghost use Rattle.std.specs.List.Sorted.{IsPermutation, IsSortedByKey};
 ghost use Rattle.profile.specs.rooms.Revisions.{slot_cmp};
 ghost use Rattle.itip_order.specs.Parts.{slot_of};
 ghost use Rattle.room_books.specs.declared.meeting.PartAnswer.{PartAnswer};
-ghost use Rattle.room_books.specs.Takings.{answers_then, parts_said};
-ghost use Rattle.room_books.specs.Touching as touching;
-ghost use Rattle.room_books.specs.Touching.{AllTouch};
-ghost use Rattle.room_books.specs.BySlot.{AreAnswersBySlot, givens, is_at, is_below, is_up_to, taken_at, IsSplitAt};
+ghost use Rattle.room_books.specs.Taking.{answers_then, parts_said};
+ghost use Rattle.room_books.specs.Slots as touching;
+ghost use Rattle.room_books.specs.Slots.{AllTouch};
+ghost use Rattle.room_books.specs.Slots.{AreAnswersBySlot, givens, is_at, is_below, is_up_to, taken_at, IsSplitAt};
 
 use crate::claim::Claim;
 use crate::kept::Changes;

@@ -9,8 +9,8 @@ ghost use Rattle.profile.specs.checker.Certificates.{text_of};
 ghost use Rattle.profile.specs.rooms.Kept.{IsKeptCalendar};
 ghost use Rattle.profile.specs.rooms.Revisions.{is_whole};
 ghost use Rattle.profile.specs.rooms.Rooms.{Book};
-ghost use Rattle.room_books.specs.Representation.{Represents};
-ghost use Rattle.room_books.specs.Keeping.{WritesEntries, WritesHead, accepted_slots, all_kept, kept_entry_of, kept_in};
+ghost use Rattle.room_books.specs.Room.{Represents};
+ghost use Rattle.room_books.specs.Texts.{WritesEntries, WritesHead, accepted_slots, all_kept, kept_entry_of, kept_in};
 
 use crate::decide::{Meetings, keys_differ};
 use crate::kept::Meeting;

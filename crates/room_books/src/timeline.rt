@@ -3,10 +3,10 @@
 ghost use Rattle.std.specs.Prelude.{◌≡◌, ◌<◌, ◌≤◌, ◌+◌, ◌↔◌, true, IsTrue, ◌++◌, [], List, OnOk, length, Contains};
 ghost use Rattle.std.specs.List.{find, take_while};
 ghost use Rattle.cal_events.specs.declared.instance.Single.{Single};
-ghost use Rattle.room_books.specs.Timelines.{AreBusy, HoldsInstants, IsPlaceAfter, AreTaken, IsSharedIn, IsFreeAmong, AreAt, IsChanged};
-ghost use Rattle.room_books.specs.Timelines.{IsShift, IsTakenOut, IsPut, IsTimelineOf, is_leaving, stays, starts_before, busy_in, has_busy};
-ghost use Rattle.room_books.specs.Instants.{AreSeparate};
-ghost use Rattle.room_books.specs.Views.{Recurs};
+ghost use Rattle.room_books.specs.Timeline.{AreBusy, HoldsInstants, IsPlaceAfter, AreTaken, IsSharedIn, IsFreeAmong, AreAt, IsChanged};
+ghost use Rattle.room_books.specs.Timeline.{ShiftsTimeline, IsTakenOut, IsPut, IsTimelineOf, is_leaving, stays, starts_before, busy_in, has_busy};
+ghost use Rattle.room_books.specs.Gone.{AreSeparate};
+ghost use Rattle.room_books.specs.Meeting.{Recurs};
 ghost use Rattle.std.specs.Vec.{vec_len, vec_capacity};
 
 use crate::gone::Gone;
@@ -114,11 +114,11 @@ impl Timeline {
 
     /// Takes out what the meeting in a place no longer confirms, and puts in what it confirms now and didn't before.
     pub(crate) fn change(&mut self, place: usize, gone: &[Single], added: &[Single])
-        requires shift { (kept : List Single) × IsShift place gone.now kept added.now self.old.busy.items }
+        requires shift { (kept : List Single) × ShiftsTimeline place gone.now kept added.now self.old.busy.items }
         requires counted { length gone.now ≤ self.old.confirmed }
         requires few { self.old.confirmed + length added.now ≤ 10_000 + length gone.now }
         requires room { vec_len self.old.busy + length added.now ≤ vec_capacity self.old.busy }
-        ensures changed { (kept : List Single) → IsShift place gone.now kept added.now self.old.busy.items
+        ensures changed { (kept : List Single) → ShiftsTimeline place gone.now kept added.now self.old.busy.items
             → IsChanged place (kept ++ added.now) self.old.busy.items self.new.busy.items }
         ensures confirmed { self.new.confirmed + length gone.now ≡ self.old.confirmed + length added.now }
     {

@@ -4,14 +4,14 @@ use Rattle.std.specs.Option.{option_to_list}
 use Rattle.std.specs.List.{flat_map}
 use Rattle.std.proofs.lemmas.List.{append_assoc, append-nil, get_or-map, map-append, take-append-drop, take_more, take_more_set, drop_more, drop_all, drop-set-lt}
 use Rattle.ical_values.specs.Octets.{address_octets}
-use Rattle.itip_messages.specs.Messages.{RepresentsMessage}
+use Rattle.itip_messages.specs.RoomMessage.{RepresentsMessage}
 use Rattle.itip_messages.specs.declared.room_message.RoomMessage.{RoomMessage}
 use Rattle.profile.specs.rooms.Messages as profile
 use Rattle.profile.specs.rooms.Rooms as machine
 use Rattle.profile.specs.rooms.Rooms.{Book, Claim, IsStep}
 use Rattle.profile.specs.rooms.Kept.{Replies, Refreshes}
 use Rattle.profile.specs.streams.Streams.{AllTake, AreClaims, Hosted, refused_line}
-use Rattle.room_books.specs.Representation.{Represents, StepsWith}
+use Rattle.room_books.specs.Room.{Represents, StepsWith}
 use Rattle.room_books.specs.declared.room.Room.{Room}
 use Rattle.sched_box.specs.Answering.{room_addresses, AreHosted, RoomTakes, RoomsTake, sent_octets}
 use Rattle.sched_box.specs.Asked.{asks}

@@ -11,13 +11,13 @@ use Rattle.std.proofs.lemmas.Slice.Eq.{bytes_eq-Decides}
 use Rattle.ical_values.specs.declared.address.Address.{Address}
 use Rattle.ical_values.specs.Octets.{address_octets}
 use Rattle.cal_events.specs.declared.component.Attendee.{Attendee}
-use Rattle.cal_events.specs.Events.{attendee_of}
-use Rattle.itip_messages.specs.Messages.{is_component_for, component_names, cancels_for_all, method_said}
+use Rattle.cal_events.specs.Component.{attendee_of}
+use Rattle.itip_messages.specs.RoomMessage.{is_component_for, component_names, cancels_for_all, method_said}
 use Rattle.itip_messages.specs.declared.room_message.RoomMessage.{RoomMessage}
 use Rattle.itip_messages.specs.declared.room_message.Method.{Method}
 use Rattle.itip_messages.specs.declared.room_message.Method.TheVariants.{Request, Add, Cancel}
 use Rattle.itip_messages.specs.declared.room_message.MessageComponent.{MessageComponent}
-use Rattle.itip_messages.proofs.MessageLemmas.{addressed, no_events}
+use Rattle.itip_messages.proofs.shared_lemmas.MessageLemmas.{addressed, no_events}
 use Rattle.profile.specs.rooms.Messages.{Accept, is_addressed, is_cancel}
 use Rattle.profile.specs.streams.Streams.{AreClaims}
 use Rattle.room_books.specs.declared.room.Room.{Room}

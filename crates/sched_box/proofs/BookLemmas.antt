@@ -3,7 +3,7 @@ use Rattle.std.proofs.Common.{◌≡◌, ℕ, ℤ, List, inl, inr, refl, sym, su
 use Rattle.ical_lines.specs.Fault.{RefusesBy}
 use Rattle.ical_lines.specs.declared.fault.Fault.{Fault}
 use Rattle.ical_lines.specs.declared.fault.Fault.TheVariants.{Refused, Memory}
-use Rattle.itip_messages.specs.Readings.{IsSpelled}
+use Rattle.itip_messages.specs.Message.{IsSpelled}
 use Rattle.itip_messages.specs.declared.message.Message.TheVariants as read
 use Rattle.itip_messages.specs.declared.organiser_object.OrganiserObject.{OrganiserObject}
 use Rattle.itip_messages.specs.declared.room_message.RoomMessage.{RoomMessage}

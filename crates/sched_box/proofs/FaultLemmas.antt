@@ -10,7 +10,7 @@ use Rattle.ical_tree.proofs.TreeOfLemmas.{tree_of-own, spells_tree, count_tree}
 use Rattle.ical_tree.specs.Tree.{component_name, component_lines, tree_of, count_children}
 use Rattle.ical_tree.specs.Reading.{SpellsOf, calendar_has, ObjectHas}
 use Rattle.ical_tree.specs.declared.component.Component.{Component}
-use Rattle.itip_messages.specs.Readings.{ReadFault}
+use Rattle.itip_messages.specs.Message.{ReadFault}
 use Rattle.profile.specs.text.Lines.{logical_lines, text_has}
 use Rattle.profile.specs.text.Objects.{is_calendar_name, has_version}
 use Rattle.profile.specs.streams.Streams.{TreeFault, ObjectFault}

@@ -12,7 +12,7 @@ use Rattle.ical_lines.specs.declared.fault.Fault.TheVariants.{Refused, Memory}
 use Rattle.ical_values.specs.Octets.{address_octets}
 use Rattle.ical_values.specs.Refused.{IfRefused}
 use Rattle.ical_values.specs.declared.address.Address.{Address}
-use Rattle.itip_messages.specs.OrganiserObjects.{RepresentsObject, operation_said}
+use Rattle.itip_messages.specs.OrganiserObject.{RepresentsObject, operation_said}
 use Rattle.itip_messages.specs.declared.organiser_object.OrganiserObject.{OrganiserObject}
 use Rattle.organiser_books.specs.Calls.{AnswersRefresh, CallFault, MayTake, other_kind, other_organiser, in_state as call_in_state, sent_of}
 use Rattle.organiser_books.specs.Representation.{Keeps, address_of}

@@ -24,7 +24,7 @@ use Rattle.profile.specs.rooms.Kept.{IsKeptCalendar, kept_certificate}
 use Rattle.ical_values.specs.Octets.{address_octets}
 use Rattle.ical_values.specs.declared.address.Address.{Address}
 use Rattle.profile.specs.rooms.Rooms.{empty_book}
-use Rattle.room_books.specs.Representation.{Represents}
+use Rattle.room_books.specs.Room.{Represents}
 use Rattle.sched_box.specs.declared.fault.StreamFault.{StreamFault}
 use Rattle.sched_box.specs.declared.fault.StreamFault.TheVariants as stream
 use Rattle.sched_box.specs.Faults.{IfRefusedStream, IsReadFault, StopsFor}

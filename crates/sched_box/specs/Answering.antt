@@ -2,11 +2,11 @@
 use Rattle.std.specs.Prelude.{◌≡◌, ℕ, ℤ, List, [], ◌∷◌, ◌++◌, map, Option, Some, None}
 use Rattle.std.specs.List.{AllZip}
 use Rattle.ical_values.specs.Octets.{address_octets}
-use Rattle.itip_messages.specs.Messages.{RepresentsMessage}
+use Rattle.itip_messages.specs.RoomMessage.{RepresentsMessage}
 use Rattle.itip_messages.specs.declared.room_message.RoomMessage.{RoomMessage}
 use Rattle.profile.specs.rooms.Messages as profile
 use Rattle.profile.specs.streams.Streams.{Hosted, Takes}
-use Rattle.room_books.specs.Representation.{Represents}
+use Rattle.room_books.specs.Room.{Represents}
 use Rattle.room_books.specs.declared.room.Room.{Room}
 
 -- the addresses of the rooms, in order

@@ -4,7 +4,7 @@ use Rattle.std.specs.List.{list_any}
 use Rattle.std.specs.Str.{bytes_eq}
 use Rattle.cal_events.specs.declared.component.Attendee.{Attendee}
 use Rattle.ical_values.specs.Octets.{address_octets}
-use Rattle.itip_messages.specs.Messages.{is_component_for}
+use Rattle.itip_messages.specs.RoomMessage.{is_component_for}
 use Rattle.itip_messages.specs.declared.room_message.RoomMessage.{RoomMessage}
 use Rattle.sched_box.specs.declared.directory.Directory.{Directory}
 

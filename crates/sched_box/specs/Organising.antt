@@ -1,7 +1,7 @@
 -- What the organisers of a box answer to what comes to them.
 use Rattle.std.specs.Prelude.{◌≡◌, ℕ, ℤ, List, map}
 use Rattle.std.specs.List.{AllZip}
-use Rattle.itip_messages.specs.OrganiserObjects.{RepresentsObject}
+use Rattle.itip_messages.specs.OrganiserObject.{RepresentsObject}
 use Rattle.itip_messages.specs.declared.organiser_object.OrganiserObject.{OrganiserObject}
 use Rattle.organiser_books.specs.Representation.{Keeps, address_of}
 use Rattle.organiser_books.specs.declared.organiser.Organiser.{Organiser}

@@ -2,7 +2,7 @@
 
 ghost use Rattle.std.specs.Prelude.{◌≡◌, ◌++◌, List, ℕ, IfOk, IfErr, OnOk};
 ghost use Rattle.ical_lines.specs.Fault.{RefusesBy};
-ghost use Rattle.itip_messages.specs.Readings.{IsSpelled};
+ghost use Rattle.itip_messages.specs.Message.{IsSpelled};
 ghost use Rattle.profile.specs.streams.Streams.{ObjectFault, refused_line};
 ghost use Rattle.sched_box.specs.Objects.{kept_of};
 

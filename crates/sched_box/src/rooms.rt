@@ -4,7 +4,7 @@ ghost use Rattle.std.specs.Prelude.{◌≡◌, ◌++◌, ℕ, List, length, Cont
 ghost use Rattle.ical_values.specs.Octets.{address_octets};
 ghost use Rattle.profile.specs.streams.Streams.{new_box};
 ghost use Rattle.profile.specs.rooms.Rooms.{empty_book};
-ghost use Rattle.room_books.specs.Representation.{Represents};
+ghost use Rattle.room_books.specs.Room.{Represents};
 ghost use Rattle.std.specs.Str.{bytes_eq};
 ghost use Rattle.sched_box.specs.Answering.{AreHosted, RoomTakes, RoomsTake, room_addresses, sent_octets};
 ghost use Rattle.sched_box.specs.Asked.{LeavesOut, asks, directory_addresses};

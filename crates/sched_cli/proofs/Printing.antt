@@ -13,15 +13,14 @@ use Rattle.profile.specs.checker.Instances.{Instance as SaidInstance}
 use Rattle.profile.specs.events.Events.{Event, SpellsEvent}
 use Rattle.profile.specs.events.Starts.{IsInstance, ComesBefore}
 use Rattle.profile.specs.events.Expanding.{IsInstanceLine}
-use Rattle.cal_events.specs.Calendars.{instance_of}
-use Rattle.cal_events.specs.Instances.{IsAfter, IsPastSlot}
-use Rattle.cal_events.specs.Left.{IsLeft, GivesFirst}
-use Rattle.cal_events.specs.Meetings.{IsInEventDates}
-use Rattle.cal_events.specs.SaidMeetings.{said_meeting}
+use Rattle.cal_events.specs.Calendar.{instance_of}
+use Rattle.cal_events.specs.Instances.{IsAfter, IsPastSlot, IsLeft, GivesFirst}
+use Rattle.cal_events.specs.MeetingComponents.{IsInEventDates}
+use Rattle.cal_events.specs.Event.{said_meeting}
 use Rattle.cal_events.specs.declared.instance.Instance.{Instance}
 use Rattle.cal_events.specs.declared.instances.Bound.{Bound}
 use Rattle.cal_events.specs.declared.instances.Instances.{Instances}
-use Rattle.cal_events.proofs.EventLemmas.{push_zip}
+use Rattle.cal_events.proofs.shared_lemmas.EventLemmas.{push_zip}
 use Rattle.sched_cli.specs.Expanding.{HasLine, IsPrintedLine, IsHandedOver, AreFirstPlaces, PrintsFirst, AreGoneThrough, PrintsUpTo, ExpandsTo}
 
 -- ---- what was handed over

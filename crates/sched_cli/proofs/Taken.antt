@@ -1,7 +1,7 @@
 -- The line of an object that isn't refused.
 use Rattle.std.proofs.Common.{◌≡◌, ◌∙◌, ap, inl, inr, ℕ, List, Option}
 use Rattle.std.specs.Io.KnownBytes.{Appends}
-use Rattle.itip_messages.specs.Readings.{IsSpelled}
+use Rattle.itip_messages.specs.Message.{IsSpelled}
 use Rattle.itip_messages.specs.declared.message.Message.{Message}
 use Rattle.itip_messages.specs.declared.message.Message.TheVariants.{ToRooms, ToOrganiser}
 use Rattle.sched_cli.specs.Diagnosis.{IsTakenLine, SaysTaken, message_line, method_line, operation_line}

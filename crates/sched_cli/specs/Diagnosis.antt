@@ -6,8 +6,8 @@ use Rattle.profile.specs.events.EventComponents.{Method, Request, Add, Cancel}
 use Rattle.profile.specs.organisers.Objects.{Operation, Store, Reply, Refresh, OrganiserObject, SpellsOrganiserObject}
 use Rattle.profile.specs.rooms.Messages.{Message, SpellsMessage, MessageTextFault}
 use Rattle.ical_tree.specs.Reading.{ObjectHas}
-use Rattle.itip_messages.specs.Messages.{method_said}
-use Rattle.itip_messages.specs.OrganiserObjects.{operation_said}
+use Rattle.itip_messages.specs.RoomMessage.{method_said}
+use Rattle.itip_messages.specs.OrganiserObject.{operation_said}
 use Rattle.itip_messages.specs.declared.message.Message as itip
 use Rattle.itip_messages.specs.declared.message.Message.TheVariants.{ToRooms, ToOrganiser}
 use Rattle.sched_cli.specs.Places.{IsPlace}

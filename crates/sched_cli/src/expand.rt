@@ -4,8 +4,8 @@ ghost use Rattle.std.specs.Prelude.{◌≡◌, ◌⊎◌, ◌++◌, ◌∷◌, �
 ghost use Rattle.std.specs.Io.KnownBytes.{Appends, Keeps};
 ghost use Rattle.profile.specs.text.Values.{WritesStamp};
 ghost use Rattle.profile.specs.events.Events.{EventTextFault};
-ghost use Rattle.cal_events.specs.Calendars.{instance_of};
-ghost use Rattle.cal_events.specs.SaidMeetings.{said_meeting};
+ghost use Rattle.cal_events.specs.Calendar.{instance_of};
+ghost use Rattle.cal_events.specs.Event.{said_meeting};
 ghost use Rattle.sched_box.specs.Output.{KeepsButFailed, WriteStopsFor};
 ghost use Rattle.sched_cli.specs.Commands.{BlamesDevice, IsStatusSaid, SaysLine, TellsDevice, refused_text};
 ghost use Rattle.sched_cli.specs.Expanding.{IsPrintedLine, IsHandedOver, PrintsFirst, PrintsNext, ExpandsTo};

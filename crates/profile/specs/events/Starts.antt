@@ -127,15 +127,15 @@ pub record SharesInstant (start end from to : ℤ) : Type 0 where
   pub in_second : IsWithin from to instant
 
 -- the first of the instances for which this holds, by start and then by slot, if there is one
-abbrev pub IsFirstOf : Event → (Instance → Type 0) → Option Instance → Type 0
-IsFirstOf meeting holds found =
+abbrev pub IsFirstThat : Event → (Instance → Type 0) → Option Instance → Type 0
+IsFirstThat meeting holds found =
     MatchOption found ((b : Instance) → IsInstance meeting b → holds b → ⊥)
     (λ i. IsInstance meeting i × (holds i × ((b : Instance) → IsInstance meeting b → holds b → ComesBefore b i → ⊥)))
 
 -- the first that overlaps a span
 abbrev pub IsFirstOverlap : Event → ℤ → ℤ → Option Instance → Type 0
-IsFirstOverlap meeting from to = IsFirstOf meeting (λ b. Overlaps b.start b.end from to)
+IsFirstOverlap meeting from to = IsFirstThat meeting (λ b. Overlaps b.start b.end from to)
 
 -- the first that shares an instant before the horizon with it
 abbrev pub IsFirstSharer : Event → ℤ → ℤ → Option Instance → Type 0
-IsFirstSharer meeting from to = IsFirstOf meeting (λ b. SharesInstant b.start b.end from to)
+IsFirstSharer meeting from to = IsFirstThat meeting (λ b. SharesInstant b.start b.end from to)

@@ -1,4 +1,4 @@
-use Rattle.cal_events.proofs.OneEvent.{one_event, no_fault, one_number}
+use Rattle.cal_events.proofs.component_lemmas.OneEvent.{one_event, no_fault, one_number}
 use Rattle.cal_events.proofs.component.one_event.Goals as goal
 
 pub returns-clause-one : goal.returns-clause-one

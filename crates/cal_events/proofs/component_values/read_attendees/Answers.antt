@@ -5,9 +5,9 @@ use Rattle.ical_lines.specs.Text.{line_text}
 use Rattle.ical_tree.proofs.OneLine.{at_place}
 use Rattle.profile.specs.events.EventComponents.{EventComponentFault, IsAttendee}
 use Rattle.profile.specs.events.Properties.{lines_named}
-use Rattle.cal_events.specs.Events.{attendee_of}
+use Rattle.cal_events.specs.Component.{attendee_of}
 use Rattle.cal_events.specs.declared.component.Attendee.{Attendee}
-use Rattle.cal_events.proofs.EventLemmas.{attendee_pushed, attendee_fault, one_other}
+use Rattle.cal_events.proofs.shared_lemmas.EventLemmas.{attendee_pushed, attendee_fault, one_other}
 use Rattle.ical_values.proofs.Exits.{err_exit}
 use Rattle.cal_events.proofs.component_values.read_attendees.Goals as goal
 use Rattle.cal_events.proofs.component_values.read_attendees.Goals.{then-is_named+in_ok-read_attendee+in_ok-push, else-is_named}

@@ -3,7 +3,7 @@ use Rattle.std.specs.List.{AllZip}
 use Rattle.ical_lines.specs.Text.{line_text}
 use Rattle.profile.specs.events.EventComponents.{IsAttendee}
 use Rattle.profile.specs.events.Properties.{lines_named}
-use Rattle.cal_events.specs.Events.{attendee_of}
+use Rattle.cal_events.specs.Component.{attendee_of}
 use Rattle.cal_events.proofs.component_values.read_attendees.Given as goal
 
 -- the ATTENDEE lines so far say the attendees so far, and the others are left

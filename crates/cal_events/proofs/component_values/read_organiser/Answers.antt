@@ -7,8 +7,8 @@ use Rattle.profile.specs.text.Values.{IsAddress}
 use Rattle.profile.specs.events.EventComponents.{EventComponentFault}
 use Rattle.profile.specs.events.Properties.{IsNoAddress}
 use Rattle.profile.specs.events.EventComponents.{twice, bad_organiser, no_organiser}
-use Rattle.cal_events.specs.Events.{method_read}
-use Rattle.cal_events.proofs.EventLemmas.{by_number, some_line}
+use Rattle.cal_events.specs.Component.{method_read}
+use Rattle.cal_events.proofs.shared_lemmas.EventLemmas.{by_number, some_line}
 use Rattle.ical_values.proofs.Exits.{err_exit}
 use Rattle.cal_events.proofs.component_values.read_organiser.Goals as goal
 

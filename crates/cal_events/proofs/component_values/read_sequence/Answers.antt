@@ -7,7 +7,7 @@ use Rattle.profile.specs.text.Values.{SpellsSequence}
 use Rattle.profile.specs.events.EventComponents.{EventComponentFault}
 use Rattle.profile.specs.events.Properties.{IsNoSequence}
 use Rattle.profile.specs.events.EventComponents.{twice, bad_sequence}
-use Rattle.cal_events.proofs.EventLemmas.{some_line, sequence_said}
+use Rattle.cal_events.proofs.shared_lemmas.EventLemmas.{some_line, sequence_said}
 use Rattle.ical_values.proofs.Exits.{refusal_exit, err_both}
 use Rattle.cal_events.proofs.component_values.read_sequence.Goals as goal
 

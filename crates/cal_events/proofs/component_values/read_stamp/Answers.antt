@@ -6,8 +6,8 @@ use Rattle.profile.specs.text.Lines.{line_value}
 use Rattle.profile.specs.events.EventComponents.{EventComponentFault}
 use Rattle.profile.specs.events.Properties.{IsNoStamp}
 use Rattle.profile.specs.events.EventComponents.{twice, bad_stamp, no_stamp_given}
-use Rattle.cal_events.specs.Events.{method_read}
-use Rattle.cal_events.proofs.EventLemmas.{some_line}
+use Rattle.cal_events.specs.Component.{method_read}
+use Rattle.cal_events.proofs.shared_lemmas.EventLemmas.{some_line}
 use Rattle.ical_values.proofs.Exits.{refusal_exit}
 use Rattle.cal_events.proofs.component_values.read_stamp.Goals as goal
 

@@ -3,7 +3,7 @@ use Rattle.std.specs.Prelude.{Some, None, IfOk, option_map}
 use Rattle.ical_lines.specs.Text.{line_text}
 use Rattle.ical_values.specs.Octets.{text_octets}
 use Rattle.profile.specs.text.Values.{unescaped}
-use Rattle.cal_events.proofs.EventLemmas.{summary_found}
+use Rattle.cal_events.proofs.shared_lemmas.EventLemmas.{summary_found}
 use Rattle.cal_events.proofs.component_values.read_summary.Goals as goal
 
 pub returns-in-Some : goal.returns-in-Some

@@ -8,7 +8,7 @@ use Rattle.profile.specs.text.Lines.{line_value}
 use Rattle.profile.specs.text.Values.{IsUid, unescaped}
 use Rattle.profile.specs.events.EventComponents.{EventComponentFault}
 use Rattle.profile.specs.events.EventComponents.{twice, no_uid, bad_uid}
-use Rattle.cal_events.proofs.EventLemmas.{by_number, some_line, uid_said}
+use Rattle.cal_events.proofs.shared_lemmas.EventLemmas.{by_number, some_line, uid_said}
 use Rattle.cal_events.proofs.component_values.read_uid.Goals as goal
 
 pub returns-in_err-line-clause-fault : goal.returns-in_err-line-clause-fault

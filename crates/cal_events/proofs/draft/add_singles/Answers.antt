@@ -2,12 +2,12 @@ use Rattle.std.proofs.Common.{◌≡◌, ◌∙◌, ◌∷◌, [], sym, subst, L
 use Rattle.std.specs.List.{AllZip}
 use Rattle.std.proofs.lemmas.List.{take_all}
 use Rattle.profile.specs.events.Starts.{EndsAt}
-use Rattle.cal_events.specs.Events.{component_of}
-use Rattle.cal_events.specs.Drafts.{IsMadeAt}
+use Rattle.cal_events.specs.Component.{component_of}
+use Rattle.cal_events.specs.Draft.{IsMadeAt}
 use Rattle.cal_events.specs.SingleStarts.{AreSingleStarts}
-use Rattle.cal_events.proofs.Clocks.{clock_good}
-use Rattle.cal_events.proofs.DraftLemmas.{made_more}
-use Rattle.cal_events.proofs.OwnSingles.{master_own, override_own}
+use Rattle.cal_events.proofs.shared_lemmas.Clocks.{clock_good}
+use Rattle.cal_events.proofs.shared_lemmas.DraftLemmas.{made_more}
+use Rattle.cal_events.proofs.shared_lemmas.OwnSingles.{master_own, override_own}
 use Rattle.cal_events.proofs.draft.add_singles.Goals as goal
 
 pub single_starts-requires : goal.single_starts-requires

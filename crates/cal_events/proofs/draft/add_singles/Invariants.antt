@@ -1,7 +1,7 @@
 use Rattle.std.proofs.Common.{◌≡◌, ◌++◌, List, take}
 use Rattle.std.specs.List.{AllZip}
-use Rattle.cal_events.specs.Events.{component_of}
-use Rattle.cal_events.specs.Drafts.{IsMadeAt}
+use Rattle.cal_events.specs.Component.{component_of}
+use Rattle.cal_events.specs.Draft.{IsMadeAt}
 use Rattle.cal_events.specs.declared.calendar.PlacedSingle.{PlacedSingle as Single}
 use Rattle.cal_events.proofs.draft.add_singles.Given as goal
 

@@ -1,5 +1,5 @@
 use Rattle.std.proofs.Common.{arith}
-use Rattle.cal_events.proofs.KeyLemmas.{none_equal, equal_there, one_further}
+use Rattle.cal_events.proofs.draft_lemmas.KeyLemmas.{none_equal, equal_there, one_further}
 use Rattle.cal_events.proofs.draft.has_equal_neighbours.Goals as goal
 
 pub returns-then-eq : goal.returns-then-eq

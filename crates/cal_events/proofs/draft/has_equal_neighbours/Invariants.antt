@@ -1,6 +1,6 @@
 use Rattle.std.proofs.Common.{◌≢◌}
 use Rattle.std.specs.List.{AllAdjacentBelow}
-use Rattle.cal_events.specs.Calendars.{key_of}
+use Rattle.cal_events.specs.Calendar.{key_of}
 use Rattle.cal_events.proofs.draft.has_equal_neighbours.Given as goal
 
 abbrev pub invariant-loop-next : goal.invariant-loop-next

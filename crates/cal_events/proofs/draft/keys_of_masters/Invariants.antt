@@ -1,6 +1,6 @@
 use Rattle.std.proofs.Common.{◌≡◌, map, take}
-use Rattle.cal_events.specs.Calendars.{key_of}
-use Rattle.cal_events.specs.Drafts.{master_keys}
+use Rattle.cal_events.specs.Calendar.{key_of}
+use Rattle.cal_events.specs.Draft.{master_keys}
 use Rattle.cal_events.proofs.draft.keys_of_masters.Given as goal
 
 -- the keys of those so far

@@ -1,5 +1,5 @@
 use Rattle.std.proofs.Common.{sym}
-use Rattle.cal_events.proofs.DraftLemmas.{none_hidden}
+use Rattle.cal_events.proofs.shared_lemmas.DraftLemmas.{none_hidden}
 use Rattle.cal_events.proofs.draft.without_hidden.Goals as goal
 
 pub returns-then-is_empty : goal.returns-then-is_empty

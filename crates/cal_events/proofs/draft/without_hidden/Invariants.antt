@@ -1,7 +1,7 @@
 use Rattle.std.proofs.Common.{◌≡◌, map, take}
 use Rattle.std.specs.List.{filter}
-use Rattle.cal_events.specs.Calendars.{key_of}
-use Rattle.cal_events.specs.Drafts.{is_shown_in}
+use Rattle.cal_events.specs.Calendar.{key_of}
+use Rattle.cal_events.specs.Draft.{is_shown_in}
 use Rattle.cal_events.proofs.draft.without_hidden.Given as goal
 
 -- of those so far the ones that are shown

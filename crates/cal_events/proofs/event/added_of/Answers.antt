@@ -1,4 +1,4 @@
-use Rattle.cal_events.proofs.HiddenLemmas.{starts_of_master}
+use Rattle.cal_events.proofs.shared_lemmas.HiddenLemmas.{starts_of_master}
 use Rattle.cal_events.proofs.event.added_of.Goals as goal
 
 pub returns-in-Some : goal.returns-in-Some

@@ -1,4 +1,4 @@
-use Rattle.cal_events.proofs.OneInstance.{one_at, dated}
+use Rattle.cal_events.proofs.shared_lemmas.OneInstance.{one_at, dated}
 use Rattle.cal_events.proofs.event.one_instance.Goals as goal
 
 pub returns-clause-one : goal.returns-clause-one

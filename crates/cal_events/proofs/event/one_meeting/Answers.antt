@@ -1,4 +1,4 @@
-use Rattle.cal_events.proofs.OneMeeting.{one_spelled, no_fault}
+use Rattle.cal_events.proofs.event_lemmas.OneMeeting.{one_spelled, no_fault}
 use Rattle.cal_events.proofs.event.one_meeting.Goals as goal
 
 pub returns-clause-one : goal.returns-clause-one

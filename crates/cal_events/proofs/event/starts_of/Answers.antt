@@ -2,8 +2,8 @@ use Rattle.std.proofs.Common.{◌≡◌, ◌∙◌, ◌++◌, ◌∷◌, [], sym
 use Rattle.std.specs.Prelude.{Contains}
 use Rattle.std.proofs.lemmas.Bool.{true≢false}
 use Rattle.std.proofs.lemmas.List.{get_or_default}
-use Rattle.cal_events.specs.Meetings.{IsInEventDates}
-use Rattle.cal_events.proofs.HiddenLemmas.{kept_more, kept_past, kept_whole}
+use Rattle.cal_events.specs.MeetingComponents.{IsInEventDates}
+use Rattle.cal_events.proofs.shared_lemmas.HiddenLemmas.{kept_more, kept_past, kept_whole}
 use Rattle.cal_events.proofs.event.starts_of.Goals as goal
 
 pub loop-instant-preserved-then-not-is_start : goal.loop-instant-preserved-then-not-is_start

@@ -1,5 +1,5 @@
 use Rattle.std.proofs.Common.{take}
-use Rattle.cal_events.specs.Ordered.{AreStartsOf}
+use Rattle.cal_events.specs.Instants.{AreStartsOf}
 use Rattle.cal_events.proofs.event.starts_of.Given as goal
 
 -- of those before

@@ -4,7 +4,7 @@ use Rattle.profile.specs.series.Rules.{UntilInstant}
 use Rattle.cal_rules.specs.Views.{until_of}
 use Rattle.cal_zones.specs.Kinds.{zone_of}
 use Rattle.profile.specs.events.EventRules.{as_end}
-use Rattle.cal_events.proofs.RuleLemmas.{local_until, instant_until, stamp_near, until_said}
+use Rattle.cal_events.proofs.event_rule_lemmas.RuleLemmas.{local_until, instant_until, stamp_near, until_said}
 use Rattle.cal_events.proofs.event_rule.day_until.Goals as goal
 
 pub returns-in-Local : goal.returns-in-Local

@@ -1,6 +1,6 @@
 use Rattle.std.proofs.Common.{ap, option_map}
 use Rattle.cal_rules.specs.Views.{until_of}
-use Rattle.cal_events.proofs.RuleLemmas.{without_until}
+use Rattle.cal_events.proofs.event_rule_lemmas.RuleLemmas.{without_until}
 use Rattle.cal_events.proofs.event_rule.last_day.Goals as goal
 
 pub returns-in-None : goal.returns-in-None

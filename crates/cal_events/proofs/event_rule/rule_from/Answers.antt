@@ -7,8 +7,8 @@ use Rattle.profile.specs.series.Zones.{Zone}
 use Rattle.profile.specs.events.ZonedTimes.{clock_of}
 use Rattle.profile.specs.events.EventRules.{IsLastAllowed, AllowsNone, IsOnDay}
 use Rattle.cal_rules.specs.Views.{until_of}
-use Rattle.cal_events.specs.Events.{zone_said}
-use Rattle.cal_events.proofs.RuleLemmas.{rule_given, rule_refused}
+use Rattle.cal_events.specs.Component.{zone_said}
+use Rattle.cal_events.proofs.event_rule_lemmas.RuleLemmas.{rule_given, rule_refused}
 use Rattle.cal_events.proofs.event_rule.rule_from.Goals as goal
 
 pub returns-in-Some-clause-gives : goal.returns-in-Some-clause-gives

@@ -1,7 +1,6 @@
 use Rattle.std.proofs.Common.{subst, sym, arith}
 use Rattle.std.proofs.lemmas.Int.{ints}
-use Rattle.cal_events.specs.Events.{ExtentFault}
-use Rattle.cal_events.specs.Events.{ends_early, ends_late, lasts_long}
+use Rattle.cal_events.specs.Component.{ExtentFault, ends_early, ends_late, lasts_long}
 use Rattle.cal_events.proofs.event_times.judge_extent.Goals as goal
 
 pub returns-in-ToEnd-clause-fault : goal.returns-in-ToEnd-clause-fault

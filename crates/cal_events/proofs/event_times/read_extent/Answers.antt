@@ -7,8 +7,8 @@ use Rattle.profile.specs.events.ZonedTimes.{EventTimesFault, ZonedTimeFault, twi
 use Rattle.ical_values.proofs.Exits.{refusal_exit}
 use Rattle.cal_events.specs.Zones.{object_of}
 use Rattle.cal_events.specs.Zoned.{EndsSo}
-use Rattle.cal_events.proofs.EventLemmas.{some_line}
-use Rattle.cal_events.proofs.TimesLemmas.{duration_fault}
+use Rattle.cal_events.proofs.shared_lemmas.EventLemmas.{some_line}
+use Rattle.cal_events.proofs.event_times_lemmas.TimesLemmas.{duration_fault}
 use Rattle.cal_events.proofs.event_times.read_extent.Goals as goal
 
 pub returns-in_err-end-clause-fault : goal.returns-in_err-end-clause-fault

@@ -4,7 +4,7 @@ use Rattle.ical_lines.specs.Text.{line_text}
 use Rattle.profile.specs.events.ZonedTimes.{IsInDates, is_in_zone, clock_of}
 use Rattle.std.proofs.lemmas.Int.{ints}
 use Rattle.profile.specs.series.Zones.{Means}
-use Rattle.cal_events.specs.Events.{zone_said}
+use Rattle.cal_events.specs.Component.{zone_said}
 use Rattle.cal_events.proofs.event_times.seconds_to.Goals as goal
 
 pub returns-clause-says : goal.returns-clause-says

@@ -1,10 +1,10 @@
 use Rattle.std.proofs.Common.{◌∙◌, sym, ap, subst}
 use Rattle.std.proofs.lemmas.Option.{same_Some}
 use Rattle.cal_zones.specs.Kinds.{zone_of}
-use Rattle.cal_events.specs.Events.{component_of}
+use Rattle.cal_events.specs.Component.{component_of}
 use Rattle.cal_events.specs.Instances.{IsOfClock}
 use Rattle.cal_events.specs.declared.component.EventComponent.{EventComponent}
-use Rattle.cal_events.proofs.ClockLemmas.{own_clock}
+use Rattle.cal_events.proofs.instances_lemmas.ClockLemmas.{own_clock}
 use Rattle.cal_events.proofs.instances.clock_of.Goals as goal
 
 pub returns-in-Some : goal.returns-in-Some

@@ -1,7 +1,7 @@
 use Rattle.std.proofs.Common.{◌≡◌, ◌∙◌, sym, subst, List, map, to_z, of_z, w64, to_z-of_z}
 use Rattle.std.proofs.lemmas.Option.{same_Some}
 use Rattle.std.specs.Prelude.{None}
-use Rattle.cal_events.specs.Events.{component_of}
+use Rattle.cal_events.specs.Component.{component_of}
 use Rattle.cal_events.specs.declared.component.EventComponent.{EventComponent}
 use Rattle.cal_events.specs.declared.instances.Bound.{Bound}
 use Rattle.cal_events.specs.Instances.{AreWalked}

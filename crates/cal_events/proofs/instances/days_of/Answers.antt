@@ -1,8 +1,8 @@
 use Rattle.std.proofs.Common.{◌≡◌, map, to_z, of_z, w64, to_z-of_z}
 use Rattle.std.specs.Prelude.{None}
 use Rattle.profile.specs.series.Days.{day_index}
-use Rattle.cal_events.specs.Events.{component_of}
-use Rattle.cal_events.proofs.Walks.{walked_from}
+use Rattle.cal_events.specs.Component.{component_of}
+use Rattle.cal_events.proofs.shared_lemmas.Walks.{walked_from}
 use Rattle.cal_events.proofs.instances.days_of.Goals as goal
 
 pub returns-in-Some : goal.returns-in-Some

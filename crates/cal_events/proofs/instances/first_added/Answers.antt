@@ -1,6 +1,6 @@
 use Rattle.std.proofs.Common.{◌≡◌, map, FitsSigned, to_z, of_z, w64, to_z-of_z, rules}
-use Rattle.cal_events.specs.Events.{component_of}
-use Rattle.cal_events.proofs.HiddenLemmas.{first_wanted}
+use Rattle.cal_events.specs.Component.{component_of}
+use Rattle.cal_events.proofs.shared_lemmas.HiddenLemmas.{first_wanted}
 use Rattle.cal_events.proofs.instances.first_added.Goals as goal
 
 pub returns : goal.returns

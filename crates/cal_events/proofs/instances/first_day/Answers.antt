@@ -1,9 +1,9 @@
 use Rattle.std.proofs.Common.{◌≡◌, map, subst, refl, ◌+ℤ◌}
 use Rattle.profile.specs.series.Days.{day_index}
 use Rattle.profile.specs.series.Zones.{Zone, IsBounds, local_time}
-use Rattle.cal_events.specs.Events.{component_of}
+use Rattle.cal_events.specs.Component.{component_of}
 use Rattle.cal_zones.proofs.Lasts.{clock_day}
-use Rattle.cal_events.proofs.InstanceLemmas.{none_before_day, none_before_start}
+use Rattle.cal_events.proofs.shared_lemmas.InstanceLemmas.{none_before_day, none_before_start}
 use Rattle.cal_events.proofs.instances.first_day.Goals as goal
 
 pub returns-in-Some : goal.returns-in-Some

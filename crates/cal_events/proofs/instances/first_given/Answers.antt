@@ -3,7 +3,7 @@ use Rattle.std.specs.Prelude.{Option}
 use Rattle.std.proofs.lemmas.Int.{ints}
 use Rattle.profile.specs.series.Rules.{Rule}
 use Rattle.profile.specs.events.Starts.{IsGiven}
-use Rattle.cal_events.specs.Events.{component_of}
+use Rattle.cal_events.specs.Component.{component_of}
 use Rattle.cal_events.specs.Instances.{IsLeast, IsWanted}
 use Rattle.cal_events.proofs.instances.first_given.Goals as goal
 

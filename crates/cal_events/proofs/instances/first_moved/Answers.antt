@@ -1,4 +1,4 @@
-use Rattle.cal_events.proofs.PlaceLemmas.{moved_first}
+use Rattle.cal_events.proofs.shared_lemmas.PlaceLemmas.{moved_first}
 use Rattle.cal_events.proofs.instances.first_moved.Goals as goal
 
 pub returns : goal.returns

@@ -3,10 +3,10 @@ use Rattle.std.proofs.lemmas.Bool.{false≢true}
 use Rattle.std.proofs.lemmas.Int.{ints}
 use Rattle.profile.specs.series.Days.{day_index}
 use Rattle.profile.specs.events.EventRules.{IsOnDay}
-use Rattle.cal_events.specs.Events.{component_of}
-use Rattle.cal_events.proofs.InstanceLemmas.{last_of_rule, first_of_rule, none_of_rule}
-use Rattle.cal_events.proofs.ClockLemmas.{means_by, same_clock}
-use Rattle.cal_events.proofs.Walks.{walked_on, walked_out, walked_back}
+use Rattle.cal_events.specs.Component.{component_of}
+use Rattle.cal_events.proofs.shared_lemmas.InstanceLemmas.{last_of_rule, first_of_rule, none_of_rule}
+use Rattle.cal_events.proofs.instances_lemmas.ClockLemmas.{means_by, same_clock}
+use Rattle.cal_events.proofs.shared_lemmas.Walks.{walked_on, walked_out, walked_back}
 use Rattle.cal_events.proofs.instances.first_on_rule.Goals as goal
 
 pub loop-found-init : goal.loop-found-init

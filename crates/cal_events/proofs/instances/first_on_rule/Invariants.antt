@@ -1,5 +1,5 @@
 use Rattle.std.proofs.Common.{map, ◌-◌}
-use Rattle.cal_events.specs.Events.{component_of}
+use Rattle.cal_events.specs.Component.{component_of}
 use Rattle.cal_events.specs.Instances.{AreWalked, IsOfClock}
 use Rattle.cal_events.proofs.instances.first_on_rule.Given as goal
 

@@ -1,9 +1,9 @@
 use Rattle.std.proofs.Common.{◌∙◌, sym, subst, map}
 use Rattle.std.proofs.lemmas.Option.{same_Some}
-use Rattle.cal_events.specs.Events.{component_of}
+use Rattle.cal_events.specs.Component.{component_of}
 use Rattle.cal_events.specs.declared.component.EventComponent.{EventComponent}
 use Rattle.cal_events.specs.Instances.{AreWalked, IsOfClock}
-use Rattle.cal_events.proofs.InstanceLemmas.{first_with_master, first_without}
+use Rattle.cal_events.proofs.shared_lemmas.InstanceLemmas.{first_with_master, first_without}
 use Rattle.cal_events.proofs.instances.first_place.Goals as goal
 
 pub first_start-start-requires-clause-clock : goal.first_start-start-requires-clause-clock

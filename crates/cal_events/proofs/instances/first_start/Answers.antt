@@ -1,6 +1,6 @@
 use Rattle.std.proofs.Common.{map}
-use Rattle.cal_events.specs.Events.{component_of}
-use Rattle.cal_events.proofs.InstanceLemmas.{first_of_both}
+use Rattle.cal_events.specs.Component.{component_of}
+use Rattle.cal_events.proofs.shared_lemmas.InstanceLemmas.{first_of_both}
 use Rattle.cal_events.proofs.instances.first_start.Goals as goal
 
 pub returns-clause-first : goal.returns-clause-first

@@ -1,9 +1,9 @@
 use Rattle.std.proofs.Common.{◌≡◌, subst, arith, ℤ, to_z, of_z, w64, to_z-of_z, rules, FitsSigned}
 use Rattle.std.proofs.lemmas.Int.{ints}
 use Rattle.profile.specs.events.Starts.{EndsAt}
-use Rattle.cal_events.specs.Events.{component_of}
-use Rattle.cal_events.specs.Calendars.{instance_of}
-use Rattle.cal_events.proofs.InstanceLemmas.{master_there, nothing_there, made_of_master, made_of_override}
+use Rattle.cal_events.specs.Component.{component_of}
+use Rattle.cal_events.specs.Calendar.{instance_of}
+use Rattle.cal_events.proofs.shared_lemmas.InstanceLemmas.{master_there, nothing_there, made_of_master, made_of_override}
 use Rattle.cal_events.proofs.instances.instance_at.Goals as goal
 
 pub instance_from-requires-in-None-Some : goal.instance_from-requires-in-None-Some

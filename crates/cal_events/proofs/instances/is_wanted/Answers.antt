@@ -1,6 +1,6 @@
 use Rattle.std.proofs.Common.{◌≡◌, map, to_z, of_z, w64, to_z-of_z}
-use Rattle.cal_events.specs.Events.{component_of}
-use Rattle.cal_events.proofs.HiddenLemmas.{wanted_by}
+use Rattle.cal_events.specs.Component.{component_of}
+use Rattle.cal_events.proofs.shared_lemmas.HiddenLemmas.{wanted_by}
 use Rattle.cal_events.proofs.instances.is_wanted.Goals as goal
 
 pub returns : goal.returns

@@ -1,6 +1,6 @@
 use Rattle.std.proofs.Common.{subst}
 use Rattle.cal_events.specs.Places.{IsWhichAt}
-use Rattle.cal_events.proofs.PlaceLemmas.{no_override}
+use Rattle.cal_events.proofs.shared_lemmas.PlaceLemmas.{no_override}
 use Rattle.cal_events.proofs.instances.override_at.Goals as goal
 
 pub returns-in_err-which-clause-none : goal.returns-in_err-which-clause-none

@@ -1,6 +1,6 @@
 use Rattle.std.proofs.Common.{◌≡◌, ◌∙◌, sym, to_z, of_z, w64, rules}
 use Rattle.std.proofs.lemmas.Bool.{true≢false}
-use Rattle.cal_events.proofs.Walks.{walked_past}
+use Rattle.cal_events.proofs.shared_lemmas.Walks.{walked_past}
 use Rattle.cal_events.proofs.instances.pass_given.Goals as goal
 
 pub returns-then-not-admits : goal.returns-then-not-admits

@@ -3,7 +3,7 @@ use Rattle.std.proofs.lemmas.Int.{ints}
 use Rattle.profile.specs.series.Days.{IsDayNumber, day_index}
 use Rattle.profile.specs.series.Zones.{Zone, Means, local_time}
 use Rattle.profile.specs.events.ZonedTimes.{clock_of}
-use Rattle.cal_events.specs.Events.{zone_said}
+use Rattle.cal_events.specs.Component.{zone_said}
 use Rattle.cal_zones.proofs.Lasts.{local_of_day}
 use Rattle.cal_events.proofs.instances.start_on.Goals as goal
 

@@ -1,6 +1,6 @@
 use Rattle.std.proofs.Common.{◌≡◌, map}
 use Rattle.profile.specs.events.Events.{as_added}
-use Rattle.cal_events.specs.Events.{component_of}
+use Rattle.cal_events.specs.Component.{component_of}
 use Rattle.cal_events.proofs.meeting_components.all_added.Given as goal
 
 abbrev pub invariant-loop-component : goal.invariant-loop-component

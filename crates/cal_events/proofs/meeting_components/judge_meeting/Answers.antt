@@ -1,5 +1,5 @@
 use Rattle.std.proofs.Common.{refl, inr}
-use Rattle.cal_events.proofs.MeetingLemmas.{components_not_one, components_one}
+use Rattle.cal_events.proofs.shared_lemmas.MeetingLemmas.{components_not_one, components_one}
 use Rattle.cal_events.proofs.meeting_components.judge_meeting.Goals as goal
 
 pub returns-then-not-are_one_meeting-clause-fault : goal.returns-then-not-are_one_meeting-clause-fault

@@ -1,7 +1,7 @@
 use Rattle.std.proofs.Common.{◌≡◌, ◌∙◌, ◌++◌, ◌∷◌, [], ap, arith, rules, ℤ, FitsSigned, to_z, of_z, w64}
 use Rattle.std.proofs.lemmas.List.{length-take}
 use Rattle.std.proofs.lemmas.Int.{ints}
-use Rattle.cal_events.proofs.SlotLemmas.{none_counted, master_counted, override_counted, two_masters_are, one_master_at_most, two_overrides_are, overrides_differ}
+use Rattle.cal_events.proofs.meeting_components_lemmas.SlotLemmas.{none_counted, master_counted, override_counted, two_masters_are, one_master_at_most, two_overrides_are, overrides_differ}
 use Rattle.cal_events.proofs.meeting_components.judge_slots.Goals as goal
 use Rattle.cal_events.proofs.meeting_components.judge_slots.Goals.{in-Some+in_ok-push-in-Some, in-None}
 

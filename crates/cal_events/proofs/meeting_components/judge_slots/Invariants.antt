@@ -1,5 +1,5 @@
 use Rattle.std.proofs.Common.{take}
-use Rattle.cal_events.proofs.SlotLemmas.{AreCounted}
+use Rattle.cal_events.proofs.meeting_components_lemmas.SlotLemmas.{AreCounted}
 use Rattle.cal_events.proofs.meeting_components.judge_slots.Given as goal
 
 -- those so far are counted

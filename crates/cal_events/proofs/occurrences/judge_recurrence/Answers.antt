@@ -1,5 +1,5 @@
 use Rattle.std.proofs.Common.{rules}
-use Rattle.cal_events.proofs.RecurrenceLemmas.{recurrence_out_there}
+use Rattle.cal_events.proofs.occurrences_lemmas.RecurrenceLemmas.{recurrence_out_there}
 use Rattle.cal_events.proofs.occurrences.judge_recurrence.Goals as goal
 
 pub returns-in-Some-clause-fault : goal.returns-in-Some-clause-fault

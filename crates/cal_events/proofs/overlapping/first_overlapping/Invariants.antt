@@ -1,5 +1,5 @@
-use Rattle.cal_events.specs.SaidMeetings.{said_meeting}
-use Rattle.cal_events.proofs.Overlaps.{IsAhead, steps_left}
+use Rattle.cal_events.specs.Event.{said_meeting}
+use Rattle.cal_events.proofs.shared_lemmas.Overlaps.{IsAhead, steps_left}
 use Rattle.cal_events.proofs.overlapping.first_overlapping.Given as goal
 
 abbrev pub invariant-loop-next : goal.invariant-loop-next

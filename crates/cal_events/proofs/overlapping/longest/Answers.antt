@@ -3,9 +3,9 @@ use Rattle.std.specs.Prelude.{None, Some}
 use Rattle.std.specs.Int.{int_max}
 use Rattle.std.proofs.lemmas.Option.{same_Some}
 use Rattle.cal_events.specs.declared.component.EventComponent.{EventComponent}
-use Rattle.cal_events.specs.Events.{times_of}
+use Rattle.cal_events.specs.Component.{times_of}
 use Rattle.cal_events.specs.Overlapping.{LastAtMost}
-use Rattle.cal_events.proofs.Overlaps.{AllLast, lasts_longer, instance_lasts, later_of, between}
+use Rattle.cal_events.proofs.shared_lemmas.Overlaps.{AllLast, lasts_longer, instance_lasts, later_of, between}
 use Rattle.cal_events.proofs.overlapping.longest.Goals as goal
 
 pub returns-in-Some-clause-bound : goal.returns-in-Some-clause-bound

@@ -1,5 +1,5 @@
 use Rattle.std.proofs.Common.{take, pos, ◌≤ℤ◌, ◌<ℤ◌, ◌^◌}
-use Rattle.cal_events.proofs.Overlaps.{AllLast}
+use Rattle.cal_events.proofs.shared_lemmas.Overlaps.{AllLast}
 use Rattle.cal_events.proofs.overlapping.longest_of.Given as goal
 
 -- of those before

@@ -2,7 +2,7 @@ use Rattle.std.proofs.Common.{Bool, sym, subst, ◌≡◌, true, false, to_z, of
 use Rattle.std.specs.Prelude.{◌↔◌, IsTrue}
 use Rattle.std.specs.Int.{int_max}
 use Rattle.profile.specs.events.Starts.{Overlaps}
-use Rattle.cal_events.proofs.Overlaps.{overlaps_where}
+use Rattle.cal_events.proofs.shared_lemmas.Overlaps.{overlaps_where}
 use Rattle.cal_events.proofs.overlapping.overlaps.Goals as goal
 
 pub returns-then-first-end : goal.returns-then-first-end

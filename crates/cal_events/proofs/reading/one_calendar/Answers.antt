@@ -1,4 +1,4 @@
-use Rattle.cal_events.proofs.OneCalendar.{one_calendar, no_fault}
+use Rattle.cal_events.proofs.reading_lemmas.OneCalendar.{one_calendar, no_fault}
 use Rattle.cal_events.proofs.reading.one_calendar.Goals as goal
 
 pub returns-clause-one : goal.returns-clause-one

@@ -1,4 +1,4 @@
-use Rattle.cal_events.proofs.OneText.{one_spelled, no_fault}
+use Rattle.cal_events.proofs.reading_lemmas.OneText.{one_spelled, no_fault}
 use Rattle.cal_events.proofs.reading.one_calendar_text.Goals as goal
 
 pub returns-clause-one : goal.returns-clause-one

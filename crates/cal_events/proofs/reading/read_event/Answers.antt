@@ -2,9 +2,9 @@ use Rattle.std.proofs.lemmas.Result.{IfErr-weaker}
 use Rattle.ical_lines.specs.Fault.{RefusesOnly, RefusesBy}
 use Rattle.profile.specs.faults.Faults.{is_meeting_event_fault}
 use Rattle.profile.specs.events.EventComponents.{EventComponentFault}
-use Rattle.cal_events.specs.Events.{method_read}
+use Rattle.cal_events.specs.Component.{method_read}
 use Rattle.cal_events.specs.Zones.{object_of}
-use Rattle.cal_events.proofs.NumberLemmas.{refused_for}
+use Rattle.cal_events.proofs.reading_lemmas.NumberLemmas.{refused_for}
 use Rattle.cal_events.proofs.reading.read_event.Goals as goal
 
 pub returns-clause-refuses : goal.returns-clause-refuses

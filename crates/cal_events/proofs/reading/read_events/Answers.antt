@@ -5,9 +5,9 @@ use Rattle.ical_tree.specs.Tree.{component_lines, component_children, tree_of}
 use Rattle.ical_tree.specs.declared.component.Component.{Component}
 use Rattle.profile.specs.text.Trees.{Tree}
 use Rattle.profile.specs.events.EventComponents.{EventComponentFault, SaysEventComponent}
-use Rattle.cal_events.specs.Events.{component_of, vevents_of, IsFaultAmong, method_read}
-use Rattle.cal_events.proofs.ReadingLemmas.{events_in, is_among, take_event, take_other, event_pushed}
-use Rattle.cal_events.proofs.ZonedLemmas.{weaker_fault}
+use Rattle.cal_events.specs.Component.{component_of, vevents_of, IsFaultAmong, method_read}
+use Rattle.cal_events.proofs.shared_lemmas.ReadingLemmas.{events_in, is_among, take_event, take_other, event_pushed}
+use Rattle.cal_events.proofs.shared_lemmas.ZonedLemmas.{weaker_fault}
 use Rattle.ical_values.proofs.Exits.{err_exit}
 use Rattle.cal_events.proofs.reading.read_events.Goals as goal
 use Rattle.cal_events.proofs.reading.read_events.Goals.{then-is_named+in_ok-read_event+in_ok-push, else-is_named}

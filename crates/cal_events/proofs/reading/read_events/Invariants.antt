@@ -2,8 +2,8 @@ use Rattle.std.proofs.Common.{take, map}
 use Rattle.std.specs.List.{AllZip}
 use Rattle.ical_tree.specs.Tree.{component_children, tree_of}
 use Rattle.profile.specs.events.EventComponents.{SaysEventComponent}
-use Rattle.cal_events.specs.Events.{component_of, method_read}
-use Rattle.cal_events.proofs.ReadingLemmas.{events_in}
+use Rattle.cal_events.specs.Component.{component_of, method_read}
+use Rattle.cal_events.proofs.shared_lemmas.ReadingLemmas.{events_in}
 use Rattle.cal_events.proofs.reading.read_events.Given as goal
 
 -- the VEVENTs so far say the events so far

@@ -1,4 +1,4 @@
-use Rattle.cal_events.proofs.ConfirmedLemmas.{series_confirmed, no_single, other_single}
+use Rattle.cal_events.proofs.reading_lemmas.ConfirmedLemmas.{series_confirmed, no_single, other_single}
 use Rattle.cal_events.proofs.reading.series_and_singles_divide.Goals as goal
 
 pub returns-clause-series : goal.returns-clause-series

@@ -1,4 +1,4 @@
-use Rattle.cal_events.proofs.ConfirmedLemmas.{single, all_single, one_key}
+use Rattle.cal_events.proofs.reading_lemmas.ConfirmedLemmas.{single, all_single, one_key}
 use Rattle.cal_events.proofs.reading.singles_are_confirmed.Goals as goal
 
 pub returns-clause-single : goal.returns-clause-single

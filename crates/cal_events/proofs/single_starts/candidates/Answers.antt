@@ -1,7 +1,7 @@
 use Rattle.std.proofs.Common.{◌∙◌, ◌++◌, ◌∷◌, [], List, ℤ, ap, not, to_z, of_z, w64, rules}
-use Rattle.cal_events.specs.Events.{component_of}
-use Rattle.cal_events.proofs.DraftKeys.{none_there}
-use Rattle.cal_events.proofs.SingleStartLemmas.{with_dtstart, without_dtstart}
+use Rattle.cal_events.specs.Component.{component_of}
+use Rattle.cal_events.proofs.shared_lemmas.DraftKeys.{none_there}
+use Rattle.cal_events.proofs.single_starts_lemmas.SingleStartLemmas.{with_dtstart, without_dtstart}
 use Rattle.cal_events.proofs.single_starts.candidates.Goals as goal
 use Rattle.cal_events.proofs.single_starts.candidates.Goals.{then-is_none+in_ok-push, else-is_none}
 

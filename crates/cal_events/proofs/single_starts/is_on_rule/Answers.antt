@@ -5,12 +5,12 @@ use Rattle.std.specs.Cmp.{unsigned_Decides}
 use Rattle.std.proofs.lemmas.Int.{ints, by_lt_z}
 use Rattle.profile.specs.series.Days.{day_index}
 use Rattle.profile.specs.events.EventRules.{IsOnDay}
-use Rattle.cal_events.specs.Events.{component_of}
+use Rattle.cal_events.specs.Component.{component_of}
 use Rattle.cal_events.specs.Instances.{AreWalked}
-use Rattle.cal_events.proofs.DraftKeys.{some_there}
-use Rattle.cal_events.proofs.InstanceLemmas.{last_of_rule}
-use Rattle.cal_events.proofs.SingleStartLemmas.{at, gives, gives_not, gives_none, wanted_at, early_unwanted}
-use Rattle.cal_events.proofs.Walks.{walked_on}
+use Rattle.cal_events.proofs.shared_lemmas.DraftKeys.{some_there}
+use Rattle.cal_events.proofs.shared_lemmas.InstanceLemmas.{last_of_rule}
+use Rattle.cal_events.proofs.single_starts_lemmas.SingleStartLemmas.{at, gives, gives_not, gives_none, wanted_at, early_unwanted}
+use Rattle.cal_events.proofs.shared_lemmas.Walks.{walked_on}
 use Rattle.cal_events.proofs.single_starts.is_on_rule.Goals as goal
 
 pub start_on-start-requires-clause-day : goal.start_on-start-requires-clause-day

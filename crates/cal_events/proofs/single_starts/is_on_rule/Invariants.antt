@@ -1,5 +1,5 @@
 use Rattle.std.proofs.Common.{[], None, ◌-◌}
-use Rattle.cal_events.specs.Events.{component_of}
+use Rattle.cal_events.specs.Component.{component_of}
 use Rattle.cal_events.specs.Instances.{AreWalked}
 use Rattle.cal_events.proofs.single_starts.is_on_rule.Given as goal
 

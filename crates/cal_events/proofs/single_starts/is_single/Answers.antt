@@ -1,7 +1,7 @@
 use Rattle.std.proofs.Common.{◌≡◌, refl, to_z, of_z, w64, to_z-of_z}
 use Rattle.std.proofs.lemmas.List.Sorted.{Contains-permutation}
-use Rattle.cal_events.proofs.SingleStartLemmas.{left_over, not_left_over}
-use Rattle.cal_events.specs.Events.{component_of}
+use Rattle.cal_events.proofs.single_starts_lemmas.SingleStartLemmas.{left_over, not_left_over}
+use Rattle.cal_events.specs.Component.{component_of}
 use Rattle.cal_events.proofs.single_starts.is_single.Goals as goal
 
 pub is_on_rule-requires-clause-not_excepted : goal.is_on_rule-requires-clause-not_excepted

@@ -4,9 +4,9 @@ use Rattle.std.proofs.lemmas.List.{get_or_default}
 use Rattle.std.specs.Prelude.{IsTrue, Contains, ◌↔◌}
 use Rattle.std.specs.Ordering.{int_cmp}
 use Rattle.std.specs.List.Sorted.{IsSorted}
-use Rattle.cal_events.specs.Events.{component_of}
+use Rattle.cal_events.specs.Component.{component_of}
 use Rattle.cal_events.specs.SingleStarts.{IsCandidate, IsLast}
-use Rattle.cal_events.proofs.SingleStartLemmas.{AreSoFar, one_more, none_more, once_more, all_starts}
+use Rattle.cal_events.proofs.single_starts_lemmas.SingleStartLemmas.{AreSoFar, one_more, none_more, once_more, all_starts}
 use Rattle.cal_events.proofs.single_starts.single_starts.Goals as goal
 use Rattle.cal_events.proofs.single_starts.single_starts.Goals.{then-not-is_last+then-is_single+in_ok-push, else-not-is_last, else-not-is_last-via-then-not-is_last+else-is_single, else-not-is_last-via-else-not-is_last}
 

@@ -1,5 +1,5 @@
 use Rattle.std.proofs.Common.{rules}
-use Rattle.cal_events.proofs.SweepLemmas.{rises_from_sort, found_by_sweep, none_by_sweep}
+use Rattle.cal_events.proofs.sweep_lemmas.SweepLemmas.{rises_from_sort, found_by_sweep, none_by_sweep}
 use Rattle.cal_events.proofs.sweep.first_overlap.Goals as goal
 
 pub returns-clause-found : goal.returns-clause-found

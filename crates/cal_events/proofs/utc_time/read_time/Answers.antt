@@ -2,7 +2,7 @@ use Rattle.std.proofs.Common.{refl}
 use Rattle.std.proofs.lemmas.Result.{IfErr-weaker}
 use Rattle.ical_lines.specs.Text.{line_text}
 use Rattle.profile.specs.events.Properties.{DateTime, Date, Period, Other, time_kind, KindFault}
-use Rattle.cal_events.proofs.EventLemmas.{kind_fault, time_said}
+use Rattle.cal_events.proofs.shared_lemmas.EventLemmas.{kind_fault, time_said}
 use Rattle.cal_events.proofs.utc_time.read_time.Goals as goal
 
 pub returns-in-DateTime-clause-reads : goal.returns-in-DateTime-clause-reads

@@ -1,6 +1,6 @@
 use Rattle.std.proofs.Common.{◌∙◌, sym, inl, inr}
 use Rattle.std.proofs.lemmas.Bool.{true≢false}
-use Rattle.cal_events.proofs.EventLemmas.{local_test}
+use Rattle.cal_events.proofs.shared_lemmas.EventLemmas.{local_test}
 use Rattle.cal_events.proofs.utc_time.refusal_of_date_time.Goals as goal
 
 pub returns-else-is_ok-clause-fault : goal.returns-else-is_ok-clause-fault

@@ -1,6 +1,6 @@
 use Rattle.std.proofs.Common.{refl}
-use Rattle.cal_events.specs.SaidMeetings.{said_meeting}
-use Rattle.cal_events.proofs.WholeLists.{all_given}
+use Rattle.cal_events.specs.Event.{said_meeting}
+use Rattle.cal_events.proofs.shared_lemmas.WholeLists.{all_given}
 use Rattle.cal_events.proofs.whole.all_instances.Goals as goal
 
 pub returns : goal.returns

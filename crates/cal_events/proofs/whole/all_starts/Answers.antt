@@ -1,6 +1,6 @@
-use Rattle.cal_events.specs.SaidSeries.{series_said}
-use Rattle.cal_events.proofs.SeriesLemmas.{one_start}
-use Rattle.cal_events.proofs.WholeLists.{all_given}
+use Rattle.cal_events.specs.Series.{series_said}
+use Rattle.cal_events.proofs.shared_lemmas.SeriesLemmas.{one_start}
+use Rattle.cal_events.proofs.shared_lemmas.WholeLists.{all_given}
 use Rattle.cal_events.proofs.whole.all_starts.Goals as goal
 
 pub returns : goal.returns

@@ -1,5 +1,5 @@
 use Rattle.std.proofs.Common.{◌∙◌, sym}
-use Rattle.cal_events.proofs.SeriesLemmas.{at_its_start, one_start}
+use Rattle.cal_events.proofs.shared_lemmas.SeriesLemmas.{at_its_start, one_start}
 use Rattle.cal_events.proofs.whole.known_by_start.Goals as goal
 
 pub returns : goal.returns

@@ -1,4 +1,4 @@
-use Rattle.cal_events.proofs.RuleInstances.{listed_instances}
+use Rattle.cal_events.proofs.whole_lemmas.RuleInstances.{listed_instances}
 use Rattle.cal_events.proofs.whole.listed_series.Goals as goal
 
 pub returns : goal.returns

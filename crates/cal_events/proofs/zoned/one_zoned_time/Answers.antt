@@ -1,4 +1,4 @@
-use Rattle.cal_events.proofs.OneZoned.{one, or_a_fault}
+use Rattle.cal_events.proofs.zoned_lemmas.OneZoned.{one, or_a_fault}
 use Rattle.cal_events.proofs.zoned.one_zoned_time.Goals as goal
 
 pub returns-clause-one : goal.returns-clause-one

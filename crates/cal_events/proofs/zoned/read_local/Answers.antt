@@ -2,7 +2,7 @@ use Rattle.std.proofs.lemmas.Result.{IfErr-weaker}
 use Rattle.ical_lines.specs.Text.{line_text}
 use Rattle.profile.specs.events.Properties.{DateTime, time_kind}
 use Rattle.profile.specs.events.ZonedTimes.{LocalFault}
-use Rattle.cal_events.proofs.ZonedLemmas.{local_fault}
+use Rattle.cal_events.proofs.shared_lemmas.ZonedLemmas.{local_fault}
 use Rattle.cal_events.proofs.zoned.read_local.Goals as goal
 
 pub returns-in-DateTime-clause-fault : goal.returns-in-DateTime-clause-fault

@@ -2,7 +2,7 @@ use Rattle.std.proofs.Common.{◌≡◌, ◌∙◌, ap, sym, subst, true, false,
 use Rattle.std.specs.Prelude.{is_some, option_map, string_bytes}
 use Rattle.std.specs.Map.{lookup}
 use Rattle.std.specs.Str.{bytes_eq}
-use Rattle.cal_events.proofs.ZoneTables.{no_zone_more, same_name_more, zone_more, none_from}
+use Rattle.cal_events.proofs.zones_lemmas.ZoneTables.{no_zone_more, same_name_more, zone_more, none_from}
 use Rattle.cal_events.proofs.zones.add_zone.Goals as goal
 
 pub returns-in_default : goal.returns-in_default

@@ -1,6 +1,6 @@
 use Rattle.std.proofs.Common.{map, arith}
 use Rattle.std.proofs.lemmas.List.{length-map}
-use Rattle.cal_events.specs.SaidSeries.{series_said}
+use Rattle.cal_events.specs.Series.{series_said}
 use Rattle.cal_period.proofs.EveryPair.{said_at}
 use Rattle.cal_period.proofs.Sharers.{sharer_found, none_more, none_of_all}
 use Rattle.cal_period.proofs.beside.first_sharer.Goals as goal

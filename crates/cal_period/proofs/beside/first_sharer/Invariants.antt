@@ -1,5 +1,5 @@
 use Rattle.std.proofs.Common.{map}
-use Rattle.cal_events.specs.SaidSeries.{series_said}
+use Rattle.cal_events.specs.Series.{series_said}
 use Rattle.cal_period.proofs.Sharers.{HasNoneBefore}
 use Rattle.cal_period.proofs.beside.first_sharer.Given as goal
 

@@ -1,6 +1,6 @@
 use Rattle.std.proofs.Common.{◌≡◌, to_z, of_z, w64, FitsSigned, rules, to_z-of_z}
 use Rattle.std.specs.Int.{int_max}
-use Rattle.cal_events.specs.SaidSeries.{series_said}
+use Rattle.cal_events.specs.Series.{series_said}
 use Rattle.cal_period.proofs.Entries.{later_start}
 use Rattle.cal_period.proofs.EveryPair.{none_exit}
 use Rattle.cal_period.proofs.clash.clash_of_pair.Goals as goal

@@ -1,6 +1,6 @@
 use Rattle.std.proofs.Common.{◌≡◌, arith, subst, to_z, of_z, w64, FitsSigned, rules, to_z-of_z}
-use Rattle.cal_events.specs.Calendars.{instance_of}
-use Rattle.cal_events.specs.SaidSeries.{series_said}
+use Rattle.cal_events.specs.Calendar.{instance_of}
+use Rattle.cal_events.specs.Series.{series_said}
 use Rattle.cal_period.specs.Onward.{MeetFrom}
 use Rattle.cal_period.specs.Turns.{IsTurn}
 use Rattle.cal_period.proofs.Entries.{entered}

@@ -1,5 +1,5 @@
 use Rattle.std.proofs.Common.{◌+◌}
-use Rattle.cal_events.specs.SaidSeries.{series_said}
+use Rattle.cal_events.specs.Series.{series_said}
 use Rattle.cal_period.proofs.Tails.{AreOnward}
 use Rattle.cal_period.proofs.Sweeping.{steps_left}
 use Rattle.cal_period.proofs.clash.clash_onward.Given as goal

@@ -1,7 +1,7 @@
 use Rattle.std.proofs.Common.{◌≡◌, arith, negsuc, ◌-ℤ◌, ◌≤ℤ◌, to_z, of_z, w64, FitsSigned, rules, to_z-of_z}
 use Rattle.std.specs.Int.{saturate_signed}
 use Rattle.std.proofs.lemmas.Int.{ints}
-use Rattle.cal_events.specs.SaidSeries.{series_said}
+use Rattle.cal_events.specs.Series.{series_said}
 use Rattle.cal_period.proofs.Entries.{series_lasts, is_length, entry_is}
 use Rattle.cal_period.proofs.clash.entry.Goals as goal
 

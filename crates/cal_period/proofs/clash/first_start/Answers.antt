@@ -1,6 +1,6 @@
 use Rattle.std.proofs.Common.{◌≡◌, arith, to_z, of_z, w64, FitsSigned, rules, to_z-of_z}
 use Rattle.std.proofs.lemmas.Int.{ints}
-use Rattle.cal_events.specs.SaidSeries.{series_said}
+use Rattle.cal_events.specs.Series.{series_said}
 use Rattle.cal_period.proofs.Entries.{first_at, none_at}
 use Rattle.cal_period.proofs.EveryPair.{none_exit}
 use Rattle.cal_period.proofs.Sweeping.{all_left}

@@ -1,6 +1,6 @@
 use Rattle.std.proofs.Common.{◌≡◌, ◌+◌, ◌-◌, map, length, min, subst, arith}
 use Rattle.std.proofs.lemmas.List.{length-map}
-use Rattle.cal_events.specs.SaidSeries.{series_said}
+use Rattle.cal_events.specs.Series.{series_said}
 use Rattle.cal_period.specs.Every.{row_count, pairs_count, all_count}
 use Rattle.cal_period.proofs.EveryPair.{where_none, where_some, rows_more, rows_all, rows_found, step_count, end_count, found_count, rows_left, rows_none, lists_long}
 use Rattle.cal_period.proofs.every_pair.sweep_all.Goals as goal

@@ -1,5 +1,5 @@
 use Rattle.std.proofs.Common.{map, arith}
-use Rattle.cal_events.specs.SaidSeries.{series_said}
+use Rattle.cal_events.specs.Series.{series_said}
 use Rattle.cal_period.proofs.EveryPair.{said_at, at_alone, at_pair, drawn_alone, drawn_pair}
 use Rattle.cal_period.proofs.every_pair.sweep_at.Goals as goal
 

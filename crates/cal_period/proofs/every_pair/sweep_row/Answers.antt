@@ -1,6 +1,6 @@
 use Rattle.std.proofs.Common.{◌≡◌, ◌+◌, ◌-◌, map, length, min, subst, arith}
 use Rattle.std.proofs.lemmas.List.{length-map}
-use Rattle.cal_events.specs.SaidSeries.{series_said}
+use Rattle.cal_events.specs.Series.{series_said}
 use Rattle.cal_period.specs.Every.{pair_count, row_count}
 use Rattle.cal_period.proofs.EveryPair.{where_none, where_some, row_more, row_all, step_count, end_count, found_count, row_left, row_none, lists_long}
 use Rattle.cal_period.proofs.every_pair.sweep_row.Goals as goal

@@ -1,6 +1,6 @@
 use Rattle.std.proofs.Common.{◌≡◌, ◌+◌, ◌-◌, ◌^◌, ◌≤◌, List, length, map, min}
 use Rattle.profile.specs.checker.Instances.{Instance}
-use Rattle.cal_events.specs.SaidSeries.{series_said}
+use Rattle.cal_events.specs.Series.{series_said}
 use Rattle.cal_period.specs.Every.{IsRowClear, AreLists, row_count}
 use Rattle.cal_period.proofs.every_pair.sweep_row.Given as goal
 

@@ -1,7 +1,7 @@
 use Rattle.std.proofs.Common.{◌≡◌, ap, arith}
 use Rattle.std.proofs.lemmas.Int.{ints}
 use Rattle.profile.specs.checker.Instances.{horizon}
-use Rattle.cal_events.specs.SaidSeries.{series_said}
+use Rattle.cal_events.specs.Series.{series_said}
 use Rattle.cal_period.specs.Walks.{walk_place}
 use Rattle.cal_period.proofs.Alone.{alone_first, alone_end, alone_found, alone_past}
 use Rattle.cal_period.proofs.Sweeping.{all_left, none_is, all_counted, found_counted, fewer_left}

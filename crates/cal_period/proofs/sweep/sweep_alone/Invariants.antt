@@ -1,4 +1,4 @@
-use Rattle.cal_events.specs.SaidSeries.{series_said}
+use Rattle.cal_events.specs.Series.{series_said}
 use Rattle.cal_period.proofs.Alone.{IsAloneAt}
 use Rattle.cal_period.proofs.Sweeping.{steps_left}
 use Rattle.cal_period.proofs.sweep.sweep_alone.Given as goal

@@ -1,8 +1,8 @@
 use Rattle.std.proofs.Common.{◌≡◌, ap, arith, rules, w64, FitsSigned}
 use Rattle.std.proofs.lemmas.Int.{ints}
 use Rattle.profile.specs.checker.Instances.{horizon}
-use Rattle.cal_events.specs.Calendars.{instance_of}
-use Rattle.cal_events.specs.SaidSeries.{series_said}
+use Rattle.cal_events.specs.Calendar.{instance_of}
+use Rattle.cal_events.specs.Series.{series_said}
 use Rattle.cal_period.specs.Walks.{walk_place}
 use Rattle.cal_period.proofs.Pairs.{pair_first, pair_turned, found_turned, pair_end, pair_counted, pair_some, pair_found, pair_past}
 use Rattle.cal_period.proofs.Sweeping.{all_left, fewer_left, place_before, place_after}

@@ -1,5 +1,5 @@
 use Rattle.std.proofs.Common.{◌+◌}
-use Rattle.cal_events.specs.SaidSeries.{series_said}
+use Rattle.cal_events.specs.Series.{series_said}
 use Rattle.cal_period.proofs.Pairs.{IsPairAt}
 use Rattle.cal_period.proofs.Sweeping.{steps_left}
 use Rattle.cal_period.proofs.sweep.sweep_pair.Given as goal

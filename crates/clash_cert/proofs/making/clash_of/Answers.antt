@@ -1,6 +1,6 @@
 use Rattle.std.proofs.Common.{true, false, refl, sym, subst, ℤ, rules, to_z, of_z, w64, FitsSigned}
 use Rattle.std.proofs.lemmas.Int.{to_z-of_z}
-use Rattle.cal_events.specs.Calendars.{instance_of}
+use Rattle.cal_events.specs.Calendar.{instance_of}
 use Rattle.clash_cert.specs.Makings.{IsLaterStart}
 use Rattle.clash_cert.proofs.MakingLemmas.{named_first}
 use Rattle.clash_cert.proofs.making.clash_of.Goals as goal

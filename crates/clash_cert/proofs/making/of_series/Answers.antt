@@ -2,7 +2,7 @@ use Rattle.std.proofs.Common.{refl, sym, subst, arith, rules, w64, FitsSigned}
 use Rattle.std.proofs.lemmas.Int.{to_z-of_z}
 use Rattle.profile.specs.events.Events.{Event}
 use Rattle.profile.specs.events.Starts.{IsInstance}
-use Rattle.cal_events.specs.Calendars.{instance_of}
+use Rattle.cal_events.specs.Calendar.{instance_of}
 use Rattle.clash_cert.proofs.MakingLemmas.{named_by, series_in, series_there, keys_apart, shares_start}
 use Rattle.clash_cert.proofs.making.of_series.Goals as goal
 

@@ -1,5 +1,5 @@
 use Rattle.std.proofs.Common.{inl}
-use Rattle.cal_events.specs.Calendars.{instance_of}
+use Rattle.cal_events.specs.Calendar.{instance_of}
 use Rattle.clash_cert.proofs.MakingLemmas.{named_by, held, own_key, shares}
 use Rattle.clash_cert.proofs.making.of_singles.Goals as goal
 

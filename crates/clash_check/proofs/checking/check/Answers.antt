@@ -1,6 +1,6 @@
 use Rattle.std.proofs.Common.{subst}
 use Rattle.profile.specs.events.Confirmed.{Confirmed}
-use Rattle.cal_events.specs.Calendars.{HaveDifferentKeys, HaveOwnKeys}
+use Rattle.cal_events.specs.Calendar.{HaveDifferentKeys, HaveOwnKeys}
 use Rattle.ical_values.specs.Octets.{address_octets}
 use Rattle.profile.specs.Headline.{IsFree}
 use Rattle.profile.specs.checker.Calendars.{CertificateHolds}

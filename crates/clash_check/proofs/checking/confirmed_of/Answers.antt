@@ -3,7 +3,7 @@ use Rattle.std.specs.Prelude.{IfNone}
 use Rattle.profile.specs.checker.Instances.{Instance}
 use Rattle.profile.specs.events.Events.{Event}
 use Rattle.profile.specs.events.Confirmed.{IsInSeries}
-use Rattle.cal_events.specs.Calendars.{owned_key_of}
+use Rattle.cal_events.specs.Calendar.{owned_key_of}
 use Rattle.clash_check.proofs.ClashLemmas.{none_of_both}
 use Rattle.clash_check.proofs.checking.confirmed_of.Goals as goal
 

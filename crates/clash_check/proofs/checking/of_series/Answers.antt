@@ -1,7 +1,7 @@
 use Rattle.std.proofs.Common.{map, arith}
 use Rattle.std.proofs.lemmas.List.{length-map}
-use Rattle.cal_events.specs.Calendars.{instance_of, owned_key_of}
-use Rattle.cal_events.specs.SaidSeries.{series_said}
+use Rattle.cal_events.specs.Calendar.{instance_of, owned_key_of}
+use Rattle.cal_events.specs.Series.{series_said}
 use Rattle.cal_period.proofs.EveryPair.{said_at}
 use Rattle.clash_check.proofs.ClashLemmas.{no_more, none_of_series, in_series}
 use Rattle.clash_check.proofs.checking.of_series.Goals as goal

@@ -1,6 +1,6 @@
 use Rattle.std.proofs.Common.{map}
-use Rattle.cal_events.specs.Calendars.{owned_key_of}
-use Rattle.cal_events.specs.SaidSeries.{series_said}
+use Rattle.cal_events.specs.Calendar.{owned_key_of}
+use Rattle.cal_events.specs.Series.{series_said}
 use Rattle.clash_check.proofs.ClashLemmas.{NoSeriesHas}
 use Rattle.clash_check.proofs.checking.of_series.Given as goal
 

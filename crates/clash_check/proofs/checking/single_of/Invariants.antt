@@ -1,4 +1,4 @@
-use Rattle.cal_events.specs.Calendars.{owned_key_of}
+use Rattle.cal_events.specs.Calendar.{owned_key_of}
 use Rattle.clash_check.proofs.ClashLemmas.{NoneHas}
 use Rattle.clash_check.proofs.checking.single_of.Given as goal
 

@@ -1,6 +1,6 @@
 use Rattle.std.proofs.Common.{map, take}
-use Rattle.cal_events.specs.Events.{attendee_of}
-use Rattle.itip_messages.proofs.CountedLines.{AreCounted}
+use Rattle.cal_events.specs.Component.{attendee_of}
+use Rattle.itip_messages.proofs.attendees_lemmas.CountedLines.{AreCounted}
 use Rattle.itip_messages.proofs.attendees.counted_among.Given as goal
 
 abbrev pub invariant-loop-line : goal.invariant-loop-line

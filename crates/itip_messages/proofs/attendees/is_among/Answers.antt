@@ -3,7 +3,7 @@ use Rattle.std.proofs.lemmas.Fn.{always_returns_same}
 use Rattle.std.specs.Ordering.{nat_cmp}
 use Rattle.std.specs.Cmp.Lexicographic.{slice_cmp}
 use Rattle.ical_values.specs.Octets.{address_octets}
-use Rattle.itip_messages.proofs.AttendeeSearch.{found}
+use Rattle.itip_messages.proofs.attendees_lemmas.AttendeeSearch.{found}
 use Rattle.itip_messages.proofs.attendees.is_among.Goals as goal
 
 pub returns : goal.returns

@@ -1,7 +1,7 @@
 use Rattle.std.proofs.Common.{subst, List, ℤ}
 use Rattle.std.specs.List.Sorted.{IsPermutation}
 use Rattle.std.proofs.lemmas.List.Filters.{dedup_is}
-use Rattle.itip_messages.proofs.BodyLemmas.{sorted_once}
+use Rattle.itip_messages.proofs.body_lemmas.BodyLemmas.{sorted_once}
 use Rattle.itip_messages.proofs.body.ascending.Goals as goal
 
 pub returns : goal.returns

@@ -5,11 +5,11 @@ use Rattle.profile.specs.rooms.Messages.{WritesTimes, is_in_dates}
 use Rattle.profile.specs.series.Rules.{Rule}
 use Rattle.profile.specs.series.Zones.{Zone}
 use Rattle.profile.specs.events.ZonedTimes.{clock_of}
-use Rattle.cal_events.specs.Events.{zone_said}
+use Rattle.cal_events.specs.Component.{zone_said}
 use Rattle.cal_zones.specs.Kinds.{zone_of}
-use Rattle.itip_messages.specs.Bodies.{AppendsRule}
-use Rattle.itip_messages.proofs.BodyLemmas.{body_written, clock_named}
-use Rattle.itip_messages.proofs.TimeLists.{dates_starts}
+use Rattle.itip_messages.specs.Body.{AppendsRule}
+use Rattle.itip_messages.proofs.body_lemmas.BodyLemmas.{body_written, clock_named}
+use Rattle.itip_messages.proofs.body_lemmas.TimeLists.{dates_starts}
 use Rattle.itip_messages.proofs.body.canonical_body.Goals as goal
 
 pub write_rule-requires : goal.write_rule-requires

@@ -2,8 +2,8 @@ use Rattle.std.proofs.Common.{◌≡◌, ◌∙◌, ◌∷◌, ◌++◌, List, �
 use Rattle.std.specs.Prelude.{Contains}
 use Rattle.std.specs.List.{AllZip}
 use Rattle.profile.specs.text.Values.{WritesStamp}
-use Rattle.cal_events.proofs.InOneOrder.{later}
-use Rattle.itip_messages.proofs.BodyLemmas.{list_written}
+use Rattle.cal_events.proofs.shared_lemmas.InOneOrder.{later}
+use Rattle.itip_messages.proofs.body_lemmas.BodyLemmas.{list_written}
 use Rattle.itip_messages.proofs.body.write_list.Goals as goal
 
 pub write_others-requires : goal.write_others-requires

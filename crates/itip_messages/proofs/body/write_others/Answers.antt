@@ -1,7 +1,7 @@
 use Rattle.std.proofs.Common.{◌≡◌, sym, subst, pos, get_or, FitsSigned, to_z, of_z, w64, to_z-of_z, rules}
 use Rattle.std.proofs.lemmas.List.{get_or_default}
 use Rattle.profile.specs.text.Values.{IsClockSeconds}
-use Rattle.itip_messages.proofs.BodyLemmas.{others_more}
+use Rattle.itip_messages.proofs.body_lemmas.BodyLemmas.{others_more}
 use Rattle.itip_messages.proofs.body.write_others.Goals as goal
 
 pub write_stamp-requires : goal.write_stamp-requires

@@ -1,5 +1,5 @@
 use Rattle.std.proofs.Common.{take}
-use Rattle.itip_messages.specs.Bodies.{AppendsOthers}
+use Rattle.itip_messages.specs.Body.{AppendsOthers}
 use Rattle.itip_messages.proofs.body.write_others.Given as goal
 
 -- those so far

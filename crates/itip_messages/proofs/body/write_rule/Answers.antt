@@ -5,7 +5,7 @@ use Rattle.profile.specs.series.RuleTexts.{rule_text}
 use Rattle.profile.specs.events.Properties.{BothOrNeither}
 use Rattle.profile.specs.rooms.Messages.{WritesEnd, WritesRule}
 use Rattle.cal_zones.specs.Kinds.{zone_of}
-use Rattle.itip_messages.proofs.BodyLemmas.{line_written}
+use Rattle.itip_messages.proofs.body_lemmas.BodyLemmas.{line_written}
 use Rattle.itip_messages.proofs.body.write_rule.Goals as goal
 
 pub end_text-requires : goal.end_text-requires

@@ -2,8 +2,8 @@ use Rattle.std.proofs.Common.{◌≡◌, ◌∙◌, ◌++◌, codes, Option, Non
 use Rattle.profile.specs.series.Zones.{Zone}
 use Rattle.profile.specs.rooms.Messages.{StartsIn}
 use Rattle.cal_zones.specs.Kinds.{zone_of}
-use Rattle.cal_events.specs.Events.{zone_said, times_of}
-use Rattle.itip_messages.proofs.BodyLemmas.{line_written}
+use Rattle.cal_events.specs.Component.{zone_said, times_of}
+use Rattle.itip_messages.proofs.body_lemmas.BodyLemmas.{line_written}
 use Rattle.itip_messages.proofs.body.write_start.Goals as goal
 use Rattle.itip_messages.proofs.body.write_start.Goals.{in-None+in_ok-extend_from_slice-in-None+in_ok-write-in-None, in-Some+in_ok-extend_from_slice-in-Some+in_ok-write-in-Some}
 

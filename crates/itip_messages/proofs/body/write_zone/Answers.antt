@@ -4,7 +4,7 @@ use Rattle.profile.specs.events.Properties.{BothOrNeither}
 use Rattle.profile.specs.series.Zones.{Zone}
 use Rattle.profile.specs.rooms.Messages.{IsZoneRest}
 use Rattle.cal_zones.specs.Kinds.{zone_of}
-use Rattle.itip_messages.proofs.BodyLemmas.{zone_written}
+use Rattle.itip_messages.proofs.body_lemmas.BodyLemmas.{zone_written}
 use Rattle.itip_messages.proofs.body.write_zone.Goals as goal
 
 pub returns-in-Some : goal.returns-in-Some

@@ -3,8 +3,8 @@ use Rattle.std.specs.Prelude.{◌==◌}
 use Rattle.std.proofs.lemmas.Bool.{false_from_ne_true}
 use borrow.Author.Tests.{eqb-true}
 use Rattle.memchr.specs.Find.{IsFirstByte, is_byte}
-use Rattle.itip_messages.specs.Bodies.{zone_place}
-use Rattle.itip_messages.proofs.ZonePlaces.{cut_at_zone, place_found, place_lacking}
+use Rattle.itip_messages.specs.Body.{zone_place}
+use Rattle.itip_messages.proofs.body_lemmas.ZonePlaces.{cut_at_zone, place_found, place_lacking}
 use Rattle.itip_messages.proofs.body.zone_lines.Goals as goal
 
 other_octet : (n : ℕ) → (n ≡ 66 → ⊥) → (n == 66) ≡ false

@@ -1,7 +1,7 @@
 -- The body is cut where its zone begins, and has a zone where something is there.
 use Rattle.std.proofs.Common.{arith, ◌∙◌, Some, take, drop, sym, ap}
-use Rattle.itip_messages.specs.Zoning.{with_zone}
-use Rattle.itip_messages.proofs.NamedLines.{body_alone, body_in_zone, behind, is_nothing, is_some_zone}
+use Rattle.itip_messages.specs.Zones.{with_zone}
+use Rattle.itip_messages.proofs.body_text_lemmas.NamedLines.{body_alone, body_in_zone, behind, is_nothing, is_some_zone}
 use Rattle.itip_messages.proofs.body_text.write_body.Goals as goal
 
 pub split_at-requires : goal.split_at-requires

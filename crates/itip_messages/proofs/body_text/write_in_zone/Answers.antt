@@ -7,8 +7,8 @@ use Rattle.std.proofs.lemmas.Iterator.Splits.{YieldsList-from_lines}
 use Rattle.ical_lines.proofs.Yields.{some_more, none_more}
 use Rattle.profile.specs.rooms.Kept.{renamed}
 use Rattle.profile.specs.text.Lines.{folded, written}
-use Rattle.itip_messages.specs.BodyTexts.{name_of, named_lines}
-use Rattle.itip_messages.proofs.WrittenLines.{one_written}
+use Rattle.itip_messages.specs.BodyText.{name_of, named_lines}
+use Rattle.itip_messages.proofs.shared_lemmas.WrittenLines.{one_written}
 use Rattle.itip_messages.proofs.body_text.write_in_zone.Goals as goal
 
 pub loop-line-init : goal.loop-line-init

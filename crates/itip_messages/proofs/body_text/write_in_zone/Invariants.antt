@@ -4,7 +4,7 @@ use Rattle.std.specs.Iterator.{AlwaysYields}
 use Rattle.std.specs.Str.Iter.{lines_steps}
 use Rattle.std.specs.Str.Lines.{lines}
 use Rattle.profile.specs.text.Lines.{written}
-use Rattle.itip_messages.specs.BodyTexts.{name_of, named_lines}
+use Rattle.itip_messages.specs.BodyText.{name_of, named_lines}
 use Rattle.itip_messages.proofs.body_text.write_in_zone.Given as goal
 
 abbrev pub invariant-loop-line : goal.invariant-loop-line

@@ -6,7 +6,7 @@ use Rattle.std.specs.Str.Lines.{lines}
 use Rattle.std.proofs.lemmas.Iterator.Splits.{YieldsList-from_lines}
 use Rattle.profile.specs.text.Lines.{written}
 use Rattle.ical_lines.proofs.Yields.{some_more, none_more}
-use Rattle.itip_messages.proofs.WrittenLines.{one_written}
+use Rattle.itip_messages.proofs.shared_lemmas.WrittenLines.{one_written}
 use Rattle.itip_messages.proofs.body_text.write_lines.Goals as goal
 
 pub loop-line-init : goal.loop-line-init

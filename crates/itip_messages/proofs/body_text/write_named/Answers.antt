@@ -2,7 +2,7 @@
 use Rattle.std.proofs.Common.{◌≡◌, ◌++◌, codes, sym, subst}
 use Rattle.std.specs.Result.{OnOk}
 use Rattle.profile.specs.text.Lines.{folded}
-use Rattle.itip_messages.proofs.NamedLines.{other_line}
+use Rattle.itip_messages.proofs.body_text_lemmas.NamedLines.{other_line}
 use Rattle.itip_messages.proofs.body_text.write_named.Goals as goal
 
 pub returns-in-None : goal.returns-in-None

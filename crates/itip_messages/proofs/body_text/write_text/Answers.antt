@@ -3,8 +3,8 @@ use Rattle.std.proofs.Common.{◌∙◌, ◌++◌, ℕ, Option, Some, sym, ap, s
 use Rattle.std.specs.Str.Lines.{lines}
 use Rattle.std.proofs.lemmas.Result.{on_ok_weaker}
 use Rattle.profile.specs.text.Lines.{written}
-use Rattle.itip_messages.specs.BodyTexts.{WritesText, name_of, named_lines}
-use Rattle.itip_messages.proofs.NamedLines.{no_text, plain_written, text_written}
+use Rattle.itip_messages.specs.BodyText.{WritesText, name_of, named_lines}
+use Rattle.itip_messages.proofs.body_text_lemmas.NamedLines.{no_text, plain_written, text_written}
 use Rattle.itip_messages.proofs.body_text.write_text.Goals as goal
 
 pub returns-in_default : goal.returns-in_default

@@ -1,7 +1,7 @@
 -- One more address.
 use Rattle.std.proofs.Common.{◌∙◌, ◌++◌, codes, ap, arith}
 use Rattle.profile.specs.text.Lines.{folded}
-use Rattle.itip_messages.proofs.CancelLines.{attendee_more}
+use Rattle.itip_messages.proofs.cancel_lemmas.CancelLines.{attendee_more}
 use Rattle.itip_messages.proofs.cancel.write_attendees.Goals as goal
 
 pub loop-address-preserved : goal.loop-address-preserved

@@ -1,5 +1,5 @@
 use Rattle.std.proofs.Common.{◌≡◌, ◌++◌}
-use Rattle.itip_messages.proofs.CancelLines.{cancel_written}
+use Rattle.itip_messages.proofs.cancel_lemmas.CancelLines.{cancel_written}
 use Rattle.itip_messages.proofs.cancel.write_cancel.Goals as goal
 
 pub returns-clause-ok : goal.returns-clause-ok

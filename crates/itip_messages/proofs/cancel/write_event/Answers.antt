@@ -1,6 +1,6 @@
 use Rattle.std.proofs.Common.{◌∙◌, ◌++◌, codes, ap}
 use Rattle.profile.specs.text.Lines.{folded}
-use Rattle.itip_messages.proofs.CancelLines.{event_written}
+use Rattle.itip_messages.proofs.cancel_lemmas.CancelLines.{event_written}
 use Rattle.itip_messages.proofs.cancel.write_event.Goals as goal
 
 pub returns : goal.returns

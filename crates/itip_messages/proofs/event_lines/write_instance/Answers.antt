@@ -1,7 +1,7 @@
 use Rattle.std.proofs.Common.{◌∙◌, w64}
 use Rattle.std.proofs.lemmas.Int.{to_z-of_z}
 use Rattle.std.proofs.lemmas.Result.{on_ok_weaker}
-use Rattle.itip_messages.proofs.MeetingLines.{slot_written}
+use Rattle.itip_messages.proofs.shared_lemmas.MeetingLines.{slot_written}
 use Rattle.itip_messages.proofs.event_lines.write_instance.Goals as goal
 
 pub returns : goal.returns

@@ -1,6 +1,6 @@
 use Rattle.std.proofs.lemmas.Result.{on_ok_weaker}
 use Rattle.itip_order.specs.Parts.{revision_of}
-use Rattle.itip_messages.proofs.WrittenLines.{revision_written}
+use Rattle.itip_messages.proofs.shared_lemmas.WrittenLines.{revision_written}
 use Rattle.itip_messages.proofs.event_lines.write_revision.Goals as goal
 
 pub returns : goal.returns

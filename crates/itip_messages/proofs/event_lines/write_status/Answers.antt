@@ -3,7 +3,7 @@ use Rattle.std.specs.Result.{OnOk}
 use Rattle.std.proofs.lemmas.Result.{on_ok_weaker}
 use Rattle.profile.specs.text.Lines.{written}
 use Rattle.profile.specs.organisers.Sent.{status_lines}
-use Rattle.itip_messages.proofs.LineLemmas.{one_line}
+use Rattle.itip_messages.proofs.shared_lemmas.LineLemmas.{one_line}
 use Rattle.itip_messages.proofs.event_lines.write_status.Goals as goal
 
 pub returns-then-cancelled : goal.returns-then-cancelled

@@ -1,4 +1,4 @@
-use Rattle.itip_messages.proofs.OneMessage.{one_spelled, no_fault}
+use Rattle.itip_messages.proofs.law_lemmas.OneMessage.{one_spelled, no_fault}
 use Rattle.itip_messages.proofs.law.one_message.Goals as goal
 
 pub returns-clause-one : goal.returns-clause-one

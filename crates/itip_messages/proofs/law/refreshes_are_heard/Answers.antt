@@ -1,5 +1,5 @@
 -- A refresh is heard as it was written.
-use Rattle.itip_messages.proofs.HeardLaws.{refreshes_heard}
+use Rattle.itip_messages.proofs.law_lemmas.HeardLaws.{refreshes_heard}
 use Rattle.itip_messages.proofs.law.refreshes_are_heard.Goals as goal
 
 pub returns : goal.returns

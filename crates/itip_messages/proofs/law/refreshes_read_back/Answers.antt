@@ -1,5 +1,5 @@
 -- A refresh that was written reads back as one object, and says which meeting is asked for.
-use Rattle.itip_messages.proofs.RefreshReads.{refresh_reads, refresh_says}
+use Rattle.itip_messages.proofs.law_lemmas.RefreshReads.{refresh_reads, refresh_says}
 use Rattle.itip_messages.proofs.law.refreshes_read_back.Goals as goal
 
 pub returns-clause-reads : goal.returns-clause-reads

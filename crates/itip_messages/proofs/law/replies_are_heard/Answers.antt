@@ -1,5 +1,5 @@
 -- A reply is heard as it was written.
-use Rattle.itip_messages.proofs.HeardLaws.{replies_heard}
+use Rattle.itip_messages.proofs.law_lemmas.HeardLaws.{replies_heard}
 use Rattle.itip_messages.proofs.law.replies_are_heard.Goals as goal
 
 pub returns : goal.returns

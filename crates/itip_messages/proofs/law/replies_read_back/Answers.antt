@@ -1,5 +1,5 @@
 -- A reply that was written reads back as one object.
-use Rattle.itip_messages.proofs.ReplyReads.{reply_reads}
+use Rattle.itip_messages.proofs.law_lemmas.ReplyReads.{reply_reads}
 use Rattle.itip_messages.proofs.law.replies_read_back.Goals as goal
 
 pub returns : goal.returns

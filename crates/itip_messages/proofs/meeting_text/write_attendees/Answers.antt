@@ -8,9 +8,9 @@ use Rattle.std.proofs.lemmas.List.{map-append, map-id}
 use Rattle.itip_order.specs.Parts.{slot_of}
 use Rattle.profile.specs.events.EventComponents.{Attendee}
 use Rattle.itip_messages.specs.Attendees.{line_said}
-use Rattle.itip_messages.specs.Replies.{WritesLines}
-use Rattle.itip_messages.proofs.MeetingLines.{attendee_more}
-use Rattle.itip_messages.proofs.WrittenLines.{no_lines}
+use Rattle.itip_messages.specs.Reply.{WritesLines}
+use Rattle.itip_messages.proofs.shared_lemmas.MeetingLines.{attendee_more}
+use Rattle.itip_messages.proofs.shared_lemmas.WrittenLines.{no_lines}
 use Rattle.itip_messages.proofs.meeting_text.write_attendees.Goals as goal
 
 pub loop-attendee-init : goal.loop-attendee-init

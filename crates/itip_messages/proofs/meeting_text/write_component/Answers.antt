@@ -1,8 +1,8 @@
 -- The lines of a VEVENT, one after another.
 use Rattle.std.proofs.Common.{◌∙◌, ◌++◌, codes, ap, subst}
 use Rattle.profile.specs.text.Lines.{folded}
-use Rattle.itip_messages.specs.BodyTexts.{WritesBody}
-use Rattle.itip_messages.proofs.MeetingLines.{component_written}
+use Rattle.itip_messages.specs.BodyText.{WritesBody}
+use Rattle.itip_messages.proofs.shared_lemmas.MeetingLines.{component_written}
 use Rattle.itip_messages.proofs.meeting_text.write_component.Goals as goal
 
 pub returns : goal.returns

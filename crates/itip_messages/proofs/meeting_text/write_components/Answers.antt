@@ -2,8 +2,8 @@
 use Rattle.std.proofs.Common.{◌≡◌, ◌∙◌, ◌∷◌, ◌++◌, ◌+◌, [], List, take, take_all, sym, ap, subst}
 use Rattle.std.proofs.lemmas.List.{take_more}
 use Rattle.itip_messages.specs.declared.organiser_object.ObjectComponent.{ObjectComponent}
-use Rattle.itip_messages.specs.Meetings.{WritesComponents}
-use Rattle.itip_messages.proofs.MeetingLines.{components_more, none_written}
+use Rattle.itip_messages.specs.MeetingText.{WritesComponents}
+use Rattle.itip_messages.proofs.shared_lemmas.MeetingLines.{components_more, none_written}
 use Rattle.itip_messages.proofs.meeting_text.write_components.Goals as goal
 
 pub loop-component-init : goal.loop-component-init

@@ -1,5 +1,5 @@
 use Rattle.std.proofs.Common.{take}
-use Rattle.itip_messages.specs.Meetings.{WritesComponents}
+use Rattle.itip_messages.specs.MeetingText.{WritesComponents}
 use Rattle.itip_messages.proofs.meeting_text.write_components.Given as goal
 
 abbrev pub invariant-loop-component : goal.invariant-loop-component

@@ -1,8 +1,8 @@
 -- The zones that came up come before the VEVENTs.
 use Rattle.std.proofs.Common.{◌∙◌, ◌++◌}
 use Rattle.std.specs.Prelude.{option_map}
-use Rattle.itip_messages.specs.Replies.{text_now}
-use Rattle.itip_messages.proofs.MeetingLines.{both_appended, meeting_written}
+use Rattle.itip_messages.specs.Reply.{text_now}
+use Rattle.itip_messages.proofs.shared_lemmas.MeetingLines.{both_appended, meeting_written}
 use Rattle.itip_messages.proofs.meeting_text.write_meeting.Goals as goal
 
 pub returns-clause-ok : goal.returns-clause-ok

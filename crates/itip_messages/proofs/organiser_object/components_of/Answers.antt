@@ -1,5 +1,5 @@
-use Rattle.itip_messages.specs.OrganiserObjects.{SaysObjectComponent}
-use Rattle.itip_messages.proofs.MessageLemmas.{next_there, said_more}
+use Rattle.itip_messages.specs.OrganiserObject.{SaysObjectComponent}
+use Rattle.itip_messages.proofs.shared_lemmas.MessageLemmas.{next_there, said_more}
 use Rattle.itip_messages.proofs.organiser_object.components_of.Goals as goal
 
 pub of-requires : goal.of-requires

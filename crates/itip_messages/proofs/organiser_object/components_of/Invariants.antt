@@ -1,7 +1,7 @@
 use Rattle.std.proofs.Common.{◌≡◌, ◌++◌, map}
 use Rattle.std.specs.List.{AllZip}
-use Rattle.cal_events.specs.Events.{component_of}
-use Rattle.itip_messages.specs.OrganiserObjects.{SaysObjectComponent}
+use Rattle.cal_events.specs.Component.{component_of}
+use Rattle.itip_messages.specs.OrganiserObject.{SaysObjectComponent}
 use Rattle.itip_messages.proofs.organiser_object.components_of.Given as goal
 
 -- those so far are said

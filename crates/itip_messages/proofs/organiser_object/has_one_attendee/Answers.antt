@@ -1,5 +1,5 @@
 use Rattle.std.proofs.Common.{◌∙◌, sym}
-use Rattle.itip_messages.proofs.ObjectLemmas.{first_and_others}
+use Rattle.itip_messages.proofs.organiser_object_lemmas.ObjectLemmas.{first_and_others}
 use Rattle.itip_messages.proofs.organiser_object.has_one_attendee.Goals as goal
 
 pub returns-in-Some : goal.returns-in-Some

@@ -1,6 +1,6 @@
 use Rattle.std.proofs.Common.{◌∙◌, sym, refl, true, false}
 use Rattle.std.proofs.lemmas.Bool.{true≢false}
-use Rattle.itip_messages.proofs.ObjectLemmas.{mapped_one_each}
+use Rattle.itip_messages.proofs.organiser_object_lemmas.ObjectLemmas.{mapped_one_each}
 use Rattle.itip_messages.proofs.organiser_object.judge_attendees.Goals as goal
 use Rattle.itip_messages.proofs.organiser_object.judge_attendees.Goals.{else-is_of_attendee-via-then-is_of_attendee+else-not-all_have_one, else-is_of_attendee-via-else-is_of_attendee}
 

@@ -2,7 +2,7 @@ use Rattle.std.proofs.Common.{◌≡◌, ◌∙◌, ◌++◌, ◌∷◌, [], ap,
 use Rattle.profile.specs.text.Lines.{folded}
 use Rattle.profile.specs.text.Values.{escaped}
 use Rattle.ical_values.specs.Octets.{text_octets, address_octets}
-use Rattle.itip_messages.proofs.LineLemmas.{asking_written}
+use Rattle.itip_messages.proofs.shared_lemmas.LineLemmas.{asking_written}
 use Rattle.itip_messages.proofs.refresh.write_event.Goals as goal
 
 pub returns : goal.returns

@@ -1,5 +1,5 @@
 use Rattle.std.proofs.Common.{◌≡◌, ◌++◌}
-use Rattle.itip_messages.proofs.LineLemmas.{refresh_written}
+use Rattle.itip_messages.proofs.shared_lemmas.LineLemmas.{refresh_written}
 use Rattle.itip_messages.proofs.refresh.write_refresh.Goals as goal
 
 pub returns-clause-ok : goal.returns-clause-ok

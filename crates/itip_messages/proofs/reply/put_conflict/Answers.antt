@@ -1,6 +1,6 @@
 use Rattle.std.proofs.Common.{[], ◌∷◌, ap, string_bytes}
 use Rattle.std.proofs.lemmas.Result.{on_ok_weaker}
-use Rattle.itip_messages.proofs.LineLemmas.{put_together}
+use Rattle.itip_messages.proofs.shared_lemmas.LineLemmas.{put_together}
 use Rattle.itip_messages.proofs.reply.put_conflict.Goals as goal
 
 pub returns : goal.returns

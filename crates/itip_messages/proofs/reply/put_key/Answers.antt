@@ -1,6 +1,6 @@
 use Rattle.std.proofs.Common.{refl}
 use Rattle.std.proofs.lemmas.Result.{on_ok_weaker}
-use Rattle.itip_messages.proofs.LineLemmas.{key_put}
+use Rattle.itip_messages.proofs.shared_lemmas.LineLemmas.{key_put}
 use Rattle.itip_messages.proofs.reply.put_key.Goals as goal
 
 pub returns : goal.returns

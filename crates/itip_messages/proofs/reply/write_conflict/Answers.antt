@@ -1,6 +1,6 @@
 use Rattle.std.proofs.Common.{◌≡◌, string_bytes}
 use Rattle.std.proofs.lemmas.Result.{on_ok_weaker}
-use Rattle.itip_messages.proofs.LineLemmas.{one_line}
+use Rattle.itip_messages.proofs.shared_lemmas.LineLemmas.{one_line}
 use Rattle.itip_messages.proofs.reply.write_conflict.Goals as goal
 
 pub returns : goal.returns

@@ -4,8 +4,8 @@ use Rattle.profile.specs.text.Values.{escaped}
 use Rattle.profile.specs.rooms.Revisions.{Slot}
 use Rattle.profile.specs.rooms.Messages.{TellsSlot}
 use Rattle.ical_values.specs.Octets.{text_octets, address_octets}
-use Rattle.itip_messages.specs.Replies.{attendee_line}
-use Rattle.itip_messages.proofs.LineLemmas.{event_written}
+use Rattle.itip_messages.specs.Reply.{attendee_line}
+use Rattle.itip_messages.proofs.shared_lemmas.LineLemmas.{event_written}
 use Rattle.itip_messages.proofs.reply.write_event.Goals as goal
 
 pub returns : goal.returns

@@ -1,6 +1,6 @@
 use Rattle.std.proofs.Common.{◌≡◌, ◌∙◌, ◌+◌, ◌++◌, ◌∷◌, [], take, sym, ap, arith}
 use Rattle.std.proofs.lemmas.List.{take_more}
-use Rattle.itip_messages.proofs.LineLemmas.{events_more}
+use Rattle.itip_messages.proofs.shared_lemmas.LineLemmas.{events_more}
 use Rattle.itip_messages.proofs.reply.write_events.Goals as goal
 
 pub loop-event-preserved : goal.loop-event-preserved

@@ -1,5 +1,5 @@
 use Rattle.std.proofs.Common.{take}
-use Rattle.itip_messages.specs.Replies.{WritesEvents}
+use Rattle.itip_messages.specs.Reply.{WritesEvents}
 use Rattle.itip_messages.proofs.reply.write_events.Given as goal
 
 abbrev pub invariant-loop-event : goal.invariant-loop-event

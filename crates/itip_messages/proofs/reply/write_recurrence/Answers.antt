@@ -1,4 +1,4 @@
-use Rattle.itip_messages.proofs.LineLemmas.{slot_line}
+use Rattle.itip_messages.proofs.shared_lemmas.LineLemmas.{slot_line}
 use Rattle.std.proofs.lemmas.Result.{on_ok_weaker}
 use Rattle.itip_messages.proofs.reply.write_recurrence.Goals as goal
 

@@ -1,5 +1,5 @@
 use Rattle.std.proofs.Common.{◌≡◌, ◌++◌}
-use Rattle.itip_messages.proofs.LineLemmas.{reply_written}
+use Rattle.itip_messages.proofs.shared_lemmas.LineLemmas.{reply_written}
 use Rattle.itip_messages.proofs.reply.write_reply.Goals as goal
 
 pub returns-clause-ok : goal.returns-clause-ok

@@ -1,5 +1,5 @@
 -- A CANCEL that was written reads back as one message, and says the same to each attendee.
-use Rattle.itip_messages.proofs.CancelReads.{cancel_spells, cancel_tells, cancel_others}
+use Rattle.itip_messages.proofs.sent_law_lemmas.CancelReads.{cancel_spells, cancel_tells, cancel_others}
 use Rattle.itip_messages.proofs.sent_law.cancels_read_back.Goals as goal
 
 pub returns-clause-spells : goal.returns-clause-spells

@@ -1,5 +1,5 @@
 -- A REQUEST that was written of a store reads back.
-use Rattle.itip_messages.proofs.RequestReads.{request_reads}
+use Rattle.itip_messages.proofs.sent_law_lemmas.RequestReads.{request_reads}
 use Rattle.itip_messages.proofs.sent_law.requests_read_back.Goals as goal
 
 pub returns : goal.returns

@@ -1,5 +1,5 @@
 -- What an organiser shows reads back.
-use Rattle.itip_messages.proofs.ShownReads.{shown_reads}
+use Rattle.itip_messages.proofs.sent_law_lemmas.ShownReads.{shown_reads}
 use Rattle.itip_messages.proofs.sent_law.shown_reads_back.Goals as goal
 
 pub returns : goal.returns

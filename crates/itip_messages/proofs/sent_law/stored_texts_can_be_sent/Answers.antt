@@ -1,5 +1,5 @@
 -- The texts of a store that was read can be in lines.
-use Rattle.itip_messages.proofs.StoredEvents.{stored_attendee, stored_name}
+use Rattle.itip_messages.proofs.sent_law_lemmas.StoredEvents.{stored_attendee, stored_name}
 use Rattle.itip_messages.proofs.sent_law.stored_texts_can_be_sent.Goals as goal
 
 pub returns-clause-name : goal.returns-clause-name

@@ -2,7 +2,7 @@ use Rattle.std.proofs.Common.{◌≡◌, ◌∙◌, ◌++◌, ◌∷◌, [], sym
 use Rattle.std.specs.Map.{set_value}
 use Rattle.indexmap.proofs.CallerLemmas.{insert_entry-new}
 use Rattle.ical_values.specs.Octets.{address_octets}
-use Rattle.cal_events.specs.Events.{attendee_of}
+use Rattle.cal_events.specs.Component.{attendee_of}
 use Rattle.organiser_books.specs.Attending.{attendance_of, is_address}
 use Rattle.organiser_books.specs.declared.attending.Attendance.{Attendance}
 use Rattle.organiser_books.proofs.Noting.{noted_known, noted_new, same_address}

@@ -1,7 +1,7 @@
 use Rattle.std.proofs.Common.{◌∙◌, ◌∷◌, [], List, map, take, sym, ap, subst, arith}
 use Rattle.std.proofs.lemmas.List.{map-append, take_all}
 use Rattle.profile.specs.events.EventComponents as events
-use Rattle.cal_events.specs.Events.{attendee_of}
+use Rattle.cal_events.specs.Component.{attendee_of}
 use Rattle.organiser_books.specs.Attending.{AreNoted}
 use Rattle.organiser_books.proofs.Loops.{one_more}
 use Rattle.organiser_books.proofs.attending.note_all.Goals as goal

@@ -1,7 +1,7 @@
 -- The lines so far are noted.
 use Rattle.std.proofs.Common.{[], List, map, take}
 use Rattle.profile.specs.events.EventComponents as events
-use Rattle.cal_events.specs.Events.{attendee_of}
+use Rattle.cal_events.specs.Component.{attendee_of}
 use Rattle.organiser_books.specs.Attending.{AreNoted}
 use Rattle.organiser_books.proofs.attending.note_all.Given as goal
 

@@ -1,10 +1,10 @@
 use Rattle.std.proofs.Common.{◌∙◌, ◌+◌, List, take, arith, sym, ap, subst}
 use Rattle.std.specs.List.{AllZip, filter}
 use Rattle.ical_values.specs.Octets.{address_octets}
-use Rattle.itip_messages.specs.Messages.{has_part}
+use Rattle.itip_messages.specs.RoomMessage.{has_part}
 use Rattle.room_books.specs.declared.claim.Claim.{Claim}
-use Rattle.room_books.specs.Claiming.{IsClaimIn}
-use Rattle.room_books.proofs.Claiming.{zip_some, zip_skip}
+use Rattle.room_books.specs.Claims.{IsClaimIn}
+use Rattle.room_books.proofs.shared_lemmas.Claiming.{zip_some, zip_skip}
 use Rattle.room_books.proofs.claims.all_claims.Goals as goal
 use Rattle.room_books.proofs.claims.all_claims.Goals.{then-has_part+in_ok-claim_in+in_ok-push, else-has_part}
 

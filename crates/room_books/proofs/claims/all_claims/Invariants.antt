@@ -1,8 +1,8 @@
 use Rattle.std.proofs.Common.{take}
 use Rattle.std.specs.List.{AllZip, filter}
-use Rattle.itip_messages.specs.Messages.{has_part}
+use Rattle.itip_messages.specs.RoomMessage.{has_part}
 use Rattle.ical_values.specs.Octets.{address_octets}
-use Rattle.room_books.specs.Claiming.{IsClaimIn}
+use Rattle.room_books.specs.Claims.{IsClaimIn}
 use Rattle.room_books.proofs.claims.all_claims.Given as goal
 
 abbrev pub invariant-loop-component : goal.invariant-loop-component

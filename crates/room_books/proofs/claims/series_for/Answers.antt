@@ -3,7 +3,7 @@ use Rattle.itip_order.proofs.Lists.{none_in_nil}
 use Rattle.itip_order.specs.Parts.{slot_of}
 use Rattle.profile.specs.rooms.Revisions.{Whole}
 use Rattle.cal_events.specs.declared.series.Series.{Series}
-use Rattle.room_books.specs.Claiming.{series_wanted, IsSameSeries}
+use Rattle.room_books.specs.Claims.{series_wanted, IsSameSeries}
 use Rattle.room_books.proofs.claims.series_for.Goals as goal
 
 pub returns-in_ok-without-in-Some-clause-same : goal.returns-in_ok-without-in-Some-clause-same

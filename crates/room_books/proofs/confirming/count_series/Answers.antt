@@ -1,8 +1,8 @@
 use Rattle.std.proofs.Common.{◌∙◌, List, length, take, ap, arith}
 use Rattle.std.proofs.lemmas.List.{length-take-le, take_all}
 use Rattle.room_books.specs.declared.meeting.PartAnswer.{PartAnswer}
-use Rattle.room_books.specs.Views.{all_series}
-use Rattle.room_books.proofs.WholeAlone.{few_series, whole_series}
+use Rattle.room_books.specs.Meeting.{all_series}
+use Rattle.room_books.proofs.confirming_lemmas.WholeAlone.{few_series, whole_series}
 use Rattle.room_books.proofs.confirming.count_series.Goals as goal
 
 pub overflow_add-count : goal.overflow_add-count

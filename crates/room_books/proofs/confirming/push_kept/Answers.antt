@@ -1,8 +1,8 @@
 use Rattle.std.proofs.Common.{◌∙◌, ◌++◌, List, map, ap, sym, append-nil}
 use denote.Ref.{Bor}
 use Rattle.cal_events.specs.declared.series.Series.{Series}
-use Rattle.room_books.specs.Views.{all_series}
-use Rattle.room_books.proofs.WholeAlone.{series_lost, series_stay, whole_series}
+use Rattle.room_books.specs.Meeting.{all_series}
+use Rattle.room_books.proofs.confirming_lemmas.WholeAlone.{series_lost, series_stay, whole_series}
 use Rattle.room_books.proofs.confirming.push_kept.Goals as goal
 
 pub returns-then-is_touched : goal.returns-then-is_touched

@@ -1,7 +1,7 @@
 use Rattle.std.proofs.Common.{◌≡◌, ◌++◌, map, take}
 use denote.Ref.{Bor}
 use Rattle.cal_events.specs.declared.series.Series.{Series}
-use Rattle.room_books.specs.Views.{all_series}
+use Rattle.room_books.specs.Meeting.{all_series}
 use Rattle.room_books.proofs.confirming.push_series.Given as goal
 
 abbrev pub invariant-loop-given : goal.invariant-loop-given

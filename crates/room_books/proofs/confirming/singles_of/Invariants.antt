@@ -1,5 +1,5 @@
 use Rattle.std.proofs.Common.{◌≡◌, take}
-use Rattle.room_books.specs.Views.{all_singles}
+use Rattle.room_books.specs.Meeting.{all_singles}
 use Rattle.room_books.proofs.confirming.singles_of.Given as goal
 
 abbrev pub invariant-loop-given : goal.invariant-loop-given

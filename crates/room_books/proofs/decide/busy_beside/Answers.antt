@@ -1,8 +1,8 @@
 -- What shares no instant with what stays in the timeline shares none with what stays confirmed.
 use Rattle.std.proofs.Common.{Contains, sym, subst, ◌∙◌, ◌++◌}
-use Rattle.room_books.specs.Views.{others, instance_list, AreBusyIn}
-use Rattle.room_books.proofs.Leaving.{free_of_staying, staying_is}
-use Rattle.room_books.proofs.Places.{real_entry}
+use Rattle.room_books.specs.Meeting.{others, instance_list, AreBusyIn}
+use Rattle.room_books.proofs.shared_lemmas.Leaving.{free_of_staying, staying_is}
+use Rattle.room_books.proofs.shared_lemmas.Places.{real_entry}
 use Rattle.room_books.proofs.decide.busy_beside.Goals as goal
 
 pub returns-in_err-asked : goal.returns-in_err-asked

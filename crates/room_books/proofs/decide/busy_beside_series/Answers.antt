@@ -2,12 +2,12 @@
 use Rattle.std.proofs.Common.{None, sym, subst, ◌∙◌}
 use denote.Ref.{Bor}
 use Rattle.cal_events.specs.declared.series.Series.{Series}
-use Rattle.room_books.specs.Timelines.{AreTaken, is_leaving}
-use Rattle.room_books.specs.Views.{Recurs}
-use Rattle.room_books.proofs.Leaving.{free_of_staying, staying_is}
-use Rattle.room_books.proofs.Pairs.{map_at, map_from}
-use Rattle.room_books.proofs.Places.{real_entry}
-use Rattle.room_books.proofs.Recurrings.{holds_all, holds_more}
+use Rattle.room_books.specs.Timeline.{AreTaken, is_leaving}
+use Rattle.room_books.specs.Meeting.{Recurs}
+use Rattle.room_books.proofs.shared_lemmas.Leaving.{free_of_staying, staying_is}
+use Rattle.room_books.proofs.shared_lemmas.Pairs.{map_at, map_from}
+use Rattle.room_books.proofs.shared_lemmas.Places.{real_entry}
+use Rattle.room_books.proofs.shared_lemmas.Recurrings.{holds_all, holds_more}
 use Rattle.room_books.proofs.decide.busy_beside_series.Goals as goal
 
 abbrev series_now : Bor Series → Series

@@ -1,9 +1,9 @@
 -- If no instance of those that are left shares an instant with what stays, none of all does.
 use Rattle.std.proofs.Common.{None, Bor}
 use Rattle.cal_events.specs.declared.series.Series.{Series}
-use Rattle.room_books.proofs.Recurrings.{HoldsIfLeft}
-use Rattle.room_books.specs.Timelines.{AreTaken, is_leaving}
-use Rattle.room_books.specs.Views.{Recurs}
+use Rattle.room_books.proofs.shared_lemmas.Recurrings.{HoldsIfLeft}
+use Rattle.room_books.specs.Timeline.{AreTaken, is_leaving}
+use Rattle.room_books.specs.Meeting.{Recurs}
 use Rattle.room_books.proofs.decide.busy_beside_series.Given as goal
 
 abbrev pub invariant-loop-series : goal.invariant-loop-series

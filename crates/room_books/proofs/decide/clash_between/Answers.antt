@@ -1,9 +1,9 @@
 -- The two instances are those of the meetings.
 use Rattle.std.proofs.Common.{◌∙◌, sym, ap, subst}
 use Rattle.profile.specs.checker.Instances.{Instance}
-use Rattle.cal_events.specs.Calendars.{instance_of}
+use Rattle.cal_events.specs.Calendar.{instance_of}
 use Rattle.clash_cert.specs.Makings.{IsNamedAs}
-use Rattle.room_books.specs.Views.{keyed_instance}
+use Rattle.room_books.specs.Meeting.{keyed_instance}
 use Rattle.room_books.proofs.decide.clash_between.Goals as goal
 
 pub returns : goal.returns

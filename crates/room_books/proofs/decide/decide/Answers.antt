@@ -2,9 +2,9 @@
 use Rattle.std.proofs.Common.{refl, subst}
 use Rattle.std.specs.Map.{lookup}
 use Rattle.room_books.specs.declared.meeting.Outcome.TheVariants.{Accepted, Declined}
-use Rattle.room_books.specs.Views.{keyed_instance, same_key, singles_by, HaveOverlap}
-use Rattle.room_books.proofs.Deciding.{decides_own, decides_beside, decides_accept}
-use Rattle.room_books.proofs.Leaving.{parted_sorted}
+use Rattle.room_books.specs.Meeting.{keyed_instance, same_key, singles_by, HaveOverlap}
+use Rattle.room_books.proofs.decide_lemmas.Deciding.{decides_own, decides_beside, decides_accept}
+use Rattle.room_books.proofs.shared_lemmas.Leaving.{parted_sorted}
 use Rattle.room_books.proofs.decide.decide.Goals as goal
 
 pub returns-in-Some : goal.returns-in-Some

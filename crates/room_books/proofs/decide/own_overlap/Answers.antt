@@ -4,7 +4,7 @@ use Rattle.std.specs.Prelude.{IfSome, IfNone}
 use Rattle.cal_events.specs.declared.instance.Single.{Single}
 use Rattle.cal_events.specs.declared.sweep.Overlap.{Overlap}
 use Rattle.cal_events.specs.Sweep.{AreSpansApart, IsOverlap}
-use Rattle.room_books.proofs.Deciding.{apart_separate, among, first_within, place_in, second_within, slots_differ, overlap_is}
+use Rattle.room_books.proofs.decide_lemmas.Deciding.{apart_separate, among, first_within, place_in, second_within, slots_differ, overlap_is}
 use Rattle.room_books.proofs.decide.own_overlap.Goals as goal
 
 pub returns-in_default : goal.returns-in_default

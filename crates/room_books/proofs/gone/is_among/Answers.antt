@@ -1,7 +1,7 @@
 use Rattle.std.proofs.Common.{◌∙◌, rules}
 use Rattle.std.proofs.lemmas.Fn.{always_returns_same}
-use Rattle.room_books.specs.Instants.{single_cmp}
-use Rattle.room_books.proofs.Leaving.{found_single}
+use Rattle.room_books.specs.Gone.{single_cmp}
+use Rattle.room_books.proofs.shared_lemmas.Leaving.{found_single}
 use Rattle.room_books.proofs.gone.is_among.Goals as goal
 
 pub returns : goal.returns

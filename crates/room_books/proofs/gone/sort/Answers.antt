@@ -2,8 +2,8 @@ use Rattle.std.proofs.Common.{rules}
 use Rattle.std.specs.Ordering.{is_lt}
 use Rattle.std.proofs.lemmas.Fn.{always_returns_same}
 use Rattle.std.proofs.lemmas.List.Sorted.{ranks_by}
-use Rattle.room_books.specs.Instants.{single_cmp, the_single}
-use Rattle.room_books.proofs.Leaving.{single_total}
+use Rattle.room_books.specs.Gone.{single_cmp, the_single}
+use Rattle.room_books.proofs.shared_lemmas.Leaving.{single_total}
 use Rattle.room_books.proofs.gone.sort.Goals as goal
 
 pub returns-clause-rises : goal.returns-clause-rises

@@ -1,8 +1,8 @@
 use Rattle.std.proofs.Common.{◌∷◌, sym, subst, List}
 use Rattle.itip_order.specs.Parts.{slot_of}
 use Rattle.room_books.specs.declared.meeting.PartAnswer.{PartAnswer}
-use Rattle.room_books.specs.BySlot.{AreAnswersBySlot, Reordered, is_up_to, IsSplitAt}
-use Rattle.room_books.proofs.SlotPlaces.{put_by_slot, put_reordered}
+use Rattle.room_books.specs.Slots.{AreAnswersBySlot, Reordered, is_up_to, IsSplitAt}
+use Rattle.room_books.proofs.shared_lemmas.SlotPlaces.{put_by_slot, put_reordered}
 use Rattle.room_books.proofs.kept.put.Goals as goal
 
 pub returns-clause-put : goal.returns-clause-put

@@ -1,7 +1,7 @@
 use Rattle.std.proofs.Common.{◌∷◌, [], List, sym, subst, arith, append-nil, length-append}
 use Rattle.room_books.specs.declared.meeting.PartAnswer.{PartAnswer}
-use Rattle.room_books.specs.BySlot.{Reordered}
-use Rattle.room_books.proofs.Reordering.{re_more_behind, re_same}
+use Rattle.room_books.specs.Slots.{Reordered}
+use Rattle.room_books.proofs.shared_lemmas.Reordering.{re_more_behind, re_same}
 use Rattle.room_books.proofs.kept.put_all.Goals as goal
 
 pub loop-given-init : goal.loop-given-init

@@ -1,5 +1,5 @@
 use Rattle.std.proofs.Common.{◌≡◌, ◌+◌, ◌≤◌, ◌++◌, length, vec_len, vec_capacity}
-use Rattle.room_books.specs.BySlot.{AreAnswersBySlot, Reordered}
+use Rattle.room_books.specs.Slots.{AreAnswersBySlot, Reordered}
 use Rattle.room_books.proofs.kept.put_all.Given as goal
 
 abbrev pub invariant-loop-given : goal.invariant-loop-given

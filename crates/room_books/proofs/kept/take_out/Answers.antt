@@ -1,7 +1,7 @@
 use Rattle.std.proofs.Common.{get_or, refl, ◌∙◌, arith}
 use Rattle.std.proofs.lemmas.List.{get_or_default}
 use Rattle.itip_order.specs.declared.part.Slot.TheVariants as own
-use Rattle.room_books.proofs.SlotPlaces.{without_more, without_none}
+use Rattle.room_books.proofs.shared_lemmas.SlotPlaces.{without_more, without_none}
 use Rattle.room_books.proofs.kept.take_out.Goals as goal
 
 pub loop-slot-init : goal.loop-slot-init

@@ -1,5 +1,5 @@
 use Rattle.std.proofs.Common.{◌≡◌, ◌≤◌, take, vec_len, vec_capacity}
-use Rattle.room_books.specs.BySlot.{AreAnswersBySlot, left_without}
+use Rattle.room_books.specs.Slots.{AreAnswersBySlot, left_without}
 use Rattle.room_books.proofs.kept.take_out.Given as goal
 
 abbrev pub invariant-loop-slot : goal.invariant-loop-slot

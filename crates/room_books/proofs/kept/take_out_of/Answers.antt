@@ -3,8 +3,8 @@ use Rattle.std.specs.List.{remove}
 use Rattle.std.proofs.lemmas.List.{take-append-drop}
 use Rattle.itip_order.specs.Parts.{slot_of}
 use Rattle.room_books.specs.declared.meeting.PartAnswer.{PartAnswer}
-use Rattle.room_books.specs.BySlot.{AreAnswersBySlot, is_at, is_below, is_up_to, IsSplitAt}
-use Rattle.room_books.proofs.SlotPlaces.{by_slot_filter, in_order, one_out, others_at}
+use Rattle.room_books.specs.Slots.{AreAnswersBySlot, is_at, is_below, is_up_to, IsSplitAt}
+use Rattle.room_books.proofs.shared_lemmas.SlotPlaces.{by_slot_filter, in_order, one_out, others_at}
 use Rattle.room_books.proofs.kept.take_out_of.Goals as goal
 
 pub loop-place-init : goal.loop-place-init

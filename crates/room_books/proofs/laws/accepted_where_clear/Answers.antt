@@ -1,5 +1,5 @@
 use Rattle.std.proofs.Common.{refl}
-use Rattle.room_books.proofs.Accepting.{accepted_where, declined_where}
+use Rattle.room_books.proofs.shared_lemmas.Accepting.{accepted_where, declined_where}
 use Rattle.room_books.proofs.laws.accepted_where_clear.Goals as goal
 
 pub returns-clause-accepted : goal.returns-clause-accepted

@@ -1,5 +1,5 @@
 -- Each step adds answers to parts that it took first.
-use Rattle.room_books.proofs.OneAnswer.{answers_stay, answered_once}
+use Rattle.room_books.proofs.laws_lemmas.OneAnswer.{answers_stay, answered_once}
 use Rattle.room_books.proofs.laws.answers_stay.Goals as goal
 
 pub returns-clause-stays : goal.returns-clause-stays

@@ -1,5 +1,5 @@
 -- What is kept reads back, line by line and zone by zone.
-use Rattle.room_books.proofs.KeptCalendars.{kept_same}
+use Rattle.room_books.proofs.laws_lemmas.KeptCalendars.{kept_same}
 use Rattle.room_books.proofs.laws.kept_texts_spell.Goals as goal
 
 pub returns : goal.returns

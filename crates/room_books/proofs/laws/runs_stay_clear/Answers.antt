@@ -1,5 +1,5 @@
 -- Each book that is reached is sound.
-use Rattle.room_books.proofs.Runs.{runs_good}
+use Rattle.room_books.proofs.laws_lemmas.Runs.{runs_good}
 use Rattle.room_books.proofs.laws.runs_stay_clear.Goals as goal
 
 pub returns-clause-clear : goal.returns-clause-clear

@@ -1,6 +1,6 @@
 -- Each room's book is one that octets asked for.
-use Rattle.room_books.proofs.KeptCalendars.{keeps_pass}
-use Rattle.room_books.proofs.KeptStreams.{served_keeps}
+use Rattle.room_books.proofs.laws_lemmas.KeptCalendars.{keeps_pass}
+use Rattle.room_books.proofs.laws_lemmas.KeptStreams.{served_keeps}
 use Rattle.room_books.proofs.laws.served_texts_pass.Goals as goal
 
 pub returns : goal.returns

@@ -1,11 +1,11 @@
 -- An instance of a series is known by its start.
 use Rattle.std.proofs.Common.{subst, sym}
 use Rattle.std.specs.Prelude.{MatchOption}
-use Rattle.cal_events.specs.SaidSeries.{series_said}
-use Rattle.cal_events.specs.Calendars.{instance_of}
+use Rattle.cal_events.specs.Series.{series_said}
+use Rattle.cal_events.specs.Calendar.{instance_of}
 use Rattle.cal_period.specs.Clear.{AreTwo, IsSeriesClear}
-use Rattle.room_books.specs.Recurrings.{IsSharedAlone}
-use Rattle.room_books.proofs.Recurrings.{none_alone, two_alone}
+use Rattle.room_books.specs.Recurring.{IsSharedAlone}
+use Rattle.room_books.proofs.shared_lemmas.Recurrings.{none_alone, two_alone}
 use Rattle.room_books.proofs.recurring.alone.Goals as goal
 
 pub returns-in_err-first : goal.returns-in_err-first

@@ -2,7 +2,7 @@ use Rattle.std.proofs.Common.{get_or, inl, inr, ap, arith}
 use Rattle.std.proofs.lemmas.List.{get_or_default}
 use Rattle.std.proofs.lemmas.Option.{slice_get_within}
 use Rattle.room_books.specs.declared.recurring.Recurring.{Recurring}
-use Rattle.room_books.proofs.Recurrings.{at_place, clear_to_more}
+use Rattle.room_books.proofs.shared_lemmas.Recurrings.{at_place, clear_to_more}
 use Rattle.room_books.proofs.recurring.clash_from.Goals as goal
 
 pub loop-place-init : goal.loop-place-init

@@ -1,5 +1,5 @@
 -- Each before the place is clear of those before it, and by itself.
-use Rattle.room_books.proofs.Recurrings.{AreClearTo}
+use Rattle.room_books.proofs.shared_lemmas.Recurrings.{AreClearTo}
 use Rattle.room_books.proofs.recurring.clash_from.Given as goal
 
 abbrev pub invariant-loop-place : goal.invariant-loop-place

@@ -1,7 +1,7 @@
 use Rattle.std.proofs.Common.{refl, subst, sym}
-use Rattle.cal_events.specs.Calendars.{instance_of}
-use Rattle.room_books.specs.Views.{Recurs}
-use Rattle.room_books.proofs.Recurrings.{AreFreeOf, holds_all, holds_more, none_of_pair, overlap_start, recurs_as, span_as}
+use Rattle.cal_events.specs.Calendar.{instance_of}
+use Rattle.room_books.specs.Meeting.{Recurs}
+use Rattle.room_books.proofs.shared_lemmas.Recurrings.{AreFreeOf, holds_all, holds_more, none_of_pair, overlap_start, recurs_as, span_as}
 use Rattle.room_books.proofs.recurring.clash_with.Goals as goal
 
 pub returns-in-Some : goal.returns-in-Some

@@ -2,8 +2,8 @@ use Rattle.std.proofs.Common.{◌∙◌, ◌++◌, List, map, refl, sym, ap, app
 use Rattle.std.proofs.lemmas.List.{take_all}
 use denote.Ref.{Bor}
 use Rattle.cal_events.specs.declared.series.Series.{Series}
-use Rattle.room_books.specs.Recurrings.{keyed_of}
-use Rattle.room_books.proofs.Recurrings.{mapped_more}
+use Rattle.room_books.specs.Recurring.{keyed_of}
+use Rattle.room_books.proofs.shared_lemmas.Recurrings.{mapped_more}
 use Rattle.room_books.proofs.recurring.push_all.Goals as goal
 
 pub loop-one-init : goal.loop-one-init

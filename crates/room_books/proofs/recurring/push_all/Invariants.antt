@@ -1,5 +1,5 @@
 use Rattle.std.proofs.Common.{◌≡◌, ◌++◌, map, take}
-use Rattle.room_books.specs.Recurrings.{keyed_of}
+use Rattle.room_books.specs.Recurring.{keyed_of}
 use Rattle.room_books.proofs.recurring.push_all.Given as goal
 
 abbrev pub invariant-loop-one : goal.invariant-loop-one

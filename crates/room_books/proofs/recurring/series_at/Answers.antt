@@ -1,5 +1,5 @@
 use Rattle.std.proofs.Common.{refl, subst, sym}
-use Rattle.room_books.proofs.Recurrings.{IsFreeOf, first_shared, holds_all, holds_more, none_shared}
+use Rattle.room_books.proofs.shared_lemmas.Recurrings.{IsFreeOf, first_shared, holds_all, holds_more, none_shared}
 use Rattle.room_books.proofs.recurring.series_at.Goals as goal
 
 pub returns-in-Some : goal.returns-in-Some

@@ -1,6 +1,6 @@
 use Rattle.std.proofs.Common.{None, pos}
-use Rattle.room_books.specs.Recurrings.{IsBesideOne}
-use Rattle.room_books.proofs.Recurrings.{holds_all, holds_more}
+use Rattle.room_books.specs.Recurring.{IsBesideOne}
+use Rattle.room_books.proofs.shared_lemmas.Recurrings.{holds_all, holds_more}
 use Rattle.room_books.proofs.recurring.single_beside.Goals as goal
 
 pub loop-single-preserved : goal.loop-single-preserved

@@ -1,8 +1,8 @@
 use Rattle.std.proofs.Common.{sym, subst}
 use Rattle.ical_values.specs.Octets.{address_octets}
-use Rattle.room_books.specs.Replying.{IsReplyOf}
-use Rattle.room_books.specs.Takings.{answers_then}
-use Rattle.room_books.proofs.Replying.{reply_whole}
+use Rattle.room_books.specs.Reply.{IsReplyOf}
+use Rattle.room_books.specs.Taking.{answers_then}
+use Rattle.room_books.proofs.reply_lemmas.Replying.{reply_whole}
 use Rattle.room_books.proofs.reply.reply_of.Goals as goal
 
 pub returns : goal.returns

@@ -3,8 +3,8 @@ use Rattle.std.proofs.lemmas.Grind.{common_steps}
 use Rattle.ical_values.specs.Octets.{address_octets}
 use Rattle.itip_order.specs.Registers.{RepresentsHistory}
 use Rattle.profile.specs.rooms.Revisions.{Part}
-use Rattle.room_books.specs.Takings.{answers_then}
-use Rattle.room_books.proofs.Replying.{replies_by}
+use Rattle.room_books.specs.Taking.{answers_then}
+use Rattle.room_books.proofs.reply_lemmas.Replying.{replies_by}
 use Rattle.room_books.proofs.reply.reply_to.Goals as goal
 
 pub returns : goal.returns

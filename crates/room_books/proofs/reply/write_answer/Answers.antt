@@ -1,7 +1,7 @@
 use Rattle.ical_values.specs.Octets.{address_octets}
 use Rattle.itip_order.specs.Parts.{part_of}
-use Rattle.room_books.specs.Takings.{answers_then}
-use Rattle.room_books.proofs.Replying.{told_line}
+use Rattle.room_books.specs.Taking.{answers_then}
+use Rattle.room_books.proofs.reply_lemmas.Replying.{told_line}
 use Rattle.room_books.proofs.reply.write_answer.Goals as goal
 
 pub returns : goal.returns

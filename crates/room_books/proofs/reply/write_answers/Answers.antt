@@ -1,7 +1,7 @@
 use Rattle.std.proofs.Common.{arith}
 use Rattle.ical_values.specs.Octets.{address_octets}
-use Rattle.room_books.specs.Takings.{answers_then}
-use Rattle.room_books.proofs.Replying.{told_more}
+use Rattle.room_books.specs.Taking.{answers_then}
+use Rattle.room_books.proofs.reply_lemmas.Replying.{told_more}
 use Rattle.room_books.proofs.reply.write_answers.Goals as goal
 
 pub loop-claim-preserved : goal.loop-claim-preserved

@@ -1,7 +1,7 @@
 use Rattle.std.proofs.Common.{take}
 use Rattle.ical_values.specs.Octets.{address_octets}
-use Rattle.room_books.specs.Takings.{answers_then}
-use Rattle.room_books.specs.Replying.{AllTell, WritesAnswers}
+use Rattle.room_books.specs.Taking.{answers_then}
+use Rattle.room_books.specs.Reply.{AllTell, WritesAnswers}
 use Rattle.room_books.proofs.reply.write_answers.Given as goal
 
 abbrev pub invariant-loop-claim : goal.invariant-loop-claim

@@ -1,12 +1,12 @@
 use Rattle.std.proofs.Common.{◌∙◌, ◌++◌, List, map, sym, ap}
 use Rattle.std.proofs.lemmas.List.{take_all}
-use Rattle.room_books.specs.BySlot.{is_at}
+use Rattle.room_books.specs.Slots.{is_at}
 use Rattle.room_books.specs.declared.meeting.PartAnswer.{PartAnswer}
-use Rattle.room_books.specs.Recurrings.{recurring_said}
-use Rattle.room_books.specs.Views.{all_series, series_list}
+use Rattle.room_books.specs.Recurring.{recurring_said}
+use Rattle.room_books.specs.Meeting.{all_series, series_list}
 use Rattle.profile.specs.rooms.Revisions as revisions
 use Rattle.std.specs.List.{filter}
-use Rattle.room_books.proofs.RoomSeries.{series_there}
+use Rattle.room_books.proofs.room_lemmas.RoomSeries.{series_there}
 use Rattle.room_books.proofs.room.push_at.Goals as goal
 
 pub returns : goal.returns

@@ -1,6 +1,6 @@
 use Rattle.std.proofs.Common.{◌≡◌, ◌++◌, map, take}
-use Rattle.room_books.specs.Views.{all_series, series_list}
-use Rattle.room_books.specs.Recurrings.{recurring_said}
+use Rattle.room_books.specs.Meeting.{all_series, series_list}
+use Rattle.room_books.specs.Recurring.{recurring_said}
 use Rattle.room_books.proofs.room.push_at.Given as goal
 
 abbrev pub invariant-loop-given : goal.invariant-loop-given

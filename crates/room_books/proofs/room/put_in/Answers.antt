@@ -1,5 +1,5 @@
 use Rattle.std.proofs.Common.{sym}
-use Rattle.room_books.proofs.PutIn.{new_put, renewed_put}
+use Rattle.room_books.proofs.room_lemmas.PutIn.{new_put, renewed_put}
 use Rattle.room_books.proofs.room.put_in.Goals as goal
 
 pub returns-clause-place : goal.returns-clause-place

@@ -1,7 +1,7 @@
 use Rattle.std.proofs.Common.{◌≡◌, refl, ap, ◌∙◌, sym}
 use Rattle.ical_values.proofs.Exits.{any_err}
 use Rattle.indexmap.specs.IndexMap.{set_value_at}
-use Rattle.room_books.proofs.PutIn.{set_same}
+use Rattle.room_books.proofs.room_lemmas.PutIn.{set_same}
 use Rattle.room_books.proofs.room.renew.Goals as goal
 
 pub returns-in_err-take-clause-err : goal.returns-in_err-take-clause-err

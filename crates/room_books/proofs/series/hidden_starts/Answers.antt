@@ -4,8 +4,8 @@ use Rattle.std.proofs.lemmas.Int.{ints}
 use Rattle.itip_order.specs.declared.part.Slot.{Slot as OwnSlot}
 use Rattle.itip_order.specs.declared.part.Slot.TheVariants as own
 use Rattle.itip_order.specs.Parts.{part_of}
-use Rattle.room_books.specs.Takings.{AreHiddenStarts, IsHiddenStart}
-use Rattle.room_books.proofs.HiddenStarts.{no_starts, starts_pass, starts_push}
+use Rattle.room_books.specs.Taking.{AreHiddenStarts, IsHiddenStart}
+use Rattle.room_books.proofs.series_lemmas.HiddenStarts.{no_starts, starts_pass, starts_push}
 use Rattle.room_books.proofs.series.hidden_starts.Goals as goal
 
 pub loop-slot-init : goal.loop-slot-init

@@ -2,7 +2,7 @@ use Rattle.std.proofs.Common.{List, take}
 use Rattle.itip_order.specs.Parts.{part_of}
 use Rattle.itip_order.specs.Registers.{RepresentsHistory}
 use Rattle.profile.specs.rooms.Revisions.{Part}
-use Rattle.room_books.specs.Takings.{AreHiddenStarts}
+use Rattle.room_books.specs.Taking.{AreHiddenStarts}
 use Rattle.room_books.proofs.series.hidden_starts.Given as goal
 
 abbrev pub invariant-loop-slot : goal.invariant-loop-slot

@@ -5,8 +5,8 @@ use Rattle.itip_order.specs.declared.part.Slot.TheVariants as own
 use Rattle.itip_order.specs.Parts.{part_of}
 use Rattle.cal_events.specs.declared.series.Series.{Series}
 use Rattle.std.proofs.Common.{Option}
-use Rattle.room_books.specs.Takings.{is_hidden_by, IsSeriesLeft}
-use Rattle.room_books.proofs.HiddenStarts.{none_before, none_hidden, series_whole}
+use Rattle.room_books.specs.Taking.{is_hidden_by, IsSeriesLeft}
+use Rattle.room_books.proofs.series_lemmas.HiddenStarts.{none_before, none_hidden, series_whole}
 use Rattle.room_books.proofs.series.hides_start.Goals as goal
 
 pub loop-slot-init : goal.loop-slot-init

@@ -4,8 +4,8 @@ use Rattle.itip_order.specs.Registers.{RepresentsHistory}
 use Rattle.profile.specs.checker.Instances.{Instance}
 use Rattle.profile.specs.events.Starts.{IsInstance}
 use Rattle.profile.specs.rooms.Revisions.{Part}
-use Rattle.cal_events.specs.SaidSeries.{series_said}
-use Rattle.room_books.specs.Takings.{is_hidden_by}
+use Rattle.cal_events.specs.Series.{series_said}
+use Rattle.room_books.specs.Taking.{is_hidden_by}
 use Rattle.room_books.proofs.series.hides_start.Given as goal
 
 abbrev pub invariant-loop-slot : goal.invariant-loop-slot

@@ -3,8 +3,8 @@ use Rattle.itip_order.specs.declared.part.Slot.{Slot as OwnSlot}
 use Rattle.itip_order.specs.Parts.{part_of}
 use Rattle.profile.specs.rooms.Rooms.{is_hidden}
 use Rattle.cal_events.specs.declared.series.Series.{Series}
-use Rattle.room_books.specs.Takings.{is_hidden_by, IsSeriesLeft}
-use Rattle.room_books.proofs.HiddenStarts.{hidden_held, left_same}
+use Rattle.room_books.specs.Taking.{is_hidden_by, IsSeriesLeft}
+use Rattle.room_books.proofs.series_lemmas.HiddenStarts.{hidden_held, left_same}
 use Rattle.room_books.proofs.series.series_left.Goals as goal
 
 pub returns-clause-left : goal.returns-clause-left

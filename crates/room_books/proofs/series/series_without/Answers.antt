@@ -1,7 +1,7 @@
 use Rattle.std.proofs.Common.{Option, Some, sym, subst}
 use Rattle.itip_order.specs.Parts.{part_of}
 use Rattle.cal_events.specs.declared.series.Series.{Series}
-use Rattle.room_books.specs.Takings.{is_hidden_by, IsSeriesLeft}
+use Rattle.room_books.specs.Taking.{is_hidden_by, IsSeriesLeft}
 use Rattle.room_books.proofs.series.series_without.Goals as goal
 
 pub returns-clause-left : goal.returns-clause-left

@@ -1,8 +1,8 @@
 use Rattle.std.proofs.Common.{ℤ, List, subst}
 use Rattle.itip_order.specs.Parts.{part_of}
-use Rattle.cal_events.specs.SaidSeries.{series_said, IsSeriesWithout}
-use Rattle.room_books.proofs.Fewer.{fewer_one}
-use Rattle.room_books.proofs.HiddenStarts.{series_without}
+use Rattle.cal_events.specs.Series.{series_said, IsSeriesWithout}
+use Rattle.room_books.proofs.shared_lemmas.Fewer.{fewer_one}
+use Rattle.room_books.proofs.series_lemmas.HiddenStarts.{series_without}
 use Rattle.room_books.proofs.series.without_hidden.Goals as goal
 
 pub returns-clause-left : goal.returns-clause-left

@@ -5,8 +5,7 @@ use Rattle.std.proofs.lemmas.List.Elements.{Contains-append_left, Contains-appen
 use Rattle.itip_order.specs.Parts.{slot_of}
 use Rattle.itip_order.proofs.Lists.{filter_at, filter_from}
 use Rattle.room_books.specs.declared.meeting.PartAnswer.{PartAnswer}
-use Rattle.room_books.specs.BySlot.{left_without}
-use Rattle.room_books.specs.Touching.{is_touched}
+use Rattle.room_books.specs.Slots.{left_without, is_touched}
 use Rattle.room_books.proofs.slots.answer_after.Goals as goal
 
 pub returns-in_default-answer_of-clause-none : goal.returns-in_default-answer_of-clause-none

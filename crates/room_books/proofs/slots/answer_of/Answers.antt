@@ -1,5 +1,5 @@
 use Rattle.itip_order.specs.Parts.{slot_of}
-use Rattle.room_books.proofs.SlotPlaces.{first_at, none_at}
+use Rattle.room_books.proofs.shared_lemmas.SlotPlaces.{first_at, none_at}
 use Rattle.room_books.proofs.slots.answer_of.Goals as goal
 
 pub returns-in_default-clause-none : goal.returns-in_default-clause-none

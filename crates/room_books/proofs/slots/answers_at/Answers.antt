@@ -2,8 +2,8 @@ use Rattle.std.proofs.Common.{◌∙◌, ◌+◌, ◌++◌, List, drop, sym, ap,
 use Rattle.std.proofs.lemmas.List.{take_rest}
 use Rattle.itip_order.specs.declared.part.Slot.TheVariants as own
 use Rattle.room_books.specs.declared.meeting.PartAnswer.{PartAnswer}
-use Rattle.room_books.specs.BySlot.{givens}
-use Rattle.room_books.proofs.Walking.{IsWalked, walk_end, walk_more, walk_start}
+use Rattle.room_books.specs.Slots.{givens}
+use Rattle.room_books.proofs.slots_lemmas.Walking.{IsWalked, walk_end, walk_more, walk_start}
 use Rattle.room_books.proofs.slots.answers_at.Goals as goal
 
 pub loop-slot-init : goal.loop-slot-init

@@ -1,5 +1,5 @@
-use Rattle.room_books.specs.BySlot.{givens}
-use Rattle.room_books.proofs.Walking.{IsWalked}
+use Rattle.room_books.specs.Slots.{givens}
+use Rattle.room_books.proofs.slots_lemmas.Walking.{IsWalked}
 use Rattle.room_books.proofs.slots.answers_at.Given as goal
 
 abbrev pub invariant-loop-slot : goal.invariant-loop-slot

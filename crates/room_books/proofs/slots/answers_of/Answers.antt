@@ -1,7 +1,7 @@
 use Rattle.std.proofs.Common.{◌-◌, ◌∙◌, take, ap}
 use Rattle.std.proofs.lemmas.List.{take_rest}
 use Rattle.itip_order.specs.Parts.{slot_of}
-use Rattle.room_books.proofs.SlotPlaces.{between_at, in_order}
+use Rattle.room_books.proofs.shared_lemmas.SlotPlaces.{between_at, in_order}
 use Rattle.room_books.proofs.slots.answers_of.Goals as goal
 
 pub slice_bounds-result-count : goal.slice_bounds-result-count

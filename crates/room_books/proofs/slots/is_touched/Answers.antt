@@ -1,7 +1,7 @@
 use Rattle.std.proofs.Common.{◌∙◌, subst}
 use Rattle.std.specs.List.Sorted.{IsBinarySearchResult}
 use Rattle.itip_order.specs.Parts.{slot_of}
-use Rattle.room_books.proofs.AcceptedSlots.{found, order_is}
+use Rattle.room_books.proofs.shared_lemmas.AcceptedSlots.{found, order_is}
 use Rattle.room_books.proofs.slots.is_touched.Goals as goal
 
 pub returns : goal.returns

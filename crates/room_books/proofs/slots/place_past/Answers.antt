@@ -1,8 +1,8 @@
 use Rattle.std.proofs.Common.{rules}
 use Rattle.std.proofs.lemmas.List.Sorted.{IsPartitionPoint-from_clause}
 use Rattle.itip_order.specs.Parts.{slot_of}
-use Rattle.room_books.specs.BySlot.{is_up_to}
-use Rattle.room_books.proofs.SlotPlaces.{up_to_parted, place_from}
+use Rattle.room_books.specs.Slots.{is_up_to}
+use Rattle.room_books.proofs.shared_lemmas.SlotPlaces.{up_to_parted, place_from}
 use Rattle.room_books.proofs.slots.place_past.Goals as goal
 
 pub returns : goal.returns

@@ -1,5 +1,5 @@
 use Rattle.std.proofs.Common.{sym, append-nil}
-use Rattle.room_books.specs.BySlot.{givens}
+use Rattle.room_books.specs.Slots.{givens}
 use Rattle.room_books.proofs.slots.push_all.Goals as goal
 
 pub loop-given-init : goal.loop-given-init

@@ -1,5 +1,5 @@
 use Rattle.std.proofs.Common.{◌≡◌, ◌++◌, take}
-use Rattle.room_books.specs.BySlot.{givens}
+use Rattle.room_books.specs.Slots.{givens}
 use Rattle.room_books.proofs.slots.push_all.Given as goal
 
 abbrev pub invariant-loop-given : goal.invariant-loop-given

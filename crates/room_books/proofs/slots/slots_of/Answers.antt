@@ -1,8 +1,8 @@
 use Rattle.std.proofs.Common.{◌∙◌, ◌++◌, ◌∷◌, [], take, map, sym, ap, arith}
 use Rattle.std.proofs.lemmas.List.{map-append, take_all}
 use Rattle.room_books.specs.declared.claim.Claim.{Claim}
-use Rattle.room_books.proofs.Loops.{one_more}
-use Rattle.room_books.proofs.Touching.{all_touch}
+use Rattle.room_books.proofs.shared_lemmas.Loops.{one_more}
+use Rattle.room_books.proofs.slots_lemmas.Touching.{all_touch}
 use Rattle.room_books.proofs.slots.slots_of.Goals as goal
 
 pub loop-claim-preserved : goal.loop-claim-preserved

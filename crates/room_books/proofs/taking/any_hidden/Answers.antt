@@ -2,8 +2,8 @@ use Rattle.std.proofs.Common.{◌≡◌, List, ◌∙◌, ◌+◌, pos, sym, sub
 use Rattle.std.proofs.lemmas.List.{take_all, take_more}
 use Rattle.itip_order.specs.Parts.{part_of}
 use Rattle.cal_events.specs.declared.instance.Single.{Single}
-use Rattle.room_books.specs.Takings.{left_beside}
-use Rattle.room_books.proofs.Own.{beside_push}
+use Rattle.room_books.specs.Taking.{left_beside}
+use Rattle.room_books.proofs.taking_lemmas.Own.{beside_push}
 use Rattle.room_books.proofs.taking.any_hidden.Goals as goal
 
 pub loop-single-preserved : goal.loop-single-preserved

@@ -2,7 +2,7 @@ use Rattle.std.proofs.Common.{◌≡◌, List, take}
 use Rattle.itip_order.specs.Parts.{part_of}
 use Rattle.itip_order.specs.Registers.{RepresentsHistory}
 use Rattle.profile.specs.rooms.Revisions.{Part}
-use Rattle.room_books.specs.Takings.{left_beside}
+use Rattle.room_books.specs.Taking.{left_beside}
 use Rattle.room_books.proofs.taking.any_hidden.Given as goal
 
 abbrev pub invariant-loop-single : goal.invariant-loop-single

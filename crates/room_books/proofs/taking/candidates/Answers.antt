@@ -3,8 +3,8 @@ use Rattle.std.specs.List.{AllZip}
 use denote.Ref.{Bor}
 use Rattle.room_books.specs.declared.meeting.PartAnswer.{PartAnswer}
 use Rattle.room_books.specs.declared.claim.Claim.{Claim}
-use Rattle.room_books.specs.Takings.{IsAccepted}
-use Rattle.room_books.proofs.Loops.{zip_push, one_more}
+use Rattle.room_books.specs.Taking.{IsAccepted}
+use Rattle.room_books.proofs.shared_lemmas.Loops.{zip_push, one_more}
 use Rattle.room_books.proofs.taking.candidates.Goals as goal
 
 pub loop-claim-preserved : goal.loop-claim-preserved

@@ -1,6 +1,6 @@
 use Rattle.std.proofs.Common.{take}
 use Rattle.std.specs.List.{AllZip}
-use Rattle.room_books.specs.Takings.{IsAccepted}
+use Rattle.room_books.specs.Taking.{IsAccepted}
 use Rattle.room_books.proofs.taking.candidates.Given as goal
 
 abbrev pub invariant-loop-claim : goal.invariant-loop-claim

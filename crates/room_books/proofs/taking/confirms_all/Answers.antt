@@ -3,7 +3,7 @@ use Rattle.std.specs.List.{Contains}
 use Rattle.std.proofs.lemmas.List.{take_all}
 use Rattle.room_books.specs.declared.meeting.PartAnswer.{PartAnswer}
 use Rattle.itip_order.specs.Parts.{part_of}
-use Rattle.room_books.proofs.Looking.{one_confirms}
+use Rattle.room_books.proofs.taking_lemmas.Looking.{one_confirms}
 use Rattle.room_books.proofs.taking.confirms_all.Goals as goal
 
 pub returns : goal.returns

@@ -4,7 +4,7 @@ use Rattle.itip_order.specs.Parts.{part_of}
 use Rattle.itip_order.specs.Registers.{RepresentsHistory}
 use Rattle.profile.specs.rooms.Revisions.{Part}
 use Rattle.room_books.specs.declared.meeting.PartAnswer.{PartAnswer}
-use Rattle.room_books.specs.Takings.{LeavesAll}
+use Rattle.room_books.specs.Taking.{LeavesAll}
 use Rattle.room_books.proofs.taking.confirms_all.Given as goal
 
 abbrev pub invariant-loop-given : goal.invariant-loop-given

@@ -1,8 +1,8 @@
 use Rattle.std.proofs.Common.{◌++◌, ◌∷◌, [], sym, subst, List}
 use Rattle.std.specs.List.{AllZip}
 use Rattle.room_books.specs.declared.meeting.PartAnswer.{PartAnswer}
-use Rattle.room_books.specs.Takings.{IsDecided}
-use Rattle.room_books.proofs.Loops.{zip_push}
+use Rattle.room_books.specs.Taking.{IsDecided}
+use Rattle.room_books.proofs.shared_lemmas.Loops.{zip_push}
 use Rattle.room_books.proofs.taking.decided.Goals as goal
 
 pub loop-candidate-preserved : goal.loop-candidate-preserved

@@ -1,5 +1,5 @@
 use Rattle.std.specs.List.{AllZip}
-use Rattle.room_books.specs.Takings.{IsDecided}
+use Rattle.room_books.specs.Taking.{IsDecided}
 use Rattle.room_books.proofs.taking.decided.Given as goal
 
 abbrev pub invariant-loop-candidate : goal.invariant-loop-candidate

@@ -4,7 +4,7 @@ use Rattle.profile.specs.rooms.Rooms.{is_accept}
 use Rattle.room_books.specs.declared.meeting.Outcome.{Outcome}
 use Rattle.room_books.specs.declared.meeting.Outcome.TheVariants.{Accepted, Declined, Limit}
 use Rattle.room_books.specs.declared.answer.LimitKind.TheVariants.{Series, Singles}
-use Rattle.room_books.specs.Views.{outcome_of}
+use Rattle.room_books.specs.Meeting.{outcome_of}
 use Rattle.room_books.proofs.taking.is_accept.Goals as goal
 
 other : (o : Outcome) → (o ≡ Accepted → ⊥) → false ≡ is_accept (outcome_of o)

@@ -1,7 +1,7 @@
 use Rattle.std.proofs.Common.{◌≡◌, FitsSigned, to_z, of_z, w64, rules, arith}
 use Rattle.std.proofs.lemmas.Int.{ints}
 use Rattle.itip_order.specs.Parts.{part_of}
-use Rattle.room_books.specs.Takings.{part_instance}
+use Rattle.room_books.specs.Taking.{part_instance}
 use Rattle.room_books.proofs.taking.is_hidden.Goals as goal
 
 pub returns : goal.returns

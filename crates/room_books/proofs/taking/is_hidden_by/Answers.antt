@@ -3,8 +3,8 @@ use Rattle.std.proofs.lemmas.Int.{ints}
 use Rattle.itip_order.specs.Parts.{part_of}
 use Rattle.profile.specs.rooms.Revisions.{At}
 use Rattle.profile.specs.rooms.Rooms as rooms
-use Rattle.room_books.specs.Takings.{part_instance}
-use Rattle.room_books.specs.Touching.{is_touched}
+use Rattle.room_books.specs.Taking.{part_instance}
+use Rattle.room_books.specs.Slots.{is_touched}
 use Rattle.room_books.proofs.taking.is_hidden_by.Goals as goal
 
 pub returns-then-is_touched : goal.returns-then-is_touched

@@ -1,7 +1,7 @@
 use Rattle.std.proofs.Common.{◌≡◌, ◌∙◌, ap, FitsSigned, to_z, of_z, w64, rules, arith}
 use Rattle.std.proofs.lemmas.Int.{ints}
 use Rattle.itip_order.specs.Parts.{part_of, slot_of}
-use Rattle.room_books.proofs.Hiding.{hidden_whole}
+use Rattle.room_books.proofs.taking_lemmas.Hiding.{hidden_whole}
 use Rattle.room_books.proofs.taking.is_start_hidden.Goals as goal
 
 pub returns-in-Whole : goal.returns-in-Whole

@@ -1,6 +1,6 @@
 use Rattle.std.proofs.Common.{sym}
 use Rattle.itip_order.specs.Parts.{part_of}
-use Rattle.room_books.proofs.Wholes.{whole_lacking}
+use Rattle.room_books.proofs.taking_lemmas.Wholes.{whole_lacking}
 use Rattle.room_books.proofs.taking.lacks_whole.Goals as goal
 
 pub returns : goal.returns

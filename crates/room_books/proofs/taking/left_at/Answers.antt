@@ -3,17 +3,17 @@ use Rattle.std.proofs.lemmas.List.{map-append}
 use denote.Ref.{Bor}
 use Rattle.itip_order.specs.Parts.{part_of}
 use Rattle.room_books.specs.declared.meeting.PartAnswer.{PartAnswer}
-use Rattle.room_books.specs.BySlot.{givens}
-use Rattle.room_books.specs.Instants.{Sheds, IsSplit}
-use Rattle.room_books.specs.Takings.{series_still, singles_of_left}
-use Rattle.room_books.specs.Views.{all_series, all_singles, AreFewer}
-use Rattle.room_books.specs.Representation.{KeepsSome}
-use Rattle.itip_messages.proofs.WrittenLines.{flat_push}
-use Rattle.room_books.proofs.Loops.{one_more}
-use Rattle.room_books.proofs.Own.{keeps_none, keeps_more}
+use Rattle.room_books.specs.Slots.{givens}
+use Rattle.room_books.specs.Gone.{Sheds, IsSplit}
+use Rattle.room_books.specs.Taking.{series_still, singles_of_left}
+use Rattle.room_books.specs.Meeting.{all_series, all_singles, AreFewer}
+use Rattle.room_books.specs.Room.{KeepsSome}
+use Rattle.itip_messages.proofs.shared_lemmas.WrittenLines.{flat_push}
+use Rattle.room_books.proofs.shared_lemmas.Loops.{one_more}
+use Rattle.room_books.proofs.taking_lemmas.Own.{keeps_none, keeps_more}
 use Rattle.std.specs.Option.{option_to_list}
-use Rattle.room_books.proofs.Fewer.{fewer_none, one_fewer}
-use Rattle.room_books.proofs.Splits.{one_shed, split_none}
+use Rattle.room_books.proofs.shared_lemmas.Fewer.{fewer_none, one_fewer}
+use Rattle.room_books.proofs.taking_lemmas.Splits.{one_shed, split_none}
 use Rattle.room_books.proofs.taking.left_at.Goals as goal
 
 some_is : {X : Type 0} (a b : X) → Some a ≡ Some b → a ≡ b

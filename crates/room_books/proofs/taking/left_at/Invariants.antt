@@ -1,9 +1,9 @@
 use Rattle.std.proofs.Common.{take}
 use Rattle.itip_order.specs.Parts.{part_of}
-use Rattle.room_books.specs.BySlot.{givens}
-use Rattle.room_books.specs.Instants.{IsSplit}
-use Rattle.room_books.specs.Representation.{KeepsSome}
-use Rattle.room_books.specs.Views.{all_series, all_singles, AreFewer}
+use Rattle.room_books.specs.Slots.{givens}
+use Rattle.room_books.specs.Gone.{IsSplit}
+use Rattle.room_books.specs.Room.{KeepsSome}
+use Rattle.room_books.specs.Meeting.{all_series, all_singles, AreFewer}
 use Rattle.room_books.proofs.taking.left_at.Given as goal
 
 abbrev pub invariant-loop-given : goal.invariant-loop-given

@@ -2,9 +2,9 @@ use Rattle.std.proofs.Common.{List, [], ◌∙◌, sym, subst, arith}
 use Rattle.std.proofs.lemmas.List.{take_all}
 use Rattle.itip_order.specs.Parts.{part_of}
 use Rattle.cal_events.specs.declared.instance.Single.{Single}
-use Rattle.room_books.specs.Instants.{Sheds}
-use Rattle.room_books.proofs.Own.{beside_push, beside_pass}
-use Rattle.room_books.proofs.Splits.{sheds_none, sheds_stay, sheds_go}
+use Rattle.room_books.specs.Gone.{Sheds}
+use Rattle.room_books.proofs.taking_lemmas.Own.{beside_push, beside_pass}
+use Rattle.room_books.proofs.taking_lemmas.Splits.{sheds_none, sheds_stay, sheds_go}
 use Rattle.room_books.proofs.taking.left_beside.Goals as goal
 
 pub loop-single-init : goal.loop-single-init

@@ -1,9 +1,9 @@
 use Rattle.std.proofs.Common.{◌≡◌, take, List}
-use Rattle.room_books.specs.Instants.{Sheds}
+use Rattle.room_books.specs.Gone.{Sheds}
 use Rattle.itip_order.specs.Registers.{RepresentsHistory}
 use Rattle.itip_order.specs.Parts.{part_of}
 use Rattle.profile.specs.rooms.Revisions.{Part}
-use Rattle.room_books.specs.Takings.{left_beside}
+use Rattle.room_books.specs.Taking.{left_beside}
 use Rattle.room_books.proofs.taking.left_beside.Given as goal
 
 abbrev pub invariant-loop-single : goal.invariant-loop-single

@@ -1,9 +1,9 @@
 use Rattle.std.proofs.Common.{◌∙◌, sym, subst, arith, pos}
 use Rattle.std.proofs.lemmas.List.{take_all}
 use Rattle.itip_order.specs.Parts.{part_of}
-use Rattle.room_books.specs.Instants.{IsPartOf}
-use Rattle.room_books.proofs.Own.{left_push, left_pass}
-use Rattle.room_books.proofs.Parts.{part_push, part_pass}
+use Rattle.room_books.specs.Gone.{IsPartOf}
+use Rattle.room_books.proofs.taking_lemmas.Own.{left_push, left_pass}
+use Rattle.room_books.proofs.shared_lemmas.Parts.{part_push, part_pass}
 use Rattle.room_books.proofs.taking.left_of.Goals as goal
 
 pub loop-single-preserved : goal.loop-single-preserved

@@ -1,9 +1,9 @@
 use Rattle.std.proofs.Common.{◌≡◌, take, List}
-use Rattle.room_books.specs.Instants.{IsPartOf}
+use Rattle.room_books.specs.Gone.{IsPartOf}
 use Rattle.itip_order.specs.Registers.{RepresentsHistory}
 use Rattle.itip_order.specs.Parts.{part_of}
 use Rattle.profile.specs.rooms.Revisions.{Part}
-use Rattle.room_books.specs.Takings.{left_in}
+use Rattle.room_books.specs.Taking.{left_in}
 use Rattle.room_books.proofs.taking.left_of.Given as goal
 
 abbrev pub invariant-loop-single : goal.invariant-loop-single

@@ -5,8 +5,8 @@ use Rattle.itip_order.specs.declared.part.Slot.{Slot as OwnSlot}
 use Rattle.itip_order.specs.declared.part.Slot.TheVariants as own
 use Rattle.itip_order.specs.Parts.{slot_of}
 use Rattle.profile.specs.rooms.Revisions.{slot_cmp}
-use Rattle.room_books.specs.Touching.{is_touched}
-use Rattle.room_books.proofs.Looking.{all_looked, slots_rise, whole_looked, whole_rises}
+use Rattle.room_books.specs.Slots.{is_touched}
+use Rattle.room_books.proofs.taking_lemmas.Looking.{all_looked, slots_rise, whole_looked, whole_rises}
 use Rattle.room_books.proofs.taking.looked_at.Goals as goal
 
 pub returns-then-is_touched-clause-rises : goal.returns-then-is_touched-clause-rises

@@ -3,8 +3,8 @@ use Rattle.std.proofs.lemmas.List.{drop_all}
 use Rattle.itip_order.specs.declared.part.Slot.{Slot as OwnSlot}
 use Rattle.itip_order.specs.declared.part.Slot.TheVariants as own
 use Rattle.itip_order.specs.Parts.{part_of, slot_of}
-use Rattle.room_books.proofs.Looking.{AreLost, lost_all, lost_pass, lost_push}
-use Rattle.room_books.proofs.SlotPlaces.{pairs_sorted}
+use Rattle.room_books.proofs.taking_lemmas.Looking.{AreLost, lost_all, lost_pass, lost_push}
+use Rattle.room_books.proofs.shared_lemmas.SlotPlaces.{pairs_sorted}
 use Rattle.room_books.proofs.taking.lost.Goals as goal
 
 pub loop-slot-init : goal.loop-slot-init

@@ -1,7 +1,7 @@
 -- The slots that were found lost and those to come: what is of none of them is left alone.
 use Rattle.std.proofs.Common.{◌++◌, drop}
 use Rattle.itip_order.specs.Parts.{part_of}
-use Rattle.room_books.proofs.Looking.{AreLost}
+use Rattle.room_books.proofs.taking_lemmas.Looking.{AreLost}
 use Rattle.room_books.proofs.taking.lost.Given as goal
 
 abbrev pub invariant-loop-slot : goal.invariant-loop-slot

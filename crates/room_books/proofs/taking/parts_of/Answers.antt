@@ -4,8 +4,8 @@ use Rattle.itip_order.specs.Registers.{RepresentsHistory}
 use Rattle.itip_order.specs.Parts.{part_of}
 use Rattle.profile.specs.rooms.Revisions.{Part}
 use Rattle.room_books.specs.declared.claim.Claim.{Claim}
-use Rattle.room_books.specs.Takings.{parts_said}
-use Rattle.room_books.proofs.Loops.{one_more}
+use Rattle.room_books.specs.Taking.{parts_said}
+use Rattle.room_books.proofs.shared_lemmas.Loops.{one_more}
 use Rattle.room_books.proofs.taking.parts_of.Goals as goal
 
 pub loop-claim-preserved : goal.loop-claim-preserved

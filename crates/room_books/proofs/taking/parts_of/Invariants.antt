@@ -1,6 +1,6 @@
 use Rattle.std.proofs.Common.{take}
 use Rattle.itip_order.specs.Registers.{RepresentsHistory}
-use Rattle.room_books.specs.Takings.{parts_said}
+use Rattle.room_books.specs.Taking.{parts_said}
 use Rattle.room_books.proofs.taking.parts_of.Given as goal
 
 abbrev pub invariant-loop-claim : goal.invariant-loop-claim

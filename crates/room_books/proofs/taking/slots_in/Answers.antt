@@ -1,7 +1,7 @@
 use Rattle.std.proofs.Common.{◌∙◌, ◌++◌, ◌∷◌, [], take, map, sym, ap, arith}
 use Rattle.std.proofs.lemmas.List.{map-append}
 use Rattle.room_books.specs.declared.meeting.PartAnswer.{PartAnswer}
-use Rattle.room_books.proofs.Loops.{one_more}
+use Rattle.room_books.proofs.shared_lemmas.Loops.{one_more}
 use Rattle.room_books.proofs.taking.slots_in.Goals as goal
 
 pub loop-given-preserved : goal.loop-given-preserved

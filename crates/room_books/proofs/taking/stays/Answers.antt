@@ -6,9 +6,9 @@ use Rattle.itip_order.proofs.Lists.{filter_from}
 use Rattle.profile.specs.rooms.Revisions as revisions
 use Rattle.profile.specs.rooms.Revisions.{Part}
 use Rattle.room_books.specs.declared.meeting.PartAnswer.{PartAnswer}
-use Rattle.room_books.specs.BySlot.{is_at}
-use Rattle.room_books.specs.Takings.{IsViewed, LeavesAll}
-use Rattle.room_books.proofs.AcceptedSlots.{slot_from}
+use Rattle.room_books.specs.Slots.{is_at}
+use Rattle.room_books.specs.Taking.{IsViewed, LeavesAll}
+use Rattle.room_books.proofs.shared_lemmas.AcceptedSlots.{slot_from}
 use Rattle.room_books.proofs.taking.stays.Goals as goal
 
 pub returns : goal.returns

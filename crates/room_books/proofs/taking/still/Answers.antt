@@ -1,6 +1,6 @@
 use Rattle.std.proofs.Common.{◌∙◌, ◌++◌, sym, ap, inr}
 use Rattle.itip_order.specs.Parts.{part_of}
-use Rattle.room_books.proofs.Splits.{split_gone}
+use Rattle.room_books.proofs.taking_lemmas.Splits.{split_gone}
 use Rattle.room_books.proofs.taking.still.Goals as goal
 
 pub returns-then-not-shows-clause-still : goal.returns-then-not-shows-clause-still

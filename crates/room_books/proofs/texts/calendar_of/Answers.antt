@@ -5,11 +5,11 @@ use Rattle.indexmap.specs.IndexMap.{values}
 use Rattle.ical_values.specs.Octets.{address_octets}
 use Rattle.profile.specs.rooms.Kept.{IsKeptEvent, each_once, zone_texts, zones_kept}
 use Rattle.profile.specs.text.Lines.{written}
-use Rattle.room_books.specs.Keeping.{all_kept, zone_of_entry}
-use Rattle.itip_messages.specs.Zoning.{with_zones}
-use Rattle.room_books.proofs.Keeping.{all_are_kept}
-use Rattle.room_books.proofs.Writing.{calendar_written}
-use Rattle.itip_messages.proofs.ZonesOnce.{zones_once}
+use Rattle.room_books.specs.Texts.{all_kept, zone_of_entry}
+use Rattle.itip_messages.specs.Zones.{with_zones}
+use Rattle.room_books.proofs.texts_lemmas.Keeping.{all_are_kept}
+use Rattle.room_books.proofs.texts_lemmas.Writing.{calendar_written}
+use Rattle.itip_messages.proofs.shared_lemmas.ZonesOnce.{zones_once}
 use Rattle.room_books.proofs.texts.calendar_of.Goals as goal
 
 pub returns : goal.returns

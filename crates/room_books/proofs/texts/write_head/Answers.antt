@@ -1,6 +1,6 @@
 -- The lines that say which part it is, one after another.
 use Rattle.itip_order.specs.Parts.{part_of}
-use Rattle.room_books.proofs.PartLines.{head_written}
+use Rattle.room_books.proofs.texts_lemmas.PartLines.{head_written}
 use Rattle.room_books.proofs.texts.write_head.Goals as goal
 
 pub returns : goal.returns

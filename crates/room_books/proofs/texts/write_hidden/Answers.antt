@@ -3,8 +3,8 @@ use Rattle.std.proofs.Common.{◌++◌, ◌∙◌, codes, sym, ap}
 use Rattle.ical_values.specs.Octets.{address_octets}
 use Rattle.itip_order.specs.Parts.{part_of}
 use Rattle.profile.specs.text.Lines.{folded}
-use Rattle.itip_messages.specs.Replies.{slot_at as recurrence_slot}
-use Rattle.room_books.proofs.PartLines.{hidden_written, no_hidden}
+use Rattle.itip_messages.specs.Reply.{slot_at as recurrence_slot}
+use Rattle.room_books.proofs.texts_lemmas.PartLines.{hidden_written, no_hidden}
 use Rattle.room_books.proofs.texts.write_hidden.Goals as goal
 
 pub returns : goal.returns

@@ -8,9 +8,9 @@ use Rattle.itip_order.specs.Parts.{part_of, slot_of}
 use Rattle.itip_order.specs.Registers.{shown}
 use Rattle.profile.specs.rooms.Revisions as revisions
 use Rattle.profile.specs.rooms.Revisions.{Part, Whole, slot_cmp}
-use Rattle.room_books.specs.Keeping.{WritesEntries, accepted_slots, kept_entry_of, has_slot, is_hiding}
-use Rattle.room_books.proofs.Loops.{walked}
-use Rattle.room_books.proofs.Writing.{part_written}
+use Rattle.room_books.specs.Texts.{WritesEntries, accepted_slots, kept_entry_of, has_slot, is_hiding}
+use Rattle.room_books.proofs.shared_lemmas.Loops.{walked}
+use Rattle.room_books.proofs.texts_lemmas.Writing.{part_written}
 use Rattle.room_books.proofs.texts.write_meeting.Goals as goal
 
 pub loop-part-preserved : goal.loop-part-preserved

@@ -4,7 +4,7 @@ use Rattle.std.specs.List.{flat_map}
 use Rattle.ical_values.specs.Octets.{address_octets}
 use Rattle.itip_order.specs.Registers.{shown}
 use Rattle.profile.specs.rooms.Revisions.{Part}
-use Rattle.room_books.specs.Keeping.{WritesEntries, kept_entry_of, has_slot}
+use Rattle.room_books.specs.Texts.{WritesEntries, kept_entry_of, has_slot}
 use Rattle.room_books.proofs.texts.write_meeting.Given as goal
 
 abbrev pub invariant-loop-part : goal.invariant-loop-part

@@ -3,10 +3,10 @@ use Rattle.std.proofs.Common.{◌++◌, ◌∷◌, [], List, Bool, sym, subst}
 use Rattle.indexmap.specs.IndexMap.{values}
 use Rattle.ical_values.specs.Octets.{address_octets}
 use Rattle.profile.specs.rooms.Revisions.{Part}
-use Rattle.room_books.specs.Keeping.{WritesEntries, kept_in, all_kept}
-use Rattle.itip_messages.proofs.WrittenLines.{flat_push}
-use Rattle.room_books.proofs.Loops.{walked}
-use Rattle.room_books.proofs.Writing.{both_written}
+use Rattle.room_books.specs.Texts.{WritesEntries, kept_in, all_kept}
+use Rattle.itip_messages.proofs.shared_lemmas.WrittenLines.{flat_push}
+use Rattle.room_books.proofs.shared_lemmas.Loops.{walked}
+use Rattle.room_books.proofs.texts_lemmas.Writing.{both_written}
 use Rattle.room_books.proofs.texts.write_meetings.Goals as goal
 
 pub loop-meeting-preserved : goal.loop-meeting-preserved

@@ -3,7 +3,7 @@ use Rattle.std.proofs.Common.{◌≡◌, ◌++◌, List}
 use Rattle.indexmap.specs.IndexMap.{values}
 use Rattle.ical_values.specs.Octets.{address_octets}
 use Rattle.room_books.specs.declared.kept.Meeting.{Meeting}
-use Rattle.room_books.specs.Keeping.{WritesEntries, all_kept}
+use Rattle.room_books.specs.Texts.{WritesEntries, all_kept}
 use Rattle.room_books.proofs.texts.write_meetings.Given as goal
 
 abbrev pub invariant-loop-meeting : goal.invariant-loop-meeting

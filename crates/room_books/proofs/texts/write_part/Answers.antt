@@ -8,8 +8,8 @@ use Rattle.ical_values.specs.Octets.{address_octets}
 use Rattle.itip_order.specs.Parts.{part_of, body_of}
 use Rattle.profile.specs.text.Lines.{folded}
 use Rattle.profile.specs.rooms.Revisions as revisions
-use Rattle.itip_messages.specs.BodyTexts.{WritesBody}
-use Rattle.room_books.proofs.PartLines.{shown_written, no_event}
+use Rattle.itip_messages.specs.BodyText.{WritesBody}
+use Rattle.room_books.proofs.texts_lemmas.PartLines.{shown_written, no_event}
 use Rattle.room_books.proofs.texts.write_part.Goals as goal
 
 not_set : (body : Body) → ((x : Vec ℕ Global) → body ≡ Set x → ⊥) → is_set_body (body_of body) ≡ true → ⊥

@@ -1,7 +1,7 @@
 use Rattle.std.proofs.Common.{◌∙◌, rules, tests}
 use Rattle.std.proofs.lemmas.Iterator.{YieldsList-from_slice}
 use Rattle.std.proofs.lemmas.Iterator.Search.{find_from_yields_List, YieldsList-from_take_while}
-use Rattle.room_books.specs.Timelines.{is_leaving, starts_before, stays}
+use Rattle.room_books.specs.Timeline.{is_leaving, starts_before, stays}
 use Rattle.room_books.proofs.timeline.first_staying.Goals as goal
 
 pub returns : goal.returns

@@ -1,7 +1,7 @@
 use Rattle.std.proofs.Common.{arith, subst}
 use Rattle.ical_lines.specs.Fault.{RefusesBy}
 use Rattle.std.proofs.lemmas.Result.{IfOk-weaker, IfErr-weaker}
-use Rattle.itip_messages.specs.Readings.{IsSpelled}
+use Rattle.itip_messages.specs.Message.{IsSpelled}
 use Rattle.profile.specs.streams.Streams.{ObjectFault}
 use Rattle.sched_box.proofs.FaultLemmas.{kept_whole, long_fault, object_fault}
 use Rattle.sched_box.proofs.books.read_kept.Goals as goal

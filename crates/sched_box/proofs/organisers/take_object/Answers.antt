@@ -1,7 +1,7 @@
 use Rattle.std.proofs.Common.{List, ap, sym, refl, ◌∙◌, ◌++◌}
 use Rattle.std.specs.List.{flat_map}
 use Rattle.std.proofs.lemmas.Result.{IfErr-weaker, err_from_is_err_and}
-use Rattle.itip_messages.specs.OrganiserObjects.{operation_said}
+use Rattle.itip_messages.specs.OrganiserObject.{operation_said}
 use Rattle.profile.specs.organisers.Objects as profile
 use Rattle.organiser_books.specs.declared.outgoing.Outgoing.{Outgoing}
 use Rattle.sched_box.proofs.OrganiserLemmas.{refresh_takes, refused_by, reply_answers, reply_keeps, store_takes}

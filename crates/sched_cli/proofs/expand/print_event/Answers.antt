@@ -1,4 +1,4 @@
-use Rattle.cal_events.specs.SaidMeetings.{said_meeting}
+use Rattle.cal_events.specs.Event.{said_meeting}
 use Rattle.sched_cli.proofs.Printing.{finished}
 use Rattle.sched_cli.proofs.expand.print_event.Goals as goal
 

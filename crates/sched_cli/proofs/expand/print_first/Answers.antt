@@ -1,5 +1,5 @@
 use Rattle.std.proofs.Common.{◌≡◌, ◌∙◌, refl, sym, subst, false, true, List, ℕ, Bool, arith, rules}
-use Rattle.cal_events.specs.SaidMeetings.{said_meeting}
+use Rattle.cal_events.specs.Event.{said_meeting}
 use Rattle.sched_cli.specs.Expanding.{PrintsNext, PrintsUpTo}
 use Rattle.sched_cli.proofs.Printing.{none_yet, no_line_yet, from_the_first, no_more, one_more, enough}
 use Rattle.sched_cli.proofs.expand.print_first.Goals as goal

@@ -1,5 +1,5 @@
 use Rattle.std.proofs.Common.{◌≡◌}
-use Rattle.cal_events.specs.SaidMeetings.{said_meeting}
+use Rattle.cal_events.specs.Event.{said_meeting}
 use Rattle.sched_cli.specs.Expanding.{PrintsUpTo}
 use Rattle.sched_cli.proofs.expand.print_first.Given as goal
 

@@ -1,5 +1,5 @@
 use Rattle.profile.specs.events.Events.{EventTextFault}
-use Rattle.cal_events.specs.SaidMeetings.{said_meeting}
+use Rattle.cal_events.specs.Event.{said_meeting}
 use Rattle.sched_cli.proofs.Printing.{expanded}
 use Rattle.sched_cli.proofs.Saying.{refused_at_3, said_read, said_write}
 use Rattle.sched_cli.proofs.expand.run_expand.Goals as goal

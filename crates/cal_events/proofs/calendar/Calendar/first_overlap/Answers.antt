@@ -1,7 +1,7 @@
 use Rattle.std.proofs.Common.{map, ap, ◌∙◌}
 use Rattle.profile.specs.events.Confirmed.{Confirmed}
-use Rattle.cal_events.specs.Calendars.{span_of}
-use Rattle.cal_events.proofs.ClashLemmas.{clash_from_sweep, clear_from_sweep}
+use Rattle.cal_events.specs.Calendar.{span_of}
+use Rattle.cal_events.proofs.calendar_lemmas.ClashLemmas.{clash_from_sweep, clear_from_sweep}
 use Rattle.cal_events.proofs.calendar.Calendar.first_overlap.Goals as goal
 
 pub returns-clause-clash : goal.returns-clause-clash

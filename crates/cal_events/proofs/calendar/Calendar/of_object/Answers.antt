@@ -1,6 +1,6 @@
 use Rattle.ical_values.specs.Octets.{address_octets}
 use Rattle.ical_tree.specs.Tree.{tree_of}
-use Rattle.cal_events.proofs.DraftLemmas.{calendar_refused}
+use Rattle.cal_events.proofs.shared_lemmas.DraftLemmas.{calendar_refused}
 use Rattle.cal_events.proofs.calendar.Calendar.of_object.Goals as goal
 
 pub returns-clause-fault : goal.returns-clause-fault

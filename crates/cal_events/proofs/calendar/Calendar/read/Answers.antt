@@ -1,5 +1,5 @@
 use Rattle.ical_values.specs.Octets.{address_octets}
-use Rattle.cal_events.proofs.DraftLemmas.{text_refused}
+use Rattle.cal_events.proofs.shared_lemmas.DraftLemmas.{text_refused}
 use Rattle.cal_events.proofs.calendar.Calendar.read.Goals as goal
 
 pub returns-clause-fault : goal.returns-clause-fault

@@ -1,5 +1,5 @@
 use Rattle.std.proofs.Common.{subst}
-use Rattle.cal_events.specs.Calendars.{HaveOwnKeys}
+use Rattle.cal_events.specs.Calendar.{HaveOwnKeys}
 use Rattle.cal_events.proofs.calendar.Calendar.series.Goals as goal
 
 pub returns-clause-keys : goal.returns-clause-keys

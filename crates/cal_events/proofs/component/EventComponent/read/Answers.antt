@@ -4,11 +4,11 @@ use Rattle.profile.specs.events.EventComponents.{EventComponentFault, adds_insta
 use Rattle.profile.specs.events.Occurrences.{entries_named, EntriesFault, bad_additions, bad_exceptions, recurs, recurs_as_instance}
 use Rattle.profile.specs.events.EventRules.{EventRuleFault}
 use Rattle.profile.specs.events.ZonedTimes.{EventTimesFault}
-use Rattle.cal_events.specs.Events.{method_read, times_of}
+use Rattle.cal_events.specs.Component.{method_read, times_of}
 use Rattle.cal_events.specs.Zoned.{AreSaidBy}
 use Rattle.cal_events.specs.Zones.{object_of}
-use Rattle.cal_events.proofs.OneInstance.{times_sound}
-use Rattle.cal_events.proofs.ZonedLemmas.{weaker_fault}
+use Rattle.cal_events.proofs.shared_lemmas.OneInstance.{times_sound}
+use Rattle.cal_events.proofs.shared_lemmas.ZonedLemmas.{weaker_fault}
 use Rattle.ical_values.proofs.Exits.{err_exit}
 use Rattle.cal_events.proofs.component.EventComponent.read.Goals as goal
 

@@ -2,9 +2,9 @@ use Rattle.std.proofs.Common.{◌∙◌, [], sym}
 use Rattle.std.specs.Prelude.{is_some}
 use Rattle.std.proofs.lemmas.Bool.{and_parts}
 use Rattle.profile.specs.events.Events.{is_master}
-use Rattle.cal_events.specs.Events.{component_of}
-use Rattle.cal_events.specs.SaidSeries.{series_said}
-use Rattle.cal_events.proofs.SeriesLemmas.{series_of, steady_ends}
+use Rattle.cal_events.specs.Component.{component_of}
+use Rattle.cal_events.specs.Series.{series_said}
+use Rattle.cal_events.proofs.shared_lemmas.SeriesLemmas.{series_of, steady_ends}
 use Rattle.cal_events.proofs.component.EventComponent.series.Goals as goal
 
 pub of_copy-requires-clause-clock : goal.of_copy-requires-clause-clock

@@ -2,13 +2,13 @@ use Rattle.std.proofs.Common.{◌≡◌, ◌∷◌, [], None, Some, map, List, s
 use Rattle.std.specs.List.{AllZip}
 use Rattle.std.proofs.lemmas.Result.{IfOk-weaker}
 use Rattle.profile.specs.events.Confirmed.{AreApart}
-use Rattle.cal_events.specs.Events.{component_of}
+use Rattle.cal_events.specs.Component.{component_of}
 use Rattle.cal_events.specs.OwnInstances.{own_instance_at, IsInstanceAt}
 use Rattle.cal_events.specs.SingleStarts.{AreSingleStarts}
 use Rattle.cal_events.specs.declared.component.EventComponent.{EventComponent}
 use Rattle.cal_events.specs.declared.instance.Single.{Single}
-use Rattle.cal_events.proofs.OwnInstances.{master_apart, own_apart, apart_once, timely}
-use Rattle.cal_events.proofs.OwnSingles.{of_both}
+use Rattle.cal_events.proofs.component_lemmas.OwnInstances.{master_apart, own_apart, apart_once, timely}
+use Rattle.cal_events.proofs.shared_lemmas.OwnSingles.{of_both}
 use Rattle.cal_events.proofs.component.EventComponent.singles.Goals as goal
 
 abbrev Apart : EventComponent → List Single → Type 0

@@ -1,9 +1,9 @@
 use Rattle.std.proofs.Common.{◌≡◌, ◌∙◌, sym, subst, List, ℤ, pos, get_or, take, FitsSigned, to_z, of_z, w64, to_z-of_z, rules}
 use Rattle.std.specs.List.{AllZip}
 use Rattle.std.proofs.lemmas.List.{take_all}
-use Rattle.cal_events.specs.Events.{component_of}
+use Rattle.cal_events.specs.Component.{component_of}
 use Rattle.cal_events.specs.OwnInstances.{IsInstanceAt}
-use Rattle.cal_events.proofs.OwnInstances.{made_more}
+use Rattle.cal_events.proofs.component_lemmas.OwnInstances.{made_more}
 use Rattle.cal_events.proofs.component.EventComponent.singles_at.Goals as goal
 
 pub loop-start-preserved : goal.loop-start-preserved

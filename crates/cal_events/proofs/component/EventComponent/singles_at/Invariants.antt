@@ -1,6 +1,6 @@
 use Rattle.std.proofs.Common.{take}
 use Rattle.std.specs.List.{AllZip}
-use Rattle.cal_events.specs.Events.{component_of}
+use Rattle.cal_events.specs.Component.{component_of}
 use Rattle.cal_events.specs.OwnInstances.{IsInstanceAt}
 use Rattle.cal_events.proofs.component.EventComponent.singles_at.Given as goal
 

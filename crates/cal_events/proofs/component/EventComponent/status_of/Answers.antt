@@ -2,8 +2,8 @@ use Rattle.std.proofs.Common.{◌≡◌, ◌<◌, List, length, get_or, subst, s
 use Rattle.std.specs.Str.{bytes_eq}
 use Rattle.ical_values.specs.Octets.{address_octets}
 use Rattle.cal_events.specs.declared.component.Attendee.{Attendee}
-use Rattle.cal_events.specs.Events.{attendee_of}
-use Rattle.cal_events.proofs.EventLemmas.{find_drop}
+use Rattle.cal_events.specs.Component.{attendee_of}
+use Rattle.cal_events.proofs.shared_lemmas.EventLemmas.{find_drop}
 use Rattle.cal_events.proofs.component.EventComponent.status_of.Goals as goal
 
 pub loop-attendee-preserved : goal.loop-attendee-preserved

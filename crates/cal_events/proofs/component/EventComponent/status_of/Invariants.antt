@@ -3,7 +3,7 @@ use Rattle.std.specs.List.{find}
 use Rattle.std.specs.Str.{bytes_eq}
 use Rattle.ical_values.specs.Octets.{address_octets}
 use Rattle.profile.specs.events.EventComponents.{answer_of}
-use Rattle.cal_events.specs.Events.{attendee_of, component_of}
+use Rattle.cal_events.specs.Component.{attendee_of, component_of}
 use Rattle.cal_events.proofs.component.EventComponent.status_of.Given as goal
 
 -- those that are left decide it

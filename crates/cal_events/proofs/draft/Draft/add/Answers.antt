@@ -4,9 +4,9 @@ use Rattle.ical_values.specs.Octets.{address_octets}
 use Rattle.std.proofs.lemmas.List.{append-nil, map-append}
 use Rattle.profile.specs.events.Events.{is_master}
 use Rattle.profile.specs.events.Confirmed.{is_kept}
-use Rattle.cal_events.specs.Events.{component_of}
-use Rattle.cal_events.specs.Drafts.{AreOwnAt}
-use Rattle.cal_events.proofs.DraftLemmas.{draft_more, none_own, more_series}
+use Rattle.cal_events.specs.Component.{component_of}
+use Rattle.cal_events.specs.Draft.{AreOwnAt}
+use Rattle.cal_events.proofs.shared_lemmas.DraftLemmas.{draft_more, none_own, more_series}
 use Rattle.cal_events.proofs.draft.Draft.add.Goals as goal
 
 pub returns-then-not-is_kept : goal.returns-then-not-is_kept

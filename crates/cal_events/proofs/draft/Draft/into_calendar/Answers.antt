@@ -4,15 +4,15 @@ use Rattle.std.proofs.lemmas.List.Sorted.{IsPermutation-sym}
 use Rattle.ical_lines.specs.Fault.{RefusesBy}
 use Rattle.ical_values.proofs.Exits.{err_exit}
 use Rattle.profile.specs.events.Confirmed.{Confirmed}
-use Rattle.cal_events.specs.Calendars.{key_of, named_instance}
-use Rattle.cal_events.specs.SaidSeries.{series_said}
-use Rattle.cal_events.specs.Drafts.{master_keys, IsTwoOf}
+use Rattle.cal_events.specs.Calendar.{key_of, named_instance}
+use Rattle.cal_events.specs.Series.{series_said}
+use Rattle.cal_events.specs.Draft.{master_keys, IsTwoOf}
 use Rattle.cal_events.specs.declared.instance.InstanceKey.{InstanceKey}
-use Rattle.cal_events.proofs.KeyLemmas.{pairs_permutation}
-use Rattle.cal_events.proofs.ZonedLemmas.{weaker_fault}
-use Rattle.cal_events.proofs.CalendarKeys.{own_keys}
-use Rattle.cal_events.proofs.DraftKeys.{masters_there, there_masters, overrides_there, there_overrides}
-use Rattle.cal_events.proofs.DraftLemmas.{within_entries, masters_of, confirmed_of, left_within, different_keys}
+use Rattle.cal_events.proofs.draft_lemmas.KeyLemmas.{pairs_permutation}
+use Rattle.cal_events.proofs.shared_lemmas.ZonedLemmas.{weaker_fault}
+use Rattle.cal_events.proofs.draft_lemmas.CalendarKeys.{own_keys}
+use Rattle.cal_events.proofs.shared_lemmas.DraftKeys.{masters_there, there_masters, overrides_there, there_overrides}
+use Rattle.cal_events.proofs.shared_lemmas.DraftLemmas.{within_entries, masters_of, confirmed_of, left_within, different_keys}
 use Rattle.cal_events.proofs.draft.Draft.into_calendar.Goals as goal
 
 pub returns-then-has_equal_neighbours-clause-fault : goal.returns-then-has_equal_neighbours-clause-fault

@@ -10,11 +10,11 @@ use Rattle.profile.specs.text.Trees.{Tree}
 use Rattle.profile.specs.faults.Faults.{is_calendar_fault}
 use Rattle.profile.specs.checker.Calendars.{CalendarFault}
 use Rattle.profile.specs.events.EventComponents.{EventComponentFault, SaysEventComponent}
-use Rattle.cal_events.specs.Events.{component_of, vevents_of}
-use Rattle.cal_events.specs.Drafts.{IsDraft}
-use Rattle.cal_events.proofs.EventLemmas.{push_zip}
-use Rattle.cal_events.proofs.ReadingLemmas.{events_in, is_among, take_other, take_event, event_refuses}
-use Rattle.cal_events.proofs.TreeLemmas.{vevents_tree, only_calendar}
+use Rattle.cal_events.specs.Component.{component_of, vevents_of}
+use Rattle.cal_events.specs.Draft.{IsDraft}
+use Rattle.cal_events.proofs.shared_lemmas.EventLemmas.{push_zip}
+use Rattle.cal_events.proofs.shared_lemmas.ReadingLemmas.{events_in, is_among, take_other, take_event, event_refuses}
+use Rattle.cal_events.proofs.shared_lemmas.TreeLemmas.{vevents_tree, only_calendar}
 use Rattle.cal_events.proofs.draft.Draft.of_object.Goals as goal
 use Rattle.cal_events.proofs.draft.Draft.of_object.Goals.{then-is_named+in_ok-event+in_ok-add, else-is_named}
 

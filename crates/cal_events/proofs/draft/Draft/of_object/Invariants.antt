@@ -3,8 +3,8 @@ use Rattle.std.specs.List.{AllZip}
 use Rattle.ical_tree.specs.Tree.{component_children, tree_of}
 use Rattle.ical_values.specs.Octets.{address_octets}
 use Rattle.profile.specs.events.EventComponents.{EventComponent, SaysEventComponent}
-use Rattle.cal_events.specs.Drafts.{IsDraft}
-use Rattle.cal_events.proofs.ReadingLemmas.{events_in}
+use Rattle.cal_events.specs.Draft.{IsDraft}
+use Rattle.cal_events.proofs.shared_lemmas.ReadingLemmas.{events_in}
 use Rattle.cal_events.proofs.draft.Draft.of_object.Given as goal
 
 -- the VEVENTs so far say events, and the draft is of these

@@ -2,7 +2,7 @@ use Rattle.std.proofs.Common.{false, subst, List, ℕ}
 use Rattle.ical_values.specs.Octets.{address_octets}
 use Rattle.ical_tree.specs.Tree.{IsObjectOf}
 use Rattle.ical_tree.proofs.RefusalLemmas.{text_refuses, tree_refuses}
-use Rattle.cal_events.proofs.TreeLemmas.{draft_spelled, faults_there, object_refused}
+use Rattle.cal_events.proofs.shared_lemmas.TreeLemmas.{draft_spelled, faults_there, object_refused}
 use Rattle.cal_events.proofs.draft.Draft.read.Goals as goal
 
 pub returns-in_err-text-clause-fault : goal.returns-in_err-text-clause-fault

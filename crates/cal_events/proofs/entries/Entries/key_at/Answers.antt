@@ -2,7 +2,7 @@ use Rattle.std.proofs.Common.{◌≡◌, ◌∙◌, ◌<◌, [], length, map, sy
 use Rattle.std.proofs.lemmas.List.{get_or-map}
 use Rattle.ical_values.specs.Octets.{address_octets}
 use Rattle.cal_events.specs.declared.entries.ComponentName.{ComponentName}
-use Rattle.cal_events.proofs.EntryLemmas.{entry_in, uid_in, key_there}
+use Rattle.cal_events.proofs.entries_lemmas.EntryLemmas.{entry_in, uid_in, key_there}
 use Rattle.cal_events.proofs.entries.Entries.key_at.Goals as goal
 
 pub index-requires : goal.index-requires

@@ -1,6 +1,6 @@
 use Rattle.std.proofs.Common.{length, map, ap, arith}
 use Rattle.ical_values.specs.Octets.{address_octets}
-use Rattle.cal_events.proofs.EntryLemmas.{count}
+use Rattle.cal_events.proofs.entries_lemmas.EntryLemmas.{count}
 use Rattle.cal_events.proofs.entries.Entries.len.Goals as goal
 
 pub returns : goal.returns

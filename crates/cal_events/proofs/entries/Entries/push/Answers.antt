@@ -2,11 +2,10 @@ use Rattle.std.proofs.Common.{◌∙◌, ◌++◌, ◌∷◌, [], ℕ, List, map
 use Rattle.std.specs.Prelude.{All}
 use Rattle.std.proofs.lemmas.List.{length-map}
 use Rattle.ical_values.specs.Octets.{address_octets}
-use Rattle.cal_events.specs.Entries.{Name, names_of}
-use Rattle.cal_events.specs.Names.{name_said}
-use Rattle.cal_events.specs.Events.{component_of}
+use Rattle.cal_events.specs.Entries.{Name, names_of, name_said}
+use Rattle.cal_events.specs.Component.{component_of}
 use Rattle.cal_events.specs.declared.entries.ComponentName.{ComponentName}
-use Rattle.cal_events.proofs.EntryLemmas.{Within, pushed}
+use Rattle.cal_events.proofs.entries_lemmas.EntryLemmas.{Within, pushed}
 use Rattle.cal_events.proofs.entries.Entries.push.Goals as goal
 
 pub returns-in-Ok : goal.returns-in-Ok

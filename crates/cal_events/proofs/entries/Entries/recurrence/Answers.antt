@@ -1,7 +1,7 @@
 use Rattle.std.proofs.Common.{map, sym, ap, arith}
 use Rattle.ical_values.specs.Octets.{address_octets}
 use Rattle.cal_events.specs.Entries.{Name}
-use Rattle.cal_events.proofs.EntryLemmas.{entry_in, name_there}
+use Rattle.cal_events.proofs.entries_lemmas.EntryLemmas.{entry_in, name_there}
 use Rattle.cal_events.proofs.entries.Entries.recurrence.Goals as goal
 
 pub index-requires : goal.index-requires

@@ -5,11 +5,11 @@ use Rattle.ical_tree.specs.Tree.{tree_of}
 use Rattle.profile.specs.events.Events.{SaysEvent, EventFault}
 use Rattle.profile.specs.checker.Instances.{Instance}
 use Rattle.ical_values.proofs.Exits.{err_exit}
-use Rattle.cal_events.specs.Events.{component_of}
-use Rattle.cal_events.specs.OneMeeting.{meeting_of}
-use Rattle.cal_events.specs.SaidMeetings.{said_meeting}
-use Rattle.cal_events.proofs.OneInstance.{one_at, dated}
-use Rattle.cal_events.proofs.Clocks.{all_clocks, master_good}
+use Rattle.cal_events.specs.Component.{component_of}
+use Rattle.cal_events.specs.MeetingComponents.{meeting_of}
+use Rattle.cal_events.specs.Event.{said_meeting}
+use Rattle.cal_events.proofs.shared_lemmas.OneInstance.{one_at, dated}
+use Rattle.cal_events.proofs.shared_lemmas.Clocks.{all_clocks, master_good}
 use Rattle.profile.specs.text.Trees.{vevents}
 use Rattle.cal_events.proofs.event.Event.of_object.Goals as goal
 

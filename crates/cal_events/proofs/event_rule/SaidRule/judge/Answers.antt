@@ -5,10 +5,10 @@ use Rattle.profile.specs.series.Rules.{Rule, RuleText}
 use Rattle.profile.specs.events.Properties.{BothOrNeither, is_of}
 use Rattle.profile.specs.events.ZonedTimes.{clock_of}
 use Rattle.profile.specs.events.EventRules.{GivesRule, IsOutsideRule, EventRuleFault}
-use Rattle.cal_events.specs.Events.{times_of}
+use Rattle.cal_events.specs.Component.{times_of}
 use Rattle.ical_values.proofs.Exits.{err_exit}
-use Rattle.cal_events.proofs.RuleLemmas.{outside_refuses, some_named, says_beside, says_without}
-use Rattle.cal_events.proofs.ZonedLemmas.{weaker_fault}
+use Rattle.cal_events.proofs.event_rule_lemmas.RuleLemmas.{outside_refuses, some_named, says_beside, says_without}
+use Rattle.cal_events.proofs.shared_lemmas.ZonedLemmas.{weaker_fault}
 use Rattle.cal_events.proofs.event_rule.SaidRule.judge.Goals as goal
 
 pub returns-in-Some-clause-says : goal.returns-in-Some-clause-says

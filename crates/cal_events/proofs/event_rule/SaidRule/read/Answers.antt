@@ -6,8 +6,8 @@ use Rattle.profile.specs.text.Lines.{line_value}
 use Rattle.profile.specs.series.RuleTexts.{IsLeastRuleFault}
 use Rattle.profile.specs.events.EventRules.{EventRuleFault, bad_rule, two_rules}
 use Rattle.ical_values.proofs.Exits.{err_exit}
-use Rattle.cal_events.proofs.EventLemmas.{some_line}
-use Rattle.cal_events.proofs.ZonedLemmas.{weaker_fault}
+use Rattle.cal_events.proofs.shared_lemmas.EventLemmas.{some_line}
+use Rattle.cal_events.proofs.shared_lemmas.ZonedLemmas.{weaker_fault}
 use Rattle.cal_events.proofs.event_rule.SaidRule.read.Goals as goal
 
 pub returns-in_err-line-clause-fault : goal.returns-in_err-line-clause-fault

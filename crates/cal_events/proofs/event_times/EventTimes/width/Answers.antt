@@ -2,8 +2,8 @@ use Rattle.std.proofs.Common.{inr, subst, arith}
 use Rattle.std.proofs.lemmas.Bool.Decides.{nat_tests}
 use Rattle.std.proofs.lemmas.Int.{ints}
 use Rattle.profile.specs.series.Zones.{Zone, IsBounds}
-use Rattle.cal_events.specs.Events.{times_of}
-use Rattle.cal_events.proofs.Overlaps.{lasts}
+use Rattle.cal_events.specs.Component.{times_of}
+use Rattle.cal_events.proofs.shared_lemmas.Overlaps.{lasts}
 use Rattle.cal_events.proofs.event_times.EventTimes.width.Goals as goal
 
 pub returns-clause-width : goal.returns-clause-width

@@ -4,11 +4,11 @@ use Rattle.profile.specs.series.Zones.{Means}
 use Rattle.ical_lines.specs.Text.{line_text}
 use Rattle.profile.specs.events.ZonedTimes.{EventTimesFault, ZonedTimeFault, bad_start}
 use Rattle.ical_values.proofs.Exits.{refusal_exit}
-use Rattle.cal_events.proofs.EventLemmas.{some_line}
+use Rattle.cal_events.proofs.shared_lemmas.EventLemmas.{some_line}
 use Rattle.std.specs.Prelude.{◌↔◌, IsTrue}
 use Rattle.profile.specs.events.ZonedTimes.{IsInDates, clock_of}
 use Rattle.cal_events.specs.Zones.{object_of}
-use Rattle.cal_events.specs.Events.{zone_said}
+use Rattle.cal_events.specs.Component.{zone_said}
 use Rattle.cal_events.proofs.event_times.SaidTimes.from_start.Goals as goal
 
 pub returns-in_err-start-clause-fault : goal.returns-in_err-start-clause-fault

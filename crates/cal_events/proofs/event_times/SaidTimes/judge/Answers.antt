@@ -3,7 +3,7 @@ use Rattle.std.proofs.lemmas.Bool.{false≢true}
 use Rattle.std.proofs.lemmas.Int.{ints}
 use Rattle.profile.specs.events.ZonedTimes.{EventTimesFault}
 use Rattle.ical_values.proofs.Exits.{refusal_exit}
-use Rattle.cal_events.proofs.TimesLemmas.{extent_judged_by, start_judged_by, end_judged_by, within_clock, times_said_by}
+use Rattle.cal_events.proofs.event_times_lemmas.TimesLemmas.{extent_judged_by, start_judged_by, end_judged_by, within_clock, times_said_by}
 use Rattle.cal_events.proofs.event_times.SaidTimes.judge.Goals as goal
 use Rattle.cal_events.proofs.event_times.SaidTimes.judge.Goals.{then-not-self-via-then-not-self, then-not-self-via-else-not-self+then-not-self-2}
 

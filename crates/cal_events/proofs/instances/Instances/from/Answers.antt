@@ -1,5 +1,5 @@
 use Rattle.std.proofs.Common.{◌≡◌, to_z, of_z, w64, to_z-of_z}
-use Rattle.cal_events.proofs.WholeLists.{left_from}
+use Rattle.cal_events.proofs.shared_lemmas.WholeLists.{left_from}
 use Rattle.cal_events.proofs.instances.Instances.from.Goals as goal
 
 pub returns-clause-left : goal.returns-clause-left

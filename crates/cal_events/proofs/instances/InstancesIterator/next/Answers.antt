@@ -1,7 +1,7 @@
 use Rattle.std.proofs.Common.{◌≡◌, ◌∙◌, refl, sym, subst, ℤ, to_z, of_z, w64, to_z-of_z, FitsSigned, rules}
-use Rattle.cal_events.specs.Calendars.{instance_of}
+use Rattle.cal_events.specs.Calendar.{instance_of}
 use Rattle.cal_events.specs.Instances.{IsAfter}
-use Rattle.cal_events.proofs.InstanceLemmas.{passed_at, none_left, held_there, none_before, bound_same}
+use Rattle.cal_events.proofs.shared_lemmas.InstanceLemmas.{passed_at, none_left, held_there, none_before, bound_same}
 use Rattle.cal_events.proofs.instances.InstancesIterator.next.Goals as goal
 
 pub returns-in_err-place-clause-steps : goal.returns-in_err-place-clause-steps

@@ -3,8 +3,8 @@ use Rattle.std.specs.Prelude.{None, Some, int_lt}
 use Rattle.std.specs.Ordering.{int_cmp}
 use Rattle.std.specs.List.Sorted.{IsSorted}
 use Rattle.std.proofs.lemmas.List.Sorted.{IsPartitionPoint-from_clause}
-use Rattle.cal_events.specs.Ordered.{IsFirstFrom}
-use Rattle.cal_events.proofs.InOrder.{first_there, none_there, parted}
+use Rattle.cal_events.specs.Instants.{IsFirstFrom}
+use Rattle.cal_events.proofs.instants_lemmas.InOrder.{first_there, none_there, parted}
 use Rattle.cal_events.proofs.instants.Instants.first_from.Goals as goal
 
 pub returns-then-at-len : goal.returns-then-at-len

@@ -3,7 +3,7 @@ use Rattle.std.specs.Prelude.{Contains, IsTrue, ◌↔◌}
 use Rattle.std.specs.Ordering.{int_cmp}
 use Rattle.std.specs.Result.{is_ok}
 use Rattle.std.specs.List.Sorted.{IsSorted}
-use Rattle.cal_events.proofs.InOrder.{has_found}
+use Rattle.cal_events.proofs.instants_lemmas.InOrder.{has_found}
 use Rattle.cal_events.proofs.instants.Instants.has.Goals as goal
 
 pub returns : goal.returns

@@ -2,7 +2,7 @@ use Rattle.std.proofs.Common.{◌≢◌, ◌∙◌, sym, subst, List, ℤ, arith
 use Rattle.std.specs.Prelude.{AllPairs}
 use Rattle.std.specs.Ordering.{int_cmp}
 use Rattle.std.specs.List.Sorted.{IsSorted}
-use Rattle.cal_events.proofs.InOrder.{all_differ}
+use Rattle.cal_events.proofs.instants_lemmas.InOrder.{all_differ}
 use Rattle.cal_events.proofs.instants.Instants.has_twins.Goals as goal
 
 pub returns : goal.returns

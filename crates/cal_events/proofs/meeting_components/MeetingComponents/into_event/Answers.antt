@@ -1,8 +1,8 @@
 use Rattle.std.proofs.Common.{List, map, subst}
-use Rattle.cal_events.specs.Events.{component_of}
+use Rattle.cal_events.specs.Component.{component_of}
 use Rattle.cal_events.specs.Places.{ArePlaces}
 use Rattle.cal_events.specs.declared.component.EventComponent.{EventComponent}
-use Rattle.cal_events.proofs.HiddenLemmas.{hides_made, adds_made}
+use Rattle.cal_events.proofs.shared_lemmas.HiddenLemmas.{hides_made, adds_made}
 use Rattle.cal_events.proofs.meeting_components.MeetingComponents.into_event.Goals as goal
 
 pub invariant_of-result : goal.invariant_of-result

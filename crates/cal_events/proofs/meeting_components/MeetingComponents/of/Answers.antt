@@ -2,7 +2,7 @@ use Rattle.std.proofs.Common.{◌≡◌, ◌∙◌, ◌++◌, ◌∷◌, [], ap,
 use Rattle.std.specs.Prelude.{Some, is_some}
 use Rattle.std.proofs.lemmas.Int.{ints}
 use Rattle.profile.specs.events.Events.{is_master, is_override}
-use Rattle.cal_events.proofs.MeetingLemmas.{pushed, passed, instant_pushed}
+use Rattle.cal_events.proofs.shared_lemmas.MeetingLemmas.{pushed, passed, instant_pushed}
 use Rattle.cal_events.proofs.meeting_components.MeetingComponents.of.Goals as goal
 
 pub loop-component-preserved-in-Continue-branch-2 : goal.loop-component-preserved-in-Continue-branch-2

@@ -1,8 +1,8 @@
 use Rattle.std.proofs.Common.{◌≡◌, map, filter}
 use Rattle.std.specs.Prelude.{Some}
 use Rattle.profile.specs.events.Events.{is_master, is_override}
-use Rattle.cal_events.specs.Events.{component_of}
-use Rattle.cal_events.specs.Meetings.{instants_said}
+use Rattle.cal_events.specs.Component.{component_of}
+use Rattle.cal_events.specs.MeetingComponents.{instants_said}
 use Rattle.cal_events.proofs.meeting_components.MeetingComponents.of.Given as goal
 
 -- those so far are divided

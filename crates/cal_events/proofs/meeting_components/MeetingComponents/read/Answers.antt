@@ -7,12 +7,11 @@ use Rattle.ical_tree.specs.Tree.{tree_of}
 use Rattle.profile.specs.events.Events.{is_master, is_override, taken_by, AreOfOne, InstancesDiffer, EventFault}
 use Rattle.ical_values.proofs.Exits.{err_exit}
 use Rattle.cal_events.specs.declared.component.EventComponent.{EventComponent}
-use Rattle.cal_events.specs.Events.{component_of, method_read, vevents_of, IsFaultAmong}
-use Rattle.cal_events.specs.Meetings.{IsNotOne, SharesSlot}
-use Rattle.cal_events.specs.OneMeeting.{meeting_of}
-use Rattle.cal_events.proofs.TreeLemmas.{vevents_tree}
-use Rattle.cal_events.proofs.ZonedLemmas.{weaker_fault}
-use Rattle.cal_events.proofs.MeetingLemmas.{among_there, not_one_there, slot_there, meeting_there}
+use Rattle.cal_events.specs.Component.{component_of, method_read, vevents_of, IsFaultAmong}
+use Rattle.cal_events.specs.MeetingComponents.{IsNotOne, SharesSlot, meeting_of}
+use Rattle.cal_events.proofs.shared_lemmas.TreeLemmas.{vevents_tree}
+use Rattle.cal_events.proofs.shared_lemmas.ZonedLemmas.{weaker_fault}
+use Rattle.cal_events.proofs.shared_lemmas.MeetingLemmas.{among_there, not_one_there, slot_there, meeting_there}
 use Rattle.cal_events.proofs.meeting_components.MeetingComponents.read.Goals as goal
 
 pub returns-in_err-components-clause-fault : goal.returns-in_err-components-clause-fault

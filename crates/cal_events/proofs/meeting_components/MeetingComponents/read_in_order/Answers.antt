@@ -5,11 +5,11 @@ use Rattle.ical_values.proofs.Exits.{err_exit}
 use Rattle.profile.specs.events.EventComponents.{EventComponent as SaidComponent}
 use Rattle.profile.specs.events.Events.{is_master, EventFault}
 use Rattle.cal_events.specs.declared.component.EventComponent.{EventComponent}
-use Rattle.cal_events.specs.Events.{component_of, method_read, vevents_of, IsFaultAmong}
-use Rattle.cal_events.specs.Meetings.{IsNotOne, SharesSlot}
-use Rattle.cal_events.proofs.TreeLemmas.{vevents_tree}
-use Rattle.cal_events.proofs.ZonedLemmas.{weaker_fault}
-use Rattle.cal_events.proofs.MeetingLemmas.{among_there, not_one_there, slot_there}
+use Rattle.cal_events.specs.Component.{component_of, method_read, vevents_of, IsFaultAmong}
+use Rattle.cal_events.specs.MeetingComponents.{IsNotOne, SharesSlot}
+use Rattle.cal_events.proofs.shared_lemmas.TreeLemmas.{vevents_tree}
+use Rattle.cal_events.proofs.shared_lemmas.ZonedLemmas.{weaker_fault}
+use Rattle.cal_events.proofs.shared_lemmas.MeetingLemmas.{among_there, not_one_there, slot_there}
 use Rattle.cal_events.proofs.meeting_components.MeetingComponents.read_in_order.Goals as goal
 
 pub returns-in_err-components-clause-fault : goal.returns-in_err-components-clause-fault

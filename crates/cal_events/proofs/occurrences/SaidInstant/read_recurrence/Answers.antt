@@ -6,8 +6,8 @@ use Rattle.profile.specs.events.ZonedTimes.{ZonedTimeFault, ZonedTextFault}
 use Rattle.profile.specs.events.Occurrences.{has_range, OccurrenceFault, two_recurrences, ranged, bad_recurrence}
 use Rattle.ical_values.proofs.Exits.{refusal_exit}
 use Rattle.cal_events.specs.Zones.{object_of}
-use Rattle.cal_events.proofs.EventLemmas.{some_line}
-use Rattle.cal_events.proofs.RecurrenceLemmas.{shows_range}
+use Rattle.cal_events.proofs.shared_lemmas.EventLemmas.{some_line}
+use Rattle.cal_events.proofs.occurrences_lemmas.RecurrenceLemmas.{shows_range}
 use Rattle.cal_events.proofs.occurrences.SaidInstant.read_recurrence.Goals as goal
 
 pub returns-in_err-line-clause-fault : goal.returns-in_err-line-clause-fault

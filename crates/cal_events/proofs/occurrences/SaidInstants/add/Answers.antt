@@ -7,7 +7,7 @@ use Rattle.profile.specs.events.Occurrences.{EntriesFault}
 use Rattle.ical_values.proofs.Exits.{err_exit}
 use Rattle.cal_events.specs.Zones.{object_of}
 use Rattle.cal_events.specs.Occurrences.{name_of}
-use Rattle.cal_events.proofs.OccurrenceLemmas.{one_listed, full, period, malformed}
+use Rattle.cal_events.proofs.occurrences_lemmas.OccurrenceLemmas.{one_listed, full, period, malformed}
 use Rattle.cal_events.proofs.occurrences.SaidInstants.add.Goals as goal
 use Rattle.cal_events.proofs.occurrences.SaidInstants.add.Goals.{then-len-eq-MOST-via-then-len-eq-MOST, then-len-eq-MOST-via-else-len-eq-MOST+then-is_period}
 

@@ -7,7 +7,7 @@ use Rattle.cal_rules.proofs.Cuts.{all_left, cut_more, cut_done}
 use Rattle.ical_values.proofs.Exits.{err_exit}
 use Rattle.cal_events.specs.Zones.{object_of}
 use Rattle.cal_events.specs.Occurrences.{name_of, AreListed}
-use Rattle.cal_events.proofs.OccurrenceLemmas.{on_line, text_next, texts_end, still_refused}
+use Rattle.cal_events.proofs.occurrences_lemmas.OccurrenceLemmas.{on_line, text_next, texts_end, still_refused}
 use Rattle.cal_events.proofs.occurrences.SaidInstants.add_line.Goals as goal
 
 pub loop-text-init : goal.loop-text-init

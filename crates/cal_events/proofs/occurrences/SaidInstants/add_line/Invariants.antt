@@ -4,7 +4,7 @@ use Rattle.profile.specs.events.Occurrences.{ListedTime}
 use Rattle.cal_rules.proofs.Cuts.{Leaves}
 use Rattle.cal_events.specs.Zones.{object_of}
 use Rattle.cal_events.specs.Occurrences.{name_of, AreListed}
-use Rattle.cal_events.proofs.OccurrenceLemmas.{texts, on_line}
+use Rattle.cal_events.proofs.occurrences_lemmas.OccurrenceLemmas.{texts, on_line}
 use Rattle.cal_events.proofs.occurrences.SaidInstants.add_line.Given as goal
 
 -- the texts so far were added, and the others are left

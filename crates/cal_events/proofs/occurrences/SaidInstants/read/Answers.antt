@@ -8,7 +8,7 @@ use Rattle.ical_values.proofs.Exits.{err_exit}
 use Rattle.cal_events.specs.Zones.{object_of}
 use Rattle.cal_events.specs.Occurrences.{name_of, AreListed}
 use Rattle.cal_events.specs.declared.occurrences.SaidInstants.{SaidInstants}
-use Rattle.cal_events.proofs.OccurrenceLemmas.{line_next, other_next, still_refused}
+use Rattle.cal_events.proofs.occurrences_lemmas.OccurrenceLemmas.{line_next, other_next, still_refused}
 use Rattle.cal_events.proofs.occurrences.SaidInstants.read.Goals as goal
 use Rattle.cal_events.proofs.occurrences.SaidInstants.read.Goals.{then-is_named+in_ok-add_line, else-is_named}
 

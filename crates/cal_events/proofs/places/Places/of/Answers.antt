@@ -1,6 +1,6 @@
 use Rattle.std.proofs.Common.{◌≡◌, ap, ◌∙◌, ◌+◌, sym, subst, arith}
 use Rattle.std.specs.Prelude.{IfNone, None}
-use Rattle.cal_events.proofs.PlaceLemmas.{AreFound, found_more, found_past, places_found}
+use Rattle.cal_events.proofs.shared_lemmas.PlaceLemmas.{AreFound, found_more, found_past, places_found}
 use Rattle.cal_events.proofs.places.Places.of.Goals as goal
 use Rattle.cal_events.proofs.places.Places.of.Goals.{in-Some+in_ok-push, in_default}
 

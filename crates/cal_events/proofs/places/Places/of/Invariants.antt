@@ -1,4 +1,4 @@
-use Rattle.cal_events.proofs.PlaceLemmas.{AreFound}
+use Rattle.cal_events.proofs.shared_lemmas.PlaceLemmas.{AreFound}
 use Rattle.cal_events.proofs.places.Places.of.Given as goal
 
 -- the places of those so far

@@ -1,7 +1,7 @@
 use Rattle.std.proofs.Common.{◌+◌, ap}
 use Rattle.profile.specs.series.Days.{day_index}
-use Rattle.cal_events.specs.RuleDaysLeft.{days_to_come}
-use Rattle.cal_events.proofs.RuleDayLemmas.{first_taken, none_taken}
+use Rattle.cal_events.specs.RuleDays.{days_to_come}
+use Rattle.cal_events.proofs.rule_days_lemmas.RuleDayLemmas.{first_taken, none_taken}
 use Rattle.cal_events.proofs.rule_days.RuleDays.next.Goals as goal
 
 pub returns-in_err-day : goal.returns-in_err-day

@@ -1,7 +1,7 @@
 use Rattle.std.proofs.Common.{◌+◌, ap}
 use Rattle.profile.specs.series.Days.{day_index}
-use Rattle.cal_events.specs.RuleDaysLeft.{days_to_come, rest_to_come, with_first}
-use Rattle.cal_events.proofs.RuleDayLemmas.{first_taken}
+use Rattle.cal_events.specs.RuleDays.{days_to_come, rest_to_come, with_first}
+use Rattle.cal_events.proofs.rule_days_lemmas.RuleDayLemmas.{first_taken}
 use Rattle.cal_events.proofs.rule_days.RuleDays.pass.Goals as goal
 
 pub returns-clause-days : goal.returns-clause-days

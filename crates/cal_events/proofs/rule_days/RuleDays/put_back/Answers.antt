@@ -1,8 +1,8 @@
 use Rattle.std.proofs.Common.{◌≡◌, sym, ap, ◌∙◌, subst}
 use Rattle.profile.specs.series.Days.{day_index}
 use Rattle.profile.specs.series.Rules.{rule_days_from}
-use Rattle.cal_events.specs.RuleDaysLeft.{rest_to_come, with_first}
-use Rattle.cal_events.proofs.RuleDayLemmas.{first_back}
+use Rattle.cal_events.specs.RuleDays.{rest_to_come, with_first}
+use Rattle.cal_events.proofs.rule_days_lemmas.RuleDayLemmas.{first_back}
 use Rattle.cal_events.proofs.rule_days.RuleDays.put_back.Goals as goal
 
 pub returns-clause-days : goal.returns-clause-days

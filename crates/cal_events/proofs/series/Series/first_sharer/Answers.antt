@@ -1,7 +1,7 @@
 use Rattle.std.specs.Prelude.{option_map}
-use Rattle.cal_events.specs.Calendars.{instance_of}
-use Rattle.cal_events.specs.SaidSeries.{series_said}
-use Rattle.cal_events.proofs.Overlaps.{sharer_of}
+use Rattle.cal_events.specs.Calendar.{instance_of}
+use Rattle.cal_events.specs.Series.{series_said}
+use Rattle.cal_events.proofs.shared_lemmas.Overlaps.{sharer_of}
 use Rattle.cal_events.proofs.series.Series.first_sharer.Goals as goal
 
 pub returns : goal.returns

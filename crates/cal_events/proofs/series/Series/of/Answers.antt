@@ -1,11 +1,11 @@
 use Rattle.std.proofs.Common.{sym, subst}
 use Rattle.profile.specs.events.EventComponents.{EventComponent as Said}
 use Rattle.cal_events.specs.Clocks.{HasGoodClock}
-use Rattle.cal_events.specs.Events.{component_of}
+use Rattle.cal_events.specs.Component.{component_of}
 use Rattle.cal_events.specs.Overlapping.{HaveOneEnd}
-use Rattle.cal_events.proofs.Clocks.{clock_good}
-use Rattle.cal_events.proofs.OwnSingles.{of_master}
-use Rattle.cal_events.proofs.SeriesLemmas.{ruled_ends}
+use Rattle.cal_events.proofs.shared_lemmas.Clocks.{clock_good}
+use Rattle.cal_events.proofs.shared_lemmas.OwnSingles.{of_master}
+use Rattle.cal_events.proofs.shared_lemmas.SeriesLemmas.{ruled_ends}
 use Rattle.cal_events.proofs.series.Series.of.Goals as goal
 
 pub of_master-requires-clause-clock : goal.of_master-requires-clause-clock

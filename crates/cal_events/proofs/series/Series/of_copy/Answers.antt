@@ -2,7 +2,7 @@ use Rattle.std.proofs.Common.{sym, subst}
 use Rattle.profile.specs.events.EventComponents.{EventComponent as Said}
 use Rattle.cal_events.specs.Clocks.{HasGoodClock}
 use Rattle.cal_events.specs.Overlapping.{HaveOneEnd}
-use Rattle.cal_events.proofs.OwnSingles.{of_master}
+use Rattle.cal_events.proofs.shared_lemmas.OwnSingles.{of_master}
 use Rattle.cal_events.proofs.series.Series.of_copy.Goals as goal
 
 pub of_master-requires-clause-clock : goal.of_master-requires-clause-clock

@@ -2,7 +2,7 @@ use Rattle.std.proofs.Common.{◌≡◌, ◌∙◌, sym, subst, to_z, of_z, w64,
 use Rattle.std.proofs.lemmas.Option.{same_Some}
 use Rattle.profile.specs.events.EventComponents.{EventComponent as Said}
 use Rattle.profile.specs.events.Starts.{IsWidth}
-use Rattle.cal_events.specs.Events.{component_of}
+use Rattle.cal_events.specs.Component.{component_of}
 use Rattle.cal_events.proofs.series.Series.width.Goals as goal
 
 pub returns : goal.returns

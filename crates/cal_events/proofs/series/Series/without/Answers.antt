@@ -4,14 +4,13 @@ use Rattle.std.proofs.lemmas.Option.{same_Some}
 use Rattle.std.proofs.lemmas.Result.{IfOk-weaker}
 use Rattle.profile.specs.events.EventComponents.{EventComponent as Said}
 use Rattle.cal_events.specs.Clocks.{HasGoodClock}
-use Rattle.cal_events.specs.Events.{component_of}
+use Rattle.cal_events.specs.Component.{component_of}
 use Rattle.cal_events.specs.Overlapping.{HaveOneEnd}
-use Rattle.cal_events.specs.Ruled.{ruled_without}
-use Rattle.cal_events.specs.SaidSeries.{series_said, IsSeriesWithout}
+use Rattle.cal_events.specs.Series.{ruled_without, series_said, IsSeriesWithout}
 use Rattle.cal_events.specs.declared.component.EventComponent.{EventComponent}
 use Rattle.cal_events.specs.declared.series.Series.{Series}
-use Rattle.cal_events.proofs.OwnSingles.{of_master}
-use Rattle.cal_events.proofs.SeriesLemmas.{left_of, left_ends, own_master}
+use Rattle.cal_events.proofs.shared_lemmas.OwnSingles.{of_master}
+use Rattle.cal_events.proofs.shared_lemmas.SeriesLemmas.{left_of, left_ends, own_master}
 use Rattle.cal_events.proofs.series.Series.without.Goals as goal
 
 -- its master is the one that is looked up

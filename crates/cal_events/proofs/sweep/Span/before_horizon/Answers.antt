@@ -1,7 +1,7 @@
 use Rattle.std.proofs.Common.{◌≡◌, to_z, of_z, w64, FitsSigned, rules, to_z-of_z}
 use Rattle.std.specs.Int.{int_min}
 use Rattle.profile.specs.checker.Instances.{horizon}
-use Rattle.cal_events.proofs.Overlaps.{cut_there}
+use Rattle.cal_events.proofs.shared_lemmas.Overlaps.{cut_there}
 use Rattle.cal_events.proofs.sweep.Span.before_horizon.Goals as goal
 
 pub returns : goal.returns

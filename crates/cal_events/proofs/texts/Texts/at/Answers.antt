@@ -2,7 +2,7 @@ use Rattle.std.proofs.Common.{◌≡◌, ◌∙◌, ◌<◌, ◌∷◌, ℕ, Lis
 use Rattle.std.specs.Prelude.{string_bytes, slice_range}
 use Rattle.std.specs.Str.{IsCharBoundary}
 use Rattle.std.proofs.lemmas.List.{get_or_default}
-use Rattle.cal_events.proofs.TextLemmas.{place_in, piece_at}
+use Rattle.cal_events.proofs.texts_lemmas.TextLemmas.{place_in, piece_at}
 use Rattle.cal_events.proofs.texts.Texts.at.Goals as goal
 
 pub start_of-start-requires : goal.start_of-start-requires

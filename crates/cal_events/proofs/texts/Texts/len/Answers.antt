@@ -1,6 +1,6 @@
 use Rattle.std.proofs.Common.{length, sym, ap, arith}
 use Rattle.std.specs.Prelude.{string_bytes}
-use Rattle.cal_events.proofs.TextLemmas.{count}
+use Rattle.cal_events.proofs.texts_lemmas.TextLemmas.{count}
 use Rattle.cal_events.proofs.texts.Texts.len.Goals as goal
 
 pub returns : goal.returns

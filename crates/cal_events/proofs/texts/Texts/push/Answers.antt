@@ -3,7 +3,7 @@ use Rattle.std.specs.Prelude.{string_bytes}
 use Rattle.std.specs.Str.{IsCharBoundary}
 use Rattle.std.proofs.lemmas.Str.{IsCharBoundary-at_seam}
 use Rattle.cal_events.specs.Texts.{pieces_between, are_pieces}
-use Rattle.cal_events.proofs.TextLemmas.{pushed, pushed_are}
+use Rattle.cal_events.proofs.texts_lemmas.TextLemmas.{pushed, pushed_are}
 use Rattle.cal_events.proofs.texts.Texts.push.Goals as goal
 
 pub truncate-requires : goal.truncate-requires

@@ -2,7 +2,7 @@ use Rattle.std.proofs.Common.{List, ℕ, subst}
 use Rattle.std.specs.Prelude.{IfOk, IfErr}
 use Rattle.ical_lines.specs.Text.{line_text}
 use Rattle.profile.specs.events.ZonedTimes.{SaysZonedText, ZonedTextFault}
-use Rattle.cal_events.specs.Events.{zone_said}
+use Rattle.cal_events.specs.Component.{zone_said}
 use Rattle.cal_events.specs.Zones.{object_of}
 use Rattle.cal_events.proofs.zoned.ZonedTime.read.Goals as goal
 

@@ -5,10 +5,10 @@ use Rattle.ical_lines.specs.Text.{line_text}
 use Rattle.profile.specs.events.Properties.{DateTime, time_kind}
 use Rattle.profile.specs.events.ZonedTimes.{SpellsZoned, SaysZonedText, InZoneFault, ZonedTextFault}
 use Rattle.std.specs.Prelude.{Some}
-use Rattle.cal_events.specs.Events.{zone_said}
+use Rattle.cal_events.specs.Component.{zone_said}
 use Rattle.cal_events.specs.Zones.{object_of}
 use Rattle.ical_values.proofs.Exits.{refusal_exit}
-use Rattle.cal_events.proofs.ZonedLemmas.{zoned_said, zoned_fault, utc_said, utc_fault}
+use Rattle.cal_events.proofs.shared_lemmas.ZonedLemmas.{zoned_said, zoned_fault, utc_said, utc_fault}
 use Rattle.cal_events.proofs.zoned.ZonedTime.read_text.Goals as goal
 
 pub returns-in-Some-clause-says : goal.returns-in-Some-clause-says

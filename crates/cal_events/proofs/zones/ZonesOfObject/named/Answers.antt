@@ -8,7 +8,7 @@ use Rattle.profile.specs.text.Trees.{Tree}
 use Rattle.profile.specs.events.Properties.{BothOrNeither}
 use Rattle.profile.specs.events.ZonedTimes.{SaysZoneOf, NamedFault}
 use Rattle.cal_events.specs.Zones.{is_zone_called, IsZoneRead}
-use Rattle.cal_events.proofs.ZonedLemmas.{zone_among, zone_read, no_zone_read}
+use Rattle.cal_events.proofs.shared_lemmas.ZonedLemmas.{zone_among, zone_read, no_zone_read}
 use Rattle.cal_events.proofs.zones.ZonesOfObject.named.Goals as goal
 
 pub returns-in-Some-clause-says : goal.returns-in-Some-clause-says

@@ -2,7 +2,7 @@ use Rattle.std.proofs.Common.{◌∙◌, ap}
 use Rattle.std.specs.List.{list_any}
 use Rattle.std.specs.Str.{bytes_eq}
 use Rattle.ical_values.specs.Octets.{address_octets}
-use Rattle.itip_messages.proofs.AttendeeSearch.{among}
+use Rattle.itip_messages.proofs.attendees_lemmas.AttendeeSearch.{among}
 use Rattle.itip_messages.proofs.attendees.Attendees.contains.Goals as goal
 
 pub returns : goal.returns

@@ -4,10 +4,10 @@ use Rattle.ical_tree.specs.Tree.{tree_of}
 use Rattle.ical_tree.proofs.TreeOfLemmas.{tree_of-own}
 use Rattle.ical_values.proofs.Exits.{err_exit}
 use Rattle.profile.specs.rooms.Messages.{MethodFault, MessageFault, in_method}
-use Rattle.itip_messages.specs.Messages.{method_said}
-use Rattle.itip_messages.specs.OrganiserObjects.{operation_said}
-use Rattle.itip_messages.specs.Readings.{NamesKind}
-use Rattle.itip_messages.proofs.MessageLemmas.{meeting_refuses, object_refuses}
+use Rattle.itip_messages.specs.RoomMessage.{method_said}
+use Rattle.itip_messages.specs.OrganiserObject.{operation_said}
+use Rattle.itip_messages.specs.Message.{NamesKind}
+use Rattle.itip_messages.proofs.shared_lemmas.MessageLemmas.{meeting_refuses, object_refuses}
 use Rattle.itip_messages.proofs.message.Message.of_object.Goals as goal
 
 pub returns-in_err-method-clause-fault : goal.returns-in_err-method-clause-fault

@@ -3,7 +3,7 @@ use Rattle.ical_tree.specs.Tree.{IsObjectOf, tree_of}
 use Rattle.ical_tree.proofs.TreeOfLemmas.{object_tree}
 use Rattle.profile.specs.text.Lines.{logical_lines}
 use Rattle.ical_tree.proofs.RefusalLemmas.{text_refuses, tree_refuses}
-use Rattle.itip_messages.proofs.TreeLemmas.{message_spelled, faults_there, object_refused}
+use Rattle.itip_messages.proofs.message_lemmas.TreeLemmas.{message_spelled, faults_there, object_refused}
 use Rattle.itip_messages.proofs.message.Message.read.Goals as goal
 
 pub returns-in_err-text-clause-fault : goal.returns-in_err-text-clause-fault

@@ -6,10 +6,10 @@ use Rattle.ical_tree.specs.Tree.{tree_of}
 use Rattle.ical_values.specs.Octets.{address_octets, text_octets}
 use Rattle.ical_values.proofs.Exits.{err_exit}
 use Rattle.profile.specs.organisers.Objects.{AreOfMeeting, has_one_attendee, is_of_attendee}
-use Rattle.cal_events.specs.Events.{component_of}
+use Rattle.cal_events.specs.Component.{component_of}
 use Rattle.cal_events.specs.declared.component.EventComponent.{EventComponent}
-use Rattle.itip_messages.specs.OrganiserObjects.{IsNotOneEach, IsOrganiserFault, operation_said}
-use Rattle.itip_messages.proofs.ObjectLemmas.{as_they_are, said_by_tree, stamp_given, slot_dated, event_is_ready, organiser_given, meeting_wrong, attendee_wrong, of_meeting}
+use Rattle.itip_messages.specs.OrganiserObject.{IsNotOneEach, IsOrganiserFault, operation_said}
+use Rattle.itip_messages.proofs.organiser_object_lemmas.ObjectLemmas.{as_they_are, said_by_tree, stamp_given, slot_dated, event_is_ready, organiser_given, meeting_wrong, attendee_wrong, of_meeting}
 use Rattle.itip_messages.proofs.organiser_object.OrganiserObject.read.Goals as goal
 
 pub returns-in_err-events-clause-fault : goal.returns-in_err-events-clause-fault

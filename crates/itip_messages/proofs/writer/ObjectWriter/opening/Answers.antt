@@ -1,5 +1,5 @@
 use Rattle.std.proofs.Common.{◌∙◌}
-use Rattle.itip_messages.proofs.LineLemmas.{opened, kept_at_first, kept_by_more, kept_by_none}
+use Rattle.itip_messages.proofs.shared_lemmas.LineLemmas.{opened, kept_at_first, kept_by_more, kept_by_none}
 use Rattle.itip_messages.proofs.writer.ObjectWriter.opening.Goals as goal
 
 pub returns-in_err-line-clause-keeps : goal.returns-in_err-line-clause-keeps

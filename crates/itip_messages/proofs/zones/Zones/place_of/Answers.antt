@@ -2,8 +2,8 @@
 use Rattle.std.proofs.Common.{◌≡◌, ◌∙◌, ℕ, Vec, Global, List, Some, map, sym, ap, subst, refl}
 use Rattle.std.specs.Prelude.{is_some, slice_get}
 use Rattle.std.specs.Str.{bytes_eq}
-use Rattle.itip_messages.specs.Zoning.{with_zone}
-use Rattle.itip_messages.proofs.ZoneSets.{found_zone, known_zone, put_zone, stored_zone}
+use Rattle.itip_messages.specs.Zones.{with_zone}
+use Rattle.itip_messages.proofs.zones_lemmas.ZoneSets.{found_zone, known_zone, put_zone, stored_zone}
 use Rattle.itip_messages.proofs.zones.Zones.place_of.Goals as goal
 
 abbrev items : Vec ℕ Global → List ℕ

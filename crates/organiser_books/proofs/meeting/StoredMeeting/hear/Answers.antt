@@ -4,7 +4,7 @@ use Rattle.std.specs.Map.{keys_of, lookup}
 use Rattle.std.proofs.lemmas.Bool.{not-false, both_ways}
 use Rattle.profile.specs.events.EventComponents as events
 use Rattle.profile.specs.organisers.Organisers.{Heard}
-use Rattle.cal_events.specs.Events.{attendee_of}
+use Rattle.cal_events.specs.Component.{attendee_of}
 use Rattle.profile.specs.rooms.Revisions.{Revision}
 use Rattle.itip_order.specs.declared.part.Revision.{Revision as OwnRevision}
 use Rattle.itip_order.specs.Parts.{slot_of, revision_of}

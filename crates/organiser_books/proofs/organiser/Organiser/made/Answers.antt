@@ -10,7 +10,7 @@ use Rattle.ical_values.specs.declared.text.Text.{Text}
 use Rattle.organiser_books.specs.Representation.{same_text}
 use Rattle.organiser_books.specs.Storing.{LastAttends}
 use Rattle.itip_messages.specs.declared.organiser_object.ObjectComponent.{ObjectComponent}
-use Rattle.organiser_books.specs.Attending.{lists_of, names, AreAttending, AreTold}
+use Rattle.organiser_books.specs.Attending.{lists_of, names, AreAttending, AreSentTo}
 use Rattle.organiser_books.proofs.Telling.{told_are, told_then}
 use Rattle.organiser_books.proofs.organiser.Organiser.made.Goals as goal
 
@@ -23,8 +23,8 @@ returns-clause-told c = λ before last q.
     let are : AreAttending lists first = subst (λ (l : List ObjectComponent). AreAttending (lists_of l) first) c.components.ensures c.in_ok-attending.ensures.attending in
     let to = map address_octets c.in_ok-to.to.items in
     let gone = map address_octets c.in_ok-gone.gone.items in
-    let these : AreTold to first next = subst (λ (l : List Address). AreTold (map address_octets l) first next) c.deref.ensures.value c.tell.ensures in
-    let those : AreTold gone next after = subst (λ (l : List Address). AreTold (map address_octets l) next after) c.deref-2.ensures.value c.tell-2.ensures in
+    let these : AreSentTo to first next = subst (λ (l : List Address). AreSentTo (map address_octets l) first next) c.deref.ensures.value c.tell.ensures in
+    let those : AreSentTo gone next after = subst (λ (l : List Address). AreSentTo (map address_octets l) next after) c.deref-2.ensures.value c.tell-2.ensures in
     told_are lists (to ++ gone) first after are c.in_ok-attending.ensures.untold (told_then to gone first next after these those) q
     ∙ ap (λ b. list_any (names q) lists && b) (list_any-append (bytes_eq q) to gone)
     ∙ (λ i. list_any (names q) lists && (list_any (bytes_eq q) (c.in_ok-to.ensures lists are i) || list_any (bytes_eq q) (c.in_ok-gone.ensures before lists (subst (λ (u : Text). LastAttends before (get same_text c.args.self.now.meetings u)) (sym c.uid.ensures) last) are i)))

@@ -6,7 +6,7 @@ use Rattle.ical_values.specs.Octets.{address_octets, text_octets}
 use Rattle.ical_values.specs.declared.text.Text.{Text}
 use Rattle.profile.specs.organisers.Objects as objects
 use Rattle.profile.specs.organisers.Organisers.{OrganiserBook, last_store}
-use Rattle.itip_messages.specs.OrganiserObjects.{RepresentsObject}
+use Rattle.itip_messages.specs.OrganiserObject.{RepresentsObject}
 use Rattle.itip_messages.specs.declared.organiser_object.ObjectComponent.{ObjectComponent}
 use Rattle.organiser_books.specs.declared.meeting.StoredMeeting.{StoredMeeting}
 use Rattle.organiser_books.specs.declared.organiser.Organiser.{Organiser}

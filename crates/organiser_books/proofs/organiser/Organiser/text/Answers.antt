@@ -5,7 +5,7 @@ use Rattle.profile.specs.rooms.Revisions.{Revision}
 use Rattle.profile.specs.organisers.Organisers.{ShowsSeen, last_store}
 use Rattle.profile.specs.organisers.Sent.{IsMeetingText}
 use Rattle.itip_order.specs.Parts.{revision_of}
-use Rattle.itip_messages.specs.OrganiserObjects.{SaysObjectComponent}
+use Rattle.itip_messages.specs.OrganiserObject.{SaysObjectComponent}
 use Rattle.itip_messages.specs.declared.organiser_object.ObjectComponent.{ObjectComponent}
 use Rattle.organiser_books.specs.declared.meeting.StoredMeeting.{StoredMeeting}
 use Rattle.organiser_books.specs.Shown.{ShowsAnswered}

@@ -1,5 +1,5 @@
 use Rattle.std.proofs.Common.{refl}
-use Rattle.room_books.proofs.Reordering.{re_same}
+use Rattle.room_books.proofs.shared_lemmas.Reordering.{re_same}
 use Rattle.room_books.proofs.kept.Meeting.new.Goals as goal
 
 pub returns : goal.returns

@@ -1,8 +1,8 @@
 -- There is room for what comes, so that nothing fails once the parts are taken.
 use Rattle.std.proofs.Common.{◌≡◌, ◌∙◌, ◌+◌, ◌<◌, ◌++◌, List, length, sym, subst, arith, vec_len, vec_capacity}
 use Rattle.room_books.specs.declared.meeting.PartAnswer.{PartAnswer}
-use Rattle.room_books.specs.BySlot.{AreAnswersBySlot, Reordered, left_without}
-use Rattle.room_books.proofs.SlotPlaces.{ok_of}
+use Rattle.room_books.specs.Slots.{AreAnswersBySlot, Reordered, left_without}
+use Rattle.room_books.proofs.shared_lemmas.SlotPlaces.{ok_of}
 use Rattle.room_books.proofs.kept.Meeting.take.Goals as goal
 
 pub take_out-requires : goal.take_out-requires

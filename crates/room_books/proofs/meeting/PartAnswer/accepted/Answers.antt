@@ -1,7 +1,7 @@
 use Rattle.std.proofs.Common.{refl, subst, ◌∙◌, ap}
-use Rattle.room_books.specs.Instants.{IsPartOf}
+use Rattle.room_books.specs.Gone.{IsPartOf}
 use Rattle.itip_order.specs.Parts.{part_of}
-use Rattle.room_books.specs.Takings.{left_in}
+use Rattle.room_books.specs.Taking.{left_in}
 use Rattle.room_books.proofs.meeting.PartAnswer.accepted.Goals as goal
 
 pub returns : goal.returns

@@ -1,6 +1,6 @@
 use Rattle.std.proofs.Common.{◌≡◌, ◌∙◌, Bool, [], None, cond, refl, sym, ap, rules}
 use Rattle.profile.specs.rooms.Rooms as rooms
-use Rattle.room_books.specs.Views.{outcome_of}
+use Rattle.room_books.specs.Meeting.{outcome_of}
 use Rattle.room_books.specs.declared.meeting.Outcome.{Outcome}
 use Rattle.room_books.specs.declared.meeting.Outcome.TheVariants.{Accepted, Declined, Limit}
 use Rattle.room_books.proofs.meeting.PartAnswer.decided.Goals as goal

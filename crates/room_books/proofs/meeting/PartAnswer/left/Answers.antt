@@ -1,8 +1,8 @@
 use Rattle.std.proofs.Common.{List, refl, rules, subst, ◌∙◌, ap}
-use Rattle.room_books.specs.Instants.{Sheds}
+use Rattle.room_books.specs.Gone.{Sheds}
 use Rattle.cal_events.specs.declared.instance.Single.{Single}
 use Rattle.itip_order.specs.Parts.{part_of}
-use Rattle.room_books.specs.Takings.{left_beside}
+use Rattle.room_books.specs.Taking.{left_beside}
 use Rattle.room_books.proofs.meeting.PartAnswer.left.Goals as goal
 
 pub returns-clause-left : goal.returns-clause-left

@@ -5,14 +5,14 @@ use Rattle.std.proofs.lemmas.Bool.{true≢false}
 use Rattle.room_books.specs.declared.claim.Claim.{Claim}
 use Rattle.std.specs.Map.{lookup}
 use Rattle.std.proofs.lemmas.Grind.{common_steps}
-use Rattle.room_books.specs.Takings.{answers_by, answers_then, kept_then}
-use Rattle.room_books.specs.Views.{all_singles, beside, others, same_key, singles_by}
-use Rattle.room_books.proofs.AllConfirmed.{all_reordered, kept_all_join}
-use Rattle.room_books.proofs.Answered.{added_none, added_parted, answers_alone, answers_both}
-use Rattle.room_books.proofs.Joining.{joins_reordered}
-use Rattle.room_books.proofs.Leaving.{parted_part}
-use Rattle.room_books.proofs.RoomSteps.{kept_joins, answers_join, answers_series_join}
-use Rattle.room_books.proofs.WholeDeciding.{whole_as}
+use Rattle.room_books.specs.Taking.{answers_by, answers_then, kept_then}
+use Rattle.room_books.specs.Meeting.{all_singles, beside, others, same_key, singles_by}
+use Rattle.room_books.proofs.room_lemmas.AllConfirmed.{all_reordered, kept_all_join}
+use Rattle.room_books.proofs.room_lemmas.Answered.{added_none, added_parted, answers_alone, answers_both}
+use Rattle.room_books.proofs.room_lemmas.Joining.{joins_reordered}
+use Rattle.room_books.proofs.shared_lemmas.Leaving.{parted_part}
+use Rattle.room_books.proofs.room_lemmas.RoomSteps.{kept_joins, answers_join, answers_series_join}
+use Rattle.room_books.proofs.room_lemmas.WholeDeciding.{whole_as}
 use Rattle.room_books.proofs.room.Room.answers_after.Goals as goal
 
 pub returns-then-is_empty-clause-added : goal.returns-then-is_empty-clause-added

@@ -1,8 +1,8 @@
 -- The counts are those of what the book confirms.
 use Rattle.std.proofs.Common.{◌∙◌, length}
 use Rattle.profile.specs.checker.Certificates.{text_of}
-use Rattle.room_books.specs.Views.{all_confirmed, all_recurring}
-use Rattle.room_books.proofs.Entries.{as_many, as_many_series}
+use Rattle.room_books.specs.Meeting.{all_confirmed, all_recurring}
+use Rattle.room_books.proofs.room_lemmas.Entries.{as_many, as_many_series}
 use Rattle.room_books.proofs.room.Room.certificate_text.Goals as goal
 
 pub returns : goal.returns

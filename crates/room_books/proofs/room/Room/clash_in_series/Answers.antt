@@ -1,11 +1,11 @@
 -- The series of the others come first, then those that the meeting keeps, then those that it asks for.
 use Rattle.std.proofs.Common.{◌≡◌, ◌++◌, ◌∙◌, List, None, Some, Contains, Vec, length, vec_len, rules, sym, subst}
 use Rattle.room_books.specs.declared.recurring.Recurring.{Recurring}
-use Rattle.room_books.specs.Recurrings.{AreBeside, AreNewClear}
-use Rattle.room_books.specs.Views.{beside, instance_list, others}
-use Rattle.room_books.proofs.ClearBeside.{all_clear, new_named, none_some, single_named}
-use Rattle.room_books.proofs.Places.{others_differ}
-use Rattle.room_books.proofs.RoomSeries.{now_of, other_series_differ, pushed_both, pushed_from}
+use Rattle.room_books.specs.Recurring.{AreBeside, AreNewClear}
+use Rattle.room_books.specs.Meeting.{beside, instance_list, others}
+use Rattle.room_books.proofs.room_lemmas.ClearBeside.{all_clear, new_named, none_some, single_named}
+use Rattle.room_books.proofs.shared_lemmas.Places.{others_differ}
+use Rattle.room_books.proofs.room_lemmas.RoomSeries.{now_of, other_series_differ, pushed_both, pushed_from}
 use Rattle.room_books.proofs.room.Room.clash_in_series.Goals as goal
 use Rattle.room_books.proofs.room.Room.clash_in_series.Goals.{in-Some, in-None+in_ok-found-in-None}
 

@@ -2,9 +2,9 @@ use Rattle.std.proofs.Common.{map, ◌++◌}
 use Rattle.std.specs.Map.{lookup}
 use denote.Ref.{Bor}
 use Rattle.cal_events.specs.declared.series.Series.{Series}
-use Rattle.room_books.specs.Views.{instance_list, others, same_key, singles_by}
-use Rattle.room_books.proofs.ClearBeside.{new_clear}
-use Rattle.room_books.proofs.Leaving.{parted_sorted}
+use Rattle.room_books.specs.Meeting.{instance_list, others, same_key, singles_by}
+use Rattle.room_books.proofs.room_lemmas.ClearBeside.{new_clear}
+use Rattle.room_books.proofs.shared_lemmas.Leaving.{parted_sorted}
 use Rattle.room_books.proofs.room.Room.clash_of_new.Goals as goal
 
 pub returns : goal.returns

@@ -6,13 +6,13 @@ use Rattle.cal_events.specs.declared.instance.Single.{Single}
 use Rattle.room_books.specs.declared.meeting.PartAnswer.{PartAnswer}
 use Rattle.room_books.specs.declared.meeting.Outcome.TheVariants.{Declined, Limit}
 use Rattle.room_books.specs.declared.answer.LimitKind.TheVariants as limits
-use Rattle.room_books.specs.BySlot.{left_without}
-use Rattle.room_books.specs.Takings.{kept_then, IsDecision}
-use Rattle.room_books.specs.Views.{all_series, all_singles, beside, others, outcome_of, same_key, singles_by}
-use Rattle.room_books.proofs.AllConfirmed.{kept_clear}
-use Rattle.room_books.proofs.Leaving.{kept_within}
-use Rattle.room_books.proofs.RoomSeries.{now_of}
-use Rattle.room_books.proofs.WholeDeciding.{accept_of, beside_as, lent_long, many_series, series_accept, series_beside, series_clash, series_long, singles_decide}
+use Rattle.room_books.specs.Slots.{left_without}
+use Rattle.room_books.specs.Taking.{kept_then, IsDecision}
+use Rattle.room_books.specs.Meeting.{all_series, all_singles, beside, others, outcome_of, same_key, singles_by}
+use Rattle.room_books.proofs.room_lemmas.AllConfirmed.{kept_clear}
+use Rattle.room_books.proofs.shared_lemmas.Leaving.{kept_within}
+use Rattle.room_books.proofs.room_lemmas.RoomSeries.{now_of}
+use Rattle.room_books.proofs.room_lemmas.WholeDeciding.{accept_of, beside_as, lent_long, many_series, series_accept, series_beside, series_clash, series_long, singles_decide}
 use Rattle.room_books.proofs.room.Room.decide.Goals as goal
 
 pub overflow_sub-others : goal.overflow_sub-others

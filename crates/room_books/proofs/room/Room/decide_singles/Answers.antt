@@ -1,9 +1,9 @@
 -- What is kept is what the meeting had confirmed less what is gone.
 use Rattle.std.proofs.Common.{arith}
 use Rattle.std.specs.Map.{lookup}
-use Rattle.room_books.specs.Views.{same_key, singles_by}
-use Rattle.room_books.proofs.Leaving.{parted_length}
-use Rattle.room_books.proofs.Places.{others_count}
+use Rattle.room_books.specs.Meeting.{same_key, singles_by}
+use Rattle.room_books.proofs.shared_lemmas.Leaving.{parted_length}
+use Rattle.room_books.proofs.shared_lemmas.Places.{others_count}
 use Rattle.room_books.proofs.room.Room.decide_singles.Goals as goal
 
 pub overflow_sub-beside : goal.overflow_sub-beside

@@ -2,7 +2,7 @@
 use Rattle.std.proofs.Common.{rules}
 use Rattle.ical_values.specs.Octets.{address_octets}
 use Rattle.profile.specs.rooms.Rooms.{empty_book}
-use Rattle.room_books.proofs.Reaching.{reached_empty}
+use Rattle.room_books.proofs.room_lemmas.Reaching.{reached_empty}
 use Rattle.room_books.proofs.room.Room.new.Goals as goal
 
 pub invariant_of-result : goal.invariant_of-result

@@ -8,20 +8,20 @@ use Rattle.std.specs.Map.{lookup}
 use Rattle.std.proofs.lemmas.List.Sorted.{IsPermutation-sym, IsPermutation-trans}
 use Rattle.room_books.specs.declared.meeting.PartAnswer.{PartAnswer}
 use Rattle.room_books.specs.declared.timeline.Busy.{Busy}
-use Rattle.room_books.specs.Takings.{answers_by, answers_then}
-use Rattle.room_books.specs.Views.{confirmed_at, meeting_singles, all_singles, all_series, all_confirmed, all_recurring, in_room, others, same_key, series_at, series_by, singles_by, AreAllApart, AreRecurring, IsClearIn}
-use Rattle.room_books.specs.Timelines.{IsShift, IsChanged, IsTimelineOf}
+use Rattle.room_books.specs.Taking.{answers_by, answers_then}
+use Rattle.room_books.specs.Meeting.{confirmed_at, meeting_singles, all_singles, all_series, all_confirmed, all_recurring, in_room, others, same_key, series_at, series_by, singles_by, AreAllApart, AreRecurring, IsClearIn}
+use Rattle.room_books.specs.Timeline.{ShiftsTimeline, IsChanged, IsTimelineOf}
 use Rattle.profile.specs.checker.Instances.{IsClear}
 use Rattle.ical_values.specs.Octets.{address_octets}
-use Rattle.room_books.specs.Representation.{HaveReached}
-use Rattle.room_books.proofs.Joining.{joins_reordered}
-use Rattle.room_books.proofs.Leaving.{parted_length}
-use Rattle.room_books.proofs.Places.{place_of, other_series_count, timeline_put, put_count, put_series_count, series_put}
-use Rattle.room_books.proofs.PutSeries.{put_series_clear, recurring_put, series_joined}
-use Rattle.room_books.proofs.Putting.{own_counted, few_after, put_clear}
-use Rattle.room_books.proofs.Reordering.{re_flat, re_length, re_permutation}
-use Rattle.room_books.proofs.RoomSteps.{put_apart}
-use Rattle.room_books.proofs.Shifting.{changed_reordered, shift_of}
+use Rattle.room_books.specs.Room.{HaveReached}
+use Rattle.room_books.proofs.room_lemmas.Joining.{joins_reordered}
+use Rattle.room_books.proofs.shared_lemmas.Leaving.{parted_length}
+use Rattle.room_books.proofs.shared_lemmas.Places.{place_of, other_series_count, timeline_put, put_count, put_series_count, series_put}
+use Rattle.room_books.proofs.room_lemmas.PutSeries.{put_series_clear, recurring_put, series_joined}
+use Rattle.room_books.proofs.room_lemmas.Putting.{own_counted, few_after, put_clear}
+use Rattle.room_books.proofs.shared_lemmas.Reordering.{re_flat, re_length, re_permutation}
+use Rattle.room_books.proofs.room_lemmas.RoomSteps.{put_apart}
+use Rattle.room_books.proofs.room_lemmas.Shifting.{changed_reordered, shift_of}
 use Rattle.room_books.proofs.room.Room.put.Goals as goal
 
 found_series : (o : Option Meeting) → length (all_series (answers_by o)) ≡ length (series_by o)
@@ -35,8 +35,8 @@ change-requires-clause-shift c =
     let now = all_singles (answers_then (answers_by (lookup (same_key k) es)) c.args.changes) in
     let is = shift_of k es c.keys_differ.ensures c.args.self.now.timeline.busy.items c.args.self.now.timed c.args.self.now.apart gone added now shifts c.requires.joins in (
       shifts.kept,
-      subst (λ (n : ℕ). IsShift n gone shifts.kept added c.reserve.new.self.busy.items) (sym c.in_ok-place.ensures.place)
-          (subst (λ (l : List Busy). IsShift (place_of k es) gone shifts.kept added l) (sym c.reserve.ensures.busy) is),
+      subst (λ (n : ℕ). ShiftsTimeline n gone shifts.kept added c.reserve.new.self.busy.items) (sym c.in_ok-place.ensures.place)
+          (subst (λ (l : List Busy). ShiftsTimeline (place_of k es) gone shifts.kept added l) (sym c.reserve.ensures.busy) is),
     )
 
 pub change-requires-clause-counted : goal.change-requires-clause-counted
@@ -112,8 +112,8 @@ invariant_of-self-3 c =
     let own = re_flat (λ (g : PartAnswer). g.singles.items) answers m.answers.items put.made.answers_are in
     let is = IsPermutation-trans (shifts.kept ++ added) now (meeting_singles m) (IsPermutation-sym now (shifts.kept ++ added) shifts.after_is) (re_permutation now (meeting_singles m) own) in
     let joins = joins_reordered (others k es) k answers m.answers.items put.made.answers_are c.requires.joins in
-    let shift = subst (λ (n : ℕ). IsShift n gone shifts.kept added c.reserve.new.self.busy.items) (sym c.in_ok-place.ensures.place)
-    (subst (λ (l : List Busy). IsShift (place_of k es) gone shifts.kept added l) (sym c.reserve.ensures.busy)
+    let shift = subst (λ (n : ℕ). ShiftsTimeline n gone shifts.kept added c.reserve.new.self.busy.items) (sym c.in_ok-place.ensures.place)
+    (subst (λ (l : List Busy). ShiftsTimeline (place_of k es) gone shifts.kept added l) (sym c.reserve.ensures.busy)
     (shift_of k es c.keys_differ.ensures c.args.self.now.timeline.busy.items c.args.self.now.timed c.args.self.now.apart gone added now shifts c.requires.joins)) in
     let changed = subst (λ (items : List Busy). IsChanged (place_of k es) (meeting_singles m) items c.change.new.self.busy.items) c.reserve.ensures.busy
     (changed_reordered (place_of k es) (shifts.kept ++ added) (meeting_singles m) c.reserve.new.self.busy.items c.change.new.self.busy.items is

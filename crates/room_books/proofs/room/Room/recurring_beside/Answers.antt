@@ -1,8 +1,8 @@
 use Rattle.std.proofs.Common.{◌≤◌, ◌<◌, ◌∙◌, ℕ, List, [], length, map, get_or, subst, sym}
 use Rattle.std.proofs.lemmas.List.{take_all}
 use Rattle.room_books.specs.declared.recurring.Recurring.{Recurring}
-use Rattle.room_books.specs.Recurrings.{recurring_said}
-use Rattle.room_books.proofs.RoomSeries.{AreThere, there_all, there_more, there_none, there_pass, place_eq, place_there}
+use Rattle.room_books.specs.Recurring.{recurring_said}
+use Rattle.room_books.proofs.room_lemmas.RoomSeries.{AreThere, there_all, there_more, there_none, there_pass, place_eq, place_there}
 use Rattle.room_books.proofs.room.Room.recurring_beside.Goals as goal
 
 pub loop-place-init : goal.loop-place-init

@@ -2,8 +2,8 @@
 use Rattle.std.proofs.Common.{sym, subst, Option}
 use Rattle.ical_values.specs.Octets.{address_octets}
 use Rattle.room_books.specs.declared.kept.Meeting.{Meeting}
-use Rattle.room_books.specs.Takings.{HasHistory}
-use Rattle.room_books.proofs.Refreshing.{not_adding, nothing_unheard, asks_for_it}
+use Rattle.room_books.specs.Taking.{HasHistory}
+use Rattle.room_books.proofs.room_lemmas.Refreshing.{not_adding, nothing_unheard, asks_for_it}
 use Rattle.room_books.proofs.room.Room.refresh_of.Goals as goal
 
 pub returns-then-not-adds : goal.returns-then-not-adds

@@ -7,18 +7,18 @@ use Rattle.itip_order.specs.Registers.{RepresentsHistory}
 use Rattle.profile.specs.rooms.Revisions as revisions
 use Rattle.room_books.specs.declared.kept.Meeting.{Meeting}
 use Rattle.profile.specs.rooms.Rooms.{parts_of}
-use Rattle.room_books.specs.Takings.{HasHistory, AreAsked, IsAnswered, answers_by, answers_then, claims_said, kept_then}
+use Rattle.room_books.specs.Taking.{HasHistory, AreAsked, IsAnswered, answers_by, answers_then, claims_said, kept_then}
 use Rattle.itip_order.specs.declared.part.Slot.{Slot as OwnSlot}
-use Rattle.room_books.specs.Touching.{AllTouch}
-use Rattle.room_books.specs.Representation.{KeepsAll, book_of}
-use Rattle.room_books.specs.Views.{same_key, all_series, all_singles, beside, series_by, singles_by, AreFewer}
+use Rattle.room_books.specs.Slots.{AllTouch}
+use Rattle.room_books.specs.Room.{KeepsAll, book_of}
+use Rattle.room_books.specs.Meeting.{same_key, all_series, all_singles, beside, series_by, singles_by, AreFewer}
 use Rattle.cal_events.specs.declared.instance.Single.{Single}
-use Rattle.room_books.specs.Instants.{IsParted}
-use Rattle.room_books.proofs.Answered.{answered_reordered}
-use Rattle.room_books.proofs.Afters.{has_history}
-use Rattle.room_books.proofs.KindLemmas.{parts_are}
-use Rattle.room_books.proofs.Meetings.{is_of_from}
-use Rattle.room_books.proofs.MeetingSteps.{meeting_after}
+use Rattle.room_books.specs.Gone.{IsParted}
+use Rattle.room_books.proofs.room_lemmas.Answered.{answered_reordered}
+use Rattle.room_books.proofs.room_lemmas.Afters.{has_history}
+use Rattle.room_books.proofs.shared_lemmas.KindLemmas.{parts_are}
+use Rattle.room_books.proofs.room_lemmas.Meetings.{is_of_from}
+use Rattle.room_books.proofs.room_lemmas.MeetingSteps.{meeting_after}
 use Rattle.room_books.proofs.room.Room.settled.Goals as goal
 
 pub returns-clause-after : goal.returns-clause-after

@@ -5,15 +5,15 @@ use Rattle.std.proofs.Math.Logic.{∥∥₁_map}
 use Rattle.ical_values.specs.Octets.{address_octets}
 use Rattle.profile.specs.streams.Streams.{AreClaims}
 use Rattle.room_books.specs.declared.claim.Claim.{Claim}
-use Rattle.room_books.specs.Claiming.{AreClaimed}
-use Rattle.room_books.specs.Takings.{claims_said, kind_view, reply_octets, refresh_octets}
-use Rattle.room_books.specs.Representation.{StepsWith}
-use Rattle.itip_messages.specs.Messages.{method_said}
+use Rattle.room_books.specs.Claims.{AreClaimed}
+use Rattle.room_books.specs.Taking.{claims_said, kind_view, reply_octets, refresh_octets}
+use Rattle.room_books.specs.Room.{StepsWith}
+use Rattle.itip_messages.specs.RoomMessage.{method_said}
 use Rattle.itip_messages.specs.declared.room_message.Method.{Method}
 use Rattle.profile.specs.rooms.Messages.{is_add}
-use Rattle.room_books.proofs.Accepting.{steps_accept, steps_decline}
-use Rattle.room_books.proofs.Claiming.{first_in, none_first}
-use Rattle.room_books.proofs.RoomSteps.{none_steps}
+use Rattle.room_books.proofs.shared_lemmas.Accepting.{steps_accept, steps_decline}
+use Rattle.room_books.proofs.shared_lemmas.Claiming.{first_in, none_first}
+use Rattle.room_books.proofs.room_lemmas.RoomSteps.{none_steps}
 use Rattle.room_books.proofs.room.Room.take.Goals as goal
 
 pub returns-in_default-clause-steps : goal.returns-in_default-clause-steps

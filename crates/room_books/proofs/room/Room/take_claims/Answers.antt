@@ -4,14 +4,14 @@ use Rattle.std.specs.Map.{lookup}
 use Rattle.std.proofs.Math.Logic.{∥∥₁_map₂}
 use Rattle.itip_order.specs.Registers.{RepresentsHistory}
 use Rattle.profile.specs.rooms.Revisions.{Part}
-use Rattle.room_books.specs.Views.{same_key}
-use Rattle.room_books.proofs.PutIn.{lookup_put}
+use Rattle.room_books.specs.Meeting.{same_key}
+use Rattle.room_books.proofs.room_lemmas.PutIn.{lookup_put}
 use Rattle.std.proofs.lemmas.List.{length-map}
 use Rattle.ical_values.specs.Octets.{address_octets}
-use Rattle.room_books.specs.Takings.{claim_said, claims_said, kind_view, octets_in}
-use Rattle.room_books.specs.Representation.{book_after}
-use Rattle.room_books.proofs.Reaching.{reached_then}
-use Rattle.room_books.proofs.Representing.{claims_step, now_represents}
+use Rattle.room_books.specs.Taking.{claim_said, claims_said, kind_view, octets_in}
+use Rattle.room_books.specs.Room.{book_after}
+use Rattle.room_books.proofs.room_lemmas.Reaching.{reached_then}
+use Rattle.room_books.proofs.room_lemmas.Representing.{claims_step, now_represents}
 use Rattle.room_books.proofs.room.Room.take_claims.Goals as goal
 
 -- from a book that was reached, the claims lead to another

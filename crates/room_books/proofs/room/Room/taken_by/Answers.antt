@@ -5,10 +5,10 @@ use Rattle.itip_order.specs.Registers.{RepresentsHistory}
 use Rattle.profile.specs.rooms.Revisions.{Part}
 use Rattle.room_books.specs.declared.kept.Meeting.{Meeting}
 use Rattle.room_books.specs.declared.meeting.PartAnswer.{PartAnswer}
-use Rattle.room_books.specs.BySlot.{Reordered}
-use Rattle.room_books.specs.Takings.{answers_by, answers_then, held_after, parts_said, IsMade}
-use Rattle.room_books.specs.Views.{same_key}
-use Rattle.room_books.proofs.Afters.{has_history_after}
+use Rattle.room_books.specs.Slots.{Reordered}
+use Rattle.room_books.specs.Taking.{answers_by, answers_then, held_after, parts_said, IsMade}
+use Rattle.room_books.specs.Meeting.{same_key}
+use Rattle.room_books.proofs.room_lemmas.Afters.{has_history_after}
 use Rattle.room_books.proofs.room.Room.taken_by.Goals as goal
 
 pub settled-requires-clause-held : goal.settled-requires-clause-held

@@ -3,8 +3,8 @@ use Rattle.itip_order.specs.Parts.{part_of}
 use Rattle.itip_order.proofs.Lists.{any_from}
 use Rattle.profile.specs.rooms.Rooms.{is_same}
 use Rattle.room_books.specs.declared.claim.Claim.{Claim}
-use Rattle.room_books.specs.Takings.{parts_said}
-use Rattle.room_books.proofs.Pairs.{map_from}
+use Rattle.room_books.specs.Taking.{parts_said}
+use Rattle.room_books.proofs.shared_lemmas.Pairs.{map_from}
 use Rattle.room_books.proofs.taking.Views.any_same.Goals as goal
 
 pub returns-then-is_same : goal.returns-then-is_same

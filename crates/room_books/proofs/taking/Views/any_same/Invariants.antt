@@ -4,7 +4,7 @@ use Rattle.std.specs.List.{list_any}
 use Rattle.itip_order.specs.Registers.{RepresentsHistory}
 use Rattle.profile.specs.rooms.Revisions.{Part}
 use Rattle.profile.specs.rooms.Rooms.{is_same}
-use Rattle.room_books.specs.Takings.{HasHistory, parts_said}
+use Rattle.room_books.specs.Taking.{HasHistory, parts_said}
 use Rattle.room_books.proofs.taking.Views.any_same.Given as goal
 
 abbrev pub invariant-loop-claim : goal.invariant-loop-claim

@@ -2,7 +2,7 @@ use Rattle.std.proofs.Common.{take, List}
 use Rattle.std.specs.Prelude.{option_copied}
 use Rattle.itip_order.specs.Registers.{RepresentsHistory}
 use Rattle.profile.specs.rooms.Revisions.{Part}
-use Rattle.room_books.specs.Takings.{HasHistory, AreAsked}
+use Rattle.room_books.specs.Taking.{HasHistory, AreAsked}
 use Rattle.room_books.proofs.taking.Views.asked.Given as goal
 
 abbrev pub invariant-loop-claim : goal.invariant-loop-claim

@@ -5,16 +5,15 @@ use Rattle.itip_order.specs.Parts.{part_of, slot_of}
 use Rattle.profile.specs.rooms.Revisions.{Part}
 use Rattle.room_books.specs.declared.meeting.PartAnswer.{PartAnswer}
 use Rattle.room_books.specs.declared.kept.Meeting.{Meeting}
-use Rattle.room_books.specs.BySlot.{givens, left_without, taken_at}
-use Rattle.room_books.specs.Instants.{IsParted, IsSplit}
-use Rattle.room_books.specs.Takings.{IsLeftAlone, kept_then}
-use Rattle.room_books.specs.Touching.{is_touched}
-use Rattle.room_books.specs.Views.{all_series, all_singles, series_by, singles_by, AreFewer}
-use Rattle.room_books.specs.Representation.{KeepsAll, KeepsSome}
-use Rattle.room_books.proofs.Own.{keeps_new, keeps_all}
-use Rattle.room_books.proofs.Reordering.{re_parts}
-use Rattle.room_books.proofs.Fewer.{all_fewer, fewer_none}
-use Rattle.room_books.proofs.Splits.{whole_parted}
+use Rattle.room_books.specs.Slots.{givens, left_without, taken_at, is_touched}
+use Rattle.room_books.specs.Gone.{IsParted, IsSplit}
+use Rattle.room_books.specs.Taking.{IsLeftAlone, kept_then}
+use Rattle.room_books.specs.Meeting.{all_series, all_singles, series_by, singles_by, AreFewer}
+use Rattle.room_books.specs.Room.{KeepsAll, KeepsSome}
+use Rattle.room_books.proofs.taking_lemmas.Own.{keeps_new, keeps_all}
+use Rattle.room_books.proofs.shared_lemmas.Reordering.{re_parts}
+use Rattle.room_books.proofs.shared_lemmas.Fewer.{all_fewer, fewer_none}
+use Rattle.room_books.proofs.taking_lemmas.Splits.{whole_parted}
 use Rattle.room_books.proofs.taking.Views.kept.Goals as goal
 
 pub returns-in_default-clause-kept : goal.returns-in_default-clause-kept

@@ -3,8 +3,8 @@ use Rattle.std.specs.Prelude.{is_some, nat_lt}
 use Rattle.std.proofs.lemmas.List.{length-map}
 use Rattle.std.specs.List.{list_any}
 use Rattle.profile.specs.rooms.Rooms.{is_fresh, is_same, parts_of}
-use Rattle.room_books.specs.Takings.{claim_said, claims_said, outcome_said}
-use Rattle.room_books.proofs.KindLemmas.{kind_by, parts_are}
+use Rattle.room_books.specs.Taking.{claim_said, claims_said, outcome_said}
+use Rattle.room_books.proofs.shared_lemmas.KindLemmas.{kind_by, parts_are}
 use Rattle.room_books.proofs.taking.Views.kind_of.Goals as goal
 
 pub returns-then-any_fresh : goal.returns-then-any_fresh

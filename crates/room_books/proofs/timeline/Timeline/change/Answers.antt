@@ -1,11 +1,11 @@
 -- What goes is taken out, and what is added is put in beside what is kept.
 use Rattle.std.proofs.Common.{ℤ, ◌++◌}
 use Rattle.cal_events.specs.declared.instance.Single.{Single}
-use Rattle.room_books.specs.Instants.{HaveInstant}
-use Rattle.room_books.proofs.Changing.{free_beside}
-use Rattle.room_books.proofs.Pairs.{pairs_from}
-use Rattle.room_books.proofs.Parts.{pairs_to, pairs_right, pairs_across}
-use Rattle.room_books.proofs.Timelines.{changed_then}
+use Rattle.room_books.specs.Gone.{HaveInstant}
+use Rattle.room_books.proofs.timeline_lemmas.Changing.{free_beside}
+use Rattle.room_books.proofs.shared_lemmas.Pairs.{pairs_from}
+use Rattle.room_books.proofs.shared_lemmas.Parts.{pairs_to, pairs_right, pairs_across}
+use Rattle.room_books.proofs.timeline_lemmas.Timelines.{changed_then}
 use Rattle.room_books.proofs.timeline.Timeline.change.Goals as goal
 
 abbrev Apart : Single → Single → Type 0

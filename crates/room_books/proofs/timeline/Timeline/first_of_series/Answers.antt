@@ -3,10 +3,10 @@ use Rattle.std.proofs.lemmas.Bool.{both_ways}
 use Rattle.std.proofs.lemmas.List.Elements.{Contains-get_or}
 use Rattle.std.specs.Prelude.{Contains}
 use Rattle.room_books.specs.declared.timeline.Busy.{Busy}
-use Rattle.room_books.specs.Timelines.{is_leaving}
-use Rattle.room_books.specs.Views.{Recurs}
-use Rattle.room_books.proofs.Recurrings.{first_shared, holds_all, more_lent, none_shared, overlap_turned, turned}
-use Rattle.room_books.proofs.Timelines.{IsNoneTaken}
+use Rattle.room_books.specs.Timeline.{is_leaving}
+use Rattle.room_books.specs.Meeting.{Recurs}
+use Rattle.room_books.proofs.shared_lemmas.Recurrings.{first_shared, holds_all, more_lent, none_shared, overlap_turned, turned}
+use Rattle.room_books.proofs.timeline_lemmas.Timelines.{IsNoneTaken}
 use Rattle.room_books.proofs.timeline.Timeline.first_of_series.Goals as goal
 
 abbrev nothing : Busy

@@ -1,8 +1,8 @@
 -- If none of those that are left shares an instant with the series, none of all does.
-use Rattle.room_books.specs.Timelines.{is_leaving}
-use Rattle.room_books.specs.Views.{Recurs}
-use Rattle.room_books.proofs.Recurrings.{HoldsIfLeft}
-use Rattle.room_books.proofs.Timelines.{IsNoneTaken}
+use Rattle.room_books.specs.Timeline.{is_leaving}
+use Rattle.room_books.specs.Meeting.{Recurs}
+use Rattle.room_books.proofs.shared_lemmas.Recurrings.{HoldsIfLeft}
+use Rattle.room_books.proofs.timeline_lemmas.Timelines.{IsNoneTaken}
 use Rattle.room_books.proofs.timeline.Timeline.first_of_series.Given as goal
 
 abbrev pub invariant-loop-busy : goal.invariant-loop-busy

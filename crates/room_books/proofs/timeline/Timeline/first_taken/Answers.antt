@@ -1,7 +1,7 @@
 -- One more that shares no instant.
 use Rattle.std.proofs.Common.{pos}
-use Rattle.room_books.specs.Timelines.{is_leaving}
-use Rattle.room_books.proofs.Timelines.{none_more}
+use Rattle.room_books.specs.Timeline.{is_leaving}
+use Rattle.room_books.proofs.timeline_lemmas.Timelines.{none_more}
 use Rattle.room_books.proofs.timeline.Timeline.first_taken.Goals as goal
 
 pub loop-single-preserved : goal.loop-single-preserved

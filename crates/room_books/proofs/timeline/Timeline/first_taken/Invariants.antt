@@ -1,6 +1,6 @@
 -- If none of those that are left shares an instant, none of all does.
 use Rattle.std.proofs.Common.{Contains, None, drop}
-use Rattle.room_books.specs.Timelines.{AreTaken, is_leaving}
+use Rattle.room_books.specs.Timeline.{AreTaken, is_leaving}
 use Rattle.room_books.proofs.timeline.Timeline.first_taken.Given as goal
 
 abbrev pub invariant-loop-single : goal.invariant-loop-single

@@ -2,8 +2,8 @@
 use Rattle.std.proofs.Common.{List, sym, subst, rules}
 use Rattle.std.proofs.lemmas.List.Sorted.{IsPartitionPoint-from_clause}
 use Rattle.room_books.specs.declared.timeline.Busy.{Busy}
-use Rattle.room_books.specs.Timelines.{AreBusy, IsPlaceAfter}
-use Rattle.room_books.proofs.Timelines.{ends_by, ends_from, ends_to, ends_not, parted, placed}
+use Rattle.room_books.specs.Timeline.{AreBusy, IsPlaceAfter}
+use Rattle.room_books.proofs.timeline_lemmas.Timelines.{ends_by, ends_from, ends_to, ends_not, parted, placed}
 use Rattle.room_books.proofs.timeline.Timeline.place_after.Goals as goal
 
 pub returns : goal.returns

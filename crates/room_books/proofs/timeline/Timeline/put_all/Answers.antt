@@ -1,6 +1,6 @@
 -- One more.
 use Rattle.std.proofs.Common.{pos, arith}
-use Rattle.room_books.proofs.Changing.{putting_none, putting_more, put_more}
+use Rattle.room_books.proofs.timeline_lemmas.Changing.{putting_none, putting_more, put_more}
 use Rattle.room_books.proofs.timeline.Timeline.put_all.Goals as goal
 
 pub loop-single-init : goal.loop-single-init

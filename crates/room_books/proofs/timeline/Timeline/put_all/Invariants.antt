@@ -1,6 +1,6 @@
 -- Those that are left are still to be put in.
 use Rattle.std.proofs.Common.{drop}
-use Rattle.room_books.proofs.Changing.{ArePut}
+use Rattle.room_books.proofs.timeline_lemmas.Changing.{ArePut}
 use Rattle.room_books.proofs.timeline.Timeline.put_all.Given as goal
 
 abbrev pub invariant-loop-single : goal.invariant-loop-single

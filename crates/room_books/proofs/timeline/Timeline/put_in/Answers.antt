@@ -4,8 +4,8 @@ use Rattle.std.proofs.lemmas.Bool.{true≢false}
 use Rattle.std.proofs.lemmas.Int.{to_z-of_z}
 use Rattle.std.specs.List.{insert}
 use Rattle.room_books.specs.declared.timeline.Busy.{Busy}
-use Rattle.room_books.specs.Timelines.{AreBusy, IsPlaceAfter, IsPut, busy_in}
-use Rattle.room_books.proofs.Timelines.{put_busy, put_in, nothing_in}
+use Rattle.room_books.specs.Timeline.{AreBusy, IsPlaceAfter, IsPut, busy_in}
+use Rattle.room_books.proofs.timeline_lemmas.Timelines.{put_busy, put_in, nothing_in}
 use Rattle.room_books.proofs.timeline.Timeline.put_in.Goals as goal
 
 pub invariant_of-self-then-holds_instants : goal.invariant_of-self-then-holds_instants

@@ -1,6 +1,6 @@
 -- One more.
 use Rattle.std.proofs.Common.{pos, arith}
-use Rattle.room_books.proofs.Changing.{taking_none, next_there, taking_next, taken_all}
+use Rattle.room_books.proofs.timeline_lemmas.Changing.{taking_none, next_there, taking_next, taken_all}
 use Rattle.room_books.proofs.timeline.Timeline.take_all.Goals as goal
 
 pub loop-single-init : goal.loop-single-init

@@ -1,5 +1,5 @@
 -- Those that are left are still there.
-use Rattle.room_books.proofs.Changing.{IsTakingSome}
+use Rattle.room_books.proofs.timeline_lemmas.Changing.{IsTakingSome}
 use Rattle.room_books.proofs.timeline.Timeline.take_all.Given as goal
 
 abbrev pub invariant-loop-single : goal.invariant-loop-single

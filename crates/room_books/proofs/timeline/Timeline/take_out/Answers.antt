@@ -3,8 +3,8 @@ use Rattle.std.proofs.Common.{ℤ, List, sym, ◌∙◌, subst, rules, w64, Fits
 use Rattle.std.proofs.lemmas.Bool.{true≢false}
 use Rattle.std.proofs.lemmas.Int.{to_z-of_z}
 use Rattle.room_books.specs.declared.timeline.Busy.{Busy}
-use Rattle.room_books.specs.Timelines.{AreBusy, IsPlaceAfter, IsTakenOut, busy_in}
-use Rattle.room_books.proofs.Timelines.{taken_within, taken_busy, taken_out, nothing_out}
+use Rattle.room_books.specs.Timeline.{AreBusy, IsPlaceAfter, IsTakenOut, busy_in}
+use Rattle.room_books.proofs.timeline_lemmas.Timelines.{taken_within, taken_busy, taken_out, nothing_out}
 use Rattle.room_books.proofs.timeline.Timeline.take_out.Goals as goal
 
 pub remove-requires : goal.remove-requires

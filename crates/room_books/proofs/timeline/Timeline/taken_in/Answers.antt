@@ -4,8 +4,8 @@ use Rattle.std.specs.List.{find, take_while}
 use Rattle.std.proofs.lemmas.Bool.{true≢false}
 use Rattle.std.proofs.lemmas.Int.{to_z-of_z}
 use Rattle.std.proofs.lemmas.List.{take_rest}
-use Rattle.room_books.specs.Timelines.{IsPlaceAfter, is_leaving, starts_before, stays}
-use Rattle.room_books.proofs.Timelines.{shared_is, shared_none}
+use Rattle.room_books.specs.Timeline.{IsPlaceAfter, is_leaving, starts_before, stays}
+use Rattle.room_books.proofs.timeline_lemmas.Timelines.{shared_is, shared_none}
 use Rattle.room_books.proofs.timeline.Timeline.taken_in.Goals as goal
 
 pub returns-then-not-holds_instants : goal.returns-then-not-holds_instants

@@ -1,6 +1,6 @@
 use Rattle.std.proofs.Common.{◌≡◌, ℕ, List, refl, subst}
 use Rattle.std.proofs.lemmas.Result.{IfErr-weaker, err_from_is_err_and, on_ok_weaker}
-use Rattle.itip_messages.specs.Readings.{IsSpelled}
+use Rattle.itip_messages.specs.Message.{IsSpelled}
 use Rattle.sched_box.specs.Objects.{kept_of}
 use Rattle.sched_box.proofs.BookLemmas.{organiser_taken, rooms_taken, unhosted, unread}
 use Rattle.sched_box.proofs.books.Books.answer.Goals as goal

@@ -2,7 +2,7 @@ use Rattle.std.proofs.Common.{◌≡◌, ◌∙◌, ◌<◌, ◌≤◌, ◌&&◌
 use Rattle.std.specs.Vec.{vec_len}
 use Rattle.std.proofs.Math.Bool.{and-false}
 use Rattle.std.proofs.lemmas.Bool.{true≢false}
-use Rattle.itip_messages.specs.Messages.{cancels_for_all, method_said}
+use Rattle.itip_messages.specs.RoomMessage.{cancels_for_all, method_said}
 use Rattle.profile.specs.rooms.Messages.{is_cancel}
 use Rattle.itip_messages.specs.declared.room_message.MessageComponent.{MessageComponent}
 use Rattle.sched_box.specs.Asked.{LeavesOut, directory_addresses}

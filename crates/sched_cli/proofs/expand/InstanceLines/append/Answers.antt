@@ -1,7 +1,7 @@
 use Rattle.std.proofs.Common.{◌≡◌, ◌++◌, ◌∷◌, [], refl, subst, ℤ, to_z, of_z, w64, to_z-of_z, FitsSigned, rules}
 use Rattle.std.proofs.lemmas.Bool.{false≢true}
 use Rattle.profile.specs.text.Values.{WritesStamp}
-use Rattle.cal_events.specs.Calendars.{instance_of}
+use Rattle.cal_events.specs.Calendar.{instance_of}
 use Rattle.sched_cli.proofs.Printing.{line_there, no_line}
 use Rattle.sched_cli.proofs.expand.InstanceLines.append.Goals as goal
 

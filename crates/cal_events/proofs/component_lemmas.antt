@@ -1,0 +1,6 @@
+pub mod Said
+pub mod OneOccurrences
+pub mod OneEventRule
+pub mod OneEvent
+pub mod PlainSingles
+pub mod OwnInstances

@@ -1,0 +1,4 @@
+pub mod EventExamples
+pub mod ExpandedExample
+pub mod SaidRules
+pub mod Worked

@@ -1,0 +1,85 @@
+-- Instants in order, and what a binary search finds among them.
+-- Cited by Instants::first_from, Instants::has, Instants::has_twins.
+use Rattle.std.proofs.Common.{◌≡◌, ◌≢◌, ◌∙◌, ℕ, ◌+◌, ◌-◌, ◌<◌, ◌≤◌, true, false, List, length, get_or, refl, sym, ap, subst, arith, inl, inr, ℤ, ◌<ℤ◌, ◌≤ℤ◌}
+use Rattle.std.specs.Prelude.{AllPairs, Contains, Some, None, int_lt, IsTrue, ◌↔◌, Result, Ok, Err}
+use Rattle.std.specs.declared.cmp.Ordering.{Ordering}
+use Rattle.std.specs.declared.cmp.Ordering.TheVariants.{Less, Equal, Greater}
+use Rattle.std.specs.Ordering.{int_cmp, is_lt}
+use Rattle.std.specs.Result.{is_ok}
+use Rattle.std.specs.List.{AllAdjacentBelow}
+use Rattle.std.specs.List.Sorted.{IsSorted, IsSearchInRange, IsBinarySearchResult, IsPartitionedBy, IsPartitionPoint}
+use Rattle.std.specs.FinMap.{int_cmp-IsAntisymmetric}
+use Rattle.std.proofs.lemmas.Bool.{cases_eq, cases_lt, true≢false, false≢true}
+use Rattle.std.proofs.lemmas.Cmp.{int_ranked, int_cmp_total}
+use Rattle.std.proofs.lemmas.Int.{ints}
+use Rattle.std.proofs.lemmas.List.{get_or_default}
+use Rattle.std.proofs.lemmas.List.Sorted.{searchable_from_sorted, sorted_far, ranks_by}
+use Rattle.cal_events.specs.Instants.{IsFirstFrom}
+
+not_less : (x : ℤ) → int_cmp x x ≡ Less → ⊥
+not_less x e = let l : x <ℤ x = int_ranked x x Less (sym e) in absurd (omega (arith, ints, l))
+
+not_greater : (x : ℤ) → int_cmp x x ≡ Greater → ⊥
+not_greater x e = let l : x <ℤ x = int_ranked x x Greater (sym e) in absurd (omega (arith, ints, l))
+
+module _ (xs : List ℤ) (up : IsSorted int_cmp xs) where
+  pub has_found : (t : ℤ) (r : Result ℕ ℕ) → IsSearchInRange r (length xs) → IsBinarySearchResult (λ y. int_cmp y t) xs r → IsTrue (is_ok r) ↔ Contains xs t
+  has_found t (Ok i) in_range at = ((λ _. (i, in_range, int_cmp-IsAntisymmetric (get_or xs i t) t (at t))), λ _. refl)
+  has_found t (Err i) in_range parted = ((λ e. absurd (false≢true e)), λ c. absurd (lacks c))
+    where
+      lacks : Contains xs t → ⊥
+      lacks (k, w, e) =
+          let parts = parted (searchable_from_sorted int_cmp_total (λ y. y) xs t up) in
+          elim (cases_lt k i) [
+            | inl below ↦ not_less t (subst (λ (x : ℤ). int_cmp x t ≡ Less) e (parts.0 k t (omega arith) below))
+            | inr from ↦ not_greater t (subst (λ (x : ℤ). int_cmp x t ≡ Greater) e (parts.1 k t from w))
+          ]
+
+  -- an element isn't less than one before it
+  pub far : (i j : ℕ) (d : ℤ) → i ≤ j → j < length xs → get_or xs i d ≤ℤ get_or xs j d
+  far i j d a b = go (int_cmp (get_or xs j d) (get_or xs i d)) refl (sorted_far (λ x y. is_lt (int_cmp x y)) (ranks_by int_cmp_total (λ y. y)) xs up i j d a b)
+    where
+      go : (r : Ordering) → r ≡ int_cmp (get_or xs j d) (get_or xs i d) → is_lt (int_cmp (get_or xs j d) (get_or xs i d)) ≡ false → get_or xs i d ≤ℤ get_or xs j d
+      go Less e h = absurd (true≢false (ap is_lt e ∙ h))
+      go Equal e h = let s : get_or xs j d ≡ get_or xs i d = int_ranked _ _ Equal e in omega (arith, ints, s)
+      go Greater e h = let s : get_or xs i d <ℤ get_or xs j d = int_ranked _ _ Greater e in omega (arith, ints, s)
+
+  pub parted : (from : ℤ) → IsPartitionedBy (λ y. int_lt y from) xs
+  parted from i j d a b h = let l = far i j d a b in grind (arith, ints)
+
+  module _ (from : ℤ) (at : ℕ) (point : IsPartitionPoint (λ y. int_lt y from ≡ true) (λ y. int_lt y from ≡ false) xs at) where
+    before : (k : ℕ) (t : ℤ) → k < at → k < length xs → get_or xs k t ≡ t → from ≤ℤ t → ⊥
+    before k t lt w e a = let l : int_lt t from ≡ true = subst (λ (x : ℤ). int_lt x from ≡ true) e (point.0 k t (omega arith) lt) in grind (arith, ints)
+
+    pub first_there : (x : ℤ) → at < length xs → get_or xs at x ≡ x → IsFirstFrom xs from (Some x)
+    first_there x w e = (
+      (at, w, e),
+      (let l : int_lt x from ≡ false = subst (λ (y : ℤ). int_lt y from ≡ false) e (point.1 at x (omega arith) w) in grind (arith, ints)),
+      λ u c a. elim (cases_lt c.0 at) [
+        | inl below ↦ absurd (before c.0 u below c.1 c.2 a)
+        | inr after ↦ let l : get_or xs at u ≤ℤ get_or xs c.0 u = far at c.0 u after c.1 in omega (arith, ints, l, c.2, get_or_default xs at x u w, e)
+      ],
+    )
+
+    pub none_there : length xs ≤ at → IsFirstFrom xs from None
+    none_there le = λ t c a. before c.0 t (omega (arith, c.1, le)) c.1 c.2 a
+
+  -- where neighbours differ all do
+  pub all_differ : AllAdjacentBelow ◌≢◌ xs (length xs) → AllPairs ◌≢◌ xs
+  all_differ apart i j d lt w e =
+      let step = far i (i + 1) d (omega arith) (omega (arith, lt, w)) in
+      let rest = far (i + 1) j d (omega (arith, lt)) w in
+      apart i d (omega (arith, lt, w)) (omega (arith, ints, step, rest, e))
+
+pub twin_neighbours : (xs : List ℤ) (next : ℕ) (d c : ℤ) → 1 ≤ next → next < length xs → get_or xs (next - 1) d ≡ get_or xs next c → AllPairs ◌≢◌ xs → ⊥
+twin_neighbours xs next d c low w e differ =
+    differ (next - 1) next c (omega (arith, low)) w (get_or_default xs (next - 1) c d (omega (arith, low, w)) ∙ e)
+
+pub one_more_apart : (xs : List ℤ) (next : ℕ) (d c : ℤ) → 1 ≤ next → next < length xs → AllAdjacentBelow ◌≢◌ xs next → (get_or xs (next - 1) d ≡ get_or xs next c → ⊥) → AllAdjacentBelow ◌≢◌ xs (next + 1)
+one_more_apart xs next d c low w h apart k e v same =
+    elim (cases_eq (k + 1) next) [
+      | inl is ↦
+          let at : k ≡ next - 1 = omega (arith, is) in
+          apart (get_or_default xs (next - 1) d e (omega (arith, low, w)) ∙ sym (ap (λ n. get_or xs n e) at) ∙ same ∙ ap (λ n. get_or xs n e) is ∙ get_or_default xs next e c w)
+      | inr other ↦ h k e (omega (arith, v, other)) same
+    ]

@@ -1,0 +1,2 @@
+pub mod OccurrenceLemmas
+pub mod RecurrenceLemmas

@@ -1,0 +1,4 @@
+pub mod NumberLemmas
+pub mod OneCalendar
+pub mod OneText
+pub mod ConfirmedLemmas

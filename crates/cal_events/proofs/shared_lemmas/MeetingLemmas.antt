@@ -1,0 +1,170 @@
+-- The event with its instances that an object says, or the fault that it has.
+-- Cited by Event::read of event, MeetingComponents::of of meeting_components, MeetingComponents::read of meeting_components, MeetingComponents::read_in_order of meeting_components, judge_meeting of meeting_components.
+use Rattle.std.proofs.Common.{◌≡◌, ◌∙◌, ℕ, zero, suc, ◌<◌, Bool, true, false, ◌&&◌, cond, List, [], ◌∷◌, ◌++◌, length, map, filter, append-nil, sym, ap, subst, refl, inl, inr, arith, ℤ, ◌||◌}
+use Rattle.std.specs.Option.{option_to_list}
+use Rattle.std.specs.Prelude.{Option, Some, None, Contains, unwrap_or, Result, Ok, Err, IfOk, IfErr}
+use Rattle.std.specs.List.{AllZip, list_all}
+use Rattle.std.proofs.lemmas.List.Folds.{list_all-map}
+use Rattle.std.specs.Str.{bytes_eq}
+use Rattle.std.specs.Result.{IsErrAnd}
+use Rattle.std.proofs.lemmas.Bool.{true≢false, and_parts}
+use Rattle.std.proofs.lemmas.List.{map-append}
+use Rattle.std.proofs.lemmas.List.Elements.{filter-append}
+use Rattle.std.proofs.lemmas.Slice.Eq.{bytes_eq-Decides}
+use Rattle.ical_lines.specs.Fault.{RefusesBy, RefusesOnly}
+use Rattle.profile.specs.faults.Faults.{is_object_fault, is_meeting_event_fault}
+use Rattle.ical_lines.specs.declared.fault.Fault.{Fault}
+use Rattle.ical_lines.specs.declared.fault.Fault.TheVariants.{Refused, Memory}
+use Rattle.ical_tree.specs.Tree.{IsObjectOf, tree_of}
+use Rattle.ical_tree.specs.Reading.{IsRefusalOf}
+use Rattle.ical_tree.specs.declared.component.Component.{Component}
+use Rattle.ical_tree.proofs.TreeOfLemmas.{object_tree}
+use Rattle.ical_values.proofs.Exits.{err_exit}
+use Rattle.profile.specs.text.Lines.{logical_lines, reads_as_lines}
+use Rattle.profile.specs.text.Trees.{Tree, vevents}
+use Rattle.profile.specs.events.EventComponents.{EventComponent as SaidComponent, SaysEventComponent, meeting_said, Method}
+use Rattle.profile.specs.events.Events.{Event, taken_by, is_same_meeting, is_master, is_override, is_meeting_fault, AreOfOne, InstancesDiffer, SaysEvent, SpellsEvent, EventFault, in_event, two_masters, two_overrides, no_event, two_meetings, EventTextFault, in_lines, in_tree, no_version, many_events, in_vevents}
+use Rattle.cal_events.specs.Component.{component_of, IsFaultAmong}
+use Rattle.cal_events.specs.declared.component.EventComponent.{EventComponent}
+use Rattle.cal_events.specs.MeetingComponents.{instants_said, IsNotOne, SharesSlot}
+use Rattle.cal_events.specs.Event.{said_meeting}
+use Rattle.cal_events.specs.declared.event.Event as declared
+use Rattle.cal_events.proofs.shared_lemmas.ObjectFaults.{no_object}
+
+-- ---- one meeting
+
+pair_same : (a b : SaidComponent) → a.uid ≡ b.uid → unwrap_or a.organiser [] ≡ unwrap_or b.organiser [] → meeting_said a ≡ meeting_said b
+pair_same a b p q = λ i. (q i, p i)
+
+same_is : (a b : SaidComponent) → is_same_meeting a b ≡ true → meeting_said a ≡ meeting_said b
+same_is a b h =
+    let p = and_parts (bytes_eq a.uid b.uid) (bytes_eq (unwrap_or a.organiser []) (unwrap_or b.organiser [])) h in
+    pair_same a b ((bytes_eq-Decides a.uid b.uid).0 p.0) ((bytes_eq-Decides (unwrap_or a.organiser []) (unwrap_or b.organiser [])).0 p.1)
+
+is_same : (a b : SaidComponent) → meeting_said a ≡ meeting_said b → is_same_meeting a b ≡ true
+is_same a b e =
+    let p = (bytes_eq-Decides a.uid b.uid).1 (ap (λ (m : List ℕ × List ℕ). m.1) e) in
+    let q = (bytes_eq-Decides (unwrap_or a.organiser []) (unwrap_or b.organiser [])).1 (ap (λ (m : List ℕ × List ℕ). m.0) e) in
+    ap (λ b'. b' && bytes_eq (unwrap_or a.organiser []) (unwrap_or b.organiser [])) p ∙ q
+
+each_same : (first : SaidComponent) (others : List SaidComponent) → list_all (is_same_meeting first) others ≡ true → (x : SaidComponent) → Contains (first ∷ others) x → meeting_said first ≡ meeting_said x
+each_same first others h x (zero, w, e) = ap meeting_said e
+each_same first [] h x (suc k, w, e) = absurd (omega (arith, w))
+each_same first (y ∷ others) h x (suc zero, w, e) =
+    let p = and_parts (is_same_meeting first y) (list_all (is_same_meeting first) others) h in same_is first y p.0 ∙ ap meeting_said e
+each_same first (y ∷ others) h x (suc (suc k), w, e) =
+    let p = and_parts (is_same_meeting first y) (list_all (is_same_meeting first) others) h in each_same first others p.1 x (suc k, omega (arith, w), e)
+
+pub are_of_one : (first : SaidComponent) (others : List SaidComponent) → list_all (is_same_meeting first) others ≡ true → AreOfOne (first ∷ others)
+are_of_one first others h a b c d = sym (each_same first others h a c) ∙ each_same first others h b d
+
+all_same : (first : SaidComponent) (others : List SaidComponent) → ((x : SaidComponent) → Contains others x → meeting_said first ≡ meeting_said x) → list_all (is_same_meeting first) others ≡ true
+all_same first [] h = refl
+all_same first (y ∷ others) h =
+    ap (λ b. b && list_all (is_same_meeting first) others) (is_same first y (h y (zero, omega arith, refl)))
+    ∙ all_same first others (λ x c. h x (suc c.0, omega (arith, c.1), c.2))
+
+pub not_of_one : (first : SaidComponent) (others : List SaidComponent) → list_all (is_same_meeting first) others ≡ false → AreOfOne (first ∷ others) → ⊥
+not_of_one first others h one =
+    true≢false (sym (all_same first others (λ x c. one first x (zero, omega arith, refl) (suc c.0, omega (arith, c.1), c.2))) ∙ h)
+
+pub components_not_one : (cs : List EventComponent) (first : EventComponent) (others : List EventComponent) → cs ≡ first ∷ others
+    → false ≡ list_all (λ other. is_same_meeting (component_of first) (component_of other)) others → AreOfOne (map component_of cs) → ⊥
+components_not_one cs first others e h one =
+    not_of_one (component_of first) (map component_of others) (list_all-map (is_same_meeting (component_of first)) component_of others ∙ sym h)
+    (subst (λ (l : List EventComponent). AreOfOne (map component_of l)) e one)
+
+pub components_one : (cs : List EventComponent) (first : EventComponent) (others : List EventComponent) → cs ≡ first ∷ others
+    → true ≡ list_all (λ other. is_same_meeting (component_of first) (component_of other)) others → AreOfOne (map component_of cs)
+components_one cs first others e h =
+    subst (λ (l : List EventComponent). AreOfOne (map component_of l)) (sym e)
+    (are_of_one (component_of first) (map component_of others) (list_all-map (is_same_meeting (component_of first)) component_of others ∙ sym h))
+
+-- ---- components divided
+
+-- one more of a list that is filtered
+pub filter_push : (p : SaidComponent → Bool) (ys : List EventComponent) (x : EventComponent) → filter p (map component_of (ys ++ x ∷ [])) ≡ filter p (map component_of ys) ++ cond (p (component_of x)) (component_of x ∷ []) []
+filter_push p ys x = ap (filter p) (map-append component_of ys (x ∷ [])) ∙ filter-append p (map component_of ys) (component_of x ∷ [])
+
+pub pushed : (p : SaidComponent → Bool) (ys os new : List EventComponent) (x : EventComponent) → p (component_of x) ≡ true → filter p (map component_of ys) ≡ map component_of os → new ≡ os ++ x ∷ []
+    → filter p (map component_of (ys ++ x ∷ [])) ≡ map component_of new
+pushed p ys os new x h e n =
+    filter_push p ys x ∙ ap (λ b. filter p (map component_of ys) ++ cond b (component_of x ∷ []) []) h ∙ ap (λ l. l ++ component_of x ∷ []) e
+    ∙ sym (ap (map component_of) n ∙ map-append component_of os (x ∷ []))
+
+pub passed : (p : SaidComponent → Bool) (ys os : List EventComponent) (x : EventComponent) → p (component_of x) ≡ false → filter p (map component_of ys) ≡ map component_of os
+    → filter p (map component_of (ys ++ x ∷ [])) ≡ map component_of os
+passed p ys os x h e =
+    filter_push p ys x ∙ ap (λ b. filter p (map component_of ys) ++ cond b (component_of x ∷ []) []) h ∙ append-nil (filter p (map component_of ys)) ∙ e
+
+pub instant_pushed : (ts more : List ℤ) (os new : List EventComponent) (t : ℤ) (x : EventComponent) → x.recurrence ≡ Some t → map Some ts ≡ instants_said (map component_of os) → more ≡ ts ++ t ∷ []
+    → new ≡ os ++ x ∷ [] → map Some more ≡ instants_said (map component_of new)
+instant_pushed ts more os new t x r e m n =
+    ap (map Some) m ∙ map-append Some ts (t ∷ []) ∙ ap (λ l. l ++ Some t ∷ []) e ∙ ap (λ o. instants_said (map component_of os) ++ o ∷ []) (sym r)
+    ∙ sym (ap (λ l. instants_said (map component_of l)) n ∙ ap instants_said (map-append component_of os (x ∷ []))
+    ∙ map-append (λ (event : SaidComponent). event.recurrence) (map component_of os) (component_of x ∷ []))
+
+-- ---- an object
+
+none_said : (object : Tree) (m : Option Method) (vs : List (List (List ℕ))) → AllZip (SaysEventComponent object m) vs [] → vs ≡ []
+none_said object m [] z = refl
+none_said object m (v ∷ vs) z = absurd z
+
+module _ (object : Tree) (vs : List (List (List ℕ))) (same : vevents object ≡ vs) where
+  pub among_there : (m : Option Method) (n : ℕ) → IsFaultAmong object m vs n → EventFault object m n
+  among_there m n (lines, c, f) = in_event lines (subst (λ (x : List (List (List ℕ))). Contains x lines) (sym same) c) f
+
+  module _ (m : Option Method) (events : List SaidComponent) (zip : AllZip (SaysEventComponent object m) vs events) where
+    pub said : AllZip (SaysEventComponent object m) (vevents object) events
+    said = subst (λ (x : List (List (List ℕ))). AllZip (SaysEventComponent object m) x events) (sym same) zip
+
+    pub not_one_there : (n : ℕ) → IsNotOne events n → EventFault object m n
+    not_one_there n (inl (is, none)) =
+        subst (EventFault object m) (sym is) (no_event (none_said object m (vevents object) (subst (λ (es : List SaidComponent). AllZip (SaysEventComponent object m) (vevents object) es) none said)))
+    not_one_there n (inr (is, not)) = subst (EventFault object m) (sym is) (two_meetings events said not)
+
+    pub slot_there : (n : ℕ) → SharesSlot (taken_by m events) n → EventFault object m n
+    slot_there n (inl (is, more)) = subst (EventFault object m) (sym is) (two_masters events said more)
+    slot_there n (inr (is, twins)) = subst (EventFault object m) (sym is) (two_overrides events said twins)
+
+    pub meeting_there : (whole : Event) → 0 < length events → AreOfOne events → filter is_master (taken_by m events) ≡ option_to_list whole.master
+        → filter is_override (taken_by m events) ≡ whole.overrides → InstancesDiffer (filter is_override (taken_by m events)) → SaysEvent object m whole
+    meeting_there whole some one master overrides differ = record {
+      events = events;
+      says = said;
+      some = some;
+      one = one;
+      master = master;
+      overrides = overrides;
+      differ = subst InstancesDiffer overrides differ;
+    }
+
+-- the numbers of what is between them
+pub not_one_number : (events : List SaidComponent) (n : ℕ) → IsNotOne events n → is_meeting_fault n ≡ true
+not_one_number events n (inl (is, _)) = ap is_meeting_fault is
+not_one_number events n (inr (is, _)) = ap is_meeting_fault is
+
+pub component_wider : (f : Fault) → RefusesOnly is_meeting_event_fault f → RefusesOnly is_meeting_fault f
+component_wider Memory h = tt
+component_wider (Refused r) h = wider (is_object_fault r.number) (is_meeting_event_fault r.number) _ _ _ h
+  where
+    wider : (a b c d e : Bool) → b ≡ true → (a || b || c || d || e) ≡ true
+    wider true true c d e h = refl
+    wider false true c d e h = refl
+    wider a false c d e h = absurd (cc)
+
+-- ---- octets
+
+pub meeting_spelled : (r : Result declared.Event Fault) (octets : List ℕ) (c : Component) → reads_as_lines true octets ≡ true → IsObjectOf true c (logical_lines octets)
+    → IfOk r (λ event. SaysEvent (tree_of c) None (said_meeting event)) → IfOk r (λ event. SpellsEvent octets (said_meeting event))
+meeting_spelled (Ok event) octets c lines object says = record { lines = lines; tree = tree_of c; object = object_tree true c (logical_lines octets) object; says = says }
+meeting_spelled (Err f) octets c lines object says = tt
+
+pub fault_there : (octets : List ℕ) (c : Component) → IsObjectOf true c (logical_lines octets) → (f : Fault) → RefusesBy (EventFault (tree_of c) None) f → RefusesBy (EventTextFault octets) f
+fault_there octets c object Memory h = tt
+fault_there octets c object (Refused r) h = in_vevents (tree_of c) (object_tree true c (logical_lines octets) object) h
+
+pub object_refused : (r : Result declared.Event Fault) (octets : List ℕ) (f : Fault) → IsErrAnd r (λ e. e ≡ f) → IsRefusalOf true octets f → IfErr r (RefusesBy (EventTextFault octets))
+object_refused r octets f e h =
+    err_exit r (RefusesBy (EventTextFault octets)) f e
+    (no_object octets (EventTextFault octets) (λ t x. no_version t x.0 x.1) (λ t x. many_events t x.0 x.1) (λ n x. in_lines x) (λ n x. in_tree x) f h)

@@ -1,0 +1,278 @@
+-- The lines of a VEVENT say its times in at most one way, and not at all where they have a fault.
+-- Behind Calendar::of_object of calendar, Calendar::read of calendar, EventComponent::read of component, EventComponent::series of component, EventComponent::singles of component, EventComponent::singles_at of component and 17 more.
+use Rattle.std.proofs.Common.{◌≡◌, ℕ, ◌+◌, ◌*◌, ◌≤◌, Bool, true, false, List, length, codes, subst, sym, ap, ◌∙◌, inl, inr, arith, ℤ, pos, ◌+ℤ◌, ◌<ℤ◌}
+use Rattle.std.specs.Prelude.{Option, Some, None, All}
+use Rattle.std.proofs.lemmas.Bool.{true≢false}
+use Rattle.std.proofs.lemmas.Int.{ints}
+use Rattle.std.proofs.lemmas.List.Elements.{All-from_recursion, All-contains}
+use Rattle.std.proofs.lemmas.Option.{same_Some}
+use Rattle.profile.specs.text.Lines.{line_value, line_param}
+use Rattle.profile.specs.text.Trees.{Tree}
+use Rattle.profile.specs.text.Values.{SpellsDuration, SpellsNegative}
+use Rattle.profile.specs.series.Zones.{Zone, Constant, IsOneMeaning, Means}
+use Rattle.profile.specs.events.Properties.{lines_named, IsMissing, OccursAtMostOnce, SomeLine, Length, length_seconds, LastsFor, IsNegativeOrLong}
+use Rattle.profile.specs.events.ZonedTimes.{zone_named, is_in_zone, SaysZoneOf, SpellsZoned, SaysZonedText, SaysZonedTime, clock_of, SaysInstant, IsInDates, SaysInDates, SaysOutOfDates, ZonedTextFault, EventTimes, LastsUntil, LastsSo, LastsAlone, SaysEventTimes, SaysNoStart, SaysTimes, StartAndEndLie, names_of_times, EventTimesFault, bad_start, bad_end, bad_duration, ends_early, ends_late, lasts_long, starts_out, ends_out, no_start, twice, end_and_duration}
+use Rattle.profile.specs.events.Occurrences.{IsOutside}
+use Rattle.ical_tree.proofs.OneLine.{IsFunctional, same_option, only_line}
+use Rattle.cal_events.proofs.shared_lemmas.Meanings.{one_meaning}
+
+abbrev pub Lines : Type 0
+Lines = List (List ℕ)
+
+abbrev pub OneZonedTime : Type 0
+OneZonedTime = (object : Tree) (line text : List ℕ) (a b : Option Zone) (s t : ℤ) → SaysZonedText object line text a s → SaysZonedText object line text b t → (a ≡ b) × (s ≡ t)
+
+abbrev pub NoTimeFault : Type 0
+NoTimeFault = (object : Tree) (line text : List ℕ) (a : Option Zone) (s : ℤ) (n : ℕ) → SaysZonedText object line text a s → ZonedTextFault object line text n → ⊥
+
+abbrev pub OneDuration : Type 0
+OneDuration = (text : List ℕ) (d s e t : ℕ) → SpellsDuration text d s → SpellsDuration text e t → (d ≡ e) × (s ≡ t)
+
+abbrev pub NotBoth : Type 0
+NotBoth = (text : List ℕ) (d s : ℕ) → SpellsDuration text d s → SpellsNegative text → ⊥
+
+pub same_line : (name : List ℕ) (lines : Lines) (a b : Option (List ℕ)) → OccursAtMostOnce name lines a → OccursAtMostOnce name lines b → a ≡ b
+same_line name lines a b h k = same_option a b (sym h ∙ k)
+
+pub at_most_one : (name : List ℕ) (lines : Lines) (l : Option (List ℕ)) → OccursAtMostOnce name lines l → length (lines_named name lines) ≤ 1
+at_most_one name lines None h = let e : length (lines_named name lines) ≡ 0 = ap length h in omega arith
+at_most_one name lines (Some x) h = let e : length (lines_named name lines) ≡ 1 = ap length h in omega arith
+
+abbrev pub IsLone : Lines → List ℕ → Type 0
+IsLone lines name = length (lines_named name lines) ≤ 1
+
+-- ---- one instant
+
+-- the clocks of what a text says show a local time at one instant
+pub clock_one : (object : Tree) (line text : List ℕ) (zone : Option Zone) (local : ℤ) → SaysZonedText object line text zone local → IsOneMeaning (clock_of zone)
+clock_one object line text None local h = one_meaning (Constant (pos 0)) tt
+clock_one object line text (Some zone) local h = spelled (line_param (codes "TZID") line) h.1
+  where
+    named : (o : Option Tree) → SaysZoneOf o zone → IsOneMeaning zone
+    named None says = absurd says
+    named (Some part) says = one_meaning zone says.matched
+
+    spelled : (o : Option (List ℕ)) → SpellsZoned object o text (Some zone) local → IsOneMeaning zone
+    spelled None says = absurd says
+    spelled (Some name) says = named (zone_named name object) says.1
+
+-- the instant that a text says
+abbrev SaysText : Tree → List ℕ → List ℕ → ℤ → Type 0
+SaysText object line text t = (zone : Option Zone) × (local : ℤ) × SaysZonedText object line text zone local × Means (clock_of zone) local t
+
+pub text_instant : OneZonedTime → (object : Tree) (line text : List ℕ) (s t : ℤ) → SaysText object line text s → SaysText object line text t → s ≡ t
+text_instant one object line text s t (zone, local, says, means) (other, clock, said, meant) =
+    let e = one object line text zone other local clock says said in
+    let means' = subst (λ (l : ℤ). Means (clock_of other) l s) e.1 (subst (λ (z : Option Zone). Means (clock_of z) local s) e.0 means) in
+    clock_one object line text other clock said clock s t means' meant
+
+pub one_instant : OneZonedTime → (object : Tree) (line : List ℕ) (s t : ℤ) → SaysInstant object line s → SaysInstant object line t → s ≡ t
+one_instant one object line s t h k = text_instant one object line (line_value line) s t h k
+
+pub dated : (object : Tree) (line : List ℕ) (t : ℤ) → SaysInDates object line t → SaysInstant object line t
+dated object line t (zone, local, says, means, dates) = (zone, local, says, means)
+
+-- an instant that is in the dates isn't outside
+pub text_not_out : OneZonedTime → (object : Tree) (line text : List ℕ) (zone : Option Zone) (local t : ℤ) → SaysZonedText object line text zone local → Means (clock_of zone) local t
+    → IsInDates (is_in_zone line) local t → IsOutside object (line, text) → ⊥
+text_not_out one object line text zone local t says means dates (other, clock, instant, said, meant, out) =
+    let e = one object line text zone other local clock says said in
+    let i = text_instant one object line text t instant (zone, local, says, means) (other, clock, said, meant) in
+    out (subst (λ (x : ℤ). IsInDates (is_in_zone line) clock x) i (subst (λ (l : ℤ). IsInDates (is_in_zone line) l t) e.1 dates))
+
+pub not_out : OneZonedTime → (object : Tree) (line : List ℕ) (zone : Option Zone) (local t : ℤ) → SaysZonedTime object line zone local → Means (clock_of zone) local t
+    → IsInDates (is_in_zone line) local t → SaysOutOfDates object line → ⊥
+not_out one object line zone local t says means dates out = text_not_out one object line (line_value line) zone local t says means dates out
+
+-- ---- one length
+
+length_same : (a b : Length) → a.days ≡ b.days → a.seconds ≡ b.seconds → a ≡ b
+length_same a b p q = λ i. record { days = p i; seconds = q i }
+
+length_one : OneDuration → IsFunctional LastsFor
+length_one one line a b h k = let e = one (line_value line) a.days a.seconds b.days b.seconds h k in length_same a b e.0 e.1
+
+same_length : OneZonedTime → OneDuration → (object : Tree) (start : ℤ) (e d : Option (List ℕ)) (a b : Length) → LastsSo object start e d a → LastsSo object start e d b → a ≡ b
+same_length one two object start None None a b h k = h ∙ sym k
+same_length one two object start None (Some l) a b h k = length_one two l a b h k
+same_length one two object start (Some l) None a b h k =
+    let e = one_instant one object l (start +ℤ pos a.seconds) (start +ℤ pos b.seconds) (dated object l _ h.1) (dated object l _ k.1) in
+    length_same a b (h.0 ∙ sym k.0) (omega (arith, ints))
+same_length one two object start (Some l) (Some o) a b h k = absurd h
+
+-- ---- one event's times
+
+times_same : (a b : EventTimes) → a.zone ≡ b.zone → a.local ≡ b.local → a.start ≡ b.start → a.length ≡ b.length → a ≡ b
+times_same a b p q r s = λ i. record { zone = p i; local = q i; start = r i; length = s i }
+
+pub one_times : OneZonedTime → OneDuration → (object : Tree) (lines : Lines) (a b : EventTimes) → SaysEventTimes object lines a → SaysEventTimes object lines b → a ≡ b
+one_times one two object lines a b s t =
+    let line : s.line ≡ t.line = same_Some s.line t.line (same_line (codes "DTSTART") lines (Some s.line) (Some t.line) s.once t.once) in
+    let says : SaysZonedTime object t.line a.zone a.local = subst (λ (l : List ℕ). SaysZonedTime object l a.zone a.local) line s.says in
+    let e = one object t.line (line_value t.line) a.zone b.zone a.local b.local says t.says in
+    let start = one_instant one object t.line a.start b.start (a.zone, a.local, says, s.means) (b.zone, b.local, t.says, t.means) in
+    let end = same_line (codes "DTEND") lines s.end_line t.end_line s.end_once t.end_once in
+    let duration = same_line (codes "DURATION") lines s.duration_line t.duration_line s.duration_once t.duration_once in
+    let lasts : LastsSo object b.start t.end_line t.duration_line a.length =
+    subst (λ (d : Option (List ℕ)). LastsSo object b.start t.end_line d a.length) duration
+    (subst (λ (x : Option (List ℕ)). LastsSo object b.start x s.duration_line a.length) end
+    (subst (λ (x : ℤ). LastsSo object x s.end_line s.duration_line a.length) start
+    (subst (λ (l : List ℕ). LastsSo object a.start s.end_line s.duration_line a.length) line s.lasts))) in
+    times_same a b e.0 e.1 start (same_length one two object b.start t.end_line t.duration_line a.length b.length lasts t.lasts)
+
+-- without a start
+
+same_alone : OneDuration → (object : Tree) (e d : Option (List ℕ)) (a b : Length) → LastsAlone object e d a → LastsAlone object e d b → a ≡ b
+same_alone two object None None a b h k = h ∙ sym k
+same_alone two object None (Some l) a b h k = length_one two l a b h k
+same_alone two object (Some l) None a b h k = h.0 ∙ sym k.0
+same_alone two object (Some l) (Some o) a b h k = absurd h
+
+one_alone : OneDuration → (object : Tree) (lines : Lines) (a b : EventTimes) → SaysNoStart object lines a → SaysNoStart object lines b → a ≡ b
+one_alone two object lines a b s t =
+    let end = same_line (codes "DTEND") lines s.end_line t.end_line s.end_once t.end_once in
+    let duration = same_line (codes "DURATION") lines s.duration_line t.duration_line s.duration_once t.duration_once in
+    let lasts : LastsAlone object t.end_line t.duration_line a.length =
+    subst (λ (d : Option (List ℕ)). LastsAlone object t.end_line d a.length) duration (subst (λ (x : Option (List ℕ)). LastsAlone object x s.duration_line a.length) end s.lasts) in
+    times_same a b (s.zone ∙ sym t.zone) (s.local ∙ sym t.local) (s.start ∙ sym t.start) (same_alone two object t.end_line t.duration_line a.length b.length lasts t.lasts)
+
+-- a start is there, or is missing
+there_or_missing : (lines : Lines) (line : List ℕ) → OccursAtMostOnce (codes "DTSTART") lines (Some line) → IsMissing (codes "DTSTART") lines → ⊥
+there_or_missing lines line once missing = let k : 0 ≡ 1 = sym (ap length missing) ∙ ap length once in absurd (omega (arith, k))
+
+pub one_times_by : OneZonedTime → OneDuration → {may : Bool} (object : Tree) (lines : Lines) (a b : EventTimes) → SaysTimes may object lines a → SaysTimes may object lines b → a ≡ b
+one_times_by one two object lines a b (inl s) (inl t) = one_times one two object lines a b s t
+one_times_by one two object lines a b (inl s) (inr (_, t)) = absurd (there_or_missing lines s.line s.once t.missing)
+one_times_by one two object lines a b (inr (_, s)) (inl t) = absurd (there_or_missing lines t.line t.once s.missing)
+one_times_by one two object lines a b (inr (_, s)) (inr (_, t)) = one_alone two object lines a b s t
+
+-- the clocks of an event's times show a local time at one instant
+pub clock_by : {may : Bool} (object : Tree) (lines : Lines) (t : EventTimes) → SaysTimes may object lines t → IsOneMeaning (clock_of t.zone)
+clock_by object lines t (inl s) = clock_one object s.line (line_value s.line) t.zone t.local s.says
+clock_by object lines t (inr (_, s)) = subst (λ (z : Option Zone). IsOneMeaning (clock_of z)) (sym s.zone) (one_meaning (Constant (pos 0)) tt)
+
+-- ---- there is no fault where times are said
+
+module _ (one : OneZonedTime) (none : NoTimeFault) (two : OneDuration) (apart : NotBoth) (object : Tree) (lines : Lines) (times : EventTimes) (s : SaysEventTimes object lines times) where
+  -- the start that is there
+  start_is : (P : List ℕ → Type 0) (l : SomeLine (codes "DTSTART") P lines) → s.line ≡ l.0
+  start_is P l = same_Some s.line l.0 (only_line (codes "DTSTART") lines (Some s.line) l.0 s.once l.1)
+
+  -- the end that is there
+  end_said : (P : List ℕ → Type 0) (l : SomeLine (codes "DTEND") P lines) → LastsUntil object times.start l.0 times.length
+  end_said P l = go s.end_line s.duration_line (only_line (codes "DTEND") lines s.end_line l.0 s.end_once l.1) s.lasts
+    where
+      go : (e d : Option (List ℕ)) → e ≡ Some l.0 → LastsSo object times.start e d times.length → LastsUntil object times.start l.0 times.length
+      go None d h lasts = cc
+      go (Some x) (Some o) h lasts = absurd lasts
+      go (Some x) None h lasts = subst (λ (y : List ℕ). LastsUntil object times.start y times.length) (same_Some x l.0 h) lasts
+
+  -- the DURATION that is there
+  duration_said : (P : List ℕ → Type 0) (l : SomeLine (codes "DURATION") P lines) → LastsFor l.0 times.length
+  duration_said P l = go s.end_line s.duration_line (only_line (codes "DURATION") lines s.duration_line l.0 s.duration_once l.1) s.lasts
+    where
+      go : (e d : Option (List ℕ)) → d ≡ Some l.0 → LastsSo object times.start e d times.length → LastsFor l.0 times.length
+      go e None h lasts = cc
+      go (Some x) (Some o) h lasts = absurd lasts
+      go None (Some o) h lasts = subst (λ (y : List ℕ). LastsFor y times.length) (same_Some o l.0 h) lasts
+
+  -- the start and the end that are there are those of the times
+  ends_said : (R : ℤ → ℤ → Type 0) → StartAndEndLie object R lines → R times.start (times.start +ℤ pos times.length.seconds)
+  ends_said R (start, end, first, last, r) =
+      let here : SaysInstant object first.0 times.start = subst (λ (l : List ℕ). SaysInstant object l times.start) (start_is _ first) (times.zone, times.local, s.says, s.means) in
+      let a = one_instant one object first.0 times.start start here first.2 in
+      let until = end_said _ last in
+      let b = one_instant one object last.0 (times.start +ℤ pos times.length.seconds) end (dated object last.0 _ until.1) last.2 in
+      subst (λ (z : ℤ). R times.start z) (sym b) (subst (λ (z : ℤ). R z end) (sym a) r)
+
+  all_lone : All (IsLone lines) names_of_times
+  all_lone =
+      All-from_recursion (IsLone lines) names_of_times (
+        at_most_one (codes "DTSTART") lines (Some s.line) s.once,
+        (at_most_one (codes "DTEND") lines s.end_line s.end_once, (at_most_one (codes "DURATION") lines s.duration_line s.duration_once, tt)),
+      )
+
+  pub no_times_fault : {may : Bool} (n : ℕ) → EventTimesFault may object lines n → ⊥
+  no_times_fault n (bad_start l) = none object l.0 (line_value l.0) times.zone times.local n (subst (λ (x : List ℕ). SaysZonedTime object x times.zone times.local) (start_is _ l) s.says) l.2
+  no_times_fault n (bad_end l) = let until = end_said _ l in none object l.0 (line_value l.0) until.1.0 until.1.1 n until.1.2 l.2
+  no_times_fault n (bad_duration l) = l.2.0 times.length.days times.length.seconds (duration_said _ l)
+  no_times_fault n (ends_early x) = let h = ends_said (λ start end. end <ℤ start) x in absurd (omega (arith, ints))
+  no_times_fault n (ends_late x) =
+      let h = ends_said (λ start end. (start +ℤ pos 31_622_400) <ℤ end) x in
+      let most : 86_400 * times.length.days + times.length.seconds ≤ 31_622_400 = s.most in
+      absurd (omega (arith, ints))
+  no_times_fault n (lasts_long (line, at, inl negative)) =
+      apart (line_value line) times.length.days times.length.seconds (duration_said IsNegativeOrLong (line, at, inl negative)) negative
+  no_times_fault n (lasts_long (line, at, inr (length, lasts, long))) =
+      let e = length_one two line times.length length (duration_said IsNegativeOrLong (line, at, inr (length, lasts, long))) lasts in
+      let most : length_seconds length ≤ 31_622_400 = subst (λ (x : Length). length_seconds x ≤ 31_622_400) e s.most in
+      absurd (omega arith)
+  no_times_fault n (starts_out l) =
+      not_out one object s.line times.zone times.local times.start s.says s.means s.in_dates (subst (λ (x : List ℕ). SaysOutOfDates object x) (sym (start_is _ l)) l.2)
+  no_times_fault n (ends_out l) = let until = end_said _ l in not_out one object l.0 until.1.0 until.1.1 _ until.1.2 until.1.3 until.1.4 l.2
+  no_times_fault n (no_start _ h) = let k : 0 ≡ 1 = sym (ap length h) ∙ ap length s.once in absurd (omega (arith, k))
+  no_times_fault n (twice name c h) = let l = All-contains (IsLone lines) names_of_times name all_lone c in absurd (omega arith)
+  no_times_fault n (end_and_duration e d) =
+      go s.end_line s.duration_line (only_line (codes "DTEND") lines s.end_line e.0 s.end_once e.1) (only_line (codes "DURATION") lines s.duration_line d.0 s.duration_once d.1) s.lasts
+    where
+      go : (x y : Option (List ℕ)) → x ≡ Some e.0 → y ≡ Some d.0 → LastsSo object times.start x y times.length → ⊥
+      go None y h k is = cc
+      go (Some x) None h k is = cc
+      go (Some x) (Some y) h k is = is
+
+-- nor where no start is said
+
+pub none_there : (P : List ℕ → Type 0) (lines : Lines) → IsMissing (codes "DTSTART") lines → SomeLine (codes "DTSTART") P lines → ⊥
+none_there P lines missing (line, there, _) = let k : length (lines_named (codes "DTSTART") lines) ≡ 0 = ap length missing in absurd (omega (arith, k, there.1))
+
+module _ (one : OneZonedTime) (none : NoTimeFault) (two : OneDuration) (apart : NotBoth) (object : Tree) (lines : Lines) (times : EventTimes) (s : SaysNoStart object lines times) where
+  end_alone : (P : List ℕ → Type 0) (l : SomeLine (codes "DTEND") P lines) → (end : ℤ) × SaysInDates object l.0 end
+  end_alone P l = go s.end_line s.duration_line (only_line (codes "DTEND") lines s.end_line l.0 s.end_once l.1) s.lasts
+    where
+      go : (e d : Option (List ℕ)) → e ≡ Some l.0 → LastsAlone object e d times.length → (end : ℤ) × SaysInDates object l.0 end
+      go None d h lasts = cc
+      go (Some x) (Some o) h lasts = absurd lasts
+      go (Some x) None h lasts = subst (λ (y : List ℕ). (end : ℤ) × SaysInDates object y end) (same_Some x l.0 h) lasts.1
+
+  duration_alone : (P : List ℕ → Type 0) (l : SomeLine (codes "DURATION") P lines) → LastsFor l.0 times.length
+  duration_alone P l = go s.end_line s.duration_line (only_line (codes "DURATION") lines s.duration_line l.0 s.duration_once l.1) s.lasts
+    where
+      go : (e d : Option (List ℕ)) → d ≡ Some l.0 → LastsAlone object e d times.length → LastsFor l.0 times.length
+      go e None h lasts = cc
+      go (Some x) (Some o) h lasts = absurd lasts
+      go None (Some o) h lasts = subst (λ (y : List ℕ). LastsFor y times.length) (same_Some o l.0 h) lasts
+
+  none_twice : All (IsLone lines) names_of_times
+  none_twice =
+      All-from_recursion (IsLone lines) names_of_times (
+        at_most_one (codes "DTSTART") lines None s.missing,
+        (at_most_one (codes "DTEND") lines s.end_line s.end_once, (at_most_one (codes "DURATION") lines s.duration_line s.duration_once, tt)),
+      )
+
+  no_alone_fault : {may : Bool} → may ≡ true → (n : ℕ) → EventTimesFault may object lines n → ⊥
+  no_alone_fault m n (bad_start l) = none_there _ lines s.missing l
+  no_alone_fault m n (bad_end l) = let until = end_alone _ l in none object l.0 (line_value l.0) until.1.0 until.1.1 n until.1.2 l.2
+  no_alone_fault m n (bad_duration l) = l.2.0 times.length.days times.length.seconds (duration_alone _ l)
+  no_alone_fault m n (ends_early (start, end, first, last, r)) = none_there _ lines s.missing first
+  no_alone_fault m n (ends_late (start, end, first, last, r)) = none_there _ lines s.missing first
+  no_alone_fault m n (lasts_long (line, at, inl negative)) =
+      apart (line_value line) times.length.days times.length.seconds (duration_alone IsNegativeOrLong (line, at, inl negative)) negative
+  no_alone_fault m n (lasts_long (line, at, inr (length, lasts, long))) =
+      let e = length_one two line times.length length (duration_alone IsNegativeOrLong (line, at, inr (length, lasts, long))) lasts in
+      let most : length_seconds length ≤ 31_622_400 = subst (λ (x : Length). length_seconds x ≤ 31_622_400) e s.most in
+      absurd (omega arith)
+  no_alone_fault m n (starts_out l) = none_there _ lines s.missing l
+  no_alone_fault m n (ends_out l) = let until = end_alone _ l in not_out one object l.0 until.1.0 until.1.1 _ until.1.2 until.1.3 until.1.4 l.2
+  no_alone_fault m n (no_start needed h) = true≢false (sym m ∙ needed)
+  no_alone_fault m n (twice name c h) = let l = All-contains (IsLone lines) names_of_times name none_twice c in absurd (omega arith)
+  no_alone_fault m n (end_and_duration e d) =
+      go s.end_line s.duration_line (only_line (codes "DTEND") lines s.end_line e.0 s.end_once e.1) (only_line (codes "DURATION") lines s.duration_line d.0 s.duration_once d.1) s.lasts
+    where
+      go : (x y : Option (List ℕ)) → x ≡ Some e.0 → y ≡ Some d.0 → LastsAlone object x y times.length → ⊥
+      go None y h k is = cc
+      go (Some x) None h k is = cc
+      go (Some x) (Some y) h k is = is
+
+pub no_times_fault_by : OneZonedTime → NoTimeFault → OneDuration → NotBoth → {may : Bool} (object : Tree) (lines : Lines) (times : EventTimes) → SaysTimes may object lines times → (n : ℕ) → EventTimesFault may object lines n → ⊥
+no_times_fault_by one none two apart object lines times (inl s) n f = no_times_fault one none two apart object lines times s n f
+no_times_fault_by one none two apart object lines times (inr (m, s)) n f = no_alone_fault one none two apart object lines times s m n f

@@ -1,0 +1,78 @@
+-- An object's VEVENTs, what they say, and the calendar's entries.
+-- Cited by Draft::of_object of draft, read_events of reading.
+use Rattle.std.proofs.Common.{◌≡◌, ℕ, zero, ◌+◌, ◌<◌, true, false, cond, List, [], ◌∷◌, ◌++◌, length, map, filter, get_or, take, drop, subst, sym, refl, ap, ◌∙◌, arith, Option, None}
+use Rattle.ical_lines.specs.Fault.{RefusesBy}
+use Rattle.std.specs.Prelude.{Contains}
+use Rattle.std.specs.List.{AllZip}
+use Rattle.std.proofs.lemmas.List.{map-append, take-append-drop, append-nil}
+use Rattle.std.proofs.lemmas.List.Elements.{Contains-append_right, filter_more, filter-append}
+use Rattle.ical_lines.specs.declared.fault.Fault.{Fault}
+use Rattle.ical_lines.specs.declared.fault.Fault.TheVariants.{Refused, Memory}
+use Rattle.ical_tree.specs.Tree.{component_lines}
+use Rattle.ical_tree.specs.declared.component.Component.{Component}
+use Rattle.ical_tree.proofs.OneLine.{at_place}
+use Rattle.profile.specs.text.Trees.{Tree, vevents}
+use Rattle.profile.specs.events.EventComponents.{EventComponent as SaidComponent, EventComponentFault, SaysEventComponent, Method}
+use Rattle.profile.specs.checker.Calendars.{CalendarFault, in_event}
+use Rattle.cal_events.specs.declared.component.EventComponent.{EventComponent}
+use Rattle.cal_events.specs.Component.{component_of, is_vevent}
+use Rattle.cal_events.proofs.shared_lemmas.EventLemmas.{push_zip}
+
+-- ---- the VEVENTs among some components
+
+abbrev pub events_in : List Component → List (List (List ℕ))
+events_in cs = map component_lines (filter is_vevent cs)
+
+abbrev Lines : Type 0
+Lines = List (List ℕ)
+
+other_first : (c : Component) (cs : List Component) → is_vevent c ≡ false → events_in (c ∷ cs) ≡ events_in cs
+other_first c cs h = ap (λ b. map component_lines (cond b (c ∷ filter is_vevent cs) (filter is_vevent cs))) h
+
+event_first : (c : Component) (cs : List Component) → is_vevent c ≡ true → events_in (c ∷ cs) ≡ component_lines c ∷ events_in cs
+event_first c cs h = ap (λ b. map component_lines (cond b (c ∷ filter is_vevent cs) (filter is_vevent cs))) h
+
+pub drop_other : (cs : List Component) (i : ℕ) (c : Component) → i < length cs → c ≡ get_or cs i c → is_vevent c ≡ false → events_in (drop i cs) ≡ events_in (drop (i + 1) cs)
+drop_other cs i c w e h = ap events_in (at_place cs i c w e) ∙ other_first c (drop (i + 1) cs) h
+
+pub drop_event : (cs : List Component) (i : ℕ) (c : Component) → i < length cs → c ≡ get_or cs i c → is_vevent c ≡ true → events_in (drop i cs) ≡ component_lines c ∷ events_in (drop (i + 1) cs)
+drop_event cs i c w e h = ap events_in (at_place cs i c w e) ∙ event_first c (drop (i + 1) cs) h
+
+pub take_other : (cs : List Component) (i : ℕ) (c : Component) → i < length cs → c ≡ get_or cs i c → is_vevent c ≡ false → events_in (take (i + 1) cs) ≡ events_in (take i cs)
+take_other cs i c w e h =
+    ap (map component_lines) (filter_more is_vevent cs i c w ∙ ap (λ x. filter is_vevent (take i cs) ++ cond (is_vevent x) (x ∷ []) []) (sym e)
+    ∙ ap (λ b. filter is_vevent (take i cs) ++ cond b (c ∷ []) []) h ∙ append-nil (filter is_vevent (take i cs)))
+
+pub take_event : (cs : List Component) (i : ℕ) (c : Component) → i < length cs → c ≡ get_or cs i c → is_vevent c ≡ true
+    → events_in (take (i + 1) cs) ≡ events_in (take i cs) ++ component_lines c ∷ []
+take_event cs i c w e h =
+    ap (map component_lines) (filter_more is_vevent cs i c w ∙ ap (λ x. filter is_vevent (take i cs) ++ cond (is_vevent x) (x ∷ []) []) (sym e)
+    ∙ ap (λ b. filter is_vevent (take i cs) ++ cond b (c ∷ []) []) h) ∙ map-append component_lines (filter is_vevent (take i cs)) (c ∷ [])
+
+split : (cs : List Component) (i : ℕ) → events_in cs ≡ events_in (take i cs) ++ events_in (drop i cs)
+split cs i =
+    ap events_in (sym (take-append-drop i cs)) ∙ ap (map component_lines) (filter-append is_vevent (take i cs) (drop i cs))
+    ∙ map-append component_lines (filter is_vevent (take i cs)) (filter is_vevent (drop i cs))
+
+-- a VEVENT that the loop comes to is one of them
+pub is_among : (cs : List Component) (i : ℕ) (c : Component) → i < length cs → c ≡ get_or cs i c → is_vevent c ≡ true → Contains (events_in cs) (component_lines c)
+is_among cs i c w e h =
+    let whole : events_in cs ≡ events_in (take i cs) ++ component_lines c ∷ events_in (drop (i + 1) cs) =
+    split cs i ∙ ap (λ l. events_in (take i cs) ++ l) (drop_event cs i c w e h) in
+    subst (λ (l : List Lines). Contains l (component_lines c)) (sym whole)
+    (Contains-append_right (events_in (take i cs)) (component_lines c ∷ events_in (drop (i + 1) cs)) (component_lines c) (zero, omega arith, refl))
+
+-- ---- events, and entries
+
+pub event_pushed : (object : Tree) (m : Option Method) (vs : List Lines) (lines : Lines) (old new : List EventComponent) (event : EventComponent)
+    → AllZip (SaysEventComponent object m) vs (map component_of old) → SaysEventComponent object m lines (component_of event) → new ≡ old ++ event ∷ []
+    → AllZip (SaysEventComponent object m) (vs ++ lines ∷ []) (map component_of new)
+event_pushed object m vs lines old new event zip says n =
+    subst (λ (es : List SaidComponent). AllZip (SaysEventComponent object m) (vs ++ lines ∷ []) es) (sym (ap (map component_of) n ∙ map-append component_of old (event ∷ [])))
+    (push_zip (SaysEventComponent object m) vs (map component_of old) lines (component_of event) zip says)
+
+-- a VEVENT that is refused has a fault, which the object has
+pub event_refuses : (object : Tree) (vs : List Lines) (lines : Lines) (f : Fault) → vevents object ≡ vs → Contains vs lines → RefusesBy (EventComponentFault object None lines) f
+    → RefusesBy (CalendarFault object) f
+event_refuses object vs lines Memory e h s = tt
+event_refuses object vs lines (Refused r) e h s = in_event lines (subst (λ (xs : List Lines). Contains xs lines) (sym e) h) s

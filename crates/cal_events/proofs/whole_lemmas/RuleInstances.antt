@@ -1,0 +1,278 @@
+-- All instances of a series as a list, in no order: what its rule gives before year 10000.
+-- Cited by listed_series.
+use Rattle.std.proofs.Common.{◌≡◌, ◌∙◌, ℕ, zero, suc, ◌*◌, ◌/◌, ◌%◌, ◌<◌, Bool, true, false, List, [], ◌∷◌, length, map, refl, sym, ap, subst, inl, inr, ◌⊎◌, arith, ℤ, pos, negsuc, ◌+ℤ◌}
+use Rattle.std.specs.Prelude.{Option, Some, None, is_some, Contains, option_map, ◌&&◌, ◌↔◌}
+use Rattle.std.specs.Ordering.{int_eq}
+use Rattle.std.specs.List.{list_any}
+use Rattle.std.proofs.lemmas.Bool.{cases_order, true≢false}
+use Rattle.std.proofs.lemmas.Int.{ints, by_lt_z}
+use Rattle.profile.specs.checker.Instances.{Instance, horizon}
+use Rattle.profile.specs.text.Trees.{Tree}
+use Rattle.profile.specs.series.Rules.{Rule, is_rule_day}
+use Rattle.profile.specs.series.Zones.{IsOffsetAt, Means, IsOneMeaning, local_time}
+use Rattle.profile.specs.events.EventRules.{IsOnDay}
+use Rattle.profile.specs.events.EventComponents.{Method, EventComponent as SaidComponent, SaysEventComponent}
+use Rattle.profile.specs.events.Events.{Event as Whole, is_master}
+use Rattle.profile.specs.events.Properties.{first_second}
+use Rattle.profile.specs.events.ZonedTimes.{clock_of}
+use Rattle.profile.specs.events.Starts.{key_at, IsGiven, IsRuleStart, IsInstance, IsDaysLater, EndsAt}
+use Rattle.profile.specs.events.Confirmed.{alone, has_series, IsOfSeries, AreOfRule}
+use Rattle.cal_zones.specs.Kinds.{zone_of}
+use Rattle.cal_zones.specs.declared.zone.Zone as kept
+use Rattle.cal_zones.proofs.Meant.{meant, in_force}
+use Rattle.cal_events.specs.Component.{component_of, times_of}
+use Rattle.cal_events.specs.MeetingComponents.{IsInEventDates}
+use Rattle.cal_events.specs.OwnInstances.{IsTimely}
+use Rattle.cal_events.specs.Series.{series_said, IsSeriesOf, IsSeriesWithout}
+use Rattle.cal_events.specs.declared.component.EventComponent.{EventComponent}
+use Rattle.cal_events.specs.declared.event_times.EventTimes as declared
+use Rattle.cal_events.specs.declared.series.Series.{Series}
+use Rattle.cal_events.proofs.shared_lemmas.DraftKeys.{some_there}
+use Rattle.cal_events.proofs.shared_lemmas.HiddenLemmas.{has_at, has_from}
+use Rattle.cal_events.proofs.shared_lemmas.InOneOrder.{first_or_later, later, none_in, in_mapped, of_mapped}
+use Rattle.cal_events.proofs.shared_lemmas.InstanceLemmas.{last_of_rule, one_second}
+use Rattle.cal_events.proofs.shared_lemmas.Meanings.{utc_means}
+use Rattle.cal_events.proofs.shared_lemmas.OneInstance.{event_sound}
+use Rattle.cal_events.proofs.shared_lemmas.OwnSingles.{IsAtStart, of_master, at_start, from_start}
+use Rattle.cal_events.proofs.shared_lemmas.SeriesLemmas.{rule_gives, own_master, empty_list, one_start, at_its_start}
+
+-- ---- what clocks say
+
+meant_on : (zone : Option kept.Zone) (local : ℤ) → (t : ℤ) × Means (clock_of (option_map zone_of zone)) local t
+meant_on None local = (local, utc_means local)
+meant_on (Some z) local = meant z local
+
+offset_on : (zone : Option kept.Zone) (t : ℤ) → (offset : ℤ) × IsOffsetAt (clock_of (option_map zone_of zone)) t offset
+offset_on None t = (pos 0, refl)
+offset_on (Some z) t = in_force z.kind t
+
+-- what starts ends
+end_on : (times : declared.EventTimes) (start : ℤ) → (end : ℤ) × EndsAt (times_of times) start end
+end_on times start = let l = later_on times.length.days in (l.0 +ℤ pos times.length.seconds, (l.0, l.1, refl))
+  where
+    later_on : (days : ℕ) → (later : ℤ) × IsDaysLater (clock_of (times_of times).zone) days start later
+    later_on zero = (start, inl (refl, refl))
+    later_on (suc n) =
+        let o = offset_on times.start.zone start in
+        let m = meant_on times.start.zone ((start +ℤ o.0) +ℤ pos (86_400 * suc n)) in
+        (m.0, inr (omega arith, (o.0, o.1, m.1)))
+
+-- ---- the starts that a rule gives
+
+module _ (master : EventComponent) (rule : Rule) (one : IsOneMeaning (clock_of (component_of master).times.zone)) where
+  module _ (second : ℕ) where
+    -- on a day before that one
+    abbrev IsBelow : ℕ → ℤ → Type 0
+    IsBelow k t = (day : ℕ) × (day < k) × (is_rule_day rule day ≡ true) × Means (clock_of (component_of master).times.zone) (local_time day second) t
+
+    below : (k : ℕ) → (starts : List ℤ) × ((t : ℤ) → Contains starts t ↔ IsBelow k t)
+    below zero = ([], λ t. ((λ c. absurd (none_in t c)), λ h. absurd (omega (arith, h.1))))
+    below (suc n) = go (is_rule_day rule n) refl (below n)
+      where
+        later_day : (t : ℤ) → IsBelow n t → IsBelow (suc n) t
+        later_day t h = (h.0, omega (arith, h.1), h.2, h.3)
+
+        go : (b : Bool) → is_rule_day rule n ≡ b → (starts : List ℤ) × ((t : ℤ) → Contains starts t ↔ IsBelow n t) → (starts : List ℤ) × ((t : ℤ) → Contains starts t ↔ IsBelow (suc n) t)
+        go true e r =
+            let m = meant_on master.times.start.zone (local_time n second) in (
+              m.0 ∷ r.0,
+              λ t. (
+                (λ c. elim (first_or_later m.0 t r.0 c) [
+                  | inl same ↦ (n, omega arith, e, subst (Means (clock_of (component_of master).times.zone) (local_time n second)) same m.1)
+                  | inr d ↦ later_day t ((r.1 t).0 d)
+                ]),
+                λ h. elim (cases_order h.0 n) [
+                  | inl at ↦
+                      let same : m.0 ≡ t = one (local_time n second) m.0 t m.1 (subst (λ (x : ℕ). Means (clock_of (component_of master).times.zone) (local_time x second) t) at h.3) in
+                      subst (Contains (m.0 ∷ r.0)) same (zero, omega arith, refl)
+                  | inr o ↦ elim o [
+                    | inl less ↦ later m.0 t r.0 ((r.1 t).1 (h.0, less, h.2, h.3))
+                    | inr more ↦ absurd (omega (arith, more, h.1))
+                  ]
+                ],
+              ),
+            )
+        go false e r = (
+          r.0,
+          λ t. (
+            (λ c. later_day t ((r.1 t).0 c)),
+            λ h. elim (cases_order h.0 n) [
+              | inl at ↦ absurd (true≢false (sym h.2 ∙ ap (is_rule_day rule) at ∙ e))
+              | inr o ↦ elim o [
+                | inl less ↦ (r.1 t).1 (h.0, less, h.2, h.3)
+                | inr more ↦ absurd (omega (arith, more, h.1))
+              ]
+            ],
+          ),
+        )
+
+  abbrev HasStarts : List ℤ → Type 0
+  HasStarts starts = (t : ℤ) → Contains starts t ↔ IsRuleStart (component_of master).times rule t
+
+  rule_starts : (k : ℕ) → 3_652_424 < k → (starts : List ℤ) × HasStarts starts
+  rule_starts k past = go (master.times.start.local +ℤ pos 62_167_219_200) refl
+    where
+      go : (d : ℤ) → master.times.start.local +ℤ pos 62_167_219_200 ≡ d → (starts : List ℤ) × HasStarts starts
+      go (pos n) e =
+          let second = n % 86_400 in
+          let on : IsOnDay master.times.start.local (n / 86_400) second = (omega arith, omega (arith, ints, e)) in
+          let b = below second k in (
+            b.0,
+            λ t. (
+              (λ c. let h = (b.1 t).0 c in record { first = n / 86_400; second = second; on = on; day = h.0; listed = h.2; means = h.3 }),
+              λ r. (b.1 t).1 (
+                r.day,
+                omega (arith, past, last_of_rule rule r.day r.listed),
+                r.listed,
+                subst (λ (x : ℕ). Means (clock_of (component_of master).times.zone) (local_time r.day x) t) (one_second master.times.start.local r.first (n / 86_400) r.second second r.on on) r.means,
+              ),
+            ),
+          )
+      go (negsuc n) e = ([], λ t. ((λ c. absurd (none_in t c)), λ r. absurd (omega (arith, ints, e, r.on.1))))
+
+-- ---- the instances
+
+module _ (master : EventComponent) (one : (a b : Instance) → IsInstance (of_master (component_of master)) a → IsInstance (of_master (component_of master)) b → a.start ≡ b.start → a ≡ b) where
+  abbrev IsOwn : Instance → Type 0
+  IsOwn b = IsInstance (of_master (component_of master)) b
+
+  -- a start is in the dates and isn't excepted, or this doesn't hold
+  abbrev IsShown : ℤ → Type 0
+  IsShown t = IsInEventDates t × (Contains master.exceptions.items t → ⊥)
+
+  shown : (t : ℤ) → IsShown t ⊎ (IsShown t → ⊥)
+  shown t =
+      by_lt_z t first_second
+      (λ early. inr (λ s. omega (arith, ints, early, s.0.0)))
+      (λ from. by_lt_z t horizon (λ before. listed (list_any (λ own. int_eq own t) master.exceptions.items) refl (from, before)) (λ late. inr (λ s. omega (arith, ints, late, s.0.1))))
+    where
+      listed : (b : Bool) → list_any (λ own. int_eq own t) master.exceptions.items ≡ b → IsInEventDates t → IsShown t ⊎ (IsShown t → ⊥)
+      listed true e named = inr (λ s. s.1 (has_at master.exceptions.items t e))
+      listed false e named = inl (named, λ c. true≢false (sym (has_from master.exceptions.items t c) ∙ e))
+
+  abbrev booked : ℤ → Instance
+  booked t = record { key = key_at (component_of master) t; start = t; end = (end_on master.times t).0 }
+
+  own : (t : ℤ) → IsGiven (component_of master).times (component_of master).rule t → IsShown t → IsOwn (booked t)
+  own t given s = from_start (component_of master) (booked t) (record {
+    starts = record { given = inl given; in_dates = s.0; not_excepted = s.1; not_replaced = λ r. none_in _ r.among };
+    key = refl;
+    ends = (end_on master.times t).1;
+  })
+
+  own_shown : (b : Instance) → IsOwn b → IsShown b.start
+  own_shown b h = let x = at_start (component_of master) b h in (x.starts.in_dates, x.starts.not_excepted)
+
+  abbrev AreAt : List ℤ → List Instance → Type 0
+  AreAt starts all = (b : Instance) → Contains all b ↔ (Contains starts b.start × IsOwn b)
+
+  picked : (starts : List ℤ) → ((t : ℤ) → Contains starts t → IsGiven (component_of master).times (component_of master).rule t) → (all : List Instance) × AreAt starts all
+  picked [] given = ([], λ b. ((λ c. absurd (none_in b c)), λ h. absurd (none_in b.start h.0)))
+  picked (x ∷ xs) given = go (shown x) (picked xs (λ t c. given t (later x t xs c)))
+    where
+      go : IsShown x ⊎ (IsShown x → ⊥) → (all : List Instance) × AreAt xs all → (all : List Instance) × AreAt (x ∷ xs) all
+      go (inl s) r =
+          let first : IsOwn (booked x) = own x (given x (zero, omega arith, refl)) s in (
+            booked x ∷ r.0,
+            λ b. (
+              (λ c. elim (first_or_later (booked x) b r.0 c) [
+                | inl same ↦ subst (λ (y : Instance). Contains (x ∷ xs) y.start × IsOwn y) same ((zero, omega arith, refl), first)
+                | inr d ↦ let h = (r.1 b).0 d in (later x b.start xs h.0, h.1)
+              ]),
+              λ h. elim (first_or_later x b.start xs h.0) [
+                | inl same ↦ (zero, omega arith, one (booked x) b first h.1 same)
+                | inr d ↦ later (booked x) b r.0 ((r.1 b).1 (d, h.1))
+              ],
+            ),
+          )
+      go (inr not) r = (
+        r.0,
+        λ b. (
+          (λ c. let h = (r.1 b).0 c in (later x b.start xs h.0, h.1)),
+          λ h. elim (first_or_later x b.start xs h.0) [
+            | inl same ↦ absurd (not (subst IsShown (sym same) (own_shown b h.1)))
+            | inr d ↦ (r.1 b).1 (d, h.1)
+          ],
+        ),
+      )
+
+pub listed_instances : (series : Series) → (all : List Instance) × ((b : Instance) → Contains all b ↔ IsInstance (series_said series) b)
+listed_instances series =
+    let event = series.event in
+    let m = own_master event series.ruled in
+    let master = m.0 in
+    let ruled = some_there master.rule (series.ruled.1.0 master m.1).0 in
+    let rule = ruled.0 in
+    let starts = rule_starts master rule (event.clock master m.1).0 3_652_425 (omega arith) in
+    let given : (t : ℤ) → Contains starts.0 t → IsGiven (component_of master).times (component_of master).rule t = λ t c. rule_gives (component_of master).times (component_of master).rule rule t ruled.1 ((starts.1 t).0 c) in
+    let one : (a b : Instance) → IsInstance (of_master (component_of master)) a → IsInstance (of_master (component_of master)) b → a.start ≡ b.start → a ≡ b =
+    λ a b h k start.
+    let x = subst (λ (w : Whole). IsInstance w a) (sym m.2) h in
+    let y = subst (λ (w : Whole). IsInstance w b) (sym m.2) k in
+    one_start event series.ruled a b x y start ((at_its_start event series.ruled a x).0 ∙ start ∙ sym (at_its_start event series.ruled b y).0) in
+    let all = picked master one starts.0 given in (
+      all.0,
+      λ b. (
+        (λ c. subst (λ (w : Whole). IsInstance w b) (sym m.2) ((all.1 b).0 c).1),
+        λ h.
+            let k = subst (λ (w : Whole). IsInstance w b) m.2 h in
+            (all.1 b).1 ((starts.1 b.start).1 (starts_by_rule master rule ruled.1 (series.ruled.1.0 master m.1).1 b (at_start (component_of master) b k)), k),
+      ),
+    )
+  where
+    -- nothing is added to it
+    starts_by_rule : (master : EventComponent) (rule : Rule) → master.rule ≡ Some rule → length master.additions.items ≡ 0 → (b : Instance) → IsAtStart (component_of master) b
+        → IsRuleStart (component_of master).times rule b.start
+    starts_by_rule master rule is none b x = elim x.starts.given [
+      | inl g ↦ subst (λ (o : Option Rule). IsGiven (component_of master).times o b.start) is g
+      | inr c ↦ absurd (none_in b.start (subst (λ (l : List ℤ). Contains l b.start) (empty_list master.additions.items none) c))
+    ]
+
+-- all instances of a series
+abbrev pub instances_of : Series → List Instance
+instances_of series = (listed_instances series).0
+
+pub are_instances : (series : Series) (b : Instance) → Contains (instances_of series) b → IsInstance (series_said series) b
+are_instances series b c = ((listed_instances series).1 b).0 c
+
+pub all_instances : (series : Series) (b : Instance) → IsInstance (series_said series) b → Contains (instances_of series) b
+all_instances series b h = ((listed_instances series).1 b).1 h
+
+-- those that are left of it
+pub left_instances : (series left : Series) (starts : List ℤ) → IsSeriesWithout (series_said series) starts (series_said left)
+    → (b : Instance) → Contains (instances_of left) b ↔ (Contains (instances_of series) b × (Contains starts b.start → ⊥))
+left_instances series left starts is b = (
+  (λ c. let h = (is.instances b).0 (are_instances left b c) in (all_instances series b h.0, h.1)),
+  λ c. all_instances left b ((is.instances b).1 (are_instances series b c.0, c.1)),
+)
+
+-- an event's series has those that its rule gives
+pub of_its_rule : (event : SaidComponent) (series : Series) → IsSeriesOf event (series_said series) → AreOfRule event (Some (series_said series))
+of_its_rule event series is = (is.has, is.instances)
+
+-- ---- the times of what was read
+
+pub said_timely : (object : Tree) {m : Option Method} (lines : List (List ℕ)) (event : SaidComponent) → SaysEventComponent object m lines event → IsTimely event
+said_timely object lines event s = let x = event_sound object lines event s in record { steady = x.steady; starts = x.starts }
+
+-- ---- each instance of an event is of its series, or apart from it
+
+abbrev starts_of : Series → List ℤ
+starts_of series = map (λ (y : Instance). y.start) (instances_of series)
+
+pub of_series_or_apart : (event : SaidComponent) (series : Series) → IsSeriesOf event (series_said series) → (b : Instance) → IsInstance (alone event) b → IsOfSeries event b ⊎ (IsOfSeries event b → ⊥)
+of_series_or_apart event series is b h = go (list_any (λ own. int_eq own b.start) (starts_of series)) refl
+  where
+    go : (found : Bool) → list_any (λ own. int_eq own b.start) (starts_of series) ≡ found → IsOfSeries event b ⊎ (IsOfSeries event b → ⊥)
+    go true e =
+        let y = of_mapped (λ (z : Instance). z.start) (instances_of series) b.start (has_at (starts_of series) b.start e) in
+        let of = ((is.instances y.0).0 (are_instances series y.0 y.1)).1 in
+        inl (record { master = of.master; rule = of.rule; has = of.has; starts = subst (IsRuleStart event.times of.rule) y.2 of.starts })
+    go false e = inr (λ of. true≢false (sym (has_from (starts_of series) b.start (in_mapped (λ (z : Instance). z.start) (instances_of series) b (all_instances series b ((is.instances b).1 (h, of))))) ∙ e))
+
+-- an event without a series has no instance of one
+pub apart_without : (event : SaidComponent) (b : Instance) → has_series event ≡ false → IsOfSeries event b → ⊥
+apart_without event b none of = true≢false (sym (both (is_master event) (is_some event.rule) of.master (ap (λ (o : Option Rule). is_some o) of.has)) ∙ none)
+  where
+    both : (a b : Bool) → a ≡ true → b ≡ true → (a && b) ≡ true
+    both a b p q = rw p (q)

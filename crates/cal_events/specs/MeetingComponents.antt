@@ -1,0 +1,35 @@
+-- Which instances events are for, and whether they are of one meeting.
+use Rattle.std.specs.Prelude.{◌≡◌, ◌⊎◌, ℕ, ◌<◌, List, [], length, map, filter, Option, ℤ, ◌≤ℤ◌, ◌<ℤ◌, Bool, ◌||◌, ◌==◌}
+use Rattle.profile.specs.checker.Instances.{horizon}
+use Rattle.profile.specs.events.Properties.{first_second}
+use Rattle.profile.specs.events.Events.{AreOfOne, InstancesDiffer, is_master, is_override, Event}
+use Rattle.profile.specs.faults.Faults.{is_between, is_meeting_event_fault}
+use Rattle.cal_events.specs.Component.{meeting_with}
+use Rattle.cal_events.specs.declared.meeting_components.MeetingComponents.{MeetingComponents}
+use Rattle.profile.specs.events.EventComponents as profile
+
+-- which instances events are for
+abbrev pub instants_said : List profile.EventComponent → List (Option ℤ)
+instants_said events = map (λ event. event.recurrence) events
+
+-- events aren't those of one meeting: there is none, or two are of two
+abbrev pub IsNotOne : List profile.EventComponent → ℕ → Type 0
+IsNotOne events n = ((n ≡ 66) × (events ≡ [])) ⊎ ((n ≡ 62) × (AreOfOne events → ⊥))
+
+-- two of these events are of one slot of their meeting: both of the whole, or of one instance
+abbrev pub SharesSlot : List profile.EventComponent → ℕ → Type 0
+SharesSlot events n =
+    ((n ≡ 53) × (1 < length (filter is_master events))) ⊎ ((n ≡ 54) × (InstancesDiffer (filter is_override events) → ⊥))
+
+-- the instant is in the dates that an event may name
+abbrev pub IsInEventDates : ℤ → Type 0
+IsInEventDates instant = (first_second ≤ℤ instant) × (instant <ℤ horizon)
+
+-- ---- what the VEVENTs of one meeting represent, and the numbers of their refusals
+
+abbrev pub meeting_of : MeetingComponents → Event
+meeting_of m = meeting_with m.master m.overrides.items
+
+-- a fault of VEVENTs, or between them
+abbrev pub is_components_fault : ℕ → Bool
+is_components_fault n = is_meeting_event_fault n || is_between 53 54 n || n == 62 || n == 66

@@ -1,8 +1,0 @@
--- What an iterator over the singles of a calendar has left.
-use Rattle.std.specs.Prelude.{List, map}
-use Rattle.profile.specs.checker.Instances.{Instance}
-use Rattle.cal_events.specs.Calendars.{named_instance}
-use Rattle.cal_events.specs.declared.calendar.Singles.{Singles}
-
-abbrev pub singles_left : Singles → List Instance
-singles_left s = map (named_instance s.entries.now) s.singles.now

@@ -1,0 +1,3 @@
+pub mod TimeLists
+pub mod ZonePlaces
+pub mod BodyLemmas

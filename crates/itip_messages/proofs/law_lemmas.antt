@@ -1,0 +1,9 @@
+pub mod ReplyReads
+pub mod RefreshReads
+pub mod AnswerReads
+pub mod PartTexts
+pub mod NoLonger
+pub mod HeardEvents
+pub mod HeardObjects
+pub mod HeardLaws
+pub mod OneMessage

@@ -1,0 +1,11 @@
+pub mod SentBehind
+pub mod CancelReads
+pub mod StoredEvents
+pub mod SentContents
+pub mod SentEvents
+pub mod SentZones
+pub mod SentMeetings
+pub mod WrittenMeetings
+pub mod SentParts
+pub mod RequestReads
+pub mod ShownReads

@@ -1,0 +1,193 @@
+-- Events that are said again make the same parts for each room.
+-- Behind requests_read_back.
+use Rattle.std.proofs.Common.{◌≡◌, ◌∙◌, refl, sym, ap, ap₂, subst, inl, inr, ℕ, Bool, true, false, not, ◌&&◌, ◌||◌, cond, List, [], ◌∷◌, length, map, filter, Some}
+use Rattle.std.specs.Prelude.{◌==◌, AllPairs, Contains, option_map}
+use Rattle.std.specs.declared.cmp.Ordering.TheVariants.{Less}
+use Rattle.std.specs.List.{list_any, AllZip}
+use Rattle.std.specs.Str.{bytes_eq}
+use Rattle.std.proofs.lemmas.Slice.Eq.{bytes_eq-Decides}
+use Rattle.profile.specs.events.EventComponents.{Attendee, EventComponent, Request}
+use Rattle.profile.specs.events.Events.{components_of, is_master}
+use Rattle.profile.specs.organisers.Objects.{counted}
+use Rattle.profile.specs.rooms.Messages.{AreBySlot, AreParts, Content, IsBody, IsContent, IsPart, is_for, is_part_for, names_room, own_revision, parts_for, raised_to, slot_named, slot_of}
+use Rattle.profile.specs.rooms.Revisions.{Absent, Body, Cancelled, Part, Set, Slot, slot_cmp}
+use Rattle.cal_events.proofs.shared_lemmas.InOneOrder.{mapped_pairs, pairs_mapped}
+use Rattle.cal_events.proofs.shared_lemmas.SeriesLemmas.{zip_back, zip_with}
+use Rattle.itip_order.proofs.Lists.{in_cons, in_head, in_tail, none_in_nil}
+use Rattle.itip_messages.specs.SentLaw.{attendee_at, first_of, meeting_of, request_of}
+use Rattle.itip_messages.proofs.sent_law_lemmas.SentMeetings.{AreApart, masters_zip, meetings_zip}
+
+-- what two events have alike that make the same parts
+pub record IsAlike (a b : EventComponent) : Type 0 where
+  pub organiser : a.organiser ≡ b.organiser
+  pub uid : a.uid ≡ b.uid
+  pub recurrence : a.recurrence ≡ b.recurrence
+  pub cancelled : a.cancelled ≡ b.cancelled
+  pub revision : own_revision a ≡ own_revision b
+  pub names : (room : List ℕ) → names_room room a ≡ names_room room b
+  pub content : (content : Content) → IsContent content a → IsContent content b
+
+alike_slot : (a b : EventComponent) → IsAlike a b → a.recurrence ≡ b.recurrence
+alike_slot a b h = h.recurrence
+
+-- ---- one part
+
+body_alike : (room : List ℕ) (a b : EventComponent) → IsAlike a b → (content : Content) (body : Body) → IsBody room Request a content body → IsBody room Request b content body
+body_alike room a b h content (Set octets) (stays, names, when, is) = (ap (λ x. false || x) (sym h.cancelled) ∙ stays, sym (h.names room) ∙ names, h.content content when, is)
+body_alike room a b h content Absent (stays, names, is) = (ap (λ x. false || x) (sym h.cancelled) ∙ stays, sym (h.names room) ∙ names, is)
+body_alike room a b h content Cancelled (gone, is) = (ap (λ x. false || x) (sym h.cancelled) ∙ gone, is)
+
+whole_alike : (xs ys : List EventComponent) → AllZip IsAlike xs ys → option_map own_revision (first_of xs) ≡ option_map own_revision (first_of ys)
+whole_alike [] [] z = refl
+whole_alike [] (y ∷ ys) z = absurd z
+whole_alike (x ∷ xs) [] z = absurd z
+whole_alike (x ∷ xs) (y ∷ ys) z = ap Some z.0.revision
+
+module _ (room : List ℕ) (xs ys : List EventComponent) (z : AllZip IsAlike xs ys) where
+  abbrev IsPartOf : List EventComponent → EventComponent → Part → Type 0
+  IsPartOf events event part = (content : Content) × IsPart room (request_of events) event content part
+
+  part_alike : (a b : EventComponent) (part : Part) → IsAlike a b → IsPartOf xs a part → IsPartOf ys b part
+  part_alike a b part h (content, p) = (
+    content,
+    record {
+      organiser = sym h.organiser ∙ p.organiser;
+      uid = p.uid ∙ h.uid;
+      slot = p.slot ∙ ap slot_named h.recurrence;
+      revision = p.revision ∙ ap₂ raised_to (whole_alike (filter is_master xs) (filter is_master ys) (masters_zip IsAlike alike_slot xs ys z)) h.revision;
+      body = body_alike room a b h content part.body p.body;
+    },
+  )
+
+  -- ---- the events that are parts
+
+  abbrev from : List EventComponent
+  from = components_of (meeting_of xs)
+
+  abbrev to : List EventComponent
+  to = components_of (meeting_of ys)
+
+  all_pass : (events : List EventComponent) → filter (is_part_for room Request) events ≡ events
+  all_pass [] = refl
+  all_pass (e ∷ events) = ap (λ l. e ∷ l) (all_pass events)
+
+  any_alike : (as_said again : List EventComponent) → AllZip IsAlike as_said again → list_any (is_for room Request) as_said ≡ list_any (is_for room Request) again
+  any_alike [] [] w = refl
+  any_alike [] (b ∷ again) w = absurd w
+  any_alike (a ∷ as_said) [] w = absurd w
+  any_alike (a ∷ as_said) (b ∷ again) w = λ i. (w.0.names room i || (false && length a.attendees == 0)) || any_alike as_said again w.1 i
+
+  parts_are : (events : List EventComponent) → parts_for room (request_of events) ≡ cond (list_any (is_for room Request) (components_of (meeting_of events))) (components_of (meeting_of events)) []
+  parts_are events = ap (λ l. cond (list_any (is_for room Request) (components_of (meeting_of events))) l []) (all_pass (components_of (meeting_of events)))
+
+  parts_zip : AllZip IsAlike (parts_for room (request_of xs)) (parts_for room (request_of ys))
+  parts_zip =
+      let all = meetings_zip IsAlike alike_slot xs ys z in
+      let by : (a b : Bool) → a ≡ b → AllZip IsAlike (cond a from []) (cond b to []) = λ a b e. subst (λ c. AllZip IsAlike (cond a from []) (cond c to [])) e (same a all) in
+      subst (λ (l : List EventComponent). AllZip IsAlike l (parts_for room (request_of ys))) (sym (parts_are xs))
+      (subst (λ (l : List EventComponent). AllZip IsAlike (cond (list_any (is_for room Request) from) from []) l) (sym (parts_are ys)) (by _ _ (any_alike from to all)))
+    where
+      same : (a : Bool) → AllZip IsAlike from to → AllZip IsAlike (cond a from []) (cond a to [])
+      same true all = all
+      same false all = tt
+
+-- ---- by their slots
+
+-- these are alike, in another order
+record Again (ys ordered : List EventComponent) : Type 0 where
+  again : List EventComponent
+  alike : AllZip IsAlike ordered again
+  among : (y : EventComponent) → Contains again y → Contains ys y
+
+again_of : (xs ys : List EventComponent) → AllZip IsAlike xs ys → (ordered : List EventComponent) → ((x : EventComponent) → Contains ordered x → Contains xs x) → Again ys ordered
+again_of xs ys z [] f = record { again = []; alike = tt; among = λ y c. absurd (none_in_nil y c) }
+again_of xs ys z (x ∷ ordered) f =
+    let one = zip_with IsAlike xs ys x z (f x (in_head x ordered)) in
+    let rest = again_of xs ys z ordered (λ w c. f w (in_tail x ordered w c)) in
+    record {
+      again = one.0 ∷ rest.again;
+      alike = (one.2, rest.alike);
+      among = λ y c. elim (in_cons one.0 rest.again y c) [
+        | inl here ↦ subst (λ (w : EventComponent). Contains ys w) here one.1
+        | inr there ↦ rest.among y there
+      ];
+    }
+
+same_slots : (xs ys : List EventComponent) → AllZip IsAlike xs ys → map slot_of xs ≡ map slot_of ys
+same_slots [] [] z = refl
+same_slots [] (y ∷ ys) z = absurd z
+same_slots (x ∷ xs) [] z = absurd z
+same_slots (x ∷ xs) (y ∷ ys) z = λ i. slot_named (z.0.recurrence i) ∷ same_slots xs ys z.1 i
+
+abbrev IsBefore : Slot → Slot → Type 0
+IsBefore a b = slot_cmp a b ≡ Less
+
+again_by_slot : (xs ys ordered : List EventComponent) → AllZip IsAlike xs ys → AreApart ys → AreBySlot xs ordered → (a : Again ys ordered) → AreBySlot ys a.again
+again_by_slot xs ys ordered z differ by_slot a = record {
+  exact = λ y. (
+    λ c. a.among y c,
+    λ c.
+        let x = zip_back IsAlike xs ys y z c in
+        let other = zip_with IsAlike ordered a.again x.0 a.alike ((by_slot.exact x.0).1 x.1) in
+        let same : other.0 ≡ y = differ other.0 y (a.among other.0 other.1) c (sym other.2.recurrence ∙ x.2.recurrence) in
+        subst (λ (w : EventComponent). Contains a.again w) same other.1,
+  );
+  order = mapped_pairs IsBefore slot_of a.again (subst (AllPairs IsBefore) (same_slots ordered a.again a.alike) (pairs_mapped IsBefore slot_of ordered by_slot.order));
+}
+
+each_again : (R S : EventComponent → Part → Type 0) → ((x y : EventComponent) (part : Part) → IsAlike x y → R x part → S y part) → (xs ys : List EventComponent) (parts : List Part) → AllZip IsAlike xs ys → AllZip R xs parts → AllZip S ys parts
+each_again R S f [] [] [] z r = tt
+each_again R S f [] [] (p ∷ parts) z r = absurd r
+each_again R S f [] (y ∷ ys) parts z r = absurd z
+each_again R S f (x ∷ xs) [] parts z r = absurd z
+each_again R S f (x ∷ xs) (y ∷ ys) [] z r = absurd r
+each_again R S f (x ∷ xs) (y ∷ ys) (p ∷ parts) z r = (f x y p z.0 r.0, each_again R S f xs ys parts z.1 r.1)
+
+-- events of which none or all count are apart where all are
+some_apart : (b : Bool) (events : List EventComponent) → AreApart events → AreApart (cond b events [])
+some_apart true events h = h
+some_apart false events h = λ x y c d e. absurd (none_in_nil x c)
+
+pub same_parts : (room : List ℕ) (xs ys : List EventComponent) → AllZip IsAlike xs ys → AreApart (components_of (meeting_of ys)) → (parts : List Part) → AreParts room (request_of xs) parts → AreParts room (request_of ys) parts
+same_parts room xs ys z differ parts p =
+    let zipped = parts_zip room xs ys z in
+    let differ_there : AreApart (parts_for room (request_of ys)) = subst AreApart (sym (parts_are room xs ys z ys)) (some_apart (list_any (is_for room Request) (components_of (meeting_of ys))) (components_of (meeting_of ys)) differ) in
+    let a = again_of (parts_for room (request_of xs)) (parts_for room (request_of ys)) zipped p.events (λ x c. (p.are.exact x).0 c) in
+    record {
+      events = a.again;
+      are = again_by_slot (parts_for room (request_of xs)) (parts_for room (request_of ys)) p.events zipped differ_there p.are a;
+      each =
+          each_again (λ event part. (content : Content) × IsPart room (request_of xs) event content part) (λ event part. (content : Content) × IsPart room (request_of ys) event content part)
+          (part_alike room xs ys z) p.events a.again parts a.alike p.each;
+    }
+
+-- ---- who is named
+
+abbrev names_at : List ℕ → List Attendee → Bool
+names_at room attendees = list_any (λ x. bytes_eq x.address room) (map (λ x. attendee_at x.address) attendees)
+
+abbrev other_than : List ℕ → List Attendee → List Attendee
+other_than address attendees = filter (λ other. not (bytes_eq address other.address)) attendees
+
+-- without another address the same are named
+names_others : (address room : List ℕ) → bytes_eq address room ≡ false → (attendees : List Attendee) → names_at room (other_than address attendees) ≡ names_at room attendees
+names_others address room e [] = refl
+names_others address room e (x ∷ attendees) = pass (bytes_eq address x.address) refl (names_others address room e attendees)
+  where
+    pass : (c : Bool) → bytes_eq address x.address ≡ c → names_at room (other_than address attendees) ≡ names_at room attendees
+        → names_at room (cond (not c) (x ∷ other_than address attendees) (other_than address attendees)) ≡ (bytes_eq x.address room || names_at room attendees)
+    pass false d h = ap (λ b. bytes_eq x.address room || b) h
+    pass true d h = h ∙ ap (λ b. b || names_at room attendees) (sym (subst (λ (a : List ℕ). bytes_eq a room ≡ false) ((bytes_eq-Decides address x.address).0 d) e))
+
+-- of those that count each is named that is named by any
+counts : (room : List ℕ) (attendees : List Attendee) → names_at room (counted attendees) ≡ list_any (λ a. bytes_eq a.address room) attendees
+counts room [] = refl
+counts room (a ∷ more) = by (bytes_eq a.address room) refl (counts room more)
+  where
+    by : (b : Bool) → bytes_eq a.address room ≡ b → names_at room (counted more) ≡ list_any (λ x. bytes_eq x.address room) more
+        → (b || names_at room (other_than a.address (counted more))) ≡ (b || list_any (λ x. bytes_eq x.address room) more)
+    by true e h = refl
+    by false e h = names_others a.address room e (counted more) ∙ h
+
+pub names_same : (room : List ℕ) (event sent : EventComponent) → sent.attendees ≡ map (λ attendee. attendee_at attendee.address) (counted event.attendees) → names_room room sent ≡ names_room room event
+names_same room event sent e = ap (list_any (λ a. bytes_eq a.address room)) e ∙ counts room event.attendees

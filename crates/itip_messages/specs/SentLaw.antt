@@ -1,0 +1,133 @@
+-- What octets that an organiser wrote read back as: the message that they spell, and its parts.
+use Rattle.std.specs.Prelude.{◌≡◌, ◌↔◌, ◌∷◌, filter, ℕ, ◌<◌, ◌^◌, Bool, true, List, [], map, Option, Some, None}
+use Rattle.std.specs.List.{AllZip}
+use Rattle.std.specs.Str.{IsUtf8}
+use Rattle.profile.specs.series.Rules.{Rule, is_rule_day}
+use Rattle.profile.specs.text.Values.{IsUid}
+use Rattle.profile.specs.events.EventComponents.{Attendee, EventComponent, Participation, Request, Cancel, NeedsAction}
+use Rattle.profile.specs.events.Events.{Event, SpellsEvent, is_master, is_override}
+use Rattle.profile.specs.organisers.Objects.{counted}
+use Rattle.profile.specs.organisers.Organisers.{IsSeenOf, OrganiserBook, Stored}
+use Rattle.profile.specs.rooms.Messages.{AreAscending, AreParts, Content, IsContent, Message, SpellsMessage, is_in_dates, slot_of}
+use Rattle.profile.specs.rooms.Revisions.{Part, Slot, Whole, Cancelled, Revision}
+use Rattle.itip_messages.specs.Law.{IsReadAddress, IsTextValue, no_times}
+
+-- ---- texts
+
+-- an address as it is read, in UTF-8
+pub record IsSentAddress (text : List ℕ) : Type 0 where
+  pub read : IsReadAddress text
+  pub utf8 : IsUtf8 text
+
+-- the organiser, the UID and SEQUENCE are such as a message's are read
+pub record IsSentName (organiser uid : List ℕ) (revision : Revision) : Type 0 where
+  pub address : IsSentAddress organiser
+  pub is_uid : IsUid uid
+  pub text : IsTextValue uid
+  pub small : revision.sequence < 2 ^ 31
+
+-- ---- a CANCEL
+
+-- an attendee of whom a line says no more than the address
+abbrev pub attendee_at : List ℕ → Attendee
+attendee_at address = record { address = address; participation = NeedsAction; scheduled = true }
+
+-- the event of a CANCEL: whose it is, which revision, whether it is called off, and whom it is for
+abbrev pub cancel_event : (organiser uid : List ℕ) → Revision → Bool → List (List ℕ) → EventComponent
+cancel_event organiser uid revision called_off to = record {
+  uid = uid;
+  organiser = Some organiser;
+  stamp = Some revision.stamp;
+  sequence = revision.sequence;
+  cancelled = called_off;
+  recurrence = None;
+  times = no_times;
+  rule = None;
+  additions = [];
+  exceptions = [];
+  summary = [];
+  attendees = map attendee_at to;
+}
+
+-- the CANCEL of a whole meeting
+abbrev pub cancel_message : (organiser uid : List ℕ) → Revision → Bool → List (List ℕ) → Message
+cancel_message organiser uid revision called_off to = record { method = Cancel; meeting = record { master = Some (cancel_event organiser uid revision called_off to); overrides = [] } }
+
+-- what it says to a room: the whole meeting is cancelled
+abbrev pub cancel_part : (organiser uid : List ℕ) → Revision → Part
+cancel_part organiser uid revision = record { organiser = organiser; uid = uid; slot = Whole; revision = revision; body = Cancelled }
+
+-- ---- a meeting again
+
+-- both are missing, or both have the same days
+abbrev pub IsSameRule : Option Rule → Option Rule → Type 0
+IsSameRule None None = Unit {0}
+IsSameRule (Some rule) (Some back) = (day : ℕ) → is_rule_day back day ≡ is_rule_day rule day
+IsSameRule None (Some back) = ⊥
+IsSameRule (Some rule) None = ⊥
+
+-- the event that is said of an event of a store, in this revision: what is added and taken away is ascending, and of what is taken away that
+-- counts which is where a start may be; each attendee occurs once, as such a one
+pub record IsSaidAgain (IsSuch : Slot → Attendee → Attendee → Type 0) (revision : Revision) (event said : EventComponent) : Type 0 where
+  pub uid : said.uid ≡ event.uid
+  pub organiser : said.organiser ≡ event.organiser
+  pub stamp : said.stamp ≡ Some revision.stamp
+  pub sequence : said.sequence ≡ revision.sequence
+  pub cancelled : said.cancelled ≡ event.cancelled
+  pub recurrence : said.recurrence ≡ event.recurrence
+  pub times : said.times ≡ event.times
+  pub rule : IsSameRule event.rule said.rule
+  pub additions : AreAscending event.additions said.additions
+  pub exceptions : AreAscending (filter is_in_dates event.exceptions) said.exceptions
+  pub summary : said.summary ≡ event.summary
+  pub attendees : AllZip (IsSuch (slot_of event)) (counted event.attendees) said.attendees
+  -- and the same lines say when both are
+  pub content : (content : Content) → IsContent content event ↔ IsContent content said
+
+-- it hasn't answered yet
+abbrev pub HasNoAnswer : Slot → Attendee → Attendee → Type 0
+HasNoAnswer slot attendee said = said ≡ attendee_at attendee.address
+
+-- as it is sent
+abbrev pub IsSentAs : Revision → EventComponent → EventComponent → Type 0
+IsSentAs = IsSaidAgain HasNoAnswer
+
+-- the first of these, if there is one
+abbrev pub first_of : List EventComponent → Option EventComponent
+first_of [] = None
+first_of (event ∷ events) = Some event
+
+-- the meeting of these events
+abbrev pub meeting_of : List EventComponent → Event
+meeting_of events = record { master = first_of (filter is_master events); overrides = filter is_override events }
+
+-- ---- a REQUEST
+
+-- that of a meeting with these events
+abbrev pub request_of : List EventComponent → Message
+request_of events = record { method = Request; meeting = meeting_of events }
+
+-- the event in this revision
+abbrev pub revised : Revision → EventComponent → EventComponent
+revised revision event = record event { sequence = revision.sequence; stamp = Some revision.stamp }
+
+-- the octets spell the REQUEST of such events, which says to each room what these events say in this revision
+pub record SpellsRequest (revision : Revision) (events : List EventComponent) (octets : List ℕ) : Type 0 where
+  pub sent : List EventComponent
+  pub each : AllZip (IsSentAs revision) events sent
+  pub spells : SpellsMessage octets (request_of sent)
+  pub parts : (room : List ℕ) (parts : List Part) → AreParts room (request_of sent) parts ↔ AreParts room (request_of (map (revised revision) events)) parts
+
+-- ---- what is shown
+
+-- it has answered so, by what is seen of it
+abbrev pub HasAnswered : OrganiserBook → Stored → Slot → Attendee → Attendee → Type 0
+HasAnswered book stored slot attendee said =
+    (answer : Participation) × IsSeenOf book stored slot attendee.address answer
+    × (said ≡ record { address = attendee.address; participation = answer; scheduled = true })
+
+-- the octets spell an event with its instances: that of the store, with the answers that are seen
+pub record SpellsShown (book : OrganiserBook) (stored : Stored) (octets : List ℕ) : Type 0 where
+  pub shown : List EventComponent
+  pub each : AllZip (IsSaidAgain (HasAnswered book stored) stored.revision) stored.events shown
+  pub spells : SpellsEvent octets (meeting_of shown)

@@ -1,0 +1,2 @@
+pub mod KeptExamples
+pub mod Examples

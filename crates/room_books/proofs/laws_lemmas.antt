@@ -1,0 +1,15 @@
+pub mod Runs
+pub mod KeptRuns
+pub mod OneAnswer
+pub mod KeptMeetings
+pub mod KeptCalendars
+pub mod KeptStreams
+pub mod KeptAnswers
+pub mod ZonesIn
+pub mod KeptOwn
+pub mod KeptEvents
+pub mod KeptInstances
+pub mod KeptEntries
+pub mod KeptReplaced
+pub mod Members
+pub mod KeptLines

@@ -1,0 +1,63 @@
+-- Over a stream: each room's book is one that octets asked for, step by step.
+-- Cited by served_texts_pass.
+use Rattle.std.proofs.Common.{◌+◌, ℕ, ℤ, map, List, [], ◌∷◌, inl, inr, sym, subst}
+use Rattle.std.specs.List.{Contains}
+use Rattle.profile.specs.rooms.Messages.{Message, SpellsMessage}
+use Rattle.profile.specs.streams.Streams.{Box, Hosted, Config, Said, ToRooms, ToOrganiser, Spells, Steps, Takes, AllTake, Answers, AllAnswers, new_box}
+use Rattle.profile.specs.rooms.Rooms.{empty_book}
+use Rattle.itip_order.proofs.Lists.{in_cons, none_in_nil}
+use Rattle.room_books.proofs.laws_lemmas.KeptRuns.{KeepsAll, keeps_none, keeps_step, all_asked}
+
+-- what holds of each room that a box hosts
+AllKeep : List Hosted → Type 0
+AllKeep [] = Unit {0}
+AllKeep (room ∷ rooms) = KeepsAll room.address room.book × AllKeep rooms
+
+take_keeps : (moment : ℤ) (message : Message) (object octets : List ℕ) (before after : Hosted) → SpellsMessage object message → Takes moment message before after octets → KeepsAll before.address before.book → KeepsAll after.address after.book
+take_keeps moment message object octets before after s t k =
+    subst (λ (a : List ℕ). KeepsAll a after.book) (sym t.same)
+    (keeps_step before.address before.book t.claims moment t.outcome after.book (all_asked before.address object message s t.claims t.are) t.step k)
+
+all_take_keep : (moment : ℤ) (message : Message) (object octets : List ℕ) (befores afters : List Hosted) → SpellsMessage object message → AllTake moment message befores afters octets → AllKeep befores → AllKeep afters
+unfolding AllKeep
+all_take_keep moment message object octets [] [] s t k = tt
+all_take_keep moment message object octets [] (after ∷ afters) s t k = absurd t
+all_take_keep moment message object octets (before ∷ befores) [] s t k = absurd t
+all_take_keep moment message object octets (before ∷ befores) (after ∷ afters) s t k =
+    (take_keeps moment message object t.0 before after s t.3 k.0, all_take_keep moment message object t.1 befores afters s t.4 k.1)
+
+step_keeps : (moment : ℤ) (said : Said) (object octets : List ℕ) (before after : Box) → Spells object said → Steps moment said before after octets → AllKeep before.rooms → AllKeep after.rooms
+step_keeps moment (ToRooms message) object octets before after s t k = all_take_keep moment message object octets before.rooms after.rooms s t.0 k
+step_keeps moment (ToOrganiser said) object octets before after s t k = subst AllKeep (sym t.1) k
+
+answers_keep : (moment : ℤ) (n : ℕ) (object octets : List ℕ) (before after : Box) (refused : ℕ) → Answers moment n object before after octets refused → AllKeep before.rooms → AllKeep after.rooms
+answers_keep moment n object octets before after refused a k =
+    elim a [
+      | inl taken ↦ step_keeps moment taken.0 object octets before after taken.1 taken.2 k
+      | inr fault ↦ subst (λ (box : Box). AllKeep box.rooms) (sym fault.2) k
+    ]
+
+all_answers_keep : (moment : ℤ) (n : ℕ) (objects : List (List ℕ)) (before after : Box) (octets : List ℕ) (refused : ℕ) → AllAnswers moment n objects before after octets refused → AllKeep before.rooms → AllKeep after.rooms
+all_answers_keep moment n [] before after octets refused a k = subst (λ (box : Box). AllKeep box.rooms) (sym a.0) k
+all_answers_keep moment n (object ∷ objects) before after octets refused a k =
+    all_answers_keep moment (n + 1) objects a.0 after a.2 a.4 a.8 (answers_keep moment n object a.1 before a.0 a.3 a.7 k)
+
+none_keep : (rooms : List (List ℕ)) → AllKeep (map (λ room. record { address = room; book = empty_book }) rooms)
+unfolding AllKeep
+none_keep [] = tt
+none_keep (room ∷ rooms) = (keeps_none room, none_keep rooms)
+
+room_keeps : (rooms : List Hosted) (room : Hosted) → Contains rooms room → AllKeep rooms → KeepsAll room.address room.book
+unfolding AllKeep
+room_keeps [] room c k = absurd (none_in_nil room c)
+room_keeps (first ∷ rooms) room c k =
+    elim (in_cons first rooms room c) [
+      | inl here ↦ subst (λ (h : Hosted). KeepsAll h.address h.book) here k.0
+      | inr there ↦ room_keeps rooms room there k.1
+    ]
+
+-- each room's book after the objects of a stream
+pub served_keeps : (moment : ℤ) (hosts : Config) (n : ℕ) (objects : List (List ℕ)) (after : Box) (octets : List ℕ) (refused : ℕ) → AllAnswers moment n objects (new_box hosts) after octets refused
+    → (room : Hosted) → Contains after.rooms room → KeepsAll room.address room.book
+served_keeps moment hosts n objects after octets refused a room c =
+    room_keeps after.rooms room c (all_answers_keep moment n objects (new_box hosts) after octets refused a (none_keep hosts.rooms))

@@ -1,0 +1,5 @@
+pub mod Own
+pub mod Hiding
+pub mod Wholes
+pub mod Splits
+pub mod Looking
