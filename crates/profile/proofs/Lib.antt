@@ -11,3 +11,4 @@ mod ConfirmedExamples
 mod OrganiserExamples
 pub mod Repeats
 pub mod ZoneRepeats
+pub mod SeriesRepeats
