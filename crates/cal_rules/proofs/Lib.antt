@@ -21,3 +21,4 @@ pub mod InOrder
 pub mod SameDays
 pub mod PlainRule
 pub mod Shifts
+pub mod Multiples

@@ -7,6 +7,7 @@ mod facts;
 mod law;
 mod listing;
 mod parts;
+mod period;
 mod rule;
 mod text;
 mod values;
@@ -14,6 +15,7 @@ mod write;
 mod written;
 
 pub use law::{base_days_repeat, rule_days_repeat};
+pub use period::{MOST_PERIOD, common_multiple};
 pub use rule::{Days, Rule};
 pub use text::{RuleText, one_rule};
 pub use write::{rule_reads_back, values_read_back, weekday_word, written_means_the_same};

@@ -1,5 +1,5 @@
 -- After how many days a recurrence rule does the same again (RFC 5545 3.3.10). Apart from COUNT and UNTIL.
-use Rattle.std.specs.Prelude.{◌≡◌, ℕ, ◌*◌, Bool, true, false, not, ◌&&◌}
+use Rattle.std.specs.Prelude.{◌≡◌, ℕ, ◌*◌, ◌<◌, ◌≤◌, Bool, true, false, not, ◌&&◌}
 use Rattle.profile.specs.series.Days.{Frequency, Daily, Weekly, Monthly, Yearly}
 use Rattle.profile.specs.series.Rules.{Pattern, is_missing}
 
@@ -23,3 +23,28 @@ pub record IsShift (p : Pattern) (days : ℕ) : Type 0 where
   pub steps : IsInStep p.frequency p.interval days
   pub weeks : is_missing p.weekdays ≡ false → IsMultiple days 7
   pub dates : names_dates p ≡ true → IsMultiple days 146_097
+
+-- the most days that a period of series may have; this profile's choice
+abbrev pub most_period : ℕ
+most_period = 2_932_897
+
+-- the least number of days that is a multiple of both
+pub record IsLeastMultiple (a b days : ℕ) : Type 0 where
+  pub some : 0 < days
+  pub of_first : IsMultiple days a
+  pub of_second : IsMultiple days b
+  pub least : (n : ℕ) → 0 < n → IsMultiple n a → IsMultiple n b → days ≤ n
+
+-- every such number is past the most
+abbrev pub HasNoMultiple : ℕ → ℕ → Type 0
+HasNoMultiple a b = (n : ℕ) → 0 < n → IsMultiple n a → IsMultiple n b → most_period < n
+
+-- the period of a rule apart from COUNT and UNTIL: its least shift
+pub record IsPeriod (p : Pattern) (days : ℕ) : Type 0 where
+  pub some : 0 < days
+  pub shift : IsShift p days
+  pub least : (n : ℕ) → 0 < n → IsShift p n → days ≤ n
+
+-- every shift is past the most
+abbrev pub HasNoPeriod : Pattern → Type 0
+HasNoPeriod p = (n : ℕ) → 0 < n → IsShift p n → most_period < n
