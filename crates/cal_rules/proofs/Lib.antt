@@ -22,3 +22,4 @@ pub mod SameDays
 pub mod PlainRule
 pub mod Shifts
 pub mod Multiples
+pub mod PeriodsOf

@@ -6,3 +6,4 @@ pub mod Cursors
 pub mod Left
 pub mod Taken
 pub mod Lists
+pub mod Shifting

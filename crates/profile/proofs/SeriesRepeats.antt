@@ -89,8 +89,8 @@ module _ (times : EventTimes) (rule : Rule) (days : ℕ) (least greatest from p 
       let there : (later -ℤ d) +ℤ d ≡ later = int_same (omega (arith, ints)) (omega (arith, ints)) in
       let local : ((x +ℤ d) +ℤ offset) +ℤ pos (86_400 * n) ≡ ((x +ℤ offset) +ℤ pos (86_400 * n)) +ℤ d = int_same (omega (arith, ints)) (omega (arith, ints)) in
       let meant : Means (clock_of times.zone) ((x +ℤ offset) +ℤ pos (86_400 * n)) (later -ℤ d) =
-          means_earlier ((x +ℤ offset) +ℤ pos (86_400 * n)) (later -ℤ d) (omega (arith, ints, after_onsets, l, b0, b1, m0, m1, close, many))
-          (subst (λ t. Means (clock_of times.zone) (((x +ℤ offset) +ℤ pos (86_400 * n)) +ℤ d) t) (sym there) (subst (λ t. Means (clock_of times.zone) t later) local means)) in
+      means_earlier ((x +ℤ offset) +ℤ pos (86_400 * n)) (later -ℤ d) (omega (arith, ints, after_onsets, l, b0, b1, m0, m1, close, many))
+      (subst (λ t. Means (clock_of times.zone) (((x +ℤ offset) +ℤ pos (86_400 * n)) +ℤ d) t) (sym there) (subst (λ t. Means (clock_of times.zone) t later) local means)) in
       (later -ℤ d, inr (many, (offset, own, meant)), int_same (omega (arith, ints, e)) (omega (arith, ints, e)))
 
   -- ---- the instances that the rule gives, but for what is excepted and what is replaced
