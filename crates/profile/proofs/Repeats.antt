@@ -1,6 +1,6 @@
 -- One period settles series without end: where no two instances that start before the end of the first period and the greatest width share
 -- an instant, none do at all.
-use Rattle.std.proofs.Common.{◌≡◌, ◌≢◌, refl, subst, sym, ap, arith, ℕ, zero, suc, ◌+◌, ◌-◌, ◌*◌, ℤ, pos, negsuc, ◌+ℤ◌, ◌-ℤ◌, ◌≤ℤ◌, ◌<ℤ◌}
+use Rattle.std.proofs.Common.{◌≡◌, ◌≢◌, refl, subst, ap, arith, ℕ, zero, suc, ◌+◌, ◌-◌, ◌*◌, ℤ, pos, negsuc, ◌+ℤ◌, ◌-ℤ◌, ◌≤ℤ◌, ◌<ℤ◌}
 use Rattle.std.proofs.lemmas.Int.{ints, by_lt_z}
 use Rattle.profile.specs.checker.Instances.{IsWithin}
 use Rattle.std.specs.Prelude.{List, Contains}

@@ -1,8 +1,6 @@
 -- The instances that a rule gives are there a period before, once its zone has begun and no exception is left.
-use Rattle.std.proofs.Common.{◌≡◌, refl, sym, subst, ap, ◌∙◌, arith, ◌⊎◌, inl, inr, ℕ, ◌+◌, ◌-◌, ◌*◌, ◌<◌, ◌≤◌, true, ℤ, pos, negsuc, ◌+ℤ◌, ◌-ℤ◌, ◌≤ℤ◌, ◌<ℤ◌, List, Option}
-use Rattle.std.proofs.lemmas.Int.{ints, by_lt_z}
-use Rattle.std.proofs.lemmas.Bool.{cases_lt}
-use Rattle.std.specs.Prelude.{Contains, Some}
+use Rattle.std.proofs.Common.{◌≡◌, sym, subst, ◌∙◌, arith, ◌⊎◌, inl, inr, ℕ, ◌+◌, ◌-◌, ◌*◌, ◌≤◌, true, ℤ, pos, negsuc, ◌+ℤ◌, ◌-ℤ◌, ◌≤ℤ◌, ◌<ℤ◌}
+use Rattle.std.proofs.lemmas.Int.{ints}
 use Rattle.profile.specs.checker.Instances.{horizon}
 use Rattle.profile.specs.series.Rules.{Rule, is_rule_day}
 use Rattle.profile.specs.series.Zones.{Zone, IsOffsetAt, IsZoneOnset, Onset, Means, local_time}
@@ -10,8 +8,7 @@ use Rattle.profile.specs.series.Repeating.{RepeatsFrom}
 use Rattle.profile.specs.events.Properties.{first_second}
 use Rattle.profile.specs.events.ZonedTimes.{EventTimes, clock_of}
 use Rattle.profile.specs.events.EventRules.{IsOnDay}
-use Rattle.profile.specs.events.EventComponents.{EventComponent}
-use Rattle.profile.specs.events.Starts.{IsDaysLater, EndsAt, IsRuleStart, IsOverridden}
+use Rattle.profile.specs.events.Starts.{EndsAt, IsRuleStart}
 
 int_same : {a b : ℤ} → a ≤ℤ b → b ≤ℤ a → a ≡ b
 int_same {a} {b} l m = omega (arith, ints, l, m)

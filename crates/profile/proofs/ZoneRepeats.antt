@@ -1,10 +1,10 @@
 -- A zone does the same a cycle later, once each of its observances has begun.
-use Rattle.std.proofs.Common.{◌≡◌, ◌↔◌, refl, sym, subst, ap, ◌∙◌, arith, ◌⊎◌, inl, inr, ℕ, ◌+◌, ◌-◌, ◌≤◌, true, ◌&&◌, nat_le, ℤ, pos, negsuc, ◌+ℤ◌, ◌-ℤ◌, ◌≤ℤ◌, ◌<ℤ◌}
+use Rattle.std.proofs.Common.{◌≡◌, refl, sym, subst, ap, ◌∙◌, arith, inl, inr, ℕ, ◌+◌, ◌-◌, ◌≤◌, true, ◌&&◌, nat_le, ℤ, pos, ◌+ℤ◌, ◌-ℤ◌, ◌≤ℤ◌, ◌<ℤ◌}
 use Rattle.std.proofs.lemmas.Int.{ints, by_lt_z}
 use Rattle.std.proofs.lemmas.Bool.{and_parts, leb-true, le-leb}
 use Rattle.std.specs.Prelude.{Some}
 use Rattle.profile.specs.series.Rules.{Pattern, is_base}
-use Rattle.profile.specs.series.Zones.{Observance, IsOnset, IsFirstOf, begins_on, Zone, Onset, IsLatest, IsFirstAfter, InForce, Since, Until, IsOffsetAt, IsZoneOnset, Shows, IsShownFirst, IsSkipped, Means}
+use Rattle.profile.specs.series.Zones.{Observance, IsOnset, IsFirstOf, begins_on, Zone, Onset, InForce, Since, Until, IsOffsetAt, IsZoneOnset, Shows, Means}
 
 int_same : {a b : ℤ} → a ≤ℤ b → b ≤ℤ a → a ≡ b
 int_same {a} {b} l m = omega (arith, ints, l, m)
