@@ -18,8 +18,10 @@ use Rattle.profile.specs.rooms.Kept.{first_parts, Shown, Hidden, IsKeptEvent}
 use Rattle.profile.specs.text.Lines.{written}
 use Rattle.itip_messages.specs.Zones.{with_zones}
 use Rattle.room_books.specs.declared.kept.Meeting.{Meeting}
+use Rattle.room_books.specs.declared.meeting.MeetingKey.{MeetingKey}
 use Rattle.room_books.specs.declared.meeting.PartAnswer.{PartAnswer}
-use Rattle.room_books.specs.Room.{IsText, SlotDated}
+use Rattle.profile.specs.streams.Streams.{IsReached}
+use Rattle.room_books.specs.Room.{IsText, SlotDated, Represents}
 use Rattle.room_books.specs.Taking.{body_content}
 use Rattle.room_books.specs.Meeting.{outcome_of}
 
@@ -48,6 +50,13 @@ pub record SpellsConfirmed (room : List ℕ) (book : Book) (calendar : List ℕ)
   pub singles : length all.singles ≡ length (confirmed_singles book)
   pub series : length all.series ≡ length (confirmed_series book)
   pub exact : (booked : Instance) → IsOneOf all booked ↔ Confirms book booked
+
+-- the meetings represent a book that some messages lead to, and the calendar spells exactly what it confirms
+pub record KeepsReached (room : List ℕ) (entries : List (MeetingKey × Meeting)) (calendar : List ℕ) : Type 0 where
+  pub book : Book
+  pub reached : IsReached room book
+  pub represents : Represents entries book
+  pub spells : SpellsConfirmed room book calendar
 
 -- ---- by the meetings
 

@@ -24,7 +24,7 @@ ghost use Rattle.room_books.specs.Meeting.{same_key, all_confirmed, all_singles,
 ghost use Rattle.room_books.specs.Meeting.{all_recurring, all_series, beside, in_room, other_recurring, recurring_at, series_at, series_by, AreFewer, AreRecurring, IsClearIn, MayJoin};
 ghost use Rattle.room_books.specs.Recurring.{recurring_said, AreAllOf, AreClearBeside, AreNewClear};
 ghost use Rattle.cal_events.specs.declared.instance.Single.{Single};
-ghost use Rattle.room_books.specs.Texts.{SpellsConfirmed};
+ghost use Rattle.room_books.specs.Texts.{KeepsReached, SpellsConfirmed};
 ghost use Rattle.room_books.specs.Timeline.{IsTimelineOf};
 ghost use Rattle.room_books.specs.Taking.{answers_by, answers_then, claims_said, held_after, kept_then, kind_view, octets_in, parts_said, refresh_octets};
 ghost use Rattle.room_books.specs.Taking.{reply_octets};
@@ -197,8 +197,10 @@ impl Room {
     /// The calendar and the certificate that the room keeps. Whatever messages it took, in any order and repeated, they pass the checker.
     pub fn kept(&self) -> Result<KeptTexts, AllocError>
         ensures passes { IfOk result (λ texts. KeptTextsPass (address_octets self.now.address) texts.calendar.items texts.certificate.items) }
-        // The calendar spells exactly what a book confirms that messages led to and that the room represents.
-        ensures spells { IfOk result (λ texts. (book : Book) → IsReached (address_octets self.now.address) book → Represents self.now.meetings.entries book
+        // Some messages led to a book that the room represents, and the calendar spells exactly what it confirms;
+        ensures spells { IfOk result (λ texts. ∥ KeepsReached (address_octets self.now.address) self.now.meetings.entries texts.calendar.items ∥₁) }
+        // and it does so for each such book.
+        ensures spells_each { IfOk result (λ texts. (book : Book) → IsReached (address_octets self.now.address) book → Represents self.now.meetings.entries book
             → SpellsConfirmed (address_octets self.now.address) book texts.calendar.items) }
         ensures calendar { IfOk result (λ texts. (book : Book) → Represents self.now.meetings.entries book → IsKeptCalendar (address_octets self.now.address) book texts.calendar.items) }
         ensures certificate { IfOk result (λ texts. (book : Book) → Represents self.now.meetings.entries book → texts.certificate.items ≡ kept_certificate book) }

@@ -10,7 +10,15 @@ returns-clause-passes c = ∥∥₁_map c.args.self.now.reached (λ was.
     subst (λ (text : List ℕ). CertificateHolds (address_octets c.args.self.now.address) c.in_ok-calendar.calendar.items text)
     (sym (c.in_ok-certificate.ensures was.book was.represents)) (c.in_ok-calendar.ensures.passes was.book was.reached was.represents))
 
-pub returns-clause-spells : goal.returns-clause-spells
-returns-clause-spells c book reached st =
+pub returns-clause-spells_each : goal.returns-clause-spells_each
+returns-clause-spells_each c book reached st =
     let s = c.kept_texts_spell.ensures (address_octets c.args.self.now.address) reached.deliveries book c.in_ok-calendar.calendar.items reached.delivered reached.runs (c.in_ok-calendar.ensures.kept book st) in
     record { all = s.0; spells = s.1; singles = s.2; series = s.3; exact = s.4 }
+
+pub returns-clause-spells : goal.returns-clause-spells
+returns-clause-spells c = ∥∥₁_map c.args.self.now.reached (λ was. record {
+  book = was.book;
+  reached = was.reached;
+  represents = was.represents;
+  spells = returns-clause-spells_each c was.book was.reached was.represents;
+})
