@@ -7,9 +7,7 @@ use crate::cursor::Cursor;
 use crate::facts::DayFacts;
 use crate::listing::{find_end, is_counted, next_counted};
 use crate::text::RuleText;
-use crate::write::rule_text;
-use crate::written::{Until, WeekdayNumber, Written};
-use cal_days::{Day, Frequency};
+use cal_days::Day;
 use ical_lines::{Fault, Refusal};
 use std::alloc::AllocError;
 use std::marker::Model;
@@ -17,7 +15,7 @@ use std::marker::Model;
 /// A rule from the day of DTSTART on (RFC 5545 3.8.5.3). Its days go to 9999-12-31.
 #[derive(Drop)]
 pub struct Rule {
-    written: Written,
+    text: RuleText,
     start: DayFacts,
     last: Day,
     /// The last day that COUNT allows.
@@ -27,26 +25,24 @@ pub struct Rule {
 impl Model for Rule {
     ghost use Rattle.std.specs.Prelude.{◌≤◌};
     ghost use Rattle.profile.specs.series.Days.{day_index};
-    ghost use Rattle.profile.specs.series.Rules.{IsAllowed, Rule as SaidRule};
-    ghost use Rattle.cal_rules.specs.Views.{rule_said, rule_text_said};
+    ghost use Rattle.profile.specs.series.Rules.{Rule as SaidRule, rule_of};
     ghost use Rattle.cal_rules.specs.Known.{AreFacts};
     ghost use Rattle.cal_rules.specs.Counted.{RuleEndsAt};
 
     ghost Value = { SaidRule };
 
-    ghost view = { λ r. rule_said r.written r.start.index (day_index r.last) };
+    ghost view = { λ r. rule_of r.text r.start.index (day_index r.last) };
 
-    ghost invariant = { λ r. (1 ≤ r.written.interval) × AreFacts r.start
-        × RuleEndsAt (rule_said r.written r.start.index (day_index r.last)) r.end × IsAllowed (rule_text_said r.written) };
+    ghost invariant = { λ r. AreFacts r.start × RuleEndsAt (rule_of r.text r.start.index (day_index r.last)) r.end };
 }
 
 impl Clone for Rule {
     ghost is_clone = { λ rule copy. copy ≡ rule };
 
     fn clone(&self) -> Result<Rule, AllocError> {
-        let written = self.written.clone()?;
+        let text = self.text.clone()?;
         Ok(Rule {
-            written,
+            text,
             start: self.start,
             last: self.last,
             end: self.end,
@@ -56,8 +52,6 @@ impl Clone for Rule {
 
 impl Rule {
     ghost use Rattle.std.specs.Prelude.{◌≡◌, ◌+◌, ◌++◌, true, false, map, option_map, MatchOption, IfOk, IfErr, OnOk, OnErr};
-    ghost use Rattle.cal_days.specs.Views.{frequency_of};
-    ghost use Rattle.cal_rules.specs.Views.{weekday_number_of, until_of};
     ghost use Rattle.profile.specs.series.Days.{day_index};
     ghost use Rattle.profile.specs.series.Rules.{rule_of, text_in, is_rule_day, rule_days_from, NoDayFrom, IsNextDay};
     ghost use Rattle.profile.specs.series.RuleTexts as texts;
@@ -73,11 +67,10 @@ impl Rule {
         ensures refuses { IfErr result (λ e. (e ≡ Refused (record { number = 34 }))
             × (is_rule_day (rule_of text (day_index start) (day_index last)) (day_index start) ≡ false)) }
     {
-        let written = text.written;
         let begin = DayFacts::of(start);
-        let end = find_end(&written, begin, last);
+        let end = find_end(text.written(), begin, last);
         let rule = Rule {
-            written,
+            text,
             start: begin,
             last,
             end,
@@ -102,7 +95,7 @@ impl Rule {
         if day.index() > self.end {
             return false;
         }
-        is_counted(&self.written, self.start, self.last, day)
+        is_counted(self.text.written(), self.start, self.last, day)
     }
 
     /// The first day of the rule that isn't before that one.
@@ -120,7 +113,7 @@ impl Rule {
         ensures { MatchOption result (NoDayFrom self.now from.day.index) (λ found. IsNextDay self.now from.day.index (day_index found.0)
             × (found.1.day.index ≡ day_index found.0 + 1) × IsCursorOf self.now.pattern found.1) }
     {
-        let after = next_counted(&self.written, self.start, self.last, from)?;
+        let after = next_counted(self.text.written(), self.start, self.last, from)?;
         let found = after.day.index - 1;
         if found > self.end {
             return None;
@@ -128,60 +121,11 @@ impl Rule {
         Some((Day::at_index(found).unwrap(), after))
     }
 
-    /// FREQ.
-    pub fn frequency(&self) -> Frequency
-        ensures { frequency_of result ≡ self.now.pattern.frequency }
+    /// Its text, whose readers give each part.
+    pub fn text(&self) -> &RuleText
+        ensures { result.now ≡ text_in self.now }
     {
-        self.written.frequency
-    }
-
-    /// INTERVAL, 1 where it isn't written.
-    pub fn interval(&self) -> u16
-        ensures { result ≡ self.now.pattern.interval }
-    {
-        self.written.interval
-    }
-
-    /// WKST, 0 for Monday, which is the default.
-    pub fn week_start(&self) -> u8
-        ensures { result ≡ self.now.pattern.week_start }
-    {
-        self.written.week_start
-    }
-
-    /// The entries of BYMONTH, none where it isn't written.
-    pub fn months(&self) -> &[u8]
-        ensures { result.now ≡ self.now.pattern.months }
-    {
-        &self.written.months
-    }
-
-    /// The entries of BYMONTHDAY, none where it isn't written.
-    pub fn month_days(&self) -> &[i16]
-        ensures { result.now ≡ self.now.pattern.month_days }
-    {
-        &self.written.month_days
-    }
-
-    /// The entries of BYDAY, none where it isn't written.
-    pub fn weekdays(&self) -> &[WeekdayNumber]
-        ensures { map weekday_number_of result.now ≡ self.now.pattern.weekdays }
-    {
-        &self.written.weekdays
-    }
-
-    /// The entries of BYSETPOS, none where it isn't written.
-    pub fn positions(&self) -> &[i16]
-        ensures { result.now ≡ self.now.pattern.positions }
-    {
-        &self.written.positions
-    }
-
-    /// COUNT.
-    pub fn count(&self) -> Option<u32>
-        ensures { result ≡ self.now.count }
-    {
-        self.written.count
+        &self.text
     }
 
     /// The day of DTSTART, which is the first day of the rule.
@@ -198,13 +142,6 @@ impl Rule {
         self.last
     }
 
-    /// UNTIL, as it was read.
-    pub fn until(&self) -> Option<Until>
-        ensures { option_map until_of result ≡ self.now.until }
-    {
-        self.written.until
-    }
-
     /// Appends the text of the rule in its one form (RFC 5545 3.3.10), as `RuleText::write` does: `until`, a UTC date-time or a date,
     /// takes the place of an UNTIL that the rule has. Where memory is refused, nothing is appended.
     pub fn write(&self, until: Option<&str>, out: &mut Vec<u8>) -> Result<(), AllocError>
@@ -212,8 +149,7 @@ impl Rule {
             ++ texts.rule_text (text_in self.now) (option_map (λ text. text.now) until.entry)) }
         ensures err { OnErr result (out.new.items ≡ out.old.items) }
     {
-        let text = rule_text(*out.allocator(), &self.written, until)?;
-        out.extend_from_slice(text.as_str().as_bytes())
+        self.text.write(until, out)
     }
 }
 

@@ -1,6 +1,6 @@
 //! The text of a rule (RFC 5545 3.3.10), read and written.
 
-ghost use Rattle.std.specs.Prelude.{◌≡◌, ℕ, List, map, option_map, IfOk, IfErr, ◌++◌, OnOk, OnErr};
+ghost use Rattle.std.specs.Prelude.{◌≡◌, ◌≤◌, ℕ, List, map, option_map, IfOk, IfErr, ◌++◌, OnOk, OnErr};
 ghost use Rattle.ical_lines.specs.Fault.{RefusesBy};
 ghost use Rattle.profile.specs.series.RuleTexts.{SpellsRule, RuleFault, IsLeastRuleFault};
 ghost use Rattle.cal_days.specs.Views.{frequency_of};
@@ -33,6 +33,15 @@ impl Model for RuleText {
     ghost invariant = { λ t. rules.IsAllowed (rule_text_said t.written) };
 }
 
+impl Clone for RuleText {
+    ghost is_clone = { λ text copy. copy ≡ text };
+
+    fn clone(&self) -> Result<RuleText, AllocError> {
+        let written = self.written.clone()?;
+        Ok(RuleText { written })
+    }
+}
+
 impl RuleText {
     /// Reads the text of an RRULE. Refused are, the least number that applies: a part that is unknown or
     /// not supported (30), a value that is bad or out of range (31), parts that don't go together, a part
@@ -47,6 +56,14 @@ impl RuleText {
         }
         let written = parts.finish(alloc)?;
         Ok(RuleText { written })
+    }
+
+    /// What is written.
+    pub(crate) fn written(&self) -> &Written
+        ensures is { rule_text_said result.now ≡ self.now }
+        ensures interval { 1 ≤ result.now.interval }
+    {
+        &self.written
     }
 
     /// FREQ.

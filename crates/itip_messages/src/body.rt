@@ -93,7 +93,7 @@ fn write_rule(body: &mut Vec<u8>, clock: &Zone, rule: Option<&Rule>) -> Result<(
     let Some(rule) = rule else {
         return Ok(());
     };
-    let end = end_text(*body.allocator(), clock, rule.until())?;
+    let end = end_text(*body.allocator(), clock, rule.text().until())?;
     body.extend_from_slice(b"RRULE:")?;
     rule.write(end.as_deref(), body)?;
     body.extend_from_slice(b"\r\n")?;

@@ -1,12 +1,11 @@
-use Rattle.cal_rules.specs.Views.{rule_text_said}
-use Rattle.cal_rules.proofs.Lists.{interval_low}
+use Rattle.std.proofs.Common.{subst}
+use Rattle.profile.specs.series.Rules.{RuleText, rule_of}
+use Rattle.profile.specs.series.Days.{day_index}
+use Rattle.cal_rules.specs.Counted.{RuleEndsAt}
 use Rattle.cal_rules.proofs.rule.Rule.new.Goals as goal
 
-pub find_end-end-requires-clause-interval : goal.find_end-end-requires-clause-interval
-find_end-end-requires-clause-interval c = interval_low (rule_text_said c.text.inside.written) c.text.invariant.0
-
 pub invariant_of-rule : goal.invariant_of-rule
-invariant_of-rule c = (interval_low (rule_text_said c.text.inside.written) c.text.invariant.0, c.of-begin.ensures.facts, c.find_end-end.ensures, c.text.invariant)
-
-pub invariant_of-rule-2 : goal.invariant_of-rule-2
-invariant_of-rule-2 c = (interval_low (rule_text_said c.text.inside.written) c.text.invariant.0, c.of-begin.ensures.facts, c.find_end-end.ensures, c.text.invariant)
+invariant_of-rule c = (
+  c.of-begin.ensures.facts,
+  subst (λ (text : RuleText). RuleEndsAt (rule_of text c.of-begin.result.index (day_index c.args.last)) c.find_end-end.result) c.written.ensures.is c.find_end-end.ensures,
+)
