@@ -51,9 +51,10 @@ impl Clone for Rule {
 }
 
 impl Rule {
-    ghost use Rattle.std.specs.Prelude.{◌≡◌, ◌+◌, ◌++◌, true, false, map, option_map, MatchOption, IfOk, IfErr, OnOk, OnErr};
+    ghost use Rattle.std.specs.Prelude.{◌≡◌, ◌≢◌, ◌⊎◌, ◌+◌, ◌++◌, true, false, None, Some, map, option_map, MatchOption, IfOk, IfErr, OnOk, OnErr};
     ghost use Rattle.profile.specs.series.Days.{day_index};
     ghost use Rattle.profile.specs.series.Rules.{rule_of, text_in, is_rule_day, rule_days_from, NoDayFrom, IsNextDay};
+    ghost use Rattle.profile.specs.series.Periods.{HasNoPeriod, IsPeriod};
     ghost use Rattle.profile.specs.series.RuleTexts as texts;
     ghost use Rattle.cal_rules.specs.Left.{days_left};
     ghost use Rattle.cal_rules.specs.Cursors.{IsCursorOf};
@@ -105,6 +106,18 @@ impl Rule {
     {
         let (day, _after) = self.next_day(Cursor::at(DayFacts::of(from)))?;
         Some(day)
+    }
+
+    /// After how many days the rule does the same again (RFC 5545 3.3.10): 1 where COUNT or UNTIL ends it, after whose last day there is nothing;
+    /// None where they are more than 2,932,897.
+    pub fn period_days(&self) -> Option<u64>
+        ensures ended { (self.now.count ≢ None) ⊎ (self.now.until ≢ None) → result ≡ Some 1 }
+        ensures endless { self.now.count ≡ None → self.now.until ≡ None → MatchOption result (HasNoPeriod self.now.pattern) (IsPeriod self.now.pattern) }
+    {
+        if self.written.count.is_some() || self.written.until.is_some() {
+            return Some(1);
+        }
+        self.written.period_days()
     }
 
     /// The first day of the rule from that cursor on, and the cursor after it.

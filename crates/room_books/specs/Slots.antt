@@ -9,6 +9,7 @@ use Rattle.std.specs.List.Sorted.{IsSortedByKey}
 use Rattle.std.specs.Vec.{vec_len, vec_capacity}
 use Rattle.room_books.specs.declared.meeting.PartAnswer.{PartAnswer}
 use Rattle.profile.specs.rooms.Revisions as revisions
+use denote.Ref.{Bor}
 
 -- ---- the slots of a message's parts, and what they leave alone
 
@@ -25,8 +26,6 @@ pub record IsUntouched (slots : List Slot) (slot : revisions.Slot) : Type 0 wher
   pub instance : is_eq (slot_cmp slot Whole) ≡ false
   pub alone : is_touched slots slot ≡ false
   pub whole : is_touched slots Whole ≡ false
-
-use denote.Ref.{Bor}
 
 abbrev pub givens : List (Bor PartAnswer) → List PartAnswer
 givens answers = map (λ given. given.now) answers
