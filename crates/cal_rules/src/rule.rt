@@ -114,10 +114,11 @@ impl Rule {
         ensures ended { (self.now.count ≢ None) ⊎ (self.now.until ≢ None) → result ≡ Some 1 }
         ensures endless { self.now.count ≡ None → self.now.until ≡ None → MatchOption result (HasNoPeriod self.now.pattern) (IsPeriod self.now.pattern) }
     {
-        if self.written.count.is_some() || self.written.until.is_some() {
+        let written = self.text.written();
+        if written.count.is_some() || written.until.is_some() {
             return Some(1);
         }
-        self.written.period_days()
+        written.period_days()
     }
 
     /// The first day of the rule from that cursor on, and the cursor after it.
