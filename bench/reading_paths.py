@@ -23,11 +23,12 @@ WORD = re.compile(r"(?:([A-Za-z_][\w-]*)\.)?([A-Za-z_][\w-]*)")
 FIELD = re.compile(r"(?m)^ +pub \w+ :|[{;] *\w+ =(?!=)|(?<=\)|\d)\.\w+")
 
 PATHS = {
-    "the checker's yes": ["clash_check/src/checking.rt.check.free"],
+    "the checker's yes": ["clash_check/src/checking.rt.check.free", "clash_check/src/checking.rt.check.yes"],
     "the headline": [
         "room_books/src/room.rt.kept.passes",
         "room_books/src/room.rt.kept.spells",
         "clash_check/src/checking.rt.check.free",
+        "clash_check/src/checking.rt.check.yes",
         "room_books/src/room.rt.take.accepted",
         "room_books/src/room.rt.take.declined",
     ],
