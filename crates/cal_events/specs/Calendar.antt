@@ -1,18 +1,17 @@
 -- What the types of instances and calendars represent.
-use Rattle.std.specs.Prelude.{List, ◌<◌, ◌≢◌, length, All, AllPairs, Contains, ℤ, ◌≡◌, ◌≤ℤ◌, slice_index_or, map}
+use Rattle.std.specs.Prelude.{List, ◌<◌, ◌≢◌, length, All, AllPairs, Contains, ℤ}
 use Rattle.cal_events.specs.declared.sweep.Span.{Span}
-use Rattle.profile.specs.checker.Instances.{Key, Instance as SaidInstance, AreClashing}
+use Rattle.profile.specs.checker.Instances.{Key, Instance as SaidInstance}
 use Rattle.profile.specs.events.Starts.{IsInstance}
 use Rattle.profile.specs.events.Confirmed.{Confirmed, IsInSeries}
 use Rattle.ical_values.specs.Octets.{address_octets, text_octets}
-use Rattle.cal_events.specs.Entries.{Name, meeting_at}
+use Rattle.cal_events.specs.Entries.{Name}
+pub use Rattle.cal_events.specs.Entries.{MeetingName}
+use Rattle.cal_events.specs.Names.{meeting_at}
 use Rattle.cal_events.specs.declared.instance.InstanceKey.{InstanceKey}
 use Rattle.cal_events.specs.declared.instance.Instance.{Instance}
 use Rattle.cal_events.specs.declared.instance.OwnedKey.{OwnedKey}
 use Rattle.cal_events.specs.declared.calendar.PlacedSingle.{PlacedSingle as Single}
-use Rattle.cal_events.specs.declared.sweep.Overlap.{Overlap}
-use Rattle.cal_events.specs.declared.calendar.Singles.{Singles}
-pub use Rattle.cal_events.specs.Entries.{MeetingName}
 
 -- the key that borrows its texts
 abbrev pub key_of : InstanceKey → Key
@@ -57,22 +56,3 @@ HaveOwnKeys confirmed =
 -- the span of a single
 abbrev pub span_of : Single → Span
 span_of s = record { start = s.start; end = s.end }
-
--- ---- the clash that two places of a list name
-
--- the instances at the two places clash at the instant: the second's start, and the first starts no later
-pub record Names (all : List SaidInstance) (found : Overlap) : Type 0 where
-  pub a : SaidInstance
-  pub b : SaidInstance
-  pub first_in : found.first < length all
-  pub second_in : found.second < length all
-  pub first : slice_index_or all found.first a ≡ a
-  pub second : slice_index_or all found.second b ≡ b
-  pub clash : AreClashing a b found.instant
-  pub later : found.instant ≡ b.start
-  pub earlier : a.start ≤ℤ found.instant
-
--- ---- what an iterator over the singles of a calendar has left
-
-abbrev pub singles_left : Singles → List SaidInstance
-singles_left s = map (named_instance s.entries.now) s.singles.now

@@ -1,64 +1,61 @@
 -- A calendar while its VEVENTs are read.
 use Rattle.std.specs.Prelude.{ℕ, suc, List, [], ◌∷◌, ◌++◌, ◌≡◌, ◌⊎◌, ◌||◌, map, filter, All, AllPairs, Contains, Bool, true, false, not, Option, None, Some, is_some, ℤ, pos}
 use Rattle.std.specs.Ordering.{is_eq}
-use Rattle.std.specs.List.{list_any, filter_map, AllZip}
+use Rattle.std.specs.List.{list_any, filter_map}
 use Rattle.std.specs.List.Sorted.{IsPermutation, IsSortedByKey}
 use Rattle.profile.specs.checker.Instances.{Key, Instance, key_cmp}
-use Rattle.profile.specs.events.EventComponents.{EventComponent as SaidComponent, SaysEventComponent, meeting_said}
+use Rattle.profile.specs.events.EventComponents.{EventComponent, SaysEventComponent, meeting_said}
 use Rattle.profile.specs.text.Lines.{reads_as_lines}
 use Rattle.profile.specs.text.Trees.{Tree}
 use Rattle.profile.specs.checker.Calendars.{SayEvents, IsCalendarText}
 use Rattle.profile.specs.events.Starts.{IsInstance, EndsAt, ComesBefore}
 use Rattle.profile.specs.events.Confirmed.{alone, is_kept, is_series, IsOfSeries, MastersDiffer, OverridesDiffer}
 use Rattle.cal_events.specs.Component.{component_of}
-use Rattle.cal_events.specs.Entries.{Name, name_said, meeting_at, recurrence_at}
+use Rattle.cal_events.specs.Entries.{Name}
+use Rattle.cal_events.specs.Names.{name_said, meeting_at, recurrence_at}
 use Rattle.cal_events.specs.Calendar.{key_of, key_in, instance_as}
 use Rattle.cal_events.specs.declared.calendar.PlacedSingle.{PlacedSingle as Single}
 use Rattle.cal_events.specs.declared.draft.Draft.{Draft}
 use Rattle.cal_events.specs.declared.instance.InstanceKey.{InstanceKey}
-use Rattle.profile.specs.events.Events.{is_master}
-use Rattle.cal_events.specs.Series.{IsByItsRule, series_said}
-use Rattle.cal_events.specs.declared.component.EventComponent.{EventComponent}
-use Rattle.cal_events.specs.declared.series.Series.{Series}
 
 -- some VEVENT says the event
-abbrev pub IsSaid : SaidComponent → Type 0
+abbrev pub IsSaid : EventComponent → Type 0
 IsSaid event = (object : Tree) × (lines : List (List ℕ)) × SaysEventComponent object None lines event
 
 -- ---- singles, without a look at what overrides hide
 
 -- an instance of an event by itself that belongs to no series, where the room keeps it
-pub record IsOwnInstance (room : List ℕ) (event : SaidComponent) (instance : Instance) : Type 0 where
+pub record IsOwnInstance (room : List ℕ) (event : EventComponent) (instance : Instance) : Type 0 where
   pub kept : is_kept room event ≡ true
   pub is : IsInstance (alone event) instance
   pub apart : IsOfSeries event instance → ⊥
 
 -- all of them, by start, each once
-pub record AreOwn (room : List ℕ) (event : SaidComponent) (own : List Instance) : Type 0 where
+pub record AreOwn (room : List ℕ) (event : EventComponent) (own : List Instance) : Type 0 where
   pub each : All (IsOwnInstance room event) own
   pub ordered : AllPairs ComesBefore own
   pub all : (instance : Instance) → IsOwnInstance room event instance → Contains own instance
 
 -- these are they, of the VEVENT at that place
-pub record AreOwnAt (room : List ℕ) (place : ℕ) (event : SaidComponent) (own : List Single) : Type 0 where
+pub record AreOwnAt (room : List ℕ) (place : ℕ) (event : EventComponent) (own : List Single) : Type 0 where
   pub at : All (λ s. s.entry ≡ place) own
   pub are : AreOwn room event (map (instance_as (meeting_said event)) own)
 
 -- a single of the VEVENT at that place, at a start of that
-pub record IsMadeAt (place : ℕ) (event : SaidComponent) (start : ℤ) (s : Single) : Type 0 where
+pub record IsMadeAt (place : ℕ) (event : EventComponent) (start : ℤ) (s : Single) : Type 0 where
   pub at : s.entry ≡ place
   pub slot : s.slot ≡ start
   pub starts : s.start ≡ start
   pub ends : EndsAt event.times start s.end
 
 -- these are those of VEVENTs from a place on, one after another
-abbrev pub AreDrawn : List ℕ → ℕ → List SaidComponent → List Single → Type 0
+abbrev pub AreDrawn : List ℕ → ℕ → List EventComponent → List Single → Type 0
 AreDrawn room place [] singles = singles ≡ []
 AreDrawn room place (event ∷ events) singles =
     (own : List Single) × (rest : List Single) × (singles ≡ own ++ rest) × AreOwnAt room place event own × AreDrawn room (suc place) events rest
 
 -- the draft of these VEVENTs
-pub record IsDraft (room : List ℕ) (events : List SaidComponent) (draft : Draft) : Type 0 where
+pub record IsDraft (room : List ℕ) (events : List EventComponent) (draft : Draft) : Type 0 where
   pub said : All IsSaid events
   pub entries : draft.entries ≡ map name_said events
   pub series : map component_of draft.series.items ≡ filter (is_series room) events
@@ -66,7 +63,7 @@ pub record IsDraft (room : List ℕ) (events : List SaidComponent) (draft : Draf
 
 -- the draft of an object's VEVENTs
 pub record IsDraftOf (room : List ℕ) (object : Tree) (draft : Draft) : Type 0 where
-  pub events : List SaidComponent
+  pub events : List EventComponent
   pub says : SayEvents object events
   pub is : IsDraft room events draft
 
@@ -115,26 +112,5 @@ pub record AreSinglesShown (entries : List Name) (singles left : List Single) : 
   pub is : left ≡ filter (is_shown_in entries keys) singles
 
 -- two masters of one meeting, or two overrides for one instance
-abbrev pub IsTwoOf : List SaidComponent → ℕ → Type 0
+abbrev pub IsTwoOf : List EventComponent → ℕ → Type 0
 IsTwoOf events n = ((n ≡ 53) × (MastersDiffer events → ⊥)) ⊎ ((n ≡ 54) × (OverridesDiffer events → ⊥))
-
--- ---- the series of a calendar while it is made, beside the masters that they are made of
-
--- a master with RRULE that some VEVENT says
-pub record IsRuler (master : EventComponent) : Type 0 where
-  pub said : IsSaid (component_of master)
-  pub is : is_master (component_of master) ≡ true
-  pub rule : is_some master.rule ≡ true
-
-abbrev pub AreMasters : List EventComponent → Type 0
-AreMasters masters = All IsRuler masters
-
--- these are the series of those, where overrides replace the instances of these keys
-abbrev pub AreSeriesOf : List Key → List EventComponent → List Series → Type 0
-AreSeriesOf keys masters series = AllZip (λ m s. IsByItsRule keys (component_of m) (series_said s)) masters series
-
--- where overrides replace these instances, in some order
-pub record AreRuled (entries : List Name) (masters : List EventComponent) (series : List Series) : Type 0 where
-  pub keys : List Key
-  pub same : IsPermutation (override_keys entries) keys
-  pub each : AreSeriesOf keys masters series

@@ -1,13 +1,14 @@
 -- The instances of an event that are left to come, and how the first of them is found.
 use Rattle.std.specs.Prelude.{◌≡◌, ◌⊎◌, ℕ, ◌<◌, true, Contains, List, Option, Some, None, MatchOption, map, int_lt, if◌then◌else◌, ℤ, ◌≤ℤ◌, ◌<ℤ◌, ◌+ℤ◌, pos}
-use Rattle.profile.specs.checker.Instances.{horizon, Instance as SaidInstance}
+use Rattle.profile.specs.checker.Instances.{horizon}
 use Rattle.profile.specs.series.Days.{day_index}
 use Rattle.profile.specs.series.Rules.{Rule, is_rule_day}
 use Rattle.profile.specs.series.Zones.{Means, local_time}
 use Rattle.profile.specs.events.Properties.{first_second}
 use Rattle.profile.specs.events.ZonedTimes.{clock_of}
 use Rattle.profile.specs.events.EventRules.{IsOnDay}
-use Rattle.profile.specs.events.Starts.{IsReplaced, IsStart, IsInstance, ComesBefore}
+use Rattle.profile.specs.events.EventComponents as profile
+use Rattle.profile.specs.events.Starts.{IsReplaced, IsStart}
 use Rattle.cal_zones.specs.Kinds.{zone_of}
 use Rattle.cal_zones.specs.declared.clock.Clock.{Clock}
 use Rattle.cal_events.specs.Component.{component_of}
@@ -16,11 +17,6 @@ use Rattle.cal_events.specs.declared.rule_days.RuleDays.{RuleDays}
 use Rattle.cal_events.specs.RuleDays.{AreDaysOf}
 use Rattle.cal_events.specs.declared.instances.Bound.{Bound}
 use Rattle.cal_events.specs.declared.instances.InstancePlace.{InstancePlace}
-use Rattle.cal_events.specs.Calendar.{instance_of}
-use Rattle.cal_events.specs.Event.{said_meeting}
-use Rattle.cal_events.specs.declared.instance.Instance.{Instance}
-use Rattle.cal_events.specs.declared.instances.Instances.{Instances}
-use Rattle.profile.specs.events.EventComponents as profile
 
 -- ---- what is left
 
@@ -124,17 +120,3 @@ IsHeldAt master overrides place =
 -- and it is to come
 abbrev pub IsHeld : Option EventComponent → List EventComponent → Bound → InstancePlace → Type 0
 IsHeld master overrides bound place = IsHeldAt master overrides place × IsAfter bound place.start place.slot
-
--- ---- what an iterator over the instances of an event has left, and what it gives
-
--- the instances of its event that are still to come
-abbrev pub IsLeft : Instances → SaidInstance → Type 0
-IsLeft instances b = IsInstance (said_meeting instances.event.now) b × IsAfter instances.after b.start b.key.slot
-
--- it gave one that was left and before which none was, and then those are left that come after it; or none was left, and none is
-abbrev pub GivesFirst : Instances → Option Instance → Instances → Type 0
-GivesFirst old found new =
-    (new.event ≡ old.event)
-    × MatchOption found (((b : SaidInstance) → IsLeft old b → ⊥) × (new.after ≡ old.after))
-    (λ i. IsLeft old (instance_of i) × ((b : SaidInstance) → IsLeft old b → ComesBefore b (instance_of i) → ⊥)
-    × (new.after ≡ record { start = i.start; slot = Some i.key.slot }))

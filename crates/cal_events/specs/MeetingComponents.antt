@@ -1,12 +1,9 @@
 -- Which instances events are for, and whether they are of one meeting.
-use Rattle.std.specs.Prelude.{◌≡◌, ◌⊎◌, ℕ, ◌<◌, List, [], length, map, filter, Option, ℤ, ◌≤ℤ◌, ◌<ℤ◌, Bool, ◌||◌, ◌==◌}
+use Rattle.std.specs.Prelude.{◌≡◌, ◌⊎◌, ℕ, ◌<◌, List, [], length, map, filter, Option, ℤ, ◌≤ℤ◌, ◌<ℤ◌}
 use Rattle.profile.specs.checker.Instances.{horizon}
 use Rattle.profile.specs.events.Properties.{first_second}
-use Rattle.profile.specs.events.Events.{AreOfOne, InstancesDiffer, is_master, is_override, Event}
-use Rattle.profile.specs.faults.Faults.{is_between, is_meeting_event_fault}
-use Rattle.cal_events.specs.Component.{meeting_with}
-use Rattle.cal_events.specs.declared.meeting_components.MeetingComponents.{MeetingComponents}
 use Rattle.profile.specs.events.EventComponents as profile
+use Rattle.profile.specs.events.Events.{AreOfOne, InstancesDiffer, is_master, is_override}
 
 -- which instances events are for
 abbrev pub instants_said : List profile.EventComponent → List (Option ℤ)
@@ -24,12 +21,3 @@ SharesSlot events n =
 -- the instant is in the dates that an event may name
 abbrev pub IsInEventDates : ℤ → Type 0
 IsInEventDates instant = (first_second ≤ℤ instant) × (instant <ℤ horizon)
-
--- ---- what the VEVENTs of one meeting represent, and the numbers of their refusals
-
-abbrev pub meeting_of : MeetingComponents → Event
-meeting_of m = meeting_with m.master m.overrides.items
-
--- a fault of VEVENTs, or between them
-abbrev pub is_components_fault : ℕ → Bool
-is_components_fault n = is_meeting_event_fault n || is_between 53 54 n || n == 62 || n == 66

@@ -1,13 +1,12 @@
 -- The places of the overrides of an event, among its instances.
 use Rattle.std.specs.Prelude.{◌≡◌, ◌<◌, ◌&&◌, ◌||◌, ℕ, ℤ, Bool, true, int_lt, All, Contains, List, length, get_or, Option, Some, None, MatchOption}
 use Rattle.std.specs.List.{list_any}
-use Rattle.std.specs.Ordering.{int_eq, ordering_then, nat_cmp, int_cmp}
+use Rattle.std.specs.Ordering.{int_eq}
 use Rattle.cal_events.specs.Instances.{IsAtPlace, IsAfter}
 use Rattle.cal_events.specs.declared.component.EventComponent.{EventComponent}
 use Rattle.cal_events.specs.declared.instances.Bound.{Bound}
 use Rattle.cal_events.specs.declared.instances.InstancePlace.{InstancePlace}
 use Rattle.cal_events.specs.declared.places.Moved.{Moved}
-use Rattle.std.specs.declared.cmp.Ordering.{Ordering}
 
 abbrev pub place_of : Moved → InstancePlace
 place_of m = record { start = m.start; slot = m.slot }
@@ -50,8 +49,3 @@ IsPlaceToCome ms after place = (m : Moved) × Contains ms m × (place_of m ≡ p
 abbrev pub IsWhichAt : List Moved → InstancePlace → Option ℕ → Type 0
 IsWhichAt ms place found =
     MatchOption found ((m : Moved) → Contains ms m → place_of m ≡ place → ⊥) (λ k. (m : Moved) × Contains ms m × (place_of m ≡ place) × (m.which ≡ k))
-
--- ---- the places of overrides in order: by start, then by slot
-
-abbrev pub moved_cmp : Moved → Moved → Ordering
-moved_cmp a b = ordering_then (int_cmp a.start b.start) (ordering_then (int_cmp a.slot b.slot) (nat_cmp a.which b.which))

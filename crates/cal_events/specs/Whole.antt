@@ -2,7 +2,7 @@
 use Rattle.std.specs.Prelude.{List, [], ◌∷◌, Some, None}
 use Rattle.profile.specs.checker.Instances.{Instance as SaidInstance}
 use Rattle.cal_events.specs.Calendar.{instance_of}
-use Rattle.cal_events.specs.Instances.{GivesFirst}
+use Rattle.cal_events.specs.Left.{GivesFirst}
 use Rattle.cal_events.specs.declared.instance.Instance.{Instance}
 use Rattle.cal_events.specs.declared.instances.Instances.{Instances}
 

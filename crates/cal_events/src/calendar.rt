@@ -4,7 +4,7 @@ ghost use Rattle.std.specs.List.{slice_get};
 ghost use Rattle.std.specs.Iterator.{YieldsFirstBy, item_count};
 ghost use Rattle.profile.specs.checker.Instances.{IsClear};
 ghost use Rattle.cal_events.specs.Calendar.{named_instance, instance_of, owned_key_of, span_of, HaveDifferentKeys, HaveOwnKeys, AreWithin};
-ghost use Rattle.cal_events.specs.Calendar.{Names};
+ghost use Rattle.cal_events.specs.Clashes.{Names};
 ghost use Rattle.cal_events.specs.Series.{series_said};
 
 use crate::entries::Entries;
@@ -54,7 +54,7 @@ pub struct Singles<'a> {
 }
 
 impl Calendar {
-    ghost use Rattle.cal_events.specs.Calendar.{singles_left};
+    ghost use Rattle.cal_events.specs.SinglesLeft.{singles_left};
 
     /// The singles: the confirmed instances that belong to no series, in the calendar's order.
     pub fn singles(&self) -> Singles<'_>
@@ -133,7 +133,7 @@ impl PlacedSingle {
 }
 
 impl<'a> Iterator for Singles<'a> {
-    ghost use Rattle.cal_events.specs.Calendar.{singles_left};
+    ghost use Rattle.cal_events.specs.SinglesLeft.{singles_left};
 
     type Item = Instance<'a>;
 

@@ -13,7 +13,7 @@ ghost use Rattle.profile.specs.events.Confirmed.{is_kept, AreConfirmed, MastersD
 ghost use Rattle.cal_events.specs.Component.{component_of};
 ghost use Rattle.cal_events.specs.Calendar.{key_of, AreWithin};
 ghost use Rattle.cal_events.specs.Draft.{AreOwnAt, IsDraft, IsDraftOf, IsDraftIn, IsSaid, AreSorted, AreInOrder, master_keys, override_keys, is_shown_in, AreSinglesShown, IsTwoOf};
-ghost use Rattle.cal_events.specs.Draft.{AreMasters, AreSeriesOf, AreRuled};
+ghost use Rattle.cal_events.specs.Masters.{AreMasters, AreSeriesOf, AreRuled};
 ghost use Rattle.cal_events.specs.declared.calendar.PlacedSingle.{PlacedSingle};
 
 use crate::calendar::{Calendar, PlacedSingle};

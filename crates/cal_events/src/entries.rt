@@ -4,7 +4,7 @@ ghost use Rattle.std.specs.Prelude.{◌≡◌, ◌++◌, ◌∷◌, ◌<◌, ◌
 ghost use Rattle.ical_values.specs.Octets.{address_octets};
 ghost use Rattle.cal_events.specs.Calendar.{key_of, key_in, owned_key_of};
 ghost use Rattle.cal_events.specs.Component.{component_of};
-ghost use Rattle.cal_events.specs.Entries.{meeting_at, recurrence_at, name_said, IsThere};
+ghost use Rattle.cal_events.specs.Names.{meeting_at, recurrence_at, name_said, IsThere};
 
 use crate::component::EventComponent;
 use crate::instance::{InstanceKey, OwnedKey};

@@ -53,7 +53,7 @@ pub struct Event {
 impl Event {
     ghost use Rattle.profile.specs.events.Starts.{IsInstance};
     ghost use Rattle.cal_events.specs.Event.{said_meeting};
-    ghost use Rattle.cal_events.specs.Instances.{IsLeft};
+    ghost use Rattle.cal_events.specs.Left.{IsLeft};
     ghost use Rattle.cal_events.specs.Calendar.{instance_of};
 
     /// Its instances that start at an instant or later, in seconds from 1970-01-01T00:00:00Z: each once, by start and then by slot. Takes no

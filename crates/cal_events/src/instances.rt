@@ -102,7 +102,7 @@ pub struct Instances<'a> {
 }
 
 impl<'a> Instances<'a> {
-    ghost use Rattle.cal_events.specs.Instances.{IsLeft};
+    ghost use Rattle.cal_events.specs.Left.{IsLeft};
 
     /// Those that start at an instant or later.
     pub(crate) fn from(event: &'a Event, from: i64) -> Instances<'a>
@@ -124,7 +124,7 @@ impl<'a> Instances<'a> {
 
 impl<'a> Iterator for Instances<'a> {
     ghost use Rattle.std.specs.Iterator.{endless};
-    ghost use Rattle.cal_events.specs.Instances.{GivesFirst};
+    ghost use Rattle.cal_events.specs.Left.{GivesFirst};
 
     type Item = Instance<'a>;
 

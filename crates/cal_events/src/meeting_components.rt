@@ -29,7 +29,7 @@ pub struct MeetingComponents {
 }
 
 impl MeetingComponents {
-    ghost use Rattle.cal_events.specs.MeetingComponents.{meeting_of, is_components_fault};
+    ghost use Rattle.cal_events.specs.OneMeeting.{meeting_of, is_components_fault};
 
     /// The VEVENTs of an object, read for a purpose. Those of an ADD are taken as the instances of their own starts.
     /// Refused: as by `EventComponent::read` for one of them; 66 where there is none; 62 for two UIDs or two ORGANIZERs; 53 for two without

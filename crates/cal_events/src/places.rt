@@ -69,7 +69,7 @@ pub(crate) struct Places {
 impl Model for Places {
     ghost use Rattle.std.specs.Prelude.{List};
     ghost use Rattle.std.specs.List.Sorted.{IsSorted};
-    ghost use Rattle.cal_events.specs.Places.{moved_cmp};
+    ghost use Rattle.cal_events.specs.PlaceOrder.{moved_cmp};
     ghost use Rattle.cal_events.specs.declared.places.Moved.{Moved};
 
     ghost Value = { List Moved };

@@ -11,10 +11,10 @@ ghost use Rattle.cal_events.specs.Clocks.{HasGoodClock};
 ghost use Rattle.cal_events.specs.Calendar.{key_of, owned_key_of, instance_of};
 ghost use Rattle.cal_events.specs.Draft.{IsSaid, AreInOrder};
 ghost use Rattle.cal_events.specs.Component.{component_of};
-ghost use Rattle.cal_events.specs.Instances.{IsLeft};
+ghost use Rattle.cal_events.specs.Left.{IsLeft};
 ghost use Rattle.cal_events.specs.Overlapping.{HaveOneEnd};
 ghost use Rattle.cal_events.specs.Event.{said_meeting};
-ghost use Rattle.cal_events.specs.Series.{IsRuled, AreSlotsOf, IsByItsRule, cmp_to, is_key_of, ruled_without};
+ghost use Rattle.cal_events.specs.Ruled.{IsRuled, AreSlotsOf, IsByItsRule, cmp_to, is_key_of, ruled_without};
 
 use crate::component::EventComponent;
 use crate::draft::is_series;

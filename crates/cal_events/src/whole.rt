@@ -5,7 +5,7 @@ ghost use Rattle.profile.specs.checker.Instances.{Instance};
 ghost use Rattle.profile.specs.events.Events.{SpellsEvent};
 ghost use Rattle.profile.specs.events.Starts.{IsInstance, AreInstancesFrom};
 ghost use Rattle.cal_events.specs.Whole.{GivesAll};
-ghost use Rattle.cal_events.specs.Instances.{IsLeft};
+ghost use Rattle.cal_events.specs.Left.{IsLeft};
 ghost use Rattle.cal_events.specs.Event.{said_meeting};
 ghost use Rattle.cal_events.specs.Series.{series_said, AreKnownByStart};
 ghost use Rattle.cal_events.specs.declared.instances.Instances.{Instances};

@@ -11,7 +11,7 @@ use Rattle.profile.specs.events.Events.{Event as SaidEvent}
 use Rattle.profile.specs.events.Starts.{IsInstance, EndsAt, IsWidth}
 use Rattle.cal_events.specs.Calendar.{instance_of}
 use Rattle.cal_events.specs.Component.{component_of}
-use Rattle.cal_events.specs.Instances.{IsLeft, GivesFirst}
+use Rattle.cal_events.specs.Left.{IsLeft, GivesFirst}
 use Rattle.cal_events.specs.Series.{series_said, IsMasterOf, AreKnownByStart}
 use Rattle.cal_events.specs.declared.instance.Instance.{Instance}
 use Rattle.cal_events.specs.declared.instances.Instances.{Instances}

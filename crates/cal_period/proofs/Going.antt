@@ -8,7 +8,8 @@ use Rattle.profile.specs.events.Properties.{first_second}
 use Rattle.profile.specs.events.Events.{Event}
 use Rattle.profile.specs.events.Starts.{IsInstance, ComesBefore}
 use Rattle.cal_events.specs.Calendar.{instance_of}
-use Rattle.cal_events.specs.Instances.{IsAfter, IsLeft, GivesFirst}
+use Rattle.cal_events.specs.Instances.{IsAfter}
+use Rattle.cal_events.specs.Left.{IsLeft, GivesFirst}
 use Rattle.cal_events.specs.Event.{said_meeting}
 use Rattle.cal_events.specs.Series.{AreKnownByStart}
 use Rattle.cal_events.specs.declared.instance.Instance.{Instance}

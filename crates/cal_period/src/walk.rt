@@ -1,7 +1,7 @@
 //! A walk through the instances of a series, by start. Of those behind it remembers the one that ends last.
 ghost use Rattle.std.specs.Prelude.{◌≡◌, ◌≤ℤ◌, false, ℤ, Option, Some, IfSome, IfNone};
 ghost use Rattle.profile.specs.events.Events.{Event};
-ghost use Rattle.cal_events.specs.Instances.{GivesFirst};
+ghost use Rattle.cal_events.specs.Left.{GivesFirst};
 ghost use Rattle.cal_events.specs.Series.{AreKnownByStart};
 ghost use Rattle.cal_events.specs.declared.instances.Instances.{Instances};
 ghost use Rattle.cal_period.specs.Walks.{walk_place, AreAllLeft, AreLeftFrom, BeginsWalk, EntersWalk, IsWalkOf, Tail, GoesPast, GoesOn, MeetsNone, MeetsInstance, EndsLater};

@@ -4,7 +4,7 @@ ghost use Rattle.std.specs.Ordering.{is_lt};
 ghost use Rattle.profile.specs.checker.Instances.{AreClear, instance_cmp};
 ghost use Rattle.profile.specs.events.Confirmed.{Confirmed as SaidConfirmed, IsOneOf};
 ghost use Rattle.cal_events.specs.Calendar.{instance_of, owned_key_of};
-ghost use Rattle.cal_events.specs.Calendar.{Names};
+ghost use Rattle.cal_events.specs.Clashes.{Names};
 ghost use Rattle.cal_period.specs.Besides.{IsBeside};
 ghost use Rattle.cal_period.specs.Every.{IsFound};
 ghost use Rattle.clash_cert.specs.Makings.{IsCertificate, IsMadeFor, IsNamedClash, IsNamedAs, IsLaterStart, MadeHasCounts};

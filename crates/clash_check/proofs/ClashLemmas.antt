@@ -16,7 +16,7 @@ use Rattle.cal_events.specs.declared.instance.Instance.{Instance}
 use Rattle.cal_events.specs.declared.instances.Instances.{Instances}
 use Rattle.cal_events.specs.declared.series.Series.{Series}
 use Rattle.cal_events.specs.Calendar.{instance_of, owned_key_of, HaveDifferentKeys, HaveOwnKeys}
-use Rattle.cal_events.specs.Instances.{IsLeft, GivesFirst}
+use Rattle.cal_events.specs.Left.{IsLeft, GivesFirst}
 use Rattle.cal_events.specs.Series.{series_said, AreKnownByStart}
 use Rattle.cal_events.proofs.shared_lemmas.InOneOrder.{of_mapped}
 use Rattle.clash_cert.specs.declared.making.Clash.{Clash}

@@ -11,7 +11,8 @@ use Rattle.profile.specs.events.Starts.{IsInstance}
 use Rattle.profile.specs.events.Confirmed.{Confirmed, IsInSeries, IsOneOf}
 use Rattle.profile.specs.checker.Certificates.{Claims, End, IsPair, IsPairBefore, SpellsCertificate, FirstWrong, HasCounts, EntryFails, EntriesHold, CertificateHoldsFor, IsWrongText, IsWrongCount, HasFailingEntry, HasClashes}
 use Rattle.profile.specs.checker.Calendars.{SpellsCalendar, CalendarTextFault, CertificateHolds}
-use Rattle.cal_events.specs.Calendar.{instance_of, HaveDifferentKeys, HaveOwnKeys, Names}
+use Rattle.cal_events.specs.Calendar.{instance_of, HaveDifferentKeys, HaveOwnKeys}
+use Rattle.cal_events.specs.Clashes.{Names}
 use Rattle.cal_events.specs.declared.sweep.Overlap.{Overlap}
 use Rattle.cal_period.specs.Besides.{IsBeside, IsBesideOr}
 use Rattle.cal_period.specs.Every.{IsPairClear, PairShares, IsFound}

@@ -11,7 +11,7 @@ ghost use Rattle.profile.specs.events.Events.{Event, EventFault, SaysEvent};
 ghost use Rattle.profile.specs.rooms.Messages.{SpellsMessage, cancels, is_add, is_cancel, later_of, own_revision, raised_to};
 ghost use Rattle.profile.specs.rooms.Revisions.{slot_cmp};
 ghost use Rattle.cal_events.specs.Component.{component_of};
-ghost use Rattle.cal_events.specs.MeetingComponents.{meeting_of};
+ghost use Rattle.cal_events.specs.OneMeeting.{meeting_of};
 ghost use Rattle.cal_events.specs.declared.component.EventComponent.{EventComponent};
 ghost use Rattle.itip_order.specs.Parts.{slot_of, revision_of};
 ghost use Rattle.itip_messages.specs.Body.{IsReady};

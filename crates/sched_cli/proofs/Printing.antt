@@ -14,7 +14,8 @@ use Rattle.profile.specs.events.Events.{Event, SpellsEvent}
 use Rattle.profile.specs.events.Starts.{IsInstance, ComesBefore}
 use Rattle.profile.specs.events.Expanding.{IsInstanceLine}
 use Rattle.cal_events.specs.Calendar.{instance_of}
-use Rattle.cal_events.specs.Instances.{IsAfter, IsPastSlot, IsLeft, GivesFirst}
+use Rattle.cal_events.specs.Instances.{IsAfter, IsPastSlot}
+use Rattle.cal_events.specs.Left.{IsLeft, GivesFirst}
 use Rattle.cal_events.specs.MeetingComponents.{IsInEventDates}
 use Rattle.cal_events.specs.Event.{said_meeting}
 use Rattle.cal_events.specs.declared.instance.Instance.{Instance}

@@ -8,7 +8,7 @@ use Rattle.profile.specs.events.Events.{Event}
 use Rattle.profile.specs.events.Starts.{IsInstance, ComesBefore}
 use Rattle.profile.specs.events.Expanding.{IsInstanceLine, IsExpansion}
 use Rattle.cal_events.specs.Calendar.{instance_of}
-use Rattle.cal_events.specs.Instances.{IsLeft, GivesFirst}
+use Rattle.cal_events.specs.Left.{IsLeft, GivesFirst}
 use Rattle.cal_events.specs.declared.instance.Instance.{Instance}
 use Rattle.cal_events.specs.declared.instances.Instances.{Instances}
 

@@ -10,7 +10,8 @@ use Rattle.cal_events.specs.declared.sweep.Span.{Span}
 use Rattle.cal_events.specs.declared.sweep.Overlap.{Overlap}
 use Rattle.cal_events.specs.Entries.{Name}
 use Rattle.cal_events.specs.declared.calendar.PlacedSingle.{PlacedSingle as Single}
-use Rattle.cal_events.specs.Calendar.{named_instance, span_of, HaveDifferentKeys, Names}
+use Rattle.cal_events.specs.Calendar.{named_instance, span_of, HaveDifferentKeys}
+use Rattle.cal_events.specs.Clashes.{Names}
 use Rattle.cal_events.specs.Sweep.{span_at, AreSpansApart, IsOverlap}
 
 -- the span of an instance

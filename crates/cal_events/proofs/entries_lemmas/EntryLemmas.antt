@@ -4,7 +4,8 @@ use Rattle.std.proofs.Common.{◌≡◌, ◌∙◌, ℕ, zero, suc, ◌<◌, Lis
 use Rattle.std.specs.Prelude.{All, ℤ}
 use Rattle.std.proofs.lemmas.List.{get_or_append_left}
 use Rattle.std.proofs.lemmas.List.Elements.{All-tail}
-use Rattle.cal_events.specs.Entries.{Name, name_of, names_of, name_at, meeting_at}
+use Rattle.cal_events.specs.Entries.{Name, name_of, names_of}
+use Rattle.cal_events.specs.Names.{name_at, meeting_at}
 use Rattle.cal_events.specs.Calendar.{key_in}
 use Rattle.cal_events.specs.declared.entries.ComponentName.{ComponentName}
 

@@ -15,7 +15,7 @@ use Rattle.std.proofs.lemmas.List.Sorted.{searchable_from_sorted, sorted_far, ra
 use Rattle.profile.specs.checker.Instances.{Key, key_cmp}
 use Rattle.cal_events.specs.Calendar.{MeetingName, key_of, key_in}
 use Rattle.cal_events.specs.Draft.{AreInOrder}
-use Rattle.cal_events.specs.Series.{meeting_name_cmp, cmp_to, is_before, is_key_of, AreSlotsOf}
+use Rattle.cal_events.specs.Ruled.{meeting_name_cmp, cmp_to, is_before, is_key_of, AreSlotsOf}
 use Rattle.cal_events.specs.declared.instance.InstanceKey.{InstanceKey}
 use Rattle.std.proofs.lemmas.Map.Lookups.{exact_pairs, exact_bytes}
 use Rattle.cal_events.proofs.shared_lemmas.InOneOrder.{in_mapped, of_mapped, in_filtered, of_filtered, mapped_pairs, pairs_mapped}

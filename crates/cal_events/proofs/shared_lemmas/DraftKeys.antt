@@ -10,7 +10,8 @@ use Rattle.std.proofs.lemmas.List.Elements.{filter_map-append}
 use Rattle.profile.specs.checker.Instances.{Key}
 use Rattle.profile.specs.events.EventComponents.{EventComponent, meeting_said}
 use Rattle.profile.specs.events.Confirmed.{MastersDiffer, OverridesDiffer}
-use Rattle.cal_events.specs.Entries.{MeetingName, Name, name_said, name_at}
+use Rattle.cal_events.specs.Entries.{MeetingName, Name}
+use Rattle.cal_events.specs.Names.{name_said, name_at}
 use Rattle.cal_events.specs.Calendar.{key_of, key_in}
 use Rattle.cal_events.specs.Draft.{master_key, override_key, master_keys, override_keys}
 use Rattle.cal_events.specs.declared.instance.InstanceKey.{InstanceKey}

@@ -18,14 +18,16 @@ use Rattle.profile.specs.events.EventComponents.{EventComponent, meeting_said}
 use Rattle.profile.specs.events.Events.{is_master}
 use Rattle.profile.specs.events.Starts.{IsInstance, ComesBefore}
 use Rattle.profile.specs.events.Confirmed.{Confirmed, alone, is_kept, is_series, IsSeries, IsReplacedAmong, IsSingle, AreSingles, AreConfirmed, MastersDiffer, OverridesDiffer}
-use Rattle.cal_events.specs.Entries.{Name, name_said, name_at, meeting_at, recurrence_at}
+use Rattle.cal_events.specs.Entries.{Name}
+use Rattle.cal_events.specs.Names.{name_said, name_at, meeting_at, recurrence_at}
 use Rattle.cal_events.specs.Calendar.{key_of, key_in, instance_as, named_instance, AreWithin, HaveDifferentKeys}
 use Rattle.ical_lines.specs.Fault.{RefusesBy}
 use Rattle.ical_lines.specs.declared.fault.Fault.{Fault}
 use Rattle.ical_lines.specs.declared.fault.Fault.TheVariants.{Refused, Memory}
 use Rattle.profile.specs.text.Trees.{Tree}
 use Rattle.profile.specs.checker.Calendars.{SayEvents, CalendarFault, CalendarTextFault, two_masters, two_overrides, in_vevents}
-use Rattle.cal_events.specs.Draft.{IsTwoOf, IsSaid, IsDraftIn, override_keys, IsOwnInstance, AreOwnAt, AreDrawn, IsDraft, IsMadeAt, AreSinglesShown, is_shown_in, AreMasters, AreRuled}
+use Rattle.cal_events.specs.Draft.{IsTwoOf, IsSaid, IsDraftIn, override_keys, IsOwnInstance, AreOwnAt, AreDrawn, IsDraft, IsMadeAt, AreSinglesShown, is_shown_in}
+use Rattle.cal_events.specs.Masters.{AreMasters, AreRuled}
 use Rattle.cal_events.specs.declared.instance.InstanceKey.{InstanceKey}
 use Rattle.cal_events.specs.declared.calendar.PlacedSingle.{PlacedSingle as Single}
 use Rattle.cal_events.specs.declared.draft.Draft.{Draft}
@@ -34,7 +36,8 @@ use Rattle.cal_events.proofs.shared_lemmas.InOneOrder.{later, in_mapped, of_mapp
 use Rattle.cal_events.proofs.shared_lemmas.EventLemmas.{push_zip}
 use Rattle.cal_events.proofs.reading_lemmas.ConfirmedLemmas.{lists_apart}
 use Rattle.cal_events.proofs.draft_lemmas.KeyLemmas.{key_exact, key_itself}
-use Rattle.cal_events.specs.Series.{IsByItsRule, series_said}
+use Rattle.cal_events.specs.Ruled.{IsByItsRule}
+use Rattle.cal_events.specs.Series.{series_said}
 use Rattle.cal_events.specs.declared.series.Series.{Series}
 use Rattle.cal_events.proofs.shared_lemmas.SeriesLemmas.{replaced_at, at_replaced, series_made, zip_mapped}
 use Rattle.cal_events.proofs.shared_lemmas.OwnSingles.{of_both, master_alone, not_a_master}

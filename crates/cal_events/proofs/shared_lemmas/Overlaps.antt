@@ -16,7 +16,8 @@ use Rattle.profile.specs.events.EventComponents.{EventComponent as SaidComponent
 use Rattle.profile.specs.events.Starts.{IsInstance, ComesBefore, EndsAt, Overlaps, SharesInstant, IsFirstOverlap, IsFirstSharer}
 use Rattle.cal_events.specs.Calendar.{instance_of}
 use Rattle.cal_events.specs.Component.{times_of}
-use Rattle.cal_events.specs.Instances.{IsAfter, IsPastSlot, IsLeft, GivesFirst}
+use Rattle.cal_events.specs.Instances.{IsAfter, IsPastSlot}
+use Rattle.cal_events.specs.Left.{IsLeft, GivesFirst}
 use Rattle.cal_events.specs.MeetingComponents.{IsInEventDates}
 use Rattle.cal_events.specs.Event.{said_meeting}
 use Rattle.cal_events.specs.declared.event.Event as declared

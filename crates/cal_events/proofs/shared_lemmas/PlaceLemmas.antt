@@ -17,7 +17,8 @@ use Rattle.std.proofs.lemmas.List.Elements.{All-append, All-contains, Contains-a
 use Rattle.std.proofs.lemmas.List.Folds.{list_any_at}
 use Rattle.std.proofs.lemmas.List.Sorted.{sorted_far, ranks_by, Contains-permutation, All-permutation}
 use Rattle.cal_events.specs.Instances.{IsAtPlace, IsAfter, IsBefore, IsPastSlot, IsMovedTo, IsSoonest}
-use Rattle.cal_events.specs.Places.{moved_cmp, place_of, is_past_slot, is_to_come, is_left_of, is_there, IsMovedOf, ArePlaces, IsPlaceToCome, IsWhichAt}
+use Rattle.cal_events.specs.PlaceOrder.{moved_cmp}
+use Rattle.cal_events.specs.Places.{place_of, is_past_slot, is_to_come, is_left_of, is_there, IsMovedOf, ArePlaces, IsPlaceToCome, IsWhichAt}
 use Rattle.cal_events.specs.declared.component.EventComponent.{EventComponent}
 use Rattle.cal_events.specs.declared.instances.Bound.{Bound}
 use Rattle.cal_events.specs.declared.instances.InstancePlace.{InstancePlace}

@@ -19,9 +19,11 @@ use Rattle.profile.specs.events.Starts.{key_at, IsGiven, IsRuleStart, IsInstance
 use Rattle.profile.specs.events.Confirmed.{IsReplacedAmong, IsInstanceAmong, IsOfSeries, by_its_rule, IsSeries}
 use Rattle.cal_events.specs.Clocks.{IsSteady}
 use Rattle.cal_events.specs.Calendar.{key_in}
-use Rattle.cal_events.specs.Entries.{Name, name_said}
+use Rattle.cal_events.specs.Entries.{Name}
+use Rattle.cal_events.specs.Names.{name_said}
 use Rattle.cal_events.specs.Draft.{override_key, override_keys, IsSaid}
-use Rattle.cal_events.specs.Series.{IsByItsRule, IsRuled, ruled_without, IsSeriesOf, IsSeriesWithout}
+use Rattle.cal_events.specs.Ruled.{IsByItsRule, IsRuled, ruled_without}
+use Rattle.cal_events.specs.Series.{IsSeriesOf, IsSeriesWithout}
 use Rattle.cal_events.specs.MeetingComponents.{IsInEventDates}
 use Rattle.cal_events.specs.Overlapping.{HaveOneEnd, AreDated}
 use Rattle.cal_events.specs.Component.{component_of}

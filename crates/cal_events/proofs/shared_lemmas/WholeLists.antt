@@ -7,7 +7,8 @@ use Rattle.profile.specs.checker.Instances.{Instance as SaidInstance}
 use Rattle.profile.specs.events.Events.{Event}
 use Rattle.profile.specs.events.Starts.{IsInstance, ComesBefore, AreInstancesFrom}
 use Rattle.cal_events.specs.Calendar.{instance_of}
-use Rattle.cal_events.specs.Instances.{IsAfter, IsPastSlot, IsLeft, GivesFirst}
+use Rattle.cal_events.specs.Instances.{IsAfter, IsPastSlot}
+use Rattle.cal_events.specs.Left.{IsLeft, GivesFirst}
 use Rattle.cal_events.specs.Whole.{GivesAll, no_more, one_more}
 use Rattle.cal_events.specs.Event.{said_meeting}
 use Rattle.cal_events.specs.declared.event.Event as declared

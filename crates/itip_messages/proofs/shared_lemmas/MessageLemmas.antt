@@ -28,7 +28,7 @@ use Rattle.cal_events.specs.declared.component.EventComponent.{EventComponent}
 use Rattle.cal_events.specs.declared.component.Purpose.{Purpose}
 use Rattle.cal_events.specs.declared.meeting_components.MeetingComponents.{MeetingComponents}
 use Rattle.cal_events.specs.Component.{component_of, method_read}
-use Rattle.cal_events.specs.MeetingComponents.{meeting_of}
+use Rattle.cal_events.specs.OneMeeting.{meeting_of}
 use Rattle.cal_events.specs.Series.{IsSeriesOf, series_said}
 use Rattle.cal_events.specs.declared.series.Series.{Series}
 use Rattle.cal_events.proofs.shared_lemmas.EventLemmas.{some_line, push_zip}

@@ -4,7 +4,7 @@ use Rattle.std.specs.List.{list_any}
 use Rattle.std.specs.Ordering.{is_eq}
 use Rattle.profile.specs.checker.Instances.{key_cmp}
 use Rattle.cal_events.specs.Calendar.{key_of, key_in}
-use Rattle.cal_events.specs.Entries.{meeting_at}
+use Rattle.cal_events.specs.Names.{meeting_at}
 use Rattle.cal_events.proofs.draft_lemmas.KeyLemmas.{missing}
 use Rattle.cal_events.proofs.draft.is_shown.Goals as goal
 

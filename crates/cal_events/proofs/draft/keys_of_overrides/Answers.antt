@@ -5,7 +5,8 @@ use Rattle.std.proofs.lemmas.List.Sorted.{IsPermutation-map}
 use Rattle.std.specs.List.Sorted.{IsPermutation}
 use Rattle.profile.specs.checker.Instances.{Key}
 use Rattle.cal_events.specs.Calendar.{key_of}
-use Rattle.cal_events.specs.Entries.{Name, meeting_at}
+use Rattle.cal_events.specs.Entries.{Name}
+use Rattle.cal_events.specs.Names.{meeting_at}
 use Rattle.cal_events.specs.Draft.{override_key, override_keys}
 use Rattle.cal_events.proofs.shared_lemmas.DraftKeys.{key_pushed, key_passed}
 use Rattle.cal_events.proofs.draft.keys_of_overrides.Goals as goal

@@ -1,8 +1,9 @@
 use Rattle.std.proofs.Common.{◌∷◌, ◌++◌, [], List, map, subst, sym}
 use Rattle.cal_events.specs.Calendar.{key_of}
 use Rattle.cal_events.specs.Component.{component_of}
-use Rattle.cal_events.specs.Draft.{AreSeriesOf}
-use Rattle.cal_events.specs.Series.{IsByItsRule, series_said}
+use Rattle.cal_events.specs.Masters.{AreSeriesOf}
+use Rattle.cal_events.specs.Ruled.{IsByItsRule}
+use Rattle.cal_events.specs.Series.{series_said}
 use Rattle.cal_events.specs.declared.series.Series.{Series}
 use Rattle.cal_events.proofs.shared_lemmas.EventLemmas.{push_zip}
 use Rattle.cal_events.proofs.draft.series_of.Goals as goal

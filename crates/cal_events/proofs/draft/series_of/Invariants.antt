@@ -1,6 +1,6 @@
 use Rattle.std.proofs.Common.{map}
 use Rattle.cal_events.specs.Calendar.{key_of}
-use Rattle.cal_events.specs.Draft.{AreSeriesOf}
+use Rattle.cal_events.specs.Masters.{AreSeriesOf}
 use Rattle.cal_events.proofs.draft.series_of.Given as goal
 
 -- the series of the masters so far

@@ -2,7 +2,8 @@ use Rattle.std.proofs.Common.{◌∙◌, List, refl, map, sym, subst}
 use Rattle.std.specs.List.Sorted.{IsPermutation}
 use Rattle.std.proofs.lemmas.List.Sorted.{IsPermutation-sym}
 use Rattle.cal_events.specs.Calendar.{key_of}
-use Rattle.cal_events.specs.Draft.{override_keys, AreSeriesOf}
+use Rattle.cal_events.specs.Draft.{override_keys}
+use Rattle.cal_events.specs.Masters.{AreSeriesOf}
 use Rattle.cal_events.specs.declared.instance.InstanceKey.{InstanceKey}
 use Rattle.cal_events.proofs.draft_lemmas.KeyLemmas.{pairs_permutation}
 use Rattle.cal_events.proofs.draft.shown.Goals as goal

@@ -5,7 +5,7 @@ use Rattle.std.proofs.lemmas.Bool.{true≢false}
 use Rattle.std.proofs.lemmas.Int.{ints}
 use Rattle.profile.specs.events.Properties.{first_second}
 use Rattle.profile.specs.events.Starts.{Overlaps}
-use Rattle.cal_events.specs.Instances.{GivesFirst}
+use Rattle.cal_events.specs.Left.{GivesFirst}
 use Rattle.cal_events.specs.Event.{said_meeting}
 use Rattle.cal_events.specs.declared.instance.Instance.{Instance}
 use Rattle.cal_events.proofs.shared_lemmas.Overlaps.{left_first, found, too_late, passed_on, one_fewer, steps_left, ended, at_most}

@@ -2,7 +2,7 @@ use Rattle.std.proofs.Common.{◌≡◌, ◌∙◌, ℕ, ◌-◌, true, false, L
 use Rattle.std.specs.List.Sorted.{IsPartitionedBy, IsPartitionPoint}
 use Rattle.std.proofs.lemmas.List.Sorted.{IsPartitionPoint-from_clause}
 use Rattle.cal_events.specs.Calendar.{MeetingName}
-use Rattle.cal_events.specs.Series.{is_before, is_key_of}
+use Rattle.cal_events.specs.Ruled.{is_before, is_key_of}
 use Rattle.cal_events.specs.declared.instance.InstanceKey.{InstanceKey}
 use Rattle.cal_events.proofs.series_lemmas.OwnKeys.{before_parted, rest_parted, own_found}
 use Rattle.cal_events.proofs.series.own_keys.Goals as goal

@@ -4,7 +4,7 @@ use Rattle.std.proofs.lemmas.List.{take_all}
 use Rattle.profile.specs.events.EventComponents.{meeting_said}
 use Rattle.cal_events.specs.Calendar.{MeetingName, key_of}
 use Rattle.cal_events.specs.Component.{component_of}
-use Rattle.cal_events.specs.Series.{AreSlotsOf}
+use Rattle.cal_events.specs.Ruled.{AreSlotsOf}
 use Rattle.cal_events.specs.declared.instance.InstanceKey.{InstanceKey}
 use Rattle.cal_events.proofs.series_lemmas.OwnKeys.{own_slots}
 use Rattle.cal_events.proofs.series.replaced.Goals as goal

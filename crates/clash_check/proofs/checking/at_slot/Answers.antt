@@ -5,7 +5,7 @@ use Rattle.std.proofs.lemmas.Int.{to_z-of_z}
 use Rattle.profile.specs.checker.Instances.{Instance}
 use Rattle.profile.specs.events.Starts.{IsInstance}
 use Rattle.cal_events.specs.Calendar.{owned_key_of}
-use Rattle.cal_events.specs.Instances.{IsLeft}
+use Rattle.cal_events.specs.Left.{IsLeft}
 use Rattle.cal_events.specs.Series.{series_said}
 use Rattle.clash_check.proofs.ClashLemmas.{none_at, other_at, it_is, any_none}
 use Rattle.clash_check.proofs.checking.at_slot.Goals as goal

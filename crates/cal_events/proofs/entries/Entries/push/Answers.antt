@@ -2,7 +2,8 @@ use Rattle.std.proofs.Common.{◌∙◌, ◌++◌, ◌∷◌, [], ℕ, List, map
 use Rattle.std.specs.Prelude.{All}
 use Rattle.std.proofs.lemmas.List.{length-map}
 use Rattle.ical_values.specs.Octets.{address_octets}
-use Rattle.cal_events.specs.Entries.{Name, names_of, name_said}
+use Rattle.cal_events.specs.Entries.{Name, names_of}
+use Rattle.cal_events.specs.Names.{name_said}
 use Rattle.cal_events.specs.Component.{component_of}
 use Rattle.cal_events.specs.declared.entries.ComponentName.{ComponentName}
 use Rattle.cal_events.proofs.entries_lemmas.EntryLemmas.{Within, pushed}

@@ -6,7 +6,7 @@ use Rattle.profile.specs.events.Events.{SaysEvent, EventFault}
 use Rattle.profile.specs.checker.Instances.{Instance}
 use Rattle.ical_values.proofs.Exits.{err_exit}
 use Rattle.cal_events.specs.Component.{component_of}
-use Rattle.cal_events.specs.MeetingComponents.{meeting_of}
+use Rattle.cal_events.specs.OneMeeting.{meeting_of}
 use Rattle.cal_events.specs.Event.{said_meeting}
 use Rattle.cal_events.proofs.shared_lemmas.OneInstance.{one_at, dated}
 use Rattle.cal_events.proofs.shared_lemmas.Clocks.{all_clocks, master_good}

@@ -8,7 +8,8 @@ use Rattle.profile.specs.events.Events.{is_master, is_override, taken_by, AreOfO
 use Rattle.ical_values.proofs.Exits.{err_exit}
 use Rattle.cal_events.specs.declared.component.EventComponent.{EventComponent}
 use Rattle.cal_events.specs.Component.{component_of, method_read, vevents_of, IsFaultAmong}
-use Rattle.cal_events.specs.MeetingComponents.{IsNotOne, SharesSlot, meeting_of}
+use Rattle.cal_events.specs.MeetingComponents.{IsNotOne, SharesSlot}
+use Rattle.cal_events.specs.OneMeeting.{meeting_of}
 use Rattle.cal_events.proofs.shared_lemmas.TreeLemmas.{vevents_tree}
 use Rattle.cal_events.proofs.shared_lemmas.ZonedLemmas.{weaker_fault}
 use Rattle.cal_events.proofs.shared_lemmas.MeetingLemmas.{among_there, not_one_there, slot_there, meeting_there}

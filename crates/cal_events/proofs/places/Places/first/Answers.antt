@@ -3,7 +3,8 @@ use Rattle.std.specs.Prelude.{Some, None}
 use Rattle.std.specs.List.Sorted.{IsSorted}
 use Rattle.std.proofs.lemmas.List.Sorted.{IsPartitionPoint-from_clause}
 use Rattle.cal_events.specs.Instances.{IsSoonest}
-use Rattle.cal_events.specs.Places.{moved_cmp, place_of, is_to_come, IsPlaceToCome}
+use Rattle.cal_events.specs.PlaceOrder.{moved_cmp}
+use Rattle.cal_events.specs.Places.{place_of, is_to_come, IsPlaceToCome}
 use Rattle.cal_events.specs.declared.places.Moved.{Moved}
 use Rattle.cal_events.proofs.shared_lemmas.PlaceLemmas.{to_come_parted, first_found, none_found}
 use Rattle.cal_events.proofs.places.Places.first.Goals as goal

@@ -2,7 +2,8 @@ use Rattle.std.proofs.Common.{◌∙◌, sym, ap, subst, List, arith, rules, get
 use Rattle.std.specs.Prelude.{None}
 use Rattle.std.specs.List.Sorted.{IsSorted}
 use Rattle.std.proofs.lemmas.List.Sorted.{IsPartitionPoint-from_clause}
-use Rattle.cal_events.specs.Places.{moved_cmp, is_left_of, IsWhichAt}
+use Rattle.cal_events.specs.PlaceOrder.{moved_cmp}
+use Rattle.cal_events.specs.Places.{is_left_of, IsWhichAt}
 use Rattle.cal_events.specs.declared.places.Moved.{Moved}
 use Rattle.cal_events.proofs.shared_lemmas.PlaceLemmas.{left_parted, none_at, none_there, not_there}
 use Rattle.cal_events.proofs.places.Places.which.Goals as goal

@@ -6,7 +6,8 @@ use Rattle.profile.specs.events.EventComponents.{EventComponent as Said}
 use Rattle.cal_events.specs.Clocks.{HasGoodClock}
 use Rattle.cal_events.specs.Component.{component_of}
 use Rattle.cal_events.specs.Overlapping.{HaveOneEnd}
-use Rattle.cal_events.specs.Series.{ruled_without, series_said, IsSeriesWithout}
+use Rattle.cal_events.specs.Ruled.{ruled_without}
+use Rattle.cal_events.specs.Series.{series_said, IsSeriesWithout}
 use Rattle.cal_events.specs.declared.component.EventComponent.{EventComponent}
 use Rattle.cal_events.specs.declared.series.Series.{Series}
 use Rattle.cal_events.proofs.shared_lemmas.OwnSingles.{of_master}

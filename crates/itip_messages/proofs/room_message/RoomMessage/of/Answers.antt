@@ -5,7 +5,7 @@ use Rattle.std.specs.List.Sorted.{IsPermutation}
 use Rattle.std.proofs.lemmas.List.Sorted.{IsPermutation-sym, Contains-permutation, length_permutation}
 use Rattle.cal_events.specs.declared.component.EventComponent.{EventComponent}
 use Rattle.cal_events.specs.Component.{component_of}
-use Rattle.cal_events.specs.MeetingComponents.{meeting_of}
+use Rattle.cal_events.specs.OneMeeting.{meeting_of}
 use Rattle.profile.specs.rooms.Revisions as revisions
 use Rattle.itip_messages.specs.RoomMessage.{SaysComponent, method_said}
 use Rattle.itip_messages.proofs.room_message_lemmas.BySlot.{sorted_by_slot}
