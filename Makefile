@@ -4,7 +4,7 @@ EXAMPLE := examples/first-request.ics-stream
 
 .PHONY: try run test attack bench man layout clean
 
-# Answers the first request within about a minute. Nothing is proved this way.
+# Answers the first request in about a minute. Nothing is proved this way.
 try:
 	@cd crates/roombox && $(RT) try < ../../$(EXAMPLE)
 	@echo "(nothing was proved: 'make run' proves what it runs)"

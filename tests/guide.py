@@ -581,6 +581,33 @@ def command_line(cases, program):
         cases.holds("groff shows the man page without a warning", (shown.returncode, shown.stderr.decode(), b"EXIT STATUS" in shown.stdout), (0, "", True))
 
 
+def logged(cases, program):
+    # what came on each day, the first file without a line break at its end; the guide's own line appends it to the log
+    recipe = next(line.strip() for line in (ROOT / "docs" / "PROFILE.md").read_text().splitlines() if line.endswith(">> log"))
+    days = [
+        {"1.ics": request().removesuffix("\r\n")},
+        {"1.ics": request("b", start="20250310T093000Z", lines=("DURATION:PT1H",)), "2.ics": request("c", start="20250310T120000Z", lines=("DURATION:PT1H",)).removesuffix("\n")},
+        {"1.ics": request("d", start="20250310T123000Z", lines=("DURATION:PT1H",))},
+    ]
+    found = []
+    with tempfile.TemporaryDirectory() as folder:
+        for day in days:
+            new = Path(folder, "new")
+            new.mkdir()
+            for name, text in day.items():
+                (new / name).write_bytes(text.encode())
+            subprocess.run(["sh", "-c", recipe], cwd=folder, check=True)
+            shutil.rmtree(new)
+            found.append(answers(program, Path(folder, "log").read_bytes().decode()))
+    answered = ["ACCEPTED", "DECLINED", "ACCEPTED", "DECLINED"]
+    cases.holds("a log of files without a last line break", found, [answered[:1], answered[:3], answered])
+    together = request().removesuffix("\r\n") + request("b", start="20250310T120000Z", lines=("DURATION:PT1H",))
+    cases.holds("a line break is missing between two objects", answers(program, together, request("c")), ["REFUSED;OBJECT=1:20", "ACCEPTED"])
+    spoiled = request().replace("END:VCALENDAR", "END:VCALENDAR ")
+    cases.holds("a spoiled END", answers(program, spoiled + request("b"), request("c")), ["REFUSED;OBJECT=1:20", "ACCEPTED"])
+    cases.holds("something between two objects", answers(program, request(), "From ann\r\n" + request("b"), request("c")), ["ACCEPTED", "REFUSED;OBJECT=2:1", "DECLINED"])
+
+
 def examples(cases, program):
     """Each NAME.ics-stream of examples/ has what is written for it beside it, as NAME.replies."""
     folder = ROOT / "examples"
@@ -648,7 +675,7 @@ def organisers(cases, program):
 
 def main():
     program, cases = str(Path(sys.argv[1]).resolve()), Cases()
-    for part in (preambles, decisions, instances, added, replies, refusals, kept, zones, times_in_zones, series, kept_series, organisers, explained, explained_objects, reported, command_line, examples):
+    for part in (preambles, decisions, instances, added, replies, refusals, kept, zones, times_in_zones, series, kept_series, organisers, explained, explained_objects, reported, command_line, logged, examples):
         part(cases, program)
     print(f"{cases.count} cases, {cases.failed} failed")
     return 1 if cases.failed else 0

@@ -1,5 +1,5 @@
 //! A time with its zone, as a start or an end: TZID names a VTIMEZONE of the object that the line is in
-//! (RFC 5545 3.2.19, 3.3.5, 3.6.5, 3.8.3.1). A VTIMEZONE that no line names isn't read.
+//! (RFC 5545 3.2.19, 3.3.5, 3.6.5, 3.8.3.1). What is wrong with a VTIMEZONE that no line names refuses nothing.
 ghost use Rattle.std.specs.Prelude.{◌≡◌, ℕ, List, codes, Option, None, Some, ℤ, pos, MatchOption, IfOk, IfErr, OnOk};
 ghost use Rattle.ical_lines.specs.Text.{line_text};
 ghost use Rattle.profile.specs.text.Lines.{line_param};

@@ -1,8 +1,8 @@
 -- Where the octets of an object lead, and what follows it.
-use Rattle.std.proofs.Common.{◌≡◌, ℕ, zero, suc, ◌+◌, ◌-◌, ◌<◌, ◌≤◌, min, Bool, true, false, cond, nat_lt, List, [], ◌∷◌, ◌++◌, length, take, drop, get_or, Option, Some, None, IfSome, OnSome, refl, sym, ap, subst, ◌∙◌, arith, length-take, length-take-le, take-take, true≢false, take-append-drop, get_or-take}
+use Rattle.std.proofs.Common.{◌≡◌, ℕ, zero, suc, ◌+◌, ◌-◌, ◌<◌, ◌≤◌, min, Bool, true, false, cond, nat_lt, List, [], ◌∷◌, ◌++◌, length, take, drop, get_or, Option, Some, None, IfSome, OnSome, refl, sym, ap, subst, ◌∙◌, arith, length-drop, length-take, length-take-le, take-take, true≢false, take-append-drop, get_or-take}
 use Rattle.std.proofs.Math.Seq.{take-add}
 use Rattle.std.proofs.lemmas.Bool.Decides.{nat_tests}
-use Rattle.std.proofs.lemmas.List.{append_assoc, append_cancel_left, drop_more, take_more}
+use Rattle.std.proofs.lemmas.List.{append-nil, append_assoc, append_cancel_left, drop_more, take_more}
 use Rattle.std.specs.Io.{StartsWith}
 use Rattle.std.specs.Io.KnownBytes.{Consumes, IsAtEnd}
 use Rattle.profile.specs.text.Objects.{is_begun, after_object}
@@ -13,8 +13,9 @@ use Rattle.ical_lines.proofs.BegunLemmas.{cutter_begins}
 use Rattle.sched_box.specs.declared.fault.ServeFault.{ServeFault}
 use Rattle.sched_box.specs.declared.fault.ServeFault.TheVariants.{Read, Write, TooLong, Memory}
 use Rattle.sched_box.specs.declared.objects.Objects.{Objects}
+use Rattle.sched_box.specs.declared.objects.Piece.{Piece}
 use Rattle.sched_box.specs.declared.objects.Piece.TheVariants.{Ended, Goes, End}
-use Rattle.sched_box.specs.Objects.{kept_of, Cuts, IsPieceEnd, IsPieceFault, LeavesMore, piece_of, TakesNextObject, IsStop, StopsReading}
+use Rattle.sched_box.specs.Objects.{kept_of, Cuts, IsPieceEnd, IsPieceFault, LeavesMore, LendsAfter, piece_of, TakesNextObject, IsStop, StopsReading}
 
 -- ---- leading on
 
@@ -170,6 +171,21 @@ leaves_more lent most count left false most_is some within before = at (nat_lt 0
     at true e = tt
     at false e = let none : count ≡ 0 = grind (arith, nat_tests) in omega arith
 
+-- where the object ended, the octet before which it did is lent still
+pub lends_after : (lent rest : List ℕ) (most count : ℕ) (ended : Bool) → rest ≡ drop count lent → (ended ≡ true → count < length (take most lent)) → LendsAfter (length rest) (piece_of count ended)
+lends_after lent rest most count true is before =
+    let l = before refl in
+    omega (arith, ap length is, length-drop count lent, length-take most lent)
+lends_after lent rest most count false is before = at (nat_lt 0 count)
+  where
+    at : (b : Bool) → LendsAfter (length rest) (cond b Goes End)
+    at true = tt
+    at false = tt
+
+-- what a piece that goes on takes
+pub goes_some : (a b : Option (List ℕ)) (cutter : Cutter) (taken : List ℕ) (piece : Piece) → piece ≡ Goes → IsPieceEnd a b cutter taken piece → 0 < length taken
+goes_some a b cutter taken piece is ends = subst (IsPieceEnd a b cutter taken) is ends
+
 -- ---- an object
 
 module _ (a b : Option (List ℕ)) (taken : List ℕ) (cutter : Cutter) (consumed : Consumes a b taken) (cuts : Cuts fresh taken cutter) where
@@ -240,4 +256,4 @@ module _ (a b : Option (List ℕ)) (taken : List ℕ) (cutter : Cutter) (consume
       omega arith
 
   pub stops_in : (before after : Objects) (fault : ServeFault) → after.left + length taken ≡ before.left → IsStop fault after.left → StopsReading a b before after fault
-  stops_in before after fault left stop = record { taken = taken; consumed = consumed; within = within_object a b consumed; left = left; stop = stop }
+  stops_in before after fault left stop = record { taken = taken; consumed = consumed; within = within_object a b consumed; goes_on = ap after_object (sym (append-nil taken)) ∙ after_is []; left = left; stop = stop }

@@ -1,5 +1,5 @@
 -- The objects and answers so far, against those of the whole stream.
-use Rattle.std.proofs.Common.{◌≡◌, inl, inr, ℕ, ℤ, Bool, zero, suc, ◌+◌, ◌<◌, ◌≤◌, true, false, List, [], ◌∷◌, ◌++◌, length, take, Option, Some, None, IfSome, OnSome, Result, Ok, Err, refl, sym, ap, subst, ◌∙◌, arith, length-append}
+use Rattle.std.proofs.Common.{◌≡◌, ◌⊎◌, inl, inr, ℕ, ℤ, Bool, zero, suc, ◌+◌, ◌-◌, ◌<◌, ◌≤◌, true, false, List, [], ◌∷◌, ◌++◌, length, take, Option, Some, None, IfSome, OnSome, Result, Ok, Err, refl, sym, ap, subst, ◌∙◌, arith, length-append}
 use Rattle.std.proofs.lemmas.List.{append_assoc, append-nil}
 use Rattle.std.specs.Io.KnownBytes.{Appends, Consumes, Keeps, IsAtEnd}
 use Rattle.std.proofs.KnownBytes.{Appends-kept, Appends-nil, Appends-trans, Keeps-refl}
@@ -14,8 +14,9 @@ use Rattle.sched_box.specs.declared.serving.ServeReport.{ServeReport}
 use Rattle.sched_box.specs.Answering.{AreHosted, IsHosted, room_addresses}
 use Rattle.sched_box.specs.Books.{AnswersKept, AreBooksOf, hosted_rooms}
 use Rattle.sched_box.specs.declared.books.Books.{Books}
-use Rattle.sched_box.specs.Objects.{kept_of, TakesNextObject, ReadsObject, StopsReading}
-use Rattle.sched_box.specs.Serving.{AnswersWhole, Ends, Gives, GivesPart, IsWithinBound, ServesAll, ServesSome, HasRead, ServesUntil, Serves, BooksServe, ServesStream, KeepsTexts, StopsKeeping}
+use Rattle.sched_box.specs.Input.{IsFilledWithin}
+use Rattle.sched_box.specs.Objects.{kept_of, LendsNext, TakesNextObject, ReadsObject, StopsReading}
+use Rattle.sched_box.specs.Serving.{AnswersWhole, Ends, Gives, GivesPart, GivesRead, IsWithinBound, ServesAll, ServesSome, HasRead, ServesUntil, Serves, BooksServe, ServesStream, KeepsTexts, StopsKeeping}
 use Rattle.std.proofs.Common.{◌≢◌, Contains, true≢false}
 use Rattle.std.specs.Str.{bytes_eq}
 use Rattle.std.proofs.lemmas.Slice.Eq.{bytes_eq-Decides}
@@ -59,6 +60,28 @@ gives_whole (Some xs) (Some ys) None objects kept taken g t = absurd t.consumed
 gives_whole (Some xs) (Some ys) (Some zs) objects kept taken g t =
     let same : length zs ≡ length (after_object ys) = ap length t.rest in
     (ys, taken, g, t.consumed, omega arith)
+
+-- where a reader is between two objects: no object was taken, or the octet after the last is lent, or the input has ended. So far its fills
+-- are paid by octets that were consumed; at the end of the input there is one more
+pub data Between (objects lent paid start : ℕ) (left : List ℕ) : Type 0 where
+  fresh : objects ≡ 0 → paid ≤ start → Between objects lent paid start left
+  lends : 0 < lent → paid ≤ start → Between objects lent paid start left
+  ended : left ≡ [] → paid ≤ start + 1 → Between objects lent paid start left
+
+-- of a reader whose octets are known
+abbrev pub IsBetween : Option (List ℕ) → Option (List ℕ) → ℕ → ℕ → ℕ → ℕ → Type 0
+IsBetween None left objects lent paid start = Unit {0}
+IsBetween (Some octets) None objects lent paid start = Unit {0}
+IsBetween (Some octets) (Some rest) objects lent paid start = Between objects lent paid start rest
+
+pub between_first : (a : Option (List ℕ)) (objects lent paid start : ℕ) → objects ≡ 0 → paid ≤ start → IsBetween a a objects lent paid start
+between_first None objects lent paid start none few = tt
+between_first (Some xs) objects lent paid start none few = fresh none few
+
+paid_at : (objects lent paid start : ℕ) (left : List ℕ) → Between objects lent paid start left → paid ≤ start + 1
+paid_at objects lent paid start left (fresh none few) = omega arith
+paid_at objects lent paid start left (lends some few) = omega arith
+paid_at objects lent paid start left (ended end few) = few
 
 pub gives_stopped : (a b c : Option (List ℕ)) (objects : List (List ℕ)) (before after : Objects) (fault : ServeFault) → Gives a b objects → StopsReading b c before after fault → GivesPart a c objects
 gives_stopped None b c objects before after fault g s = tt
@@ -159,13 +182,92 @@ read_less None c n h some = tt
 read_less (Some xs) None n h some = absurd h
 read_less (Some xs) (Some zs) n h some = omega arith
 
+-- after one more object
+pub between_more : (a b c : Option (List ℕ)) (objects more lent lent' paid spent start n : ℕ) (kept taken : List ℕ) → IsBetween a b objects lent paid start → HasLeft a b n
+    → TakesNextObject b c kept true taken → (0 < lent') ⊎ OnSome b (IsAtEnd c) → spent ≤ paid → IsBetween a c more lent' (spent + (1 - lent')) start
+between_more None b c objects more lent lent' paid spent start n kept taken so read t next less = tt
+between_more (Some xs) None c objects more lent lent' paid spent start n kept taken so read t next less = absurd read
+between_more (Some xs) (Some ys) None objects more lent lent' paid spent start n kept taken so read t next less = tt
+between_more (Some xs) (Some ys) (Some zs) objects more lent lent' paid spent start n kept taken so read t next less = at so
+  where
+    lead : paid ≤ start → Between more lent' (spent + (1 - lent')) start zs
+    lead few = elim next [ inl some ↦ lends some (omega arith) | inr end ↦ ended end (omega arith) ]
+
+    at : Between objects lent paid start ys → Between more lent' (spent + (1 - lent')) start zs
+    at (fresh none few) = lead few
+    at (lends some few) = lead few
+    at (ended end few) = absurd (true≢false (sym t.begun ∙ ap is_begun end))
+
+-- so the reader was filled seldom
+pub filled_within : (a b c : Option (List ℕ)) (objects lent paid old new fills lent_first spent : ℕ) (taken : List ℕ) → IsBetween a b objects lent paid (fills + 1_073_741_824 + (1 - lent_first))
+    → HasLeft a b old → Consumes b c taken → new + length taken ≡ old → spent + new ≤ paid → IsFilledWithin 2 fills spent a c
+filled_within None b c objects lent paid old new fills lent_first spent taken so read consumed left less = tt
+filled_within (Some xs) None c objects lent paid old new fills lent_first spent taken so read consumed left less = absurd read
+filled_within (Some xs) (Some ys) None objects lent paid old new fills lent_first spent taken so read consumed left less = tt
+filled_within (Some xs) (Some ys) (Some zs) objects lent paid old new fills lent_first spent taken so read consumed left less =
+    let few = paid_at objects lent paid (fills + 1_073_741_824 + (1 - lent_first)) ys so in
+    let split : length ys ≡ length taken + length zs = ap length consumed ∙ length-append taken zs in
+    omega arith
+
+pub filled_none : (more n : ℕ) (a : Option (List ℕ)) → IsFilledWithin more n n a a
+filled_none more n None = tt
+filled_none more n (Some xs) = omega arith
+
+-- in two parts, a preamble and what follows it
+pub filled_trans : (first second f g h : ℕ) (a b c : Option (List ℕ)) (taken : List ℕ) → Consumes a b taken → IsFilledWithin first f g a b → IsFilledWithin second g h b c → IsFilledWithin (first + second) f h a c
+filled_trans first second f g h None b c taken consumed before behind = tt
+filled_trans first second f g h (Some xs) None c taken consumed before behind = absurd consumed
+filled_trans first second f g h (Some xs) (Some ys) None taken consumed before behind = tt
+filled_trans first second f g h (Some xs) (Some ys) (Some zs) taken consumed before behind = omega (arith, before, behind)
+
+pub filled_more : (few more f g : ℕ) (a b : Option (List ℕ)) → few ≤ more → IsFilledWithin few f g a b → IsFilledWithin more f g a b
+filled_more few more f g None b less h = tt
+filled_more few more f g (Some xs) None less h = tt
+filled_more few more f g (Some xs) (Some ys) less h = omega (arith, h)
+
+-- no object was taken, or an octet of the next one was, or the input has ended
+abbrev pub IsRead : Option (List ℕ) → Option (List ℕ) → List (List ℕ) → List ℕ → Type 0
+IsRead None c objects taken = Unit {0}
+IsRead (Some xs) None objects taken = Unit {0}
+IsRead (Some xs) (Some zs) objects taken = (objects ≡ []) ⊎ ((0 < length taken) ⊎ (zs ≡ []))
+
+-- where octets were lent, some of them were taken
+pub is_read : (a b c : Option (List ℕ)) (objects : List (List ℕ)) (count lent paid start n : ℕ) (taken : List ℕ) → IsBetween a b count lent paid start → count ≡ length objects → HasLeft a b n
+    → Consumes b c taken → (0 < lent → 0 < length taken) → IsRead a c objects taken
+is_read None b c objects count lent paid start n taken so counted read consumed some = tt
+is_read (Some xs) None c objects count lent paid start n taken so counted read consumed some = absurd read
+is_read (Some xs) (Some ys) None objects count lent paid start n taken so counted read consumed some = tt
+is_read (Some xs) (Some ys) (Some zs) objects count lent paid start n taken so counted read consumed some = at so
+  where
+    none_of : (os : List (List ℕ)) → length os ≡ 0 → os ≡ []
+    none_of [] e = refl
+    none_of (o ∷ os) e = absurd (omega arith)
+
+    second : (l m : List ℕ) → l ++ m ≡ [] → m ≡ []
+    second [] m e = e
+    second (x ∷ l) m e = absurd (cc)
+
+    at : Between count lent paid start ys → (objects ≡ []) ⊎ ((0 < length taken) ⊎ (zs ≡ []))
+    at (fresh none few) = inl (none_of objects (sym counted ∙ none))
+    at (lends l few) = inr (inl (some l))
+    at (ended end few) = inr (inr (second taken zs (sym consumed ∙ end)))
+
+-- all that was read, where the reader has failed or enough was read
+pub gives_read : (a b c : Option (List ℕ)) (objects : List (List ℕ)) (before after : Objects) (fault : ServeFault) → Gives a b objects → (s : StopsReading b c before after fault)
+    → IsRead a c objects s.taken → GivesRead a c objects
+gives_read None b c objects before after fault g s why = tt
+gives_read (Some xs) None c objects before after fault g s why = absurd g
+gives_read (Some xs) (Some ys) None objects before after fault g s why = absurd s.consumed
+gives_read (Some xs) (Some ys) (Some zs) objects before after fault g s why = (s.taken, subst (BeginsWith xs objects) s.consumed g, s.goes_on, why)
+
 -- the stream ended before the next object did
 pub stopped : (moment : ℤ) (olds news : Books) (a b c output written : Option (List ℕ)) (before after : Objects) (report : ServeReport) (fault : ServeFault)
-    → Sofar moment olds news a b output written before.left report → StopsReading b c before after fault → (start : Box) → AreBooksOf olds start
+    → (lent paid bound : ℕ) → Sofar moment olds news a b output written before.left report → StopsReading b c before after fault → IsBetween a b report.objects lent paid bound → 0 < before.left
+    → (fault ≡ Read → 0 < lent → after.left < before.left) → (start : Box) → AreBooksOf olds start
     → ServesUntil moment start (record { input = a; left = c; output = output; written = written }) fault
-stopped moment olds news a b c output written before after report fault so s start have = at fault s
+stopped moment olds news a b c output written before after report fault lent paid bound so s between more first start have = at fault s first
   where
-    some : (f : ServeFault) → StopsReading b c before after f → ServesSome moment start (record { input = a; left = c; output = output; written = written })
+    some : (f : ServeFault) → StopsReading b c before after f → ServesSome GivesPart moment start (record { input = a; left = c; output = output; written = written })
     some f s =
         let served = so.served start have in
         record {
@@ -178,14 +280,28 @@ stopped moment olds news a b c output written before after report fault so s sta
           written = served.writes;
         }
 
+    all : (f : ServeFault) (s : StopsReading b c before after f) → (0 < lent → 0 < length s.taken) → ServesSome GivesRead moment start (record { input = a; left = c; output = output; written = written })
+    all f s some =
+        let served = so.served start have in
+        record {
+          objects = served.objects;
+          after = served.after;
+          octets = served.octets;
+          refused = report.refused;
+          gives = gives_read a b c served.objects before after f served.gives s (is_read a b c served.objects report.objects lent paid bound before.left s.taken between served.counted so.read s.consumed some);
+          answers = served.answers;
+          written = served.writes;
+        }
+
     left_over : (f : ServeFault) (s : StopsReading b c before after f) → HasLeft a c after.left
     left_over f s = read_on a b c s.taken before.left after.left so.read s.consumed s.left
 
-    at : (f : ServeFault) → StopsReading b c before after f → ServesUntil moment start (record { input = a; left = c; output = output; written = written }) f
-    at Read s = (some Read s, read_less a c after.left (left_over Read s) s.stop)
-    at Memory s = (some Memory s, read_less a c after.left (left_over Memory s) s.stop)
-    at TooLong s = (some TooLong s, all_read a c after.left (left_over TooLong s) s.stop)
-    at Write s = absurd s.stop
+    at : (f : ServeFault) → StopsReading b c before after f → (f ≡ Read → 0 < lent → after.left < before.left)
+        → ServesUntil moment start (record { input = a; left = c; output = output; written = written }) f
+    at Read s first = (all Read s (λ l. let fewer = first refl l in let left = s.left in omega arith), read_less a c after.left (left_over Read s) s.stop)
+    at Memory s first = (some Memory s, read_less a c after.left (left_over Memory s) s.stop)
+    at TooLong s first = (all TooLong s (λ l. let none = s.stop in let left = s.left in omega arith), all_read a c after.left (left_over TooLong s) s.stop)
+    at Write s first = absurd s.stop
 
 -- an object was taken, and memory was refused for the answers to it, or for writing them
 pub forgotten : (moment : ℤ) (olds news : Books) (a b c output written now : Option (List ℕ)) (before after : Objects) (report : ServeReport)

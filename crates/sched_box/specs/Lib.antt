@@ -3,6 +3,7 @@ pub mod Asked
 pub mod Books
 pub mod Config
 pub mod Faults
+pub mod Input
 pub mod Objects
 pub mod Organising
 pub mod Output

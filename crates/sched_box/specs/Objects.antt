@@ -1,5 +1,5 @@
 -- How the objects of a stream are taken from a reader, octet by octet.
-use Rattle.std.specs.Prelude.{◌≡◌, ◌≤◌, ◌<◌, ◌+◌, ◌-◌, ℕ, Bool, true, false, List, [], ◌∷◌, ◌++◌, length, take, nat_lt, if◌then◌else◌, Option, IfSome, OnSome}
+use Rattle.std.specs.Prelude.{◌≡◌, ◌⊎◌, ◌≤◌, ◌<◌, ◌+◌, ◌-◌, ℕ, Bool, true, false, List, [], ◌∷◌, ◌++◌, length, take, nat_lt, if◌then◌else◌, Option, IfSome, OnSome}
 use Rattle.std.specs.Io.KnownBytes.{Consumes, IsAtEnd}
 use Rattle.profile.specs.text.Objects.{is_begun, after_object}
 use Rattle.ical_lines.specs.Cut.{rest_after, begun_after, ends_before}
@@ -45,6 +45,12 @@ LeavesMore Ended left = 0 < left
 LeavesMore End left = 0 < left
 LeavesMore Goes left = Unit {0}
 
+-- what the reader lends then: where the object ended, the octet before which it did
+abbrev pub LendsAfter : ℕ → Piece → Type 0
+LendsAfter lent Ended = 0 < lent
+LendsAfter lent End = Unit {0}
+LendsAfter lent Goes = Unit {0}
+
 -- the octets were taken and, as far as they are kept, added
 pub record TakesPiece (old new : Option (List ℕ)) (before after : Objects) (from to : Cutter) (piece : Piece) : Type 0 where
   pub taken : List ℕ
@@ -71,6 +77,10 @@ abbrev pub ReadsObject : Option (List ℕ) → Option (List ℕ) → Objects →
 ReadsObject old new before after found =
     (taken : List ℕ) × TakesNextObject old new after.octets.items found taken × (after.left + length taken ≡ before.left) × (0 < after.left)
 
+-- the octet after the object is lent, or the input has ended
+abbrev pub LendsNext : Option (List ℕ) → Option (List ℕ) → List ℕ → Type 0
+LendsNext old new lent = (0 < length lent) ⊎ OnSome old (IsAtEnd new)
+
 -- the stream is too long exactly where nothing more may be read
 abbrev pub IsStop : ServeFault → ℕ → Type 0
 IsStop Read left = 0 < left
@@ -78,10 +88,11 @@ IsStop Memory left = 0 < left
 IsStop TooLong left = left ≡ 0
 IsStop Write left = ⊥
 
--- octets were taken, and none past the next object
+-- octets were taken, none past the next object: in them no object ends before an octet
 pub record StopsReading (old new : Option (List ℕ)) (before after : Objects) (fault : ServeFault) : Type 0 where
   pub taken : List ℕ
   pub consumed : Consumes old new taken
   pub within : IfSome old (λ octets. IfSome new (λ rest. length (after_object octets) ≤ length rest))
+  pub goes_on : after_object taken ≡ []
   pub left : after.left + length taken ≡ before.left
   pub stop : IsStop fault after.left

@@ -34,6 +34,15 @@ GivesPart (Some input) None objects = ⊥
 GivesPart (Some input) (Some left) objects =
     (rest : List ℕ) × (part : List ℕ) × BeginsWith input objects rest × (rest ≡ part ++ left) × (length (after_object rest) ≤ length left)
 
+-- and this is all that was read: each of the objects with the octet after it, which the last one of the input doesn't have, and octets of the
+-- next one, in which no object ends before an octet. What is lent and isn't consumed isn't read
+abbrev pub GivesRead : Option (List ℕ) → Option (List ℕ) → List (List ℕ) → Type 0
+GivesRead None left objects = Unit {0}
+GivesRead (Some input) None objects = ⊥
+GivesRead (Some input) (Some left) objects =
+    (part : List ℕ) × BeginsWith input objects (part ++ left) × (after_object part ≡ [])
+    × ((objects ≡ []) ⊎ ((0 < length part) ⊎ (left ≡ [])))
+
 -- of a reader whose octets are known fewer than 1,073,741,824 were read; this profile's choice
 abbrev pub IsWithinBound : Option (List ℕ) → Option (List ℕ) → Type 0
 IsWithinBound input left = IfSome input (λ octets. IfSome left (λ rest. length octets < length rest + 1_073_741_824))
@@ -53,13 +62,13 @@ pub record ServesAll (moment : ℤ) (before after : Box) (ends : Ends) (report :
   pub bound : IsWithinBound ends.input ends.left
   pub written : Appends ends.output ends.written octets
 
--- these objects were taken, and the answers to them written; of the next object a part was read
-pub record ServesSome (moment : ℤ) (before : Box) (ends : Ends) : Type 0 where
+-- these objects, which were given so, were taken, and the answers to them written; of the next object a part was read
+pub record ServesSome (Gave : Option (List ℕ) → Option (List ℕ) → List (List ℕ) → Type 0) (moment : ℤ) (before : Box) (ends : Ends) : Type 0 where
   pub objects : List (List ℕ)
   pub after : Box
   pub octets : List ℕ
   pub refused : ℕ
-  pub gives : GivesPart ends.input ends.left objects
+  pub gives : Gave ends.input ends.left objects
   pub answers : AllAnswers moment 1 objects before after octets refused
   pub written : Appends ends.output ends.written octets
 
@@ -82,9 +91,9 @@ pub record ServesCut (moment : ℤ) (before : Box) (ends : Ends) : Type 0 where
 
 -- how serving ends before the input does: the stream is too long exactly where 1,073,741,824 octets were read
 abbrev pub ServesUntil : ℤ → Box → Ends → ServeFault → Type 0
-ServesUntil moment before ends Read = ServesSome moment before ends × IsWithinBound ends.input ends.left
-ServesUntil moment before ends Memory = ServesSome moment before ends × IsWithinBound ends.input ends.left
-ServesUntil moment before ends TooLong = ServesSome moment before ends × HasRead 1_073_741_824 ends.input ends.left
+ServesUntil moment before ends Read = ServesSome GivesRead moment before ends × IsWithinBound ends.input ends.left
+ServesUntil moment before ends Memory = ServesSome GivesPart moment before ends × IsWithinBound ends.input ends.left
+ServesUntil moment before ends TooLong = ServesSome GivesRead moment before ends × HasRead 1_073_741_824 ends.input ends.left
 ServesUntil moment before ends Write = ServesCut moment before ends × IsWithinBound ends.input ends.left
 
 -- what comes of serving, from this box on

@@ -1,6 +1,6 @@
 //! Where octets are read from: octets in memory, or a device that may fail.
 
-ghost use Rattle.std.specs.Prelude.{◌≡◌, ◌<◌, ◌≤◌, ℕ, List, [], Option, Some, None, Bool, true, false, length, take, IfSome, OnSome, IfOk, OnOk, OnErr};
+ghost use Rattle.std.specs.Prelude.{◌≡◌, ◌<◌, ◌≤◌, ◌+◌, ◌-◌, ℕ, List, [], Option, Some, None, Bool, true, false, length, take, drop, IfSome, OnSome, IfOk, OnOk, OnErr};
 ghost use Rattle.std.specs.Io.KnownBytes.{Consumes, IsAtEnd, Keeps};
 ghost use Rattle.std.specs.Io.{StartsWith};
 ghost use Rattle.std.specs.Io.Buffered.{reader_buffer, reader_capacity, reader_inner, reader_remaining};
@@ -22,23 +22,46 @@ pub trait Input {
     // A call of it has failed. Only a call that fails changes it.
     ghost has_failed: { Self → Bool };
 
+    // How often it was filled, where it counts that.
+    ghost fills: { Self → ℕ } = { λ _. 0 };
+
     /// Has octets to lend, unless the input has ended. An error only where it has failed.
     fn fill(&mut self) -> io::Result<()>
         ensures keeps { Keeps (Self.remaining self.old) (Self.remaining self.new) }
         ensures front { IfSome (Self.remaining self.new) (λ octets. StartsWith octets (Self.lent self.new)) }
         ensures end { OnOk result (length (Self.lent self.new) ≡ 0 → OnSome (Self.remaining self.old) (IsAtEnd (Self.remaining self.new))) }
         ensures failed { OnErr result (Self.has_failed self.new ≡ true) }
-        ensures mark { OnOk result (Self.has_failed self.new ≡ Self.has_failed self.old) };
+        ensures mark { OnOk result (Self.has_failed self.new ≡ Self.has_failed self.old) }
+        ensures counted { Self.fills self.new ≤ Self.fills self.old + 1 };
 
-    /// The octets that it lends.
+    /// The octets that it lends: those that come next.
     fn buffer(&self) -> &[u8]
-        ensures { result.now ≡ Self.lent self.now };
+        ensures lent { result.now ≡ Self.lent self.now }
+        ensures front { IfSome (Self.remaining self.now) (λ octets. StartsWith octets (Self.lent self.now)) };
 
     /// Takes this many of them.
     fn consume(&mut self, count: usize)
         ensures takes { count ≤ length (Self.lent self.old) → IfSome (Self.remaining self.old) (λ octets. StartsWith octets (Self.lent self.old))
             → Consumes (Self.remaining self.old) (Self.remaining self.new) (take count (Self.lent self.old)) }
-        ensures mark { Self.has_failed self.new ≡ Self.has_failed self.old };
+        ensures rest { Self.lent self.new ≡ drop count (Self.lent self.old) }
+        ensures mark { Self.has_failed self.new ≡ Self.has_failed self.old }
+        ensures counted { Self.fills self.new ≡ Self.fills self.old };
+}
+
+/// Has octets lent by a reader, unless its input has ended. It is filled only where it lends none: what it lends is consumed first.
+pub(crate) fn lend<R: Input>(reader: &mut R) -> io::Result<()>
+    ensures keeps { Keeps (R.remaining reader.old) (R.remaining reader.new) }
+    ensures end { OnOk result (length (R.lent reader.new) ≡ 0 → OnSome (R.remaining reader.old) (IsAtEnd (R.remaining reader.new))) }
+    ensures none { OnErr result (length (R.lent reader.old) ≡ 0) }
+    ensures failed { OnErr result (R.has_failed reader.new ≡ true) }
+    ensures mark { OnOk result (R.has_failed reader.new ≡ R.has_failed reader.old) }
+    ensures counted { R.fills reader.new ≤ R.fills reader.old + (1 - length (R.lent reader.old)) }
+{
+    if reader.buffer().is_empty() {
+        reader.fill()
+    } else {
+        Ok(())
+    }
 }
 
 /// Octets in memory never fail.

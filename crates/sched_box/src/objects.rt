@@ -4,10 +4,11 @@ ghost use Rattle.std.specs.Prelude.{◌≡◌, ◌≤◌, ◌<◌, ◌+◌, ◌-
 ghost use Rattle.std.specs.Io.KnownBytes.{Keeps};
 ghost use Rattle.ical_lines.specs.Cut.{ends_before};
 ghost use Rattle.sched_box.specs.Faults.{KeepsButRead, StopsFor};
-ghost use Rattle.sched_box.specs.Objects.{Cuts, IsPieceFault, ReadsObject, StopsReading, TakesPiece, piece_of};
+ghost use Rattle.sched_box.specs.Objects.{Cuts, IsPieceFault, LendsAfter, LendsNext, ReadsObject, StopsReading, TakesPiece, piece_of};
+ghost use Rattle.sched_box.specs.declared.fault.ServeFault.TheVariants.{Read};
 
 use crate::fault::ServeFault;
-use crate::input::Input;
+use crate::input::{Input, lend};
 use ical_lines::Cutter;
 use std::alloc::{AllocError, Global};
 
@@ -60,6 +61,9 @@ impl Objects {
     pub fn next_object<R: Input>(&mut self, reader: &mut R) -> Result<bool, ServeFault>
         ensures reads { IfOk result (ReadsObject (R.remaining reader.old) (R.remaining reader.new) self.old self.new) }
         ensures stops { IfErr result (StopsReading (R.remaining reader.old) (R.remaining reader.new) self.old self.new) }
+        ensures after { IfOk result (λ found. found ≡ true → LendsNext (R.remaining reader.old) (R.remaining reader.new) (R.lent reader.new)) }
+        ensures first { IfErr result (λ fault. fault ≡ Read → 0 < length (R.lent reader.old) → self.new.left < self.old.left) }
+        ensures fills { R.fills reader.new + self.new.left ≤ R.fills reader.old + self.old.left + (1 - length (R.lent reader.old)) }
         ensures cause { IfErr result (StopsFor (R.has_failed reader.new) false) }
         ensures mark { OnOk result (R.has_failed reader.new ≡ R.has_failed reader.old) }
         ensures told { IfErr result (KeepsButRead (R.has_failed reader.old) (R.has_failed reader.new)) }
@@ -87,11 +91,14 @@ impl Objects {
         ensures left { OnErr result (self.new.left ≡ self.old.left) }
         ensures keeps { OnErr result (Keeps (R.remaining reader.old) (R.remaining reader.new)) }
         ensures faults { IfErr result IsPieceFault }
+        ensures lends { IfOk result (LendsAfter (length (R.lent reader.new))) }
+        ensures first { IfErr result (λ fault. fault ≡ Read → length (R.lent reader.old) ≡ 0) }
+        ensures fills { R.fills reader.new ≤ R.fills reader.old + (1 - length (R.lent reader.old)) }
         ensures cause { IfErr result (StopsFor (R.has_failed reader.new) false) }
         ensures mark { OnOk result (R.has_failed reader.new ≡ R.has_failed reader.old) }
         ensures told { IfErr result (KeepsButRead (R.has_failed reader.old) (R.has_failed reader.new)) }
     {
-        let Ok(()) = reader.fill() else {
+        let Ok(()) = lend(reader) else {
             return Err(ServeFault::Read);
         };
         let lent = reader.buffer();

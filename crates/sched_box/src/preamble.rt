@@ -1,16 +1,17 @@
 //! The preamble of a stream: its lines are taken from the reader up to the empty one, and nothing after it.
 
-ghost use Rattle.std.specs.Prelude.{◌≡◌, ◌≤◌, ◌<◌, ◌+◌, ◌++◌, ℕ, List, length, nat_lt, ◌&&◌, not, take, true, false, IfOk, IfErr, IfSome, OnOk, OnErr};
+ghost use Rattle.std.specs.Prelude.{◌≡◌, ◌≤◌, ◌<◌, ◌+◌, ◌-◌, ◌++◌, ℕ, List, length, nat_lt, ◌&&◌, not, take, true, false, IfOk, IfErr, IfSome, OnOk, OnErr};
 ghost use Rattle.std.specs.Io.KnownBytes.{Keeps};
 ghost use Rattle.sched_box.specs.Config.{config_hosts};
 ghost use Rattle.sched_box.specs.Faults.{IfRefusedStream, IsReadFault, KeepsButRead, RefusesPreamble, StopsFor, StreamKeepsButRead, StreamStopsFor};
+ghost use Rattle.sched_box.specs.Input.{IsFilledWithin};
 ghost use Rattle.sched_box.specs.Objects.{IsPieceFault};
 ghost use Rattle.sched_box.specs.Preamble.{IsLong, Leads, OpensStream, OpensNot, StopsInPreamble, TakesPreamblePiece, TakesPreamble, is_closed, next_place};
 ghost use Rattle.sched_box.specs.declared.preamble.LineState.TheVariants.{Inside};
 
 use crate::config::{Config, LONGEST};
 use crate::fault::{ServeFault, StreamFault};
-use crate::input::Input;
+use crate::input::{Input, lend};
 use ical_lines::{Fault, Refusal};
 use ical_values::Stamp;
 use memchr::memchr;
@@ -29,6 +30,7 @@ pub fn read_preamble<R: Input>(
     ensures mark { OnOk result (R.has_failed reader.new ≡ R.has_failed reader.old) }
     ensures told { IfErr result (StreamKeepsButRead (R.has_failed reader.old) (R.has_failed reader.new)) }
     ensures none { IfErr result (IfRefusedStream (IfSome (R.remaining reader.old) OpensNot)) }
+    ensures fills { IsFilledWithin 1 (R.fills reader.old) (R.fills reader.new) (R.remaining reader.old) (R.remaining reader.new) }
     ensures stops { OnErr result (StopsInPreamble (R.remaining reader.old) (R.remaining reader.new)) }
 {
     let octets = take_preamble(alloc, reader)?;
@@ -44,6 +46,7 @@ pub fn read_preamble<R: Input>(
 fn take_preamble<R: Input>(alloc: Global, reader: &mut R) -> Result<Vec<u8>, StreamFault>
     ensures takes { IfOk result (λ octets. TakesPreamble (R.remaining reader.old) (R.remaining reader.new) octets.items) }
     ensures few { IfOk result (λ octets. length octets.items ≤ 131_073) }
+    ensures fills { IsFilledWithin 1 (R.fills reader.old) (R.fills reader.new) (R.remaining reader.old) (R.remaining reader.new) }
     ensures refuses { IfErr result RefusesPreamble }
     ensures faults { IfErr result IsReadFault }
     ensures cause { IfErr result (StreamStopsFor (R.has_failed reader.new) false) }
@@ -72,13 +75,14 @@ fn take_piece<R: Input>(
     ensures takes { IfOk result (λ goes. (taken : List ℕ) × (octets.new.items ≡ octets.old.items ++ taken)
         × TakesPreamblePiece (R.remaining reader.old) (R.remaining reader.new) place.old place.new taken goes) }
     ensures few { length octets.new.items ≤ length octets.old.items + 65_537 }
+    ensures fills { R.fills reader.new ≤ R.fills reader.old + (1 - length (R.lent reader.old)) }
     ensures faults { IfErr result IsPieceFault }
     ensures cause { IfErr result (StopsFor (R.has_failed reader.new) false) }
     ensures mark { OnOk result (R.has_failed reader.new ≡ R.has_failed reader.old) }
     ensures told { IfErr result (KeepsButRead (R.has_failed reader.old) (R.has_failed reader.new)) }
     ensures keeps { OnErr result (Keeps (R.remaining reader.old) (R.remaining reader.new)) }
 {
-    let Ok(()) = reader.fill() else {
+    let Ok(()) = lend(reader) else {
         return Err(ServeFault::Read);
     };
     let lent = reader.buffer();

@@ -9,6 +9,7 @@ ghost use Rattle.profile.specs.streams.Streams.{Box, new_box};
 ghost use Rattle.sched_box.specs.Books.{AreBooksOf, hosted_rooms};
 ghost use Rattle.sched_box.specs.Config.{config_hosts, config_rooms};
 ghost use Rattle.sched_box.specs.Faults.{IfRefusedStream, IsRefusal, KeepsButRead, KeepsButWrite, RefusesPreamble, StopsFor, StreamKeepsButRead, StreamKeepsButWrite, StreamStopsFor};
+ghost use Rattle.sched_box.specs.Input.{IsFilledWithin};
 ghost use Rattle.sched_box.specs.Output.{StopsSending};
 ghost use Rattle.sched_box.specs.Serving.{AnswersWhole, BooksServe, KeepsTexts, Serves, ServesStream, StopsKeeping};
 
@@ -45,6 +46,7 @@ pub fn serve_stream<R: Input, W: Output>(
     ensures sent { OnOk result (W.has_failed writer.new ≡ W.has_failed writer.old) }
     ensures unsent { IfErr result (StreamKeepsButWrite (W.has_failed writer.old) (W.has_failed writer.new)) }
     ensures serves { ServesStream (record { input = R.remaining reader.old; left = R.remaining reader.new; output = W.contents writer.old; written = W.contents writer.new }) result }
+    ensures fills { IsFilledWithin 3 (R.fills reader.old) (R.fills reader.new) (R.remaining reader.old) (R.remaining reader.new) }
     ensures whole { OnOk result (AnswersWhole (record { input = R.remaining reader.old; left = R.remaining reader.new; output = W.contents writer.old; written = W.contents writer.new })) }
 {
     let (config, now) = read_preamble(alloc, reader)?;
@@ -53,8 +55,10 @@ pub fn serve_stream<R: Input, W: Output>(
 }
 
 /// Serves the objects of a stream from empty books, and writes the answers to each object after all that it goes to
-/// have taken it. Read comes only where the reader has failed, Write only where the writer has: then a beginning of the
-/// answers was written; when out of memory, the answers to the earlier objects.
+/// have taken it. Read comes only where the reader has failed: then those to each object were written whose end and the
+/// octet after it were consumed. Write comes only where the writer has failed: then a beginning of the answers was
+/// written; when out of memory, the answers to the earlier objects. The reader is filled only where all that it lent was
+/// consumed: at most once for each octet that is consumed, once at the end of the last object, and once after it.
 pub fn serve<R: Input, W: Output>(
     alloc: Global,
     config: &Config,
@@ -68,6 +72,7 @@ pub fn serve<R: Input, W: Output>(
     ensures told { IfErr result (KeepsButRead (R.has_failed reader.old) (R.has_failed reader.new)) }
     ensures sent { OnOk result (W.has_failed writer.new ≡ W.has_failed writer.old) }
     ensures unsent { IfErr result (KeepsButWrite (W.has_failed writer.old) (W.has_failed writer.new)) }
+    ensures fills { IsFilledWithin 2 (R.fills reader.old) (R.fills reader.new) (R.remaining reader.old) (R.remaining reader.new) }
     ensures serves { Serves now (new_box (config_hosts config.now))
         (record { input = R.remaining reader.old; left = R.remaining reader.new; output = W.contents writer.old; written = W.contents writer.new }) result }
 {
@@ -92,32 +97,13 @@ pub fn keep<R: Input>(
     ensures told { IfErr result (StreamKeepsButRead (R.has_failed reader.old) (R.has_failed reader.new)) }
     ensures none { IfErr result (IfRefusedStream (Contains (config_rooms config.now) (address_octets room.now) → ⊥)) }
     ensures bound { IfErr result (StopsKeeping (R.remaining reader.old) (R.remaining reader.new)) }
+    ensures fills { IsFilledWithin 2 (R.fills reader.old) (R.fills reader.new) (R.remaining reader.old) (R.remaining reader.new) }
     ensures unhosted { (Contains (config_rooms config.now) (address_octets room.now) → ⊥)
         → IsErrAnd result IsRefusal × Keeps (R.remaining reader.old) (R.remaining reader.new) }
 {
     if !config.has_room(room) {
         return Err(not_hosted());
     }
-    keep_hosted(alloc, config, reader, now, room)
-}
-
-/// The same of a room that the box hosts.
-fn keep_hosted<R: Input>(
-    alloc: Global,
-    config: &Config,
-    reader: &mut R,
-    now: Stamp,
-    room: &Address,
-) -> Result<(Vec<u8>, Vec<u8>), StreamFault>
-    ensures keeps { IfOk result (λ kept. KeepsTexts now (config_hosts config.now) (R.remaining reader.old) (R.remaining reader.new) (address_octets room.now) kept.0.items kept.1.items) }
-    ensures passes { IfOk result (λ kept. CertificateHolds (address_octets room.now) kept.0.items kept.1.items) }
-    ensures refuses { IfErr result RefusesPreamble }
-    ensures cause { IfErr result (StreamStopsFor (R.has_failed reader.new) false) }
-    ensures mark { OnOk result (R.has_failed reader.new ≡ R.has_failed reader.old) }
-    ensures told { IfErr result (StreamKeepsButRead (R.has_failed reader.old) (R.has_failed reader.new)) }
-    ensures none { IfErr result (IfRefusedStream (Contains (config_rooms config.now) (address_octets room.now) → ⊥)) }
-    ensures bound { IfErr result (StopsKeeping (R.remaining reader.old) (R.remaining reader.new)) }
-{
     let mut books = Books::new(alloc, config)?;
     let mut nowhere = Nowhere;
     serve_objects(alloc, &mut books, reader, &mut nowhere, now)?;
@@ -155,6 +141,7 @@ fn serve_objects<R: Input, W: Output>(
     ensures told { IfErr result (KeepsButRead (R.has_failed reader.old) (R.has_failed reader.new)) }
     ensures sent { OnOk result (W.has_failed writer.new ≡ W.has_failed writer.old) }
     ensures unsent { IfErr result (KeepsButWrite (W.has_failed writer.old) (W.has_failed writer.new)) }
+    ensures fills { IsFilledWithin 2 (R.fills reader.old) (R.fills reader.new) (R.remaining reader.old) (R.remaining reader.new) }
     ensures serves { (before : Box) → AreBooksOf books.old before → BooksServe now before books.new
         (record { input = R.remaining reader.old; left = R.remaining reader.new; output = W.contents writer.old; written = W.contents writer.new }) result }
 {

@@ -49,7 +49,7 @@ pub(crate) fn blame_of(
     }
 }
 
-/// Of a line whose value is refused: a VTIMEZONE that no value names isn't read, so another line may have the fault.
+/// Of a line whose value is refused: what is wrong with a VTIMEZONE that no value names refuses nothing, so another line may have the fault.
 fn blame_within(within: Within) -> Blame {
     match within {
         Within::ZonePart => Blame::Possible,

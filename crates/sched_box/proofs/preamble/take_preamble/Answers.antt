@@ -10,7 +10,7 @@ use Rattle.sched_box.proofs.preamble.take_preamble.Goals as goal
 pub loop-place-init : goal.loop-place-init
 loop-place-init g c =
     let none = sym c.new-octets.ensures.items in
-    (subst (Consumes _ _) none (Consumes-nil _), subst (λ o. Leads Start o Start) none (leads_none Start), refl)
+    (subst (Consumes _ _) none (Consumes-nil _), subst (λ o. Leads Start o Start) none (leads_none Start), refl, omega arith)
 
 pub loop-place-preserved : goal.loop-place-preserved
 loop-place-preserved g c =
@@ -18,6 +18,9 @@ loop-place-preserved g c =
       subst (Consumes _ _) (sym is) (Consumes-trans _ _ _ _ _ c.loop-place.invariant.0 t.consumed),
       subst (λ o. Leads Start o c.take_piece.new.place) (sym is) (leads_trans _ _ _ _ _ c.loop-place.invariant.1 t.leads),
       c.in_ok-take_piece.ensures.mark ∙ c.loop-place.invariant.2,
+      (let more = (t.some c.if-not-branch.false).0 in
+          let paid = c.loop-place.invariant.3 in
+          omega (arith, c.take_piece.ensures.fills, ap length is, length-append c.loop-place.octets.items taken)),
     )
 
 pub loop-place-smaller : goal.loop-place-smaller

@@ -1,7 +1,7 @@
 use Rattle.std.proofs.lemmas.Result.{err_from_is_err_and}
 use Rattle.profile.specs.streams.Streams.{new_box}
 use Rattle.sched_box.specs.Config.{config_hosts}
-use Rattle.sched_box.proofs.ServingLemmas.{serves_from, serves_none}
+use Rattle.sched_box.proofs.ServingLemmas.{filled_none, serves_from, serves_none}
 use Rattle.sched_box.proofs.serving.serve.Goals as goal
 
 pub returns-in_err-books-clause-serves : goal.returns-in_err-books-clause-serves
@@ -13,3 +13,6 @@ pub returns-clause-serves : goal.returns-clause-serves
 returns-clause-serves g c =
     serves_from c.args.now (new_box (config_hosts c.args.config.now)) _ _ c.serve_objects.result
     (c.serve_objects.ensures.serves (new_box (config_hosts c.args.config.now)) c.in_ok-books.ensures.kept)
+
+pub returns-in_err-books-clause-fills : goal.returns-in_err-books-clause-fills
+returns-in_err-books-clause-fills g c = filled_none 2 _ _

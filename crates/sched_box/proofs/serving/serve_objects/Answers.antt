@@ -1,7 +1,7 @@
 use Rattle.std.proofs.Common.{◌+◌, ◌∙◌, refl, subst}
 use Rattle.std.proofs.lemmas.Result.{err_from_is_err_and}
 use Rattle.sched_box.specs.Objects.{ReadsObject}
-use Rattle.sched_box.proofs.ServingLemmas.{forgotten_at, unsent, served_more, served_all, answered_from}
+use Rattle.sched_box.proofs.ServingLemmas.{between_first, between_more, filled_within, forgotten_at, unsent, none_served, served_more, served_all, stopped, answered_from}
 use Rattle.sched_box.proofs.serving.serve_objects.Goals as goal
 
 pub returns-in_err-refused-clause-serves : goal.returns-in_err-refused-clause-serves
@@ -54,6 +54,8 @@ loop-answers-preserved g c =
           c.loop-answers.invariant.0 reads refl answers c.in_ok-refused.ensures.count c.in_ok-refused.ensures.addresses c.in_ok-send.ensures.written refl refl,
       c.in_ok-next_object.ensures.mark ∙ c.loop-answers.invariant.1,
       c.in_ok-send.ensures.sent ∙ c.loop-answers.invariant.2,
+      between_more _ b d _ number _ _ _ _ _ before.left _ _ c.loop-answers.invariant.3 c.loop-answers.invariant.0.read reads.1 (c.in_ok-next_object.ensures.after c.if-branch.true) c.next_object.ensures.fills,
+      reads.3,
     )
 
 pub returns-clause-serves : goal.returns-clause-serves
@@ -65,3 +67,30 @@ returns-clause-serves g c =
     let none = subst (ReadsObject b d before after) c.if-branch.false c.in_ok-next_object.ensures.reads in
     served_all c.args.now c.args.books.now c.loop-answers.books (g.R.Input.remaining c.args.reader.now) b d (g.W.Output.contents c.args.writer.now) (g.W.Output.contents c.loop-answers.writer) before after c.loop-answers.report
     c.loop-answers.invariant.0 none
+
+pub returns-in_err-next_object-clause-serves : goal.returns-in_err-next_object-clause-serves
+returns-in_err-next_object-clause-serves g c =
+    let p = err_from_is_err_and c.from_residual.result c.from_residual.ensures.1 in
+    rw (p.1, p.2)
+    (λ box have. stopped c.args.now c.args.books.now c.loop-answers.books (g.R.Input.remaining c.args.reader.now) (g.R.Input.remaining c.loop-answers.reader) (g.R.Input.remaining c.next_object.new.reader) (g.W.Output.contents c.args.writer.now) (g.W.Output.contents c.loop-answers.writer) c.loop-answers.objects c.next_object.new.self c.loop-answers.report _ _ _ _
+    c.loop-answers.invariant.0 c.in_err-next_object.ensures.stops c.loop-answers.invariant.3 c.loop-answers.invariant.4 c.in_err-next_object.ensures.first box have)
+
+pub returns-in_err-next_object-clause-fills : goal.returns-in_err-next_object-clause-fills
+returns-in_err-next_object-clause-fills g c =
+    let s = c.in_err-next_object.ensures.stops in
+    filled_within _ (g.R.Input.remaining c.loop-answers.reader) _ _ _ _ c.loop-answers.objects.left c.next_object.new.self.left _ _ _ s.taken c.loop-answers.invariant.3 c.loop-answers.invariant.0.read s.consumed s.left c.next_object.ensures.fills
+
+pub returns-in_err-refused-clause-fills : goal.returns-in_err-refused-clause-fills
+returns-in_err-refused-clause-fills g c =
+    let (taken, t, left, more) = c.in_ok-next_object.ensures.reads in
+    filled_within _ (g.R.Input.remaining c.loop-answers.reader) _ _ _ _ c.loop-answers.objects.left c.next_object.new.self.left _ _ _ taken c.loop-answers.invariant.3 c.loop-answers.invariant.0.read t.consumed left c.next_object.ensures.fills
+
+pub returns-in_err-send-clause-fills : goal.returns-in_err-send-clause-fills
+returns-in_err-send-clause-fills g c =
+    let (taken, t, left, more) = c.in_ok-next_object.ensures.reads in
+    filled_within _ (g.R.Input.remaining c.loop-answers.reader) _ _ _ _ c.loop-answers.objects.left c.next_object.new.self.left _ _ _ taken c.loop-answers.invariant.3 c.loop-answers.invariant.0.read t.consumed left c.next_object.ensures.fills
+
+pub returns-clause-fills : goal.returns-clause-fills
+returns-clause-fills g c =
+    let (taken, t, left, more) = c.in_ok-next_object.ensures.reads in
+    filled_within _ (g.R.Input.remaining c.loop-answers.reader) _ _ _ _ c.loop-answers.objects.left c.next_object.new.self.left _ _ _ taken c.loop-answers.invariant.3 c.loop-answers.invariant.0.read t.consumed left c.next_object.ensures.fills
