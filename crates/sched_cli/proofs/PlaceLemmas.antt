@@ -1,5 +1,5 @@
 -- Where content lines begin, while the physical lines are gone through.
-use Rattle.std.proofs.Common.{◌≡◌, ◌⊎◌, ◌∙◌, ap, sym, refl, subst, inl, inr, ℕ, ◌+◌, Bool, true, false, cond, List, [], ◌∷◌, ◌++◌, Bor, length, drop, ◌≤◌, ◌<◌, ◌^◌, ◌==◌, Option, Some, None, IfSome, count_by, append_assoc, length-append, arith}
+use Rattle.std.proofs.Common.{◌≡◌, ◌⊎◌, ◌∙◌, ap, sym, refl, subst, inl, inr, ℕ, ◌+◌, Bool, true, false, cond, List, [], ◌∷◌, ◌++◌, Bor, length, drop, ◌≤◌, ◌<◌, ◌^◌, ◌==◌, Option, Some, None, IfSome, Result, Ok, Err, OnOk, count_by, append_assoc, length-append, arith}
 use Rattle.std.specs.List.{slice_split}
 use Rattle.std.proofs.lemmas.List.{length-map}
 use Rattle.std.proofs.lemmas.List.Sums.{count_by-le-length}
@@ -7,7 +7,9 @@ use Rattle.std.proofs.lemmas.List.Splits.{length-slice_split}
 use Rattle.profile.specs.text.Lines.{is_continuation, gather, unfolded, physical_lines, without_mark, without_return, line_name}
 use Rattle.ical_lines.specs.Unfold.{lines_after}
 use Rattle.sched_cli.specs.Places.{IsPlace}
-use Rattle.sched_cli.specs.Searching.{Finds, FoundIn, IsLineFoundAt}
+use Rattle.sched_cli.specs.Searching.{Finds, FoundIn, IsAt, IsBlamed, IsBlamedPlace, IsNoted, with_possible}
+use Rattle.sched_cli.specs.declared.blame.Blame as blame
+use Rattle.sched_cli.specs.declared.blame.Blame.TheVariants as blames
 use Rattle.sched_cli.specs.declared.place.Found.{Found}
 use Rattle.sched_cli.specs.declared.place.Place.{Place}
 use Rattle.sched_cli.specs.declared.place.Found.TheVariants.{Nothing, Possible, Several, Certain}
@@ -108,67 +110,110 @@ apart_by : (before : List (List ℕ)) (line : List ℕ) (more : List (List ℕ))
 apart_by before line more (inl e) = subst (λ (b : List (List ℕ)). unfolded (b ++ (line ∷ more)) ≡ unfolded b ++ unfolded (line ∷ more)) (sym e) refl
 apart_by before line more (inr e) = unfolded_apart before line more e
 
+-- the place of this content line
+abbrev pub IsPlaceOf : List ℕ → ℕ → List ℕ → List ℕ → Type 0
+IsPlaceOf octets line property content = (at : IsPlace octets line property) × (at.content ≡ content)
+
 placed : (octets : List ℕ) (left : List (List ℕ)) (content : List ℕ) (others : List (List ℕ)) (begun count : ℕ) (property : List ℕ) → Unfolds (physical_lines (without_mark octets)) left content begun count
-    → gather content left ≡ content ∷ others → 0 < length content → (property ≡ []) ⊎ (property ≡ line_name content) → IsPlace octets begun property
-placed octets left content others begun count property u e some named = record {
-  before = u.before;
-  after = u.line ∷ (u.continued ++ left);
-  content = content;
-  others = others;
-  lines = u.are;
-  counted = u.begins;
-  apart = apart_by u.before u.line (u.continued ++ left) u.starts;
-  begins = u.gathered left ∙ e;
-  some = some;
-  named = named;
-}
+    → gather content left ≡ content ∷ others → 0 < length content → (property ≡ []) ⊎ (property ≡ line_name content) → IsPlaceOf octets begun property content
+placed octets left content others begun count property u e some named = (
+  record {
+    before = u.before;
+    after = u.line ∷ (u.continued ++ left);
+    content = content;
+    others = others;
+    lines = u.are;
+    counted = u.begins;
+    apart = apart_by u.before u.line (u.continued ++ left) u.starts;
+    begins = u.gathered left ∙ e;
+    some = some;
+    named = named;
+  },
+  refl,
+)
 
-at_place : (octets : List ℕ) (line : ℕ) (property : List ℕ) (found : Found) → IsPlace octets line property → IsLineFoundAt line property found → FoundIn octets found
-at_place octets line property Nothing is at = tt
-at_place octets line property (Possible place) is at = subst (λ (n : ℕ). IsPlace octets n place.property.items) (sym at.0) (subst (λ (p : List ℕ). IsPlace octets line p) (sym at.1) is)
-at_place octets line property Several is at = tt
-at_place octets line property (Certain place) is at = subst (λ (n : ℕ). IsPlace octets n place.property.items) (sym at.0) (subst (λ (p : List ℕ). IsPlace octets line p) (sym at.1) is)
+-- the same place, and what its line has to do with the fault
+blamed_at : (n : ℕ) (octets : List ℕ) (line : ℕ) (property content : List ℕ) (place : Place) (b : blame.Blame) → IsPlaceOf octets line property content → IsBlamed n content b → IsAt line property place
+    → (at : IsPlace octets place.line place.property.items) × IsBlamed n at.content b
+blamed_at n octets line property content place b is blamed (on, named) =
+    let L : ℕ → Type 0 = λ m. IsPlaceOf octets m place.property.items content in
+    let P : List ℕ → Type 0 = λ p. IsPlaceOf octets line p content in
+    let C : List ℕ → Type 0 = λ c. IsBlamed n c b in
+    let (at, same) = subst L (sym on) (subst P (sym named) is) in
+    (at, subst C (sym same) blamed)
 
-found_by : (octets : List ℕ) (old new : Found) (line : ℕ) (content : List ℕ) → (0 < length content → (property : List ℕ) → (property ≡ []) ⊎ (property ≡ line_name content) → IsPlace octets line property)
-    → FoundIn octets old → Finds old new line content → FoundIn octets new
-found_by octets old new line content is before (inl e) = subst (FoundIn octets) (sym e) before
-found_by octets old new line content is before (inr (some, inl at)) = at_place octets line [] new (is some [] (inl refl)) at
-found_by octets old new line content is before (inr (some, inr at)) = at_place octets line (line_name content) new (is some (line_name content) (inr refl)) at
+noted_in : (n : ℕ) (octets : List ℕ) (old new : Found) (b : blame.Blame) (line : ℕ) (property content : List ℕ) → IsPlaceOf octets line property content → IsBlamed n content b → FoundIn n octets old
+    → IsNoted old b line property new → FoundIn n octets new
+noted_in n octets old new blames.None line property content is blamed before noted = subst (FoundIn n octets) (sym noted) before
+noted_in n octets old new blames.Certain line property content is blamed before (place, e, at) =
+    subst (FoundIn n octets) (sym e) (blamed_at n octets line property content place blames.Certain is blamed at)
+noted_in n octets old new blames.Possible line property content is blamed before (place, e, at) = subst (FoundIn n octets) (sym e) (alone old)
+  where
+    alone : (old : Found) → FoundIn n octets (with_possible old place)
+    alone Nothing = blamed_at n octets line property content place blames.Possible is blamed at
+    alone (Possible first) = tt
+    alone Several = tt
+    alone (Certain first) = tt
+
+found_by : (n : ℕ) (octets : List ℕ) (old new : Found) (line : ℕ) (content : List ℕ) → (0 < length content → (property : List ℕ) → (property ≡ []) ⊎ (property ≡ line_name content) → IsPlaceOf octets line property content)
+    → FoundIn n octets old → Finds n old new line content → FoundIn n octets new
+found_by n octets old new line content is before (inl e) = subst (FoundIn n octets) (sym e) before
+found_by n octets old new line content is before (inr (some, b, property, named, blamed, noted)) = noted_in n octets old new b line property content (is some property named) blamed before noted
 
 -- what was found once the content line was looked at: another line comes, or none
-pub found_before : (octets : List ℕ) (old new : Found) (left : List (List ℕ)) (line content : List ℕ) (begun count : ℕ) → Unfolds (physical_lines (without_mark octets)) (line ∷ left) content begun count
-    → is_continuation line ≡ false → FoundIn octets old → Finds old new begun content → FoundIn octets new
-found_before octets old new left line content begun count u e before finds =
+pub found_before : (n : ℕ) (octets : List ℕ) (old new : Found) (left : List (List ℕ)) (line content : List ℕ) (begun count : ℕ) → Unfolds (physical_lines (without_mark octets)) (line ∷ left) content begun count
+    → is_continuation line ≡ false → FoundIn n octets old → Finds n old new begun content → FoundIn n octets new
+found_before n octets old new left line content begun count u e before finds =
     let ends : gather content (line ∷ left) ≡ content ∷ gather line left = ap (λ t. cond t (gather (content ++ drop 1 line) left) (content ∷ gather line left)) e in
-    found_by octets old new begun content (λ some property named. placed octets (line ∷ left) content (gather line left) begun count property u ends some named) before finds
+    found_by n octets old new begun content (λ some property named. placed octets (line ∷ left) content (gather line left) begun count property u ends some named) before finds
 
-pub found_last : (octets : List ℕ) (old new : Found) (content : List ℕ) (begun count : ℕ) → Unfolds (physical_lines (without_mark octets)) [] content begun count
-    → FoundIn octets old → Finds old new begun content → FoundIn octets new
-found_last octets old new content begun count u before finds =
-    found_by octets old new begun content (λ some property named. placed octets [] content [] begun count property u refl some named) before finds
+pub found_last : (n : ℕ) (octets : List ℕ) (old new : Found) (content : List ℕ) (begun count : ℕ) → Unfolds (physical_lines (without_mark octets)) [] content begun count
+    → FoundIn n octets old → Finds n old new begun content → FoundIn n octets new
+found_last n octets old new content begun count u before finds =
+    found_by n octets old new begun content (λ some property named. placed octets [] content [] begun count property u refl some named) before finds
 
 -- ---- the loop
 
-step_by : (t : Bool) (octets : List ℕ) (left : List (List ℕ)) (line content next : List ℕ) (begun from count many : ℕ) (old new : Found) → is_continuation line ≡ t
-    → Unfolds (physical_lines (without_mark octets)) (line ∷ left) content begun count → FoundIn octets old → many ≡ count + 1
+step_by : (t : Bool) (n : ℕ) (octets : List ℕ) (left : List (List ℕ)) (line content next : List ℕ) (begun from count many : ℕ) (old new : Found) → is_continuation line ≡ t
+    → Unfolds (physical_lines (without_mark octets)) (line ∷ left) content begun count → FoundIn n octets old → many ≡ count + 1
     → (is_continuation line ≡ true → (new ≡ old) × (next ≡ content ++ drop 1 line) × (from ≡ begun))
-    → (is_continuation line ≡ false → Finds old new begun content × (next ≡ line) × (from ≡ many))
-    → Unfolds (physical_lines (without_mark octets)) left next from many × FoundIn octets new
-step_by true octets left line content next begun from count many old new e u found more goes ends =
+    → (is_continuation line ≡ false → Finds n old new begun content × (next ≡ line) × (from ≡ many))
+    → Unfolds (physical_lines (without_mark octets)) left next from many × FoundIn n octets new
+step_by true n octets left line content next begun from count many old new e u found more goes ends =
     let (same, is, at) = goes e in
-    (rw (is, at, more) (continues (physical_lines (without_mark octets)) left line content begun count u e), subst (FoundIn octets) (sym same) found)
-step_by false octets left line content next begun from count many old new e u found more goes ends =
+    (rw (is, at, more) (continues (physical_lines (without_mark octets)) left line content begun count u e), subst (FoundIn n octets) (sym same) found)
+step_by false n octets left line content next begun from count many old new e u found more goes ends =
     let (finds, is, at) = ends e in
-    (rw (is, at, more) (begins (physical_lines (without_mark octets)) left line content begun count u e), found_before octets old new left line content begun count u e found finds)
+    (rw (is, at, more) (begins (physical_lines (without_mark octets)) left line content begun count u e), found_before n octets old new left line content begun count u e found finds)
 
-pub step : (octets : List ℕ) (left : List (List ℕ)) (line content next : List ℕ) (begun from count many : ℕ) (old new : Found)
-    → Unfolds (physical_lines (without_mark octets)) (line ∷ left) content begun count → FoundIn octets old → many ≡ count + 1
+pub step : (n : ℕ) (octets : List ℕ) (left : List (List ℕ)) (line content next : List ℕ) (begun from count many : ℕ) (old new : Found)
+    → Unfolds (physical_lines (without_mark octets)) (line ∷ left) content begun count → FoundIn n octets old → many ≡ count + 1
     → (is_continuation line ≡ true → (new ≡ old) × (next ≡ content ++ drop 1 line) × (from ≡ begun))
-    → (is_continuation line ≡ false → Finds old new begun content × (next ≡ line) × (from ≡ many))
-    → Unfolds (physical_lines (without_mark octets)) left next from many × FoundIn octets new
-step octets left line content next begun from count many old new = step_by (is_continuation line) octets left line content next begun from count many old new refl
+    → (is_continuation line ≡ false → Finds n old new begun content × (next ≡ line) × (from ≡ many))
+    → Unfolds (physical_lines (without_mark octets)) left next from many × FoundIn n octets new
+step n octets left line content next begun from count many old new = step_by (is_continuation line) n octets left line content next begun from count many old new refl
 
-pub place_in : (r : Option Place) (octets : List ℕ) (found : Found) → FoundIn octets found → IfSome r (λ place. (o : List ℕ) → FoundIn o found → IsPlace o place.line place.property.items)
-    → IfSome r (λ place. IsPlace octets place.line place.property.items)
-place_in None octets found is all = tt
-place_in (Some place) octets found is all = all octets is
+pub place_in : (r : Option Place) (n : ℕ) (octets : List ℕ) (found : Found) → FoundIn n octets found → IfSome r (λ place. (m : ℕ) (o : List ℕ) → FoundIn m o found → IsBlamedPlace o m place.line place.property.items)
+    → IfSome r (λ place. IsBlamedPlace octets n place.line place.property.items)
+place_in None n octets found is all = tt
+place_in (Some place) n octets found is all = all n octets is
+
+-- ---- the search
+
+-- what was found last
+pub place_found : (n : ℕ) (octets : List ℕ) (found : Found) (place : Place) → (found ≡ Possible place) ⊎ (found ≡ Certain place) → FoundIn n octets found → IsBlamedPlace octets n place.line place.property.items
+place_found n octets found place (inl e) h =
+    let (at, blamed) = subst (FoundIn n octets) e h in
+    record { at = at; blamed = inr blamed }
+place_found n octets found place (inr e) h =
+    let (at, blamed) = subst (FoundIn n octets) e h in
+    record { at = at; blamed = inl blamed }
+
+pub on_ok : {T E : Type 0} (r : Result T E) (P Q : Type 0) → (P → Q) → OnOk r P → OnOk r Q
+on_ok (Ok x) P Q f h = f h
+on_ok (Err e) P Q f h = tt
+
+-- the text of a place, piece by piece: for `append_place`
+pub joined : (old one two new at digits shown property : List ℕ) → one ≡ old ++ at → two ≡ one ++ shown → shown ≡ digits → new ≡ two ++ property → new ≡ old ++ (at ++ (digits ++ property))
+joined old one two new at digits shown property a b d e =
+    e ∙ ap (λ z. z ++ property) (b ∙ ap (λ z. one ++ z) d ∙ ap (λ z. z ++ digits) a) ∙ append_assoc (old ++ at) digits property ∙ append_assoc old at (digits ++ property)

@@ -10,7 +10,8 @@ use Rattle.itip_messages.specs.RoomMessage.{method_said}
 use Rattle.itip_messages.specs.OrganiserObject.{operation_said}
 use Rattle.itip_messages.specs.declared.message.Message as itip
 use Rattle.itip_messages.specs.declared.message.Message.TheVariants.{ToRooms, ToOrganiser}
-use Rattle.sched_cli.specs.Places.{IsPlace}
+use Rattle.sched_cli.specs.Explained.{meaning_of}
+use Rattle.sched_cli.specs.Searching.{IsBlamedPlace}
 
 -- ---- an object that isn't refused
 
@@ -52,19 +53,19 @@ abbrev pub property_text : List ℕ → List ℕ
 property_text [] = []
 property_text (c ∷ cs) = codes ": " ++ (c ∷ cs)
 
--- where a fault is: nowhere, or where a content line of the octets begins
-abbrev pub IsPlaceText : List ℕ → List ℕ → Type 0
-IsPlaceText octets text =
-    (text ≡ []) ⊎ ((line : ℕ) × (property : List ℕ) × IsPlace octets line property × (text ≡ codes " at line " ++ (decimal line ++ property_text property)))
+-- where a fault is: nowhere, or where a content line of the octets begins that has the fault of this number by itself, or can have it
+abbrev pub IsPlaceText : List ℕ → ℕ → List ℕ → Type 0
+IsPlaceText octets n text =
+    (text ≡ []) ⊎ ((line : ℕ) × (property : List ℕ) × IsBlamedPlace octets n line property × (text ≡ codes " at line " ++ (decimal line ++ property_text property)))
 
--- a meaning begins with its number
+-- a line is the number and what it means, and then what to do
 abbrev pub IsMeaningOf : ℕ → List ℕ → Type 0
-IsMeaningOf n meaning = StartsWith meaning (decimal n ++ codes ": ")
+IsMeaningOf n line = StartsWith line (decimal n ++ (codes ": " ++ (meaning_of n ++ codes " What to do: ")))
 
 -- what is written of a number: a line with the place of the fault, and its meaning
 pub record IsRefusedText (octets : List ℕ) (n : ℕ) (text : List ℕ) : Type 0 where
   pub place : List ℕ
-  pub where_is : IsPlaceText octets place
+  pub where_is : IsPlaceText octets n place
   pub meaning : List ℕ
   pub own : IsMeaningOf n meaning
   pub is : text ≡ codes "refused " ++ (decimal n ++ (place ++ (codes "\n" ++ meaning)))

@@ -1,3 +1,4 @@
+pub mod Blame
 pub mod Commands
 pub mod Diagnosis
 pub mod Explained

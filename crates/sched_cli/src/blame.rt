@@ -1,4 +1,9 @@
 //! Whether a content line of an object has the fault that a number names.
+ghost use Rattle.std.specs.Prelude.{◌≡◌, ◌||◌, codes, IfOk, IfErr, OnOk};
+ghost use Rattle.ical_lines.specs.Fault.{RefusesBy};
+ghost use Rattle.ical_lines.specs.Text.{line_text};
+ghost use Rattle.sched_cli.specs.Blame.{HasAlone, IsBlame, IsRight, IsRightInZone, IsSound, IsWrong, IsWrongInZone, blame_within, can_have, can_have_in_calendar, can_have_in_event, event_property, has_name, zone_property};
+ghost use Rattle.sched_cli.specs.declared.blame.Property.TheVariants.{Slot, Times};
 
 use cal_events::judge_time;
 use cal_rules::RuleText;
@@ -17,12 +22,6 @@ pub(crate) enum Blame {
     Certain,
 }
 
-impl Blame {
-    pub(crate) fn certain_if(has: bool) -> Blame {
-        if has { Blame::Certain } else { Blame::None }
-    }
-}
-
 /// Which component a content line belongs to.
 #[derive(Clone, Copy, PartialEq, Eq)]
 pub(crate) enum Within {
@@ -31,6 +30,31 @@ pub(crate) enum Within {
     /// STANDARD or DAYLIGHT of a VTIMEZONE.
     ZonePart,
     /// One that isn't read, or none.
+    Elsewhere,
+}
+
+/// A property by what is read of its value.
+#[derive(Clone, Copy)]
+enum Property {
+    Uid,
+    /// ORGANIZER, ATTENDEE.
+    Party,
+    /// DTSTAMP.
+    Moment,
+    /// SEQUENCE.
+    Count,
+    /// DURATION.
+    Length,
+    /// RRULE.
+    Rule,
+    /// RECURRENCE-ID.
+    Slot,
+    /// One time.
+    Time,
+    /// RDATE, EXDATE.
+    Times,
+    /// TZOFFSETFROM, TZOFFSETTO.
+    Offset,
     Other,
 }
 
@@ -40,7 +64,9 @@ pub(crate) fn blame_of(
     number: u8,
     within: Within,
     line: Line<'_>,
-) -> Result<Blame, AllocError> {
+) -> Result<Blame, AllocError>
+    ensures { IfOk result (IsBlame number within (line_text line.entry)) }
+{
     match judge(alloc, within, line) {
         Err(Fault::Memory) => Err(AllocError),
         Err(Fault::Refused(refusal)) if refusal.number == number => Ok(blame_within(within)),
@@ -50,7 +76,9 @@ pub(crate) fn blame_of(
 }
 
 /// Of a line whose value is refused: what is wrong with a VTIMEZONE that no value names refuses nothing, so another line may have the fault.
-fn blame_within(within: Within) -> Blame {
+fn blame_within(within: Within) -> Blame
+    ensures { result ≡ blame_within within }
+{
     match within {
         Within::ZonePart => Blame::Possible,
         _ => Blame::Certain,
@@ -58,77 +86,140 @@ fn blame_within(within: Within) -> Blame {
 }
 
 /// Reads the value of a content line by itself. Refused as it is where the object is read.
-fn judge(alloc: Global, within: Within, line: Line<'_>) -> Result<(), Fault> {
+fn judge(alloc: Global, within: Within, line: Line<'_>) -> Result<(), Fault>
+    ensures sound { OnOk result (IsSound within (line_text line.entry)) }
+    ensures fault { IfErr result (RefusesBy (HasAlone within (line_text line.entry))) }
+{
     match within {
         Within::Event => judge_of_event(alloc, line),
         Within::ZonePart => Ok(judge_of_zone(line)?),
-        Within::Calendar | Within::Other => Ok(()),
+        Within::Calendar | Within::Elsewhere => Ok(()),
     }
 }
 
 /// Of STANDARD and DAYLIGHT (RFC 5545 3.6.5).
-fn judge_of_zone(line: Line<'_>) -> Result<(), Refusal> {
-    if line.is_named("DTSTART") {
-        LocalTime::read(line.value())?;
-    }
-    if line.is_named("TZOFFSETFROM") || line.is_named("TZOFFSETTO") {
-        UtcOffset::read(line.value())?;
+fn judge_of_zone(line: Line<'_>) -> Result<(), Refusal>
+    ensures sound { OnOk result (IsRightInZone (zone_property (line_text line.entry)) (line_text line.entry)) }
+    ensures fault { IfErr result (λ e. IsWrongInZone (zone_property (line_text line.entry)) (line_text line.entry) e.number) }
+{
+    match zone_property(line) {
+        Property::Time => {
+            LocalTime::read(line.value())?;
+        }
+        Property::Offset => {
+            UtcOffset::read(line.value())?;
+        }
+        _ => {}
     }
     Ok(())
+}
+
+fn zone_property(line: Line<'_>) -> Property
+    ensures { result ≡ zone_property (line_text line.entry) }
+{
+    if line.is_named("DTSTART") {
+        Property::Time
+    } else if line.is_named("TZOFFSETFROM") || line.is_named("TZOFFSETTO") {
+        Property::Offset
+    } else {
+        Property::Other
+    }
 }
 
 /// Of VEVENT (RFC 5545 3.6.1).
-fn judge_of_event(alloc: Global, line: Line<'_>) -> Result<(), Fault> {
+fn judge_of_event(alloc: Global, line: Line<'_>) -> Result<(), Fault>
+    ensures sound { OnOk result (IsRight (event_property (line_text line.entry)) (line_text line.entry)) }
+    ensures fault { IfErr result (RefusesBy (IsWrong (event_property (line_text line.entry)) (line_text line.entry))) }
+{
     let value = line.value();
-    if line.is_named("UID") {
-        Text::read_uid(alloc, value)?;
-    } else if line.is_named("ORGANIZER") || line.is_named("ATTENDEE") {
-        Address::read(alloc, value)?;
-    } else if line.is_named("DTSTAMP") {
-        Stamp::read(value)?;
-    } else if line.is_named("SEQUENCE") {
-        Sequence::read(value)?;
-    } else if line.is_named("DURATION") {
-        Duration::read(value)?;
-    } else if line.is_named("RRULE") {
-        RuleText::read(alloc, value)?;
-    } else {
-        judge_times(line)?;
+    match event_property(line) {
+        Property::Uid => {
+            Text::read_uid(alloc, value)?;
+        }
+        Property::Party => {
+            Address::read(alloc, value)?;
+        }
+        Property::Moment => {
+            Stamp::read(value)?;
+        }
+        Property::Count => {
+            Sequence::read(value)?;
+        }
+        Property::Length => {
+            Duration::read(value)?;
+        }
+        Property::Rule => {
+            RuleText::read(alloc, value)?;
+        }
+        Property::Slot => judge_slot(line)?,
+        Property::Time => judge_time(line, value)?,
+        Property::Times => judge_times(line)?,
+        Property::Offset | Property::Other => {}
     }
     Ok(())
 }
 
-/// Of the properties of a VEVENT whose values are times.
-fn judge_times(line: Line<'_>) -> Result<(), Refusal> {
-    if line.is_named("RECURRENCE-ID") && line.param("RANGE").is_some() {
+fn event_property(line: Line<'_>) -> Property
+    ensures { result ≡ event_property (line_text line.entry) }
+{
+    if line.is_named("UID") {
+        Property::Uid
+    } else if line.is_named("ORGANIZER") || line.is_named("ATTENDEE") {
+        Property::Party
+    } else if line.is_named("DTSTAMP") {
+        Property::Moment
+    } else if line.is_named("SEQUENCE") {
+        Property::Count
+    } else if line.is_named("DURATION") {
+        Property::Length
+    } else if line.is_named("RRULE") {
+        Property::Rule
+    } else if line.is_named("RECURRENCE-ID") {
+        Property::Slot
+    } else if line.is_named("DTSTART") || line.is_named("DTEND") {
+        Property::Time
+    } else if line.is_named("RDATE") || line.is_named("EXDATE") {
+        Property::Times
+    } else {
+        Property::Other
+    }
+}
+
+/// Of RECURRENCE-ID: RANGE is judged before its value.
+fn judge_slot(line: Line<'_>) -> Result<(), Refusal>
+    ensures sound { OnOk result (IsRight Slot (line_text line.entry)) }
+    ensures fault { IfErr result (λ e. IsWrong Slot (line_text line.entry) e.number) }
+{
+    if line.param("RANGE").is_some() {
         return Err(Refusal::RANGE);
     }
-    if is_time(line) {
-        judge_time(line, line.value())?;
-    }
-    if line.is_named("RDATE") || line.is_named("EXDATE") {
-        for text in line.value().split(',') {
-            judge_time(line, text)?;
-        }
-    }
-    Ok(())
+    judge_time(line, line.value())
 }
 
-/// Whether the value of a line is one time.
-fn is_time(line: Line<'_>) -> bool {
-    line.is_named("DTSTART") || line.is_named("DTEND") || line.is_named("RECURRENCE-ID")
+/// Of RDATE and EXDATE, whose values are several times.
+fn judge_times(line: Line<'_>) -> Result<(), Refusal>
+    ensures { IfErr result (λ e. IsWrong Times (line_text line.entry) e.number) }
+{
+    for text in line.value().split(',') {
+        judge_time(line, text)?;
+    }
+    Ok(())
 }
 
 /// Whether a line can have the fault of this number, together with others or because another one is missing.
-fn can_have(number: u8, within: Within, line: Line<'_>) -> bool {
+fn can_have(number: u8, within: Within, line: Line<'_>) -> bool
+    ensures { result ≡ can_have number within (line_text line.entry) }
+{
     match within {
         Within::Calendar => can_have_in_calendar(number, line),
         Within::Event => can_have_in_event(number, line),
-        Within::ZonePart | Within::Other => false,
+        Within::ZonePart | Within::Elsewhere => false,
     }
 }
 
-fn can_have_in_calendar(number: u8, line: Line<'_>) -> bool {
+fn can_have_in_calendar(number: u8, line: Line<'_>) -> bool
+    ensures { result ≡ can_have_in_calendar number (line_text line.entry) }
+{
     match number {
         24 => line.is_named("VERSION"),
         60 => line.is_named("METHOD"),
@@ -136,7 +227,9 @@ fn can_have_in_calendar(number: u8, line: Line<'_>) -> bool {
     }
 }
 
-fn can_have_in_event(number: u8, line: Line<'_>) -> bool {
+fn can_have_in_event(number: u8, line: Line<'_>) -> bool
+    ensures { result ≡ can_have_in_event number (line_text line.entry) }
+{
     match number {
         34 => line.is_named("RRULE"),
         43 => line.param("TZID").is_some(),
@@ -146,4 +239,11 @@ fn can_have_in_event(number: u8, line: Line<'_>) -> bool {
         67 => line.is_named("RRULE") || line.is_named("RDATE"),
         _ => false,
     }
+}
+
+/// Whether the value of a line is one time.
+fn is_time(line: Line<'_>) -> bool
+    ensures { result ≡ (has_name (codes "DTSTART") (line_text line.entry) || has_name (codes "DTEND") (line_text line.entry) || has_name (codes "RECURRENCE-ID") (line_text line.entry)) }
+{
+    line.is_named("DTSTART") || line.is_named("DTEND") || line.is_named("RECURRENCE-ID")
 }

@@ -102,7 +102,7 @@ fn append_place(
     octets: &[u8],
     number: u8,
 ) -> Result<(), AllocError>
-    ensures { OnOk result ((place : List ℕ) × IsPlaceText octets.now place × (text.new.items ≡ text.old.items ++ place)) }
+    ensures { OnOk result ((place : List ℕ) × IsPlaceText octets.now number place × (text.new.items ≡ text.old.items ++ place)) }
 {
     let Some(place) = place_of(alloc, octets, number)? else {
         return Ok(());

@@ -4,8 +4,7 @@
 
 ghost use Rattle.std.specs.Prelude.{◌≡◌, ◌<◌, ◌^◌, ◌+◌, ◌++◌, ◌⊎◌, ℕ, List, length, drop, true, false, IfOk, IfSome, OnOk};
 ghost use Rattle.profile.specs.text.Lines.{is_continuation, line_name};
-ghost use Rattle.sched_cli.specs.Places.{IsPlace};
-ghost use Rattle.sched_cli.specs.Searching.{Finds, FoundIn, IsLineFoundAt};
+ghost use Rattle.sched_cli.specs.Searching.{Finds, FoundIn, IsBlamedPlace, IsNoted, with_possible};
 
 use crate::blame::{Blame, Within, blame_of};
 use ical_lines::{Fault, Limits, Line, Unfolded, split_line, without_mark};
@@ -23,7 +22,7 @@ pub struct Place {
 
 /// The content line of an object that its refusal is about; None where it isn't known.
 pub fn place_of(alloc: Global, octets: &[u8], number: u8) -> Result<Option<Place>, AllocError>
-    ensures { IfOk result (λ found. IfSome found (λ place. IsPlace octets.now place.line place.property.items)) }
+    ensures { IfOk result (λ found. IfSome found (λ place. IsBlamedPlace octets.now number place.line place.property.items)) }
 {
     let mut search = Search::new(number);
     let (first, mut left) = split_line(without_mark(octets));
@@ -34,7 +33,7 @@ pub fn place_of(alloc: Global, octets: &[u8], number: u8) -> Result<Option<Place
         left = next;
     }
     search.look_at(alloc, begun.content.as_slice(), begun.line)?;
-    Ok(search.into_place())
+    Ok(search.found.into_place())
 }
 
 /// The content line that has begun.
@@ -73,10 +72,11 @@ fn take_line(
 ) -> Result<(), AllocError>
     requires { begun.old.count < 2 ^ 63 }
     ensures count { OnOk result (begun.new.count ≡ begun.old.count + 1) }
+    ensures number { search.new.number ≡ search.old.number }
     ensures continues { OnOk result (is_continuation line.now ≡ true
         → (search.new.found ≡ search.old.found) × (begun.new.content.items ≡ begun.old.content.items ++ drop 1 line.now) × (begun.new.line ≡ begun.old.line)) }
     ensures begins { OnOk result (is_continuation line.now ≡ false
-        → Finds search.old.found search.new.found begun.old.line begun.old.content.items × (begun.new.content.items ≡ line.now) × (begun.new.line ≡ begun.new.count)) }
+        → Finds search.old.number search.old.found search.new.found begun.old.line begun.old.content.items × (begun.new.content.items ≡ line.now) × (begun.new.line ≡ begun.new.count)) }
 {
     begun.count += 1;
     if let [b' ' | b'\t', continued @ ..] = line {
@@ -123,7 +123,8 @@ enum Found {
 
 impl Search {
     fn new(number: u8) -> Search
-        ensures { result.found ≡ Found.Nothing }
+        ensures found { result.found ≡ Found.Nothing }
+        ensures number { result.number ≡ number }
     {
         Search {
             number,
@@ -135,7 +136,8 @@ impl Search {
 
     /// Looks at the octets of one content line, which begins on this physical line.
     fn look_at(&mut self, alloc: Global, octets: &[u8], begun: u64) -> Result<(), AllocError>
-        ensures { OnOk result (Finds self.old.found self.new.found begun octets.now) }
+        ensures found { OnOk result (Finds self.old.number self.old.found self.new.found begun octets.now) }
+        ensures number { self.new.number ≡ self.old.number }
     {
         if octets.is_empty() || matches!(self.found, Found::Certain(_)) {
             return Ok(());
@@ -143,17 +145,18 @@ impl Search {
         match Unfolded::read(alloc, octets, Limits::Message) {
             Ok(_) => self.look_at_line(alloc, octets, begun),
             Err(Fault::Memory) => Err(AllocError),
-            Err(Fault::Refused(refusal)) => {
-                let blame = Blame::certain_if(refusal.number == self.number);
-                self.note(alloc, blame, b"", begun)
+            Err(Fault::Refused(refusal)) if refusal.number == self.number => {
+                self.note(alloc, Blame::Certain, b"", begun)
             }
+            Err(Fault::Refused(_)) => Ok(()),
         }
     }
 
     /// Looks at a content line that is read as one.
     fn look_at_line(&mut self, alloc: Global, octets: &[u8], begun: u64) -> Result<(), AllocError>
         requires { 0 < length octets.now }
-        ensures { OnOk result (Finds self.old.found self.new.found begun octets.now) }
+        ensures found { OnOk result (Finds self.old.number self.old.found self.new.found begun octets.now) }
+        ensures number { self.new.number ≡ self.old.number }
     {
         let Ok(text) = str::from_utf8(octets) else {
             return Ok(());
@@ -175,14 +178,15 @@ impl Search {
         property: &[u8],
         line: u64,
     ) -> Result<(), AllocError>
-        ensures { OnOk result ((self.new.found ≡ self.old.found) ⊎ IsLineFoundAt line property.now self.new.found) }
+        ensures noted { OnOk result (IsNoted self.old.found blame line property.now self.new.found) }
+        ensures number { self.new.number ≡ self.old.number }
     {
         self.found = match blame {
             Blame::None => return Ok(()),
-            Blame::Possible => match self.found {
-                Found::Nothing => Found::Possible(Place::new(alloc, property, line)?),
-                _ => Found::Several,
-            },
+            Blame::Possible => {
+                let place = Place::new(alloc, property, line)?;
+                self.found.with_possible(place)
+            }
             Blame::Certain => Found::Certain(Place::new(alloc, property, line)?),
         };
         Ok(())
@@ -194,13 +198,14 @@ impl Search {
             (1, _) => Within::Calendar,
             (2, Inside::Event) => Within::Event,
             (3, Inside::Zone) => Within::ZonePart,
-            _ => Within::Other,
+            _ => Within::Elsewhere,
         }
     }
 
     /// Goes into the component that a line begins, and out of the one that it ends.
     fn pass(&mut self, line: Line<'_>)
-        ensures { self.new.found ≡ self.old.found }
+        ensures found { self.new.found ≡ self.old.found }
+        ensures number { self.new.number ≡ self.old.number }
     {
         if line.is_named("BEGIN") {
             if self.depth == 1 {
@@ -211,11 +216,24 @@ impl Search {
             self.depth = self.depth.saturating_sub(1);
         }
     }
+}
 
-    fn into_place(self) -> Option<Place>
-        ensures { IfSome result (λ place. (octets : List ℕ) → FoundIn octets self.found → IsPlace octets place.line place.property.items) }
+impl Found {
+    /// With a line more that can have the fault.
+    fn with_possible(&self, place: Place) -> Found
+        ensures { result ≡ with_possible self.now place }
     {
-        match self.found {
+        match self {
+            Found::Nothing => Found::Possible(place),
+            _ => Found::Several,
+        }
+    }
+
+    /// The line that was found, if it is one.
+    fn into_place(self) -> Option<Place>
+        ensures { IfSome result (λ place. (n : ℕ) (octets : List ℕ) → FoundIn n octets self → IsBlamedPlace octets n place.line place.property.items) }
+    {
+        match self {
             Found::Possible(place) | Found::Certain(place) => Some(place),
             Found::Nothing | Found::Several => None,
         }
