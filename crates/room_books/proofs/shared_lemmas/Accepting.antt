@@ -9,7 +9,7 @@ use Rattle.profile.specs.checker.Instances.{IsClear}
 use Rattle.profile.specs.rooms.Messages.{Outcome, Accept, Busy, SeriesLimit, SinglesLimit}
 use Rattle.profile.specs.rooms.Revisions.{Part}
 use Rattle.profile.specs.rooms.Rooms.{Book, Claim, Confirms, Decides, IsStep, IsWithinLimits, Kind, NamesClash, asked, if_accepted, is_fresh, is_same, kind_of, kind_of_outcome, parts_of}
-use Rattle.profile.specs.rooms.Rooms.{Accepted, Declined, SeriesSpent, SinglesSpent, Withdrawn, Repeated, Stale, NotAddressed}
+use Rattle.profile.specs.rooms.Rooms.{Accepted, Declined, Limit, Cancelled, Repeated, Stale, NotAddressed}
 use Rattle.room_books.specs.Room.{StepsWith}
 use Rattle.room_books.specs.declared.kept.Meeting.{Meeting}
 use Rattle.room_books.specs.declared.meeting.MeetingKey.{MeetingKey}
@@ -17,7 +17,7 @@ use Rattle.std.specs.Prelude.{Option}
 
 -- what became of a message of which no part is asked
 abbrev unasked : Bool → Bool → Kind
-unasked fresh same = if fresh then Withdrawn else (if same then Repeated else Stale)
+unasked fresh same = if fresh then Cancelled else (if same then Repeated else Stale)
 
 abbrev kind_by : Bool → Bool → Bool → Outcome → Kind
 kind_by some fresh same outcome = if some then kind_of_outcome outcome else unasked fresh same
@@ -27,9 +27,8 @@ kind_by some fresh same outcome = if some then kind_of_outcome outcome else unas
 abbrev IsAccepted : Kind → Type 0
 IsAccepted Accepted = Unit {0}
 IsAccepted (Declined a b t) = ⊥
-IsAccepted SeriesSpent = ⊥
-IsAccepted SinglesSpent = ⊥
-IsAccepted Withdrawn = ⊥
+IsAccepted (Limit limit) = ⊥
+IsAccepted Cancelled = ⊥
 IsAccepted Repeated = ⊥
 IsAccepted Stale = ⊥
 IsAccepted NotAddressed = ⊥
@@ -52,9 +51,8 @@ accepted_by false false false outcome book d = (λ e. absurd (subst IsAccepted (
 abbrev Named : Book → Kind → Type 0
 Named book Accepted = Unit {0}
 Named book (Declined a b t) = NamesClash (Confirms book) a b t
-Named book SeriesSpent = Unit {0}
-Named book SinglesSpent = Unit {0}
-Named book Withdrawn = Unit {0}
+Named book (Limit limit) = Unit {0}
+Named book Cancelled = Unit {0}
 Named book Repeated = Unit {0}
 Named book Stale = Unit {0}
 Named book NotAddressed = Unit {0}
