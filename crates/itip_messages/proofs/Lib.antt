@@ -6,6 +6,7 @@ pub mod examples
 pub mod law_lemmas
 pub mod message_lemmas
 pub mod organiser_object_lemmas
+pub mod own_lines_lemmas
 pub mod room_message_lemmas
 pub mod sent_law_lemmas
 pub mod shared_lemmas

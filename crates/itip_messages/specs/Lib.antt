@@ -11,3 +11,4 @@ pub mod SentLaw
 pub mod Body
 pub mod Zones
 pub mod BodyText
+pub mod OwnLines

@@ -10,6 +10,7 @@ pub mod law;
 mod meeting_text;
 pub mod message;
 pub mod organiser_object;
+mod own_lines;
 mod parts;
 mod refresh;
 pub mod reply;
@@ -30,6 +31,7 @@ pub use law::{
 pub use meeting_text::{AttendeeLines, MeetingText, write_meeting, write_request};
 pub use message::Message;
 pub use organiser_object::{ObjectComponent, Operation, OrganiserObject};
+pub use own_lines::component_lines;
 pub use refresh::{Refresh, write_refresh};
 pub use reply::{Conflict, ConflictKey, Decision, ReplyEvent, write_event, write_reply};
 pub use room_message::{MessageComponent, Method, RoomMessage};

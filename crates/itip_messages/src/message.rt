@@ -61,7 +61,7 @@ impl Message {
 
 /// What METHOD says that a message is.
 #[derive(Clone, Copy)]
-enum Addressee {
+pub(crate) enum Addressee {
     ToRooms(Method),
     ToOrganiser(Operation),
 }
@@ -69,7 +69,7 @@ enum Addressee {
 impl Addressee {
     /// By the properties of an object; without METHOD it is a store.
     /// Refused: 60 for a word that names no supported method, or for two lines.
-    fn of(properties: &Properties<'_>) -> Result<Addressee, Refusal>
+    pub(crate) fn of(properties: &Properties<'_>) -> Result<Addressee, Refusal>
         ensures named { IfOk result (NamesKind properties.now) }
         ensures refuses { IfErr result (λ e. IsTrue (is_message_fault e.number)) }
         ensures fault { IfErr result (λ e. MethodFault properties.now e.number) }

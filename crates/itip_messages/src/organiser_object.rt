@@ -37,7 +37,7 @@ pub enum Operation {
 
 impl Operation {
     /// What a VEVENT of such an object is read for: DTSTART is required only in a store.
-    fn purpose(self) -> Purpose
+    pub(crate) fn purpose(self) -> Purpose
         ensures { result ≡ operation_purpose self }
     {
         match self {
@@ -208,7 +208,10 @@ impl OrganiserObject {
 
 /// Refuses VEVENTs in which an attendee speaks, where one doesn't have one attendee.
 /// Refused: 64 for such a VEVENT.
-fn judge_attendees(operation: Operation, events: &[EventComponent]) -> Result<(), Refusal>
+pub(crate) fn judge_attendees(
+    operation: Operation,
+    events: &[EventComponent],
+) -> Result<(), Refusal>
     ensures each { OnOk result (is_of_attendee (operation_said operation) ≡ true → list_all has_one_attendee (map component_of events.now) ≡ true) }
     ensures fault { IfErr result (λ e. IsNotOneEach (operation_said operation) (map component_of events.now) e.number) }
 {

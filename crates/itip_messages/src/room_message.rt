@@ -39,7 +39,7 @@ pub enum Method {
 
 impl Method {
     /// What a VEVENT of such a message is read for.
-    fn purpose(self) -> Purpose
+    pub(crate) fn purpose(self) -> Purpose
         ensures { result ≡ purpose_of self }
     {
         match self {

@@ -12,3 +12,4 @@ mod OrganiserExamples
 pub mod Repeats
 pub mod ZoneRepeats
 pub mod SeriesRepeats
+pub mod PairRepeats

@@ -6,7 +6,7 @@ use Rattle.std.specs.Prelude.{Some}
 use Rattle.profile.specs.series.Rules.{Pattern, is_base}
 use Rattle.profile.specs.series.Zones.{Observance, IsOnset, IsFirstOf, begins_on, Zone, Onset, InForce, Since, Until, IsOffsetAt, IsZoneOnset, Shows, Means}
 
-int_same : {a b : ℤ} → a ≤ℤ b → b ≤ℤ a → a ≡ b
+pub int_same : {a b : ℤ} → a ≤ℤ b → b ≤ℤ a → a ≡ b
 int_same {a} {b} l m = omega (arith, ints, l, m)
 
 -- an onset so many seconds later

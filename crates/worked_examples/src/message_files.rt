@@ -4,8 +4,8 @@ use crate::parts::{body_text, slot_text};
 use example_cases::NoAnswer;
 use example_cases::answers::{append, yes_or_no};
 use ical_values::Address;
-use itip_messages::{Message, Method, Operation, OrganiserObject, RoomMessage};
-use itip_order::Part;
+use itip_messages::{Message, Method, Operation, OrganiserObject, RoomMessage, component_lines};
+use itip_order::{Part, Slot};
 use std::alloc::Global;
 
 /// Of a message to rooms the method, the organiser and the UID, and the start and the end of each instance that a component asks for; of what
@@ -95,4 +95,27 @@ fn part_text(alloc: Global, part: &Part) -> Result<String, NoAnswer> {
 pub fn addressed(alloc: Global, octets: &[u8], room: &Address) -> Result<String, NoAnswer> {
     let message = to_rooms(alloc, octets)?;
     Ok(String::from_str(alloc, yes_or_no(message.is_addressed_to(room)))?)
+}
+
+/// The own lines of the VEVENT of a slot, `whole` or an instant, each in quotes; `none` where there is no such VEVENT.
+pub fn own_lines(alloc: Global, octets: &[u8], slot: &str) -> Result<String, NoAnswer> {
+    let Some(lines) = component_lines(alloc, octets, slot_named(slot)?)? else {
+        return Ok(String::from_str(alloc, "none")?);
+    };
+    let mut list = String::new(alloc);
+    for line in lines.iter() {
+        let item = format!(in alloc; "{:?}", line.as_str())?;
+        append(&mut list, ", ", item.as_str())?;
+    }
+    Ok(list)
+}
+
+fn slot_named(word: &str) -> Result<Slot, NoAnswer> {
+    if word == "whole" {
+        return Ok(Slot::Whole);
+    }
+    match word.parse::<i64>() {
+        Ok(instant) => Ok(Slot::At(instant)),
+        Err(_) => Err(NoAnswer::Unreadable),
+    }
 }

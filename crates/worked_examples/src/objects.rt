@@ -17,10 +17,11 @@
 //!     components              how many components the message has, where the object was read before
 //!     parts ROOM              the parts for a room
 //!     addressed ROOM          whether the message names the room
+//!     own-lines SLOT          the own content lines of the VEVENT of the slot, `whole` or an instant
 
 use crate::calendar_files::{answered, certified, checked, counted, ends, kept, series, times};
 use crate::event_files::{event, instances, overlap};
-use crate::message_files::{addressed, components, message, parts};
+use crate::message_files::{addressed, components, message, own_lines, parts};
 use crate::series_files::{clashes, pairs};
 use example_cases::answers::Answers;
 use example_cases::spelled::octets_of;
@@ -54,6 +55,7 @@ pub fn answers(alloc: Global, octets: &[u8], case: Case<'_>) -> Result<String, N
         let (call, input) = first_word(step);
         let answer = match (call, input) {
             ("overlap", _) => overlap(alloc, octets, input)?,
+            ("own-lines", _) => own_lines(alloc, octets, input)?,
             (_, "") => plain_answer(alloc, octets, call)?,
             _ => room_answer(alloc, octets, call, input)?,
         };

@@ -12,7 +12,7 @@ use Rattle.ical_values.specs.Octets.{address_octets}
 use Rattle.profile.specs.text.Lines.{folded, written}
 use Rattle.profile.specs.rooms.Revisions.{Part, in_view, same_part}
 use Rattle.profile.specs.rooms.Messages.{IsReplyEvent, opening_lines}
-use Rattle.profile.specs.rooms.Rooms.{Book, PartAnswer, is_set, shown}
+use Rattle.profile.specs.rooms.Rooms.{Book, is_set, shown}
 use Rattle.profile.specs.rooms.Rooms as rooms
 use Rattle.profile.specs.rooms.Kept.{Replies, IsReply, ShowsAnswer}
 use Rattle.itip_messages.specs.Reply.{WritesLines, IsWrittenEvent}
