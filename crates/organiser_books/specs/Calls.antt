@@ -19,7 +19,7 @@ pub record MayTake (operation : Operation) (address : List ℕ) (said : Organise
 -- and refuses it by that call: it is of another kind, or to another organiser, or it has a fault beside what is kept
 pub data CallFault (operation : Operation) (address : List ℕ) (said : OrganiserObject) (book : OrganiserBook) : ℕ → Type 0 where
   other_kind : said.operation ≢ operation → CallFault operation address said book 60
-  other_organiser : said.organiser ≢ address → CallFault operation address said book 70
+  other_organiser : said.operation ≡ operation → said.organiser ≢ address → CallFault operation address said book 70
   in_state : {n : ℕ} → said.operation ≡ operation → said.organiser ≡ address → StateFault said book n → CallFault operation address said book n
 
 -- their numbers

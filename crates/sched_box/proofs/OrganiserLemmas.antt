@@ -39,7 +39,7 @@ served operation moment address said book after octets kind may serves = record 
 call_fault : (operation : Operation) (address : List ℕ) (said : profile.OrganiserObject) (book : OrganiserBook) (n : ℕ) → said.operation ≡ operation → said.organiser ≡ address
     → CallFault operation address said book n → StateFault said book n
 call_fault operation address said book n kind to (other_kind no') = absurd (no' kind)
-call_fault operation address said book n kind to (other_organiser no') = absurd (no' to)
+call_fault operation address said book n kind to (other_organiser same no') = absurd (no' to)
 call_fault operation address said book n kind to (call_in_state is own fault) = fault
 
 pub refused_by : (operation : Operation) (object : OrganiserObject) (organiser : Organiser) (f : Fault) → operation_said object.operation ≡ operation
