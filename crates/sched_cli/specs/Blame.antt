@@ -1,5 +1,5 @@
 -- What a content line has to do with a fault, by the number of its refusal.
-use Rattle.std.specs.Prelude.{◌≡◌, ◌≢◌, ◌⊎◌, ◌==◌, ◌||◌, ℕ, ℤ, Bool, true, false, IsTrue, List, codes, is_some, if◌then◌else◌}
+use Rattle.std.specs.Prelude.{◌≡◌, ◌≢◌, ◌⊎◌, ◌==◌, ◌||◌, ℕ, ℤ, Bool, true, false, IsTrue, List, codes, is_some, MatchOption, if◌then◌else◌}
 use Rattle.std.specs.List.{slice_split}
 use Rattle.std.specs.Prelude.{Contains}
 use Rattle.profile.specs.events.Properties.{time_kind, DateTime, IsLocalText}
@@ -43,9 +43,9 @@ zone_property line =
     else (if has_name (codes "TZOFFSETFROM") line || has_name (codes "TZOFFSETTO") line then Offset
     else Other)
 
--- a time in UTC, or one that is local
+-- a time in UTC where there is no TZID, and a local one where there is
 abbrev pub IsTime : List ℕ → List ℕ → Type 0
-IsTime line text = (time_kind line ≡ DateTime) × (((instant : ℤ) × SpellsStamp text instant) ⊎ IsLocalText text)
+IsTime line text = (time_kind line ≡ DateTime) × MatchOption (line_param (codes "TZID") line) ((instant : ℤ) × SpellsStamp text instant) (λ _. IsLocalText text)
 
 -- the value of a line of a VEVENT is right by itself; of RDATE and EXDATE nothing is said
 abbrev pub IsRight : Property → List ℕ → Type 0
