@@ -1,7 +1,7 @@
 -- Worked examples of definitions, computed. Those of the other files are beside the crates that meet them: Lines in ical_lines,
 -- Objects in ical_tree, Days and Values in cal_days and ical_values, Instances in cal_events, Certificates in clash_cert,
 -- Revisions in itip_order, Messages in itip_messages, Rooms in room_books.
-use Rattle.std.proofs.Common.{decimal, ◌≡◌, ◌<◌, ◌∙◌, ℕ, ℤ, zero, suc, pos, negsuc, true, false, List, [], ◌∷◌, ◌++◌, Some, None, refl, codes, length, ap, arith, get_or, lit<}
+use Rattle.std.proofs.Common.{decimal, ◌≡◌, ◌<◌, ◌∙◌, ℕ, ℤ, zero, suc, pos, negsuc, true, false, List, [], ◌∷◌, ◌++◌, Some, None, refl, sym, codes, length, ap, arith, get_or, lit<}
 use Rattle.std.proofs.lemmas.Bool.{false≢true}
 use Rattle.std.proofs.lemmas.Fmt.{decimal_digit}
 use Rattle.profile.specs.faults.Faults.{is_event_fault, is_calendar_fault, is_message_fault}
@@ -15,8 +15,9 @@ use Rattle.profile.specs.rooms.Revisions.{Part, Whole, At, Set, Absent, Cancelle
 use Rattle.profile.specs.events.Events.{Event, taken_by}
 use Rattle.profile.specs.rooms.Messages.{Accept, SinglesLimit, Message, no_content, list_lines, is_in_dates, cancels, is_addressed, parts_for, revision_beside, IsBody, object_lines, word}
 use Rattle.profile.specs.checker.Instances.{Instance}
-use Rattle.profile.specs.rooms.Rooms.{PartAnswer, Book, Claim, confirmed_singles, confirmed_series, empty_book, is_confirmed, is_hidden, wants_whole}
-use Rattle.profile.specs.rooms.Kept.{IsKept, kept_certificate, first_parts, each_once, renamed}
+use Rattle.profile.specs.rooms.Rooms.{PartAnswer, Book, Claim, confirmed_singles, confirmed_series, is_confirmed, is_hidden, wants_whole}
+use Rattle.profile.specs.checker.Certificates.{Claims, SpellsCertificate}
+use Rattle.profile.specs.rooms.Kept.{IsKept, first_parts, each_once, renamed}
 use Rattle.profile.specs.streams.Streams.{Now, Room, moments, organisers, Organiser, rooms, refused_line, AreObjects}
 
 -- ---- lists of refusals
@@ -234,11 +235,30 @@ an_object_of_nothing = refl
 a_word_has_no_comma : word (codes "a,b") ≡ codes "a%2Cb"
 a_word_has_no_comma = refl
 
--- the certificate of a room that has taken nothing
-nothing_kept : kept_certificate empty_book ≡ codes "ROOMCERT 1\nSINGLES 0\nSERIES 0\nDONE\n"
-nothing_kept =
-    ap (λ (d : List ℕ). codes "ROOMCERT 1\nSINGLES " ++ (d ++ (codes "\nSERIES " ++ (decimal 0 ++ codes "\nDONE\n")))) (decimal_digit 0 (lit< tt))
-    ∙ ap (λ (d : List ℕ). codes "ROOMCERT 1\nSINGLES 0\nSERIES " ++ (d ++ codes "\nDONE\n")) (decimal_digit 0 (lit< tt))
+-- the certificate of a calendar that confirms nothing, and of one that confirms a single
+abbrev counts_alone : ℕ → Claims
+counts_alone singles = record { singles = singles; series = 0; rows = [] }
+
+abbrev lines_alone : ℕ → List (List ℕ)
+lines_alone singles = codes "ROOMCERT 1" ∷ (codes "SINGLES " ++ decimal singles) ∷ (codes "SERIES " ++ decimal 0) ∷ codes "DONE" ∷ []
+
+nothing_said : SpellsCertificate (codes "ROOMCERT 1\nSINGLES 0\nSERIES 0\nDONE\n") (counts_alone 0)
+nothing_said = record {
+  claims = record { singles = lit< tt; series = lit< tt; rows = refl };
+  lines = lines_alone 0;
+  are = record { pairs = []; are = refl; is = refl };
+  is = sym (ap (λ (d : List ℕ). codes "ROOMCERT 1\nSINGLES " ++ (d ++ (codes "\nSERIES " ++ (decimal 0 ++ codes "\nDONE\n")))) (decimal_digit 0 (lit< tt))
+      ∙ ap (λ (d : List ℕ). codes "ROOMCERT 1\nSINGLES 0\nSERIES " ++ (d ++ codes "\nDONE\n")) (decimal_digit 0 (lit< tt)));
+}
+
+one_said : SpellsCertificate (codes "ROOMCERT 1\nSINGLES 1\nSERIES 0\nDONE\n") (counts_alone 1)
+one_said = record {
+  claims = record { singles = lit< tt; series = lit< tt; rows = refl };
+  lines = lines_alone 1;
+  are = record { pairs = []; are = refl; is = refl };
+  is = sym (ap (λ (d : List ℕ). codes "ROOMCERT 1\nSINGLES " ++ (d ++ (codes "\nSERIES " ++ (decimal 0 ++ codes "\nDONE\n")))) (decimal_digit 1 (lit< tt))
+      ∙ ap (λ (d : List ℕ). codes "ROOMCERT 1\nSINGLES 1\nSERIES " ++ (d ++ codes "\nDONE\n")) (decimal_digit 0 (lit< tt)));
+}
 
 abbrev part_of : List ℕ → ℕ → Part
 part_of uid sequence = record {
@@ -338,11 +358,6 @@ one_is_hidden = refl
 
 another_is_not : is_hidden (one_series (cancelled_at (pos 9) ∷ [])).taken (part_of (codes "a") 0) (booked_at 0) ≡ false
 another_is_not = refl
-
-one_single : kept_certificate two_meetings ≡ codes "ROOMCERT 1\nSINGLES 1\nSERIES 0\nDONE\n"
-one_single =
-    ap (λ (d : List ℕ). codes "ROOMCERT 1\nSINGLES " ++ (d ++ (codes "\nSERIES " ++ (decimal 0 ++ codes "\nDONE\n")))) (decimal_digit 1 (lit< tt))
-    ∙ ap (λ (d : List ℕ). codes "ROOMCERT 1\nSINGLES 1\nSERIES " ++ (d ++ codes "\nDONE\n")) (decimal_digit 0 (lit< tt))
 
 -- ---- streams
 

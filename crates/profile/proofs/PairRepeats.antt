@@ -1,11 +1,11 @@
 -- A zone of each form does the same a cycle later: of two observances that follow each other, of one that begins once, and of none.
-use Rattle.std.proofs.Common.{◌≡◌, ◌∙◌, refl, sym, subst, ap, arith, ◌⊎◌, inl, inr, ℕ, ◌+◌, ◌≤◌, true, ℤ, pos, ◌+ℤ◌, ◌-ℤ◌, ◌≤ℤ◌, ◌<ℤ◌, unsigned_abs}
-use Rattle.std.proofs.lemmas.Int.{ints, by_lt_z}
+use Rattle.std.proofs.Common.{◌≡◌, ◌∙◌, refl, sym, subst, arith, ◌⊎◌, inl, inr, ℕ, ◌+◌, ◌≤◌, true, ℤ, pos, ◌+ℤ◌, ◌-ℤ◌, ◌≤ℤ◌, ◌<ℤ◌, unsigned_abs}
+use Rattle.std.proofs.lemmas.Int.{ints}
 use Rattle.std.specs.Prelude.{None, Some}
 use Rattle.std.proofs.Common.{◌==◌}
 use Rattle.std.proofs.lemmas.Bool.{eqb-true}
 use Rattle.profile.specs.series.Rules.{Pattern, is_base}
-use Rattle.profile.specs.series.Zones.{Observance, Zone, Constant, Single, Pair, Onset, IsOnset, IsZoneOnset, onset_at, IsFirstOf, begins_on, IsLatest, IsFirstAfter, InForce, Since, Until, IsOffsetAt, Means, local_time}
+use Rattle.profile.specs.series.Zones.{Observance, Single, Pair, Onset, IsZoneOnset, onset_at, IsFirstOf, begins_on, InForce, Since, Until, Means}
 use Rattle.profile.specs.series.ZoneTexts.{AreMatched}
 use Rattle.profile.proofs.ZoneRepeats.{int_same, onset_later, offset_later, offset_earlier, means_later, means_earlier, cycle, onset_up, onset_down}
 

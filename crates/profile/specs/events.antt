@@ -8,3 +8,4 @@ pub mod Events
 pub mod Starts
 pub mod Confirmed
 pub mod Expanding
+pub mod Spans

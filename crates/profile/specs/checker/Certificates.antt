@@ -1,25 +1,43 @@
 -- The text of a certificate, and when it holds. The format is this profile's own.
-use Rattle.std.specs.Prelude.{ℕ, zero, suc, List, [], ◌∷◌, ◌++◌, ◌-◌, ◌^◌, ◌<◌, ◌≤◌, ◌≡◌, ◌⊎◌, Contains, Some, length, take, codes, decimal}
-use Rattle.std.specs.List.{slice_get}
-use Rattle.profile.specs.checker.Instances.{HasClash, AreClear}
+use Rattle.std.specs.Prelude.{ℕ, zero, suc, List, [], ◌∷◌, ◌++◌, ◌-◌, ◌*◌, ◌^◌, ◌<◌, ◌≤◌, ◌≡◌, ◌⊎◌, ℤ, pos, ◌≤ℤ◌, ◌<ℤ◌, All, Contains, Some, length, take, codes, decimal}
+use Rattle.std.specs.List.{slice_get, slice_index_or}
+use Rattle.profile.specs.checker.Instances.{HasClash, AreClear, horizon}
+use Rattle.profile.specs.text.Values.{WritesStamp, IsClockSeconds}
 use Rattle.profile.specs.events.Events.{Event}
 use Rattle.profile.specs.events.Starts.{IsInstance}
 use Rattle.profile.specs.events.Confirmed.{Confirmed, IsOneOf}
+use Rattle.profile.specs.events.Spans.{IsBoundOf, IsPastAll, IsPeriodOf, IsSpan, SpanHolds, SpanFails}
 
 -- ---- what a certificate says
 
--- what it says of two series, or of one by itself: that up to the horizon no two of their instances clash. It says nothing else yet
+-- what it says of two series, or of one by itself: that no two of their instances clash up to the horizon; or up to the end of one period of so
+-- many days from an instant on and the greater width after it
 pub data Entry : Type 0 where
   End : Entry
+  Span : ℤ → ℕ → Entry
 
--- how many singles and how many series its calendar has, and an entry for each pair of series
+-- how many singles and how many series its calendar has, and an entry for each pair of series: in a row for each series, of it with itself and
+-- with those after it
 pub record Claims : Type 0 where
   pub singles : ℕ
   pub series : ℕ
+  pub rows : List (List Entry)
 
--- numbers have 64 bits
-abbrev pub IsClaims : Claims → Type 0
-IsClaims c = (c.singles < 2 ^ 64) × (c.series < 2 ^ 64)
+-- there is an instant to write, of the years 0001 to 9999, and numbers have 64 bits
+abbrev pub IsEntry : Entry → Type 0
+IsEntry End = Unit {0}
+IsEntry (Span from days) = IsClockSeconds from × (days < 2 ^ 64)
+
+-- rows of so many entries, of one less, and so on down to one
+abbrev pub AreRows : ℕ → List (List Entry) → Type 0
+AreRows zero rows = rows ≡ []
+AreRows (suc n) [] = ⊥
+AreRows (suc n) (row ∷ rows) = (length row ≡ suc n) × All IsEntry row × AreRows n rows
+
+pub record IsClaims (c : Claims) : Type 0 where
+  pub singles : c.singles < 2 ^ 64
+  pub series : c.series < 2 ^ 64
+  pub rows : AreRows c.series c.rows
 
 -- the pairs of n series, counted from 1: a series with itself, or with a later one
 abbrev pub IsPair : ℕ → ℕ → ℕ → Type 0
@@ -27,56 +45,59 @@ IsPair n i j = (0 < i) × (i ≤ j) × (j ≤ n)
 
 -- the entry of a pair
 abbrev pub entry_of : Claims → ℕ → ℕ → Entry
-entry_of c i j = End
+entry_of c i j = slice_index_or (slice_index_or c.rows (i - 1) []) (j - i) End
 
 -- ---- its text
 
-abbrev pub entry_text : Entry → List ℕ
-entry_text End = codes "END"
+-- the words of an entry
+abbrev pub IsEntryText : Entry → List ℕ → Type 0
+IsEntryText End text = text ≡ codes "END"
+IsEntryText (Span from days) text = (stamp : List ℕ) × WritesStamp stamp from × (text ≡ codes "SPAN " ++ (stamp ++ (codes " " ++ decimal days)))
 
--- the line of a pair
-abbrev pub pair_line : Claims → ℕ → ℕ → List ℕ
-pair_line c i j = codes "PAIR " ++ (decimal i ++ (codes " " ++ (decimal j ++ (codes " " ++ entry_text (entry_of c i j)))))
+-- the line of a pair that has this entry
+abbrev pub IsPairLine : ℕ → ℕ → Entry → List ℕ → Type 0
+IsPairLine i j entry line =
+    (text : List ℕ) × IsEntryText entry text × (line ≡ codes "PAIR " ++ (decimal i ++ (codes " " ++ (decimal j ++ (codes " " ++ text)))))
 
--- series i with this many series from j on
-abbrev pub row_lines : Claims → ℕ → ℕ → ℕ → List (List ℕ)
-row_lines c i j zero = []
-row_lines c i j (suc count) = pair_line c i j ∷ row_lines c i (suc j) count
+-- those of series i with that at j and the ones after it, which have these entries
+abbrev pub AreRowLines : ℕ → ℕ → List Entry → List (List ℕ) → Type 0
+AreRowLines i j [] lines = lines ≡ []
+AreRowLines i j (entry ∷ row) [] = ⊥
+AreRowLines i j (entry ∷ row) (line ∷ lines) = IsPairLine i j entry line × AreRowLines i (suc j) row lines
 
--- this many series from i on, each with itself and those after it
-abbrev pub pair_lines : Claims → ℕ → ℕ → List (List ℕ)
-pair_lines c i zero = []
-pair_lines c i (suc count) = row_lines c i i (suc count) ++ pair_lines c (suc i) count
-
--- what follows the counts
-abbrev pub entry_lines : Claims → List (List ℕ)
-entry_lines c = pair_lines c 1 c.series ++ codes "DONE" ∷ []
+-- those of series i and the ones after it, each with itself and the ones after it
+abbrev pub ArePairLines : ℕ → List (List Entry) → List (List ℕ) → Type 0
+ArePairLines i [] lines = lines ≡ []
+ArePairLines i (row ∷ rows) lines =
+    (own : List (List ℕ)) × (rest : List (List ℕ)) × (lines ≡ own ++ rest) × AreRowLines i i row own × ArePairLines (suc i) rows rest
 
 -- its lines, without their ends
-abbrev pub lines_of : Claims → List (List ℕ)
-lines_of c = codes "ROOMCERT 1" ∷ (codes "SINGLES " ++ decimal c.singles) ∷ (codes "SERIES " ++ decimal c.series) ∷ entry_lines c
+pub record AreLines (c : Claims) (lines : List (List ℕ)) : Type 0 where
+  pub pairs : List (List ℕ)
+  pub are : ArePairLines 1 c.rows pairs
+  pub is : lines ≡ codes "ROOMCERT 1" ∷ (codes "SINGLES " ++ decimal c.singles) ∷ (codes "SERIES " ++ decimal c.series) ∷ (pairs ++ codes "DONE" ∷ [])
 
 -- the lines, each ended by LF, and then the rest
 abbrev pub spelled : List (List ℕ) → List ℕ → List ℕ
 spelled [] rest = rest
 spelled (line ∷ lines) rest = line ++ 10 ∷ spelled lines rest
 
--- the certificate's octets: its lines and nothing after
-abbrev pub text_of : Claims → List ℕ
-text_of c = spelled (lines_of c) []
-
--- the octets are the certificate's
+-- the octets are the certificate's: its lines and nothing after
 pub record SpellsCertificate (text : List ℕ) (c : Claims) : Type 0 where
   pub claims : IsClaims c
-  pub is : text ≡ text_of c
+  pub lines : List (List ℕ)
+  pub are : AreLines c lines
+  pub is : text ≡ spelled lines []
 
 -- the octets begin with the first n lines, whole, of some certificate
 pub record BeginsWell (text : List ℕ) (n : ℕ) : Type 0 where
   pub c : Claims
   pub rest : List ℕ
   pub claims : IsClaims c
-  pub within : n ≤ length (lines_of c)
-  pub is : text ≡ spelled (take n (lines_of c)) rest
+  pub lines : List (List ℕ)
+  pub are : AreLines c lines
+  pub within : n ≤ length lines
+  pub is : text ≡ spelled (take n lines) rest
 
 -- line n, counted from 1, is the first that is wrong or missing; what follows the last line is one more line
 pub record FirstWrong (text : List ℕ) (n : ℕ) : Type 0 where
@@ -99,10 +120,12 @@ IsSeriesAt confirmed place series = slice_get confirmed.series (place - 1) ≡ S
 -- what an entry says of series i and j holds; where they are one, of any two of its instances
 abbrev pub EntryHolds : Confirmed → ℕ → ℕ → Entry → Type 0
 EntryHolds confirmed i j End = (a b : Event) → IsSeriesAt confirmed i a → IsSeriesAt confirmed j b → AreClear (IsInstance a) (IsInstance b)
+EntryHolds confirmed i j (Span from days) = (a b : Event) → IsSeriesAt confirmed i a → IsSeriesAt confirmed j b → SpanHolds a b from days
 
--- it doesn't: there are two that clash
+-- it doesn't: there are two that clash, or it is no span of them
 abbrev pub EntryFails : Confirmed → ℕ → ℕ → Entry → Type 0
 EntryFails confirmed i j End = (a : Event) × (b : Event) × IsSeriesAt confirmed i a × IsSeriesAt confirmed j b × HasClash (IsInstance a) (IsInstance b)
+EntryFails confirmed i j (Span from days) = (a : Event) × (b : Event) × IsSeriesAt confirmed i a × IsSeriesAt confirmed j b × SpanFails a b from days
 
 -- the entries of all pairs hold
 abbrev pub EntriesHold : Confirmed → Claims → Type 0
@@ -116,6 +139,26 @@ pub record CertificateHoldsFor (confirmed : Confirmed) (text : List ℕ) : Type 
   pub counts : HasCounts confirmed c
   pub entries : EntriesHold confirmed c
   pub singles : AreClear (Contains confirmed.singles) (IsOneOf confirmed)
+
+-- ---- which certificate is made
+
+-- the span that is written for two series: from the first 00:00:00Z on that it may, after the least number of days
+pub record IsLeastSpan (a b : Event) (from : ℤ) (days : ℕ) : Type 0 where
+  pub span : IsSpan a b from days
+  pub midnight : (n : ℕ) × (from ≡ pos (86_400 * n))
+  pub first : (n : ℕ) → IsPastAll a (pos (86_400 * n)) → IsPastAll b (pos (86_400 * n)) → from ≤ℤ pos (86_400 * n)
+  pub least : (n : ℕ) → 0 < n → IsPeriodOf a n → IsPeriodOf b n → days ≤ n
+
+-- SPAN where its bound is before the horizon, else END
+abbrev pub IsEntryMade : Event → Event → Entry → Type 0
+IsEntryMade a b (Span from days) = IsLeastSpan a b from days × ((bound : ℤ) → IsBoundOf a b from days bound → bound <ℤ horizon)
+IsEntryMade a b End = (from : ℤ) (days : ℕ) (bound : ℤ) → IsLeastSpan a b from days → IsBoundOf a b from days bound → horizon ≤ℤ bound
+
+-- the one that is made for what is confirmed
+pub record IsCertificateMade (confirmed : Confirmed) (c : Claims) : Type 0 where
+  pub claims : IsClaims c
+  pub counts : HasCounts confirmed c
+  pub entries : (i j : ℕ) → IsPair c.series i j → (a b : Event) → IsSeriesAt confirmed i a → IsSeriesAt confirmed j b → IsEntryMade a b (entry_of c i j)
 
 -- ---- why it doesn't
 

@@ -5,11 +5,13 @@ use Rattle.std.specs.List.{flat_map, AllZip, slice_get}
 use Rattle.std.specs.Str.{bytes_eq}
 use Rattle.profile.specs.text.Lines.{written}
 use Rattle.profile.specs.text.Values.{WritesStamp, escaped}
-use Rattle.profile.specs.checker.Certificates.{text_of}
+use Rattle.profile.specs.checker.Calendars.{SpellsCalendar}
+use Rattle.profile.specs.checker.Certificates.{Claims, IsCertificateMade, SpellsCertificate}
+use Rattle.profile.specs.events.Confirmed.{Confirmed}
 use Rattle.profile.specs.rooms.Revisions.{Part, Slot, At, in_view, is_whole, same_meeting, slot_cmp}
 use Rattle.std.specs.declared.cmp.Ordering.TheVariants.{Less}
 use Rattle.profile.specs.rooms.Messages.{IsReplyEvent, IsRefreshEvent, TellsSlot, zone_text, object_lines, opening_lines}
-use Rattle.profile.specs.rooms.Rooms.{Claim, PartAnswer, Book, confirmed_singles, confirmed_series, is_confirmed, shown, wants_whole, answers_part}
+use Rattle.profile.specs.rooms.Rooms.{Claim, PartAnswer, Book, is_confirmed, shown, wants_whole, answers_part}
 
 -- ---- replies
 
@@ -167,6 +169,10 @@ pub record IsKeptCalendar (room : List ℕ) (book : Book) (octets : List ℕ) : 
   pub each : AllZip (IsKeptEvent room (zones_kept entries)) entries events
   pub is : octets ≡ written (opening_lines None) ++ zone_texts 0 (zones_kept entries) ++ written (flat_map (λ lines. lines) events ++ codes "END:VCALENDAR" ∷ [])
 
--- the certificate for it: its counts, and an entry for each pair of series
-abbrev pub kept_certificate : Book → List ℕ
-kept_certificate book = text_of (record { singles = length (confirmed_singles book); series = length (confirmed_series book) })
+-- the certificate for it: the one that is made for what the calendar spells
+pub record IsKeptCertificate (room calendar certificate : List ℕ) : Type 0 where
+  pub confirmed : Confirmed
+  pub spells : SpellsCalendar room calendar confirmed
+  pub c : Claims
+  pub made : IsCertificateMade confirmed c
+  pub text : SpellsCertificate certificate c
