@@ -36,6 +36,17 @@ pub record IsPeriodOf (series : Event) (days : ℕ) : Type 0 where
   pub rule : (rule : Rule) → master.rule ≡ Some rule → IsRulePeriod rule days
   pub zone : IsZonePeriod (clock_of master.times.zone) days
 
+-- the least such number
+pub record IsLeastPeriodOf (series : Event) (days : ℕ) : Type 0 where
+  pub some : 0 < days
+  pub most : days ≤ most_period
+  pub is : IsPeriodOf series days
+  pub least : (n : ℕ) → 0 < n → IsPeriodOf series n → days ≤ n
+
+-- every such number is past the most
+abbrev pub HasNoPeriodOf : Event → Type 0
+HasNoPeriodOf series = (n : ℕ) → 0 < n → IsPeriodOf series n → most_period < n
+
 -- ---- from which instant on
 
 -- an onset is more than half a day before an instant
