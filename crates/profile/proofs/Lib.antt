@@ -6,6 +6,7 @@ mod ZoneTextExamples
 mod WrittenZoneExamples
 mod EventRuleExamples
 mod OccurrenceExamples
+mod SpanExamples
 mod StartExamples
 mod ConfirmedExamples
 mod OrganiserExamples
