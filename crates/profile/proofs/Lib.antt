@@ -14,3 +14,4 @@ pub mod Repeats
 pub mod ZoneRepeats
 pub mod SeriesRepeats
 pub mod PairRepeats
+pub mod MadeCertificates
