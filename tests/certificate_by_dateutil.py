@@ -343,6 +343,76 @@ class Calendar:
         """How many instances the checker makes for the certificate that is made, or for one whose entries all say END."""
         return sum(self.starts_below(i, j, HORIZON if ends else self.entry(i, j)[1]) for i, j in self.pairs()) + self.beside()
 
+    def spans_below(self, i, bound):
+        return ((start, self.series[i].event.end(start)) for start in self.series[i].starts(bound))
+
+    def fails(self, i, j, entry):
+        """Whether the entry of a pair doesn't hold, and how many instances are drawn for that, start by start."""
+        words, bound = entry.split(), HORIZON
+        if words[0] == "SPAN":
+            start, days, a, b = moment(words[1]), int(words[2]), self.series[i], self.series[j]
+            periods = a.event.period(), b.event.period()
+            if not 1 <= days <= MOST or None in periods or days % lcm(*periods) or start < max(a.past(), b.past()):
+                return True, 0
+            bound = start + days * DAY + max(a.event.width(), b.event.width())
+        walks = [Walk(self.spans_below(it, bound)) for it in dict.fromkeys((i, j))]
+        while any(walk.next for walk in walks):
+            walk = min((it for it in walks if it.next), key=lambda it: it.next[0])
+            others = [it for it in walks if it is not walk] or walks
+            if any(it.meets(walk.next) for it in others):
+                return True, sum(it.drawn for it in walks)
+            walk.go()
+        return False, sum(it.drawn for it in walks)
+
+    def clashes_with_singles(self):
+        """Whether a single clashes, and how many instances are drawn for that: first each single, then for each the series one after another."""
+        drawn, last = len(self.singles), None
+        for start, end in sorted(self.singles):
+            if end > start and start < HORIZON:
+                if last is not None and start < last:
+                    return True, drawn
+                last = end
+        for start, end in self.singles:
+            for series in self.series:
+                width = series.event.width()
+                if end <= start or width == 0:
+                    continue
+                for it in series.starts(end):
+                    if it <= start - width:
+                        continue
+                    drawn += 1
+                    if max(it, start) < min(series.event.end(it), end, HORIZON):
+                        return True, drawn
+        return False, drawn
+
+    def judged(self, text):
+        """What the checker says of a certificate's text, which is one, with this calendar's counts: yes, or no with its number and pair; and how many it makes."""
+        entries, drawn = iter(text.splitlines()[3:-1]), 0
+        for i, j in self.pairs():
+            failed, more = self.fails(i, j, next(entries).split(" ", 3)[3])
+            drawn += more
+            if failed:
+                return f"no 83 {i + 1} {j + 1}, {drawn} made"
+        failed, more = self.clashes_with_singles()
+        return f"no 84 0 0, {drawn + more} made" if failed else f"yes, {drawn + more} made"
+
+
+class Walk:
+    """Through spans by their starts: the one that comes next, which is drawn, and the latest end of those behind."""
+
+    def __init__(self, spans):
+        self.spans, self.drawn, self.end, self.next = spans, 0, None, None
+        self.go()
+
+    def go(self):
+        if self.next:
+            self.end = max(self.next[1], self.end or self.next[1])
+        self.next = next(self.spans, None)
+        self.drawn += self.next is not None
+
+    def meets(self, other):
+        return self.end is not None and other[0] < other[1] and other[0] < self.end
+
 
 # ---- rooms of random series
 
