@@ -24,10 +24,12 @@ invariant_of-result c =
     record {
       ruled = (
         ap is_some master,
-        ((λ other is.
-        let e : m ≡ other = same_Some m other (sym master ∙ is) in
-        (subst (λ (x : EventComponent). is_some x.rule ≡ true) e c.requires.rule, subst (λ (x : EventComponent). length x.additions.items ≡ 0) e (ap length c.requires.none_added))),
-        ap length none),
+        (
+          (λ other is.
+              let e : m ≡ other = same_Some m other (sym master ∙ is) in
+              (subst (λ (x : EventComponent). is_some x.rule ≡ true) e c.requires.rule, subst (λ (x : EventComponent). length x.additions.items ≡ 0) e (ap length c.requires.none_added))),
+          ap length none,
+        ),
       );
       said = series_is_said (said_meeting event) (component_of m) same c.requires.rule c.requires.none_added m.said;
       past = rw cast (kept_past (said_meeting event) (component_of m) from same least);
