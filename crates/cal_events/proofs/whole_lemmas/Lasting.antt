@@ -1,6 +1,6 @@
 -- How long the instances of a series last.
 -- Cited by instances_last, Series::width of series.
-use Rattle.std.proofs.Common.{◌≡◌, ◌∙◌, ℕ, ◌*◌, Bool, List, codes, ap, subst, sym, inl, inr, ◌⊎◌, arith, rules, ℤ, pos, ◌+ℤ◌, ◌-ℤ◌, ◌≤ℤ◌}
+use Rattle.std.proofs.Common.{◌≡◌, ◌∙◌, ℕ, ◌*◌, Bool, List, codes, ap, subst, sym, inl, inr, arith, rules, ℤ, pos, ◌+ℤ◌, ◌-ℤ◌, ◌≤ℤ◌}
 use Rattle.std.specs.Prelude.{Option, Some, None}
 use Rattle.std.proofs.Math.Logic.{∥∥₁_map}
 use Rattle.std.proofs.lemmas.Grind.{not_there}
@@ -20,7 +20,7 @@ use Rattle.std.proofs.lemmas.Option.{same_Some}
 use Rattle.cal_events.specs.Clocks.{IsSteady}
 use Rattle.cal_events.specs.Overlapping.{LastAtMost}
 use Rattle.cal_events.proofs.shared_lemmas.OneInstance.{event_sound, ends_after}
-use Rattle.cal_events.proofs.shared_lemmas.OwnSingles.{of_master, at_start}
+use Rattle.cal_events.proofs.shared_lemmas.OwnSingles.{at_start}
 use Rattle.cal_events.proofs.shared_lemmas.Overlaps.{lasts, lasts_so_long}
 
 -- no instance with these times lasts longer than their width
