@@ -1,6 +1,6 @@
 //! Zones: which offset their clocks keep at each instant, and what a local time means.
 
-ghost use Rattle.std.specs.Prelude.{ℕ, ◌<◌, ◌≤◌, ◌+ℤ◌};
+ghost use Rattle.std.specs.Prelude.{◌≡◌, ℕ, ◌<◌, ◌≤◌, None, unsigned_abs, ◌+ℤ◌, ◌-ℤ◌};
 ghost use Rattle.std.specs.Int.Signed.{◌<ℤ◌};
 ghost use Rattle.profile.specs.text.Values.{IsOffset};
 ghost use Rattle.profile.specs.series.Zones.{local_time};
@@ -23,13 +23,21 @@ pub struct Fixed {
     ghost range: { IsOffset offset },
 }
 
+/// One observance that begins once.
+#[derive(Clone, Copy)]
+pub struct Once {
+    pub(crate) observance: Observance,
+    ghost unruled: { observance.rule ≡ None },
+    ghost near: { unsigned_abs (observance.offset_from -ℤ observance.offset_to) ≤ 43_200 },
+}
+
 /// What a zone is made of.
 #[derive(Clone, Copy)]
 pub enum Form {
     /// One offset for all time.
     Constant(Fixed),
     /// One observance.
-    Single(Observance),
+    Single(Once),
     /// STANDARD and DAYLIGHT.
     Pair(Pair),
 }
@@ -90,7 +98,7 @@ impl Zone {
             return Err(Refusal::ZONE_OFFSETS);
         }
         Ok(Zone {
-            kind: Form::Single(observance),
+            kind: Form::Single(Once { observance }),
         })
     }
 
@@ -140,7 +148,7 @@ impl Zone {
     {
         match &self.kind {
             Form::Constant(fixed) => fixed.offset,
-            Form::Single(observance) => observance.offset(instant),
+            Form::Single(once) => once.observance.offset(instant),
             Form::Pair(pair) => pair.offset(instant),
         }
     }
@@ -162,7 +170,7 @@ impl Zone {
     {
         match &self.kind {
             Form::Constant(fixed) => (fixed.offset, fixed.offset),
-            Form::Single(observance) => observance.offsets(),
+            Form::Single(once) => once.observance.offsets(),
             Form::Pair(pair) => pair.standard.offsets(),
         }
     }
@@ -174,7 +182,7 @@ impl Zone {
     {
         match &self.kind {
             Form::Constant(_) => (None, None),
-            Form::Single(observance) => (Some(observance.first_onset()), None),
+            Form::Single(once) => (Some(once.observance.first_onset()), None),
             Form::Pair(pair) => (
                 Some(pair.standard.first_onset()),
                 Some(pair.daylight.first_onset()),
@@ -188,7 +196,7 @@ impl Zone {
     {
         match &self.kind {
             Form::Constant(_) => i64::MAX,
-            Form::Single(observance) => observance.quiet_until(instant),
+            Form::Single(once) => once.observance.quiet_until(instant),
             Form::Pair(pair) => pair.quiet_until(instant),
         }
     }
