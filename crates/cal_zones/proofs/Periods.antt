@@ -2,6 +2,7 @@
 use Rattle.std.proofs.Common.{◌≡◌, ◌∙◌, sym, subst, ap, refl, arith, inl, inr, ◌⊎◌, ℕ, zero, suc, ◌+◌, ◌*◌, ◌≤◌, ◌<◌, Option, Some, None, Bool, true, false, ℤ, pos, negsuc, ◌+ℤ◌, ◌-ℤ◌, ◌≤ℤ◌, ◌<ℤ◌, unsigned_abs, true≢false}
 use Rattle.std.proofs.lemmas.Int.{ints, by_lt_z}
 use Rattle.std.specs.Prelude.{IfSome}
+use Rattle.std.specs.Int.{int_max}
 use Rattle.std.specs.List.{list_all}
 use Rattle.profile.specs.text.Values.{IsOffset}
 use Rattle.profile.specs.series.Days.{Yearly}
@@ -14,7 +15,7 @@ use Rattle.profile.proofs.ZoneRepeats.{int_same, means_later, means_earlier, ons
 use Rattle.profile.proofs.PairRepeats as both
 use Rattle.cal_zones.specs.Kinds.{IsOrdered}
 use Rattle.cal_zones.proofs.Zones.{AreSides, sides_of}
-use Rattle.cal_zones.specs.Repeats.{IsRegular, HasOffsets, IsEachYear, later_by, ZoneRepeats, AreOffsetsOf}
+use Rattle.cal_zones.specs.Repeats.{IsBegunFrom, IsRegularFrom, IsRegular, HasOffsets, IsEachYear, later_by, ZoneRepeats, AreOffsetsOf}
 
 -- ---- so many cycles later
 
@@ -199,3 +200,34 @@ bounds (Single a) (offsets, unruled, matched) =
 bounds (Pair a b) (offsets, ea, eb, matched) =
     let o = ordered a.offset_from a.offset_to matched.2 offsets.0 offsets.1 in
     (o.0, o.1, within (Pair a b) o.0 o.1 (sides_of (Pair a b) o.0 o.1 (o.2, matched.0, matched.1)) o.3 o.4 o.5)
+
+-- ---- from which instant on
+
+first_is_one : (o : Observance) (x y : ℤ) → IsFirstOf o x → IsFirstOf o y → x ≡ y
+first_is_one o x y f g =
+    let m = f.least (onset_at o y) g.listed in
+    let n = g.least (onset_at o x) f.listed in
+    int_same (omega (arith, ints, m)) (omega (arith, ints, n))
+
+pub begun_from : (o : Observance) (first from : ℤ) → IsFirstOf o first → from ≡ first +ℤ pos 43_201 → IsBegunFrom o from
+begun_from o first from is e t =
+    (λ l. (first, is, omega (arith, ints, l, e)), λ (other, also, past). let same = first_is_one o first other is also in omega (arith, ints, e, past, same))
+
+pub single_begun : (a : Observance) (from : ℤ) → IsBegunFrom a from → IsRegularFrom (Single a) from
+single_begun a from begun t =
+    (λ l. let f = (begun t).0 l in (Some f.0, None, (f.0, f.1, refl {a = Some f.0}, refl), f.2, tt),
+    λ (x, y, (first, is, e, f), p, q). (begun t).1 (first, is, subst (λ o. IfSome o (IsHalfDayPast t)) e p))
+
+pub both_begun : (a b : Observance) (x y from : ℤ) → IsBegunFrom a x → IsBegunFrom b y → from ≡ int_max x y → IsRegularFrom (Pair a b) from
+both_begun a b x y from first second e t =
+    (λ l. let f = (first t).0 (grind (arith, ints, l, e)) in let g = (second t).0 (grind (arith, ints, l, e)) in
+    (Some f.0, Some g.0, (f.0, g.0, f.1, g.1, refl {a = Some f.0}, refl {a = Some g.0}), f.2, g.2),
+    λ (u, v, (fa, fb, is, also, p, q), h, k).
+        let m = (first t).1 (fa, is, subst (λ o. IfSome o (IsHalfDayPast t)) p h) in
+        let n = (second t).1 (fb, also, subst (λ o. IfSome o (IsHalfDayPast t)) q k) in
+        grind (arith, ints, m, n, e))
+
+pub past_from : (z : Zone) (from : ℤ) → IsRegularFrom z from → IsPastOnsets z from
+past_from (Constant k) from is = (None, None, (refl, refl), tt, tt)
+past_from (Single a) from is = (is from).0 (omega (arith, ints))
+past_from (Pair a b) from is = (is from).0 (omega (arith, ints))

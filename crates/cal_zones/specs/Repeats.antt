@@ -1,7 +1,8 @@
 -- What the clocks of a zone do again after each of its periods, once all its onsets are past that come once.
-use Rattle.std.specs.Prelude.{◌≡◌, ℕ, ◌*◌, Some, None, ℤ, pos, negsuc, ◌+ℤ◌, ◌-ℤ◌, ◌≤ℤ◌}
+use Rattle.std.specs.Prelude.{◌≡◌, ◌↔◌, ℕ, ◌*◌, ◌<◌, ◌≤◌, Some, None, ℤ, pos, negsuc, ◌+ℤ◌, ◌-ℤ◌, ◌≤ℤ◌}
 use Rattle.profile.specs.text.Values.{IsOffset}
-use Rattle.profile.specs.series.Zones.{Zone, Constant, Single, Pair, Observance, Onset, IsZoneOnset, IsOffsetAt, Means}
+use Rattle.profile.specs.events.Spans.{IsHalfDayPast, IsPastOnsets, IsZonePeriod}
+use Rattle.profile.specs.series.Zones.{IsFirstOf, Zone, Constant, Single, Pair, Observance, Onset, IsZoneOnset, IsOffsetAt, Means}
 use Rattle.profile.specs.series.ZoneTexts.{YearRule, AreMatched, year_pattern}
 
 -- both offsets of an observance are less than a day
@@ -39,3 +40,19 @@ pub record AreOffsetsOf (z : Zone) (least greatest : ℤ) : Type 0 where
   pub close : greatest ≤ℤ (least +ℤ pos 43_200)
   pub low : negsuc 86_398 ≤ℤ least
   pub high : greatest ≤ℤ pos 86_399
+
+-- an observance began more than half a day before each instant from this one on, and before no other
+abbrev pub IsBegunFrom : Observance → ℤ → Type 0
+IsBegunFrom o from = (t : ℤ) → (from ≤ℤ t) ↔ ((first : ℤ) × IsFirstOf o first × IsHalfDayPast t first)
+
+-- the instants that are past its onsets are those from this one on; 0 where there are no onsets
+abbrev pub IsRegularFrom : Zone → ℤ → Type 0
+IsRegularFrom (Constant k) from = from ≡ pos 0
+IsRegularFrom (Single a) from = (t : ℤ) → (from ≤ℤ t) ↔ IsPastOnsets (Single a) t
+IsRegularFrom (Pair a b) from = (t : ℤ) → (from ≤ℤ t) ↔ IsPastOnsets (Pair a b) t
+
+-- the least number of days after which a zone does the same
+pub record IsLeastZonePeriod (z : Zone) (days : ℕ) : Type 0 where
+  pub some : 0 < days
+  pub is : IsZonePeriod z days
+  pub least : (n : ℕ) → 0 < n → IsZonePeriod z n → days ≤ n

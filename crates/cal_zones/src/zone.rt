@@ -57,6 +57,8 @@ impl Zone {
     ghost use Rattle.cal_zones.specs.Onsets.{observance_of};
     ghost use Rattle.cal_zones.specs.Kinds.{zone_of, pair_of, AreEnds};
     ghost use Rattle.cal_zones.specs.Spans.{AreNoneBetween};
+    ghost use Rattle.cal_zones.specs.Repeats.{IsRegularFrom, IsLeastZonePeriod};
+    ghost use Rattle.profile.specs.events.Spans.{IsPastOnsets};
     ghost use Rattle.ical_lines.specs.Fault.{RefusesBy};
     ghost use Rattle.ical_tree.specs.Tree.{tree_of};
     ghost use Rattle.profile.specs.written.WrittenZones.{IsZoneText};
@@ -187,6 +189,31 @@ impl Zone {
                 Some(pair.standard.first_onset()),
                 Some(pair.daylight.first_onset()),
             ),
+        }
+    }
+
+    /// The first instant that is more than half a day past the first onset of each observance: from then on nothing is left of an onset that comes
+    /// only once. 0 for a zone without onsets, which never changes.
+    pub fn regular_from(&self) -> i64
+        ensures past { IsPastOnsets (zone_of self.now) result }
+        ensures exact { IsRegularFrom (zone_of self.now) result }
+    {
+        match &self.kind {
+            Form::Constant(_) => 0,
+            Form::Single(once) => once.observance.begun_from(),
+            Form::Pair(pair) => pair.standard.begun_from().max(pair.daylight.begun_from()),
+        }
+    }
+
+    /// After how many days its clocks do the same again, from `regular_from` on: 146,097 where two observances follow each other, which are 400
+    /// years, else 1.
+    pub fn period_days(&self) -> u64
+        ensures { IsLeastZonePeriod (zone_of self.now) result }
+    {
+        match &self.kind {
+            Form::Constant(_) => 1,
+            Form::Single(_) => 1,
+            Form::Pair(_) => 146_097,
         }
     }
 
