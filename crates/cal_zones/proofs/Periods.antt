@@ -1,21 +1,20 @@
 -- A regular zone does the same again after each of its periods.
-use Rattle.std.proofs.Common.{◌≡◌, ◌∙◌, sym, subst, ap, refl, arith, inl, inr, ◌⊎◌, ℕ, zero, suc, ◌+◌, ◌*◌, ◌≤◌, ◌<◌, Option, Some, None, Bool, true, false, ℤ, pos, negsuc, ◌+ℤ◌, ◌-ℤ◌, ◌≤ℤ◌, ◌<ℤ◌, unsigned_abs, true≢false}
+use Rattle.std.proofs.Common.{◌≡◌, sym, subst, refl, arith, inl, inr, ℕ, zero, suc, ◌+◌, ◌*◌, ◌≤◌, ◌<◌, Some, None, true, false, ℤ, pos, ◌+ℤ◌, ◌-ℤ◌, ◌≤ℤ◌, unsigned_abs, true≢false}
 use Rattle.std.proofs.lemmas.Int.{ints, by_lt_z}
 use Rattle.std.specs.Prelude.{IfSome}
 use Rattle.std.specs.Int.{int_max}
 use Rattle.std.specs.List.{list_all}
 use Rattle.profile.specs.text.Values.{IsOffset}
-use Rattle.profile.specs.series.Days.{Yearly}
 use Rattle.profile.specs.series.Rules.{Pattern, is_base, is_long, is_plain}
 use Rattle.profile.specs.series.Periods.{IsShift, IsMultiple}
-use Rattle.profile.specs.series.Zones.{Observance, Zone, Constant, Single, Pair, Onset, IsOnset, IsZoneOnset, onset_at, IsFirstOf, IsOffsetAt, Means, AreFirstOnsets}
+use Rattle.profile.specs.series.Zones.{Observance, Zone, Constant, Single, Pair, Onset, IsZoneOnset, onset_at, IsFirstOf, IsOffsetAt, Means}
 use Rattle.profile.specs.series.ZoneTexts.{YearRule, AreMatched, year_pattern}
 use Rattle.profile.specs.events.Spans.{IsHalfDayPast, IsPastOnsets, IsZonePeriod}
 use Rattle.profile.proofs.ZoneRepeats.{int_same, means_later, means_earlier, onset_later, cycle}
 use Rattle.profile.proofs.PairRepeats as both
 use Rattle.cal_zones.specs.Kinds.{IsOrdered}
 use Rattle.cal_zones.proofs.Zones.{AreSides, sides_of}
-use Rattle.cal_zones.specs.Repeats.{IsBegunFrom, IsRegularFrom, IsRegular, HasOffsets, IsEachYear, later_by, ZoneRepeats, AreOffsetsOf}
+use Rattle.cal_zones.specs.Repeats.{IsBegunFrom, IsRegularFrom, IsRegular, IsEachYear, ZoneRepeats, AreOffsetsOf}
 
 -- ---- so many cycles later
 

@@ -1,13 +1,12 @@
 -- Which zones are regular: those that are said, and those that are kept.
-use Rattle.std.proofs.Common.{◌≡◌, ◌∙◌, sym, ap, subst, refl, arith, inl, inr, ◌⊎◌, ℕ, zero, ◌≤◌, ◌<◌, Option, Some, None, Bool, true, List, ◌∷◌, [], ℤ, pos, negsuc, neg_ℤ, unsigned_abs, ◌-ℤ◌}
+use Rattle.std.proofs.Common.{◌≡◌, ap, subst, refl, arith, inl, inr, ℕ, ◌<◌, Option, Some, None, true, List, ℤ}
 use Rattle.std.proofs.lemmas.Int.{ints}
-use Rattle.std.specs.Prelude.{min, Contains, codes}
 use Rattle.profile.specs.text.Trees.{Tree}
 use Rattle.profile.specs.text.Values.{IsOffset, SpellsTime, SpellsSize, SpellsOffset}
 use Rattle.profile.specs.text.Lines.{line_value}
 use Rattle.profile.specs.events.Properties.{Says, BothOrNeither}
-use Rattle.profile.specs.series.Zones.{Observance, Zone, Constant, Single, Pair}
-use Rattle.profile.specs.series.ZoneTexts.{SaysZone, SaysPartTimes, HasForm, KeepsOffset, AreMatched, IsOffsetLine, constant, single, pair}
+use Rattle.profile.specs.series.Zones.{Observance, Zone}
+use Rattle.profile.specs.series.ZoneTexts.{SaysZone, SaysPartTimes, HasForm, AreMatched, IsOffsetLine, constant, single, pair}
 use Rattle.cal_zones.specs.Onsets.{observance_of, yearly_rule}
 use Rattle.cal_zones.specs.Shapes.{rule_named}
 use Rattle.cal_zones.specs.Kinds.{zone_of, zone_of_form}

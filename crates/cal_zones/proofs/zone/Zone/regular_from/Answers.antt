@@ -1,7 +1,6 @@
 use Rattle.std.proofs.Common.{◌≡◌, ◌∙◌, sym, subst, arith, to_z, of_z, w64}
 use Rattle.std.proofs.lemmas.Int.{ints}
 use Rattle.profile.specs.series.Zones.{Single}
-use Rattle.profile.specs.events.Spans.{IsPastOnsets}
 use Rattle.cal_zones.specs.Onsets.{observance_of}
 use Rattle.cal_zones.specs.Kinds.{pair_of}
 use Rattle.cal_zones.specs.Repeats.{IsRegularFrom}
