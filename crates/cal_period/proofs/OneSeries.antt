@@ -1,4 +1,4 @@
--- The sweep through one series.
+-- The search through one series.
 use Rattle.std.proofs.Common.{◌≡◌, ◌∙◌, ap, sym, subst, inl, inr, arith, ℤ, ◌<ℤ◌, ◌≤ℤ◌}
 use Rattle.std.specs.Prelude.{Some, ◌≢◌}
 use Rattle.std.proofs.lemmas.Int.{ints}
@@ -7,8 +7,8 @@ use Rattle.profile.specs.events.Events.{Event}
 use Rattle.cal_events.specs.Calendar.{instance_of}
 use Rattle.cal_events.specs.declared.instance.Instance.{Instance}
 use Rattle.cal_events.specs.declared.instances.Instances.{Instances}
-use Rattle.cal_period.specs.Clear.{IsSeriesClear, AreTwo}
-use Rattle.cal_period.specs.Walks.{walk_place, IsBehind, IsWalkOf, BeginsWalk, GoesPast, MeetsInstance, MeetsNone}
+use Rattle.cal_period.specs.Clear.{IsClearBelow, AreTwo}
+use Rattle.cal_period.specs.Walks.{walk_place, IsNoneBelow, IsBehind, IsWalkOf, BeginsWalk, GoesPast, MeetsInstance, MeetsNone}
 use Rattle.cal_period.specs.declared.walk.Walk.{Walk}
 use Rattle.cal_period.proofs.Sweeping.{Share, turned, meets_none, met_behind, met_start, next_is, all_behind}
 
@@ -21,8 +21,8 @@ pub alone_first : (series : Event) (left : Instances) (walk : Walk) → BeginsWa
 alone_first series left walk b = record { is_walk = b.is_walk; clear = λ x y h k differ s. b.none x h }
 
 module _ (series : Event) (left : Instances) (walk : Walk) (at : IsAloneAt series left walk) where
-  pub alone_end : horizon ≤ℤ walk_place walk.next → IsSeriesClear series
-  alone_end far = λ x y h k differ s. at.clear x y (all_behind series left walk.next at.is_walk.ahead far x h) (all_behind series left walk.next at.is_walk.ahead far y k) differ s
+  pub alone_end : (bound : ℤ) → IsNoneBelow bound walk.next → IsClearBelow series bound
+  alone_end bound none = λ x y h k l m differ s. at.clear x y (all_behind series left walk.next bound at.is_walk.ahead none x h l) (all_behind series left walk.next bound at.is_walk.ahead none y k m) differ s
 
   module _ (next : Instance) (is : walk.next ≡ Some next) where
     pub alone_found : (last : Instance) → MeetsInstance walk.last next last → AreTwo series (instance_of last) (instance_of next)
