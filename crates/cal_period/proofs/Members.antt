@@ -48,10 +48,11 @@ module _ (r : Rule) (down : RulesDown) (up : RulesUp) (week : r.pattern.week_sta
       elim (cases_Bool (has_end r)) [
         | inl ended ↦ let p = regular.last ended day is in absurd (omega (arith, ints, p, l, e))
         | inr endless ↦
-            let y = regular.year endless in
-            (day + days,
-            up r days day (period endless) week plain (count endless) (omega (arith, ints, y, l, e)) (omega (arith, ints, e, until)) (omega (arith, ints, e, last)) is,
-            int_same (omega (arith, ints, e)) (omega (arith, ints, e)))
+            let y = regular.year endless in (
+              day + days,
+              up r days day (period endless) week plain (count endless) (omega (arith, ints, y, l, e)) (omega (arith, ints, e, until)) (omega (arith, ints, e, last)) is,
+              int_same (omega (arith, ints, e)) (omega (arith, ints, e)),
+            )
       ]
 
   pub rule_recurs : DoesRecur (IsDayOfRule r) (IsRulePeriod r) (IsRuleRegular r) (IsListedDay r)
@@ -110,12 +111,12 @@ pub series_recurs : (a : Event) → ∥ IsSaidSeries a ∥₁ → ((from : ℤ) 
 series_recurs a said earlier later = record {
   earlier = λ from x days past period l is.
       ∥∥₁_map₂ said is (λ s (b, h, e).
-          let before = earlier from days s past period (x +ℤ pos (86_400 * days)) b.end (omega (arith, ints, l)) (b, h, e, refl) in
-          (before.0, before.1, before.2 ∙ int_same (omega (arith, ints)) (omega (arith, ints))));
+      let before = earlier from days s past period (x +ℤ pos (86_400 * days)) b.end (omega (arith, ints, l)) (b, h, e, refl) in
+      (before.0, before.1, before.2 ∙ int_same (omega (arith, ints)) (omega (arith, ints))));
   later = λ from x days past period l is listed.
       ∥∥₁_map₂ said is (λ s (b, h, e).
-          let after = later from days s past period x b.end l (b, h, e, refl) listed in
-          (after.0, after.1, after.2));
+      let after = later from days s past period x b.end l (b, h, e, refl) listed in
+      (after.0, after.1, after.2));
 }
 
 pub series_periods : (a : Event) (found : Option ℕ) → MatchOption found (HasNoPeriodOf a) (IsLeastPeriodOf a) → MatchOption found (HasNone (IsPeriodOf a)) (AreMultiples (IsPeriodOf a))

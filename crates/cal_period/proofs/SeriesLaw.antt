@@ -86,18 +86,18 @@ module _ (a : Event) (h : HasSaid a) where
   from_rule start end is = (
     record { key = key_at m start; start = start; end = end },
     subst (λ (x : Event). IsInstance x (record { key = key_at m start; start = start; end = end })) (sym h.is)
-    (inl (record {
-      master = m;
-      is = refl;
-      starts = record {
-        given = inl (subst (λ o. IsGiven m.times o start) (sym h.ruled) is.given);
-        in_dates = is.dated;
-        not_excepted = is.shown;
-        not_replaced = λ replaced. none_listed replaced.override replaced.among;
-      };
-      key = refl;
-      ends = is.lasts;
-    })),
+        (inl (record {
+          master = m;
+          is = refl;
+          starts = record {
+            given = inl (subst (λ o. IsGiven m.times o start) (sym h.ruled) is.given);
+            in_dates = is.dated;
+            not_excepted = is.shown;
+            not_replaced = λ replaced. none_listed replaced.override replaced.among;
+          };
+          key = refl;
+          ends = is.lasts;
+        })),
     refl,
     refl,
   )
@@ -200,8 +200,7 @@ module _ (a : Event) (h : HasSaid a) where
           let p0 = p.0 in
           let p1 = p.1 in
           let local : ((x +ℤ offset) +ℤ pos (86_400 * n)) +ℤ d ≡ ((x +ℤ d) +ℤ offset) +ℤ pos (86_400 * n) = int_same (omega (arith, ints)) (omega (arith, ints)) in
-          let there : Means z (((x +ℤ offset) +ℤ pos (86_400 * n)) +ℤ d) (later +ℤ d) = repeats.later ((x +ℤ offset) +ℤ pos (86_400 * n)) later (omega (arith, ints, l, b0, b1, close, p0, p1, many)) means in
-          (
+          let there : Means z (((x +ℤ offset) +ℤ pos (86_400 * n)) +ℤ d) (later +ℤ d) = repeats.later ((x +ℤ offset) +ℤ pos (86_400 * n)) later (omega (arith, ints, l, b0, b1, close, p0, p1, many)) means in (
             later +ℤ d,
             inr (many, (offset, repeats.offset_later x offset (omega (arith, ints, l)) at, subst (λ t. Means z t (later +ℤ d)) local there)),
             int_same (omega (arith, ints, e)) (omega (arith, ints, e)),
