@@ -1,12 +1,11 @@
 -- Rules, zones and series have their members a period later.
-use Rattle.std.proofs.Common.{◌≡◌, ◌∙◌, refl, sym, subst, ap, inl, inr, ◌⊎◌, arith, ℕ, ◌+◌, ◌-◌, ◌*◌, ◌<◌, ◌≤◌, Bool, ◌||◌, ◌&&◌, nat_le, nat_lt, max, true, false, ℤ, pos, ◌+ℤ◌, ◌-ℤ◌, ◌≤ℤ◌, ◌<ℤ◌, true≢false}
+use Rattle.std.proofs.Common.{◌≡◌, ◌∙◌, refl, sym, subst, ap, inl, inr, ◌⊎◌, arith, ℕ, ◌+◌, ◌-◌, ◌*◌, ◌<◌, ◌≤◌, ◌||◌, ◌&&◌, nat_le, nat_lt, max, true, false, ℤ, pos, ◌+ℤ◌, ◌≤ℤ◌, true≢false}
 use Rattle.std.proofs.lemmas.Int.{ints}
 use Rattle.std.proofs.lemmas.Bool.{cases_Bool, cases_lt, and_parts, leb-true, ltb-true}
 use Rattle.std.proofs.lemmas.Option.{none-some}
-use Rattle.std.proofs.Math.Logic.{∥∥₁_map, ∥∥₁_map₂}
+use Rattle.std.proofs.Math.Logic.{∥∥₁_map₂}
 use Rattle.std.specs.Prelude.{◌≢◌, Option, Some, None, is_some, MatchOption, IfSome}
 use Rattle.std.specs.List.{list_all}
-use Rattle.profile.specs.checker.Instances.{Instance}
 use Rattle.profile.specs.faults.Faults.{is_between}
 use Rattle.profile.specs.series.Rules.{Rule, RuleText, IsAllowed, is_in_range, is_count, is_place, is_entry, has_few_entries, is_long, is_plain, is_base, is_placed, is_counted, is_within_count, is_rule_day, last_rule_day}
 use Rattle.profile.specs.series.Periods.{IsPeriod, HasNoPeriod, IsLeastMultiple, HasNoMultiple, most_period}
@@ -14,8 +13,7 @@ use Rattle.profile.specs.series.Repeating.{RepeatsFrom}
 use Rattle.profile.specs.series.Zones.{Zone, Onset, IsZoneOnset, local_time}
 use Rattle.profile.specs.events.Events.{Event}
 use Rattle.profile.specs.events.Spans.{has_end, IsRulePeriod, IsZonePeriod, IsPastOnsets, IsSaidSeries, IsPastAll, IsPeriodOf, IsLeastPeriodOf, HasNoPeriodOf}
-use Rattle.profile.specs.events.Starts.{IsInstance}
-use Rattle.cal_zones.specs.Repeats.{IsRegular, ZoneRepeats, later_by}
+use Rattle.cal_zones.specs.Repeats.{ZoneRepeats, later_by}
 use Rattle.cal_period.specs.Recurring.{HasNone, AreMultiples, DoesRecur, HasNoCommon, IsLeastCommon}
 use Rattle.cal_period.specs.Members.{second_year, IsDayOfRule, IsListedDay, IsRuleRegular, IsRuleFrom, IsOnsetOf, Lasts, IsStartOf, IsListedStart, ComesAgainFrom}
 use Rattle.cal_period.proofs.Multiples.{series_are, ended_are, endless_are, endless_none}

@@ -1,24 +1,23 @@
 -- A series that is said does the same again after each of its periods.
-use Rattle.std.proofs.Common.{◌≡◌, ◌∙◌, refl, sym, subst, ap, inl, inr, ◌⊎◌, arith, ℕ, ◌+◌, ◌*◌, ◌<◌, ◌≤◌, true, false, List, [], ℤ, pos, negsuc, ◌+ℤ◌, ◌-ℤ◌, ◌≤ℤ◌, ◌<ℤ◌}
+use Rattle.std.proofs.Common.{◌≡◌, ◌∙◌, refl, sym, subst, ap, inl, inr, ◌⊎◌, arith, ℕ, ◌+◌, ◌*◌, ◌<◌, ◌≤◌, true, false, List, [], ℤ, pos, ◌+ℤ◌, ◌-ℤ◌, ◌≤ℤ◌, ◌<ℤ◌}
 use Rattle.std.proofs.lemmas.Int.{ints, by_lt_z}
 use Rattle.std.proofs.lemmas.Bool.{cases_Bool}
 use Rattle.std.proofs.lemmas.Option.{same_Some}
-use Rattle.std.specs.Prelude.{Option, None, Some, Contains}
+use Rattle.std.specs.Prelude.{None, Contains}
 use Rattle.std.specs.List.{list_all}
 use Rattle.profile.specs.text.Trees.{Tree}
 use Rattle.profile.specs.checker.Instances.{Instance, horizon}
 use Rattle.profile.specs.series.Periods.{IsShift}
 use Rattle.profile.specs.series.Repeating.{RepeatsFrom}
 use Rattle.profile.specs.series.Rules.{Rule, is_long, is_plain, is_rule_day, last_rule_day}
-use Rattle.profile.specs.series.Zones.{Zone, IsOffsetAt, Means, local_time}
+use Rattle.profile.specs.series.Zones.{Zone, Means, local_time}
 use Rattle.profile.specs.series.ZoneTexts.{SaysZone}
 use Rattle.profile.specs.events.Properties.{first_second}
 use Rattle.profile.specs.events.ZonedTimes.{EventTimes, clock_of}
-use Rattle.profile.specs.events.EventRules.{IsOnDay}
 use Rattle.profile.specs.events.EventComponents.{EventComponent}
 use Rattle.profile.specs.events.Events.{Event}
 use Rattle.profile.specs.events.Spans.{has_end, IsSaidSeries, IsPastAll, IsPastOnsets, IsPeriodOf, IsZonePeriod}
-use Rattle.profile.specs.events.Starts.{IsInstance, IsGiven, IsRuleStart, IsStart, IsReplaced, EndsAt, key_at}
+use Rattle.profile.specs.events.Starts.{IsInstance, IsGiven, IsRuleStart, IsStart, EndsAt, key_at}
 use Rattle.profile.proofs.SeriesRepeats as series
 use Rattle.cal_zones.specs.Repeats.{IsRegular, ZoneRepeats, AreOffsetsOf}
 use Rattle.cal_period.specs.Members.{Lasts, IsListedStart, IsOnListedDay, ComesAgainFrom}
