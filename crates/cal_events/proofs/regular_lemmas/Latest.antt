@@ -1,16 +1,15 @@
 -- The last start of a rule before year 10000 is on its last day, or on the last one before 9999-12-31.
 -- Cited by last_start of regular.
-use Rattle.std.proofs.Common.{◌≡◌, ◌∙◌, ℕ, ◌<◌, ◌≤◌, ◌*◌, false, true, refl, sym, ap, subst, inl, inr, ◌⊎◌, arith, ℤ, pos, ◌+ℤ◌, ◌≤ℤ◌, ◌<ℤ◌}
+use Rattle.std.proofs.Common.{◌≡◌, ◌∙◌, ℕ, ◌≤◌, sym, subst, inl, inr, arith, ℤ, ◌≤ℤ◌, ◌<ℤ◌}
 use Rattle.std.specs.Prelude.{Option, Some, None, MatchOption}
 use Rattle.std.proofs.lemmas.Bool.{cases_lt, cases_order, true≢false}
 use Rattle.std.proofs.lemmas.Int.{ints}
 use Rattle.profile.specs.checker.Instances.{horizon}
-use Rattle.profile.specs.series.Rules.{Rule, is_rule_day}
+use Rattle.profile.specs.series.Rules.{Rule}
 use Rattle.profile.specs.series.Zones.{Zone, IsOneMeaning, Means, local_time}
 use Rattle.profile.specs.events.ZonedTimes.{EventTimes, clock_of}
-use Rattle.profile.specs.events.EventRules.{IsOnDay}
 use Rattle.profile.specs.events.Starts.{IsRuleStart}
-use Rattle.cal_rules.specs.LastDays.{NoDayTo, IsLastDayTo}
+use Rattle.cal_rules.specs.LastDays.{NoDayTo}
 use Rattle.cal_events.specs.Clocks.{IsAscending}
 use Rattle.cal_events.specs.LastStarts.{HasNoStart, IsLastStart, IsLastStartTo}
 use Rattle.cal_events.proofs.shared_lemmas.InstanceLemmas.{last_of_rule, one_second}

@@ -1,7 +1,7 @@
 -- The least instant past some things, one after another.
 -- Cited by the functions of regular.
-use Rattle.std.proofs.Common.{◌≡◌, ◌∙◌, ℕ, ◌<◌, ◌≤◌, ◌+◌, Bool, true, false, List, [], ◌∷◌, ◌++◌, length, take, get_or, refl, sym, ap, subst, inl, inr, ◌⊎◌, arith, ℤ, pos, ◌+ℤ◌, ◌≤ℤ◌, ◌<ℤ◌, to_z, of_z, w64}
-use Rattle.std.specs.Prelude.{Option, Some, None, is_some, IfSome, Contains}
+use Rattle.std.proofs.Common.{◌≡◌, ◌∙◌, ℕ, ◌<◌, ◌≤◌, ◌+◌, true, false, List, [], ◌∷◌, ◌++◌, length, take, get_or, refl, sym, ap, subst, inl, inr, ◌⊎◌, arith, ℤ, pos, ◌+ℤ◌, ◌≤ℤ◌, ◌<ℤ◌, to_z, of_z, w64}
+use Rattle.std.specs.Prelude.{Option, Some, None, is_some, IfSome}
 use Rattle.std.specs.Int.{int_max}
 use Rattle.std.proofs.lemmas.Bool.{false≢true}
 use Rattle.std.proofs.lemmas.Option.{same_Some}
@@ -15,7 +15,7 @@ use Rattle.profile.specs.events.Properties.{first_second}
 use Rattle.profile.specs.events.ZonedTimes.{EventTimes, clock_of}
 use Rattle.profile.specs.events.EventComponents.{EventComponent as Said}
 use Rattle.profile.specs.events.Events.{Event}
-use Rattle.profile.specs.events.Spans.{has_end, IsHalfDayPast, IsPastOnsets, IsPastAll, IsLeastPast}
+use Rattle.profile.specs.events.Spans.{has_end, IsHalfDayPast, IsPastOnsets, IsLeastPast}
 use Rattle.profile.specs.events.Starts.{IsRuleStart}
 use Rattle.cal_zones.specs.Repeats.{IsRegularFrom}
 use Rattle.cal_events.specs.LastStarts.{HasNoStart, IsLastStart}
