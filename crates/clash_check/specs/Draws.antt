@@ -1,11 +1,11 @@
 -- What a calendar that hands out its instances one by one shows of itself.
 use Rattle.std.specs.Prelude.{◌≡◌, ℕ, ◌+◌, ◌*◌, ◌-◌, ◌^◌, ◌<◌, ◌≤◌, ℤ, pos, ◌+ℤ◌, ◌-ℤ◌, ◌≤ℤ◌, ◌<ℤ◌, Bool, if◌then◌else◌, min, Option, Some, is_some, Contains}
 use Rattle.std.specs.List.{slice_get}
-use Rattle.profile.specs.checker.Instances.{Instance}
+use Rattle.profile.specs.checker.Instances.{Instance, AreClear}
 use Rattle.profile.specs.events.Events.{Event}
 use Rattle.profile.specs.events.Starts.{IsInstance}
 use Rattle.profile.specs.events.Confirmed.{Confirmed}
-use Rattle.profile.specs.events.Spans.{IsWidthOf}
+use Rattle.profile.specs.events.Spans.{IsWidthOf, SpanHolds}
 use Rattle.cal_events.specs.Calendar.{HaveDifferentKeys, HaveOwnKeys}
 use Rattle.cal_events.specs.Series.{AreKnownByStart}
 
@@ -31,12 +31,15 @@ pub record LastsAbout (series : Event) (width : ℤ) : Type 0 where
   pub most : (b : Instance) → IsInstance series b → b.end ≤ℤ (b.start +ℤ width)
   pub least : (b : Instance) → IsInstance series b → width ≤ℤ ((b.end -ℤ b.start) +ℤ ((b.end -ℤ b.start) +ℤ (b.end -ℤ b.start)))
 
--- different instances have different keys, those of a series are known by their starts, and last about as long as its width says
+-- different instances have different keys; those of a series are known by their starts, last about as long as its width says, and are settled
+-- by a span that holds
 pub record IsDrawable (all : Confirmed) : Type 0 where
   pub keys : HaveDifferentKeys all.singles
   pub own : HaveOwnKeys all
   pub known : (series : Event) → Contains all.series series → AreKnownByStart series
   pub lengths : (series : Event) → Contains all.series series → (width : ℤ) → IsWidthOf series width → LastsAbout series width
+  pub settled : (series : Event) → Contains all.series series → (from : ℤ) (days : ℕ) → SpanHolds series series from days
+      → AreClear (IsInstance series) (IsInstance series)
 
 -- so many more are drawn, as far as 64 bits go
 abbrev pub drawn_more : ℕ → ℕ → ℕ
