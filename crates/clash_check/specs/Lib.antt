@@ -1,1 +1,4 @@
-pub mod Verdicts
+pub mod Draws
+pub mod Walks
+pub mod Counted
+pub mod Sweeps
