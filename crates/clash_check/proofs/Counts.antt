@@ -79,6 +79,10 @@ count_fewer t i (x ∷ xs) l (suc k, w, e) =
     let b = count_step t x xs in
     omega (arith, a, b)
 
+-- how many were drawn for a walk: those behind, and its next one
+abbrev pub drawn_for : ℤ → Option Span → List Instance → ℕ
+drawn_for bound next xs = before (walk_place bound next) xs + one_if next
+
 module _ (series : Event) (known : AreKnownByStart series) (bound : ℤ) where
   -- one that comes before another starts earlier
   earlier : (a b : Instance) → IsInstance series a → IsInstance series b → ComesBefore a b → a.start <ℤ b.start
@@ -110,10 +114,6 @@ module _ (series : Event) (known : AreKnownByStart series) (bound : ℤ) where
 
   -- ---- of a walk
 
-  -- how many were drawn for it: those behind, and its next one
-  abbrev pub drawn_for : Option Span → List Instance → ℕ
-  drawn_for next xs = before (walk_place bound next) xs + one_if next
-
   module _ (xs : List Instance) (are : AreBelow series bound xs) where
     is_below : (y : Instance) → Contains xs y → StartsBelow series bound y
     is_below y c = All-contains (StartsBelow series bound) xs y are.each c
@@ -122,7 +122,7 @@ module _ (series : Event) (known : AreKnownByStart series) (bound : ℤ) where
     is_behind place y c l = let own = is_below y c in (((y, own.0, refl, refl), own.1), l)
 
     module _ (Coming : ℤ → ℤ → Type 0) (walk : Walk) where
-      pub first_counted : BeginsWalk (IsBelow series bound) Coming bound walk → drawn_for walk.next xs ≡ one_if walk.next
+      pub first_counted : BeginsWalk (IsBelow series bound) Coming bound walk → drawn_for bound walk.next xs ≡ one_if walk.next
       first_counted b =
           let none = count_none (walk_place bound walk.next) xs
           (λ y c. by_lt_z y.start (walk_place bound walk.next) (λ l. absurd (subst (IsLastBehind (IsBelow series bound) (walk_place bound walk.next)) b.none b.is_walk.last y.start y.end (is_behind _ y c l))) (λ l. l)) in
@@ -135,7 +135,7 @@ module _ (series : Event) (known : AreKnownByStart series) (bound : ℤ) where
             (b, are.all b (it, omega (arith, ints, l, s)), s)
 
         pub past_counted : (Left : ℤ → ℤ → Type 0) (new : Walk) (next : Span) → walk.next ≡ Some next → GoesPast (IsBelow series bound) Left bound next walk new
-            → drawn_for new.next xs ≡ drawn_for walk.next xs + one_if new.next
+            → drawn_for bound new.next xs ≡ drawn_for bound walk.next xs + one_if new.next
         past_counted Left new next e g =
             let (i, there, s) = next_in next e in
             let at : walk_place bound walk.next ≡ next.start = ap (walk_place bound) e in
@@ -151,22 +151,22 @@ module _ (series : Event) (known : AreKnownByStart series) (bound : ℤ) where
               ])
               (λ most. most)
 
-        pub some_counted : drawn_for walk.next xs ≤ length xs
+        pub some_counted : drawn_for bound walk.next xs ≤ length xs
         some_counted = go walk.next refl
           where
-            go : (o : Option Span) → walk.next ≡ o → drawn_for o xs ≤ length xs
+            go : (o : Option Span) → walk.next ≡ o → drawn_for bound o xs ≤ length xs
             go None e = let l = count_most bound xs in omega (arith, l)
             go (Some x) e =
                 let (i, there, s) = next_in x e in
                 let l = count_fewer x.start i xs (omega (arith, ints, s)) there in
                 omega (arith, l)
 
-        pub all_counted : walk.next ≡ None → drawn_for walk.next xs ≡ length xs
+        pub all_counted : walk.next ≡ None → drawn_for bound walk.next xs ≡ length xs
         all_counted e =
             let all = count_each bound xs (λ y c. (is_below y c).1) in
-            ap (λ (o : Option Span). drawn_for o xs) e ∙ omega (arith, all)
+            ap (λ (o : Option Span). drawn_for bound o xs) e ∙ omega (arith, all)
 
-        pub one_counted : (l : Span) → walk.last ≡ Some l → 1 ≤ drawn_for walk.next xs
+        pub one_counted : (l : Span) → walk.last ≡ Some l → 1 ≤ drawn_for bound walk.next xs
         one_counted l e =
             let (((b, it, s, f), below), less) = (subst (IsLastBehind (IsBelow series bound) (walk_place bound walk.next)) e is.last).0 in
             let n = count_some (walk_place bound walk.next) b xs (omega (arith, ints, s, less)) (are.all b (it, omega (arith, ints, s, below))) in

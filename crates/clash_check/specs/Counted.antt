@@ -19,7 +19,11 @@ abbrev pub IsEntryBound : Event → Event → Entry → ℤ → Type 0
 IsEntryBound a b End bound = bound ≡ horizon
 IsEntryBound a b (Span from days) bound = IsBoundOf a b from days bound
 
--- an entry has so many instances compared: those of both series that start before its bound, once where they are one series
+-- of two series with so many instances those of both, once where they are one series
+abbrev pub pair_count : ℕ → ℕ → ℕ → ℕ → ℕ
+pair_count i j first second = if i == j then first else first + second
+
+-- an entry has so many instances compared: those that start before its bound
 pub record IsPairCount (all : Confirmed) (i j : ℕ) (entry : Entry) (n : ℕ) : Type 0 where
   pub a : Event
   pub b : Event
@@ -31,7 +35,7 @@ pub record IsPairCount (all : Confirmed) (i j : ℕ) (entry : Entry) (n : ℕ) :
   pub ys : List Instance
   pub of_first : AreBelow a bound xs
   pub of_second : AreBelow b bound ys
-  pub count : n ≡ if i == j then length xs else length xs + length ys
+  pub count : n ≡ pair_count i j (length xs) (length ys)
 
 -- these many for the pairs of a certificate
 abbrev pub AreCounts : Confirmed → Claims → (ℕ → ℕ → ℕ) → Type 0

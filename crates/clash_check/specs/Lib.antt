@@ -2,3 +2,4 @@ pub mod Draws
 pub mod Walks
 pub mod Counted
 pub mod Sweeps
+pub mod Entries

@@ -27,7 +27,7 @@ impl Walk {
         ensures calendar { D.calendar drawn.new ≡ D.calendar drawn.old }
         ensures series { result.series ≡ series }
         ensures begins { (a : Event) → IsSeriesAt (D.calendar drawn.old) series a → AreKnownByStart a
-            → BeginsWalk (IsBelow a bound) (D.coming drawn.new series) bound result }
+            → BeginsWalk (IsBelow a bound) (D.coming drawn.new result.series) bound result }
         ensures count { D.count drawn.new ≡ drawn_more (D.count drawn.old) (one_if result.next) }
         ensures others { (j : ℕ) → j ≢ series → (start end : ℤ) → D.coming drawn.new j start end ↔ D.coming drawn.old j start end }
     {
@@ -47,7 +47,7 @@ impl Walk {
         ensures calendar { D.calendar drawn.new ≡ D.calendar drawn.old }
         ensures series { result.series ≡ self.series }
         ensures past { (a : Event) (bound : ℤ) → AreKnownByStart a → IsWalkOf (IsBelow a bound) (D.coming drawn.old self.series) bound self
-            → GoesPast (IsBelow a bound) (D.coming drawn.new self.series) bound next self result }
+            → GoesPast (IsBelow a bound) (D.coming drawn.new result.series) bound next self result }
         ensures count { D.count drawn.new ≡ drawn_more (D.count drawn.old) (one_if result.next) }
         ensures others { (j : ℕ) → j ≢ self.series → (start end : ℤ) → D.coming drawn.new j start end ↔ D.coming drawn.old j start end }
     {
