@@ -3,3 +3,4 @@ pub mod Walks
 pub mod Counted
 pub mod Sweeps
 pub mod Entries
+pub mod Singles

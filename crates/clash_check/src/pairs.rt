@@ -64,6 +64,8 @@ fn entry_holds<D: Drawn>(drawn: &mut D, entry: Entry, i: u64, j: u64) -> bool
     ensures count { (n : ℕ) → IsPairCount (D.calendar drawn.old) i j (entry_said entry) n
         → IsEntryDrawn (D.calendar drawn.old) i j (entry_said entry) result (D.count drawn.old) (D.count drawn.new) n }
 {
+    // Only for the proof: each instance starts before the horizon.
+    drawn.is_drawable();
     match entry {
         Entry::End => are_clear(drawn, i, j, HORIZON),
         Entry::Span { from, days } => span_holds(drawn, i, j, from.instant(), days),
@@ -93,7 +95,10 @@ fn is_span<D: Drawn>(drawn: &D, i: u64, j: u64, from: i64, days: u64) -> bool
     ensures is { (a b : Event) → IsSeriesAt (D.calendar drawn.now) i a → IsSeriesAt (D.calendar drawn.now) j b → IsTrue result ↔ IsSpan a b from days }
     ensures few { result ≡ true → days ≤ most_period }
 {
-    is_days(days) && repeats(drawn, i, from, days) && repeats(drawn, j, from, days)
+    if !is_days(days) {
+        return false;
+    }
+    repeats(drawn, i, from, days) && repeats(drawn, j, from, days)
 }
 
 /// May a span have so many days?
@@ -153,7 +158,7 @@ fn are_clear<D: Drawn>(drawn: &mut D, i: u64, j: u64, bound: i64) -> bool
     }
 }
 
-/// The periods of a series are the multiples of the least.
+/// The periods of a series are the multiples of the least one.
 fn periods_are_multiples()
-    ensures { (series : Event) (least : ℕ) → IsLeastPeriodOf series least → (days : ℕ) → IsPeriodOf series days ↔ IsMultiple days least }
+    ensures { (a : Event) (days n : ℕ) → IsLeastPeriodOf a days → IsPeriodOf a n ↔ IsMultiple n days }
 {}

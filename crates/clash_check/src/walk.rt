@@ -71,7 +71,7 @@ impl Walk {
 }
 
 /// The next instance of a series; None where no more comes.
-fn draw_span<D: Drawn>(drawn: &mut D, series: u64) -> Option<Span>
+pub(crate) fn draw_span<D: Drawn>(drawn: &mut D, series: u64) -> Option<Span>
     requires { IsPlace (length (D.calendar drawn.old).series) series }
     ensures calendar { D.calendar drawn.new ≡ D.calendar drawn.old }
     ensures count { D.count drawn.new ≡ drawn_more (D.count drawn.old) (one_if result) }

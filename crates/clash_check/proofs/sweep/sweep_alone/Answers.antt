@@ -13,12 +13,12 @@ loop-walk-init g c = λ bound at.
 pub returns-then-is_met_by-clause-shared : goal.returns-then-is_met_by-clause-shared
 returns-then-is_met_by-clause-shared g c =
     let fits : FitsSigned w64 c.args.bound = search rules in
-    alone_found (g.D.Drawn.calendar c.args.drawn.now) c.is_drawable.ensures c.args.i c.requires c.args.bound _ _ _ _ c.loop-walk.walk (c.loop-walk.invariant c.args.bound (sym (to_z-of_z fits))) c.in-Some.next c.in-Some.is (c.if-is_met_by.ensures tt)
+    alone_found (g.D.Drawn.calendar c.args.drawn.now) c.is_drawable.ensures c.args.i c.requires c.args.bound _ _ _ _ c.loop-walk.walk (c.loop-walk.invariant c.args.bound (sym (to_z-of_z fits))) c.in-Some.next c.in-Some.is c.if-is_met_by.ensures
 
 pub returns-then-is_met_by-clause-count : goal.returns-then-is_met_by-clause-count
 returns-then-is_met_by-clause-count g c =
     let fits : FitsSigned w64 c.args.bound = search rules in
-    alone_some (g.D.Drawn.calendar c.args.drawn.now) c.is_drawable.ensures c.args.i c.requires c.args.bound _ _ _ _ c.loop-walk.walk (c.loop-walk.invariant c.args.bound (sym (to_z-of_z fits))) c.in-Some.next c.in-Some.is (c.if-is_met_by.ensures tt)
+    alone_some (g.D.Drawn.calendar c.args.drawn.now) c.is_drawable.ensures c.args.i c.requires c.args.bound _ _ _ _ c.loop-walk.walk (c.loop-walk.invariant c.args.bound (sym (to_z-of_z fits))) c.in-Some.next c.in-Some.is c.if-is_met_by.ensures
 
 pub loop-walk-smaller : goal.loop-walk-smaller
 loop-walk-smaller g c =

@@ -16,12 +16,12 @@ loop-next-init g c = λ bound at.
 pub returns-then-is_met_by-clause-shared : goal.returns-then-is_met_by-clause-shared
 returns-then-is_met_by-clause-shared g c = 
     let fits : FitsSigned w64 c.args.bound = search rules in
-    pair_found (g.D.Drawn.calendar c.args.drawn.now) c.is_drawable.ensures c.args.i c.args.j c.args.bound c.requires.first _ _ _ _ c.loop-next.first c.loop-next.second (c.loop-next.invariant c.args.bound (sym (to_z-of_z fits))) c.in-First.next c.in-First.ensures.0 (c.if-is_met_by.ensures tt)
+    pair_found (g.D.Drawn.calendar c.args.drawn.now) c.is_drawable.ensures c.args.i c.args.j c.args.bound c.requires.first _ _ _ _ c.loop-next.first c.loop-next.second (c.loop-next.invariant c.args.bound (sym (to_z-of_z fits))) c.in-First.next c.in-First.ensures.0 c.if-is_met_by.ensures
 
 pub returns-then-is_met_by-clause-count : goal.returns-then-is_met_by-clause-count
 returns-then-is_met_by-clause-count g c = 
     let fits : FitsSigned w64 c.args.bound = search rules in
-    pair_some (g.D.Drawn.calendar c.args.drawn.now) c.is_drawable.ensures c.args.i c.args.j c.args.bound c.requires.first _ _ _ _ c.loop-next.first c.loop-next.second (c.loop-next.invariant c.args.bound (sym (to_z-of_z fits))) c.in-First.next c.in-First.ensures.0 (c.if-is_met_by.ensures tt)
+    pair_some (g.D.Drawn.calendar c.args.drawn.now) c.is_drawable.ensures c.args.i c.args.j c.args.bound c.requires.first _ _ _ _ c.loop-next.first c.loop-next.second (c.loop-next.invariant c.args.bound (sym (to_z-of_z fits))) c.in-First.next c.in-First.ensures.0 c.if-is_met_by.ensures
 
 pub loop-next-smaller-in-First : goal.loop-next-smaller-in-First
 loop-next-smaller-in-First g c = 
@@ -37,12 +37,12 @@ loop-next-preserved-in-First g c = λ bound at.
 pub returns-then-is_met_by-2-clause-shared : goal.returns-then-is_met_by-2-clause-shared
 returns-then-is_met_by-2-clause-shared g c = λ a b here there.
     let fits : FitsSigned w64 c.args.bound = search rules in
-    have_turned a b c.args.bound (pair_found (g.D.Drawn.calendar c.args.drawn.now) c.is_drawable.ensures c.args.j c.args.i c.args.bound c.requires.second _ _ _ _ c.loop-next.second c.loop-next.first (pair_turned (g.D.Drawn.calendar c.args.drawn.now) c.args.i c.args.j c.args.bound _ _ _ _ c.loop-next.first c.loop-next.second (c.loop-next.invariant c.args.bound (sym (to_z-of_z fits)))) c.in-Second.next c.in-Second.ensures.0 (c.if-is_met_by-2.ensures tt) b a there here)
+    have_turned a b c.args.bound (pair_found (g.D.Drawn.calendar c.args.drawn.now) c.is_drawable.ensures c.args.j c.args.i c.args.bound c.requires.second _ _ _ _ c.loop-next.second c.loop-next.first (pair_turned (g.D.Drawn.calendar c.args.drawn.now) c.args.i c.args.j c.args.bound _ _ _ _ c.loop-next.first c.loop-next.second (c.loop-next.invariant c.args.bound (sym (to_z-of_z fits)))) c.in-Second.next c.in-Second.ensures.0 c.if-is_met_by-2.ensures b a there here)
 
 pub returns-then-is_met_by-2-clause-count : goal.returns-then-is_met_by-2-clause-count
 returns-then-is_met_by-2-clause-count g c = λ a b here there xs ys of_a of_b.
     let fits : FitsSigned w64 c.args.bound = search rules in
-    some_turned _ _ (length ys) (length xs) (pair_some (g.D.Drawn.calendar c.args.drawn.now) c.is_drawable.ensures c.args.j c.args.i c.args.bound c.requires.second _ _ _ _ c.loop-next.second c.loop-next.first (pair_turned (g.D.Drawn.calendar c.args.drawn.now) c.args.i c.args.j c.args.bound _ _ _ _ c.loop-next.first c.loop-next.second (c.loop-next.invariant c.args.bound (sym (to_z-of_z fits)))) c.in-Second.next c.in-Second.ensures.0 (c.if-is_met_by-2.ensures tt) b a there here ys xs of_b of_a)
+    some_turned _ _ (length ys) (length xs) (pair_some (g.D.Drawn.calendar c.args.drawn.now) c.is_drawable.ensures c.args.j c.args.i c.args.bound c.requires.second _ _ _ _ c.loop-next.second c.loop-next.first (pair_turned (g.D.Drawn.calendar c.args.drawn.now) c.args.i c.args.j c.args.bound _ _ _ _ c.loop-next.first c.loop-next.second (c.loop-next.invariant c.args.bound (sym (to_z-of_z fits)))) c.in-Second.next c.in-Second.ensures.0 c.if-is_met_by-2.ensures b a there here ys xs of_b of_a)
 
 pub loop-next-smaller : goal.loop-next-smaller
 loop-next-smaller g c = 
