@@ -1,6 +1,7 @@
 -- Entries of a certificate, judged by what is drawn.
 use Rattle.std.proofs.Common.{◌≡◌, ◌≢◌, ◌∙◌, ap, sym, refl, subst, inl, inr, ◌⊎◌, ℕ, zero, suc, ◌+◌, ◌-◌, ◌*◌, ◌%◌, ◌/◌, ◌<◌, ◌≤◌, ◌==◌, true, false, Bool, cond, arith, List, [], length, ℤ, pos, ◌+ℤ◌, ◌-ℤ◌, ◌<ℤ◌, ◌≤ℤ◌, nat_eq, to_z, of_z, to_z-of_z, w64, FitsSigned}
 use Rattle.std.specs.Prelude.{Option, Some, None, ◌↔◌, IfSome, MatchBool, MatchOption, Contains, not, IsTrue, min, int_lt, int_le}
+use Rattle.std.specs.Int.{int_max}
 use Rattle.std.specs.List.{sum_by, range_with_len}
 use Rattle.std.proofs.lemmas.Int.{ints, by_lt_z}
 use Rattle.std.proofs.lemmas.Bool.{cases_lt, true≢false}
@@ -242,9 +243,18 @@ end_drawn all i j r old new h n c =
     compared_drawn all i j End tt r old new n (subst (AreDrawn (not r) old new) (sym c.count) (h c.a c.b c.at_first c.at_second c.xs c.ys first second))
 
 -- a span
-pub span_bound : (a b : Event) (from : ℤ) (days : ℕ) (first second width bound : ℤ) → IsWidthOf a first → IsWidthOf b second → width ≡ greater first second → bound ≡ span_end from days width
-    → IsBoundOf a b from days bound
-span_bound a b from days first second width bound x y e f = (first, second, x, y, f ∙ ap (span_end from days) e)
+max_greater : (p q : ℤ) → int_max p q ≡ greater p q
+max_greater p q = grind (arith, ints)
+
+pub span_bound : (a b : Event) (from : ℤ) (days : ℕ) (p q m bound : ℤ) → FitsSigned w64 from → FitsSigned w64 p → FitsSigned w64 q → FitsSigned w64 m → IsWidthOf a p → IsWidthOf b q
+    → m ≡ int_max (to_z w64 (of_z w64 p)) (to_z w64 (of_z w64 q)) → bound ≡ span_end (to_z w64 (of_z w64 from)) days (to_z w64 (of_z w64 m)) → IsBoundOf a b from days bound
+span_bound a b from days p q m bound f g h k first second e is =
+    let x : to_z w64 (of_z w64 from) ≡ from = to_z-of_z f in
+    let y : to_z w64 (of_z w64 p) ≡ p = to_z-of_z g in
+    let z : to_z w64 (of_z w64 q) ≡ q = to_z-of_z h in
+    let w : to_z w64 (of_z w64 m) ≡ m = to_z-of_z k in
+    let width : m ≡ greater p q = e ∙ ap (λ v. int_max v (to_z w64 (of_z w64 q))) y ∙ ap (int_max p) z ∙ max_greater p q in
+    (p, q, first, second, is ∙ ap (λ v. span_end v days (to_z w64 (of_z w64 m))) x ∙ ap (span_end from days) (w ∙ width))
 
 pub span_judged : (a b : Event) (from : ℤ) (days : ℕ) (bound : ℤ) → IsSpan a b from days → IsBoundOf a b from days bound → (r : Bool)
     → MatchBool r (AreClear (StartsBelow a bound) (StartsBelow b bound)) (HasClash (StartsBelow a bound) (StartsBelow b bound)) → MatchBool r (SpanHolds a b from days) (SpanFails a b from days)

@@ -31,19 +31,19 @@ module _ (Is Old New : ℤ → ℤ → Type 0) (bound from : ℤ) (below : (s e 
   abbrev pub Leaves : Option Span → Type 0
   Leaves found = (s e : ℤ) → New s e ↔ (Old s e × IfSome found (λ x. x.start <ℤ s))
 
-  next_one : (found : Option Span) → Gives found → IfSome found (λ x. Is x.start x.end)
+  pub next_one : (found : Option Span) → Gives found → IfSome found (λ x. Is x.start x.end)
   next_one None g = tt
   next_one (Some x) g = ((left x.start x.end).0 g.0).0
 
-  none_before : (found : Option Span) → Gives found → (s e : ℤ) → Is s e → from ≤ℤ s → walk_place bound found ≤ℤ s
+  pub none_before : (found : Option Span) → Gives found → (s e : ℤ) → Is s e → from ≤ℤ s → walk_place bound found ≤ℤ s
   none_before None g s e is l = absurd (g s e ((left s e).1 (is, l)))
   none_before (Some x) g s e is l = g.1 s e ((left s e).1 (is, l))
 
-  further : (found : Option Span) → Gives found → from ≤ℤ bound → from ≤ℤ walk_place bound found
+  pub further : (found : Option Span) → Gives found → from ≤ℤ bound → from ≤ℤ walk_place bound found
   further None g l = l
   further (Some x) g l = ((left x.start x.end).0 g.0).1
 
-  rest_is : (found : Option Span) → Gives found → Leaves found → (s e : ℤ) → New s e ↔ (Is s e × (walk_place bound found <ℤ s))
+  pub rest_is : (found : Option Span) → Gives found → Leaves found → (s e : ℤ) → New s e ↔ (Is s e × (walk_place bound found <ℤ s))
   rest_is None g r s e = (λ n. absurd (g s e ((r s e).0 n).0), λ h. let l = below s e h.0 in absurd (omega (arith, ints, h.1, l)))
   rest_is (Some x) g r s e = (
     λ n. let o = (r s e).0 n in (((left s e).0 o.0).0, o.1),

@@ -54,5 +54,6 @@ AreSinglesDrawn all old new = (n : ℕ) × (length all.singles ≤ n) × (n ≤ 
 
 -- from there on what starts earlier is over by an instant, where nothing lasts longer than a width
 pub record IsEntry (instant width entry : ℤ) : Type 0 where
+  pub before : entry ≤ℤ instant
   pub late : (instant -ℤ width) <ℤ entry
   pub early : (start : ℤ) → first_second ≤ℤ start → start <ℤ entry → start ≤ℤ (instant -ℤ width)

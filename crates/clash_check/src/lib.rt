@@ -2,10 +2,10 @@
 //! makes no certificate of its own.
 #![tactic(auto)]
 
-pub mod checking;
-pub mod law;
-pub mod verdict;
+pub mod drawn;
+mod pairs;
+mod singles;
+mod sweep;
+mod walk;
 
-pub use checking::{certificate_means_clear, check, check_clash, judge_read};
-pub use law::yes_means_free;
-pub use verdict::{Checked, Verdict, Why};
+pub use drawn::Drawn;

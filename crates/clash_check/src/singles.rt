@@ -1,12 +1,12 @@
 //! The singles: each is drawn once, and compared with the others and with the instances of the series around it.
-ghost use Rattle.std.specs.Prelude.{ℕ, ℤ, List, ◌≡◌, ◌↔◌, ◌*◌, ◌≤◌, ◌≤ℤ◌, ◌<ℤ◌, pos, length, map, Contains, MatchBool, IfOk};
+ghost use Rattle.std.specs.Prelude.{◌≡◌, ◌↔◌, ◌*◌, ◌<ℤ◌, ◌^◌, pos, length, map, IsTrue, Contains, MatchBool, IfOk};
 ghost use Rattle.profile.specs.checker.Instances.{Instance, AreClear, HasClash, horizon};
 ghost use Rattle.profile.specs.checker.Certificates.{IsSeriesAt};
 ghost use Rattle.profile.specs.events.Events.{Event};
 ghost use Rattle.profile.specs.events.Starts.{IsInstance};
 ghost use Rattle.profile.specs.events.Confirmed.{IsOneOf};
 ghost use Rattle.profile.specs.events.Spans.{IsWidthOf};
-ghost use Rattle.clash_check.specs.Draws.{IsPlace, IsSpanBetween};
+ghost use Rattle.clash_check.specs.Draws.{IsPlace};
 ghost use Rattle.clash_check.specs.Entries.{IsMore};
 ghost use Rattle.clash_check.specs.Singles.{span_in, HasSharer, HasNoSharer, HaveSharer, HaveNoSharer, HaveSharers, HaveNoSharers, IsEachClear, IsFewMore, AreSinglesDrawn, IsEntry};
 
@@ -73,8 +73,7 @@ fn meets_any<D: Drawn>(drawn: &mut D, span: Span) -> bool
     false
 }
 
-/// Does a span share an instant before the horizon with an instance of a series? Of a series without a clash at most two instances are drawn
-/// that are over by its start, and then at most one that isn't. Where one of them has no length nothing is drawn.
+/// Does a span share an instant before the horizon with an instance of a series? Where one of them has no length nothing is drawn.
 fn meets<D: Drawn>(drawn: &mut D, i: u64, span: Span) -> bool
     requires { IsPlace (length (D.calendar drawn.old).series) i }
     ensures calendar { D.calendar drawn.new ≡ D.calendar drawn.old }
@@ -84,12 +83,44 @@ fn meets<D: Drawn>(drawn: &mut D, i: u64, span: Span) -> bool
 {
     drawn.is_drawable();
     let width = drawn.width(i);
-    if width <= 0 || span.end <= span.start || HORIZON <= span.start {
+    if width == 0 {
         return false;
     }
-    let entry = entry(span.start, width);
-    drawn.begin(i, entry, span.end);
-    is_met(drawn, i, span.start)
+    if !holds_instant(span) {
+        return false;
+    }
+    meets_near(drawn, i, span, width)
+}
+
+/// Does a span hold an instant before the horizon?
+fn holds_instant(span: Span) -> bool
+    ensures { IsTrue result ↔ (span.start <ℤ span.end) × (span.start <ℤ horizon) }
+{
+    span.start < span.end && span.start < HORIZON
+}
+
+/// Does one of the instances of a series that start less than its width before a span, or in it, share an instant with it? Of a series that is
+/// clear at most two of these are over by the start of the span, and then the next one shares an instant.
+fn meets_near<D: Drawn>(drawn: &mut D, i: u64, span: Span, width: i64) -> bool
+    requires place { IsPlace (length (D.calendar drawn.old).series) i }
+    requires span { (span.start <ℤ span.end) × (span.start <ℤ horizon) }
+    requires width { (pos 0 <ℤ width) × (width <ℤ pos (2 ^ 50)) }
+    requires of { (a : Event) → IsSeriesAt (D.calendar drawn.old) i a → IsWidthOf a width }
+    ensures calendar { D.calendar drawn.new ≡ D.calendar drawn.old }
+    ensures meets { (a : Event) → IsSeriesAt (D.calendar drawn.old) i a → MatchBool result (HasSharer a span.start span.end) (HasNoSharer a span.start span.end) }
+    ensures count { (a : Event) → IsSeriesAt (D.calendar drawn.old) i a → AreClear (IsInstance a) (IsInstance a)
+        → IsFewMore (D.count drawn.old) (D.count drawn.new) 3 }
+{
+    drawn.is_drawable();
+    drawn.begin(i, entry(span.start, width), span.end);
+    let mut next = draw_span(drawn, i);
+    while let Some(instance) = next {
+        if is_going_on(instance, span.start) {
+            return true;
+        }
+        next = draw_span(drawn, i);
+    }
+    false
 }
 
 /// Where an instance may start that isn't over by an instant.
@@ -100,17 +131,9 @@ fn entry(instant: i64, width: i64) -> i64
     instant.saturating_sub(width - 1)
 }
 
-/// Does one of the instances that come of a series hold an instant or start later?
-fn is_met<D: Drawn>(drawn: &mut D, i: u64, instant: i64) -> bool
-    requires { IsPlace (length (D.calendar drawn.old).series) i }
-    ensures calendar { D.calendar drawn.new ≡ D.calendar drawn.old }
+/// Has an instance a length, and isn't over by an instant?
+fn is_going_on(instance: Span, instant: i64) -> bool
+    ensures { IsTrue result ↔ (instance.start <ℤ instance.end) × (instant <ℤ instance.end) }
 {
-    let mut next = draw_span(drawn, i);
-    while let Some(span) = next {
-        if span.start < span.end && instant < span.end {
-            return true;
-        }
-        next = draw_span(drawn, i);
-    }
-    false
+    instance.start < instance.end && instant < instance.end
 }

@@ -8,7 +8,7 @@ pub returns-then-repeats-clause-is : goal.returns-then-repeats-clause-is
 returns-then-repeats-clause-is g c = λ a b here there.
     let fits : FitsSigned w64 c.args.from = search rules in
     let same : to_z w64 (of_z w64 c.args.from) ≡ c.args.from = to_z-of_z fits in
-    both_span a b c.args.from c.args.days c.repeats-then-repeats.result c.if-not-is_days.ensures
+    both_span a b c.args.from c.args.days c.repeats-then-repeats.result (c.is_days.ensures.0 c.if-not-is_days.false)
     (subst (λ (t : ℤ). IsPastAll a t × IsPeriodOf a c.args.days) same ((c.repeats.ensures a here).0 c.if-repeats.true))
     (subst (λ (t : ℤ). IsTrue c.repeats-then-repeats.result ↔ (IsPastAll b t × IsPeriodOf b c.args.days)) same (c.repeats-then-repeats.ensures b there))
 
