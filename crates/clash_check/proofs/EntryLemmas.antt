@@ -425,3 +425,12 @@ rows_all all c before calendar old new past at i j pair = let (x, y, z) = pair i
 pub rows_count : (all : Confirmed) (c : Claims) (before : ℕ) (calendar : Confirmed) (old new : ℕ) → before ≡ c.series → AreRowsAt all c before calendar old new
     → (count : ℕ → ℕ → ℕ) → AreCounts all c count → IsMore old new (count_all count c.series)
 rows_count all c before calendar old new e at count are = subst (λ k. IsMore old new (rows count c.series k)) e (at.count count are)
+
+-- no entry both holds and fails
+pub never_both : (all : Confirmed) (i j : ℕ) (entry : Entry) → EntryHolds all i j entry → EntryFails all i j entry → ⊥
+never_both all i j End holds (a, b, here, there, c) = holds a b here there c.a c.b c.t c.first c.second c.clash
+never_both all i j (Span from days) holds (a, b, here, there, inl none) = none (holds a b here there).span
+never_both all i j (Span from days) holds (a, b, here, there, inr (bound, is, c)) =
+    let h = holds a b here there in
+    let same = one_bound a b from days bound h.bound is h.is in
+    h.clear c.a c.b c.t (subst (λ (t : ℤ). StartsBelow a t c.a) same c.first) (subst (λ (t : ℤ). StartsBelow b t c.b) same c.second) c.clash

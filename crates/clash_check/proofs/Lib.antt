@@ -3,3 +3,4 @@ pub mod Counts
 pub mod SweepLemmas
 pub mod EntryLemmas
 pub mod SingleLemmas
+pub mod JudgingLemmas

@@ -1,24 +1,26 @@
 -- Singles, and the instances of series around them.
-use Rattle.std.proofs.Common.{◌≡◌, ◌≢◌, ◌∙◌, ap, sym, refl, subst, inl, inr, ◌⊎◌, ℕ, zero, suc, ◌+◌, ◌-◌, ◌*◌, ◌<◌, ◌≤◌, true, false, Bool, arith, List, [], ◌∷◌, ◌++◌, length, map, take, get_or, unsigned_abs, ℤ, pos, ◌+ℤ◌, ◌-ℤ◌, ◌<ℤ◌, ◌≤ℤ◌}
+use Rattle.std.proofs.Common.{◌≡◌, ◌≢◌, ◌∙◌, ap, sym, refl, subst, inl, inr, ◌⊎◌, ℕ, zero, suc, ◌+◌, ◌-◌, ◌*◌, ◌<◌, ◌≤◌, true, false, Bool, arith, List, [], ◌∷◌, ◌++◌, length, map, take, get_or, unsigned_abs, w64, ℤ, pos, negsuc, ◌+ℤ◌, ◌-ℤ◌, ◌<ℤ◌, ◌≤ℤ◌}
 use Rattle.std.specs.Prelude.{Option, Some, None, ◌↔◌, IfSome, MatchBool, MatchOption, Contains, not, IsTrue, min}
+use Rattle.std.specs.Int.{saturate_signed}
 use Rattle.std.specs.List.{slice_get}
 use Rattle.std.proofs.Math.Nat.{add_comm, mul_comm, mul-le-mul_right}
 use Rattle.std.proofs.Math.Seq.{take-length}
 use Rattle.std.proofs.lemmas.List.{length-map, map-append, take_more, get_or-map, get_or_default}
-use Rattle.std.proofs.lemmas.Nat.{cases_order}
 use Rattle.std.proofs.lemmas.Option.{same_Some, slice_get-get_or, slice_get_within, get_or_from_slice_get}
 use Rattle.std.proofs.lemmas.Int.{ints, by_lt_z}
-use Rattle.std.proofs.lemmas.Bool.{cases_lt, true≢false}
+use Rattle.std.proofs.lemmas.Bool.{cases_lt, cases_order, true≢false}
 use Rattle.profile.specs.checker.Instances.{Key, Instance as SaidInstance, horizon, AreClear, HasClash, IsClear, IsWithin}
 use Rattle.profile.specs.checker.Certificates.{IsSeriesAt}
 use Rattle.profile.specs.events.Events.{Event}
 use Rattle.profile.specs.events.Starts.{IsInstance, SharesInstant}
 use Rattle.profile.specs.events.Confirmed.{Confirmed, IsInSeries, IsOneOf}
 use Rattle.profile.specs.events.Properties.{first_second}
+use Rattle.profile.specs.events.Spans.{IsWidthOf}
 use Rattle.cal_events.specs.Calendar.{HaveDifferentKeys, HaveOwnKeys}
 use Rattle.cal_events.specs.Series.{AreKnownByStart}
 use Rattle.cal_events.specs.Sweep.{AreSpansApart, IsOverlap, span_at}
 use Rattle.cal_events.specs.declared.sweep.Overlap.{Overlap}
+use Rattle.cal_events.proofs.shared_lemmas.InOneOrder.{of_mapped}
 use Rattle.cal_events.proofs.shared_lemmas.Overlaps.{abs_is}
 use Rattle.clash_cert.proofs.MakingLemmas.{singles_clear}
 use Rattle.cal_events.specs.declared.sweep.Span.{Span}
@@ -226,14 +228,33 @@ module _ (a : Event) (known : AreKnownByStart a) (span : Span) (width entry : �
         let n = g.count in
         (g.k + 0, omega (arith, k), n)
 
-pub near_fewer : (all : Confirmed) (i : ℕ) → IsPlace (length all.series) i → (bound : ℤ) (x : Span) (next : Option Span) → ((a : Event) → IsSeriesAt all i a → (x.start <ℤ walk_place bound next) × (walk_place bound next ≤ℤ bound))
-    → unsigned_abs (bound -ℤ walk_place bound next) < unsigned_abs (bound -ℤ x.start)
-near_fewer all i place bound x next h =
+-- the same where the next one is known
+pub near_at : (a : Event) (span : Span) (width entry : ℤ) (Coming : ℤ → ℤ → Type 0) (old new : ℕ) (next other : Option Span) → next ≡ other → IsNear a span width entry Coming old new next
+    → IsNear a span width entry Coming old new other
+near_at a span width entry Coming old new next other e h = subst (IsNear a span width entry Coming old new) e h
+
+pub lasts_at : (all : Confirmed) → IsDrawable all → (i : ℕ) (a : Event) (width : ℤ) → IsSeriesAt all i a → IsWidthOf a width → LastsAbout a width
+lasts_at all drawable i a width there of = drawable.lengths a (series_in all i a there) width of
+
+-- what has no width has no instant
+pub no_width : (a : Event) (width start end : ℤ) → LastsAbout a width → width ≡ pos 0 → HasNoSharer a start end
+no_width a width start end lasts none b is share =
+    let m = lasts.most b is in
+    let i = share.in_first in
+    let f = i.0 in
+    let l = i.1 in
+    omega (arith, ints, m, none, f, l)
+
+pub near_fewer : (all : Confirmed) (i : ℕ) → IsPlace (length all.series) i → (bound : ℤ) (x : Span) (old next : Option Span) → old ≡ Some x
+    → ((a : Event) → IsSeriesAt all i a → (x.start <ℤ walk_place bound next) × (walk_place bound next ≤ℤ bound))
+    → unsigned_abs (bound -ℤ walk_place bound next) < unsigned_abs (bound -ℤ walk_place bound old)
+near_fewer all i place bound x old next e h =
     let (a, at) = series_there all i place in
     let (further, within) = h a at in
+    let here : walk_place bound old ≡ x.start = ap (walk_place bound) e in
     let p = abs_is (bound -ℤ walk_place bound next) (omega (arith, ints, within)) in
-    let q = abs_is (bound -ℤ x.start) (omega (arith, ints, within, further)) in
-    omega (arith, ints, p, q, further)
+    let q = abs_is (bound -ℤ walk_place bound old) (omega (arith, ints, within, further, here)) in
+    omega (arith, ints, p, q, further, here)
 
 pub near_within : (a : Event) (span : Span) (width entry : ℤ) (Coming : ℤ → ℤ → Type 0) (old new : ℕ) (next : Option Span) → IsNear a span width entry Coming old new next → walk_place span.end next ≤ℤ span.end
 near_within a span width entry Coming old new None h = omega (arith, ints)
@@ -349,13 +370,16 @@ met_all all spans index calendar old new most at clear =
 
 -- ---- the singles themselves
 
-pub record AreDrawnAt (all : Confirmed) (before : ℕ) (calendar : Confirmed) (spans : List Span) (old new : ℕ) : Type 0 where
+pub record AreDrawnAt (all : Confirmed) (before : ℕ) (calendar : Confirmed) (items : List Span) (old new : ℕ) : Type 0 where
   pub same : calendar ≡ all
-  pub spans : spans ≡ map span_in (take before all.singles)
+  pub spans : items ≡ map span_in (take before all.singles)
   pub count : IsMore old new before
 
 pub singles_first : (all : Confirmed) (n : ℕ) → AreDrawnAt all 0 all [] n n
 singles_first all n = record { same = refl; spans = refl; count = omega arith }
+
+abbrev span_from : ℤ → ℤ → Span
+span_from x y = record { start = x; end = y }
 
 pub singles_next : (all : Confirmed) (before : ℕ) (calendar calendar' : Confirmed) (spans : List Span) (old mid new : ℕ) (start end : ℤ) → before < length all.singles → AreDrawnAt all before calendar spans old mid
     → calendar' ≡ calendar → ((b : SaidInstance) → IsSingleAt all (before + 1) b → (start ≡ b.start) × (end ≡ b.end)) → new ≡ drawn_more mid 1
@@ -380,8 +404,8 @@ singles_next all before calendar calendar' spans old mid new start end w at same
     some_single (x ∷ xs) zero w = (x, refl)
     some_single (x ∷ xs) (suc k) w = some_single xs k (omega (arith, w))
 
-    span_same : (a b c d : ℤ) → a ≡ c → b ≡ d → record { start = a; end = b } ≡ record { start = c; end = d }
-    span_same a b c d e f = ap (λ x. record { start = x; end = b }) e ∙ ap (λ y. record { start = c; end = y }) f
+    span_same : (a b c d : ℤ) → a ≡ c → b ≡ d → ◌≡◌ {A = Span} (record { start = a; end = b }) (record { start = c; end = d })
+    span_same a b c d e f = ap (λ (x : ℤ). span_from x b) e ∙ ap (λ (y : ℤ). span_from c y) f
 
 pub singles_whole : (all : Confirmed) (before : ℕ) (calendar : Confirmed) (spans : List Span) (old new : ℕ) → before ≡ length all.singles → AreDrawnAt all before calendar spans old new
     → (spans ≡ map span_in all.singles) × IsMore old new (length all.singles)
@@ -455,6 +479,10 @@ singles_overlap all keys spans is o h =
 
 -- ---- both
 
+mapped : (xs : List SaidInstance) (x : SaidInstance) → Contains xs x → Contains (map span_in xs) (span_in x)
+mapped xs x (k, w, e) = (k, let n = length-map xs span_in in omega (arith, w, n), get_or-map span_in xs k x (span_in x) w ∙ ap span_in e)
+
+
 pub beside_judged : (all : Confirmed) → HaveOwnKeys all → (spans : List Span) → spans ≡ map span_in all.singles → IsClear (Contains all.singles) → (r : Bool)
     → MatchBool r (HaveSharers all spans) (HaveNoSharers all spans) → MatchBool r (HasClash (Contains all.singles) (IsOneOf all)) (AreClear (Contains all.singles) (IsOneOf all))
 beside_judged all own spans is clear true (s, c, (b, of, share)) =
@@ -473,7 +501,7 @@ beside_judged all own spans is clear true (s, c, (b, of, share)) =
       };
     }
 beside_judged all own spans is clear false none =
-    singles_clear all clear (λ single c b of share. none (span_in single) (subst (λ l. Contains l (span_in single)) (sym is) (mapped span_in all.singles single c)) b of share)
+    singles_clear all clear (λ single c b of share. none (span_in single) (subst (λ l. Contains l (span_in single)) (sym is) (mapped all.singles single c)) b of share)
 
 -- how many were drawn in all
 each_times : (all : Confirmed) → singles_count all ≡ length all.singles * (length all.series * 3) + length all.singles
@@ -491,3 +519,34 @@ singles_drawn all spans is old mid new drawn (k, few, more) =
     let most = ap (λ n. n * (length all.series * 3)) long in
     let e = each_times all in
     (length all.singles + k, omega arith, omega (arith, few, most, e), omega (arith, drawn, more))
+
+-- ---- where instances may start that aren't over by an instant
+
+eq_by : (a b : ℤ) → a ≤ℤ b → b ≤ℤ a → a ≡ b
+eq_by a b l m = omega (arith, ints, l, m)
+
+saturated : (z : ℤ) → z ≤ℤ pos 9_223_372_036_854_775_807 → (saturate_signed w64 z ≡ z) ⊎ ((saturate_signed w64 z ≡ negsuc 9_223_372_036_854_775_807) × (z <ℤ negsuc 9_223_372_036_854_775_807))
+saturated (pos n) h = inl (eq_by _ _ (omega (arith, ints, h)) (omega (arith, ints, h)))
+saturated (negsuc n) h = elim (cases_lt n 9_223_372_036_854_775_808) [
+  | inl below ↦ inl (eq_by _ _ (omega (arith, ints, below)) (omega (arith, ints, below)))
+  | inr from ↦ inr (eq_by _ _ (omega (arith, ints, from)) (omega (arith, ints, from)), omega (arith, ints, from))
+]
+
+pub entry_is : (instant width entry : ℤ) → negsuc 9_223_372_036_854_775_807 ≤ℤ instant → instant ≤ℤ pos 9_223_372_036_854_775_807 → pos 0 <ℤ width → entry ≡ saturate_signed w64 (instant -ℤ (width -ℤ pos 1))
+    → IsEntry instant width entry
+entry_is instant width entry least most some is =
+    elim (saturated (instant -ℤ (width -ℤ pos 1)) (omega (arith, ints, most, some))) [
+      | inl at ↦ record {
+        before = omega (arith, ints, is, at, some);
+        late = omega (arith, ints, is, at);
+        early = λ start first less. omega (arith, ints, is, at, less);
+      }
+      | inr at ↦
+          let e = at.0 in
+          let l = at.1 in
+          record {
+            before = omega (arith, ints, is, e, least);
+            late = omega (arith, ints, is, e, l);
+            early = λ start first less. absurd (omega (arith, ints, is, e, first, less));
+          }
+    ]

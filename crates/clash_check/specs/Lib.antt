@@ -4,3 +4,5 @@ pub mod Counted
 pub mod Sweeps
 pub mod Entries
 pub mod Singles
+pub mod Verdicts
+pub mod Judgings

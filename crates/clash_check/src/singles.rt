@@ -51,8 +51,8 @@ fn any_meets<D: Drawn>(drawn: &mut D, spans: &[Span]) -> bool
     ensures meets { MatchBool result (HaveSharers (D.calendar drawn.old) spans.now) (HaveNoSharers (D.calendar drawn.old) spans.now) }
     ensures count { IsEachClear (D.calendar drawn.old) → IsFewMore (D.count drawn.old) (D.count drawn.new) (length spans.now * (length (D.calendar drawn.old).series * 3)) }
 {
-    for span in spans {
-        if meets_any(drawn, *span) {
+    for place in 0..spans.len() {
+        if meets_any(drawn, &spans[place]) {
             return true;
         }
     }
@@ -60,13 +60,13 @@ fn any_meets<D: Drawn>(drawn: &mut D, spans: &[Span]) -> bool
 }
 
 /// Does a span share an instant with an instance of a series?
-fn meets_any<D: Drawn>(drawn: &mut D, span: Span) -> bool
+fn meets_any<D: Drawn>(drawn: &mut D, span: &Span) -> bool
     ensures calendar { D.calendar drawn.new ≡ D.calendar drawn.old }
-    ensures meets { MatchBool result (HaveSharer (D.calendar drawn.old) span.start span.end) (HaveNoSharer (D.calendar drawn.old) span.start span.end) }
+    ensures meets { MatchBool result (HaveSharer (D.calendar drawn.old) span.now.start span.now.end) (HaveNoSharer (D.calendar drawn.old) span.now.start span.now.end) }
     ensures count { IsEachClear (D.calendar drawn.old) → IsFewMore (D.count drawn.old) (D.count drawn.new) (length (D.calendar drawn.old).series * 3) }
 {
     for before in 0..drawn.series() {
-        if meets(drawn, before + 1, span) {
+        if meets(drawn, before + 1, *span) {
             return true;
         }
     }

@@ -1,0 +1,1 @@
+use Rattle.clash_check.proofs.judging.judge_certificate.Goals as goal
