@@ -1,1 +1,3 @@
 pub mod OwnKeys
+pub mod Said
+pub mod Periods

@@ -1,8 +1,9 @@
 //! A series: a master by its rule alone (RFC 5545 3.8.5.3). What RDATE adds belongs to none.
-ghost use Rattle.std.specs.Prelude.{◌≡◌, ◌≢◌, ◌↔◌, ◌≤ℤ◌, true, false, [], Some, is_some, map, option_map, filter, AllPairs, IfOk, MatchOption};
+ghost use Rattle.std.specs.Prelude.{◌≡◌, ◌≢◌, ◌↔◌, ◌^◌, ◌≤◌, ◌≤ℤ◌, ◌<ℤ◌, ℕ, pos, true, false, [], Some, is_some, map, option_map, filter, AllPairs, IfOk, IfSome, MatchOption};
 ghost use Rattle.profile.specs.checker.Instances.{Instance as SaidInstance};
 ghost use Rattle.profile.specs.events.Events.{is_master};
 ghost use Rattle.profile.specs.events.Starts.{IsInstance, IsFirstOverlap, IsFirstSharer, IsWidth};
+ghost use Rattle.profile.specs.events.Spans.{IsLeastPast, IsWidthOf, HasNoPeriodOf, IsLeastPeriodOf, IsSaidSeries};
 ghost use Rattle.profile.specs.events.Confirmed.{by_its_rule, has_series};
 ghost use Rattle.profile.specs.events.EventComponents.{EventComponent as Said, meeting_said};
 ghost use Rattle.profile.specs.events.ZonedTimes.{clock_of};
@@ -12,7 +13,8 @@ ghost use Rattle.cal_events.specs.Calendar.{key_of, owned_key_of, instance_of};
 ghost use Rattle.cal_events.specs.Draft.{IsSaid, AreInOrder};
 ghost use Rattle.cal_events.specs.Component.{component_of};
 ghost use Rattle.cal_events.specs.Left.{IsLeft};
-ghost use Rattle.cal_events.specs.Overlapping.{HaveOneEnd};
+ghost use Rattle.cal_events.specs.Past.{IsKeptPast};
+ghost use Rattle.cal_events.specs.Overlapping.{HaveOneEnd, AreDated};
 ghost use Rattle.cal_events.specs.Event.{said_meeting};
 ghost use Rattle.cal_events.specs.Ruled.{IsRuled, AreSlotsOf, IsByItsRule, cmp_to, is_key_of, ruled_without};
 
@@ -22,9 +24,10 @@ use crate::entries::organiser_of;
 use crate::event::Event;
 use crate::instance::{Instance, InstanceKey, OwnedKey};
 use crate::instances::Instances;
+use crate::regular::regular_from;
 use crate::single_starts::copied;
 use crate::sweep::Span;
-use cal_rules::Rule;
+use cal_rules::{Rule, common_multiple, shifts_are_multiples};
 use cal_zones::Zone;
 use ical_values::Text;
 use std::alloc::{AllocError, Global};
@@ -35,7 +38,11 @@ use std::cmp::Ordering;
 #[derive(Drop)]
 pub struct Series {
     pub(crate) event: Event,
+    /// The least instant after all that it doesn't do again.
+    from: i64,
     ghost ruled: { IsRuled event },
+    ghost said: { ∥ IsSaidSeries (said_meeting event) ∥₁ },
+    ghost past: { IsKeptPast (said_meeting event) from },
 }
 
 impl Series {
@@ -56,8 +63,7 @@ impl Series {
     {
         let replaced = replaced(alloc, &master, overrides)?;
         let master = by_its_rule(alloc, master, &replaced)?;
-        let event = Event::of_master(alloc, master)?;
-        Ok(Series { event })
+        Series::of_ruled(alloc, master)
     }
 
     /// That of a master by itself, without the instances at these starts. It fails only when out of memory.
@@ -68,8 +74,21 @@ impl Series {
         ensures { IfOk result (λ series. series_said series ≡ record { master = Some (ruled_without (component_of master.now) starts.now); overrides = [] }) }
     {
         let master = ruled_copy(alloc, master, starts)?;
+        Series::of_ruled(alloc, master)
+    }
+
+    /// That of a master by its rule alone. It fails only when out of memory.
+    fn of_ruled(alloc: Global, master: EventComponent) -> Result<Series, AllocError>
+        requires clock { HasGoodClock (component_of master) }
+        requires ends { HaveOneEnd (record { master = Some (component_of master); overrides = [] }) }
+        requires dated { AreDated (record { master = Some (component_of master); overrides = [] }) }
+        requires rule { is_some master.rule ≡ true }
+        requires none_added { master.additions.items ≡ [] }
+        ensures { IfOk result (λ series. series_said series ≡ record { master = Some (component_of master); overrides = [] }) }
+    {
+        let from = regular_from(&master);
         let event = Event::of_master(alloc, master)?;
-        Ok(Series { event })
+        Ok(Series { event, from })
     }
 
     /// The series without the instances at these starts, as if EXDATE named them. In time n log n. It fails only when out of memory.
@@ -123,9 +142,34 @@ impl Series {
     /// No instance of it lasts longer, in exact seconds: its length with days of 86,400 seconds, and where it has days the difference of its
     /// zone's offsets.
     pub fn width(&self) -> i64
-        ensures { (master : Said) → IsMasterOf (series_said self.now) master → IsWidth master.times result }
+        ensures width { (master : Said) → IsMasterOf (series_said self.now) master → IsWidth master.times result }
+        ensures of { IsWidthOf (series_said self.now) result }
+        ensures range { (pos 0 ≤ℤ result) × (result <ℤ pos (2 ^ 50)) }
     {
         self.master().times.width()
+    }
+
+    /// The least instant after all that it doesn't do again: after DTSTART, its exceptions, and the first onsets of its zone by half a day; and
+    /// after the last start of a rule that ends.
+    pub fn regular_from(&self) -> i64
+        ensures { IsLeastPast (series_said self.now) result }
+    {
+        // Only for the proof: they are past.
+        let _ = self.zone().first_onsets();
+        self.from
+    }
+
+    /// After how many days it does the same again, from that instant on: after so many does its rule, and so do the clocks of its zone. None where
+    /// they are more than 2,932,897. Of a rule that ends there is nothing to do again.
+    pub fn period_days(&self) -> Option<u64>
+        ensures { MatchOption result (HasNoPeriodOf (series_said self.now)) (IsLeastPeriodOf (series_said self.now)) }
+    {
+        // Only for the proof: the periods of a rule are the multiples of the least one.
+        shifts_are_multiples();
+        let Some(rule_days) = self.rule().period_days() else {
+            return None;
+        };
+        common_multiple(rule_days, self.zone().period_days())
     }
 
     /// The key of its instance at a start, owned. It fails only when out of memory.

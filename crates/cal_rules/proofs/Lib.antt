@@ -23,3 +23,5 @@ pub mod PlainRule
 pub mod Shifts
 pub mod Multiples
 pub mod PeriodsOf
+pub mod LastDays
+pub mod Differences

@@ -8,11 +8,11 @@ use Rattle.cal_events.proofs.shared_lemmas.OwnSingles.{of_master}
 use Rattle.cal_events.proofs.shared_lemmas.SeriesLemmas.{ruled_ends}
 use Rattle.cal_events.proofs.series.Series.of.Goals as goal
 
-pub of_master-requires-clause-clock : goal.of_master-requires-clause-clock
-of_master-requires-clause-clock c =
+pub of_ruled-requires-clause-clock : goal.of_ruled-requires-clause-clock
+of_ruled-requires-clause-clock c =
     let said = c.requires.said in
     subst HasGoodClock (sym c.in_ok-master.ensures) (clock_good said.0 said.1 (component_of c.args.master) said.2)
 
-pub of_master-requires-clause-ends : goal.of_master-requires-clause-ends
-of_master-requires-clause-ends c =
+pub of_ruled-requires-clause-ends : goal.of_ruled-requires-clause-ends
+of_ruled-requires-clause-ends c =
     subst (λ (e : Said). HaveOneEnd (of_master e)) (sym c.in_ok-master.ensures) (ruled_ends (component_of c.args.master) c.requires.said c.deref.result.now)
