@@ -22,6 +22,7 @@ use Rattle.profile.specs.series.Periods.{IsMultiple, most_period}
 use Rattle.profile.specs.series.Zones.{Zone, IsBounds}
 use Rattle.cal_events.specs.Calendar.{HaveOwnKeys}
 use Rattle.cal_events.specs.Series.{AreKnownByStart}
+use Rattle.cal_period.proofs.Spanning.{later_past, width_is_one}
 use Rattle.clash_cert.proofs.MakingLemmas.{keys_apart}
 use Rattle.clash_check.specs.Counted.{AreBelow, IsPairCount, IsEntryBound, AreCounts, pair_count, row_count, count_before, count_all}
 use Rattle.clash_check.specs.Draws.{IsPlace, IsDrawable, drawn_more}
@@ -29,69 +30,13 @@ use Rattle.clash_check.specs.Entries.{IsMore, IsSomeMore, HasCompared, FailsDraw
 use Rattle.clash_check.specs.Sweeps.{HaveShared, AreApart, HasShared, IsApart, AreDrawn}
 use Rattle.clash_check.proofs.SweepLemmas.{series_there, known_at}
 
--- ---- a series has one width
-
-same_bounds : (z : Zone) (l g m h : ℤ) → IsBounds z l g → IsBounds z m h → (l ≡ m) × (g ≡ h)
-same_bounds z l g m h a b =
-    let p = a.one b.reaches_least.0 m b.reaches_least.1 in
-    let q = a.one b.reaches_greatest.0 h b.reaches_greatest.1 in
-    let r = b.one a.reaches_least.0 l a.reaches_least.1 in
-    let s = b.one a.reaches_greatest.0 g a.reaches_greatest.1 in
-    let x = a.ordered in
-    let y = b.ordered in
-    (least p r x y, most q s x y)
-  where
-    least : (m ≡ l) ⊎ (m ≡ g) → (l ≡ m) ⊎ (l ≡ h) → l ≤ℤ g → m ≤ℤ h → l ≡ m
-    least (inl e) r x y = sym e
-    least (inr e) (inl f) x y = f
-    least (inr e) (inr f) x y = omega (arith, ints, e, f, x, y)
-
-    most : (h ≡ l) ⊎ (h ≡ g) → (g ≡ m) ⊎ (g ≡ h) → l ≤ℤ g → m ≤ℤ h → g ≡ h
-    most (inr e) s x y = sym e
-    most (inl e) (inr f) x y = f
-    most (inl e) (inl f) x y = omega (arith, ints, e, f, x, y)
-
-same_width : (times : EventTimes) (w v : ℤ) → IsWidth times w → IsWidth times v → w ≡ v
-same_width times w v (inl a) (inl b) = a.1 ∙ sym b.1
-same_width times w v (inl a) (inr b) = absurd (omega (arith, a.0, b.0))
-same_width times w v (inr a) (inl b) = absurd (omega (arith, a.0, b.0))
-same_width times w v (inr a) (inr b) =
-    let (d, (l, g, x, e)) = a in
-    let (f, (m, h, y, k)) = b in
-    let same = same_bounds _ l g m h x y in
-    let p = same.0 in
-    let q = same.1 in
-    omega (arith, ints, e, k, p, q)
-
-pub one_width : (series : Event) (w v : ℤ) → IsWidthOf series w → IsWidthOf series v → w ≡ v
-one_width series w v (m, is, a) (n, it, b) =
-    let same : n ≡ m = same_Some n m (sym it ∙ is) in
-    same_width m.times w v a (subst (λ (o : EventComponent). IsWidth o.times v) same b)
+-- ---- a span has one bound, and what is past all at one instant is so at each later one
 
 pub one_bound : (a b : Event) (from : ℤ) (days : ℕ) (x y : ℤ) → IsBoundOf a b from days x → IsBoundOf a b from days y → x ≡ y
 one_bound a b from days x y (p, q, of_p, of_q, e) (r, s, of_r, of_s, f) =
-    let first = one_width a p r of_p of_r in
-    let second = one_width b q s of_q of_s in
+    let first = width_is_one a p r of_p of_r in
+    let second = width_is_one b q s of_q of_s in
     e ∙ ap (λ w. span_end from days (greater w q)) first ∙ ap (λ w. span_end from days (greater r w)) second ∙ sym f
-
--- ---- from which instant on
-
-past_later : (o : Option ℤ) (x y : ℤ) → x ≤ℤ y → IfSome o (IsHalfDayPast x) → IfSome o (IsHalfDayPast y)
-past_later None x y l h = tt
-past_later (Some t) x y l h = omega (arith, ints, l, h)
-
--- what is past all at one instant is so at each later one
-later_past : (a : Event) (x y : ℤ) → x ≤ℤ y → IsPastAll a x → IsPastAll a y
-later_past a x y l h =
-    let s = h.start in
-    record {
-      master = h.master;
-      is = h.is;
-      start = omega (arith, ints, l, s);
-      onsets = let (first, second, are, p, q) = h.onsets in (first, second, are, past_later first x y l p, past_later second x y l q);
-      exceptions = λ e c early before. let m = h.exceptions e c early before in omega (arith, ints, l, m);
-      last = λ rule has ends t starts before. let m = h.last rule has ends t starts before in omega (arith, ints, l, m);
-    }
 
 -- ---- days
 

@@ -3,9 +3,13 @@
 #![tactic(auto)]
 
 pub mod drawn;
+pub mod judging;
 mod pairs;
 mod singles;
 mod sweep;
+pub mod verdict;
 mod walk;
 
 pub use drawn::Drawn;
+pub use judging::judge;
+pub use verdict::{Checked, Verdict, Why};

@@ -3,7 +3,7 @@ ghost use Rattle.std.specs.Prelude.{ℕ, ℤ, List, ◌≡◌, ◌↔◌, ◌+�
 ghost use Rattle.profile.specs.checker.Instances.{Instance, AreClear, HasClash};
 ghost use Rattle.profile.specs.checker.Certificates.{IsSeriesAt, IsPair, EntryHolds, EntryFails, Span as SaidSpan};
 ghost use Rattle.profile.specs.events.Events.{Event};
-ghost use Rattle.profile.specs.events.Spans.{IsPastAll, IsPeriodOf, IsLeastPeriodOf, IsSpan, SpanHolds, SpanFails, StartsBelow, span_end};
+ghost use Rattle.profile.specs.events.Spans.{IsPastAll, IsPeriodOf, IsSpan, SpanHolds, SpanFails, StartsBelow, span_end};
 ghost use Rattle.profile.specs.series.Periods.{most_period, IsMultiple};
 ghost use Rattle.profile.specs.text.Values.{IsClockSeconds};
 ghost use Rattle.clash_cert.specs.Texts.{entry_said};
@@ -15,6 +15,7 @@ ghost use Rattle.clash_check.specs.Sweeps.{AreDrawn};
 use crate::drawn::Drawn;
 use crate::sweep::{sweep_alone, sweep_pair};
 use cal_events::HORIZON;
+use cal_period::periods_are_multiples;
 use clash_cert::{Certificate, Entry};
 
 /// The most days that a span may have.
@@ -157,8 +158,3 @@ fn are_clear<D: Drawn>(drawn: &mut D, i: u64, j: u64, bound: i64) -> bool
         !sweep_pair(drawn, i, j, bound)
     }
 }
-
-/// The periods of a series are the multiples of the least one.
-fn periods_are_multiples()
-    ensures { (a : Event) (days n : ℕ) → IsLeastPeriodOf a days → IsPeriodOf a n ↔ IsMultiple n days }
-{}

@@ -51,8 +51,8 @@ fn any_meets<D: Drawn>(drawn: &mut D, spans: &[Span]) -> bool
     ensures meets { MatchBool result (HaveSharers (D.calendar drawn.old) spans.now) (HaveNoSharers (D.calendar drawn.old) spans.now) }
     ensures count { IsEachClear (D.calendar drawn.old) → IsFewMore (D.count drawn.old) (D.count drawn.new) (length spans.now * (length (D.calendar drawn.old).series * 3)) }
 {
-    for place in 0..spans.len() {
-        if meets_any(drawn, &spans[place]) {
+    for span in spans {
+        if meets_any(drawn, span) {
             return true;
         }
     }
