@@ -1,6 +1,6 @@
 -- How many of the instances of a series that start before a bound are behind a walk.
-use Rattle.std.proofs.Common.{◌≡◌, ◌≤◌, ◌∙◌, ap, refl, sym, subst, inl, inr, ◌⊎◌, ℕ, zero, suc, ◌+◌, List, [], ◌∷◌, length, cond, true, false, Bool, arith, ℤ, ◌<ℤ◌, ◌≤ℤ◌}
-use Rattle.std.specs.Prelude.{Contains, All, AllPairs, count_by, int_lt, Option, Some, None, IfSome, is_some}
+use Rattle.std.proofs.Common.{◌≡◌, ◌≤◌, ◌∙◌, ap, refl, sym, subst, inl, inr, ℕ, zero, suc, ◌+◌, List, [], ◌∷◌, length, cond, true, false, Bool, arith, ℤ, ◌<ℤ◌, ◌≤ℤ◌}
+use Rattle.std.specs.Prelude.{Contains, AllPairs, count_by, int_lt, Option, Some, None, IfSome}
 use Rattle.std.proofs.lemmas.Int.{ints, by_lt_z}
 use Rattle.std.proofs.lemmas.List.Sums.{sum_by-cons}
 use Rattle.std.proofs.lemmas.List.Elements.{All-contains}
@@ -145,11 +145,11 @@ module _ (series : Event) (known : AreKnownByStart series) (bound : ℤ) where
           where
             none : (b : Instance) → StartsBelow series bound b → walk_place bound walk.next <ℤ b.start → walk_place bound new.next ≤ℤ b.start
             none b own l = by_lt_z b.start (walk_place bound new.next)
-              (λ less. elim (g.one b.start b.end (((b, own.0, refl, refl), own.1), less)) [
-                | inl old ↦ absurd (omega (arith, ints, l, old.1))
-                | inr same ↦ let at : walk_place bound walk.next ≡ next.start = ap (walk_place bound) e in absurd (omega (arith, ints, l, same.0, at))
-              ])
-              (λ most. most)
+                (λ less. elim (g.one b.start b.end (((b, own.0, refl, refl), own.1), less)) [
+                  | inl old ↦ absurd (omega (arith, ints, l, old.1))
+                  | inr same ↦ let at : walk_place bound walk.next ≡ next.start = ap (walk_place bound) e in absurd (omega (arith, ints, l, same.0, at))
+                ])
+                (λ most. most)
 
         pub some_counted : drawn_for bound walk.next xs ≤ length xs
         some_counted = go walk.next refl

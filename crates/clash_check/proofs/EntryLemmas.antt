@@ -1,9 +1,9 @@
 -- Entries of a certificate, judged by what is drawn.
-use Rattle.std.proofs.Common.{◌≡◌, ◌≢◌, ◌∙◌, ap, sym, refl, subst, inl, inr, ◌⊎◌, ℕ, zero, suc, ◌+◌, ◌-◌, ◌*◌, ◌%◌, ◌/◌, ◌<◌, ◌≤◌, ◌==◌, true, false, Bool, cond, arith, List, [], length, ℤ, pos, ◌+ℤ◌, ◌-ℤ◌, ◌<ℤ◌, ◌≤ℤ◌, nat_eq, to_z, of_z, to_z-of_z, w64, FitsSigned}
-use Rattle.std.specs.Prelude.{Option, Some, None, ◌↔◌, IfSome, MatchBool, MatchOption, Contains, not, IsTrue, min, int_lt, int_le}
+use Rattle.std.proofs.Common.{◌≡◌, ◌≢◌, ◌∙◌, ap, sym, refl, subst, inl, inr, ℕ, zero, suc, ◌+◌, ◌-◌, ◌%◌, ◌/◌, ◌<◌, ◌≤◌, ◌==◌, true, false, Bool, cond, arith, List, [], length, ℤ, ◌≤ℤ◌, nat_eq, to_z, of_z, to_z-of_z, w64, FitsSigned}
+use Rattle.std.specs.Prelude.{◌↔◌, MatchBool, not, IsTrue, int_le}
 use Rattle.std.specs.Int.{int_max}
 use Rattle.std.specs.List.{sum_by, range_with_len}
-use Rattle.std.proofs.lemmas.Int.{ints, by_lt_z}
+use Rattle.std.proofs.lemmas.Int.{ints}
 use Rattle.std.proofs.lemmas.Bool.{cases_lt, true≢false}
 use Rattle.std.proofs.lemmas.Bool.Decides.{nat_tests}
 use Rattle.std.proofs.lemmas.List.Sums.{sum_by-cons}
@@ -11,22 +11,17 @@ use Rattle.std.proofs.lemmas.Nat.{div-add-mod'}
 use Rattle.std.proofs.lemmas.Option.{same_Some}
 use Rattle.std.proofs.Math.Nat.{mul-mod_left}
 use Rattle.profile.specs.checker.Instances.{Instance as SaidInstance, horizon, AreClear, HasClash}
-use Rattle.profile.specs.checker.Certificates.{Claims, Entry, End, Span, IsPair, IsPairBefore, IsSeriesAt, EntryHolds, EntryFails, EntriesHold, entry_of}
-use Rattle.profile.specs.events.EventComponents.{EventComponent}
+use Rattle.profile.specs.checker.Certificates.{Claims, Entry, End, Span, IsPair, IsSeriesAt, EntryHolds, EntryFails, EntriesHold, entry_of}
 use Rattle.profile.specs.events.Events.{Event}
-use Rattle.profile.specs.events.Starts.{IsInstance, IsWidth}
 use Rattle.profile.specs.events.Confirmed.{Confirmed}
-use Rattle.profile.specs.events.Spans.{IsPastAll, IsLeastPast, IsHalfDayPast, IsPeriodOf, IsLeastPeriodOf, HasNoPeriodOf, IsSpan, SpanHolds, SpanFails, StartsBelow, IsBoundOf, IsWidthOf, greater, span_end}
-use Rattle.profile.specs.events.ZonedTimes.{EventTimes}
+use Rattle.profile.specs.events.Spans.{IsPastAll, IsLeastPast, IsPeriodOf, HasNoPeriodOf, IsSpan, SpanHolds, SpanFails, StartsBelow, IsBoundOf, IsWidthOf, greater, span_end}
 use Rattle.profile.specs.series.Periods.{IsMultiple, most_period}
-use Rattle.profile.specs.series.Zones.{Zone, IsBounds}
 use Rattle.cal_events.specs.Calendar.{HaveOwnKeys}
-use Rattle.cal_events.specs.Series.{AreKnownByStart}
 use Rattle.cal_period.proofs.Spanning.{later_past, width_is_one}
 use Rattle.clash_cert.proofs.MakingLemmas.{keys_apart}
-use Rattle.clash_check.specs.Counted.{AreBelow, IsPairCount, IsEntryBound, AreCounts, pair_count, row_count, count_before, count_all}
-use Rattle.clash_check.specs.Draws.{IsPlace, IsDrawable, drawn_more}
-use Rattle.clash_check.specs.Entries.{IsMore, IsSomeMore, HasCompared, FailsDrawn, IsEntryDrawn, IsRowHeld, IsFailingInRow, IsRowJudged, IsRowDrawn, IsFailing, AreJudged, AreAllDrawn}
+use Rattle.clash_check.specs.Counted.{AreBelow, IsPairCount, AreCounts, pair_count, row_count, count_before, count_all}
+use Rattle.clash_check.specs.Draws.{IsDrawable, drawn_more}
+use Rattle.clash_check.specs.Entries.{IsMore, IsSomeMore, HasCompared, FailsDrawn, IsEntryDrawn, IsRowHeld, IsFailingInRow, IsFailing}
 use Rattle.clash_check.specs.Sweeps.{HaveShared, AreApart, HasShared, IsApart, AreDrawn}
 use Rattle.clash_check.proofs.SweepLemmas.{series_there, known_at}
 

@@ -1,17 +1,16 @@
 -- The judgement of a certificate by what is drawn.
-use Rattle.std.proofs.Common.{◌≡◌, ◌∙◌, ap, sym, refl, subst, inl, inr, ◌⊎◌, ℕ, ◌+◌, ◌-◌, ◌<◌, ◌≤◌, arith, List, length}
-use Rattle.std.specs.Prelude.{Option, Some, None, Contains, MatchBool, Bool, true, false, min}
+use Rattle.std.proofs.Common.{◌≡◌, ◌∙◌, ap, sym, refl, subst, inl, inr, ◌⊎◌, ℕ, ◌+◌, ◌-◌, ◌≤◌, arith, List}
+use Rattle.std.specs.Prelude.{Some, Contains, min}
 use Rattle.std.specs.List.{slice_get}
 use Rattle.std.proofs.lemmas.Option.{slice_get-get_or}
 use Rattle.profile.specs.checker.Instances.{AreClear, HasClash}
-use Rattle.profile.specs.checker.Certificates.{Claims, Entry, End, Span, IsSeriesAt, EntryHolds, EntriesHold, SpellsCertificate, HasCounts, CertificateHoldsFor, HasFailingEntry, HasClashes, IsWrongCount, entry_of}
-use Rattle.profile.specs.events.Events.{Event}
+use Rattle.profile.specs.checker.Certificates.{Claims, Entry, End, Span, IsSeriesAt, EntryHolds, EntriesHold, HasCounts, HasFailingEntry, HasClashes, IsWrongCount, entry_of}
 use Rattle.profile.specs.events.Starts.{IsInstance}
 use Rattle.profile.specs.events.Confirmed.{Confirmed, IsOneOf}
 use Rattle.clash_check.specs.Counted.{AreCounts, count_all, count_before}
 use Rattle.clash_check.specs.Draws.{IsDrawable}
-use Rattle.clash_check.specs.Entries.{IsMore, HasCompared, FailsDrawn, IsFailing, AreJudged, AreAllDrawn}
-use Rattle.clash_check.specs.Judgings.{SpellsOnly, IsVerdictOf, MakesFewOf}
+use Rattle.clash_check.specs.Entries.{IsMore, HasCompared, FailsDrawn, IsFailing}
+use Rattle.clash_check.specs.Judgings.{SpellsOnly, IsVerdictOf}
 use Rattle.clash_check.specs.Singles.{IsEachClear, AreSinglesDrawn}
 use Rattle.clash_check.specs.Verdicts.{IsVerdict, IsNo, MakesAll, MakesSome, MakesFewFor}
 use Rattle.clash_check.specs.declared.verdict.Verdict.{Verdict}
@@ -84,8 +83,8 @@ made_entry all c i j (No why) old new made h none same few drawn text s =
     some : MakesSome all text i j made
     some d spells count are =
         subst (λ (x : Claims). (AreCounts all x count
-            → (HasCompared all i j (entry_of x i j) × ((n : ℕ) × (1 ≤ n) × (n ≤ count i j) × (made ≡ min (count_before count x.series i j + n) 18446744073709551615)))
-            ⊎ ((HasCompared all i j (entry_of x i j) → ⊥) × (made ≡ min (count_before count x.series i j) 18446744073709551615)))) (sym (s.1 d spells)) by are
+        → (HasCompared all i j (entry_of x i j) × ((n : ℕ) × (1 ≤ n) × (n ≤ count i j) × (made ≡ min (count_before count x.series i j + n) 18446744073709551615)))
+        ⊎ ((HasCompared all i j (entry_of x i j) → ⊥) × (made ≡ min (count_before count x.series i j) 18446744073709551615)))) (sym (s.1 d spells)) by are
       where
         by : AreCounts all c count
             → (HasCompared all i j (entry_of c i j) × ((n : ℕ) × (1 ≤ n) × (n ≤ count i j) × (made ≡ min (count_before count c.series i j + n) 18446744073709551615)))

@@ -1,6 +1,6 @@
 -- Singles, and the instances of series around them.
 use Rattle.std.proofs.Common.{◌≡◌, ◌≢◌, ◌∙◌, ap, sym, refl, subst, inl, inr, ◌⊎◌, ℕ, zero, suc, ◌+◌, ◌-◌, ◌*◌, ◌<◌, ◌≤◌, true, false, Bool, arith, List, [], ◌∷◌, ◌++◌, length, map, take, get_or, unsigned_abs, w64, ℤ, pos, negsuc, ◌+ℤ◌, ◌-ℤ◌, ◌<ℤ◌, ◌≤ℤ◌}
-use Rattle.std.specs.Prelude.{Option, Some, None, ◌↔◌, IfSome, MatchBool, MatchOption, Contains, not, IsTrue, min}
+use Rattle.std.specs.Prelude.{Option, Some, None, ◌↔◌, IfSome, MatchBool, MatchOption, Contains}
 use Rattle.std.specs.Int.{saturate_signed}
 use Rattle.std.specs.List.{slice_get}
 use Rattle.std.proofs.Math.Nat.{add_comm, mul_comm, mul-le-mul_right}
@@ -8,13 +8,12 @@ use Rattle.std.proofs.Math.Seq.{take-length}
 use Rattle.std.proofs.lemmas.List.{length-map, map-append, take_more, get_or-map, get_or_default}
 use Rattle.std.proofs.lemmas.Option.{same_Some, slice_get-get_or, slice_get_within, get_or_from_slice_get}
 use Rattle.std.proofs.lemmas.Int.{ints, by_lt_z}
-use Rattle.std.proofs.lemmas.Bool.{cases_lt, cases_order, true≢false}
+use Rattle.std.proofs.lemmas.Bool.{cases_lt, cases_order}
 use Rattle.profile.specs.checker.Instances.{Key, Instance as SaidInstance, horizon, AreClear, HasClash, IsClear, IsWithin}
 use Rattle.profile.specs.checker.Certificates.{IsSeriesAt}
 use Rattle.profile.specs.events.Events.{Event}
 use Rattle.profile.specs.events.Starts.{IsInstance, SharesInstant}
-use Rattle.profile.specs.events.Confirmed.{Confirmed, IsInSeries, IsOneOf}
-use Rattle.profile.specs.events.Properties.{first_second}
+use Rattle.profile.specs.events.Confirmed.{Confirmed, IsOneOf}
 use Rattle.profile.specs.events.Spans.{IsWidthOf}
 use Rattle.cal_events.specs.Calendar.{HaveDifferentKeys, HaveOwnKeys}
 use Rattle.cal_events.specs.Series.{AreKnownByStart}
@@ -24,11 +23,11 @@ use Rattle.cal_events.proofs.shared_lemmas.InOneOrder.{of_mapped}
 use Rattle.cal_events.proofs.shared_lemmas.Overlaps.{abs_is}
 use Rattle.clash_cert.proofs.MakingLemmas.{singles_clear}
 use Rattle.cal_events.specs.declared.sweep.Span.{Span}
-use Rattle.clash_check.specs.Draws.{IsPlace, IsSpanOf, IsSpanBetween, IsDrawable, IsSingleAt, LastsAbout, drawn_more, one_if}
+use Rattle.clash_check.specs.Draws.{IsPlace, IsSpanBetween, IsDrawable, IsSingleAt, LastsAbout, drawn_more, one_if}
 use Rattle.clash_check.specs.Entries.{IsMore}
 use Rattle.clash_check.specs.Singles.{span_in, HasSharer, HasNoSharer, HaveSharer, HaveNoSharer, HaveSharers, HaveNoSharers, IsEachClear, IsFewMore, AreSinglesDrawn, singles_count, IsEntry}
 use Rattle.clash_check.specs.Walks.{walk_place}
-use Rattle.clash_check.proofs.SweepLemmas.{series_there, known_at, series_in}
+use Rattle.clash_check.proofs.SweepLemmas.{series_there, series_in}
 use Rattle.clash_check.proofs.WalkLemmas.{next_one, none_before, further, rest_is}
 
 -- ---- how many instances of a clear series are over by an instant, of those that start less than its width before
@@ -139,7 +138,7 @@ module _ (a : Event) (known : AreKnownByStart a) (span : Span) (width entry : �
         is = next_one Is Old New span.end from below left next g;
         rest = rest_is Is Old New span.end from below left next g r;
         apart = λ s e is less share. by_lt_z s x.start (λ l. near.apart s e is l share)
-          (λ l. by_lt_z x.start s
+            (λ l. by_lt_z x.start s
             (λ m. let n = none_before Is Old New span.end from below left next g s e is (omega (arith, ints, m)) in absurd (omega (arith, ints, less, n)))
             (λ m. over_apart s e is (omega (arith, ints, l, m)) share));
         gone = λ clear. go clear (near.gone clear);
@@ -212,11 +211,11 @@ module _ (a : Event) (known : AreKnownByStart a) (span : Span) (width entry : �
         let f = share.in_second.0 in
         by_lt_z b.start entry
         (λ early.
-            let e = enters.early b.start (known.dates b is).0 early in
-            let m = lasts.most b is in
-            omega (arith, ints, e, m, t, f))
+        let e = enters.early b.start (known.dates b is).0 early in
+        let m = lasts.most b is in
+        omega (arith, ints, e, m, t, f))
         (λ late. by_lt_z b.start span.end (λ less. near.apart b.start b.end ((b, is, refl, refl), late, less) less share)
-          (λ far. let g = share.in_first.0 in let h = share.in_second.1 in omega (arith, ints, far, g, h)))
+        (λ far. let g = share.in_first.0 in let h = share.in_second.1 in omega (arith, ints, far, g, h)))
 
     pub near_all : AreClear (IsInstance a) (IsInstance a) → IsFewMore old new 3
     near_all clear =
@@ -392,10 +391,10 @@ singles_next all before calendar calendar' spans old mid new start end w at same
     record {
       same = same ∙ at.same;
       spans = ap (λ l. l ++ (record { start = start; end = end }) ∷ []) at.spans
-      ∙ ap (λ x. map span_in (take before all.singles) ++ x ∷ []) (span_same start end b.start b.end s.0 s.1)
-      ∙ sym (map-append span_in (take before all.singles) (b ∷ []))
-      ∙ ap (λ x. map span_in (take before all.singles ++ x ∷ [])) (sym (get_or_from_slice_get all.singles before b b there))
-      ∙ ap (map span_in) (sym (take_more all.singles before b w));
+          ∙ ap (λ x. map span_in (take before all.singles) ++ x ∷ []) (span_same start end b.start b.end s.0 s.1)
+          ∙ sym (map-append span_in (take before all.singles) (b ∷ []))
+          ∙ ap (λ x. map span_in (take before all.singles ++ x ∷ [])) (sym (get_or_from_slice_get all.singles before b b there))
+          ∙ ap (map span_in) (sym (take_more all.singles before b w));
       count = omega (arith, c, counted);
     }
   where
@@ -481,7 +480,6 @@ singles_overlap all keys spans is o h =
 
 mapped : (xs : List SaidInstance) (x : SaidInstance) → Contains xs x → Contains (map span_in xs) (span_in x)
 mapped xs x (k, w, e) = (k, let n = length-map xs span_in in omega (arith, w, n), get_or-map span_in xs k x (span_in x) w ∙ ap span_in e)
-
 
 pub beside_judged : (all : Confirmed) → HaveOwnKeys all → (spans : List Span) → spans ≡ map span_in all.singles → IsClear (Contains all.singles) → (r : Bool)
     → MatchBool r (HaveSharers all spans) (HaveNoSharers all spans) → MatchBool r (HasClash (Contains all.singles) (IsOneOf all)) (AreClear (Contains all.singles) (IsOneOf all))

@@ -1,5 +1,5 @@
 -- How a sweep through two series, or through one, goes on.
-use Rattle.std.proofs.Common.{◌≡◌, ◌≢◌, ◌∙◌, ap, sym, refl, subst, inl, inr, ◌⊎◌, ℕ, ◌+◌, ◌-◌, ◌<◌, ◌≤◌, zero, suc, true, arith, List, [], ◌∷◌, length, ℤ, pos, ◌-ℤ◌, ◌<ℤ◌, ◌≤ℤ◌, unsigned_abs}
+use Rattle.std.proofs.Common.{◌≡◌, ◌≢◌, ◌∙◌, ap, sym, refl, subst, inl, inr, ℕ, ◌+◌, ◌-◌, ◌<◌, zero, suc, true, arith, List, [], ◌∷◌, length, ℤ, ◌-ℤ◌, ◌<ℤ◌, ◌≤ℤ◌, unsigned_abs}
 use Rattle.std.specs.Prelude.{Option, Some, None, ◌↔◌, IfSome, Contains}
 use Rattle.std.specs.List.{slice_get}
 use Rattle.std.proofs.lemmas.Int.{ints}
@@ -7,14 +7,14 @@ use Rattle.std.proofs.lemmas.Option.{slice_get_within, get_or_from_slice_get}
 use Rattle.profile.specs.checker.Instances.{Key, Instance as SaidInstance, horizon}
 use Rattle.profile.specs.checker.Certificates.{IsSeriesAt}
 use Rattle.profile.specs.events.Events.{Event}
-use Rattle.profile.specs.events.Starts.{IsInstance, SharesInstant}
+use Rattle.profile.specs.events.Starts.{SharesInstant}
 use Rattle.profile.specs.events.Confirmed.{Confirmed}
 use Rattle.profile.specs.events.Spans.{StartsBelow}
 use Rattle.cal_events.specs.Series.{AreKnownByStart}
 use Rattle.cal_events.specs.declared.sweep.Span.{Span}
 use Rattle.cal_events.proofs.shared_lemmas.Overlaps.{abs_is}
 use Rattle.clash_check.specs.Counted.{AreBelow}
-use Rattle.clash_check.specs.Draws.{IsPlace, IsSpanOf, IsDrawable, drawn_more, one_if}
+use Rattle.clash_check.specs.Draws.{IsPlace, IsDrawable, drawn_more, one_if}
 use Rattle.clash_check.specs.Sweeps.{HaveShared, AreApart, HasShared, IsApart, AreDrawn}
 use Rattle.clash_check.specs.Walks.{IsBelow, walk_place, IsBehind, IsLastBehind, IsWalkOf, BeginsWalk, GoesPast, MeetsLast, MeetsNone}
 use Rattle.clash_check.specs.declared.walk.Walk.{Walk}
@@ -356,7 +356,7 @@ module _ (all : Confirmed) (drawable : IsDrawable all) (i j : ℕ) (bound : ℤ)
               clear = λ s e u v h k share. elim ((gone a here).one s e h) [
                 | inl was ↦ l.clear s e u v was k share
                 | inr x ↦ meets_none (IsBelow b bound) (walk_place bound second.next) second.last (at.in_second b there).last next none u v k
-                (turned next.start next.end u v (subst (λ z. SharesInstant z next.end u v) x.0 (subst (λ z. SharesInstant s z u v) x.1 share)))
+                    (turned next.start next.end u v (subst (λ z. SharesInstant z next.end u v) x.0 (subst (λ z. SharesInstant s z u v) x.1 share)))
               ];
               first = λ s e h. elim ((gone a here).one s e h) [
                 | inl was ↦ l.first s e was

@@ -1,4 +1,4 @@
-use Rattle.std.proofs.Common.{◌≡◌, ◌∙◌, ◌<◌, ◌≤◌, Bool, subst, arith}
+use Rattle.std.proofs.Common.{◌∙◌, Bool, subst, arith}
 use Rattle.std.specs.Prelude.{Contains, MatchBool}
 use Rattle.profile.specs.checker.Instances.{AreClear, HasClash}
 use Rattle.profile.specs.events.Confirmed.{Confirmed, IsOneOf}

@@ -1,4 +1,4 @@
-use Rattle.std.proofs.Common.{◌≡◌, ◌∙◌, ℤ, ℕ, sym, subst, rules, to_z, of_z, to_z-of_z, w64, FitsSigned}
+use Rattle.std.proofs.Common.{◌≡◌, ◌∙◌, ℤ, sym, subst, rules, to_z, of_z, to_z-of_z, w64, FitsSigned}
 use Rattle.std.specs.Prelude.{MatchBool}
 use Rattle.profile.specs.checker.Certificates.{EntryHolds, EntryFails, Span}
 use Rattle.profile.specs.events.Spans.{SpanHolds, SpanFails}

@@ -1,4 +1,4 @@
-use Rattle.std.proofs.Common.{◌≡◌, ◌+◌, ◌<◌, ◌≤◌, ◌-◌, ℕ, refl, subst, arith}
+use Rattle.std.proofs.Common.{◌+◌, ℕ, refl, subst, arith}
 use Rattle.profile.specs.checker.Certificates.{Entry, EntryHolds, entry_of}
 use Rattle.profile.specs.events.Confirmed.{Confirmed}
 use Rattle.clash_check.specs.Counted.{IsPairCount}

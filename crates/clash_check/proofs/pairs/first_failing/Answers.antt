@@ -1,5 +1,5 @@
-use Rattle.std.proofs.Common.{◌≡◌, ◌+◌, ◌<◌, ◌≤◌, ◌-◌, ℕ, suc, refl, sym, subst, arith}
-use Rattle.profile.specs.checker.Certificates.{Entry, EntryHolds, entry_of}
+use Rattle.std.proofs.Common.{◌+◌, ℕ, suc, refl, subst, arith}
+use Rattle.profile.specs.checker.Certificates.{entry_of}
 use Rattle.profile.specs.events.Confirmed.{Confirmed}
 use Rattle.clash_check.specs.Counted.{AreCounts, row_count}
 use Rattle.clash_check.specs.Entries.{IsMore, FailsDrawn, IsFailingInRow, IsRowHeld}

@@ -1,10 +1,10 @@
-use Rattle.std.proofs.Common.{◌≡◌, ◌∙◌, ℤ, sym, subst, ap, inl, rules, refl, length, List, to_z, of_z, to_z-of_z, w64, FitsSigned}
-use Rattle.std.specs.Prelude.{IsTrue, ◌↔◌, MatchBool, not}
+use Rattle.std.proofs.Common.{◌≡◌, ◌∙◌, ℤ, sym, subst, inl, rules, refl, length, List, to_z, of_z, to_z-of_z, w64, FitsSigned}
+use Rattle.std.specs.Prelude.{MatchBool, not}
 use Rattle.std.proofs.lemmas.Bool.{true≢false}
 use Rattle.profile.specs.checker.Instances.{Instance, AreClear, HasClash}
 use Rattle.profile.specs.checker.Certificates.{IsSeriesAt}
 use Rattle.profile.specs.events.Events.{Event}
-use Rattle.profile.specs.events.Spans.{IsSpan, IsBoundOf, StartsBelow}
+use Rattle.profile.specs.events.Spans.{IsSpan, StartsBelow}
 use Rattle.clash_check.specs.Counted.{AreBelow, pair_count}
 use Rattle.clash_check.specs.Sweeps.{AreDrawn}
 use Rattle.clash_check.proofs.EntryLemmas.{span_judged, span_bound, span_drawn, no_span_drawn}
@@ -51,4 +51,4 @@ returns-clause-count g c =
     (λ a b here there. span_bound a b c.args.from c.args.days c.width.result c.width-2.result c.max-width.result c.span_end.result fits one two most (c.width.ensures.width a here) (c.width-2.ensures.width b there) c.max-width.ensures.value c.span_end.ensures)
     c.are_clear.result _ _
     (subst (λ (t : ℤ). (a b : Event) → IsSeriesAt (g.D.Drawn.calendar c.args.drawn.now) c.args.i a → IsSeriesAt (g.D.Drawn.calendar c.args.drawn.now) c.args.j b → (xs ys : List Instance) → AreBelow a t xs → AreBelow b t ys
-        → AreDrawn (not c.are_clear.result) (g.D.Drawn.count c.args.drawn.now) (g.D.Drawn.count c.are_clear.new.drawn) (pair_count c.args.i c.args.j (length xs) (length ys))) bound c.are_clear.ensures.count)
+    → AreDrawn (not c.are_clear.result) (g.D.Drawn.count c.args.drawn.now) (g.D.Drawn.count c.are_clear.new.drawn) (pair_count c.args.i c.args.j (length xs) (length ys))) bound c.are_clear.ensures.count)

@@ -4,7 +4,7 @@ use Rattle.std.proofs.lemmas.Option.{slice_get-get_or}
 use Rattle.profile.specs.events.Confirmed.{Confirmed}
 use Rattle.cal_events.specs.Sweep.{span_at}
 use Rattle.clash_check.specs.Singles.{HaveSharer, HaveNoSharer, IsEachClear, IsFewMore}
-use Rattle.clash_check.proofs.SingleLemmas.{met_found, met_some, met_next, met_none, met_all}
+use Rattle.clash_check.proofs.SingleLemmas.{met_found, met_some, met_next, met_none}
 use Rattle.clash_check.proofs.singles.any_meets.Goals as goal
 
 pub returns-then-meets_any-clause-meets : goal.returns-then-meets_any-clause-meets

@@ -1,4 +1,4 @@
-use Rattle.std.proofs.Common.{◌≡◌, ◌∙◌, ◌+◌, ◌<◌, sym, subst, arith, rules, List, to_z, of_z, to_z-of_z, w64, FitsSigned}
+use Rattle.std.proofs.Common.{◌≡◌, ◌∙◌, ◌+◌, sym, subst, arith, rules, List, to_z, of_z, to_z-of_z, w64, FitsSigned}
 use Rattle.profile.specs.checker.Instances.{Instance}
 use Rattle.profile.specs.events.Confirmed.{Confirmed}
 use Rattle.cal_events.specs.declared.sweep.Span.{Span}

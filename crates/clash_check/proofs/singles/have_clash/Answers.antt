@@ -1,11 +1,11 @@
-use Rattle.std.proofs.Common.{◌≡◌, ◌*◌, length, sym, subst, List}
+use Rattle.std.proofs.Common.{◌*◌, length, subst, List}
 use Rattle.std.specs.Prelude.{Option, IfSome, IfNone, MatchBool}
 use Rattle.profile.specs.events.Confirmed.{Confirmed}
 use Rattle.cal_events.specs.Sweep.{AreSpansApart, IsOverlap}
 use Rattle.cal_events.specs.declared.sweep.Overlap.{Overlap}
 use Rattle.cal_events.specs.declared.sweep.Span.{Span}
 use Rattle.clash_check.specs.Singles.{HaveSharers, HaveNoSharers, IsEachClear, IsFewMore}
-use Rattle.clash_check.proofs.SingleLemmas.{singles_overlap, singles_apart, beside_judged, singles_some, singles_drawn}
+use Rattle.clash_check.proofs.SingleLemmas.{singles_overlap, singles_apart, beside_judged, singles_drawn}
 use Rattle.clash_check.proofs.singles.have_clash.Goals as goal
 
 pub returns-in-Some-clause-clash : goal.returns-in-Some-clause-clash

@@ -1,4 +1,4 @@
-use Rattle.std.proofs.Common.{◌≡◌, ◌∙◌, ap, ℤ, sym, subst, rules, to_z, of_z, to_z-of_z, w64, FitsSigned}
+use Rattle.std.proofs.Common.{◌∙◌, ap, sym, subst, rules, to_z, to_z-of_z, w64, FitsSigned}
 use Rattle.profile.specs.events.Spans.{IsWidthOf}
 use Rattle.clash_check.proofs.SingleLemmas.{lasts_at, no_width}
 use Rattle.clash_check.proofs.singles.meets.Goals as goal

@@ -1,4 +1,4 @@
-use Rattle.std.proofs.Common.{◌≡◌, ◌+◌, ◌*◌, ◌<◌, subst, arith}
+use Rattle.std.proofs.Common.{◌+◌, subst, arith}
 use Rattle.profile.specs.checker.Certificates.{IsSeriesAt}
 use Rattle.profile.specs.checker.Instances.{AreClear}
 use Rattle.profile.specs.events.Confirmed.{Confirmed}

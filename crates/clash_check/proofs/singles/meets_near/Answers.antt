@@ -1,12 +1,11 @@
-use Rattle.std.proofs.Common.{◌≡◌, ◌∙◌, ℤ, ◌<ℤ◌, length, sym, subst, refl, rules, arith, to_z, of_z, to_z-of_z, w64, FitsSigned}
-use Rattle.std.specs.Prelude.{◌↔◌, IfSome, Some, None, Option}
+use Rattle.std.proofs.Common.{◌∙◌, ℤ, ◌<ℤ◌, length, sym, subst, rules, to_z, of_z, to_z-of_z, w64, FitsSigned}
+use Rattle.std.specs.Prelude.{◌↔◌, Some, None}
 use Rattle.std.proofs.lemmas.Bool.{true≢false}
 use Rattle.profile.specs.events.Confirmed.{Confirmed}
-use Rattle.cal_events.specs.declared.sweep.Span.{Span}
 use Rattle.clash_check.specs.Draws.{IsSpanBetween, IsPlace}
 use Rattle.clash_check.specs.Singles.{IsEntry}
-use Rattle.clash_check.proofs.SweepLemmas.{known_at, series_in}
-use Rattle.clash_check.proofs.SingleLemmas.{IsNear, near_first, near_met, near_few, near_next, near_none, near_all, near_fewer, near_within, near_at, lasts_at}
+use Rattle.clash_check.proofs.SweepLemmas.{known_at}
+use Rattle.clash_check.proofs.SingleLemmas.{near_first, near_met, near_few, near_next, near_none, near_all, near_fewer, near_within, near_at, lasts_at}
 use Rattle.clash_check.proofs.singles.meets_near.Goals as goal
 
 pub loop-next-init : goal.loop-next-init
@@ -63,11 +62,11 @@ loop-next-smaller g c =
     (λ a there.
     let near = near_at a c.args.span width entry _ _ _ c.loop-next.next (Some c.in-Some.instance) c.in-Some.is (at.near a there) in
     let n = near_next a (known_at (g.D.Drawn.calendar c.args.drawn.now) c.is_drawable.ensures c.args.i a there) c.args.span width entry
-            (lasts_at (g.D.Drawn.calendar c.args.drawn.now) c.is_drawable.ensures c.args.i a width there (of a there)) some enters _ _ _ c.in-Some.instance near
-            (g.D.Drawn.coming c.draw_span-next-in-Some.new.drawn c.args.i) _ c.draw_span-next-in-Some.result
-            (λ h. let stop : FitsSigned w64 c.args.span.start = search rules in
-            true≢false (sym (c.is_going_on.ensures.1 (h.0, subst (λ (t : ℤ). t <ℤ c.in-Some.instance.end) (sym (to_z-of_z stop)) h.1)) ∙ c.if-is_going_on.false))
-            c.draw_span-next-in-Some.ensures.drawn c.draw_span-next-in-Some.ensures.coming c.draw_span-next-in-Some.ensures.count in
+    (lasts_at (g.D.Drawn.calendar c.args.drawn.now) c.is_drawable.ensures c.args.i a width there (of a there)) some enters _ _ _ c.in-Some.instance near
+    (g.D.Drawn.coming c.draw_span-next-in-Some.new.drawn c.args.i) _ c.draw_span-next-in-Some.result
+    (λ h. let stop : FitsSigned w64 c.args.span.start = search rules in
+    true≢false (sym (c.is_going_on.ensures.1 (h.0, subst (λ (t : ℤ). t <ℤ c.in-Some.instance.end) (sym (to_z-of_z stop)) h.1)) ∙ c.if-is_going_on.false))
+    c.draw_span-next-in-Some.ensures.drawn c.draw_span-next-in-Some.ensures.coming c.draw_span-next-in-Some.ensures.count in
     (n.0, near_within a c.args.span width entry _ _ _ c.draw_span-next-in-Some.result n.1))
 
 pub loop-next-preserved : goal.loop-next-preserved

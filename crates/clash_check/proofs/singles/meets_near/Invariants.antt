@@ -1,4 +1,4 @@
-use Rattle.std.proofs.Common.{ℕ, ℤ, pos, ◌-ℤ◌, ◌<ℤ◌, unsigned_abs}
+use Rattle.std.proofs.Common.{ℤ, pos, ◌-ℤ◌, ◌<ℤ◌, unsigned_abs}
 use Rattle.profile.specs.checker.Certificates.{IsSeriesAt}
 use Rattle.profile.specs.events.Events.{Event}
 use Rattle.profile.specs.events.Spans.{IsWidthOf}

@@ -1,7 +1,6 @@
-use Rattle.std.proofs.Common.{◌≡◌, ◌∙◌, ◌<◌, ℤ, sym, subst, refl, rules, to_z, of_z, to_z-of_z, w64, FitsSigned}
-use Rattle.profile.specs.events.Confirmed.{Confirmed}
+use Rattle.std.proofs.Common.{ℤ, sym, subst, refl, rules, to_z-of_z, w64, FitsSigned}
 use Rattle.clash_check.specs.Walks.{IsBelow, BeginsWalk}
-use Rattle.clash_check.proofs.SweepLemmas.{steps_left, alone_first, alone_found, alone_some, alone_fewer, alone_past, alone_apart, alone_all}
+use Rattle.clash_check.proofs.SweepLemmas.{alone_first, alone_found, alone_some, alone_fewer, alone_past, alone_apart, alone_all}
 use Rattle.clash_check.proofs.sweep.sweep_alone.Goals as goal
 
 pub loop-walk-init : goal.loop-walk-init

@@ -1,7 +1,6 @@
-use Rattle.std.proofs.Common.{◌≡◌, ◌∙◌, ℤ, sym, subst, refl, arith, rules, length, to_z, of_z, to_z-of_z, w64, FitsSigned}
-use Rattle.profile.specs.events.Confirmed.{Confirmed}
+use Rattle.std.proofs.Common.{ℤ, sym, subst, refl, arith, rules, length, to_z-of_z, w64, FitsSigned}
 use Rattle.clash_check.specs.Walks.{IsBelow, BeginsWalk}
-use Rattle.clash_check.proofs.SweepLemmas.{steps_left, pair_first, pair_turned, pair_found, pair_some, pair_fewer, pair_past, pair_apart, pair_all, have_turned, some_turned}
+use Rattle.clash_check.proofs.SweepLemmas.{pair_first, pair_turned, pair_found, pair_some, pair_fewer, pair_past, pair_apart, pair_all, have_turned, some_turned}
 use Rattle.clash_check.proofs.sweep.sweep_pair.Goals as goal
 
 pub loop-next-init : goal.loop-next-init
@@ -14,17 +13,17 @@ loop-next-init g c = λ bound at.
     c.begin-second.ensures.others c.begin-first.ensures.count c.begin-second.ensures.count
 
 pub returns-then-is_met_by-clause-shared : goal.returns-then-is_met_by-clause-shared
-returns-then-is_met_by-clause-shared g c = 
+returns-then-is_met_by-clause-shared g c =
     let fits : FitsSigned w64 c.args.bound = search rules in
     pair_found (g.D.Drawn.calendar c.args.drawn.now) c.is_drawable.ensures c.args.i c.args.j c.args.bound c.requires.first _ _ _ _ c.loop-next.first c.loop-next.second (c.loop-next.invariant c.args.bound (sym (to_z-of_z fits))) c.in-First.next c.in-First.ensures.0 c.if-is_met_by.ensures
 
 pub returns-then-is_met_by-clause-count : goal.returns-then-is_met_by-clause-count
-returns-then-is_met_by-clause-count g c = 
+returns-then-is_met_by-clause-count g c =
     let fits : FitsSigned w64 c.args.bound = search rules in
     pair_some (g.D.Drawn.calendar c.args.drawn.now) c.is_drawable.ensures c.args.i c.args.j c.args.bound c.requires.first _ _ _ _ c.loop-next.first c.loop-next.second (c.loop-next.invariant c.args.bound (sym (to_z-of_z fits))) c.in-First.next c.in-First.ensures.0 c.if-is_met_by.ensures
 
 pub loop-next-smaller-in-First : goal.loop-next-smaller-in-First
-loop-next-smaller-in-First g c = 
+loop-next-smaller-in-First g c =
     let l = pair_fewer (g.D.Drawn.calendar c.args.drawn.now) c.is_drawable.ensures c.args.i c.args.j _ c.requires.first _ _ _ _ c.loop-next.first c.loop-next.second (c.loop-next.invariant _ refl) c.in-First.next c.in-First.ensures.0 _ c.past-first.result c.past-first.ensures.past in
     omega (arith, l)
 
@@ -45,7 +44,7 @@ returns-then-is_met_by-2-clause-count g c = λ a b here there xs ys of_a of_b.
     some_turned _ _ (length ys) (length xs) (pair_some (g.D.Drawn.calendar c.args.drawn.now) c.is_drawable.ensures c.args.j c.args.i c.args.bound c.requires.second _ _ _ _ c.loop-next.second c.loop-next.first (pair_turned (g.D.Drawn.calendar c.args.drawn.now) c.args.i c.args.j c.args.bound _ _ _ _ c.loop-next.first c.loop-next.second (c.loop-next.invariant c.args.bound (sym (to_z-of_z fits)))) c.in-Second.next c.in-Second.ensures.0 c.if-is_met_by-2.ensures b a there here ys xs of_b of_a)
 
 pub loop-next-smaller : goal.loop-next-smaller
-loop-next-smaller g c = 
+loop-next-smaller g c =
     let l = pair_fewer (g.D.Drawn.calendar c.args.drawn.now) c.is_drawable.ensures c.args.j c.args.i _ c.requires.second _ _ _ _ c.loop-next.second c.loop-next.first (pair_turned (g.D.Drawn.calendar c.args.drawn.now) c.args.i c.args.j _ _ _ _ _ c.loop-next.first c.loop-next.second (c.loop-next.invariant _ refl)) c.in-Second.next c.in-Second.ensures.0 _ c.past-second.result c.past-second.ensures.past in
     omega (arith, l)
 
@@ -57,11 +56,11 @@ loop-next-preserved g c = λ bound at.
     c.past-second.ensures.others c.past-second.ensures.count)
 
 pub returns-in-Over-clause-shared : goal.returns-in-Over-clause-shared
-returns-in-Over-clause-shared g c = 
+returns-in-Over-clause-shared g c =
     let fits : FitsSigned w64 c.args.bound = search rules in
     pair_apart (g.D.Drawn.calendar c.args.drawn.now) c.is_drawable.ensures c.args.i c.args.j c.args.bound c.requires.first _ _ _ _ c.loop-next.first c.loop-next.second (c.loop-next.invariant c.args.bound (sym (to_z-of_z fits))) c.in-Over.ensures.0 c.in-Over.ensures.1
 
 pub returns-in-Over-clause-count : goal.returns-in-Over-clause-count
-returns-in-Over-clause-count g c = 
+returns-in-Over-clause-count g c =
     let fits : FitsSigned w64 c.args.bound = search rules in
     pair_all (g.D.Drawn.calendar c.args.drawn.now) c.is_drawable.ensures c.args.i c.args.j c.args.bound c.requires.first _ _ _ _ c.loop-next.first c.loop-next.second (c.loop-next.invariant c.args.bound (sym (to_z-of_z fits))) c.in-Over.ensures.0 c.in-Over.ensures.1

@@ -1,1 +1,0 @@
-use Rattle.clash_check.proofs.judging.judge_certificate.Goals as goal
