@@ -1,5 +1,5 @@
 -- What a calendar that hands out its instances one by one shows of itself.
-use Rattle.std.specs.Prelude.{◌≡◌, ℕ, ◌+◌, ◌*◌, ◌-◌, ◌^◌, ◌<◌, ◌≤◌, ℤ, pos, ◌+ℤ◌, ◌-ℤ◌, ◌≤ℤ◌, ◌<ℤ◌, Bool, if◌then◌else◌, min, Option, Some, is_some, Contains}
+use Rattle.std.specs.Prelude.{◌≡◌, ℕ, ◌+◌, ◌-◌, ◌^◌, ◌<◌, ◌≤◌, ℤ, ◌+ℤ◌, ◌-ℤ◌, ◌≤ℤ◌, ◌<ℤ◌, if◌then◌else◌, min, Option, Some, is_some, Contains}
 use Rattle.std.specs.List.{slice_get}
 use Rattle.profile.specs.checker.Instances.{Instance, AreClear}
 use Rattle.profile.specs.events.Events.{Event}

@@ -1,11 +1,10 @@
 -- What is said of the entries of a certificate: which of them is the first that doesn't hold, and how many instances that took.
-use Rattle.std.specs.Prelude.{◌≡◌, ◌⊎◌, ℕ, suc, ◌+◌, ◌-◌, ◌^◌, ◌≤◌, ◌<◌, ℤ, Bool, true, false, min, MatchOption, Option, Some, None}
-use Rattle.std.specs.List.{sum_by, range_with_len}
+use Rattle.std.specs.Prelude.{◌≡◌, ◌⊎◌, ℕ, suc, ◌+◌, ◌-◌, ◌^◌, ◌≤◌, ◌<◌, Bool, true, false, min, MatchOption, Option}
 use Rattle.profile.specs.checker.Certificates.{Claims, Entry, End, Span, IsPair, IsPairBefore, IsSeriesAt, EntryHolds, EntryFails, EntriesHold, entry_of}
 use Rattle.profile.specs.events.Events.{Event}
 use Rattle.profile.specs.events.Confirmed.{Confirmed}
 use Rattle.profile.specs.events.Spans.{IsSpan}
-use Rattle.clash_check.specs.Counted.{IsPairCount, AreCounts, row_count, count_before, count_all}
+use Rattle.clash_check.specs.Counted.{AreCounts, row_count, count_before, count_all}
 
 -- so many more, as far as 64 bits go
 abbrev pub IsMore : ℕ → ℕ → ℕ → Type 0

@@ -1,7 +1,6 @@
 -- What the checker's answers say.
 use Rattle.std.specs.Prelude.{ℕ, ℤ, List, ◌≡◌, ◌+◌, ◌-◌, ◌^◌, ◌≤◌, ◌<ℤ◌, ◌⊎◌, length, min}
 use Rattle.profile.specs.checker.Instances.{Instance as SaidInstance, horizon, IsWithin}
-use Rattle.profile.specs.faults.Faults.{is_calendar_fault, is_object_fault}
 use Rattle.profile.specs.checker.Calendars.{SpellsCalendar, CalendarTextFault}
 use Rattle.profile.specs.checker.Certificates.{Claims, SpellsCertificate, entry_of, CertificateHoldsFor, IsWrongText, IsWrongCount, HasFailingEntry, HasClashes}
 use Rattle.profile.specs.events.Confirmed.{Confirmed}
