@@ -7,24 +7,16 @@ use Rattle.std.specs.Cmp.{IsTotalOrder}
 use Rattle.std.specs.Cmp.Lexicographic.{slice_cmp}
 use Rattle.std.proofs.lemmas.Cmp.{on_total, then_total, nat_list_cmp_total, int_cmp_total}
 use Rattle.std.proofs.lemmas.Int.{ints}
-use Rattle.std.proofs.lemmas.List.{length-map}
 use Rattle.std.specs.List.{slice_get}
 use Rattle.std.proofs.lemmas.Bool.{false≢true, cases_lt}
 use Rattle.std.proofs.lemmas.Option.{same_Some, slice_get-get_or, slice_get_within, get_or_from_slice_get}
 use Rattle.profile.specs.checker.Instances.{Key, Instance as SaidInstance, IsClear, AreClashing, AreClear, instance_cmp, key_cmp}
-use Rattle.profile.specs.checker.Certificates.{Claims, IsClaims, text_of, CertificateHoldsFor}
 use Rattle.profile.specs.events.Events.{Event}
 use Rattle.profile.specs.events.Starts.{IsInstance, SharesInstant}
 use Rattle.profile.specs.events.Confirmed.{Confirmed, IsInSeries, IsOneOf}
 use Rattle.cal_events.specs.Calendar.{instance_of, owned_key_of, HaveOwnKeys}
-use Rattle.cal_events.specs.Series.{series_said}
-use Rattle.cal_events.specs.declared.series.Series.{Series}
-use Rattle.cal_period.proofs.EveryPair.{said_at}
 use Rattle.cal_events.specs.declared.instance.Instance.{Instance}
 use Rattle.cal_events.specs.declared.instance.OwnedKey.{OwnedKey}
-use Rattle.cal_period.specs.Clear.{ShareStart}
-use Rattle.cal_period.specs.Besides.{HasNoSharer}
-use Rattle.cal_period.specs.Every.{IsPairClear, PairShares}
 use Rattle.cal_events.proofs.draft_lemmas.KeyLemmas.{key_total, key_exact}
 use Rattle.clash_cert.specs.declared.making.Clash.{Clash}
 use Rattle.clash_cert.specs.Makings.{HasKeys, IsNamedClash, IsNamedAs, AreNamed, IsLaterStart}
@@ -165,22 +157,16 @@ lent all place o i b e is at = same_Some (instance_of i) b (sym (ap (option_map 
 
 -- ---- series by their places
 
--- the series at a place of a slice
-pub series_there : (xs : List Series) (all : List Event) (i : ℕ) (s : Series) (m : Event) → map series_said xs ≡ all → i < length all → s ≡ get_or xs i s → slice_get all i ≡ Some m → m ≡ series_said s
-series_there xs all i s m e w is at =
-    let long = length-map xs series_said in
-    let here : slice_get all i ≡ Some (series_said s) = ap (λ l. slice_get l i) (sym e) ∙ said_at xs i s (omega (arith, w, long, ap length e)) is in
-    same_Some m (series_said s) (sym at ∙ here)
-
--- two instances of series that share an instant have different keys
-pub keys_apart : (all : Confirmed) → HaveOwnKeys all → (i j : ℕ) (x y : SaidInstance) → i ≤ j → j < length all.series → PairShares all.series i j x y → x.key ≢ y.key
-keys_apart all own i j x y l w s =
+-- two instances of series, of which the later comes second, have different keys
+pub keys_apart : (all : Confirmed) → HaveOwnKeys all → (i j : ℕ) (a b : Event) (x y : SaidInstance) → i ≤ j → j < length all.series → slice_get all.series i ≡ Some a → slice_get all.series j ≡ Some b
+    → IsInstance a x → IsInstance b y → (i ≡ j → x.key ≢ y.key) → x.key ≢ y.key
+keys_apart all own i j a b x y l w at_first at_second first second differ =
     elim (cases_lt i j) [
       | inl less ↦ λ same.
-          own.0 i j s.b less w x y
-          (subst (λ (m : Event). IsInstance m x) (sym (get_or_from_slice_get all.series i s.a s.b s.at_first)) s.first)
-          (subst (λ (m : Event). IsInstance m y) (sym (get_or_from_slice_get all.series j s.b s.b s.at_second)) s.second) same
-      | inr from ↦ s.differ (omega (arith, l, from))
+          own.0 i j b less w x y
+          (subst (λ (m : Event). IsInstance m x) (sym (get_or_from_slice_get all.series i a b at_first)) first)
+          (subst (λ (m : Event). IsInstance m y) (sym (get_or_from_slice_get all.series j b b at_second)) second) same
+      | inr from ↦ differ (omega (arith, l, from))
     ]
 
 -- the single at a place is one of what is confirmed
@@ -198,16 +184,18 @@ shares a b t c = record { instant = t; before = c.before; in_first = c.in_first;
 pub shares_turned : (start end from to : ℤ) → SharesInstant start end from to → SharesInstant from to start end
 shares_turned start end from to s = record { instant = s.instant; before = s.before; in_first = s.in_second; in_second = s.in_first }
 
-pub shares_start : (a b : SaidInstance) → ShareStart a b → SharesInstant a.start a.end b.start b.end
-shares_start a b s = record { instant = s.instant; before = s.before; in_first = s.in_first; in_second = s.in_second }
-
 -- ---- what is clear
 
 -- where two singles never clash, and no single shares an instant with a series, no single clashes
-pub singles_clear : (all : Confirmed) → IsClear (Contains all.singles) → ((single : SaidInstance) → Contains all.singles single → HasNoSharer all.series single.start single.end)
+pub singles_clear : (all : Confirmed) → IsClear (Contains all.singles)
+    → ((single : SaidInstance) → Contains all.singles single → (b : SaidInstance) → IsInSeries all.series b → SharesInstant b.start b.end single.start single.end → ⊥)
     → AreClear (Contains all.singles) (IsOneOf all)
 singles_clear all clear apart a b t x (inl y) c = clear a b t x y c
 singles_clear all clear apart a b t x (inr y) c = apart a x b y (record { instant = t; before = c.before; in_first = c.in_second; in_second = c.in_first })
+
+-- no instance of the series at one place clashes with an instance of the series at another
+abbrev pub IsPairClear : List Event → ℕ → ℕ → Type 0
+IsPairClear all i j = (a b : Event) → slice_get all i ≡ Some a → slice_get all j ≡ Some b → AreClear (IsInstance a) (IsInstance b)
 
 -- and where all pairs of series are clear, all are
 module _ (all : Confirmed) (singles : AreClear (Contains all.singles) (IsOneOf all)) (pairs : (p q : ℕ) → p ≤ q → q < length all.series → IsPairClear all.series p q) where
@@ -224,17 +212,6 @@ module _ (all : Confirmed) (singles : AreClear (Contains all.singles) (IsOneOf a
   all_clear a b t (inl x) y c = singles a b t x y c
   all_clear a b t (inr x) (inl y) c = singles b a t y (inr x) (turned a b t c)
   all_clear a b t (inr x) (inr y) c = series_clear a b t x y c
-
--- where all are clear, a certificate of the counts holds
-pub certificate_holds : (all : Confirmed) (c : Claims) → IsClaims c → c.singles ≡ length all.singles → c.series ≡ length all.series → AreClear (IsOneOf all) (IsOneOf all)
-    → CertificateHoldsFor all (text_of c)
-certificate_holds all c h singles series clear = record {
-  c = c;
-  spells = record { claims = h; is = refl };
-  counts = record { singles = singles; series = series };
-  entries = λ i j pair m n at_m at_n a b t x y clash. clear a b t (series_in all (i - 1) m a at_m x) (series_in all (j - 1) n b at_n y) clash;
-  singles = λ a b t x y clash. clear a b t (inl x) y clash;
-}
 
 -- of singles alone, without series, all are clear where the singles are
 pub singles_alone : (all : List SaidInstance) → IsClear (Contains all) → AreClear (IsOneOf (record { series = []; singles = all })) (IsOneOf (record { series = []; singles = all }))

@@ -19,7 +19,7 @@ use Rattle.std.proofs.lemmas.List.Sums.{sum_by-cons, sum_by-append}
 use Rattle.std.proofs.lemmas.Slice.Eq.{bytes_eq-Decides}
 use Rattle.std.proofs.lemmas.List.Quantifiers.{position-Some}
 use denote.Ref.{Bor}
-use Rattle.profile.specs.checker.Certificates.{Claims, IsClaims, lines_of, pair_line, row_lines, pair_lines, entry_lines, spelled}
+use Rattle.profile.specs.checker.Certificates.{spelled}
 use Rattle.clash_cert.specs.Texts.{Lacks, LacksLine, LacksCount, LacksLf, IsCutAtLf, IsNoNumber}
 
 pub cancel : (a x y : List ℕ) → a ++ x ≡ a ++ y → x ≡ y
@@ -144,60 +144,26 @@ position_at a rest h =
     cond-true _ _ _ t ∙ ap Some e
 
 -- lines without LF inside
-abbrev pub AreLines : List (List ℕ) → Type 0
-AreLines [] = Unit {0}
-AreLines (l ∷ ls) = (lf_free l ≡ true) × AreLines ls
+abbrev pub AreFree : List (List ℕ) → Type 0
+AreFree [] = Unit {0}
+AreFree (l ∷ ls) = (lf_free l ≡ true) × AreFree ls
 
-pub AreLines-take : (n : ℕ) (ls : List (List ℕ)) → AreLines ls → AreLines (take n ls)
-AreLines-take zero ls h = tt
-AreLines-take (suc n) [] h = tt
-AreLines-take (suc n) (l ∷ ls) h = (h.0, AreLines-take n ls h.1)
+pub AreFree-take : (n : ℕ) (ls : List (List ℕ)) → AreFree ls → AreFree (take n ls)
+AreFree-take zero ls h = tt
+AreFree-take (suc n) [] h = tt
+AreFree-take (suc n) (l ∷ ls) h = (h.0, AreFree-take n ls h.1)
 
-pub AreLines-append : (ls ms : List (List ℕ)) → AreLines ls → AreLines ms → AreLines (ls ++ ms)
-AreLines-append [] ms h k = k
-AreLines-append (l ∷ ls) ms h k = (h.0, AreLines-append ls ms h.1 k)
+pub AreFree-append : (ls ms : List (List ℕ)) → AreFree ls → AreFree ms → AreFree (ls ++ ms)
+AreFree-append [] ms h k = k
+AreFree-append (l ∷ ls) ms h k = (h.0, AreFree-append ls ms h.1 k)
 
 -- and those of which it is the front
-pub AreLines-front : (ls ms : List (List ℕ)) → AreLines (ls ++ ms) → AreLines ls
-AreLines-front [] ms h = tt
-AreLines-front (l ∷ ls) ms h = (h.0, AreLines-front ls ms h.1)
-
--- the lines of a certificate are such
-pair_free : (c : Claims) (i j : ℕ) → i < 2 ^ 64 → j < 2 ^ 64 → lf_free (pair_line c i j) ≡ true
-pair_free c i j h k =
-    let tail : lf_free (codes " " ++ (decimal j ++ (codes " " ++ codes "END"))) ≡ true = lf_free-append (decimal j) (codes " " ++ codes "END") (decimal_free j k) refl in
-    lf_free-append (decimal i) (codes " " ++ (decimal j ++ (codes " " ++ codes "END"))) (decimal_free i h) tail
-
-row_are : (c : Claims) (i j count : ℕ) → i < 2 ^ 64 → j + count ≤ 2 ^ 64 → AreLines (row_lines c i j count)
-row_are c i j zero h k = tt
-row_are c i j (suc count) h k = (pair_free c i j h (omega (arith, k)), row_are c i (suc j) count h (omega (arith, k)))
-
-pairs_are : (c : Claims) (i count : ℕ) → i + count ≤ 2 ^ 64 → AreLines (pair_lines c i count)
-pairs_are c i zero k = tt
-pairs_are c i (suc count) k =
-    AreLines-append (row_lines c i i (suc count)) (pair_lines c (suc i) count) (row_are c i i (suc count) (omega (arith, k)) k) (pairs_are c (suc i) count (omega (arith, k)))
-
-pub entries_are : (c : Claims) → IsClaims c → AreLines (entry_lines c)
-entries_are c h = AreLines-append (pair_lines c 1 c.series) (codes "DONE" ∷ []) (pairs_are c 1 c.series (omega (arith, h.1))) (refl, tt)
-
--- its first three lines
-abbrev pub head_lines : Claims → List (List ℕ)
-head_lines c = codes "ROOMCERT 1" ∷ (codes "SINGLES " ++ decimal c.singles) ∷ (codes "SERIES " ++ decimal c.series) ∷ []
-
-pub head_are : (c : Claims) → IsClaims c → AreLines (head_lines c)
-head_are c h = (
-  refl,
-  (
-    lf_free-append (codes "SINGLES ") (decimal c.singles) refl (decimal_free c.singles h.0),
-    (lf_free-append (codes "SERIES ") (decimal c.series) refl (decimal_free c.series h.1), tt),
-  ),
-)
-
-pub lines_are : (c : Claims) → IsClaims c → AreLines (lines_of c)
-lines_are c h = AreLines-append (head_lines c) (entry_lines c) (head_are c h) (entries_are c h)
+pub AreFree-front : (ls ms : List (List ℕ)) → AreFree (ls ++ ms) → AreFree ls
+AreFree-front [] ms h = tt
+AreFree-front (l ∷ ls) ms h = (h.0, AreFree-front ls ms h.1)
 
 -- as many lines before, the same rest
-pub one_rest : (ls ms : List (List ℕ)) (x y : List ℕ) → AreLines ls → AreLines ms → length ls ≡ length ms → spelled ls x ≡ spelled ms y → x ≡ y
+pub one_rest : (ls ms : List (List ℕ)) (x y : List ℕ) → AreFree ls → AreFree ms → length ls ≡ length ms → spelled ls x ≡ spelled ms y → x ≡ y
 one_rest [] [] x y h k n e = e
 one_rest [] (m ∷ ms) x y h k n e = absurd (omega (arith, n))
 one_rest (l ∷ ls) [] x y h k n e = absurd (omega (arith, n))
@@ -244,7 +210,7 @@ no_breaks (c ∷ a) h =
     let rest = no_breaks a p.1 in
     first_break c a ∙ (ap (λ n. n + breaks a) here ∙ omega (arith, rest))
 
-count_lines : (ls : List (List ℕ)) → AreLines ls → breaks (spelled ls []) ≡ length ls
+count_lines : (ls : List (List ℕ)) → AreFree ls → breaks (spelled ls []) ≡ length ls
 count_lines [] h = refl
 count_lines (l ∷ ls) h =
     let none = no_breaks l h.0 in
@@ -253,7 +219,7 @@ count_lines (l ∷ ls) h =
     breaks-append l (10 ∷ spelled ls []) ∙ (ap (λ n. breaks l + n) end ∙ omega (arith, none, more))
 
 -- after this many lines the rest begins
-pub line_at : (text rest : List ℕ) (ls : List (List ℕ)) → AreLines ls → text ≡ spelled ls rest
+pub line_at : (text rest : List ℕ) (ls : List (List ℕ)) → AreFree ls → text ≡ spelled ls rest
     → breaks (take (length text - length rest) text) ≡ length ls
 line_at text rest ls h e =
     let parts : text ≡ spelled ls [] ++ rest = e ∙ spelled_rest ls rest in

@@ -1,9 +1,9 @@
 -- What making gives, and which clash a `Clash` names.
-use Rattle.std.specs.Prelude.{ℕ, ℤ, MatchBool, ◌≡◌, ◌⊎◌, ◌≤ℤ◌}
+use Rattle.std.specs.Prelude.{ℕ, ℤ, List, MatchBool, ◌≡◌, ◌⊎◌, ◌≤ℤ◌}
 use Rattle.std.specs.Ordering.{is_lt}
 use Rattle.std.specs.declared.cmp.Ordering.TheVariants.{Less}
 use Rattle.profile.specs.checker.Instances.{Instance, AreClashing, instance_cmp}
-use Rattle.profile.specs.checker.Certificates.{text_of, CertificateHoldsFor}
+use Rattle.profile.specs.checker.Certificates.{SpellsCertificate, CertificateHoldsFor, IsCertificateMade}
 use Rattle.profile.specs.events.Confirmed.{Confirmed, IsOneOf}
 use Rattle.cal_events.specs.Calendar.{owned_key_of}
 use Rattle.clash_cert.specs.declared.making.Clash.{Clash}
@@ -36,9 +36,9 @@ pub record IsNamedClash (all : Confirmed) (clash : Clash) : Type 0 where
   pub less : instance_cmp a b ≡ Less
   pub later : clash.instant ≡ b.start
 
--- a certificate that holds for what is confirmed, else a clash of two
+-- each text of the certificate is one for what is confirmed; else a clash of two
 abbrev pub IsMadeFor : Confirmed → Made → Type 0
-IsMadeFor all (made.Clear c) = CertificateHoldsFor all (text_of c)
+IsMadeFor all (made.Clear c) = (text : List ℕ) → SpellsCertificate text c → CertificateHoldsFor all text
 IsMadeFor all (made.Clash clash) = IsNamedClash all clash
 
 -- a certificate was made, and no clash found
@@ -46,10 +46,10 @@ abbrev pub IsCertificate : Made → Type 0
 IsCertificate (made.Clear c) = Unit {0}
 IsCertificate (made.Clash clash) = ⊥
 
--- a certificate has these counts of singles and series
-abbrev pub MadeHasCounts : ℕ → ℕ → Made → Type 0
-MadeHasCounts singles series (made.Clear c) = (c.singles ≡ singles) × (c.series ≡ series)
-MadeHasCounts singles series (made.Clash clash) = Unit {0}
+-- of all certificates it is the one that is made for what is confirmed
+abbrev pub IsChosenFor : Confirmed → Made → Type 0
+IsChosenFor all (made.Clear c) = IsCertificateMade all c
+IsChosenFor all (made.Clash clash) = Unit {0}
 
 -- it names the two, the lesser first
 abbrev pub AreNamed : Instance → Instance → ℤ → Clash → Type 0

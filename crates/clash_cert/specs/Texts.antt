@@ -1,5 +1,6 @@
 -- What the steps of the reader say.
-use Rattle.std.specs.Prelude.{ℕ, List, [], ◌∷◌, ◌++◌, ◌^◌, ◌<◌, ◌≡◌, ◌≢◌, ◌⊎◌, ◌==◌, Some, None, length, position, decimal}
+use Rattle.std.specs.Prelude.{ℕ, List, [], ◌∷◌, ◌++◌, ◌^◌, ◌<◌, ◌≡◌, ◌≢◌, ◌⊎◌, ◌==◌, Some, None, length, position, decimal, map, Vec}
+use Rattle.std.specs.declared.alloc.Global.{Global}
 use Rattle.profile.specs.checker.Certificates.{FirstWrong, spelled}
 use Rattle.profile.specs.checker.Certificates as said
 use Rattle.clash_cert.specs.declared.certificate.Entry.{Entry}
@@ -53,3 +54,8 @@ IsBroken lines bytes rest = MissesLine lines bytes rest ⊎ ((bytes ≡ spelled 
 -- what an entry says
 abbrev pub entry_said : Entry → said.Entry
 entry_said TheVariants.End = said.End
+entry_said (TheVariants.Span from days) = said.Span from days
+
+-- what the entries of all rows say
+abbrev pub rows_said : List (Vec Entry Global) → List (List said.Entry)
+rows_said rows = map (λ row. map entry_said row.items) rows

@@ -5,4 +5,4 @@ pub mod certificate;
 pub mod making;
 
 pub use certificate::{CertFault, Certificate, Entry, first_wrong_line_is_one};
-pub use making::{Clash, Confirmed, Made, clash_of, make};
+pub use making::{Clash, Made, certificate_of, clash_of, make};
