@@ -1,2 +1,5 @@
 pub mod Texts
+pub mod Places
+pub mod Reading
+pub mod Stops
 pub mod Makings
