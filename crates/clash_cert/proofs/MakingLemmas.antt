@@ -1,11 +1,10 @@
 -- Which of two clashing instances is named first.
-use Rattle.std.proofs.Common.{◌≡◌, ◌≢◌, ◌⊎◌, ℕ, Bool, true, false, ◌<◌, ◌≤◌, ◌-◌, ℤ, ◌≤ℤ◌, List, [], ◌∷◌, length, map, get_or, subst, sym, refl, ap, inl, inr, ◌∙◌, arith, Ordering}
+use Rattle.std.proofs.Common.{◌≡◌, ◌≢◌, ℕ, Bool, true, false, ◌<◌, ◌≤◌, ℤ, ◌≤ℤ◌, List, [], ◌∷◌, length, get_or, subst, sym, refl, ap, inl, inr, ◌∙◌, arith, Ordering}
 use Rattle.std.specs.Prelude.{Option, Some, None, option_map, is_some, Contains, MatchBool}
 use Rattle.std.specs.declared.cmp.Ordering.TheVariants.{Less, Equal, Greater}
-use Rattle.std.specs.Ordering.{is_lt, nat_cmp, int_cmp, ordering_then, ordering_reverse}
+use Rattle.std.specs.Ordering.{is_lt, int_cmp, ordering_then, ordering_reverse}
 use Rattle.std.specs.Cmp.{IsTotalOrder}
-use Rattle.std.specs.Cmp.Lexicographic.{slice_cmp}
-use Rattle.std.proofs.lemmas.Cmp.{on_total, then_total, nat_list_cmp_total, int_cmp_total}
+use Rattle.std.proofs.lemmas.Cmp.{on_total, then_total, int_cmp_total}
 use Rattle.std.proofs.lemmas.Int.{ints}
 use Rattle.std.specs.List.{slice_get}
 use Rattle.std.proofs.lemmas.Bool.{false≢true, cases_lt}

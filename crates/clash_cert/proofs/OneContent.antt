@@ -1,11 +1,11 @@
 -- A text is the certificate of one content, and a content has one text.
-use Rattle.std.proofs.Common.{◌≡◌, ◌≢◌, ℕ, ℤ, zero, suc, ◌+◌, ◌^◌, ◌<◌, List, [], ◌∷◌, ◌++◌, length, get_or, subst, sym, refl, ap, ◌∙◌, arith}
+use Rattle.std.proofs.Common.{◌≡◌, ℕ, ℤ, zero, suc, List, [], ◌∷◌, ◌++◌, length, get_or, subst, sym, refl, ap, ◌∙◌, arith}
 use Rattle.std.specs.Prelude.{codes, decimal, All}
-use Rattle.std.proofs.lemmas.List.{append_cancel_left, append_cancel_right, length-append}
+use Rattle.std.proofs.lemmas.List.{append_cancel_left, append_cancel_right}
 use Rattle.std.proofs.lemmas.List.Elements.{All-head, All-tail}
 use Rattle.std.proofs.lemmas.Fmt.{decimal_injective}
 use Rattle.profile.specs.text.Values.{WritesStamp, two_digits, four_digits}
-use Rattle.profile.specs.checker.Certificates.{Entry, End, Span, Claims, IsClaims, IsEntry, IsEntryText, IsPairLine, AreRows, AreRowLines, ArePairLines, AreLines, spelled, SpellsCertificate}
+use Rattle.profile.specs.checker.Certificates.{Entry, End, Span, Claims, IsEntry, IsEntryText, IsPairLine, AreRows, AreRowLines, ArePairLines, spelled, SpellsCertificate}
 use Rattle.clash_cert.specs.Places.{AreLinesFor, line_places}
 use Rattle.clash_cert.proofs.TextLemmas.{cancel, same_front, same_lines}
 use Rattle.clash_cert.proofs.PlaceLemmas.{fit_length, lines_free}

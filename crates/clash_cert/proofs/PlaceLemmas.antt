@@ -1,12 +1,12 @@
 -- Lines by their places: which fit, and which rows they spell.
-use Rattle.std.proofs.Common.{◌≡◌, ◌≢◌, ℕ, zero, suc, ◌+◌, ◌-◌, ◌^◌, ◌<◌, ◌≤◌, ◌==◌, Bool, true, false, not, ◌&&◌, ◌/◌, ◌%◌, ℤ, List, [], ◌∷◌, ◌++◌, length, drop, subst, sym, refl, ap, ◌∙◌, append_assoc, lit<, arith}
+use Rattle.std.proofs.Common.{◌≡◌, ℕ, zero, suc, ◌+◌, ◌^◌, ◌<◌, ◌≤◌, ◌==◌, true, not, ◌&&◌, ◌/◌, ◌%◌, ℤ, List, [], ◌∷◌, ◌++◌, length, subst, sym, refl, ap, arith}
 use Rattle.std.specs.Prelude.{codes, decimal, All}
 use Rattle.std.proofs.lemmas.Bool.{and_from}
 use Rattle.std.proofs.lemmas.Bool.Decides.{nat_tests}
 use Rattle.std.proofs.lemmas.List.Elements.{All-nil, All-cons, All-head, All-tail}
-use Rattle.profile.specs.checker.Certificates.{Entry, End, Span, IsEntry, IsEntryText, IsPairLine, AreRows, AreRowLines, ArePairLines}
+use Rattle.profile.specs.checker.Certificates.{Entry, End, Span, IsEntry, IsEntryText, AreRows, AreRowLines, ArePairLines}
 use Rattle.profile.specs.text.Values.{WritesStamp, two_digits, four_digits}
-use Rattle.clash_cert.specs.Places.{Place, Pair, Last, IsLineFor, AreLinesFor, row_places, pair_places, line_places}
+use Rattle.clash_cert.specs.Places.{Place, Pair, Last, IsLineFor, AreLinesFor, row_places, pair_places}
 use Rattle.clash_cert.proofs.TextLemmas.{lf_free, AreFree, decimal_free, lf_free-append}
 
 -- ---- lines one behind another

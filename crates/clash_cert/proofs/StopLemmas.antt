@@ -1,5 +1,5 @@
 -- Where reading stops inside a part, it stops in the whole.
-use Rattle.std.proofs.Common.{ℕ, List, ◌++◌, suc}
+use Rattle.std.proofs.Common.{ℕ, List, ◌++◌}
 use Rattle.clash_cert.specs.Places.{Place, pair_places, line_places, MissesPlace, IsBroken}
 use Rattle.clash_cert.specs.Stops.{StopsAt}
 use Rattle.clash_cert.specs.declared.reading.Stop.{Stop}

@@ -1,11 +1,11 @@
 -- A walk through the lines of a text: those that were at its front so far, and the places that are left.
 use Rattle.std.proofs.Common.{◌≡◌, ◌≢◌, ◌∙◌, inl, inr, drop, ℕ, zero, suc, ◌+◌, ◌-◌, ◌^◌, ◌<◌, ◌≤◌, List, [], ◌∷◌, ◌++◌, length, take, append_assoc, append-nil, Result, Ok, Err, IsErrAnd, subst, sym, refl, ap, arith}
 use Rattle.std.specs.Prelude.{All, codes, decimal, MatchResult}
-use Rattle.std.proofs.lemmas.List.{length-append, length-take, take-append-le, take-append-drop}
+use Rattle.std.proofs.lemmas.List.{length-take, take-append-le, take-append-drop}
 use Rattle.std.proofs.Math.Seq.{take-append_seam}
 use Rattle.std.proofs.lemmas.List.Elements.{All-nil, All-push}
 use Rattle.profile.specs.checker.Certificates.{Entry, IsEntry, IsPairLine, AreRows, AreRowLines, ArePairLines, spelled}
-use Rattle.clash_cert.specs.Places.{Place, Pair, Last, IsLineFor, AreLinesFor, row_places, pair_places, line_places, LacksPlace, MissesPlace, HasMore, IsBroken}
+use Rattle.clash_cert.specs.Places.{Place, Pair, Last, AreLinesFor, row_places, pair_places, line_places, LacksPlace, MissesPlace, IsBroken}
 use Rattle.clash_cert.specs.Reading.{IsPairAt, IsRowAt, AreFirstRows, AreRowsAt, AreEntriesOf, SpellsRow, SpellsRows, SpellsLines}
 use Rattle.clash_cert.specs.Texts.{LacksLine}
 use Rattle.ical_values.specs.Written.{Appends}

@@ -1,7 +1,7 @@
 -- A whole text, as it was read and as it was written.
 use Rattle.std.proofs.Common.{◌≡◌, ◌∙◌, ℕ, zero, suc, ◌+◌, ◌^◌, ◌<◌, List, [], ◌∷◌, ◌++◌, length, get_or, subst, sym, refl, ap, arith}
-use Rattle.std.specs.Prelude.{codes, decimal}
-use Rattle.profile.specs.checker.Certificates.{Entry, Claims, IsClaims, AreRows, AreLines, spelled, SpellsCertificate}
+use Rattle.std.specs.Prelude.{codes, Result, Ok, Err, OnOk}
+use Rattle.profile.specs.checker.Certificates.{Entry, IsClaims, AreRows, AreLines, spelled, SpellsCertificate}
 use Rattle.ical_values.specs.Written.{Appends}
 use Rattle.clash_cert.specs.Reading.{AreEntriesOf, SpellsLines}
 use Rattle.clash_cert.proofs.WrongLines.{IsHeaded, head_lines}
@@ -45,3 +45,8 @@ row_count zero rows place d h w = absurd (let k = ap length h in omega (arith, w
 row_count (suc n) [] place d h w = absurd h
 row_count (suc n) (row ∷ rows) zero d h w = let k = h.0 in omega (arith, k)
 row_count (suc n) (row ∷ rows) (suc place) d h w = let k = row_count n rows place d h.2 (omega (arith, w)) in omega (arith, k)
+
+-- what follows from what a call says where it ends in `Ok`
+pub ok_also : {T E : Type 0} (r : Result T E) (P Q : Type 0) → (P → Q) → OnOk r P → OnOk r Q
+ok_also (Ok x) P Q f p = f p
+ok_also (Err e) P Q f p = tt

@@ -1,5 +1,5 @@
 -- The words of an entry, and the line of a pair.
-use Rattle.std.proofs.Common.{◌≡◌, ◌≢◌, ℕ, ℤ, ◌+◌, ◌/◌, ◌%◌, ◌^◌, ◌<◌, ◌≤◌, ◌==◌, Bool, true, false, List, [], ◌∷◌, ◌++◌, length, get_or, take, drop, subst, sym, refl, ap, ◌∙◌, append_assoc, arith}
+use Rattle.std.proofs.Common.{◌≡◌, ◌≢◌, ℕ, ℤ, ◌+◌, ◌/◌, ◌<◌, ◌≤◌, ◌==◌, Bool, true, false, List, ◌∷◌, ◌++◌, length, get_or, subst, sym, refl, ap, ◌∙◌, append_assoc, arith}
 use Rattle.std.specs.Prelude.{Option, Some, None, MatchOption, Result, Ok, Err, IfOk, OnErr, codes, decimal, position}
 use Rattle.std.specs.Result.{result_ok}
 use Rattle.std.specs.Str.{bytes_eq}
@@ -10,11 +10,11 @@ use Rattle.std.proofs.lemmas.Option.{same_Some, none-some}
 use Rattle.std.proofs.lemmas.List.{length-append}
 use Rattle.std.proofs.lemmas.Bool.{true≢false}
 use Rattle.profile.specs.text.Values.{SpellsStamp, WritesStamp, SpellsClock, two_digits, four_digits}
-use Rattle.profile.specs.checker.Certificates.{Entry, End, Span, IsEntry, IsEntryText, IsPairLine}
+use Rattle.profile.specs.checker.Certificates.{Entry, End, Span, IsEntry, IsEntryText}
 use Rattle.clash_cert.specs.Texts.{Lacks, LacksLf, IsCutAtLf, IsNoNumber}
-use Rattle.clash_cert.specs.Places.{Place, Pair, LacksPlace}
+use Rattle.clash_cert.specs.Places.{Pair, LacksPlace}
 use Rattle.clash_cert.specs.Reading.{pair_names, IsNoEntry, IsPairAt}
-use Rattle.clash_cert.proofs.TextLemmas.{lf_free, cancel, position_at, same_front}
+use Rattle.clash_cert.proofs.TextLemmas.{cancel, position_at, same_front}
 use Rattle.clash_cert.proofs.PlaceLemmas.{entry_free}
 use Rattle.clash_cert.proofs.OneContent.{stamp_length}
 

@@ -1,5 +1,5 @@
 -- Which line is the first wrong one.
-use Rattle.std.proofs.Common.{◌≡◌, ◌≢◌, ℕ, zero, suc, ◌+◌, ◌-◌, ◌^◌, ◌<◌, ◌≤◌, ◌==◌, Bool, false, List, [], ◌∷◌, ◌++◌, length, get_or, take, drop, subst, sym, refl, ap, ◌∙◌, inl, inr, lit<, append_assoc, arith}
+use Rattle.std.proofs.Common.{◌≡◌, ◌≢◌, ℕ, zero, suc, ◌-◌, ◌^◌, ◌<◌, ◌≤◌, ◌==◌, Bool, false, List, [], ◌∷◌, ◌++◌, length, get_or, take, drop, subst, sym, refl, ap, ◌∙◌, inl, inr, lit<, arith}
 use Rattle.std.specs.Prelude.{codes, decimal}
 use Rattle.std.proofs.lemmas.Bool.{cases_order, true≢false}
 use Rattle.std.proofs.lemmas.List.{length-take-le, length-append, take_all}
@@ -7,8 +7,8 @@ use Rattle.std.proofs.Math.Seq.{take-append_seam}
 use Rattle.std.proofs.lemmas.Fmt.{decimal_injective}
 use Rattle.profile.specs.checker.Certificates.{Claims, IsClaims, AreLines, spelled, SpellsCertificate, BeginsWell, FirstWrong}
 use Rattle.clash_cert.specs.Texts.{LacksLine, LacksCount}
-use Rattle.clash_cert.specs.Places.{Place, Last, IsLineFor, AreLinesFor, pair_places, line_places, LacksPlace, MissesPlace, HasMore, IsBroken}
-use Rattle.clash_cert.proofs.TextLemmas.{AreFree, AreFree-take, AreFree-append, one_rest, one_cut, one_line, same_lines, cancel, decimal_free, lf_free-append, spelled-take, spelled-take_suc, spelled-append, breaks, line_at}
+use Rattle.clash_cert.specs.Places.{Place, Last, IsLineFor, AreLinesFor, pair_places, line_places, MissesPlace, HasMore, IsBroken}
+use Rattle.clash_cert.proofs.TextLemmas.{AreFree, AreFree-take, AreFree-append, one_rest, same_lines, cancel, decimal_free, lf_free-append, spelled-take, spelled-take_suc, spelled-append, breaks, line_at}
 use Rattle.clash_cert.proofs.PlaceLemmas.{fit_append, fit_parts, fit_length, lines_free, pairs_fit, rows_spelled, pair_ends}
 
 -- ---- the lines of a certificate

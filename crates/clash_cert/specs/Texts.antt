@@ -1,5 +1,5 @@
 -- What the steps of the reader say.
-use Rattle.std.specs.Prelude.{ℕ, List, [], ◌∷◌, ◌++◌, ◌^◌, ◌<◌, ◌≡◌, ◌≢◌, ◌==◌, Some, None, length, position, decimal, map, Vec}
+use Rattle.std.specs.Prelude.{ℕ, List, ◌∷◌, ◌++◌, ◌^◌, ◌<◌, ◌≡◌, ◌≢◌, ◌==◌, Some, None, length, position, decimal, map, Vec}
 use Rattle.std.specs.declared.alloc.Global.{Global}
 use Rattle.profile.specs.checker.Certificates.{FirstWrong}
 use Rattle.profile.specs.checker.Certificates as said

@@ -1,4 +1,4 @@
-use Rattle.std.proofs.Common.{◌≢◌, ◌≡◌, ◌++◌, ◌∙◌, take, drop, ap, subst, sym, codes}
+use Rattle.std.proofs.Common.{◌≢◌, ◌≡◌, ◌++◌, ◌∙◌, drop, ap, subst, sym, codes}
 use Rattle.std.proofs.lemmas.List.{take-append-drop}
 use Rattle.profile.specs.checker.Certificates.{Entry, IsEntryText}
 use Rattle.clash_cert.proofs.TextLemmas.{none_exit}

@@ -1,4 +1,4 @@
-use Rattle.std.proofs.Common.{◌<◌, ◌^◌, inr, rules}
+use Rattle.std.proofs.Common.{◌<◌, ◌^◌, rules}
 use Rattle.ical_values.proofs.Facts.{empty_from}
 use Rattle.clash_cert.specs.Texts.{rows_said}
 use Rattle.clash_cert.proofs.Walking.{err_result, done_missing, more_there, entries_end}

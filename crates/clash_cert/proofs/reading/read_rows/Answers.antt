@@ -1,4 +1,4 @@
-use Rattle.std.proofs.Common.{◌≡◌, ◌-◌, ◌+◌, ◌<◌, ◌^◌, ◌∷◌, ◌∙◌, ◌++◌, [], suc, List, ℕ, length, map, subst, sym, ap, arith, rules}
+use Rattle.std.proofs.Common.{◌≡◌, ◌-◌, ◌+◌, ◌<◌, ◌^◌, ◌∷◌, ◌∙◌, ◌++◌, [], suc, List, length, map, subst, sym, ap, arith, rules}
 use Rattle.std.proofs.lemmas.List.{map-append, length-map, length-append}
 use Rattle.profile.specs.checker.Certificates.{Entry}
 use Rattle.clash_cert.specs.Texts.{entry_said, rows_said}

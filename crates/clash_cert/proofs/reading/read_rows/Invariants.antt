@@ -1,4 +1,4 @@
-use Rattle.std.proofs.Common.{◌≡◌, ◌-◌, ◌+◌, ◌≤◌, suc, length}
+use Rattle.std.proofs.Common.{◌≡◌, ◌-◌, ◌≤◌, suc, length}
 use Rattle.clash_cert.specs.Texts.{rows_said}
 use Rattle.clash_cert.specs.Places.{pair_places}
 use Rattle.clash_cert.specs.Reading.{AreRowsAt}

@@ -1,4 +1,3 @@
-use Rattle.std.specs.Prelude.{ℤ}
 use Rattle.ical_values.proofs.ShownValues.{utf8_stamp}
 use Rattle.ical_values.proofs.Readings.{stamp_written}
 use Rattle.clash_cert.proofs.TextLemmas.{at_value, at_no_value, none_exit}

@@ -1,8 +1,10 @@
-use Rattle.std.proofs.Common.{◌≡◌, ◌∙◌, length, map, sym}
+use Rattle.std.proofs.Common.{length, map, subst, sym}
 use Rattle.std.proofs.lemmas.List.{length-map}
 use Rattle.clash_cert.specs.Texts.{entry_said, rows_said}
+use Rattle.clash_cert.specs.Places.{line_places, IsBroken}
+use Rattle.clash_cert.specs.Stops.{StopsAt}
 use Rattle.clash_cert.proofs.WrongLines.{wrong_first, wrong_second, wrong_third, headed, wrong_entry}
-use Rattle.clash_cert.proofs.WholeText.{counted, claims_read, certificate_read}
+use Rattle.clash_cert.proofs.WholeText.{claims_read, certificate_read}
 use Rattle.clash_cert.proofs.certificate.Certificate.read.Goals as goal
 
 pub returns-in_default-clause-fault : goal.returns-in_default-clause-fault
@@ -45,4 +47,4 @@ returns-in-Err-At-clause-fault c =
     let rest = c.in-Some-after_count-2.rest.now in
     let head = headed c.args.bytes.now c.in-Some.rest.now c.in-Some-after_count.rest.now rest c.in-Some-after_count.singles c.in-Some-after_count-2.series c.in-Some.ensures c.in-Some-after_count.ensures
     c.in-Some-after_count-2.ensures in
-    wrong_entry c.args.bytes.now rest c.in-Some-after_count.singles c.in-Some-after_count-2.series head c.in-Err-At.rest.now c.line_of.result c.in-Err-At.ensures c.line_of.ensures
+    wrong_entry c.args.bytes.now rest c.in-Some-after_count.singles c.in-Some-after_count-2.series head c.in-Err-At.rest.now c.line_of.result (subst (StopsAt (IsBroken (line_places c.in-Some-after_count-2.series) rest)) c.in-Err-At.field-0-is c.in-Err-At.ensures) c.line_of.ensures
