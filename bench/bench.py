@@ -598,6 +598,10 @@ def main():
     for work, calendar_text, certificate_text in odd:
         seconds, peak, size = quickly(program, calendar_text, certificate_text)
         line(work, 1, seconds, f"{size / seconds / 1e6:.0f} MB/s", peak)
+    # its own module uses this one
+    from spans import spans
+
+    spans(program, sys.argv[3])
 
 
 if __name__ == "__main__":

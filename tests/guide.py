@@ -405,12 +405,15 @@ def kept_series(cases, program):
                 ["BEGIN", "UID", "SEQUENCE", "DTSTAMP", "DTSTART", "DURATION", "RRULE", "RDATE", "EXDATE", "ORGANIZER", "ATTENDEE;PARTSTAT=ACCEPTED", "END"])
     gone = message("CANCEL", vevent("s", 1, "20250311T090000Z", slot="20250311T090000Z"))
     cases.holds("a cancelled start of a series", [line for line in lines_of(recurring(), gone) if line.startswith(("RECURRENCE-ID", "STATUS"))], ["RECURRENCE-ID:20250311T090000Z", "STATUS:CANCELLED"])
-    one, two = "ROOMCERT 1\nSINGLES 0\nSERIES 1\nPAIR 1 1 END\nDONE\n", "ROOMCERT 1\nSINGLES 0\nSERIES 2\nPAIR 1 1 END\nPAIR 1 2 END\nPAIR 2 2 END\nDONE\n"
+    # the last start is on the 12th, also where it is excepted
+    one = "ROOMCERT 1\nSINGLES 0\nSERIES 1\nPAIR 1 1 SPAN 20250313T000000Z 1\nDONE\n"
+    two = "ROOMCERT 1\nSINGLES 0\nSERIES 2\nPAIR 1 1 SPAN 20250311T000000Z 2\nPAIR 1 2 SPAN 20250312T000000Z 2\nPAIR 2 2 SPAN 20250312T000000Z 2\nDONE\n"
     certified("its certificate", one, recurring(), gone)
     certified("two endless series", two, recurring(rule="FREQ=DAILY;INTERVAL=2"), recurring("t", start="20250311T090000Z", rule="FREQ=DAILY;INTERVAL=2"))
     certified("RDATE is a single unless the rule gives it", one.replace("SINGLES 0", "SINGLES 1"), recurring(lines=("RDATE:20250311T150000Z,20250312T090000Z",)))
     moved = message("REQUEST", vevent("s", 1, "20250311T150000Z", slot="20250311T090000Z"))
     certified("so is an instance with a VEVENT of its own", one.replace("SINGLES 0", "SINGLES 1"), recurring(), moved)
+    certified("a series that no number of days settles", one.replace("SPAN 20250313T000000Z 1", "END"), recurring(rule="FREQ=YEARLY;INTERVAL=21"))
     certified("a series all of whose starts are excepted", one, recurring(lines=("EXDATE:20250310T090000Z,20250311T090000Z,20250312T090000Z",)))
 
 

@@ -6,6 +6,7 @@ mod ZoneTextExamples
 mod WrittenZoneExamples
 mod EventRuleExamples
 mod OccurrenceExamples
+mod SpanExamples
 mod StartExamples
 mod ConfirmedExamples
 mod OrganiserExamples
@@ -13,3 +14,4 @@ pub mod Repeats
 pub mod ZoneRepeats
 pub mod SeriesRepeats
 pub mod PairRepeats
+pub mod MadeCertificates

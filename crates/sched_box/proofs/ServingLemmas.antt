@@ -21,7 +21,7 @@ use Rattle.std.proofs.Common.{◌≢◌, Contains, true≢false}
 use Rattle.std.specs.Str.{bytes_eq}
 use Rattle.std.proofs.lemmas.Slice.Eq.{bytes_eq-Decides}
 use Rattle.std.proofs.lemmas.Bool.{cases_lt}
-use Rattle.profile.specs.rooms.Kept.{IsKeptCalendar, kept_certificate}
+use Rattle.profile.specs.rooms.Kept.{IsKeptCalendar, IsKeptCertificate}
 use Rattle.ical_values.specs.Octets.{address_octets}
 use Rattle.ical_values.specs.declared.address.Address.{Address}
 use Rattle.profile.specs.rooms.Rooms.{empty_book}
@@ -544,7 +544,7 @@ none_at rooms i a end h (k, l, is) = look rooms (λ n e lt. h n e (omega arith) 
 -- what is kept of a room is the texts of its book
 pub keeps_texts : (moment : ℤ) (hosts : Config) (news : Books) (ends : Ends) (report : ServeReport) (room : Room) (address calendar certificate : List ℕ)
     → BooksServe moment (new_box hosts) news ends (Ok report) → Contains news.rooms.rooms.items room → address_octets room.address ≡ address
-    → ((book : Book) → Represents room.meetings.entries book → IsKeptCalendar (address_octets room.address) book calendar) → ((book : Book) → Represents room.meetings.entries book → certificate ≡ kept_certificate book)
+    → ((book : Book) → Represents room.meetings.entries book → IsKeptCalendar (address_octets room.address) book calendar) → IsKeptCertificate (address_octets room.address) calendar certificate
     → KeepsTexts moment hosts ends.input ends.left address calendar certificate
 keeps_texts moment hosts news ends report room address calendar certificate (after, hosted, all) among is text proof' =
     let (kept, represents, has) = hosted_of news.rooms.rooms.items after.rooms hosted.rooms room among in
@@ -562,7 +562,7 @@ keeps_texts moment hosts news ends report room address calendar certificate (aft
       has = has;
       at = represents.at ∙ is;
       calendar_is = subst S is (text kept.book represents.represents);
-      certificate_is = proof' kept.book represents.represents;
+      certificate_is = subst (λ a. IsKeptCertificate a calendar certificate) is proof';
     }
 
 -- serving to a writer that never fails ends so

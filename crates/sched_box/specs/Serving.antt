@@ -2,7 +2,7 @@
 use Rattle.std.specs.Prelude.{◌≡◌, ◌⊎◌, ℕ, ℤ, ◌+◌, ◌≤◌, ◌<◌, List, [], ◌∷◌, ◌++◌, length, take, Contains, Option, Some, None, IfSome, OnSome, Result, Ok, Err}
 use Rattle.std.specs.Io.KnownBytes.{Appends, Keeps, IsAtEnd}
 use Rattle.profile.specs.text.Objects.{after_object}
-use Rattle.profile.specs.rooms.Kept.{IsKeptCalendar, kept_certificate}
+use Rattle.profile.specs.rooms.Kept.{IsKeptCalendar, IsKeptCertificate}
 use Rattle.profile.specs.streams.Streams.{BeginsWith, AreObjects, Answers, AllAnswers, AnswersStream, Box, Hosted, Config, new_box}
 use Rattle.sched_box.specs.declared.fault.ServeFault.{ServeFault}
 use Rattle.sched_box.specs.declared.fault.ServeFault.TheVariants.{Read, Write, TooLong, Memory}
@@ -137,7 +137,7 @@ pub record KeepsTexts (moment : ℤ) (hosts : Config) (input left : Option (List
   pub has : Contains after.rooms kept
   pub at : kept.address ≡ room
   pub calendar_is : IsKeptCalendar room kept.book calendar
-  pub certificate_is : certificate ≡ kept_certificate kept.book
+  pub certificate_is : IsKeptCertificate room calendar certificate
 
 -- how it ends before its input does: the stream is too long exactly where 1,073,741,824 octets of objects were read
 abbrev pub StopsKeeping : Option (List ℕ) → Option (List ℕ) → StreamFault → Type 0

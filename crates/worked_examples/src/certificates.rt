@@ -1,10 +1,10 @@
-//! Cases of the texts of certificates: `certificate | TEXT` reads one, `certificate-of | SINGLES SERIES` writes one, after an octet that is
+//! Cases of the texts of certificates: `certificate | TEXT` reads one, `certificate-of | TEXT` reads one and writes it, after an octet that is
 //! there already.
 
-use clash_cert::{CertFault, Certificate};
+use clash_cert::{CertFault, Certificate, Entry};
 use clash_check::{Checked, Verdict};
+use example_cases::answers::append;
 use example_cases::spelled::{escaped, octets_of};
-use example_cases::words::first_word;
 use example_cases::{Case, NoAnswer};
 use std::alloc::Global;
 
@@ -18,25 +18,49 @@ pub fn read_answer(alloc: Global, case: Case<'_>) -> Result<String, NoAnswer> {
     }
 }
 
-/// What is written of a certificate, and what it says.
+/// What is written of a certificate that is read.
 pub fn write_answer(alloc: Global, case: Case<'_>) -> Result<String, NoAnswer> {
-    let (singles, series) = first_word(case.input());
-    let certificate = Certificate::of(count(singles)?, count(series)?);
+    let text = octets_of(alloc, case.input())?;
+    let Ok(certificate) = Certificate::read(alloc, text.as_slice()) else {
+        return Err(NoAnswer::Unreadable);
+    };
     let mut out = Vec::from_slice(alloc, b"x")?;
     certificate.write(&mut out)?;
-    let text = escaped(alloc, out.as_slice())?;
-    let content = content(alloc, &certificate)?;
-    Ok(format!(in alloc; "{text} | {content}")?)
+    Ok(escaped(alloc, out.as_slice())?)
 }
 
-fn count(text: &str) -> Result<u64, NoAnswer> {
-    text.parse::<u64>().ok().ok_or(NoAnswer::Unreadable)
-}
-
+/// Its counts, and the entry of each pair.
 fn content(alloc: Global, certificate: &Certificate) -> Result<String, NoAnswer> {
     let singles = certificate.singles();
     let series = certificate.series();
-    Ok(format!(in alloc; "{singles} singles, {series} series")?)
+    let mut list = format!(in alloc; "{singles} singles, {series} series")?;
+    for i in 0..series {
+        add_entries(alloc, certificate, i + 1, &mut list)?;
+    }
+    Ok(list)
+}
+
+/// Adds the entries of a series with itself and with those after it.
+fn add_entries(
+    alloc: Global,
+    certificate: &Certificate,
+    i: u64,
+    list: &mut String,
+) -> Result<(), NoAnswer> {
+    for j in i - 1..certificate.series() {
+        let item = entry_text(alloc, certificate.entry(i, j + 1))?;
+        append(list, ", ", item.as_str())?;
+    }
+    Ok(())
+}
+
+fn entry_text(alloc: Global, entry: Entry) -> Result<String, NoAnswer> {
+    match entry {
+        Entry::End => Ok("to the horizon".to_string(alloc)?),
+        Entry::Span { from, days } => {
+            Ok(format!(in alloc; "{days} days from {}", from.instant())?)
+        }
+    }
 }
 
 /// The checker's answer in words: for a no its number and the two that it names; then how many instances were made.

@@ -1,14 +1,14 @@
 //! What is answered about the series of a calendar, two by two.
 
-use cal_events::{Calendar, Series};
-use cal_period::{Swept, clash_of_pair, sweep_alone, sweep_pair};
+use cal_events::{Calendar, Instance, Series};
+use cal_period::{clash_alone, clash_of_pair};
 use example_cases::NoAnswer;
 use example_cases::answers::append;
 use ical_values::Address;
 use std::alloc::Global;
 
-/// Each pair of series, and each with itself, in the order of the calendar: how many starts were gone past where the two are clear, else the
-/// starts of two instances that share an instant.
+/// Each pair of series, and each with itself, in the order of the calendar: that the two are clear, or the starts of two instances that share
+/// an instant.
 pub fn pairs(alloc: Global, octets: &[u8], room: &Address) -> Result<String, NoAnswer> {
     let calendar = Calendar::read(alloc, octets, room)?;
     let mut list = String::new(alloc);
@@ -24,17 +24,21 @@ fn add_from(alloc: Global, list: &mut String, series: &[Series]) -> Result<(), N
     let Some((first, others)) = series.split_first() else {
         return Ok(());
     };
-    add(alloc, list, sweep_alone(first))?;
+    add(alloc, list, clash_alone(first))?;
     for second in others {
-        add(alloc, list, sweep_pair(first, second))?;
+        add(alloc, list, clash_of_pair(first, second))?;
     }
     Ok(())
 }
 
-fn add(alloc: Global, list: &mut String, swept: Swept<'_>) -> Result<(), NoAnswer> {
-    let item = match swept.shared {
+fn add(
+    alloc: Global,
+    list: &mut String,
+    found: Option<(Instance<'_>, Instance<'_>)>,
+) -> Result<(), NoAnswer> {
+    let item = match found {
         Some((first, second)) => format!(in alloc; "{} and {}", first.start, second.start)?,
-        None => format!(in alloc; "clear {}", swept.drawn)?,
+        None => "clear".to_string(alloc)?,
     };
     append(list, ", ", item.as_str())?;
     Ok(())
@@ -58,17 +62,8 @@ fn add_clashes(alloc: Global, list: &mut String, series: &[Series]) -> Result<()
         return Ok(());
     };
     for second in others {
-        add_clash(alloc, list, first, second)?;
-        add_clash(alloc, list, second, first)?;
+        add(alloc, list, clash_of_pair(first, second))?;
+        add(alloc, list, clash_of_pair(second, first))?;
     }
-    Ok(())
-}
-
-fn add_clash(alloc: Global, list: &mut String, a: &Series, b: &Series) -> Result<(), NoAnswer> {
-    let item = match clash_of_pair(a, b) {
-        Some((first, second)) => format!(in alloc; "{} and {}", first.start, second.start)?,
-        None => "clear".to_string(alloc)?,
-    };
-    append(list, ", ", item.as_str())?;
     Ok(())
 }

@@ -151,7 +151,7 @@ pub record IsLeastSpan (a b : Event) (from : ℤ) (days : ℕ) : Type 0 where
 
 -- SPAN where its bound is before the horizon, else END
 abbrev pub IsEntryMade : Event → Event → Entry → Type 0
-IsEntryMade a b (Span from days) = IsLeastSpan a b from days × ((bound : ℤ) → IsBoundOf a b from days bound → bound <ℤ horizon)
+IsEntryMade a b (Span from days) = IsLeastSpan a b from days × ((bound : ℤ) × IsBoundOf a b from days bound × (bound <ℤ horizon))
 IsEntryMade a b End = (from : ℤ) (days : ℕ) (bound : ℤ) → IsLeastSpan a b from days → IsBoundOf a b from days bound → horizon ≤ℤ bound
 
 -- the one that is made for what is confirmed

@@ -4,7 +4,7 @@ use Rattle.ical_values.specs.Octets.{address_octets}
 use Rattle.profile.specs.checker.Calendars.{CertificateHolds}
 use Rattle.profile.specs.streams.Streams.{new_box}
 use Rattle.sched_box.specs.Config.{config_hosts}
-use Rattle.profile.specs.rooms.Kept.{IsKeptCalendar, kept_certificate}
+use Rattle.profile.specs.rooms.Kept.{IsKeptCalendar, IsKeptCertificate}
 use Rattle.std.proofs.lemmas.Result.{err_from_is_err_and}
 use Rattle.sched_box.proofs.ServingLemmas.{keeps_texts, keeping_stopped}
 use Rattle.sched_box.proofs.serving.keep.Goals as goal
@@ -33,9 +33,10 @@ returns-clause-passes g c =
     let k = returns-clause-keeps g c in
     let room = address_octets c.args.room.now in
     let calendar = c.in_ok-texts.texts.calendar.items in
-    subst (λ text. CertificateHolds room calendar text) (sym k.certificate_is)
-    (subst (λ a. CertificateHolds a calendar (kept_certificate k.kept.book)) k.at
-    (c.served_texts_pass.ensures c.args.now (config_hosts c.args.config.now) 1 k.objects k.after k.octets k.refused k.answers k.kept k.has calendar (subst (λ a. IsKeptCalendar a k.kept.book calendar) (sym k.at) k.calendar_is)))
+    let certificate = c.in_ok-texts.texts.certificate.items in
+    subst (λ a. CertificateHolds a calendar certificate) k.at
+    (c.served_texts_pass.ensures c.args.now (config_hosts c.args.config.now) 1 k.objects k.after k.octets k.refused k.answers k.kept k.has calendar
+    (subst (λ a. IsKeptCalendar a k.kept.book calendar) (sym k.at) k.calendar_is) certificate (subst (λ a. IsKeptCertificate a calendar certificate) (sym k.at) k.certificate_is))
 
 pub returns-in_err-serve_objects-clause-bound : goal.returns-in_err-serve_objects-clause-bound
 returns-in_err-serve_objects-clause-bound g c =
