@@ -7,3 +7,4 @@ pub mod Words
 pub mod WholeText
 pub mod StopLemmas
 pub mod MakingLemmas
+pub mod ChosenLemmas

@@ -2,4 +2,5 @@ pub mod Texts
 pub mod Places
 pub mod Reading
 pub mod Stops
+pub mod Chosen
 pub mod Makings

@@ -1,9 +1,9 @@
 //! The text of a certificate: lines ended by LF, `ROOMCERT 1`, `SINGLES k`, `SERIES n`, for all 1 <= i <= j <= n, by i and then by j, a line
 //! `PAIR i j END` or `PAIR i j SPAN from days`, and `DONE`, with nothing after. Numbers are decimal, of 64 bits, without leading zeros; an
 //! instant is `YYYYMMDDTHHMMSSZ` with seconds up to 59.
-ghost use Rattle.std.specs.Prelude.{ℕ, List, [], ◌≡◌, IfOk, IfErr, OnOk, OnErr};
+ghost use Rattle.std.specs.Prelude.{ℕ, List, [], ◌≡◌, length, IfOk, IfErr, OnOk, OnErr};
 ghost use Rattle.std.specs.List.{slice_index_or};
-ghost use Rattle.profile.specs.checker.Certificates.{Claims, FirstWrong, SpellsCertificate, entry_of};
+ghost use Rattle.profile.specs.checker.Certificates.{Claims, IsClaims, FirstWrong, SpellsCertificate, entry_of};
 ghost use Rattle.ical_values.specs.Written.{Appends};
 ghost use Rattle.clash_cert.specs.Texts.{IsCertFault, entry_said, rows_said};
 
@@ -56,6 +56,14 @@ impl Model for Certificate {
 }
 
 impl Certificate {
+    /// The certificate of that many singles, with a row of entries for each series.
+    pub(crate) fn of(singles: u64, rows: Vec<Vec<Entry>>) -> Certificate
+        requires { IsClaims (record { singles = singles; series = length rows.items; rows = rows_said rows.items }) }
+        ensures { result ≡ record { singles = singles; series = length rows.items; rows = rows_said rows.items } }
+    {
+        Certificate { singles, rows }
+    }
+
     /// The certificate that the octets spell; else the number of the first wrong or missing line. It takes the time of the lines up to that,
     /// and memory for the entries read.
     pub fn read(alloc: Global, bytes: &[u8]) -> Result<Certificate, CertFault>
