@@ -1,1 +1,2 @@
 pub mod OwnKeys
+pub mod Stub

@@ -1,1 +1,2 @@
 pub mod RuleInstances
+pub mod Lasting

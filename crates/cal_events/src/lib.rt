@@ -38,9 +38,12 @@ pub use instance::{HORIZON, Instance, InstanceKey, OwnedKey, Single};
 pub use instances::Instances;
 pub use meeting_components::MeetingComponents;
 pub use reading::{
-    one_calendar, one_calendar_text, series_and_singles_divide, singles_are_confirmed,
+    calendar_series_are_said, one_calendar, one_calendar_text, series_and_singles_divide,
+    singles_are_confirmed,
 };
 pub use series::Series;
 pub use sweep::{Overlap, Span, first_overlap};
-pub use whole::{all_instances, all_starts, known_by_start, listed_series};
+pub use whole::{
+    all_instances, all_starts, instances_last, known_by_start, listed_series, series_are_said,
+};
 pub use zoned::{ZonedTime, judge_time, one_zoned_time};

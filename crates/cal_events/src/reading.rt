@@ -7,6 +7,7 @@ ghost use Rattle.profile.specs.faults.Faults.{is_calendar_fault, is_meeting_even
 ghost use Rattle.profile.specs.checker.Instances.{Instance};
 ghost use Rattle.profile.specs.checker.Calendars.{SaysCalendar, SpellsCalendar, IsConfirmedIn, CalendarFault, CalendarTextFault};
 ghost use Rattle.profile.specs.events.EventComponents.{EventComponent as SaidComponent, EventComponentFault, SaysEventComponent};
+ghost use Rattle.profile.specs.events.Spans.{AreSaidSeries};
 ghost use Rattle.profile.specs.events.Confirmed.{Confirmed, IsConfirmed, IsInSeries, AreConfirmed};
 ghost use Rattle.profile.specs.text.Trees.{Tree};
 ghost use Rattle.ical_tree.specs.Tree.{component_lines, tree_of};
@@ -92,6 +93,14 @@ pub fn series_and_singles_divide()
     ensures single { (room octets : List ℕ) (all : Confirmed) (instance : Instance)
         → SpellsCalendar room octets all → IsConfirmedIn room octets instance
         → (IsInSeries all.series instance → ⊥) → Contains all.singles instance }
+{
+    one_tree();
+    one_event();
+}
+
+/// Of each series of a calendar that octets spell some VEVENT says the times and the rule.
+pub fn calendar_series_are_said()
+    ensures { (room octets : List ℕ) (all : Confirmed) → SpellsCalendar room octets all → AreSaidSeries all.series }
 {
     one_tree();
     one_event();

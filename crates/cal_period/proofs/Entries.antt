@@ -34,7 +34,7 @@ within_width times n (inr (some, (least, greatest, b, is))) start end (later, in
     let l = instances.not_less (clock_of times.zone) least greatest ((start +ℤ offset) +ℤ pos (86_400 * times.length.days)) later b means in
     elim (b.one start offset at) [ inl o ↦ omega (arith, ints, b.ordered, is, l, e, o) | inr o ↦ omega (arith, ints, b.ordered, is, l, e, o) ]
 
-no_less : (times : EventTimes) (n : ℤ) → IsWidth times n → pos 0 ≤ℤ n
+pub no_less : (times : EventTimes) (n : ℤ) → IsWidth times n → pos 0 ≤ℤ n
 no_less times n (inl (none, is)) = omega (arith, ints, is)
 no_less times n (inr (some, (least, greatest, b, is))) = omega (arith, ints, b.ordered, is)
 

@@ -15,9 +15,8 @@ use Rattle.cal_events.specs.Series.{series_said}
 use Rattle.cal_events.specs.declared.instance.Instance.{Instance}
 use Rattle.cal_events.specs.declared.series.Series.{Series}
 use Rattle.cal_period.specs.Clear.{AreSeriesClear, IsSeriesClear, ArePair, AreTwo}
-use Rattle.cal_period.specs.Swept.{IsPairSwept, IsAloneSwept, ArePairDrawn, AreAloneDrawn}
-use Rattle.cal_period.specs.Every.{IsPairClear, PairShares, IsAtSwept, IsRowClear, IsFoundInRow, IsFound, AreLists, pair_count, row_count, pairs_count, IsDrawn, IsAtDrawn}
-use Rattle.cal_period.specs.declared.sweep.Swept.{Swept}
+use Rattle.cal_period.specs.Onward.{IsSharedByPair, IsSharedAlone}
+use Rattle.cal_period.specs.Every.{IsPairClear, PairShares, IsAtShared, IsRowClear, IsFoundInRow, IsFound}
 use Rattle.cal_period.specs.declared.every_pair.Shared.{Shared}
 
 -- ---- what was found
@@ -35,13 +34,6 @@ where_some {X = X} o P Q x e h = subst (λ (y : Option X). MatchOption y P Q) e 
 pub none_exit : {X : Type 0} (o : Option X) (P : Type 0) (Q : X → Type 0) → o ≡ None → P → MatchOption o P Q
 none_exit {X = X} o P Q e p = subst (λ (y : Option X). MatchOption y P Q) (sym e) p
 
--- whether two places are one
-one_place : (i j : ℕ) → i ≡ j → (i == j) ≡ true
-one_place i j e = grind (arith, nat_tests)
-
-two_places : (i j : ℕ) → (i ≡ j → ⊥) → (i == j) ≡ false
-two_places i j f = grind (arith, nat_tests)
-
 -- ---- a place
 
 -- the series at a place of a slice
@@ -56,8 +48,8 @@ pub clear_alone : (a : Event) → IsSeriesClear a → instances.AreClear (IsInst
 clear_alone a clear x y t h k c = clear x y h k c.differ (record { instant = t; before = c.before; in_first = c.in_first; in_second = c.in_second })
 
 module _ (all : List Event) (i j : ℕ) where
-  pub at_pair : (a b : Event) (swept : Swept) → slice_get all i ≡ Some a → slice_get all j ≡ Some b → (i ≡ j → ⊥) → IsPairSwept a b swept → IsAtSwept all i j swept
-  at_pair a b swept at_i at_j apart s = go swept.shared s
+  pub at_pair : (a b : Event) (shared : Option (Instance × Instance)) → slice_get all i ≡ Some a → slice_get all j ≡ Some b → (i ≡ j → ⊥) → IsSharedByPair a b shared → IsAtShared all i j shared
+  at_pair a b shared at_i at_j apart = go shared
     where
       go : (o : Option (Instance × Instance)) → MatchOption o (AreSeriesClear a b) (λ p. ArePair a b (instance_of p.0) (instance_of p.1))
           → MatchOption o (IsPairClear all i j) (λ p. PairShares all i j (instance_of p.0) (instance_of p.1))
@@ -67,8 +59,8 @@ module _ (all : List Event) (i j : ℕ) where
           subst (λ m. instances.AreClear (IsInstance m) (IsInstance d)) same (subst (λ m. instances.AreClear (IsInstance a) (IsInstance m)) same' (clear_pair a b clear))
       go (Some p) is = record { a = a; b = b; at_first = at_i; at_second = at_j; first = is.first; second = is.second; differ = λ e. absurd (apart e); shared = is.shared }
 
-  pub at_alone : (a : Event) (swept : Swept) → slice_get all i ≡ Some a → i ≡ j → IsAloneSwept a swept → IsAtSwept all i j swept
-  at_alone a swept at_i same s = go swept.shared s
+  pub at_alone : (a : Event) (shared : Option (Instance × Instance)) → slice_get all i ≡ Some a → i ≡ j → IsSharedAlone a shared → IsAtShared all i j shared
+  at_alone a shared at_i same = go shared
     where
       at_j : slice_get all j ≡ Some a
       at_j = sym (ap (slice_get all) same) ∙ at_i
@@ -125,84 +117,3 @@ rows_found all i s clear f = record {
     | inr (same, less) ↦ let here : p ≡ i = same ∙ f.at in subst (λ k. IsPairClear all k q) (sym here) (f.before q (subst (λ k. k ≤ q) here l) less)
   ];
 }
-
--- ---- counts
-
--- one more was added, as far as 64 bits go, and this many are left
-pub step_count : (drawn more count left total new : ℕ) → more ≡ min count 18446744073709551615 → new ≡ min (drawn + more) 18446744073709551615
-    → min (drawn + (count + left)) 18446744073709551615 ≡ min total 18446744073709551615 → min (new + left) 18446744073709551615 ≡ min total 18446744073709551615
-step_count drawn more count left total new m n h = omega (arith, m, n, h)
-
-pub end_count : (drawn total : ℕ) → drawn ≤ 18446744073709551615 → min (drawn + 0) 18446744073709551615 ≡ min total 18446744073709551615 → drawn ≡ min total 18446744073709551615
-end_count drawn total f h = omega (arith, f, h)
-
-pub found_count : (drawn more count left total new : ℕ) → (1 ≤ more) × (more ≤ count) → new ≡ min (drawn + more) 18446744073709551615
-    → min (drawn + (count + left)) 18446744073709551615 ≡ min total 18446744073709551615 → (1 ≤ new) × (new ≤ total)
-found_count drawn more count left total new m n h = (omega (arith, m, n), omega (arith, m, n, h))
-
--- what is left of a row and of all rows
-pub row_left : (counts : List ℕ) (i j n : ℕ) → j < n → row_count counts i j (n - j) ≡ pair_count counts i j + row_count counts i (j + 1) (n - (j + 1))
-row_left counts i j n h =
-    let one : n - j ≡ suc (n - (j + 1)) = omega (arith, h) in
-    let next : suc j ≡ j + 1 = omega arith in
-    ap (row_count counts i j) one ∙ ap (λ k. pair_count counts i j + row_count counts i k (n - (j + 1))) next
-
-pub row_none : (counts : List ℕ) (i j n : ℕ) → n ≤ j → row_count counts i j (n - j) ≡ 0
-row_none counts i j n h = let none : n - j ≡ 0 = omega (arith, h) in ap (row_count counts i j) none
-
-pub rows_left : (counts : List ℕ) (i n : ℕ) → i < n → pairs_count counts i (n - i) ≡ row_count counts i i (n - i) + pairs_count counts (i + 1) (n - (i + 1))
-rows_left counts i n h =
-    let one : n - i ≡ suc (n - (i + 1)) = omega (arith, h) in
-    let next : suc i ≡ i + 1 = omega arith in
-    ap (pairs_count counts i) one ∙ ap (λ k. row_count counts i i (suc (n - (i + 1))) + pairs_count counts k (n - (i + 1))) next
-    ∙ ap (λ k. row_count counts i i k + pairs_count counts (i + 1) (n - (i + 1))) (sym one)
-
-pub rows_none : (counts : List ℕ) (i n : ℕ) → n ≤ i → pairs_count counts i (n - i) ≡ 0
-rows_none counts i n h = let none : n - i ≡ 0 = omega (arith, h) in ap (pairs_count counts i) none
-
--- as many lists as series
-pub lists_long : (all : List Event) (lists : List (List SaidInstance)) → AreLists all lists → length lists ≡ length all
-lists_long [] [] z = refl
-lists_long [] (l ∷ ls) z = absurd z
-lists_long (a ∷ all) [] z = absurd z
-lists_long (a ∷ all) (l ∷ ls) z = ap (λ n. suc n) (lists_long all ls z.1)
-
--- the list of the series at a place
-pub list_at : (all : List Event) (lists : List (List SaidInstance)) (i : ℕ) (a : Event) → AreLists all lists → slice_get all i ≡ Some a
-    → (list : List SaidInstance) × AreInstancesFrom a first_second list × (get_or (map length lists) i 0 ≡ length list)
-list_at [] lists i a z e = absurd (nothing e)
-  where
-    nothing : {X : Type 0} {x : X} → None ≡ Some x → ⊥
-    nothing e = cc
-list_at (b ∷ all) [] i a z e = absurd z
-list_at (b ∷ all) (l ∷ ls) zero a z e = (l, subst (λ m. AreInstancesFrom m first_second l) (same_Some b a e) z.0, refl)
-list_at (b ∷ all) (l ∷ ls) (suc i) a z e = list_at all ls i a z.1 e
-
-module _ (all : List Event) (i j : ℕ) where
-  pub drawn_pair : (a b : Event) (swept : Swept) → slice_get all i ≡ Some a → slice_get all j ≡ Some b → (i ≡ j → ⊥) → ArePairDrawn a b swept → IsAtDrawn all i j swept
-  drawn_pair a b swept at_i at_j apart d lists z =
-      let x = list_at all lists i a z at_i in
-      let y = list_at all lists j b z at_j in
-      let count : length x.0 + length y.0 ≡ pair_count (map length lists) i j =
-      sym (ap (λ (k : Bool). cond k (get_or (map length lists) i 0) (get_or (map length lists) i 0 + get_or (map length lists) j 0)) (two_places i j apart)
-      ∙ ap (λ n. n + get_or (map length lists) j 0) x.2 ∙ ap (λ n. length x.0 + n) y.2) in
-      subst (IsDrawn swept.shared swept.drawn) count (go swept.shared d x.0 y.0 x.1 y.1)
-    where
-      go : (o : Option (Instance × Instance)) → MatchOption o ((xs ys : List SaidInstance) → AreInstancesFrom a first_second xs → AreInstancesFrom b first_second ys → swept.drawn ≡ min (length xs + length ys) 18446744073709551615)
-          (λ _. (xs ys : List SaidInstance) → AreInstancesFrom a first_second xs → AreInstancesFrom b first_second ys → (1 ≤ swept.drawn) × (swept.drawn ≤ length xs + length ys))
-          → (xs ys : List SaidInstance) → AreInstancesFrom a first_second xs → AreInstancesFrom b first_second ys → IsDrawn o swept.drawn (length xs + length ys)
-      go None f xs ys h k = f xs ys h k
-      go (Some p) f xs ys h k = f xs ys h k
-
-  pub drawn_alone : (a : Event) (swept : Swept) → slice_get all i ≡ Some a → i ≡ j → AreAloneDrawn a swept → IsAtDrawn all i j swept
-  drawn_alone a swept at_i same d lists z =
-      let x = list_at all lists i a z at_i in
-      let count : length x.0 ≡ pair_count (map length lists) i j =
-      sym (ap (λ (k : Bool). cond k (get_or (map length lists) i 0) (get_or (map length lists) i 0 + get_or (map length lists) j 0)) (one_place i j same) ∙ x.2) in
-      subst (IsDrawn swept.shared swept.drawn) count (go swept.shared d x.0 x.1)
-    where
-      go : (o : Option (Instance × Instance)) → MatchOption o ((xs : List SaidInstance) → AreInstancesFrom a first_second xs → swept.drawn ≡ min (length xs) 18446744073709551615)
-          (λ _. (xs : List SaidInstance) → AreInstancesFrom a first_second xs → (1 ≤ swept.drawn) × (swept.drawn ≤ length xs))
-          → (xs : List SaidInstance) → AreInstancesFrom a first_second xs → IsDrawn o swept.drawn (length xs)
-      go None f xs h = f xs h
-      go (Some p) f xs h = f xs h

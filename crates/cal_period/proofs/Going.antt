@@ -16,9 +16,13 @@ use Rattle.cal_events.specs.declared.instance.Instance.{Instance}
 use Rattle.cal_events.specs.declared.instances.Bound.{Bound}
 use Rattle.cal_events.specs.declared.instances.Instances.{Instances}
 use Rattle.cal_events.proofs.shared_lemmas.WholeLists.{order, after_later}
-use Rattle.cal_period.specs.Walks.{walk_place, AreAllLeft, AreLeftFrom, AreCounted, IsAhead, IsBehind, IsLastBehind, IsLastSince, BeginsWalk, EntersWalk, GoesPast, GoesOn, EndsLater}
+use Rattle.cal_period.specs.Walks.{walk_place, AreAllLeft, AreLeftFrom, IsAhead, IsBehind, IsLastBehind, IsLastSince, BeginsWalk, EntersWalk, GoesPast, GoesOn, EndsLater}
 use Rattle.cal_period.specs.declared.walk.Walk.{Walk}
-use Rattle.cal_period.proofs.Counts.{count_none, count_past, earlier}
+
+-- one that comes earlier starts earlier
+earlier : (series : Event) → AreKnownByStart series → (a b : SaidInstance) → IsInstance series a → IsInstance series b → ComesBefore a b → a.start <ℤ b.start
+earlier series known a b h k (inl less) = less
+earlier series known a b h k (inr (same, slot)) = let e = known.slots a h in let f = known.slots b k in absurd (omega (arith, ints, same, slot, e, f))
 
 -- of a series in which those from an instant on were left, one more was given
 record Advances (series : Event) (from : ℤ) (found : Option Instance) (new : Instances) : Type 0 where
@@ -83,7 +87,7 @@ module _ (series : Event) (known : AreKnownByStart series) (from : ℤ) (early :
 -- ---- at the first instance
 
 pub at_first : (series : Event) (old new : Instances) (first : Option Instance) → AreKnownByStart series → AreAllLeft series old → GivesFirst old first new
-    → BeginsWalk series new (record { next = first; last = None; count = 0 })
+    → BeginsWalk series new (record { next = first; last = None })
 at_first series old new first known all given =
     let a = advance series known first_second (omega (arith, ints)) old new (λ b. ((λ l. let is = (all b).0 l in (is, (known.dates b is).0)), λ h. (all b).1 h.0)) first given in
     let none = λ (b : SaidInstance) (h : IsBehind series (walk_place first) b). absurd (omega (arith, ints, h.1, a.none b h.0 (known.dates b h.0).0)) in
@@ -91,16 +95,13 @@ at_first series old new first known all given =
       is_walk = record {
         ahead = a.ahead;
         last = none;
-        count = λ xs are.
-            let zero = count_none (walk_place first) xs (λ y c. let e = All-contains (λ (b : SaidInstance). IsInstance series b × (first_second ≤ℤ b.start)) xs y are.each c in a.none y e.0 e.1) in
-            omega (arith, zero);
       };
       none = none;
     }
 
 -- those that start before the entry are behind
 pub at_entry : (series : Event) (by entry : ℤ) (old new : Instances) (first : Option Instance) → AreKnownByStart series → AreLeftFrom series by entry old → GivesFirst old first new
-    → EntersWalk series by entry new (record { next = first; last = None; count = 0 })
+    → EntersWalk series by entry new (record { next = first; last = None })
 at_entry series by entry old new first known from given =
     let a = advance series known entry from.early old new from.others first given in
     let early = λ (b : SaidInstance) (h : IsBehind series (walk_place first) b). earlier_than b.start entry (λ late. omega (arith, ints, h.1, a.none b h.0 late)) in
@@ -149,9 +150,8 @@ module _ (series : Event) (old new : Instances) (walk : Walk) (ahead : IsAhead s
   later_behind last later l (inr e) =
       subst (λ (i : Instance). IsBehind series (walk_place after) (instance_of i)) (sym e) (one, omega (arith, ints, starts, there.further))
 
-  pub gone_past : IsLastBehind series here walk.last → AreCounted series here walk.count → (later : Instance) (count : ℕ) → EndsLater walk.last next later → count ≡ min (walk.count + 1) 18446744073709551615
-      → GoesPast series next walk new (record { next = after; last = Some later; count = count })
-  gone_past last so_far later count ends counted = record {
+  pub gone_past : IsLastBehind series here walk.last → (later : Instance) → EndsLater walk.last next later → GoesPast series next walk new (record { next = after; last = Some later })
+  gone_past last later ends = record {
     is_walk = record {
       ahead = there.ahead;
       last = (
@@ -161,20 +161,14 @@ module _ (series : Event) (old new : Instances) (walk : Walk) (ahead : IsAhead s
           | inr same ↦ subst (λ (x : SaidInstance). x.end ≤ℤ later.end) (sym same) ends.than_next
         ],
       );
-      count = λ xs are.
-          let more = count_past series ahead.known here (walk_place after) (instance_of next) xs (sym starts) (omega (arith, ints, there.further))
-          (λ b h l. there.none b h (omega (arith, ints, l)))
-          (λ y c. (All-contains (λ (b : SaidInstance). IsInstance series b × (first_second ≤ℤ b.start)) xs y are.each c).0) are.ordered (are.all (instance_of next) one (ahead.known.dates (instance_of next) one).0) in
-          let before = so_far xs are in
-          omega (arith, more, before, counted);
     };
     further = omega (arith, ints, there.further);
     one = was;
   }
 
-  pub gone_on : (by : ℤ) → IsLastSince series by here walk.last → (later : Instance) (count : ℕ) → EndsLater walk.last next later
-      → GoesOn series by next walk new (record { next = after; last = Some later; count = count })
-  gone_on by last later count ends = record {
+  pub gone_on : (by : ℤ) → IsLastSince series by here walk.last → (later : Instance) → EndsLater walk.last next later
+      → GoesOn series by next walk new (record { next = after; last = Some later })
+  gone_on by last later ends = record {
     tail = record {
       ahead = there.ahead;
       last = (

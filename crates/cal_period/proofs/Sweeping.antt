@@ -1,4 +1,4 @@
--- How a sweep goes on.
+-- How a search goes on.
 use Rattle.std.proofs.Common.{◌≡◌, subst, refl, inl, inr, ℕ, ◌<◌, ◌≤◌, List, length, arith, ℤ, pos, negsuc, ◌-ℤ◌, ◌<ℤ◌, ◌≤ℤ◌, unsigned_abs, true, false, to_z, of_z, to_z-of_z, w64, FitsSigned}
 use Rattle.std.specs.Prelude.{Option, Some, None, ◌↔◌, IfSome, int_lt, int_le}
 use Rattle.std.proofs.lemmas.Int.{ints}
@@ -15,10 +15,8 @@ use Rattle.cal_events.specs.declared.instance.Instance.{Instance}
 use Rattle.cal_events.specs.declared.instances.Instances.{Instances}
 use Rattle.cal_events.proofs.shared_lemmas.Overlaps.{abs_is}
 use Rattle.cal_period.specs.Clear.{ShareStart}
-use Rattle.cal_period.specs.Swept.{IsCountOf, IsSomeOf}
-use Rattle.cal_period.specs.Walks.{walk_place, AreAllLeft, IsAhead, IsBehind, IsLastBehind, IsWalkOf, MeetsNone}
+use Rattle.cal_period.specs.Walks.{walk_place, IsNoneBelow, AreAllLeft, IsAhead, IsBehind, IsLastBehind, IsWalkOf, MeetsNone}
 use Rattle.cal_period.specs.declared.walk.Walk.{Walk}
-use Rattle.cal_period.proofs.Counts.{count_all, count_some}
 
 -- ---- two instances
 
@@ -77,36 +75,11 @@ pub none_is : (next : Option Instance) → ((i : Instance) → next ≡ Some i �
 none_is None h = refl
 none_is (Some i) h = absurd (h i refl)
 
--- at its end all are behind
-pub all_behind : (series : Event) (left : Instances) (next : Option Instance) → IsAhead series left next → horizon ≤ℤ walk_place next → (x : SaidInstance) → IsInstance series x → IsBehind series (walk_place next) x
-all_behind series left next a far x is = (is, let d = (a.known.dates x is).1 in omega (arith, ints, d, far))
-
--- and all are counted
-pub all_counted : (series : Event) (left : Instances) (walk : Walk) → IsWalkOf series left walk → horizon ≤ℤ walk_place walk.next → IsCountOf series walk.count
-all_counted series left walk s far xs are =
-    let n = s.count xs are in
-    let all = count_all (walk_place walk.next) xs (λ y c. (all_behind series left walk.next s.ahead far y (All-contains (λ (b : SaidInstance). IsInstance series b × (first_second ≤ℤ b.start)) xs y are.each c).0).1) in
-    omega (arith, n, all)
-
--- never more
-pub some_counted : (series : Event) (left : Instances) (walk : Walk) → IsWalkOf series left walk → (xs : List SaidInstance) → AreInstancesFrom series first_second xs → walk.count ≤ length xs
-some_counted series left walk s xs are =
-    let n = s.count xs are in
-    let most = count_by-le-length (λ (b : SaidInstance). int_lt b.start (walk_place walk.next)) xs in
-    omega (arith, n, most)
-
--- and one, where one is behind
-pub one_counted : (series : Event) (left : Instances) (walk : Walk) (z : Instance) → IsWalkOf series left walk → walk.last ≡ Some z
-    → (xs : List SaidInstance) → AreInstancesFrom series first_second xs → 1 ≤ walk.count
-one_counted series left walk z s e xs are =
-    let behind = met_behind series (walk_place walk.next) walk.last z s.last e in
-    let there = are.all (instance_of z) behind.0 (s.ahead.known.dates (instance_of z) behind.0).0 in
-    let some = count_some (walk_place walk.next) (instance_of z) xs behind.1 there in
-    let n = s.count xs are in
-    omega (arith, n, some)
-
-pub found_counted : (series : Event) (left : Instances) (walk : Walk) (z : Instance) → IsWalkOf series left walk → walk.last ≡ Some z → IsSomeOf series walk.count
-found_counted series left walk z s e xs are = (one_counted series left walk z s e xs are, some_counted series left walk s xs are)
+-- where none before a bound is still to come, those are behind
+pub all_behind : (series : Event) (left : Instances) (next : Option Instance) (bound : ℤ) → IsAhead series left next → IsNoneBelow bound next → (x : SaidInstance) → IsInstance series x → x.start <ℤ bound
+    → IsBehind series (walk_place next) x
+all_behind series left None bound a none x is l = (is, let d = (a.known.dates x is).1 in omega (arith, ints, d))
+all_behind series left (Some i) bound a none x is l = (is, omega (arith, ints, none, l))
 
 -- how far it is to the horizon
 abbrev pub steps_left : Walk → ℕ
@@ -118,19 +91,3 @@ fewer_left series left old new ahead further =
     let a = abs_is (horizon -ℤ walk_place new.next) (omega (arith, ints, within)) in
     let b = abs_is (horizon -ℤ walk_place old.next) (omega (arith, ints, within, further)) in
     omega (arith, ints, a, b, further)
-
--- ---- two places
-
-pub place_before : (p q x y : ℤ) → FitsSigned w64 p → FitsSigned w64 q → p ≡ x → q ≡ y → int_le (to_z w64 (of_z w64 p)) (to_z w64 (of_z w64 q)) ≡ true → x ≤ℤ y
-place_before p q x y f g d e h =
-    let a : to_z w64 (of_z w64 p) ≡ p = to_z-of_z f in
-    let b : to_z w64 (of_z w64 q) ≡ q = to_z-of_z g in
-    let l = rw (a, b) at h in
-    grind (arith, ints, l, d, e)
-
-pub place_after : (p q x y : ℤ) → FitsSigned w64 p → FitsSigned w64 q → p ≡ x → q ≡ y → int_le (to_z w64 (of_z w64 p)) (to_z w64 (of_z w64 q)) ≡ false → y <ℤ x
-place_after p q x y f g d e h =
-    let a : to_z w64 (of_z w64 p) ≡ p = to_z-of_z f in
-    let b : to_z w64 (of_z w64 q) ≡ q = to_z-of_z g in
-    let l = rw (a, b) at h in
-    grind (arith, ints, l, d, e)

@@ -8,10 +8,10 @@ use Rattle.profile.specs.events.Starts.{IsInstance}
 use Rattle.cal_events.specs.Calendar.{instance_of}
 use Rattle.cal_events.specs.declared.instance.Instance.{Instance}
 use Rattle.cal_events.specs.declared.instances.Instances.{Instances}
-use Rattle.cal_period.specs.Clear.{AreSeriesClear, ArePair}
+use Rattle.cal_period.specs.Clear.{AreClearBelow, ArePair}
 use Rattle.cal_period.specs.Onward.{AreNoneBefore, MeetFrom}
 use Rattle.cal_period.specs.Turns.{MeetsNoMore}
-use Rattle.cal_period.specs.Walks.{walk_place, IsAhead, IsBehind, IsLastSince, Tail, EntersWalk, GoesOn, MeetsInstance, MeetsNone}
+use Rattle.cal_period.specs.Walks.{walk_place, IsNoneBelow, IsAhead, IsBehind, IsLastSince, Tail, EntersWalk, GoesOn, MeetsInstance, MeetsNone}
 use Rattle.cal_period.specs.declared.walk.Walk.{Walk}
 use Rattle.cal_period.proofs.Pairs.{AreAbreast, abreast_turned, abreast_found, abreast_past}
 use Rattle.cal_period.proofs.Sweeping.{Share, turned, next_is, all_behind}
@@ -109,20 +109,21 @@ module _ (a b : Event) (by : ℤ) (from : MeetFrom a b by) (of_a of_b : Instance
         no_later None l = omega (arith, ints, here, own)
         no_later (Some y) l = omega (arith, ints, here, l)
 
-  -- what is still to come of the one shares nothing with the other
-  still_clear : MeetsNoMore first second → (x y : SaidInstance) → IsInstance a x → IsInstance b y → walk_place first.next ≤ℤ x.start → Share x y → ⊥
-  still_clear no_more x y h k far s = go first.next far no_more
+  -- what is still to come of the one before a bound shares nothing with the other
+  still_clear : (bound : ℤ) → MeetsNoMore bound first second → (x y : SaidInstance) → IsInstance a x → IsInstance b y → x.start <ℤ bound → y.start <ℤ bound → walk_place first.next ≤ℤ x.start → Share x y → ⊥
+  still_clear bound no_more x y h k l m far s = go first.next far no_more
     where
-      go : (next : Option Instance) → walk_place next ≤ℤ x.start → IfSome next (λ i. (second.next ≡ None) × IfSome second.last (λ l. l.end ≤ℤ i.start)) → ⊥
-      go None late m = let d = (at.in_first.ahead.known.dates x h).1 in omega (arith, ints, late, d)
-      go (Some i) late m =
-          let end : walk_place second.next ≡ horizon = ap walk_place m.0 in
-          let behind = all_behind b of_b second.next at.in_second.ahead (omega (arith, ints, end)) y k in
-          over_since b by (walk_place second.next) second.last i.start at.in_second.last m.1 y x behind late (turned x y s) (shared_late b a by (from_turned a b by from) y x k h (turned x y s))
+      go : (next : Option Instance) → walk_place next ≤ℤ x.start → IfSome next (λ i. i.start <ℤ bound → IsNoneBelow bound second.next × IfSome second.last (λ l. l.end ≤ℤ i.start)) → ⊥
+      go None late n = let d = (at.in_first.ahead.known.dates x h).1 in omega (arith, ints, late, d)
+      go (Some i) late n =
+          let over = n (omega (arith, ints, late, l)) in
+          let behind = all_behind b of_b second.next bound at.in_second.ahead over.0 y k m in
+          over_since b by (walk_place second.next) second.last i.start at.in_second.last over.1 y x behind late (turned x y s) (shared_late b a by (from_turned a b by from) y x k h (turned x y s))
 
-pub onward_end : (a b : Event) (by : ℤ) → MeetFrom a b by → (of_a of_b : Instances) (first second : Walk) → AreOnward a b by of_a of_b first second → MeetsNoMore first second → MeetsNoMore second first → AreSeriesClear a b
-onward_end a b by from of_a of_b first second at none_a none_b x y h k s =
+pub onward_end : (a b : Event) (by : ℤ) → MeetFrom a b by → (of_a of_b : Instances) (first second : Walk) → AreOnward a b by of_a of_b first second → (bound : ℤ) → MeetsNoMore bound first second → MeetsNoMore bound second first
+    → AreClearBelow a b bound
+onward_end a b by from of_a of_b first second at bound none_a none_b x y h k m n s =
     by_lt_z x.start (walk_place first.next)
-    (λ l. by_lt_z y.start (walk_place second.next) (λ m. at.abreast.clear x y (h, l) (k, m) s)
-    (λ far. still_clear b a by (from_turned a b by from) of_b of_a second first (onward_turned a b by of_a of_b first second at) none_b y x k h far (turned x y s)))
-    (λ far. still_clear a b by from of_a of_b first second at none_a x y h k far s)
+    (λ l. by_lt_z y.start (walk_place second.next) (λ e. at.abreast.clear x y (h, l) (k, e) s)
+    (λ far. still_clear b a by (from_turned a b by from) of_b of_a second first (onward_turned a b by of_a of_b first second at) bound none_b y x k h n m far (turned x y s)))
+    (λ far. still_clear a b by from of_a of_b first second at bound none_a x y h k m n far s)

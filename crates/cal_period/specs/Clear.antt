@@ -12,6 +12,15 @@ AreSeriesClear a b = (x y : Instance) → IsInstance a x → IsInstance b y → 
 abbrev pub IsSeriesClear : Event → Type 0
 IsSeriesClear a = (x y : Instance) → IsInstance a x → IsInstance a y → x.key ≢ y.key → SharesInstant x.start x.end y.start y.end → ⊥
 
+-- the same of those that start before a bound
+abbrev pub AreClearBelow : Event → Event → ℤ → Type 0
+AreClearBelow a b bound =
+    (x y : Instance) → IsInstance a x → IsInstance b y → x.start <ℤ bound → y.start <ℤ bound → SharesInstant x.start x.end y.start y.end → ⊥
+
+abbrev pub IsClearBelow : Event → ℤ → Type 0
+IsClearBelow a bound =
+    (x y : Instance) → IsInstance a x → IsInstance a y → x.start <ℤ bound → y.start <ℤ bound → x.key ≢ y.key → SharesInstant x.start x.end y.start y.end → ⊥
+
 -- the start of one of two instances is in both, before the horizon; so it is the later start
 pub record ShareStart (x y : Instance) : Type 0 where
   pub instant : ℤ

@@ -1,7 +1,9 @@
 pub mod Clear
-pub mod Swept
 pub mod Walks
 pub mod Turns
 pub mod Onward
 pub mod Every
 pub mod Besides
+pub mod Recurring
+pub mod Members
+pub mod Spanning

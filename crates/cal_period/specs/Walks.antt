@@ -1,9 +1,8 @@
 -- A walk through the instances of a series, by start.
-use Rattle.std.specs.Prelude.{◌≡◌, ◌↔◌, ◌⊎◌, ◌-◌, ◌^◌, ℕ, ℤ, ◌≤ℤ◌, ◌<ℤ◌, int_lt, List, Option, Some, None, MatchOption, IfSome, count_by, min}
+use Rattle.std.specs.Prelude.{◌≡◌, ◌↔◌, ◌⊎◌, ℤ, ◌≤ℤ◌, ◌<ℤ◌, Option, Some, None, MatchOption, IfSome}
 use Rattle.profile.specs.checker.Instances.{Instance as SaidInstance, horizon}
-use Rattle.profile.specs.events.Properties.{first_second}
 use Rattle.profile.specs.events.Events.{Event}
-use Rattle.profile.specs.events.Starts.{IsInstance, AreInstancesFrom}
+use Rattle.profile.specs.events.Starts.{IsInstance}
 use Rattle.cal_events.specs.Calendar.{instance_of}
 use Rattle.cal_events.specs.Left.{IsLeft}
 use Rattle.cal_events.specs.Series.{AreKnownByStart}
@@ -16,6 +15,10 @@ abbrev pub walk_place : Option Instance → ℤ
 walk_place None = horizon
 walk_place (Some i) = i.start
 
+-- none of those that are still to come starts before a bound
+abbrev pub IsNoneBelow : ℤ → Option Instance → Type 0
+IsNoneBelow bound next = IfSome next (λ i. bound ≤ℤ i.start)
+
 -- the instances that start before that place are behind
 abbrev pub IsBehind : Event → ℤ → SaidInstance → Type 0
 IsBehind series place b = IsInstance series b × (b.start <ℤ place)
@@ -25,11 +28,6 @@ abbrev pub IsLastBehind : Event → ℤ → Option Instance → Type 0
 IsLastBehind series place last =
     MatchOption last ((b : SaidInstance) → IsBehind series place b → ⊥)
     (λ l. IsBehind series place (instance_of l) × ((b : SaidInstance) → IsBehind series place b → b.end ≤ℤ l.end))
-
--- this many are behind, in the list of all, as far as 64 bits go
-abbrev pub AreCounted : Event → ℤ → ℕ → Type 0
-AreCounted series place n =
-    (all : List SaidInstance) → AreInstancesFrom series first_second all → n ≡ min (count_by (λ b. int_lt b.start place) all) (2 ^ 64 - 1)
 
 -- all instances of a series are left to come
 abbrev pub AreAllLeft : Event → Instances → Type 0
@@ -45,7 +43,6 @@ pub record IsAhead (series : Event) (left : Instances) (next : Option Instance) 
 pub record IsWalkOf (series : Event) (left : Instances) (walk : Walk) : Type 0 where
   pub ahead : IsAhead series left walk.next
   pub last : IsLastBehind series (walk_place walk.next) walk.last
-  pub count : AreCounted series (walk_place walk.next) walk.count
 
 -- it is at the first instance: none is behind
 pub record BeginsWalk (series : Event) (left : Instances) (walk : Walk) : Type 0 where

@@ -1,21 +1,23 @@
-//! A search for a clash of two series. It goes past the starts of both from where the later of them begins, less a width, to the end of the one
-//! that ends first. No memory is taken.
+//! A search for a clash of two series. It goes past the starts of both from where the later of them begins, less a width, to the end of one common
+//! period and a width after it, or of the one that ends first. No memory is taken.
 ghost use Rattle.cal_events.specs.Series.{series_said};
-ghost use Rattle.cal_period.specs.Onward.{IsSharedByPair, IsFirstStart, MeetFrom, IsEntry};
+ghost use Rattle.cal_period.specs.Onward.{IsSharedByPair, IsSharedBelow, IsFirstStart, MeetFrom, IsEntry};
 
 use crate::abreast::{Turn, turn_of};
+use crate::settled::settled_by;
 use crate::walk::Walk;
 use cal_events::{Instance, Series, known_by_start};
 
 /// Two instances, one of each series, that share an instant before the horizon; None where the series are clear. It begins where the later of
-/// the two first can meet, ends where the shorter series ends, and stops at the first clash. No memory is taken.
+/// the two first can meet, and stops at the first clash, at the end of one common period and the greater width after it, or where the shorter
+/// series ends. No memory is taken.
 pub fn clash_of_pair<'a>(a: &'a Series, b: &'a Series) -> Option<(Instance<'a>, Instance<'a>)>
     ensures { IsSharedByPair (series_said a.now) (series_said b.now) result }
 {
     known_by_start();
     let first = first_start(a)?;
     let second = first_start(b)?;
-    clash_onward(a, b, first.max(second))
+    clash_onward(a, b, first.max(second), settled_by(a, b))
 }
 
 /// When the first instance of a series starts, if it has one.
@@ -28,10 +30,15 @@ fn first_start(series: &Series) -> Option<i64>
     Some(first.start)
 }
 
-/// Two instances, one of each series, that share an instant, where the later of the series begins at an instant.
-fn clash_onward<'a>(a: &'a Series, b: &'a Series, from: i64) -> Option<(Instance<'a>, Instance<'a>)>
+/// Two instances, one of each series, that start before a bound and share an instant, where the later of the series begins at an instant.
+fn clash_onward<'a>(
+    a: &'a Series,
+    b: &'a Series,
+    from: i64,
+    bound: i64,
+) -> Option<(Instance<'a>, Instance<'a>)>
     requires { MeetFrom (series_said a.now) (series_said b.now) from }
-    ensures { IsSharedByPair (series_said a.now) (series_said b.now) result }
+    ensures { IsSharedBelow (series_said a.now) (series_said b.now) bound result }
 {
     known_by_start();
     let mut of_a = a.starts(entry(a, from));
@@ -39,7 +46,7 @@ fn clash_onward<'a>(a: &'a Series, b: &'a Series, from: i64) -> Option<(Instance
     let mut first = Walk::to(of_a.next());
     let mut second = Walk::to(of_b.next());
     loop {
-        match turn_of(&first, &second) {
+        match turn_of(&first, &second, bound) {
             Turn::First(next) => {
                 if let Some(last) = second.met_by(next) {
                     return Some((next, last));

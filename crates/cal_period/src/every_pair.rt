@@ -1,9 +1,10 @@
-//! A sweep through all pairs of series: each with itself, and with those after it. No memory is taken.
+//! A search through all pairs of series: each with itself, and with those after it. No memory is taken.
 ghost use Rattle.std.specs.Prelude.{◌≤◌, ◌<◌, length, map};
 ghost use Rattle.cal_events.specs.Series.{series_said};
-ghost use Rattle.cal_period.specs.Every.{IsAtSwept, IsAtDrawn, IsRowSwept, IsRowDrawn, AreAllSwept, AreAllDrawn};
+ghost use Rattle.cal_period.specs.Every.{IsAtShared, IsRowShared, IsFirstShared};
 
-use crate::sweep::{Swept, sweep_alone, sweep_pair};
+use crate::alone::clash_alone;
+use crate::clash::clash_of_pair;
 use cal_events::{Instance, Series};
 
 /// Two instances that share an instant before the horizon, and the places of their series, counted from 0.
@@ -15,76 +16,45 @@ pub struct Shared<'a> {
     pub second: Instance<'a>,
 }
 
-/// What a sweep through many pairs found.
-#[derive(Clone, Copy)]
-pub struct SweptAll<'a> {
-    /// Two instances of the first pair that isn't clear; None where all are.
-    pub shared: Option<Shared<'a>>,
-    /// How many instances it went past, 2^64-1 at most: for a pair those of both, once where they are one series.
-    pub drawn: u64,
-}
-
-/// Looks through all pairs, by the first series and then by the second, for one that isn't clear. It goes through each series as many times
-/// as there are series.
-pub fn sweep_all(series: &[Series]) -> SweptAll<'_>
-    ensures shared { AreAllSwept (map series_said series.now) result }
-    ensures drawn { AreAllDrawn (map series_said series.now) result }
+/// Two instances of the first pair that isn't clear, by the first series and then by the second; None where all pairs are. A pair is one series by
+/// itself, or with one after it.
+pub fn clash_of_all(series: &[Series]) -> Option<Shared<'_>>
+    ensures { IsFirstShared (map series_said series.now) result }
 {
-    let mut drawn: u64 = 0;
     for i in 0..series.len() {
-        let row = sweep_row(series, i);
-        drawn = drawn.saturating_add(row.drawn);
-        if let Some(shared) = row.shared {
-            return SweptAll {
-                shared: Some(shared),
-                drawn,
-            };
+        if let Some(shared) = clash_in_row(series, i) {
+            return Some(shared);
         }
     }
-    SweptAll {
-        shared: None,
-        drawn,
-    }
+    None
 }
 
-/// Looks through the pairs of one series, with itself and with those after it.
-fn sweep_row(series: &[Series], i: usize) -> SweptAll<'_>
+/// Those of the first pair of one series, with itself and with those after it.
+fn clash_in_row(series: &[Series], i: usize) -> Option<Shared<'_>>
     requires { i < length series.now }
-    ensures shared { IsRowSwept (map series_said series.now) i result }
-    ensures drawn { IsRowDrawn (map series_said series.now) i result }
+    ensures { IsRowShared (map series_said series.now) i result }
 {
-    let mut drawn: u64 = 0;
     for j in i..series.len() {
-        let swept = sweep_at(series, i, j);
-        drawn = drawn.saturating_add(swept.drawn);
-        if let Some((first, second)) = swept.shared {
-            let shared = Shared {
+        if let Some((first, second)) = clash_at(series, i, j) {
+            return Some(Shared {
                 i,
                 j,
                 first,
                 second,
-            };
-            return SweptAll {
-                shared: Some(shared),
-                drawn,
-            };
+            });
         }
     }
-    SweptAll {
-        shared: None,
-        drawn,
-    }
+    None
 }
 
-/// Looks through one pair.
-fn sweep_at(series: &[Series], i: usize, j: usize) -> Swept<'_>
+/// Those of one pair.
+fn clash_at(series: &[Series], i: usize, j: usize) -> Option<(Instance<'_>, Instance<'_>)>
     requires { (i ≤ j) × (j < length series.now) }
-    ensures shared { IsAtSwept (map series_said series.now) i j result }
-    ensures drawn { IsAtDrawn (map series_said series.now) i j result }
+    ensures { IsAtShared (map series_said series.now) i j result }
 {
     if i == j {
-        sweep_alone(&series[i])
+        clash_alone(&series[i])
     } else {
-        sweep_pair(&series[i], &series[j])
+        clash_of_pair(&series[i], &series[j])
     }
 }

@@ -1,14 +1,22 @@
-//! Whether two series of a calendar, or one by itself, are clear of each other, and whether its singles are clear of its series.
+//! After how many days recurrences do the same again, and whether two series of a calendar, or one by itself, are clear of each other: what they do
+//! in one common period settles them for all time. And whether the singles of a calendar are clear of its series.
 #![tactic(auto)]
 
 mod abreast;
+mod alone;
 mod beside;
 mod clash;
 mod every_pair;
-mod sweep;
+mod law;
+mod recurs;
+mod settled;
+mod span;
 mod walk;
 
+pub use alone::clash_alone;
 pub use beside::{Beside, single_beside_series};
 pub use clash::clash_of_pair;
-pub use every_pair::{Shared, SweptAll, sweep_all};
-pub use sweep::{Swept, sweep_alone, sweep_pair};
+pub use every_pair::{Shared, clash_of_all};
+pub use law::{periods_are_multiples, series_repeat};
+pub use recurs::{Recurs, common_period};
+pub use span::{PairSpan, span_of_pair};

@@ -1,12 +1,12 @@
 //! A walk through the instances of a series, by start. Of those behind it remembers the one that ends last.
-ghost use Rattle.std.specs.Prelude.{◌≡◌, ◌≤ℤ◌, false, ℤ, Option, Some, IfSome, IfNone};
+ghost use Rattle.std.specs.Prelude.{◌≡◌, ◌≤ℤ◌, ◌<ℤ◌, false, ℤ, Option, Some, IfSome, IfNone};
 ghost use Rattle.profile.specs.events.Events.{Event};
 ghost use Rattle.cal_events.specs.Left.{GivesFirst};
 ghost use Rattle.cal_events.specs.Series.{AreKnownByStart};
 ghost use Rattle.cal_events.specs.declared.instances.Instances.{Instances};
-ghost use Rattle.cal_period.specs.Walks.{walk_place, AreAllLeft, AreLeftFrom, BeginsWalk, EntersWalk, IsWalkOf, Tail, GoesPast, GoesOn, MeetsNone, MeetsInstance, EndsLater};
+ghost use Rattle.cal_period.specs.Walks.{IsNoneBelow, AreAllLeft, AreLeftFrom, BeginsWalk, EntersWalk, IsWalkOf, Tail, GoesPast, GoesOn, MeetsNone, MeetsInstance, EndsLater};
 
-use cal_events::{HORIZON, Instance};
+use cal_events::Instance;
 
 /// How far a series was walked through.
 #[derive(Clone, Copy)]
@@ -15,8 +15,6 @@ pub(crate) struct Walk<'a> {
     pub(crate) next: Option<Instance<'a>>,
     /// Of those behind the one that ends last.
     last: Option<Instance<'a>>,
-    /// How many are behind, 2^64-1 at most.
-    pub(crate) count: u64,
 }
 
 impl<'a> Walk<'a> {
@@ -30,18 +28,19 @@ impl<'a> Walk<'a> {
         Walk {
             next: first,
             last: None,
-            count: 0,
         }
     }
 
-    /// Where it is: at the start of its next instance, or at the horizon where there is none.
-    pub(crate) fn place(&self) -> i64
-        ensures { result ≡ walk_place self.now.next }
+    /// Its next instance, where that starts before a bound.
+    pub(crate) fn next_below(&self, bound: i64) -> Option<Instance<'a>>
+        ensures some { IfSome result (λ i. (self.now.next ≡ Some i) × (i.start <ℤ bound)) }
+        ensures none { IfNone result (IsNoneBelow bound self.now.next) }
     {
-        match self.next {
-            Some(next) => next.start,
-            None => HORIZON,
+        let next = self.next?;
+        if next.start >= bound {
+            return None;
         }
+        Some(next)
     }
 
     /// The instance behind it that is still going on when another starts, if there is one. An instance of no length starts in none.
@@ -77,7 +76,6 @@ impl<'a> Walk<'a> {
         Walk {
             next: after,
             last: Some(later_end(self.last, next)),
-            count: self.count.saturating_add(1),
         }
     }
 }

@@ -23,3 +23,4 @@ pub mod PlainRule
 pub mod Shifts
 pub mod Multiples
 pub mod PeriodsOf
+pub mod LastDays

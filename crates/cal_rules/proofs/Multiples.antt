@@ -3,6 +3,7 @@ use Rattle.std.proofs.Common.{◌≡◌, ◌∙◌, ap, sym, refl, inl, inr, ℕ
 use Rattle.std.proofs.Math.Nat.{mul-mod_left, mul-le-mul_right, le-div_iff_mul-le}
 use Rattle.std.proofs.lemmas.Nat.{div-add-mod'}
 use Rattle.std.proofs.lemmas.Bool.{cases_lt}
+use Rattle.std.specs.Prelude.{MatchOption, Option, None, Some}
 use Rattle.profile.specs.series.Periods.{IsMultiple, IsLeastMultiple, HasNoMultiple, most_period}
 use Rattle.cal_rules.specs.Shifting.{IsLeastCount, HasNoCount, IsLeastCycle, HasNoCycle}
 
@@ -48,6 +49,20 @@ no_multiple a b h none n some first second = elim (cases_lt most_period n) [
       let few : first.0 ≤ 2_932_897 / a = (le-div_iff_mul-le {k = a} {x = first.0} {y = 2_932_897} h).1 (omega (arith, most, f)) in
       absurd (none first.0 (some_times first.0 a n some f) few (second.0, sym f ∙ second.1))
 ]
+
+pub few_days : (a count : ℕ) → 0 < a → count ≤ 2_932_897 / a → count * a ≤ most_period
+few_days a count h few = (le-div_iff_mul-le {k = a} {x = count} {y = 2_932_897} h).0 few
+
+-- in either order
+pub swapped : (a b days : ℕ) → IsLeastMultiple b a days → IsLeastMultiple a b days
+swapped a b days m = record { some = m.some; of_first = m.of_second; of_second = m.of_first; least = λ n some first second. m.least n some second first }
+
+pub none_swapped : (a b : ℕ) → HasNoMultiple b a → HasNoMultiple a b
+none_swapped a b h n some first second = h n some second first
+
+pub either_order : (a b : ℕ) (found : Option ℕ) → MatchOption found (HasNoMultiple b a) (IsLeastMultiple b a) → MatchOption found (HasNoMultiple a b) (IsLeastMultiple a b)
+either_order a b None h = none_swapped a b h
+either_order a b (Some days) h = swapped a b days h
 
 pub within : (a most count : ℕ) → count ≤ most → count * a ≤ most * a
 within a most count h = mul-le-mul_right a h

@@ -1,6 +1,6 @@
 -- The period of a rule, by its frequency.
 use Rattle.std.proofs.Common.{◌≡◌, ◌∙◌, ap, sym, refl, subst, ℕ, ◌*◌, ◌<◌, ◌≤◌, Bool, true, false, arith}
-use Rattle.std.specs.Prelude.{MatchOption, Option, None, Some}
+use Rattle.std.specs.Prelude.{IfSome, MatchOption, Option, None, Some}
 use Rattle.profile.specs.series.Days.{Frequency, Daily, Weekly, Monthly, Yearly}
 use Rattle.profile.specs.series.Rules.{Pattern, is_missing}
 use Rattle.profile.specs.series.Periods.{IsMultiple, IsInStep, IsShift, IsPeriod, HasNoPeriod, IsLeastMultiple, HasNoMultiple, most_period, names_dates}
@@ -110,3 +110,8 @@ by_years p interval result f i m =
     let to : (n : ℕ) → ((q : ℕ) × (n ≡ q * 146_097) × IsMultiple (q * 400) p.interval) → IsInStep p.frequency p.interval n = λ n h. rw f h in
     let from : (n : ℕ) → IsInStep p.frequency p.interval n → ((q : ℕ) × (n ≡ q * 146_097) × IsMultiple (q * 400) p.interval) = λ n h. rw f at h in
     found result (no_long_period p 400 to from) (long_period p 400 to from) (rw i at m)
+
+-- a period is some days
+pub some_and_few : (p : Pattern) (found : Option ℕ) → MatchOption found (HasNoPeriod p) (IsPeriod p) → IfSome found (λ days. days ≤ most_period) → IfSome found (λ days. (0 < days) × (days ≤ most_period))
+some_and_few p None h few = tt
+some_and_few p (Some days) h few = (h.some, few)

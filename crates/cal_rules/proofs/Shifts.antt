@@ -266,7 +266,7 @@ unfolding is_within_count
 uncounted r n e = rw e refl
 
 pub counted_down : (r : Rule) (days n : ℕ) → IsShift r.pattern days → r.pattern.week_start < 7 → (is_long r.pattern.frequency ≡ false → list_all (λ entry. is_plain entry.number) r.pattern.weekdays ≡ true)
-    → 731 ≤ r.pattern.start → r.pattern.start ≤ n → is_counted r (n + days) ≡ true → is_counted r n ≡ true
+    → 731 ≤ n → r.pattern.start ≤ n → is_counted r (n + days) ≡ true → is_counted r n ≡ true
 counted_down r days n s h plain early start e =
     let k = to_counted r (n + days) e in
     let year = k.year in
@@ -280,7 +280,7 @@ counted_down r days n s h plain early start e =
     })
 
 pub counted_up : (r : Rule) (days n : ℕ) → IsShift r.pattern days → r.pattern.week_start < 7 → (is_long r.pattern.frequency ≡ false → list_all (λ entry. is_plain entry.number) r.pattern.weekdays ≡ true)
-    → 731 ≤ r.pattern.start → n + days ≤ r.last → n + days ≤ last_rule_day → is_counted r n ≡ true → is_counted r (n + days) ≡ true
+    → 731 ≤ n → n + days ≤ r.last → n + days ≤ last_rule_day → is_counted r n ≡ true → is_counted r (n + days) ≡ true
 counted_up r days n s h plain early last year e =
     let k = to_counted r n e in
     let start = k.start in
@@ -293,13 +293,13 @@ counted_up r days n s h plain early last year e =
     })
 
 pub rule_down : (r : Rule) (days n : ℕ) → IsShift r.pattern days → r.pattern.week_start < 7 → (is_long r.pattern.frequency ≡ false → list_all (λ entry. is_plain entry.number) r.pattern.weekdays ≡ true)
-    → r.count ≡ None → 731 ≤ r.pattern.start → r.pattern.start ≤ n → is_rule_day r (n + days) ≡ true → is_rule_day r n ≡ true
+    → r.count ≡ None → 731 ≤ n → r.pattern.start ≤ n → is_rule_day r (n + days) ≡ true → is_rule_day r n ≡ true
 unfolding is_rule_day
 rule_down r days n s h plain none early start e =
     rw (counted_down r days n s h plain early start (and_parts (is_counted r (n + days)) (is_within_count r (n + days)) e).0, uncounted r n none) refl
 
 pub rule_up : (r : Rule) (days n : ℕ) → IsShift r.pattern days → r.pattern.week_start < 7 → (is_long r.pattern.frequency ≡ false → list_all (λ entry. is_plain entry.number) r.pattern.weekdays ≡ true)
-    → r.count ≡ None → 731 ≤ r.pattern.start → n + days ≤ r.last → n + days ≤ last_rule_day → is_rule_day r n ≡ true → is_rule_day r (n + days) ≡ true
+    → r.count ≡ None → 731 ≤ n → n + days ≤ r.last → n + days ≤ last_rule_day → is_rule_day r n ≡ true → is_rule_day r (n + days) ≡ true
 unfolding is_rule_day
 rule_up r days n s h plain none early last year e =
     rw (counted_up r days n s h plain early last year (and_parts (is_counted r n) (is_within_count r n) e).0, uncounted r (n + days) none) refl

@@ -7,3 +7,4 @@ pub mod Left
 pub mod Taken
 pub mod Lists
 pub mod Shifting
+pub mod LastDays

@@ -14,12 +14,12 @@ pub fn base_days_repeat()
 {}
 
 /// A shift keeps the days of a rule without COUNT: of each rule day there was one so many days before, where DTSTART isn't later; and there
-/// is one so many days after, where UNTIL and 9999-12-31 aren't earlier.
+/// is one so many days after, where UNTIL and 9999-12-31 aren't earlier. Not so in year 1: a week that begins before 0001-01-01 isn't whole there.
 pub fn rule_days_repeat()
     ensures down { (r : Rule) (days n : ℕ) → IsShift r.pattern days → r.pattern.week_start < 7
         → (is_long r.pattern.frequency ≡ false → list_all (λ entry. is_plain entry.number) r.pattern.weekdays ≡ true)
-        → r.count ≡ None → 731 ≤ r.pattern.start → r.pattern.start ≤ n → is_rule_day r (n + days) ≡ true → is_rule_day r n ≡ true }
+        → r.count ≡ None → 731 ≤ n → r.pattern.start ≤ n → is_rule_day r (n + days) ≡ true → is_rule_day r n ≡ true }
     ensures up { (r : Rule) (days n : ℕ) → IsShift r.pattern days → r.pattern.week_start < 7
         → (is_long r.pattern.frequency ≡ false → list_all (λ entry. is_plain entry.number) r.pattern.weekdays ≡ true)
-        → r.count ≡ None → 731 ≤ r.pattern.start → n + days ≤ r.last → n + days ≤ last_rule_day → is_rule_day r n ≡ true → is_rule_day r (n + days) ≡ true }
+        → r.count ≡ None → 731 ≤ n → n + days ≤ r.last → n + days ≤ last_rule_day → is_rule_day r n ≡ true → is_rule_day r (n + days) ≡ true }
 {}

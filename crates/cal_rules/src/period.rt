@@ -1,7 +1,7 @@
 //! Periods: after how many days a rule does the same again (RFC 5545 3.3.10).
 
-ghost use Rattle.std.specs.Prelude.{◌≡◌, ℕ, ◌*◌, ◌^◌, ◌<◌, ◌≤◌, MatchOption};
-ghost use Rattle.profile.specs.series.Periods.{HasNoMultiple, HasNoPeriod, IsLeastMultiple, IsPeriod};
+ghost use Rattle.std.specs.Prelude.{◌≡◌, ℕ, ◌*◌, ◌^◌, ◌<◌, ◌≤◌, IfSome, MatchOption};
+ghost use Rattle.profile.specs.series.Periods.{HasNoMultiple, HasNoPeriod, IsLeastMultiple, IsPeriod, most_period};
 ghost use Rattle.cal_rules.specs.Views.{pattern_of};
 ghost use Rattle.cal_rules.specs.Shifting.{HasNoCount, HasNoCycle, IsLeastCount, IsLeastCycle, days_of_parts};
 
@@ -17,9 +17,22 @@ const CYCLE: u64 = 146_097;
 /// The most cycles in a period: 20 are 2,921,940 days.
 const MOST_CYCLES: u64 = 20;
 
-/// The least common multiple of two numbers of days, None where it is past 2,932,897. In time that grows with the second.
+/// The least common multiple of two numbers of days, None where it is past 2,932,897. Multiples of the greater one are tried, each up to there.
 pub fn common_multiple(a: u64, b: u64) -> Option<u64>
-    ensures { MatchOption result (HasNoMultiple a b) (IsLeastMultiple a b) }
+    ensures least { MatchOption result (HasNoMultiple a b) (IsLeastMultiple a b) }
+    ensures few { IfSome result (λ days. days ≤ most_period) }
+{
+    if a < b {
+        multiple_of(b, a)
+    } else {
+        multiple_of(a, b)
+    }
+}
+
+/// The same, where multiples of the first number are tried.
+fn multiple_of(a: u64, b: u64) -> Option<u64>
+    ensures least { MatchOption result (HasNoMultiple a b) (IsLeastMultiple a b) }
+    ensures few { IfSome result (λ days. days ≤ most_period) }
 {
     if a == 0 {
         return None;
@@ -53,7 +66,8 @@ fn least_count(a: u64, b: u64, most: u64) -> Option<u64>
 fn cycles(periods: u64, interval: u64) -> Option<u64>
     requires some { 0 < periods }
     requires few { periods ≤ 4_800 }
-    ensures { MatchOption result (HasNoCycle periods interval) (IsLeastCycle periods interval) }
+    ensures least { MatchOption result (HasNoCycle periods interval) (IsLeastCycle periods interval) }
+    ensures few { IfSome result (λ days. days ≤ most_period) }
 {
     let Some(count) = least_count(periods, interval, MOST_CYCLES) else {
         return None;
@@ -65,7 +79,8 @@ impl Written {
     /// The least number of days after which a rule of these parts does the same again, apart from COUNT and UNTIL; None past 2,932,897.
     pub fn period_days(&self) -> Option<u64>
         requires { 1 ≤ self.now.interval }
-        ensures { (start : ℕ) → MatchOption result (HasNoPeriod (pattern_of self.now start)) (IsPeriod (pattern_of self.now start)) }
+        ensures period { (start : ℕ) → MatchOption result (HasNoPeriod (pattern_of self.now start)) (IsPeriod (pattern_of self.now start)) }
+        ensures few { IfSome result (λ days. days ≤ most_period) }
     {
         let interval = u64::from(self.interval);
         match self.frequency {

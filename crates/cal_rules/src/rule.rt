@@ -51,12 +51,14 @@ impl Clone for Rule {
 }
 
 impl Rule {
-    ghost use Rattle.std.specs.Prelude.{◌≡◌, ◌≢◌, ◌⊎◌, ◌+◌, ◌++◌, true, false, None, Some, map, option_map, MatchOption, IfOk, IfErr, OnOk, OnErr};
+    ghost use Rattle.std.specs.Prelude.{◌≡◌, ◌≢◌, ◌⊎◌, ◌<◌, ◌≤◌, ◌+◌, ◌-◌, ◌++◌, true, false, None, Some, map, option_map, IfSome, MatchOption, IfOk, IfErr, OnOk, OnErr};
     ghost use Rattle.profile.specs.series.Days.{day_index};
     ghost use Rattle.profile.specs.series.Rules.{rule_of, text_in, is_rule_day, rule_days_from, NoDayFrom, IsNextDay};
-    ghost use Rattle.profile.specs.series.Periods.{HasNoPeriod, IsPeriod};
+    ghost use Rattle.profile.specs.series.Periods.{HasNoPeriod, IsPeriod, most_period};
     ghost use Rattle.profile.specs.series.RuleTexts as texts;
     ghost use Rattle.cal_rules.specs.Left.{days_left};
+    ghost use Rattle.cal_rules.specs.LastDays.{NoDayTo, IsLastDayTo};
+    ghost use Rattle.cal_rules.specs.Counted.{NoneIn, IsFirstIn};
     ghost use Rattle.cal_rules.specs.Cursors.{IsCursorOf};
     ghost use Rattle.ical_lines.specs.declared.fault.Fault.TheVariants.{Refused};
 
@@ -108,11 +110,59 @@ impl Rule {
         Some(day)
     }
 
+    /// The last day of the rule that isn't after that one; None where there is none. It is searched for by halves, from the first day of the
+    /// rule on, in at most 23 jumps as by `seek`.
+    pub fn last_not_after(&self, day: Day) -> Option<Day>
+        ensures { MatchOption result (NoDayTo self.now (day_index day)) (λ last. IsLastDayTo self.now (day_index day) (day_index last)) }
+    {
+        let end = day.index() + 1;
+        let Some(first) = self.seek_before(self.start.index, end) else {
+            return None;
+        };
+        Day::at_index(self.last_before(first, end))
+    }
+
+    /// The last day of the rule before an end, by index, where this is one of the rule before it.
+    fn last_before(&self, first: u32, end: u32) -> u32
+        requires from_year_1 { 366 ≤ first }
+        requires before { first < end }
+        requires to_10001 { end ≤ 3_653_156 }
+        requires holds { is_rule_day self.now first ≡ true }
+        ensures last { IsLastDayTo self.now (end - 1) result }
+        ensures not_before { first ≤ result }
+    {
+        let mut last = first;
+        let mut none_from = end;
+        while none_from - last > 1 {
+            let middle = last + (none_from - last) / 2;
+            match self.seek_before(middle, none_from) {
+                Some(day) => last = day,
+                None => none_from = middle,
+            }
+        }
+        last
+    }
+
+    /// The first day of the rule from one on and before an end, by index.
+    fn seek_before(&self, from: u32, end: u32) -> Option<u32>
+        requires { (366 ≤ from) × (from ≤ 3_653_155) }
+        ensures { MatchOption result (NoneIn (is_rule_day self.now) from end) (IsFirstIn (is_rule_day self.now) from end) }
+    {
+        let Some(day) = self.seek(Day::at_index(from).unwrap()) else {
+            return None;
+        };
+        if day.index() >= end {
+            return None;
+        }
+        Some(day.index())
+    }
+
     /// After how many days the rule does the same again (RFC 5545 3.3.10): 1 where COUNT or UNTIL ends it, after whose last day there is nothing;
     /// None where they are more than 2,932,897.
     pub fn period_days(&self) -> Option<u64>
         ensures ended { (self.now.count ≢ None) ⊎ (self.now.until ≢ None) → result ≡ Some 1 }
         ensures endless { self.now.count ≡ None → self.now.until ≡ None → MatchOption result (HasNoPeriod self.now.pattern) (IsPeriod self.now.pattern) }
+        ensures few { IfSome result (λ days. (0 < days) × (days ≤ most_period)) }
     {
         let written = self.text.written();
         if written.count.is_some() || written.until.is_some() {

@@ -20,3 +20,5 @@ pub mod RuleWords
 pub mod WrittenLines
 pub mod Spans
 pub mod Meant
+pub mod Periods
+pub mod Regular

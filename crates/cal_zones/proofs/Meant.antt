@@ -170,9 +170,10 @@ begun o t = begun_by o t ((t +ℤ o.offset_from) -ℤ local_time 0 o.second) (om
 pub in_force : (k : rust.Form) (t : ℤ) → (offset : ℤ) × IsOffsetAt (zone_of_form k) t offset
 in_force (the.Constant f) t = (f.offset, refl)
 in_force (the.Single a) t =
-    elim (begun a t) [
-      | inl none ↦ (a.offset_from, single_until (observance_of a) t none)
-      | inr latest ↦ (a.offset_to, single_since (observance_of a) t latest.0 latest.1)
+    let o = a.observance in
+    elim (begun o t) [
+      | inl none ↦ (o.offset_from, single_until (observance_of o) t none)
+      | inr latest ↦ (o.offset_to, single_since (observance_of o) t latest.0 latest.1)
     ]
 in_force (the.Pair p) t =
     let a = observance_of p.standard in
@@ -206,7 +207,7 @@ ordered from to =
 
 ends_there : (k : rust.Form) → (least : ℤ) × (greatest : ℤ) × AreEnds (zone_of_form k) least greatest
 ends_there (the.Constant f) = (f.offset, f.offset, (refl, refl))
-ends_there (the.Single a) = ordered a.offset_from a.offset_to
+ends_there (the.Single a) = ordered a.observance.offset_from a.observance.offset_to
 ends_there (the.Pair p) = let o = ordered p.standard.offset_from p.standard.offset_to in (o.0, o.1, (o.2, p.there, p.back))
 
 -- each local time means an instant

@@ -10,7 +10,7 @@ use Rattle.cal_zones.proofs.Zones.{once_constant, once_single, once_pair}
 
 once_kind : (k : rust.Form) → OneAtOnce (IsZoneOnset (zone_of_form k))
 once_kind (the.Constant f) = once_constant f.offset
-once_kind (the.Single a) = once_single (observance_of a)
+once_kind (the.Single a) = once_single (observance_of a.observance)
 once_kind (the.Pair p) = once_pair (observance_of p.standard) (observance_of p.daylight) p.apart
 
 pub once : (z : kept.Zone) → OneAtOnce (IsZoneOnset (zone_of z))

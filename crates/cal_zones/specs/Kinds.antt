@@ -12,7 +12,7 @@ pair_of a b = Pair (observance_of a) (observance_of b)
 
 abbrev pub zone_of_form : rust.Form → Zone
 zone_of_form (the.Constant k) = Constant k.offset
-zone_of_form (the.Single a) = Single (observance_of a)
+zone_of_form (the.Single a) = Single (observance_of a.observance)
 zone_of_form (the.Pair p) = pair_of p.standard p.daylight
 
 abbrev pub zone_of : kept.Zone → Zone

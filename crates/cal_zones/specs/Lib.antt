@@ -9,3 +9,4 @@ pub mod Spaced
 pub mod Named
 pub mod Read
 pub mod Spans
+pub mod Repeats

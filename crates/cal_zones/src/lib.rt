@@ -5,6 +5,7 @@
 #![tactic(auto)]
 
 mod clock;
+mod law;
 mod observance;
 mod one_day;
 mod pair;
@@ -15,6 +16,7 @@ mod yearly;
 mod zone;
 
 pub use clock::Clock;
+pub use law::zones_repeat;
 pub use observance::Observance;
 pub use read::one_zone;
 pub use write::zone_reads_back;

@@ -34,6 +34,7 @@ impl Observance {
     ghost use Rattle.profile.specs.series.Zones.{Single, local_time, IsOffsetAt, IsOnset, IsLatest, IsFirstOf, NoneBegun, onset_at};
     ghost use Rattle.cal_zones.specs.Onsets.{observance_of, IsFirstDayOf};
     ghost use Rattle.cal_zones.specs.Kinds.{IsOrdered};
+    ghost use Rattle.cal_zones.specs.Repeats.{IsBegunFrom};
     ghost use Rattle.cal_zones.specs.Spans.{AreNoneBetween};
 
     /// The observance with that DTSTART, RRULE, TZOFFSETFROM and TZOFFSETTO.
@@ -89,6 +90,13 @@ impl Observance {
         ensures high { result ≤ℤ pos 1_000_000_000_000 }
     {
         self.onset_on(self.first_day())
+    }
+
+    /// The first instant that is more than half a day past the first onset.
+    pub(crate) fn begun_from(&self) -> i64
+        ensures { IsBegunFrom (observance_of self.now) result }
+    {
+        self.first_onset() + HALF_DAY as i64 + 1
     }
 
     /// The latest onset up to an instant. None before the first one.

@@ -1,6 +1,6 @@
 //! Two observances that follow each other: STANDARD and DAYLIGHT.
 
-ghost use Rattle.std.specs.Prelude.{◌≡◌, ◌≤◌, true, false};
+ghost use Rattle.std.specs.Prelude.{◌≡◌, ◌≤◌, true, false, None, unsigned_abs, ◌-ℤ◌};
 ghost use Rattle.cal_zones.specs.Apart.{NeverAtOnce};
 ghost use Rattle.cal_zones.specs.Spaced.{IsApart, IsYearSpaced, IsSpaced, AreNear, HasNear};
 
@@ -16,6 +16,9 @@ const SPACING: u64 = 172_800;
 pub struct Pair {
     pub(crate) standard: Observance,
     pub(crate) daylight: Observance,
+    ghost first: { standard.rule ≡ None → ⊥ },
+    ghost second: { daylight.rule ≡ None → ⊥ },
+    ghost near: { unsigned_abs (standard.offset_from -ℤ standard.offset_to) ≤ 43_200 },
     ghost there: { standard.offset_to ≡ daylight.offset_from },
     ghost back: { daylight.offset_to ≡ standard.offset_from },
     ghost apart: { NeverAtOnce standard daylight },

@@ -44,7 +44,7 @@ fn write_parts(out: &mut Vec<u8>, zone: &Zone) -> Result<(), AllocError>
 {
     match &zone.kind {
         Form::Constant(fixed) => write_part(out, "STANDARD", &keeping(fixed)),
-        Form::Single(observance) => write_part(out, "STANDARD", observance),
+        Form::Single(once) => write_part(out, "STANDARD", &once.observance),
         Form::Pair(pair) => {
             write_part(out, "STANDARD", &pair.standard)?;
             write_part(out, "DAYLIGHT", &pair.daylight)?;

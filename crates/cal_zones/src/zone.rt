@@ -1,6 +1,6 @@
 //! Zones: which offset their clocks keep at each instant, and what a local time means.
 
-ghost use Rattle.std.specs.Prelude.{ℕ, ◌<◌, ◌≤◌, ◌+ℤ◌};
+ghost use Rattle.std.specs.Prelude.{◌≡◌, ℕ, ◌<◌, ◌≤◌, None, unsigned_abs, ◌+ℤ◌, ◌-ℤ◌};
 ghost use Rattle.std.specs.Int.Signed.{◌<ℤ◌};
 ghost use Rattle.profile.specs.text.Values.{IsOffset};
 ghost use Rattle.profile.specs.series.Zones.{local_time};
@@ -23,13 +23,21 @@ pub struct Fixed {
     ghost range: { IsOffset offset },
 }
 
+/// One observance that begins once.
+#[derive(Clone, Copy)]
+pub struct Once {
+    pub(crate) observance: Observance,
+    ghost unruled: { observance.rule ≡ None },
+    ghost near: { unsigned_abs (observance.offset_from -ℤ observance.offset_to) ≤ 43_200 },
+}
+
 /// What a zone is made of.
 #[derive(Clone, Copy)]
 pub enum Form {
     /// One offset for all time.
     Constant(Fixed),
     /// One observance.
-    Single(Observance),
+    Single(Once),
     /// STANDARD and DAYLIGHT.
     Pair(Pair),
 }
@@ -49,6 +57,8 @@ impl Zone {
     ghost use Rattle.cal_zones.specs.Onsets.{observance_of};
     ghost use Rattle.cal_zones.specs.Kinds.{zone_of, pair_of, AreEnds};
     ghost use Rattle.cal_zones.specs.Spans.{AreNoneBetween};
+    ghost use Rattle.cal_zones.specs.Repeats.{IsRegularFrom, IsLeastZonePeriod};
+    ghost use Rattle.profile.specs.events.Spans.{IsPastOnsets};
     ghost use Rattle.ical_lines.specs.Fault.{RefusesBy};
     ghost use Rattle.ical_tree.specs.Tree.{tree_of};
     ghost use Rattle.profile.specs.written.WrittenZones.{IsZoneText};
@@ -90,7 +100,7 @@ impl Zone {
             return Err(Refusal::ZONE_OFFSETS);
         }
         Ok(Zone {
-            kind: Form::Single(observance),
+            kind: Form::Single(Once { observance }),
         })
     }
 
@@ -140,7 +150,7 @@ impl Zone {
     {
         match &self.kind {
             Form::Constant(fixed) => fixed.offset,
-            Form::Single(observance) => observance.offset(instant),
+            Form::Single(once) => once.observance.offset(instant),
             Form::Pair(pair) => pair.offset(instant),
         }
     }
@@ -162,7 +172,7 @@ impl Zone {
     {
         match &self.kind {
             Form::Constant(fixed) => (fixed.offset, fixed.offset),
-            Form::Single(observance) => observance.offsets(),
+            Form::Single(once) => once.observance.offsets(),
             Form::Pair(pair) => pair.standard.offsets(),
         }
     }
@@ -174,11 +184,36 @@ impl Zone {
     {
         match &self.kind {
             Form::Constant(_) => (None, None),
-            Form::Single(observance) => (Some(observance.first_onset()), None),
+            Form::Single(once) => (Some(once.observance.first_onset()), None),
             Form::Pair(pair) => (
                 Some(pair.standard.first_onset()),
                 Some(pair.daylight.first_onset()),
             ),
+        }
+    }
+
+    /// The first instant that is more than half a day past the first onset of each observance: from then on nothing is left of an onset that comes
+    /// only once. 0 for a zone without onsets, which never changes.
+    pub fn regular_from(&self) -> i64
+        ensures past { IsPastOnsets (zone_of self.now) result }
+        ensures exact { IsRegularFrom (zone_of self.now) result }
+    {
+        match &self.kind {
+            Form::Constant(_) => 0,
+            Form::Single(once) => once.observance.begun_from(),
+            Form::Pair(pair) => pair.standard.begun_from().max(pair.daylight.begun_from()),
+        }
+    }
+
+    /// After how many days its clocks do the same again, from `regular_from` on: 146,097 where two observances follow each other, which are 400
+    /// years, else 1.
+    pub fn period_days(&self) -> u64
+        ensures { IsLeastZonePeriod (zone_of self.now) result }
+    {
+        match &self.kind {
+            Form::Constant(_) => 1,
+            Form::Single(_) => 1,
+            Form::Pair(_) => 146_097,
         }
     }
 
@@ -188,7 +223,7 @@ impl Zone {
     {
         match &self.kind {
             Form::Constant(_) => i64::MAX,
-            Form::Single(observance) => observance.quiet_until(instant),
+            Form::Single(once) => once.observance.quiet_until(instant),
             Form::Pair(pair) => pair.quiet_until(instant),
         }
     }

@@ -30,23 +30,23 @@ module _ (a b : Observance) (pa pb : Pattern) (ra : a.rule ≡ Some pa) (rb : b.
   abbrev Is : Onset → Type 0
   Is = IsZoneOnset (Pair a b)
 
-  up : (x : Onset) → Is x → Is (onset_later cycle x)
+  pub up : (x : Onset) → Is x → Is (onset_later cycle x)
   up x (inl is) = inl (onset_up a pa ra a_repeats x is)
   up x (inr is) = inr (onset_up b pb rb b_repeats x is)
 
-  down : (x : Onset) → from ≤ℤ x.instant → Is (onset_later cycle x) → Is x
+  pub down : (x : Onset) → from ≤ℤ x.instant → Is (onset_later cycle x) → Is x
   down x l (inl is) = inl (onset_down a pa ra a_repeats fa first_a x (omega (arith, ints, l, after_a)) is)
   down x l (inr is) = inr (onset_down b pb rb b_repeats fb first_b x (omega (arith, ints, l, after_b)) is)
 
-  before_either : (x : Onset) → Is x → IsEither a.offset_from b.offset_from x.before
+  pub before_either : (x : Onset) → Is x → IsEither a.offset_from b.offset_from x.before
   before_either x (inl is) = inl is.before
   before_either x (inr is) = inr is.before
 
-  after_either : (x : Onset) → Is x → IsEither a.offset_from b.offset_from x.after
+  pub after_either : (x : Onset) → Is x → IsEither a.offset_from b.offset_from x.after
   after_either x (inl is) = inr (is.after ∙ matched.0)
   after_either x (inr is) = inl (is.after ∙ matched.1)
 
-  offset_either : (t o : ℤ) → InForce Is t o → IsEither a.offset_from b.offset_from o
+  pub offset_either : (t o : ℤ) → InForce Is t o → IsEither a.offset_from b.offset_from o
   offset_either t o (Since x latest e) = subst (IsEither a.offset_from b.offset_from) (sym e) (after_either x latest.listed)
   offset_either t o (Until x ahead e) = subst (IsEither a.offset_from b.offset_from) (sym e) (before_either x ahead.listed)
 
@@ -55,10 +55,10 @@ module _ (a b : Observance) (pa pb : Pattern) (ra : a.rule ≡ Some pa) (rb : b.
 
   -- the later of the first onsets is the instant from which on all repeats
   module _ (last : Onset) (listed : Is last) (at : last.instant ≡ from) where
-    later : (t o : ℤ) → from ≤ℤ t → InForce Is t o → InForce Is (t +ℤ cycle) o
+    pub later : (t o : ℤ) → from ≤ℤ t → InForce Is t o → InForce Is (t +ℤ cycle) o
     later t o l i = offset_later Is cycle (omega (arith, ints)) last listed (λ x is _. up x is) (λ x m is. down x (omega (arith, ints, m, at)) is) t o (omega (arith, ints, l, at)) i
 
-    earlier : (t o : ℤ) → from ≤ℤ t → InForce Is (t +ℤ cycle) o → InForce Is t o
+    pub earlier : (t o : ℤ) → from ≤ℤ t → InForce Is (t +ℤ cycle) o → InForce Is t o
     earlier t o l i = offset_earlier Is cycle (omega (arith, ints)) last listed (λ x is _. up x is) (λ x m is. down x (omega (arith, ints, m, at)) is) t o (omega (arith, ints, l, at)) i
 
     near : (t u p q : ℤ) → InForce Is t p → InForce Is u q → p ≤ℤ (q +ℤ pos 43_200)
@@ -85,7 +85,7 @@ module _ (a : Observance) (unruled : a.rule ≡ None) (from : ℤ) (first : IsFi
   begins_by : (day : ℕ) → begins_on a day ≡ true → day ≡ a.day
   begins_by day e = let b : begins_on a day ≡ (day == a.day) = rw unruled refl in eqb-true day a.day (sym b ∙ e)
 
-  one_onset : (x : Onset) → Once x → x.instant ≡ from
+  pub one_onset : (x : Onset) → Once x → x.instant ≡ from
   one_onset x is =
       let own = first.listed in
       let d : is.day ≡ own.day = begins_by is.day is.begins ∙ sym (begins_by own.day own.begins) in
@@ -104,18 +104,18 @@ module _ (a : Observance) (unruled : a.rule ≡ None) (from : ℤ) (first : IsFi
     latest = λ other is _. let m = one_onset other is in omega (arith, ints, m);
   }) refl
 
-  once_either : (t o : ℤ) → InForce Once t o → IsEither a.offset_from a.offset_to o
+  pub once_either : (t o : ℤ) → InForce Once t o → IsEither a.offset_from a.offset_to o
   once_either t o (Since x latest e) = inr (e ∙ latest.listed.after)
   once_either t o (Until x ahead e) = inl (e ∙ ahead.listed.before)
 
   module _ (matched : AreMatched (Single a)) (d : ℤ) (some : pos 0 ≤ℤ d) where
-    once_later : (t o : ℤ) → from ≤ℤ t → InForce Once t o → InForce Once (t +ℤ d) o
+    pub once_later : (t o : ℤ) → from ≤ℤ t → InForce Once t o → InForce Once (t +ℤ d) o
     once_later t o l i = subst (InForce Once (t +ℤ d)) (sym (once_since t o l i)) (once_in_force (t +ℤ d) (omega (arith, ints, l, some)))
 
-    once_earlier : (t o : ℤ) → from ≤ℤ t → InForce Once (t +ℤ d) o → InForce Once t o
+    pub once_earlier : (t o : ℤ) → from ≤ℤ t → InForce Once (t +ℤ d) o → InForce Once t o
     once_earlier t o l i = subst (InForce Once t) (sym (once_since (t +ℤ d) o (omega (arith, ints, l, some)) i)) (once_in_force t l)
 
-    none_later : (x : Onset) → from <ℤ x.instant → Once x → ⊥
+    pub none_later : (x : Onset) → from <ℤ x.instant → Once x → ⊥
     none_later x l is = let m = one_onset x is in omega (arith, ints, m, l)
 
     once_near : (t u p q : ℤ) → InForce Once t p → InForce Once u q → p ≤ℤ (q +ℤ pos 43_200)

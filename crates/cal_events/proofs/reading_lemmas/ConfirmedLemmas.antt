@@ -14,7 +14,9 @@ use Rattle.profile.specs.checker.Calendars.{SpellsCalendar, IsConfirmedIn, SayEv
 use Rattle.profile.specs.events.EventComponents.{EventComponent, SaysEventComponent, meeting_said}
 use Rattle.profile.specs.events.Events.{Event as Whole, is_master}
 use Rattle.profile.specs.events.Starts.{ComesBefore}
-use Rattle.profile.specs.events.Confirmed.{Confirmed, is_kept, is_series, IsSeries, IsInSeries, IsInstanceAmong, IsConfirmed, IsOfSeries, IsSingle, AreSingles, MastersDiffer, OverridesDiffer}
+use Rattle.profile.specs.events.Spans.{AreSaidSeries}
+use Rattle.std.proofs.lemmas.Grind.{merely}
+use Rattle.profile.specs.events.Confirmed.{by_its_rule, Confirmed, is_kept, is_series, IsSeries, IsInSeries, IsInstanceAmong, IsConfirmed, IsOfSeries, IsSingle, AreSingles, MastersDiffer, OverridesDiffer}
 use Rattle.cal_events.specs.Calendar.{HaveDifferentKeys}
 use Rattle.cal_events.specs.Draft.{IsSaid}
 use Rattle.cal_events.proofs.shared_lemmas.InOneOrder.{later, none_in, in_filtered, of_filtered, head_pairs, tail_pairs, cons_pairs, append_pairs}
@@ -231,6 +233,25 @@ module _ (tree : OneTree) (one : OneEvent) (room octets : List ℕ) (all : Confi
       let p = and_parts (is_kept room r.0 && is_master r.0) (is_some r.0.rule) f.1 in
       let q = and_parts (is_kept room r.0) (is_master r.0) p.0 in
       record { master = r.0; among = f.0; kept = q.0; is = q.1; rule = p.1; of = r.2 }
+
+  -- some VEVENT says its times and its rule
+  pub are_said : AreSaidSeries all.series
+  are_said series c =
+      let m = master_of series c in
+      let said = All-contains IsSaid s.says.events m.master (all_said s.tree s.says.events s.says.says) m.among in
+      merely (record {
+        object = said.0;
+        method = None;
+        lines = said.1;
+        event = m.master;
+        says = said.2;
+        master = by_its_rule m.master m.of.replaced;
+        is = m.of.is;
+        times = refl;
+        rule = refl;
+        recurs = m.rule;
+        none_added = refl;
+      })
 
   -- what is of a series is confirmed
   pub series_confirmed : (b : Instance) → IsInSeries all.series b → IsConfirmedIn room octets b

@@ -143,7 +143,7 @@ not_earlier z days t u s (inr (n, (o, at, means))) =
     let k = s.keeps t o ((t +ℤ o) +ℤ pos (86_400 * days)) u at means in
     omega (arith, ints, n, k)
 
-ends_after : (times : EventTimes) (t e : ℤ) → IsSteady (clock_of times.zone) → EndsAt times t e → t ≤ℤ e
+pub ends_after : (times : EventTimes) (t e : ℤ) → IsSteady (clock_of times.zone) → EndsAt times t e → t ≤ℤ e
 ends_after times t e s (u, h, p) = let k = not_earlier (clock_of times.zone) times.length.days t u s h in omega (arith, ints, k, p)
 
 -- ---- overrides

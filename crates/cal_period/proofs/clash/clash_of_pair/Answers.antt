@@ -3,6 +3,7 @@ use Rattle.std.specs.Int.{int_max}
 use Rattle.cal_events.specs.Series.{series_said}
 use Rattle.cal_period.proofs.Entries.{later_start}
 use Rattle.cal_period.proofs.EveryPair.{none_exit}
+use Rattle.cal_period.proofs.Settling.{pair_settled}
 use Rattle.cal_period.proofs.clash.clash_of_pair.Goals as goal
 
 pub returns-in_err-first : goal.returns-in_err-first
@@ -26,3 +27,12 @@ clash_onward-requires c =
     let cast_m : to_z w64 (of_z w64 m) ≡ m = to_z-of_z fits_m in
     let is : m ≡ int_max s t = rw (cast_s, cast_t) at c.max.ensures.value in
     rw cast_m (later_start a b s t m (c.known_by_start.ensures c.args.a.now) (c.known_by_start.ensures c.args.b.now) c.in_ok-first.ensures c.in_ok-second.ensures is)
+
+pub returns : goal.returns
+returns c =
+    let a = series_said c.args.a.now in
+    let b = series_said c.args.b.now in
+    let bound = c.settled_by.result in
+    let fits : FitsSigned w64 bound = search rules in
+    let cast : to_z w64 (of_z w64 bound) ≡ bound = to_z-of_z fits in
+    pair_settled a b bound c.clash_onward.result c.settled_by.ensures.pair (rw cast at c.clash_onward.ensures)

@@ -1,6 +1,7 @@
 use Rattle.std.proofs.Common.{◌≡◌, arith, subst, to_z, of_z, w64, FitsSigned, rules, to_z-of_z}
 use Rattle.cal_events.specs.Calendar.{instance_of}
 use Rattle.cal_events.specs.Series.{series_said}
+use Rattle.cal_period.specs.Clear.{AreClearBelow}
 use Rattle.cal_period.specs.Onward.{MeetFrom}
 use Rattle.cal_period.specs.Turns.{IsTurn}
 use Rattle.cal_period.proofs.Entries.{entered}
@@ -37,7 +38,8 @@ returns-in-Some c =
     let by = to_z w64 (of_z w64 c.args.from) in
     let cast : by ≡ c.args.from = to_z-of_z c.ranges.from in
     let from : MeetFrom a b by = rw cast c.requires in
-    let turn = subst (IsTurn c.loop-next.first c.loop-next.second) c.in-First.is c.turn_of.ensures in
+    let bound = to_z w64 (of_z w64 c.args.bound) in
+    let turn = subst (IsTurn bound c.loop-next.first c.loop-next.second) c.in-First.is c.turn_of.ensures in
     onward_found a b by from c.loop-next.of_a c.loop-next.of_b c.loop-next.first c.loop-next.second c.loop-next.invariant c.in-First.next turn.0 c.in-Some.last c.in-Some.ensures.meets
 
 pub loop-next-smaller-in-First : goal.loop-next-smaller-in-First
@@ -55,7 +57,8 @@ loop-next-preserved-in-First c =
     let by = to_z w64 (of_z w64 c.args.from) in
     let cast : by ≡ c.args.from = to_z-of_z c.ranges.from in
     let from : MeetFrom a b by = rw cast c.requires in
-    let turn = subst (IsTurn c.loop-next.first c.loop-next.second) c.in-First.is c.turn_of.ensures in
+    let bound = to_z w64 (of_z w64 c.args.bound) in
+    let turn = subst (IsTurn bound c.loop-next.first c.loop-next.second) c.in-First.is c.turn_of.ensures in
     let g = c.past-first.ensures.tail a by c.loop-next.of_a c.next-in-First.new.self c.loop-next.invariant.in_first c.next-in-First.ensures.steps in
     onward_past a b by from c.loop-next.of_a c.loop-next.of_b c.loop-next.first c.loop-next.second c.loop-next.invariant c.in-First.next turn.0 c.next-in-First.new.self c.past-first.result turn.1 c.in_default.ensures.none g
 
@@ -66,7 +69,8 @@ returns-in-Some-met_by c =
     let by = to_z w64 (of_z w64 c.args.from) in
     let cast : by ≡ c.args.from = to_z-of_z c.ranges.from in
     let from : MeetFrom a b by = rw cast c.requires in
-    let turn = subst (IsTurn c.loop-next.first c.loop-next.second) c.in-Second.is c.turn_of.ensures in
+    let bound = to_z w64 (of_z w64 c.args.bound) in
+    let turn = subst (IsTurn bound c.loop-next.first c.loop-next.second) c.in-Second.is c.turn_of.ensures in
     let at = onward_turned a b by c.loop-next.of_a c.loop-next.of_b c.loop-next.first c.loop-next.second c.loop-next.invariant in
     found_turned b a (instance_of c.in-Second.next) (instance_of c.in-Some-met_by.last)
     (onward_found b a by (from_turned a b by from) c.loop-next.of_b c.loop-next.of_a c.loop-next.second c.loop-next.first at c.in-Second.next turn.0 c.in-Some-met_by.last c.in-Some-met_by.ensures.meets)
@@ -86,7 +90,8 @@ loop-next-preserved c =
     let by = to_z w64 (of_z w64 c.args.from) in
     let cast : by ≡ c.args.from = to_z-of_z c.ranges.from in
     let from : MeetFrom a b by = rw cast c.requires in
-    let turn = subst (IsTurn c.loop-next.first c.loop-next.second) c.in-Second.is c.turn_of.ensures in
+    let bound = to_z w64 (of_z w64 c.args.bound) in
+    let turn = subst (IsTurn bound c.loop-next.first c.loop-next.second) c.in-Second.is c.turn_of.ensures in
     let at = onward_turned a b by c.loop-next.of_a c.loop-next.of_b c.loop-next.first c.loop-next.second c.loop-next.invariant in
     let g = c.past-second.ensures.tail b by c.loop-next.of_b c.next-in-Second.new.self c.loop-next.invariant.in_second c.next-in-Second.ensures.steps in
     onward_turned b a by c.next-in-Second.new.self c.loop-next.of_a c.past-second.result c.loop-next.first
@@ -99,5 +104,8 @@ returns-in-Over c =
     let by = to_z w64 (of_z w64 c.args.from) in
     let cast : by ≡ c.args.from = to_z-of_z c.ranges.from in
     let from : MeetFrom a b by = rw cast c.requires in
-    let turn = subst (IsTurn c.loop-next.first c.loop-next.second) c.in-Over.is c.turn_of.ensures in
-    onward_end a b by from c.loop-next.of_a c.loop-next.of_b c.loop-next.first c.loop-next.second c.loop-next.invariant turn.0 turn.1
+    let bound = to_z w64 (of_z w64 c.args.bound) in
+    let turn = subst (IsTurn bound c.loop-next.first c.loop-next.second) c.in-Over.is c.turn_of.ensures in
+    let cast_bound : bound ≡ c.args.bound = to_z-of_z c.ranges.bound in
+    subst (AreClearBelow a b) cast_bound
+    (onward_end a b by from c.loop-next.of_a c.loop-next.of_b c.loop-next.first c.loop-next.second c.loop-next.invariant bound turn.0 turn.1)

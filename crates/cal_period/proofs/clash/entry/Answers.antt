@@ -17,4 +17,4 @@ returns c =
     let cast_by : to_z w64 (of_z w64 c.args.by) ≡ c.args.by = to_z-of_z c.ranges.by in
     let is : begin ≡ saturate_signed w64 (c.args.by -ℤ n) = rw (cast_by, cast_n) at c.saturating_sub.ensures in
     let least : negsuc 9_223_372_036_854_775_807 ≤ℤ c.args.by = omega (arith, ints, c.ranges.by) in
-    rw cast (entry_is (series_said series) c.args.by n begin (c.known_by_start.ensures series) least (is_length series n c.width.ensures) (series_lasts series n c.width.ensures) is)
+    rw cast (entry_is (series_said series) c.args.by n begin (c.known_by_start.ensures series) least (is_length series n c.width.ensures.width) (series_lasts series n c.width.ensures.width) is)

@@ -1,9 +1,5 @@
-use Rattle.std.proofs.Common.{arith, ◌/◌}
-use Rattle.cal_rules.proofs.Multiples.{least_multiple, no_multiple}
+use Rattle.cal_rules.proofs.Multiples.{either_order}
 use Rattle.cal_rules.proofs.period.common_multiple.Goals as goal
 
-pub returns-in_default : goal.returns-in_default
-returns-in_default c = let e = c.if-a-eq0.false in no_multiple c.args.a c.args.b (omega (arith, e)) c.in_default.ensures
-
-pub returns : goal.returns
-returns c = let e = c.if-a-eq0.false in least_multiple c.args.a c.args.b (2_932_897 / c.args.a) c.in-Some.count (omega (arith, e)) c.in-Some.ensures
+pub returns-then-a-b-clause-least : goal.returns-then-a-b-clause-least
+returns-then-a-b-clause-least c = either_order c.args.a c.args.b c.multiple_of.result c.multiple_of.ensures.least

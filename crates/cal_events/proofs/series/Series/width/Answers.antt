@@ -5,10 +5,17 @@ use Rattle.profile.specs.events.Starts.{IsWidth}
 use Rattle.cal_events.specs.Component.{component_of}
 use Rattle.cal_events.proofs.series.Series.width.Goals as goal
 
-pub returns : goal.returns
-returns c = λ master is.
+pub returns-clause-width : goal.returns-clause-width
+returns-clause-width c = λ master is.
     let n = c.width.result in
     let fits : FitsSigned w64 n = search rules in
     let cast : to_z w64 (of_z w64 n) ≡ n = to_z-of_z fits in
     let same : component_of c.master.result.now ≡ master = same_Some (component_of c.master.result.now) master (sym c.master.ensures.master ∙ is) in
     rw cast (subst (λ (m : Said). IsWidth m.times n) same c.width.ensures.width)
+
+pub returns-clause-of : goal.returns-clause-of
+returns-clause-of c =
+    let n = c.width.result in
+    let fits : FitsSigned w64 n = search rules in
+    let cast : to_z w64 (of_z w64 n) ≡ n = to_z-of_z fits in
+    rw cast (component_of c.master.result.now, c.master.ensures.master, c.width.ensures.width)

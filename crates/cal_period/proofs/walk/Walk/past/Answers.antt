@@ -3,8 +3,8 @@ use Rattle.cal_period.proofs.walk.Walk.past.Goals as goal
 
 pub returns-clause-is_walk : goal.returns-clause-is_walk
 returns-clause-is_walk c = λ series old new s given.
-    gone_past series old new c.args.self.now s.ahead c.args.next c.requires c.args.after given s.last s.count c.later_end.result c.saturating_add.result c.later_end.ensures c.saturating_add.ensures
+    gone_past series old new c.args.self.now s.ahead c.args.next c.requires c.args.after given s.last c.later_end.result c.later_end.ensures
 
 pub returns-clause-tail : goal.returns-clause-tail
 returns-clause-tail c = λ series by old new t given.
-    gone_on series old new c.args.self.now t.ahead c.args.next c.requires c.args.after given by t.last c.later_end.result c.saturating_add.result c.later_end.ensures
+    gone_on series old new c.args.self.now t.ahead c.args.next c.requires c.args.after given by t.last c.later_end.result c.later_end.ensures

@@ -1,5 +1,6 @@
 use Rattle.std.proofs.Common.{rules}
-use Rattle.std.proofs.Common.{inr, refl}
+use Rattle.std.proofs.Common.{inr, refl, sym, ◌∙◌}
+use Rattle.std.proofs.lemmas.Option.{none-some}
 use Rattle.cal_zones.proofs.Spacing.{never_at_once, pair_spaced, pair_close}
 use Rattle.cal_zones.proofs.pair.Pair.new.Goals as goal
 
@@ -7,6 +8,9 @@ pub invariant_of-result : goal.invariant_of-result
 invariant_of-result c =
     let matched = c.are_matched.ensures.yes c.if-not-are_matched.false in
     record {
+      first = λ none. none-some c.in-Some.first (sym none ∙ c.in-Some.is);
+      second = λ none. none-some c.in-Some-rule.second (sym none ∙ c.in-Some-rule.is);
+      near = matched.2;
       there = matched.0;
       back = matched.1;
       apart = never_at_once c.args.standard c.args.daylight c.in-Some.first c.in-Some-rule.second c.in-Some.is c.in-Some-rule.is (c.is_spaced.ensures.apart c.if-not-is_spaced.false);

@@ -1,0 +1,31 @@
+//! A search for a clash of a series with itself. No memory is taken.
+ghost use Rattle.cal_events.specs.Series.{series_said};
+ghost use Rattle.cal_period.specs.Onward.{IsSharedAlone, IsSharedAloneBelow};
+
+use crate::settled::settled_by;
+use crate::walk::Walk;
+use cal_events::{Instance, Series, known_by_start};
+
+/// Two instances of a series that share an instant before the horizon; None where no two do. It begins at the first start and stops at the first
+/// clash, or at the end of one period and the width after it. No memory is taken.
+pub fn clash_alone(a: &Series) -> Option<(Instance<'_>, Instance<'_>)>
+    ensures { IsSharedAlone (series_said a.now) result }
+{
+    clash_alone_below(a, settled_by(a, a))
+}
+
+/// Two that start before a bound.
+fn clash_alone_below(a: &Series, bound: i64) -> Option<(Instance<'_>, Instance<'_>)>
+    ensures { IsSharedAloneBelow (series_said a.now) bound result }
+{
+    known_by_start();
+    let mut starts = a.starts(i64::MIN);
+    let mut walk = Walk::to(starts.next());
+    while let Some(next) = walk.next_below(bound) {
+        if let Some(last) = walk.met_by(next) {
+            return Some((last, next));
+        }
+        walk = walk.past(next, starts.next());
+    }
+    None
+}
