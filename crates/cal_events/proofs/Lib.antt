@@ -11,6 +11,7 @@ pub mod instants_lemmas
 pub mod meeting_components_lemmas
 pub mod occurrences_lemmas
 pub mod reading_lemmas
+pub mod regular_lemmas
 pub mod rule_days_lemmas
 pub mod series_lemmas
 pub mod shared_lemmas

@@ -1,2 +1,3 @@
 pub mod OwnKeys
-pub mod Stub
+pub mod Said
+pub mod Periods

@@ -8,16 +8,12 @@ use Rattle.profile.specs.events.Properties as properties
 use Rattle.profile.specs.events.Properties.{length_seconds, time_kind}
 use Rattle.profile.specs.text.Trees.{Tree}
 use Rattle.profile.specs.text.Values.{SpellsStamp}
-use Rattle.profile.specs.events.ZonedTimes as zoned
-use Rattle.profile.specs.series.Zones.{Zone}
-use Rattle.cal_zones.specs.Kinds.{zone_of}
 use Rattle.profile.specs.text.Lines.{is_same_name}
 use Rattle.ical_tree.specs.Tree.{component_name, component_lines, component_children}
 use Rattle.ical_tree.specs.declared.component.Component.{Component}
 use Rattle.cal_events.specs.declared.event_times.Extent.{Extent}
 use Rattle.cal_events.specs.declared.event_times.Extent.TheVariants.{ToEnd, For}
-use Rattle.cal_events.specs.declared.event_times.EventTimes.{EventTimes}
-use Rattle.cal_events.specs.declared.zoned.ZonedTime.{ZonedTime}
+pub use Rattle.cal_events.specs.Times.{length_of, zone_said, times_of}
 use Rattle.cal_events.specs.declared.utc_time.TimeKind.{TimeKind}
 use Rattle.cal_events.specs.declared.utc_time.TimeKind.TheVariants.{Date, DateTime, Period, Other}
 use Rattle.cal_events.specs.declared.component.Attendee.{Attendee}
@@ -47,17 +43,6 @@ participation_of Declined = profile.Declined
 
 abbrev pub attendee_of : Attendee → profile.Attendee
 attendee_of a = record { address = address_octets a.address; participation = participation_of a.status; scheduled = a.scheduled }
-
-abbrev pub length_of : Duration → properties.Length
-length_of d = record { days = d.days; seconds = d.seconds }
-
--- the zone of a time, None for UTC
-abbrev pub zone_said : ZonedTime → Option Zone
-zone_said t = option_map zone_of t.zone
-
--- the times of a VEVENT that were read
-abbrev pub times_of : EventTimes → zoned.EventTimes
-times_of t = record { zone = zone_said t.start; local = t.start.local; start = t.instant; length = length_of t.length }
 
 -- the event that a VEVENT says
 abbrev pub component_of : EventComponent → profile.EventComponent

@@ -21,9 +21,13 @@ pub mod Left
 pub mod Whole
 pub mod Overlapping
 pub mod SinglesLeft
+pub mod Times
+pub mod Said
+pub mod Past
 pub mod SingleStarts
 pub mod Draft
 pub mod Ruled
 pub mod Series
 pub mod Masters
 pub mod OwnInstances
+pub mod LastStarts

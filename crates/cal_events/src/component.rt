@@ -11,6 +11,8 @@ ghost use Rattle.cal_zones.specs.Kinds.{zone_of};
 ghost use Rattle.cal_events.specs.Zones.{object_of, AreRead};
 ghost use Rattle.cal_events.specs.MeetingComponents.{IsInEventDates};
 ghost use Rattle.cal_events.specs.Clocks.{IsSteady};
+ghost use Rattle.cal_events.specs.Times.{times_of};
+ghost use Rattle.cal_events.specs.Said.{AreSaidWith};
 
 use crate::component_values::{
     read_attendees, read_cancelled, read_organiser, read_sequence, read_stamp, read_summary,
@@ -136,6 +138,7 @@ pub struct EventComponent {
     pub attendees: Vec<Attendee>,
     ghost steady: { IsSteady (clock_of (option_map zone_of times.start.zone)) },
     ghost named: { IsInEventDates times.instant },
+    ghost said: { ∥ AreSaidWith (times_of times) rule ∥₁ },
 }
 
 impl EventComponent {

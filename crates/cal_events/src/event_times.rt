@@ -88,7 +88,7 @@ fn days_later(clock: &Zone, instant: i64, days: u32) -> i64
 }
 
 /// The instant that a local time means, in seconds, as by `Zone::resolve`, in years past 9999 too.
-fn resolve(clock: &Zone, local: i64) -> i64
+pub(crate) fn resolve(clock: &Zone, local: i64) -> i64
     requires { IsInYears local }
     ensures meaning { Means (zone_of clock.now) local result }
     ensures near { ((local -ℤ pos 86_400) ≤ℤ result) × (result ≤ℤ (local +ℤ pos 86_400)) }

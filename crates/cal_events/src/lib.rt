@@ -19,6 +19,7 @@ mod own_instances;
 mod places;
 mod properties;
 mod reading;
+mod regular;
 mod rule_days;
 mod series;
 mod single_starts;

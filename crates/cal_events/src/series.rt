@@ -13,7 +13,8 @@ ghost use Rattle.cal_events.specs.Calendar.{key_of, owned_key_of, instance_of};
 ghost use Rattle.cal_events.specs.Draft.{IsSaid, AreInOrder};
 ghost use Rattle.cal_events.specs.Component.{component_of};
 ghost use Rattle.cal_events.specs.Left.{IsLeft};
-ghost use Rattle.cal_events.specs.Overlapping.{HaveOneEnd};
+ghost use Rattle.cal_events.specs.Past.{IsKeptPast};
+ghost use Rattle.cal_events.specs.Overlapping.{HaveOneEnd, AreDated};
 ghost use Rattle.cal_events.specs.Event.{said_meeting};
 ghost use Rattle.cal_events.specs.Ruled.{IsRuled, AreSlotsOf, IsByItsRule, cmp_to, is_key_of, ruled_without};
 
@@ -23,9 +24,10 @@ use crate::entries::organiser_of;
 use crate::event::Event;
 use crate::instance::{Instance, InstanceKey, OwnedKey};
 use crate::instances::Instances;
+use crate::regular::regular_from;
 use crate::single_starts::copied;
 use crate::sweep::Span;
-use cal_rules::Rule;
+use cal_rules::{Rule, common_multiple, shifts_are_multiples};
 use cal_zones::Zone;
 use ical_values::Text;
 use std::alloc::{AllocError, Global};
@@ -38,10 +40,9 @@ pub struct Series {
     pub(crate) event: Event,
     /// The least instant after all that it doesn't do again.
     from: i64,
-    period: Option<u64>,
     ghost ruled: { IsRuled event },
     ghost said: { ∥ IsSaidSeries (said_meeting event) ∥₁ },
-    ghost stub: { (n : ℕ) → n ≡ 5 },
+    ghost past: { IsKeptPast (said_meeting event) from },
 }
 
 impl Series {
@@ -60,7 +61,9 @@ impl Series {
         requires differ { AllPairs ◌≢◌ (map key_of overrides.now) }
         ensures { IfOk result (λ series. IsByItsRule (map key_of overrides.now) (component_of master) (series_said series)) }
     {
-        Err(AllocError)
+        let replaced = replaced(alloc, &master, overrides)?;
+        let master = by_its_rule(alloc, master, &replaced)?;
+        Series::of_ruled(alloc, master)
     }
 
     /// That of a master by itself, without the instances at these starts. It fails only when out of memory.
@@ -70,7 +73,22 @@ impl Series {
         requires rule { is_some master.now.rule ≡ true }
         ensures { IfOk result (λ series. series_said series ≡ record { master = Some (ruled_without (component_of master.now) starts.now); overrides = [] }) }
     {
-        Err(AllocError)
+        let master = ruled_copy(alloc, master, starts)?;
+        Series::of_ruled(alloc, master)
+    }
+
+    /// That of a master by its rule alone. It fails only when out of memory.
+    fn of_ruled(alloc: Global, master: EventComponent) -> Result<Series, AllocError>
+        requires clock { HasGoodClock (component_of master) }
+        requires ends { HaveOneEnd (record { master = Some (component_of master); overrides = [] }) }
+        requires dated { AreDated (record { master = Some (component_of master); overrides = [] }) }
+        requires rule { is_some master.rule ≡ true }
+        requires none_added { master.additions.items ≡ [] }
+        ensures { IfOk result (λ series. series_said series ≡ record { master = Some (component_of master); overrides = [] }) }
+    {
+        let from = regular_from(&master);
+        let event = Event::of_master(alloc, master)?;
+        Ok(Series { event, from })
     }
 
     /// The series without the instances at these starts, as if EXDATE named them. In time n log n. It fails only when out of memory.
@@ -136,6 +154,8 @@ impl Series {
     pub fn regular_from(&self) -> i64
         ensures { IsLeastPast (series_said self.now) result }
     {
+        // Only for the proof: they are past.
+        let _ = self.zone().first_onsets();
         self.from
     }
 
@@ -144,7 +164,12 @@ impl Series {
     pub fn period_days(&self) -> Option<u64>
         ensures { MatchOption result (HasNoPeriodOf (series_said self.now)) (IsLeastPeriodOf (series_said self.now)) }
     {
-        self.period
+        // Only for the proof: the periods of a rule are the multiples of the least one.
+        shifts_are_multiples();
+        let Some(rule_days) = self.rule().period_days() else {
+            return None;
+        };
+        common_multiple(rule_days, self.zone().period_days())
     }
 
     /// The key of its instance at a start, owned. It fails only when out of memory.

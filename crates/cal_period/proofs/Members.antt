@@ -1,14 +1,15 @@
 -- Rules, zones and series have their members a period later.
-use Rattle.std.proofs.Common.{◌≡◌, ◌∙◌, refl, sym, subst, ap, inl, inr, ◌⊎◌, arith, ℕ, ◌+◌, ◌-◌, ◌*◌, ◌<◌, ◌≤◌, Bool, ◌||◌, true, false, ℤ, pos, ◌+ℤ◌, ◌-ℤ◌, ◌≤ℤ◌, ◌<ℤ◌, true≢false}
+use Rattle.std.proofs.Common.{◌≡◌, ◌∙◌, refl, sym, subst, ap, inl, inr, ◌⊎◌, arith, ℕ, ◌+◌, ◌-◌, ◌*◌, ◌<◌, ◌≤◌, Bool, ◌||◌, ◌&&◌, nat_le, nat_lt, max, true, false, ℤ, pos, ◌+ℤ◌, ◌-ℤ◌, ◌≤ℤ◌, ◌<ℤ◌, true≢false}
 use Rattle.std.proofs.lemmas.Int.{ints}
-use Rattle.std.proofs.lemmas.Bool.{cases_Bool}
+use Rattle.std.proofs.lemmas.Bool.{cases_Bool, cases_lt, and_parts, leb-true, ltb-true}
 use Rattle.std.proofs.lemmas.Option.{none-some}
 use Rattle.std.proofs.Math.Logic.{∥∥₁_map, ∥∥₁_map₂}
 use Rattle.std.specs.Prelude.{◌≢◌, Option, Some, None, is_some, MatchOption, IfSome}
 use Rattle.std.specs.List.{list_all}
 use Rattle.profile.specs.checker.Instances.{Instance}
-use Rattle.profile.specs.series.Rules.{Rule, is_long, is_plain, is_rule_day, last_rule_day}
-use Rattle.profile.specs.series.Periods.{IsPeriod, HasNoPeriod, most_period}
+use Rattle.profile.specs.faults.Faults.{is_between}
+use Rattle.profile.specs.series.Rules.{Rule, RuleText, IsAllowed, is_in_range, is_count, is_place, is_entry, has_few_entries, is_long, is_plain, is_base, is_placed, is_counted, is_within_count, is_rule_day, last_rule_day}
+use Rattle.profile.specs.series.Periods.{IsPeriod, HasNoPeriod, IsLeastMultiple, HasNoMultiple, most_period}
 use Rattle.profile.specs.series.Repeating.{RepeatsFrom}
 use Rattle.profile.specs.series.Zones.{Zone, Onset, IsZoneOnset, local_time}
 use Rattle.profile.specs.events.Events.{Event}
@@ -16,8 +17,10 @@ use Rattle.profile.specs.events.Spans.{has_end, IsRulePeriod, IsZonePeriod, IsPa
 use Rattle.profile.specs.events.Starts.{IsInstance}
 use Rattle.cal_zones.specs.Repeats.{IsRegular, ZoneRepeats, later_by}
 use Rattle.cal_period.specs.Recurring.{HasNone, AreMultiples, DoesRecur, HasNoCommon, IsLeastCommon}
-use Rattle.cal_period.specs.Members.{IsDayOfRule, IsListedDay, IsRuleRegular, IsOnsetOf, Lasts, IsStartOf, IsListedStart, ComesAgainFrom}
+use Rattle.cal_period.specs.Members.{second_year, IsDayOfRule, IsListedDay, IsRuleRegular, IsRuleFrom, IsOnsetOf, Lasts, IsStartOf, IsListedStart, ComesAgainFrom}
 use Rattle.cal_period.proofs.Multiples.{series_are, ended_are, endless_are, endless_none}
+use Rattle.cal_rules.specs.LastDays.{NoDayTo, IsLastDayTo}
+use Rattle.cal_period.proofs.SaidSeries.{plain_of}
 use Rattle.cal_period.proofs.SeriesLaw.{RulesDown, RulesUp}
 
 int_same : {a b : ℤ} → a ≤ℤ b → b ≤ℤ a → a ≡ b
@@ -118,3 +121,103 @@ series_recurs a said earlier later = record {
 pub series_periods : (a : Event) (found : Option ℕ) → MatchOption found (HasNoPeriodOf a) (IsLeastPeriodOf a) → MatchOption found (HasNone (IsPeriodOf a)) (AreMultiples (IsPeriodOf a))
 series_periods a None none = none
 series_periods a (Some days) is = series_are a days is
+
+-- ---- the parts of a rule that is taken
+
+pub allowed_week : (t : RuleText) → IsAllowed t → t.week_start < 7
+unfolding is_in_range
+allowed_week t (range, together, one) =
+    let a = and_parts _ (list_all (is_place 366) t.positions && has_few_entries t.positions) range in
+    let b = and_parts _ (list_all is_entry t.weekdays && has_few_entries t.weekdays) a.0 in
+    let c = and_parts _ (list_all (is_place 31) t.month_days && has_few_entries t.month_days) b.0 in
+    let d = and_parts _ (list_all (is_between 1 12) t.months && has_few_entries t.months) c.0 in
+    let e = and_parts (is_between 1 9999 t.interval && is_count t.count) (nat_lt t.week_start 7) d.0 in
+    ltb-true t.week_start 7 e.1
+
+pub allowed_plain : (t : RuleText) → IsAllowed t → is_long t.frequency ≡ false → list_all (λ entry. is_plain entry.number) t.weekdays ≡ true
+allowed_plain t (range, together, one) = plain_of t together
+
+-- ---- from which instant on a rule is regular
+
+starts_first : (r : Rule) (n : ℕ) → is_rule_day r n ≡ true → r.pattern.start ≤ n
+unfolding is_rule_day is_counted
+starts_first r n e =
+    let a = and_parts (is_counted r n) (is_within_count r n) e in
+    let b = and_parts (nat_le r.pattern.start n && nat_le n r.last && nat_le n last_rule_day && is_base r.pattern n) (is_placed r.pattern n) a.0 in
+    let c = and_parts (nat_le r.pattern.start n && nat_le n r.last && nat_le n last_rule_day) (is_base r.pattern n) b.0 in
+    let d = and_parts (nat_le r.pattern.start n && nat_le n r.last) (nat_le n last_rule_day) c.0 in
+    let f = and_parts (nat_le r.pattern.start n) (nat_le n r.last) d.0 in
+    leb-true r.pattern.start n f.0
+
+to_last : (r : Rule) (n : ℕ) → is_rule_day r n ≡ true → n ≤ last_rule_day
+unfolding is_rule_day is_counted
+to_last r n e =
+    let a = and_parts (is_counted r n) (is_within_count r n) e in
+    let b = and_parts (nat_le r.pattern.start n && nat_le n r.last && nat_le n last_rule_day && is_base r.pattern n) (is_placed r.pattern n) a.0 in
+    let c = and_parts (nat_le r.pattern.start n && nat_le n r.last && nat_le n last_rule_day) (is_base r.pattern n) b.0 in
+    let d = and_parts (nat_le r.pattern.start n && nat_le n r.last) (nat_le n last_rule_day) c.0 in
+    leb-true n last_rule_day d.1
+
+pub endless_from : (r : Rule) (t : ℤ) → has_end r ≡ false → t ≡ local_time (max r.pattern.start second_year) 0 → IsRuleRegular r t × IsRuleFrom r t
+endless_from r t e is = (
+  record { start = omega (arith, ints, is); year = λ _. omega (arith, ints, is); last = λ ended. absurd (true≢false (sym ended ∙ e)) },
+  record { endless = λ _. is; ended = λ ended. absurd (true≢false (sym ended ∙ e)) },
+)
+
+pub ended_from : (r : Rule) (t : ℤ) (day : ℕ) → has_end r ≡ true → IsLastDayTo r last_rule_day day → t ≡ local_time (day + 1) 0 → IsRuleRegular r t × IsRuleFrom r t
+ended_from r t day e last is = (
+  record {
+    start = let f = starts_first r day last.holds in omega (arith, ints, is, f);
+    year = λ endless. absurd (true≢false (sym e ∙ endless));
+    last = λ _ n h. elim (cases_lt day n) [
+      | inl more ↦ absurd (true≢false (sym h ∙ last.last n more (to_last r n h)))
+      | inr most ↦ omega (arith, ints, is, most)
+    ];
+  },
+  record {
+    endless = λ endless. absurd (true≢false (sym e ∙ endless));
+    ended = λ _ other also. let same : other ≡ day = one_last other day also last in is ∙ ap (λ n. local_time (n + 1) 0) (sym same);
+  },
+)
+  where
+    one_last : (n m : ℕ) → IsLastDayTo r last_rule_day n → IsLastDayTo r last_rule_day m → n ≡ m
+    one_last n m x y =
+        elim (cases_lt n m) [
+          | inl less ↦ absurd (true≢false (sym y.holds ∙ x.last m less y.not_after))
+          | inr least ↦ elim (cases_lt m n) [
+            | inl more ↦ absurd (true≢false (sym x.holds ∙ y.last n more x.not_after))
+            | inr most ↦ omega (arith, least, most)
+          ]
+        ]
+
+pub never_from : (r : Rule) (t : ℤ) → has_end r ≡ true → NoDayTo r last_rule_day → t ≡ local_time r.pattern.start 0 → IsRuleRegular r t × IsRuleFrom r t
+never_from r t e none is = (
+  record {
+    start = omega (arith, ints, is);
+    year = λ endless. absurd (true≢false (sym e ∙ endless));
+    last = λ _ n h. absurd (true≢false (sym h ∙ none n (to_last r n h)));
+  },
+  record {
+    endless = λ endless. absurd (true≢false (sym e ∙ endless));
+    ended = λ _ other also. absurd (true≢false (sym also.holds ∙ none other also.not_after));
+  },
+)
+
+-- ---- of two
+
+pub common : (These Those : ℕ → Type 0) (d e : ℕ) (found : Option ℕ) → AreMultiples These d → AreMultiples Those e → MatchOption found (HasNoMultiple d e) (IsLeastMultiple d e)
+    → IfSome found (λ days. days ≤ most_period) → MatchOption found (HasNoCommon These Those) (IsLeastCommon These Those)
+common These Those d e None x y none few = λ n some p q. none n some ((x.multiples n).0 p) ((y.multiples n).0 q)
+common These Those d e (Some days) x y is few = record {
+  some = is.some;
+  most = few;
+  first = (x.multiples days).1 is.of_first;
+  second = (y.multiples days).1 is.of_second;
+  least = λ n some p q. is.least n some ((x.multiples n).0 p) ((y.multiples n).0 q);
+}
+
+pub none_first : (These Those : ℕ → Type 0) → HasNone These → HasNoCommon These Those
+none_first These Those none n some p q = none n some p
+
+pub none_second : (These Those : ℕ → Type 0) → HasNone Those → HasNoCommon These Those
+none_second These Those none n some p q = none n some q

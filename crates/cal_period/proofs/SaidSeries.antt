@@ -87,7 +87,7 @@ given_there (line ∷ lines) times text r h = h
 last_allowed : (z : Zone) (second last : ℕ) (t : RuleText) → t.until ≡ None → IsLastAllowed z second t.until last → last ≡ last_rule_day
 last_allowed z second last t e h = subst (λ u. IsLastAllowed z second u last) e h
 
-plain_of : (t : RuleText) → go_together t ≡ true → is_long t.frequency ≡ false → list_all (λ entry. is_plain entry.number) t.weekdays ≡ true
+pub plain_of : (t : RuleText) → go_together t ≡ true → is_long t.frequency ≡ false → list_all (λ entry. is_plain entry.number) t.weekdays ≡ true
 unfolding go_together
 plain_of t h e =
     let a = and_parts _ (is_missing t.positions || _) h in

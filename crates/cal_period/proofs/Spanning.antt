@@ -2,7 +2,7 @@
 use Rattle.std.proofs.Common.{◌≡◌, ◌∙◌, refl, sym, subst, ap, inl, inr, ◌⊎◌, arith, ℕ, ◌+◌, ◌*◌, ◌/◌, ◌<◌, ◌≤◌, unsigned_abs, ℤ, pos, negsuc, ◌+ℤ◌, ◌≤ℤ◌, ◌<ℤ◌}
 use Rattle.std.proofs.lemmas.Int.{ints, by_lt_z}
 use Rattle.std.proofs.lemmas.Option.{same_Some}
-use Rattle.std.specs.Prelude.{Option, Some, None, IfSome}
+use Rattle.std.specs.Prelude.{false, Option, Some, None, IfSome, int_le}
 use Rattle.std.specs.Int.{int_max}
 use Rattle.profile.specs.checker.Instances.{horizon}
 use Rattle.profile.specs.checker.Certificates.{IsLeastSpan}
@@ -139,6 +139,14 @@ module _ (a b : Event) (p q past : ℤ) (first : IsLeastPast a p) (second : IsLe
           let g : greater is.0 is.1 ≡ int_max v w = rw (x, y) (sym same_greater) in
           let u = is.4 in
           omega (arith, ints, far, is_bound, f, e, d, g, u)
+
+pub below : (z : ℤ) → int_le horizon z ≡ false → z <ℤ horizon
+below z e = grind (arith, ints, e)
+
+-- the greater of two widths is one
+pub width_in_range : (v w m : ℤ) → m ≡ int_max v w → (pos 0 ≤ℤ v) × (v <ℤ pos 1_125_899_906_842_624) → (pos 0 ≤ℤ w) × (w <ℤ pos 1_125_899_906_842_624)
+    → (pos 0 ≤ℤ m) × (m <ℤ pos 1_125_899_906_842_624)
+width_in_range v w m e (p, q) (r, s) = (grind (arith, ints, e, p, r), grind (arith, ints, e, q, s))
 
 -- ---- the midnight after an instant
 

@@ -1,5 +1,6 @@
 //! What recurs: rules, zones and series. Each does the same again after each of its periods.
 ghost use Rattle.std.specs.Prelude.{◌≡◌, ℕ, ℤ, ◌≤ℤ◌, MatchOption};
+ghost use Rattle.profile.specs.events.Spans.{has_end};
 ghost use Rattle.cal_period.specs.Recurring.{HasNone, AreMultiples, DoesRecur, HasNoCommon, IsLeastCommon};
 
 use crate::law::{periods_are_multiples, series_repeat};
@@ -63,8 +64,7 @@ impl Recurs for Rule {
         ensures regular { IsRuleRegular self.now result }
         ensures exact { IsRuleFrom self.now result }
     {
-        let text = self.text();
-        if text.count().is_none() && text.until().is_none() {
+        if !ends(self) {
             return seconds_at(self.start().index().max(SECOND_YEAR), 0);
         }
         match self.last_not_after(Day::at_index(LAST_INDEX).unwrap()) {
@@ -74,10 +74,17 @@ impl Recurs for Rule {
     }
 
     fn recurs(&self) {
-        // Only for the proof: what is so of the parts of each rule.
-        let _ = self.text();
+        self.text().is_allowed();
         rule_days_repeat();
     }
+}
+
+/// Does COUNT or UNTIL end a rule?
+fn ends(rule: &Rule) -> bool
+    ensures { result ≡ has_end rule.now }
+{
+    let text = rule.text();
+    text.count().is_some() || text.until().is_some()
 }
 
 /// Its members are its onsets.

@@ -1,5 +1,7 @@
 //! The span of two series: from which instant on, and after how many days, both do the same again.
-ghost use Rattle.std.specs.Prelude.{pos, ◌≤ℤ◌, ◌<ℤ◌, MatchOption};
+ghost use Rattle.std.specs.Prelude.{◌≡◌, ◌^◌, ◌≤◌, pos, ◌≤ℤ◌, ◌<ℤ◌, MatchOption};
+ghost use Rattle.profile.specs.series.Periods.{most_period};
+ghost use Rattle.profile.specs.events.Spans.{span_end};
 ghost use Rattle.profile.specs.checker.Instances.{horizon};
 ghost use Rattle.cal_events.specs.Series.{series_said};
 ghost use Rattle.cal_period.specs.Spanning.{HasNoSpan, IsSpanOf, IsNextMidnight};
@@ -32,11 +34,21 @@ pub fn span_of_pair(a: &Series, b: &Series) -> Option<PairSpan>
         return None;
     }
     let from = next_midnight(past);
-    let bound = from + DAY_SECONDS * days as i64 + a.width().max(b.width());
+    let bound = bound_at(from, days, a.width().max(b.width()));
     if bound >= HORIZON {
         return None;
     }
     Some(PairSpan { from, days, bound })
+}
+
+/// The end of so many days from an instant on, and a width after it.
+fn bound_at(from: i64, days: u64, width: i64) -> i64
+    requires from { (pos 0 ≤ℤ from) × (from ≤ℤ horizon) }
+    requires days { days ≤ most_period }
+    requires width { (pos 0 ≤ℤ width) × (width <ℤ pos (2 ^ 50)) }
+    ensures { result ≡ span_end from days width }
+{
+    from + DAY_SECONDS * days as i64 + width
 }
 
 /// The first 00:00:00Z from 1970 on that isn't before an instant.

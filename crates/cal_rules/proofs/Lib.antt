@@ -24,3 +24,4 @@ pub mod Shifts
 pub mod Multiples
 pub mod PeriodsOf
 pub mod LastDays
+pub mod Differences

@@ -14,7 +14,7 @@ mod values;
 mod write;
 mod written;
 
-pub use law::{base_days_repeat, rule_days_repeat};
+pub use law::{base_days_repeat, rule_days_repeat, shifts_are_multiples};
 pub use period::{MOST_PERIOD, common_multiple};
 pub use rule::{Days, Rule};
 pub use text::{RuleText, one_rule};

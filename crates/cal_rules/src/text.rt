@@ -66,6 +66,13 @@ impl RuleText {
         &self.written
     }
 
+    /// Its parts are in their ranges and go together. Only for the proof: there is nothing to do.
+    pub fn is_allowed(&self)
+        ensures { rules.IsAllowed self.now }
+    {
+        let _ = &self.written;
+    }
+
     /// FREQ.
     pub fn frequency(&self) -> Frequency
         ensures { frequency_of result ≡ self.now.frequency }

@@ -1,6 +1,7 @@
-use Rattle.std.proofs.Common.{arith}
+use Rattle.std.proofs.Common.{◌≡◌, arith, subst, to_z, of_z, w64, to_z-of_z}
 use Rattle.std.proofs.lemmas.Int.{ints}
 use Rattle.cal_events.specs.Series.{series_said}
+use Rattle.cal_period.specs.Clear.{IsClearBelow}
 use Rattle.cal_period.proofs.OneSeries.{alone_first, alone_end, alone_found, alone_past}
 use Rattle.cal_period.proofs.Sweeping.{all_left, fewer_left}
 use Rattle.cal_period.proofs.alone.clash_alone_below.Goals as goal
@@ -29,4 +30,8 @@ loop-next-preserved c =
     alone_past series c.loop-next.starts c.loop-next.walk c.loop-next.invariant c.in-Some.next c.in-Some.ensures.some.0 c.next-in-Some.new.self c.past-walk.result c.in_default-met_by.ensures.none g
 
 pub returns : goal.returns
-returns c = alone_end (series_said c.args.a.now) c.loop-next.starts c.loop-next.walk c.loop-next.invariant _ c.in_default.ensures.none
+returns c =
+    let a = series_said c.args.a.now in
+    let bound = to_z w64 (of_z w64 c.args.bound) in
+    let cast : bound ≡ c.args.bound = to_z-of_z c.ranges.bound in
+    subst (IsClearBelow a) cast (alone_end a c.loop-next.starts c.loop-next.walk c.loop-next.invariant bound c.in_default.ensures.none)

@@ -1,4 +1,9 @@
-use Rattle.std.proofs.Common.{◌∙◌, Bool, codes, sym, ap, subst, refl, arith}
+use Rattle.std.proofs.Common.{◌∙◌, Bool, List, codes, map, sym, ap, subst, refl, arith}
+use Rattle.std.specs.Prelude.{option_map}
+use Rattle.std.proofs.lemmas.Grind.{merely}
+use Rattle.ical_values.specs.Octets.{address_octets, text_octets}
+use Rattle.profile.specs.events.EventComponents.{EventComponent as SaidComponent, SaysEventComponent}
+use Rattle.cal_events.specs.Component.{attendee_of}
 use Rattle.ical_lines.specs.Fault.{RefusesBy}
 use Rattle.profile.specs.events.EventComponents.{EventComponentFault, adds_instances, may_lack_start, in_times, in_rule, in_occurrences, twice}
 use Rattle.profile.specs.events.Occurrences.{entries_named, EntriesFault, bad_additions, bad_exceptions, recurs, recurs_as_instance}
@@ -153,6 +158,43 @@ invariant_of-result c =
     let object = object_of c.args.zones.now in
     let lines = c.args.properties.now in
     let may = may_lack_start (method_read c.args.purpose) in
-    let t = times_sound {may = may} object lines (times_of c.in_ok-times.times)
-    (c.in_ok-times.ensures.says may object lines (subst (λ (b : Bool). AreSaidBy b object lines c.in_ok-said.said) c.may_lack_start.ensures c.in_ok-said.ensures.said)) in
-    record { steady = t.0; named = t.1 }
+    let says = c.in_ok-times.ensures.says may object lines (subst (λ (b : Bool). AreSaidBy b object lines c.in_ok-said.said) c.may_lack_start.ensures c.in_ok-said.ensures.said) in
+    let t = times_sound {may = may} object lines (times_of c.in_ok-times.times) says in
+    let added = c.in_ok-additions.ensures.says object lines c.in_ok-said_additions.ensures.listed in
+    let event : SaidComponent = record {
+      uid = text_octets c.in_ok-uid.uid;
+      organiser = option_map address_octets c.in_ok-organiser.organiser;
+      stamp = c.in_ok-stamp.stamp;
+      sequence = c.in_ok-sequence.sequence;
+      cancelled = c.in_ok-cancelled.cancelled;
+      recurrence = c.in_ok-recurrence.recurrence;
+      times = times_of c.in_ok-times.times;
+      rule = c.in_ok-rule.rule;
+      additions = c.in_ok-additions.additions.items;
+      exceptions = c.in_ok-said_exceptions.said_exceptions.instants.items;
+      summary = text_octets c.in_ok-summary.summary;
+      attendees = map attendee_of c.in_ok-attendees.attendees.items;
+    } in
+    let said : SaysEventComponent object (method_read c.args.purpose) lines event = record {
+      uid = c.in_ok-uid.ensures.reads;
+      organiser = c.in_ok-organiser.ensures.reads;
+      stamp = c.in_ok-stamp.ensures.reads;
+      sequence = c.in_ok-sequence.ensures.reads;
+      status = c.in_ok-cancelled.ensures.reads;
+      times = says;
+      rule = c.in_ok-rule.ensures.says lines c.in_ok-said_rule.ensures.said c.has.ensures;
+      occurrences = record {
+        is = c.in_ok-recurrence.ensures.says object lines c.in_ok-said_recurrence.ensures.said;
+        adds = added.0;
+        inside = added.1;
+        takes = c.in_ok-said_exceptions.ensures.listed.lists;
+        alone = ap (λ b. recurs_as_instance b lines) (sym c.adds_instances.ensures) ∙ c.in_ok-refuse_recurring_instance.ensures.alone;
+      };
+      summary = c.in_ok-summary.ensures;
+      attendees = c.in_ok-attendees.ensures.reads;
+    } in
+    record {
+      steady = t.0;
+      named = t.1;
+      said = merely (record { object = object; method = method_read c.args.purpose; lines = lines; event = event; says = said; times_are = refl; rule_is = refl });
+    }
