@@ -1,15 +1,13 @@
 -- All pairs of series, one after another.
-use Rattle.std.proofs.Common.{◌≡◌, ◌∙◌, ◌==◌, ℕ, zero, suc, ◌+◌, ◌-◌, ◌<◌, ◌≤◌, true, false, cond, Bool, List, [], ◌∷◌, length, map, get_or, min, subst, sym, refl, ap, inl, inr, arith}
+use Rattle.std.proofs.Common.{◌≡◌, ◌∙◌, ℕ, ◌+◌, ◌<◌, ◌≤◌, List, length, map, get_or, subst, sym, ap, inl, inr, arith}
 use Rattle.std.specs.Prelude.{Option, Some, None, option_map, MatchOption}
 use Rattle.std.specs.List.{slice_get}
 use Rattle.std.proofs.lemmas.Bool.{cases_lt}
-use Rattle.std.proofs.lemmas.Bool.Decides.{nat_tests}
 use Rattle.std.proofs.lemmas.Option.{same_Some, slice_get-get_or, slice_get-map}
 use Rattle.profile.specs.checker.Instances as instances
 use Rattle.profile.specs.checker.Instances.{Instance as SaidInstance, AreClashing}
-use Rattle.profile.specs.events.Properties.{first_second}
 use Rattle.profile.specs.events.Events.{Event}
-use Rattle.profile.specs.events.Starts.{IsInstance, AreInstancesFrom}
+use Rattle.profile.specs.events.Starts.{IsInstance}
 use Rattle.cal_events.specs.Calendar.{instance_of}
 use Rattle.cal_events.specs.Series.{series_said}
 use Rattle.cal_events.specs.declared.instance.Instance.{Instance}

@@ -1,8 +1,7 @@
 -- How a walk goes on.
-use Rattle.std.proofs.Common.{◌≡◌, ◌∙◌, ap, sym, subst, inl, inr, ◌⊎◌, ℕ, ◌+◌, arith, ℤ, pos, ◌+ℤ◌, ◌<ℤ◌, ◌≤ℤ◌}
-use Rattle.std.specs.Prelude.{Option, Some, None, ◌↔◌, IfSome, min}
+use Rattle.std.proofs.Common.{◌≡◌, ◌∙◌, ap, sym, subst, inl, inr, ◌⊎◌, arith, ℤ, pos, ◌+ℤ◌, ◌<ℤ◌, ◌≤ℤ◌}
+use Rattle.std.specs.Prelude.{Option, Some, None, ◌↔◌, IfSome}
 use Rattle.std.proofs.lemmas.Int.{ints}
-use Rattle.std.proofs.lemmas.List.Elements.{All-contains}
 use Rattle.profile.specs.checker.Instances.{Instance as SaidInstance, horizon}
 use Rattle.profile.specs.events.Properties.{first_second}
 use Rattle.profile.specs.events.Events.{Event}

@@ -1,12 +1,11 @@
 -- Rules, zones and series have their members a period later.
-use Rattle.std.proofs.Common.{◌≡◌, ◌∙◌, refl, sym, subst, ap, inl, inr, ◌⊎◌, arith, ℕ, ◌+◌, ◌-◌, ◌*◌, ◌<◌, ◌≤◌, Bool, ◌||◌, ◌&&◌, nat_le, nat_lt, max, true, false, ℤ, pos, ◌+ℤ◌, ◌-ℤ◌, ◌≤ℤ◌, ◌<ℤ◌, true≢false}
+use Rattle.std.proofs.Common.{◌≡◌, ◌∙◌, refl, sym, subst, ap, inl, inr, ◌⊎◌, arith, ℕ, ◌+◌, ◌-◌, ◌*◌, ◌<◌, ◌≤◌, ◌||◌, ◌&&◌, nat_le, nat_lt, max, true, false, ℤ, pos, ◌+ℤ◌, ◌≤ℤ◌, true≢false}
 use Rattle.std.proofs.lemmas.Int.{ints}
 use Rattle.std.proofs.lemmas.Bool.{cases_Bool, cases_lt, and_parts, leb-true, ltb-true}
 use Rattle.std.proofs.lemmas.Option.{none-some}
-use Rattle.std.proofs.Math.Logic.{∥∥₁_map, ∥∥₁_map₂}
+use Rattle.std.proofs.Math.Logic.{∥∥₁_map₂}
 use Rattle.std.specs.Prelude.{◌≢◌, Option, Some, None, is_some, MatchOption, IfSome}
 use Rattle.std.specs.List.{list_all}
-use Rattle.profile.specs.checker.Instances.{Instance}
 use Rattle.profile.specs.faults.Faults.{is_between}
 use Rattle.profile.specs.series.Rules.{Rule, RuleText, IsAllowed, is_in_range, is_count, is_place, is_entry, has_few_entries, is_long, is_plain, is_base, is_placed, is_counted, is_within_count, is_rule_day, last_rule_day}
 use Rattle.profile.specs.series.Periods.{IsPeriod, HasNoPeriod, IsLeastMultiple, HasNoMultiple, most_period}
@@ -14,8 +13,7 @@ use Rattle.profile.specs.series.Repeating.{RepeatsFrom}
 use Rattle.profile.specs.series.Zones.{Zone, Onset, IsZoneOnset, local_time}
 use Rattle.profile.specs.events.Events.{Event}
 use Rattle.profile.specs.events.Spans.{has_end, IsRulePeriod, IsZonePeriod, IsPastOnsets, IsSaidSeries, IsPastAll, IsPeriodOf, IsLeastPeriodOf, HasNoPeriodOf}
-use Rattle.profile.specs.events.Starts.{IsInstance}
-use Rattle.cal_zones.specs.Repeats.{IsRegular, ZoneRepeats, later_by}
+use Rattle.cal_zones.specs.Repeats.{ZoneRepeats, later_by}
 use Rattle.cal_period.specs.Recurring.{HasNone, AreMultiples, DoesRecur, HasNoCommon, IsLeastCommon}
 use Rattle.cal_period.specs.Members.{second_year, IsDayOfRule, IsListedDay, IsRuleRegular, IsRuleFrom, IsOnsetOf, Lasts, IsStartOf, IsListedStart, ComesAgainFrom}
 use Rattle.cal_period.proofs.Multiples.{series_are, ended_are, endless_are, endless_none}
@@ -48,10 +46,11 @@ module _ (r : Rule) (down : RulesDown) (up : RulesUp) (week : r.pattern.week_sta
       elim (cases_Bool (has_end r)) [
         | inl ended ↦ let p = regular.last ended day is in absurd (omega (arith, ints, p, l, e))
         | inr endless ↦
-            let y = regular.year endless in
-            (day + days,
-            up r days day (period endless) week plain (count endless) (omega (arith, ints, y, l, e)) (omega (arith, ints, e, until)) (omega (arith, ints, e, last)) is,
-            int_same (omega (arith, ints, e)) (omega (arith, ints, e)))
+            let y = regular.year endless in (
+              day + days,
+              up r days day (period endless) week plain (count endless) (omega (arith, ints, y, l, e)) (omega (arith, ints, e, until)) (omega (arith, ints, e, last)) is,
+              int_same (omega (arith, ints, e)) (omega (arith, ints, e)),
+            )
       ]
 
   pub rule_recurs : DoesRecur (IsDayOfRule r) (IsRulePeriod r) (IsRuleRegular r) (IsListedDay r)
@@ -110,12 +109,12 @@ pub series_recurs : (a : Event) → ∥ IsSaidSeries a ∥₁ → ((from : ℤ) 
 series_recurs a said earlier later = record {
   earlier = λ from x days past period l is.
       ∥∥₁_map₂ said is (λ s (b, h, e).
-          let before = earlier from days s past period (x +ℤ pos (86_400 * days)) b.end (omega (arith, ints, l)) (b, h, e, refl) in
-          (before.0, before.1, before.2 ∙ int_same (omega (arith, ints)) (omega (arith, ints))));
+      let before = earlier from days s past period (x +ℤ pos (86_400 * days)) b.end (omega (arith, ints, l)) (b, h, e, refl) in
+      (before.0, before.1, before.2 ∙ int_same (omega (arith, ints)) (omega (arith, ints))));
   later = λ from x days past period l is listed.
       ∥∥₁_map₂ said is (λ s (b, h, e).
-          let after = later from days s past period x b.end l (b, h, e, refl) listed in
-          (after.0, after.1, after.2));
+      let after = later from days s past period x b.end l (b, h, e, refl) listed in
+      (after.0, after.1, after.2));
 }
 
 pub series_periods : (a : Event) (found : Option ℕ) → MatchOption found (HasNoPeriodOf a) (IsLeastPeriodOf a) → MatchOption found (HasNone (IsPeriodOf a)) (AreMultiples (IsPeriodOf a))

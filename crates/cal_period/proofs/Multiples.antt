@@ -1,14 +1,14 @@
 -- Periods: their sums and differences are periods, so they are the multiples of the least one.
-use Rattle.std.proofs.Common.{◌≡◌, ◌≢◌, ◌∙◌, refl, sym, subst, ap, inl, inr, ◌⊎◌, arith, ℕ, zero, suc, ◌+◌, ◌-◌, ◌*◌, ◌/◌, ◌%◌, ◌<◌, ◌≤◌, true, false, true≢false}
+use Rattle.std.proofs.Common.{◌≡◌, ◌∙◌, refl, sym, subst, ap, inl, inr, arith, ℕ, zero, suc, ◌+◌, ◌-◌, ◌*◌, ◌/◌, ◌%◌, ◌<◌, ◌≤◌, true, false, true≢false}
 use Rattle.std.proofs.Math.Nat.{mod-eq-sub-div-mul, mod-lt}
 use Rattle.std.proofs.lemmas.Nat.{div-add-mod'}
 use Rattle.std.proofs.lemmas.Bool.{cases_lt}
 use Rattle.std.proofs.lemmas.Option.{same_Some}
-use Rattle.std.specs.Prelude.{◌↔◌, Option, None, Some}
+use Rattle.std.specs.Prelude.{◌↔◌, Some}
 use Rattle.profile.specs.series.Days.{Frequency, Daily, Weekly, Monthly, Yearly}
-use Rattle.profile.specs.series.Rules.{Pattern, Rule, is_missing}
+use Rattle.profile.specs.series.Rules.{Pattern, Rule}
 use Rattle.profile.specs.series.Zones.{Zone, Constant, Single, Pair}
-use Rattle.profile.specs.series.Periods.{IsMultiple, IsInStep, IsShift, IsPeriod, HasNoPeriod, names_dates, most_period}
+use Rattle.profile.specs.series.Periods.{IsMultiple, IsInStep, IsShift, IsPeriod, HasNoPeriod, most_period}
 use Rattle.profile.specs.events.ZonedTimes.{clock_of}
 use Rattle.profile.specs.events.EventComponents.{EventComponent}
 use Rattle.profile.specs.events.Events.{Event}

@@ -1,8 +1,8 @@
 -- The search through one series.
-use Rattle.std.proofs.Common.{◌≡◌, ◌∙◌, ap, sym, subst, inl, inr, arith, ℤ, ◌<ℤ◌, ◌≤ℤ◌}
+use Rattle.std.proofs.Common.{◌≡◌, ◌∙◌, ap, sym, subst, inl, inr, arith, ℤ, ◌<ℤ◌}
 use Rattle.std.specs.Prelude.{Some, ◌≢◌}
 use Rattle.std.proofs.lemmas.Int.{ints}
-use Rattle.profile.specs.checker.Instances.{Key, Instance as SaidInstance, horizon}
+use Rattle.profile.specs.checker.Instances.{Key, Instance as SaidInstance}
 use Rattle.profile.specs.events.Events.{Event}
 use Rattle.cal_events.specs.Calendar.{instance_of}
 use Rattle.cal_events.specs.declared.instance.Instance.{Instance}

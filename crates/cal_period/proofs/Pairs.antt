@@ -1,16 +1,13 @@
 -- The search through two series.
-use Rattle.std.proofs.Common.{◌≡◌, ◌∙◌, ap, sym, subst, inl, inr, ◌⊎◌, ℕ, ◌+◌, arith, ℤ, ◌<ℤ◌, ◌≤ℤ◌}
-use Rattle.std.specs.Prelude.{Some, min}
+use Rattle.std.proofs.Common.{◌≡◌, ◌∙◌, ap, sym, subst, inl, inr, ◌⊎◌, arith, ℤ, ◌<ℤ◌, ◌≤ℤ◌}
 use Rattle.std.proofs.lemmas.Int.{ints}
 use Rattle.profile.specs.checker.Instances.{Instance as SaidInstance, horizon}
 use Rattle.profile.specs.events.Events.{Event}
 use Rattle.profile.specs.events.Starts.{IsInstance}
 use Rattle.cal_events.specs.Calendar.{instance_of}
 use Rattle.cal_events.specs.declared.instance.Instance.{Instance}
-use Rattle.cal_events.specs.declared.instances.Instances.{Instances}
-use Rattle.cal_period.specs.Clear.{AreSeriesClear, ArePair}
-use Rattle.cal_period.specs.Walks.{walk_place, IsBehind, IsWalkOf, BeginsWalk, GoesPast, MeetsInstance, MeetsNone}
-use Rattle.cal_period.specs.declared.walk.Walk.{Walk}
+use Rattle.cal_period.specs.Clear.{ArePair}
+use Rattle.cal_period.specs.Walks.{IsBehind}
 use Rattle.cal_period.proofs.Sweeping.{Share, turned, start_turned, met_start}
 
 -- ---- two places

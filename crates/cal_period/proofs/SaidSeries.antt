@@ -1,5 +1,5 @@
 -- What is known of a series that a VEVENT says.
-use Rattle.std.proofs.Common.{◌≡◌, ◌∙◌, refl, sym, subst, ap, inl, inr, ◌⊎◌, arith, ℕ, ◌+◌, ◌*◌, ◌<◌, ◌≤◌, Bool, true, false, ◌||◌, ◌&&◌, List, [], ◌∷◌, ℤ, pos, negsuc, ◌+ℤ◌, ◌-ℤ◌, ◌≤ℤ◌, ◌<ℤ◌, true≢false}
+use Rattle.std.proofs.Common.{◌≡◌, ◌∙◌, refl, sym, subst, ap, inl, inr, arith, ℕ, ◌<◌, ◌≤◌, Bool, true, false, ◌||◌, ◌&&◌, List, [], ◌∷◌, ℤ, ◌≤ℤ◌, ◌<ℤ◌, true≢false}
 use Rattle.std.proofs.lemmas.Int.{ints}
 use Rattle.std.proofs.lemmas.Bool.{and_parts}
 use Rattle.std.proofs.lemmas.Option.{same_Some, none-some}
@@ -7,14 +7,14 @@ use Rattle.std.specs.Prelude.{Option, None, Some, is_some, Contains, codes}
 use Rattle.std.specs.List.{list_all}
 use Rattle.profile.specs.text.Trees.{Tree}
 use Rattle.profile.specs.text.Lines.{line_value}
-use Rattle.profile.specs.checker.Instances.{Instance, horizon}
-use Rattle.profile.specs.series.Rules.{Rule, RuleText, is_long, is_plain, is_missing, is_rule_day, last_rule_day, go_together, rule_of}
+use Rattle.profile.specs.checker.Instances.{horizon}
+use Rattle.profile.specs.series.Rules.{Rule, RuleText, is_long, is_plain, is_missing, last_rule_day, go_together}
 use Rattle.profile.specs.series.RuleTexts.{SpellsRule, SpellsWeekday, SaysOr}
-use Rattle.profile.specs.series.Zones.{Zone, Constant, Means, local_time}
+use Rattle.profile.specs.series.Zones.{Zone, Means, local_time}
 use Rattle.profile.specs.series.ZoneTexts.{SaysZone}
 use Rattle.profile.specs.events.Properties.{BothOrNeither, lines_named, first_second}
-use Rattle.profile.specs.events.ZonedTimes.{EventTimes, clock_of, first_local, SaysZonedTime, SpellsZoned, SaysZoneOf, SaysEventTimes, SaysNoStart, SaysTimes, zone_named}
-use Rattle.profile.specs.events.EventRules.{IsRuleText, IsOnDay, GivesRule, GivesBeside, SaysEventRule, IsLastAllowed}
+use Rattle.profile.specs.events.ZonedTimes.{EventTimes, clock_of, first_local, SpellsZoned, SaysZoneOf, SaysEventTimes, zone_named}
+use Rattle.profile.specs.events.EventRules.{IsRuleText, IsOnDay, GivesRule, GivesBeside, IsLastAllowed}
 use Rattle.profile.specs.events.EventComponents.{EventComponent}
 use Rattle.profile.specs.events.Events.{Event}
 use Rattle.profile.specs.events.Spans.{IsSaidSeries, IsPastAll, IsPastOnsets, IsPeriodOf, IsRulePeriod, IsZonePeriod, has_end}

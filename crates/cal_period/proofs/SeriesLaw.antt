@@ -1,24 +1,23 @@
 -- A series that is said does the same again after each of its periods.
-use Rattle.std.proofs.Common.{◌≡◌, ◌∙◌, refl, sym, subst, ap, inl, inr, ◌⊎◌, arith, ℕ, ◌+◌, ◌*◌, ◌<◌, ◌≤◌, true, false, List, [], ℤ, pos, negsuc, ◌+ℤ◌, ◌-ℤ◌, ◌≤ℤ◌, ◌<ℤ◌}
+use Rattle.std.proofs.Common.{◌≡◌, ◌∙◌, refl, sym, subst, ap, inl, inr, ◌⊎◌, arith, ℕ, ◌+◌, ◌*◌, ◌<◌, ◌≤◌, true, false, List, [], ℤ, pos, ◌+ℤ◌, ◌-ℤ◌, ◌≤ℤ◌, ◌<ℤ◌}
 use Rattle.std.proofs.lemmas.Int.{ints, by_lt_z}
 use Rattle.std.proofs.lemmas.Bool.{cases_Bool}
 use Rattle.std.proofs.lemmas.Option.{same_Some}
-use Rattle.std.specs.Prelude.{Option, None, Some, Contains}
+use Rattle.std.specs.Prelude.{None, Contains}
 use Rattle.std.specs.List.{list_all}
 use Rattle.profile.specs.text.Trees.{Tree}
 use Rattle.profile.specs.checker.Instances.{Instance, horizon}
 use Rattle.profile.specs.series.Periods.{IsShift}
 use Rattle.profile.specs.series.Repeating.{RepeatsFrom}
 use Rattle.profile.specs.series.Rules.{Rule, is_long, is_plain, is_rule_day, last_rule_day}
-use Rattle.profile.specs.series.Zones.{Zone, IsOffsetAt, Means, local_time}
+use Rattle.profile.specs.series.Zones.{Zone, Means, local_time}
 use Rattle.profile.specs.series.ZoneTexts.{SaysZone}
 use Rattle.profile.specs.events.Properties.{first_second}
 use Rattle.profile.specs.events.ZonedTimes.{EventTimes, clock_of}
-use Rattle.profile.specs.events.EventRules.{IsOnDay}
 use Rattle.profile.specs.events.EventComponents.{EventComponent}
 use Rattle.profile.specs.events.Events.{Event}
 use Rattle.profile.specs.events.Spans.{has_end, IsSaidSeries, IsPastAll, IsPastOnsets, IsPeriodOf, IsZonePeriod}
-use Rattle.profile.specs.events.Starts.{IsInstance, IsGiven, IsRuleStart, IsStart, IsReplaced, EndsAt, key_at}
+use Rattle.profile.specs.events.Starts.{IsInstance, IsGiven, IsRuleStart, IsStart, EndsAt, key_at}
 use Rattle.profile.proofs.SeriesRepeats as series
 use Rattle.cal_zones.specs.Repeats.{IsRegular, ZoneRepeats, AreOffsetsOf}
 use Rattle.cal_period.specs.Members.{Lasts, IsListedStart, IsOnListedDay, ComesAgainFrom}
@@ -86,18 +85,18 @@ module _ (a : Event) (h : HasSaid a) where
   from_rule start end is = (
     record { key = key_at m start; start = start; end = end },
     subst (λ (x : Event). IsInstance x (record { key = key_at m start; start = start; end = end })) (sym h.is)
-    (inl (record {
-      master = m;
-      is = refl;
-      starts = record {
-        given = inl (subst (λ o. IsGiven m.times o start) (sym h.ruled) is.given);
-        in_dates = is.dated;
-        not_excepted = is.shown;
-        not_replaced = λ replaced. none_listed replaced.override replaced.among;
-      };
-      key = refl;
-      ends = is.lasts;
-    })),
+        (inl (record {
+          master = m;
+          is = refl;
+          starts = record {
+            given = inl (subst (λ o. IsGiven m.times o start) (sym h.ruled) is.given);
+            in_dates = is.dated;
+            not_excepted = is.shown;
+            not_replaced = λ replaced. none_listed replaced.override replaced.among;
+          };
+          key = refl;
+          ends = is.lasts;
+        })),
     refl,
     refl,
   )
@@ -200,8 +199,7 @@ module _ (a : Event) (h : HasSaid a) where
           let p0 = p.0 in
           let p1 = p.1 in
           let local : ((x +ℤ offset) +ℤ pos (86_400 * n)) +ℤ d ≡ ((x +ℤ d) +ℤ offset) +ℤ pos (86_400 * n) = int_same (omega (arith, ints)) (omega (arith, ints)) in
-          let there : Means z (((x +ℤ offset) +ℤ pos (86_400 * n)) +ℤ d) (later +ℤ d) = repeats.later ((x +ℤ offset) +ℤ pos (86_400 * n)) later (omega (arith, ints, l, b0, b1, close, p0, p1, many)) means in
-          (
+          let there : Means z (((x +ℤ offset) +ℤ pos (86_400 * n)) +ℤ d) (later +ℤ d) = repeats.later ((x +ℤ offset) +ℤ pos (86_400 * n)) later (omega (arith, ints, l, b0, b1, close, p0, p1, many)) means in (
             later +ℤ d,
             inr (many, (offset, repeats.offset_later x offset (omega (arith, ints, l)) at, subst (λ t. Means z t (later +ℤ d)) local there)),
             int_same (omega (arith, ints, e)) (omega (arith, ints, e)),

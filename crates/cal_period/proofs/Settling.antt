@@ -1,19 +1,17 @@
 -- What is found before a bound settles the whole.
-use Rattle.std.proofs.Common.{◌≡◌, ◌≢◌, ◌∙◌, refl, sym, subst, ap, inl, inr, ◌⊎◌, arith, ℕ, ◌+◌, ◌*◌, ◌<◌, ◌≤◌, Bool, true, false, ℤ, pos, ◌+ℤ◌, ◌≤ℤ◌, ◌<ℤ◌}
+use Rattle.std.proofs.Common.{◌≡◌, ◌∙◌, refl, sym, subst, ap, inl, inr, ◌⊎◌, arith, ℕ, ◌*◌, ℤ, pos, ◌+ℤ◌, ◌≤ℤ◌, ◌<ℤ◌}
 use Rattle.std.proofs.lemmas.Int.{ints, by_lt_z}
 use Rattle.std.proofs.Math.Logic.{∥∥₁_elim}
-use Rattle.std.specs.Prelude.{Option, Some, None, int_lt}
+use Rattle.std.specs.Prelude.{Option, Some, None}
 use Rattle.profile.specs.checker.Instances.{Key, Instance as SaidInstance, IsWithin, horizon}
-use Rattle.profile.specs.checker.Certificates.{IsLeastSpan}
 use Rattle.profile.specs.series.Repeating.{LastsAtMost, RepeatsFrom, AreApartBelow, IsApartBelow}
 use Rattle.profile.specs.events.Events.{Event}
-use Rattle.profile.specs.events.Spans.{IsSaidSeries, IsPastAll, IsPeriodOf, IsWidthOf, IsBoundOf, IsSpan, greater, span_end}
+use Rattle.profile.specs.events.Spans.{IsSaidSeries, IsPastAll, IsPeriodOf, IsWidthOf, IsBoundOf, IsSpan, greater}
 use Rattle.profile.specs.events.Starts.{IsInstance, SharesInstant}
 use Rattle.profile.proofs.Repeats.{pair_apart, alone_apart}
-use Rattle.cal_events.specs.Calendar.{instance_of}
 use Rattle.cal_events.specs.Series.{AreKnownByStart}
 use Rattle.cal_events.specs.declared.instance.Instance.{Instance}
-use Rattle.cal_period.specs.Clear.{AreSeriesClear, IsSeriesClear, AreClearBelow, IsClearBelow, ArePair, AreTwo}
+use Rattle.cal_period.specs.Clear.{AreSeriesClear, IsSeriesClear, AreClearBelow, IsClearBelow}
 use Rattle.cal_period.specs.Onward.{IsSharedByPair, IsSharedBelow, IsSharedAlone, IsSharedAloneBelow, Settles}
 use Rattle.cal_period.specs.Members.{Lasts}
 

@@ -1,6 +1,6 @@
 -- The span of two series is made of the least instants and numbers of days.
-use Rattle.std.proofs.Common.{◌≡◌, ◌∙◌, refl, sym, subst, ap, inl, inr, ◌⊎◌, arith, ℕ, ◌+◌, ◌*◌, ◌/◌, ◌<◌, ◌≤◌, unsigned_abs, ℤ, pos, negsuc, ◌+ℤ◌, ◌≤ℤ◌, ◌<ℤ◌}
-use Rattle.std.proofs.lemmas.Int.{ints, by_lt_z}
+use Rattle.std.proofs.Common.{◌≡◌, ◌∙◌, refl, sym, subst, ap, inl, inr, arith, ℕ, ◌+◌, ◌*◌, ◌/◌, unsigned_abs, ℤ, pos, ◌≤ℤ◌, ◌<ℤ◌}
+use Rattle.std.proofs.lemmas.Int.{ints}
 use Rattle.std.proofs.lemmas.Option.{same_Some}
 use Rattle.std.specs.Prelude.{false, Option, Some, None, IfSome, int_le}
 use Rattle.std.specs.Int.{int_max}
@@ -10,11 +10,10 @@ use Rattle.profile.specs.series.Zones.{Zone, IsBounds}
 use Rattle.profile.specs.events.ZonedTimes.{EventTimes, clock_of}
 use Rattle.profile.specs.events.EventComponents.{EventComponent}
 use Rattle.profile.specs.events.Events.{Event}
-use Rattle.profile.specs.events.Spans.{IsHalfDayPast, IsPastOnsets, IsPastAll, IsLeastPast, IsPeriodOf, IsWidthOf, IsBoundOf, IsSpan, greater, span_end}
+use Rattle.profile.specs.events.Spans.{IsHalfDayPast, IsPastAll, IsLeastPast, IsPeriodOf, IsWidthOf, IsBoundOf, greater, span_end}
 use Rattle.profile.specs.events.Starts.{IsWidth}
 use Rattle.cal_period.specs.Recurring.{HasNoCommon, IsLeastCommon}
-use Rattle.cal_period.specs.Spanning.{HasNoSpan, IsSpanOf, IsNextMidnight}
-use Rattle.cal_period.specs.declared.span.PairSpan.{PairSpan}
+use Rattle.cal_period.specs.Spanning.{HasNoSpan, IsNextMidnight}
 use Rattle.cal_period.proofs.Entries.{no_less}
 
 int_same : {a b : ℤ} → a ≤ℤ b → b ≤ℤ a → a ≡ b

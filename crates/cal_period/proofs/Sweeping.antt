@@ -1,13 +1,11 @@
 -- How a search goes on.
-use Rattle.std.proofs.Common.{◌≡◌, subst, refl, inl, inr, ℕ, ◌<◌, ◌≤◌, List, length, arith, ℤ, pos, negsuc, ◌-ℤ◌, ◌<ℤ◌, ◌≤ℤ◌, unsigned_abs, true, false, to_z, of_z, to_z-of_z, w64, FitsSigned}
-use Rattle.std.specs.Prelude.{Option, Some, None, ◌↔◌, IfSome, int_lt, int_le}
+use Rattle.std.proofs.Common.{◌≡◌, subst, refl, inl, inr, ℕ, ◌<◌, arith, ℤ, ◌-ℤ◌, ◌<ℤ◌, ◌≤ℤ◌, unsigned_abs}
+use Rattle.std.specs.Prelude.{Option, Some, None, ◌↔◌, IfSome}
 use Rattle.std.proofs.lemmas.Int.{ints}
-use Rattle.std.proofs.lemmas.List.Elements.{All-contains}
-use Rattle.std.proofs.lemmas.List.Sums.{count_by-le-length}
 use Rattle.profile.specs.checker.Instances.{Instance as SaidInstance, horizon}
 use Rattle.profile.specs.events.Properties.{first_second}
 use Rattle.profile.specs.events.Events.{Event}
-use Rattle.profile.specs.events.Starts.{IsInstance, SharesInstant, AreInstancesFrom}
+use Rattle.profile.specs.events.Starts.{IsInstance, SharesInstant}
 use Rattle.cal_events.specs.Calendar.{instance_of}
 use Rattle.cal_events.specs.Left.{IsLeft}
 use Rattle.cal_events.specs.Series.{AreKnownByStart}
@@ -15,7 +13,7 @@ use Rattle.cal_events.specs.declared.instance.Instance.{Instance}
 use Rattle.cal_events.specs.declared.instances.Instances.{Instances}
 use Rattle.cal_events.proofs.shared_lemmas.Overlaps.{abs_is}
 use Rattle.cal_period.specs.Clear.{ShareStart}
-use Rattle.cal_period.specs.Walks.{walk_place, IsNoneBelow, AreAllLeft, IsAhead, IsBehind, IsLastBehind, IsWalkOf, MeetsNone}
+use Rattle.cal_period.specs.Walks.{walk_place, IsNoneBelow, AreAllLeft, IsAhead, IsBehind, IsLastBehind, MeetsNone}
 use Rattle.cal_period.specs.declared.walk.Walk.{Walk}
 
 -- ---- two instances

@@ -1,7 +1,7 @@
 use Rattle.std.proofs.Common.{map, arith}
 use Rattle.std.proofs.lemmas.List.{length-map}
 use Rattle.cal_events.specs.Series.{series_said}
-use Rattle.cal_period.proofs.EveryPair.{where_none, where_some, rows_more, rows_all, rows_found}
+use Rattle.cal_period.proofs.EveryPair.{rows_more, rows_all, rows_found}
 use Rattle.cal_period.proofs.every_pair.clash_of_all.Goals as goal
 
 pub returns-in-Some : goal.returns-in-Some

@@ -1,4 +1,4 @@
-use Rattle.cal_period.proofs.SeriesLaw.{ZonesLaw, repeats_earlier, repeats_later}
+use Rattle.cal_period.proofs.SeriesLaw.{repeats_earlier, repeats_later}
 use Rattle.cal_period.proofs.law.series_repeat.Goals as goal
 
 pub returns-clause-earlier : goal.returns-clause-earlier

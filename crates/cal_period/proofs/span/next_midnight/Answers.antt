@@ -1,4 +1,4 @@
-use Rattle.std.proofs.Common.{◌≡◌, ◌∙◌, ap, arith, pos, ◌<ℤ◌, ◌<◌, ◌≤ℤ◌, to_z, of_z, w64, to_z-of_z, unsigned_abs, ◌+◌, ◌*◌, ◌/◌}
+use Rattle.std.proofs.Common.{◌≡◌, ◌∙◌, ap, arith, pos, ◌<ℤ◌, ◌<◌, to_z, of_z, w64, to_z-of_z, unsigned_abs, ◌+◌, ◌*◌, ◌/◌}
 use Rattle.std.proofs.lemmas.Int.{ints}
 use Rattle.cal_period.proofs.Spanning.{next_is}
 use Rattle.cal_period.proofs.span.next_midnight.Goals as goal

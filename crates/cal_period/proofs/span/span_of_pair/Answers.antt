@@ -1,4 +1,4 @@
-use Rattle.std.proofs.Common.{◌≡◌, ◌∙◌, ap, arith, pos, ◌≤ℤ◌, ◌<ℤ◌, to_z, of_z, w64}
+use Rattle.std.proofs.Common.{◌≡◌, ◌∙◌, ap, arith, ◌≤ℤ◌, ◌<ℤ◌, to_z, of_z, w64}
 use Rattle.std.proofs.lemmas.Int.{ints}
 use Rattle.std.specs.Int.{int_max}
 use Rattle.profile.specs.checker.Instances.{horizon}
@@ -85,7 +85,8 @@ returns c =
     let greatest : c.max.result ≡ int_max v w = rw (cast_v, cast_w) at c.max.ensures.value in
     let is_bound : bound ≡ span_end from c.in_ok-days.days (int_max v w) = (rw (cast_from, cast_max) at c.bound_at-bound.ensures) ∙ ap (span_end from c.in_ok-days.days) greatest in
     let before : bound <ℤ horizon = below bound (rw cast_bound at c.if-bound-ge-HORIZON.false) in
-    rw (cast_from, cast_bound)
-    (least_span a b p q past c.regular_from.ensures c.regular_from-2.ensures is_past from next c.in_ok-days.days c.in_ok-days.ensures,
-    bound_of a b p q past c.regular_from.ensures c.regular_from-2.ensures is_past from next c.in_ok-days.days c.in_ok-days.ensures v w bound c.width.ensures.of c.width-2.ensures.of is_bound,
-    before)
+    rw (cast_from, cast_bound) (
+      least_span a b p q past c.regular_from.ensures c.regular_from-2.ensures is_past from next c.in_ok-days.days c.in_ok-days.ensures,
+      bound_of a b p q past c.regular_from.ensures c.regular_from-2.ensures is_past from next c.in_ok-days.days c.in_ok-days.ensures v w bound c.width.ensures.of c.width-2.ensures.of is_bound,
+      before,
+    )

@@ -1,7 +1,4 @@
-use Rattle.std.proofs.Common.{◌≡◌, arith, subst, sym}
 use Rattle.cal_zones.specs.Kinds.{zone_of}
-use Rattle.profile.specs.events.Spans.{IsZonePeriod}
-use Rattle.cal_period.specs.Recurring.{AreMultiples}
 use Rattle.cal_period.proofs.Multiples.{zone_are}
 use Rattle.cal_period.proofs.recurs.ZoneRecurs.period_days.Goals as goal
 
