@@ -1,11 +1,11 @@
 -- The certificate that is made, from the entries that are chosen for its pairs.
-use Rattle.std.proofs.Common.{◌≡◌, ◌⊎◌, ℕ, zero, suc, ◌+◌, ◌-◌, ◌*◌, ◌^◌, ◌<◌, ◌≤◌, ℤ, pos, ◌≤ℤ◌, ◌<ℤ◌, ◌+ℤ◌, List, [], ◌∷◌, ◌++◌, length, get_or, subst, sym, refl, ap, ◌∙◌, inl, inr, arith}
-use Rattle.std.specs.Prelude.{Option, Some, None, All}
+use Rattle.std.proofs.Common.{◌≡◌, ℕ, zero, suc, ◌+◌, ◌-◌, ◌*◌, ◌^◌, ◌<◌, ℤ, pos, ◌≤ℤ◌, ◌<ℤ◌, List, [], ◌∷◌, ◌++◌, length, get_or, subst, sym, refl, ap, ◌∙◌, inl, inr, arith}
+use Rattle.std.specs.Prelude.{Some, All, Vec, map}
 use Rattle.std.specs.List.{slice_get}
 use Rattle.std.proofs.lemmas.Int.{ints}
 use Rattle.std.proofs.lemmas.Bool.{cases_lt}
 use Rattle.std.proofs.lemmas.Option.{same_Some}
-use Rattle.std.proofs.lemmas.List.{length-append, get_or_append_left}
+use Rattle.std.proofs.lemmas.List.{length-append, length-map}
 use Rattle.std.proofs.lemmas.List.Elements.{All-nil, All-push}
 use Rattle.profile.specs.checker.Instances.{horizon}
 use Rattle.profile.specs.checker.Certificates.{Entry, End, Claims, IsClaims, IsEntry, AreRows, IsPair, entry_of, IsLeastSpan, IsEntryMade, IsCertificateMade, IsSeriesAt}
@@ -13,7 +13,12 @@ use Rattle.profile.specs.text.Values.{IsClockSeconds}
 use Rattle.profile.specs.events.Events.{Event}
 use Rattle.profile.specs.events.Spans.{IsWidthOf, IsBoundOf, greater}
 use Rattle.profile.specs.events.Confirmed.{Confirmed}
+use Rattle.cal_events.specs.Series.{series_said}
+use Rattle.cal_events.specs.declared.series.Series.{Series}
+use Rattle.clash_cert.specs.declared.certificate.Entry.{Entry as Kept}
+use Rattle.clash_cert.specs.Texts.{entry_said, rows_said}
 use Rattle.clash_cert.specs.Chosen.{IsRowMade, AreRowsMade}
+use Rattle.std.specs.declared.alloc.Global.{Global}
 
 -- a stamp is there for the beginning of a span
 pub clock_of_span : ((a : Event) (w : ℤ) → IsWidthOf a w → pos 0 ≤ℤ w) → (a b : Event) (from : ℤ) (days : ℕ) (bound : ℤ) → IsLeastSpan a b from days → IsBoundOf a b from days bound → bound <ℤ horizon
@@ -92,24 +97,46 @@ rows_are (suc n) (row ∷ rows) e h =
 -- ---- the certificate
 
 module _ (all : Confirmed) (c : Claims) (singles : c.singles ≡ length all.singles) (series : c.series ≡ length all.series) (few_singles : c.singles < 2 ^ 64) (few : c.series < 2 ^ 64)
-  (count : length c.rows ≡ c.series) (made : AreRowsMade all.series c.rows)
+    (count : length c.rows ≡ c.series) (made : AreRowsMade all.series c.rows)
   where
-  pub claims_made : IsClaims c
-  claims_made = record {
-    singles = few_singles;
-    series = few;
-    rows = rows_are c.series c.rows count (λ i w. let row = made i w in let long = row.long in (omega (arith, long, series), row.good));
-  }
+    pub claims_made : IsClaims c
+    claims_made = record {
+      singles = few_singles;
+      series = few;
+      rows = rows_are c.series c.rows count (λ i w. let row = made i w in let long = row.long in (omega (arith, long, series), row.good));
+    }
 
-  entry_made : (i j : ℕ) → IsPair c.series i j → (a b : Event) → IsSeriesAt all i a → IsSeriesAt all j b → IsEntryMade a b (entry_of c i j)
-  entry_made i j pair a b at_a at_b =
-      let first = pair.0 in
-      let order = pair.1 in
-      let last = pair.2 in
-      let row = made (i - 1) (omega (arith, first, order, last, count)) in
-      let long = row.long in
-      let there : (i - 1) + (j - i) ≡ j - 1 = omega (arith, first, order) in
-      row.made (j - i) a b (omega (arith, first, order, last, long, series)) at_a (ap (slice_get all.series) there ∙ at_b)
+    entry_made : (i j : ℕ) → IsPair c.series i j → (a b : Event) → IsSeriesAt all i a → IsSeriesAt all j b → IsEntryMade a b (entry_of c i j)
+    entry_made i j pair a b at_a at_b =
+        let first = pair.0 in
+        let order = pair.1 in
+        let last = pair.2 in
+        let row = made (i - 1) (omega (arith, first, order, last, count)) in
+        let long = row.long in
+        let there : (i - 1) + (j - i) ≡ j - 1 = omega (arith, first, order) in
+        row.made (j - i) a b (omega (arith, first, order, last, long, series)) at_a (ap (slice_get all.series) there ∙ at_b)
 
-  pub certificate_made : IsCertificateMade all c
-  certificate_made = record { claims = claims_made; counts = record { singles = singles; series = series }; entries = entry_made }
+    pub certificate_made : IsCertificateMade all c
+    certificate_made = record { claims = claims_made; counts = record { singles = singles; series = series }; entries = entry_made }
+
+-- the same of series and rows as they are kept
+module _ (all : Confirmed) (xs : List Series) (n : ℕ) (rows : List (Vec Kept Global)) (are : map series_said xs ≡ all.series) (singles : n ≡ length all.singles) (few_singles : n < 2 ^ 64) (few : length rows < 2 ^ 64)
+    (count : length rows ≡ length xs) (made : AreRowsMade (map series_said xs) (rows_said rows))
+  where
+    abbrev claims_of : Claims
+    claims_of = record { singles = n; series = length rows; rows = rows_said rows }
+
+    series_count : length rows ≡ length all.series
+    series_count = count ∙ sym (length-map xs series_said) ∙ ap length are
+
+    row_count : length (rows_said rows) ≡ length rows
+    row_count = length-map rows (λ row. map entry_said row.items)
+
+    rows_made : AreRowsMade all.series (rows_said rows)
+    rows_made = subst (λ (series : List Event). AreRowsMade series (rows_said rows)) are made
+
+    pub claims_kept : IsClaims (record { singles = n; series = length rows; rows = rows_said rows })
+    claims_kept = claims_made all claims_of singles series_count few_singles few row_count rows_made
+
+    pub certificate_kept : IsCertificateMade all (record { singles = n; series = length rows; rows = rows_said rows })
+    certificate_kept = certificate_made all claims_of singles series_count few_singles few row_count rows_made

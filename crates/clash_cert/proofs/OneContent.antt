@@ -17,7 +17,7 @@ stamp_length text t (local, w, e) =
     let on = w.on in
     let at = w.at_second in
     let shown : text ≡ ((four_digits on.year ++ two_digits on.month ++ two_digits on.day) ++ codes "T" ++ (two_digits at.hour ++ two_digits at.minute ++ two_digits at.second)) ++ codes "Z" =
-        e ∙ ap (λ l. l ++ codes "Z") (w.spelled ∙ ap (λ d. d ++ codes "T" ++ w.time) on.spelled ∙ ap (λ s. (four_digits on.year ++ two_digits on.month ++ two_digits on.day) ++ codes "T" ++ s) at.spelled) in
+    e ∙ ap (λ l. l ++ codes "Z") (w.spelled ∙ ap (λ d. d ++ codes "T" ++ w.time) on.spelled ∙ ap (λ s. (four_digits on.year ++ two_digits on.month ++ two_digits on.day) ++ codes "T" ++ s) at.spelled) in
     ap length shown
 
 -- what law says it of stamps
@@ -85,11 +85,11 @@ module _ (one_stamp : (text : List ℕ) (a b : ℤ) → WritesStamp text a → W
       let same = same_counts c.singles c.series d.singles d.series (spelled e.entries []) (spelled f.entries []) s.claims.singles s.claims.series t.claims.singles t.claims.series (sym first ∙ second) in
       let fit : AreLinesFor (line_places c.series) f.entries = subst (λ m. AreLinesFor (line_places m) f.entries) same.series f.fit in
       let lines : e.entries ≡ f.entries =
-          same_lines e.entries f.entries [] [] (lines_free (line_places c.series) e.entries e.fit) (lines_free (line_places c.series) f.entries fit)
-          (fit_length (line_places c.series) e.entries e.fit ∙ sym (fit_length (line_places c.series) f.entries fit)) same.rest in
+      same_lines e.entries f.entries [] [] (lines_free (line_places c.series) e.entries e.fit) (lines_free (line_places c.series) f.entries fit)
+      (fit_length (line_places c.series) e.entries e.fit ∙ sym (fit_length (line_places c.series) f.entries fit)) same.rest in
       let whole : s.lines ≡ t.lines =
-          e.is ∙ ap (λ (ls : List (List ℕ)). head_lines c.singles c.series ++ ls) lines ∙ ap (λ n. head_lines n c.series ++ f.entries) (sym same.singles)
-          ∙ ap (λ n. head_lines d.singles n ++ f.entries) (sym same.series) ∙ sym f.is in
+      e.is ∙ ap (λ (ls : List (List ℕ)). head_lines c.singles c.series ++ ls) lines ∙ ap (λ n. head_lines n c.series ++ f.entries) (sym same.singles)
+      ∙ ap (λ n. head_lines d.singles n ++ f.entries) (sym same.series) ∙ sym f.is in
       let tails = sym s.are.is ∙ whole ∙ t.are.is in
       let pairs : s.are.pairs ≡ t.are.pairs = append_cancel_right s.are.pairs t.are.pairs (codes "DONE" ∷ []) (ap (λ (ls : List (List ℕ)). after_three ls) tails) in
       same_content c d same.singles same.series
@@ -122,5 +122,5 @@ module _ (one_stamp : (text : List ℕ) (a b : ℤ) → WritesStamp text a → W
   one_text x y c s t =
       let pairs = one_rows_of 1 c.rows s.are.pairs t.are.pairs s.are.are t.are.are in
       let lines : s.lines ≡ t.lines =
-          s.are.is ∙ ap (λ (ls : List (List ℕ)). head_lines c.singles c.series ++ (ls ++ codes "DONE" ∷ [])) pairs ∙ sym t.are.is in
+      s.are.is ∙ ap (λ (ls : List (List ℕ)). head_lines c.singles c.series ++ (ls ++ codes "DONE" ∷ [])) pairs ∙ sym t.are.is in
       s.is ∙ ap (λ (ls : List (List ℕ)). spelled ls []) lines ∙ sym t.is

@@ -26,7 +26,7 @@ tens limit text local t w e =
     let on = w.on in
     let at = w.at_second in
     let shown : text ≡ ((four_digits on.year ++ two_digits on.month ++ two_digits on.day) ++ codes "T" ++ (two_digits at.hour ++ two_digits at.minute ++ two_digits at.second)) ++ codes "Z" =
-        e ∙ ap (λ l. l ++ codes "Z") (w.spelled ∙ ap (λ d. d ++ codes "T" ++ w.time) on.spelled ∙ ap (λ s. (four_digits on.year ++ two_digits on.month ++ two_digits on.day) ++ codes "T" ++ s) at.spelled) in
+    e ∙ ap (λ l. l ++ codes "Z") (w.spelled ∙ ap (λ d. d ++ codes "T" ++ w.time) on.spelled ∙ ap (λ s. (four_digits on.year ++ two_digits on.month ++ two_digits on.day) ++ codes "T" ++ s) at.spelled) in
     ap (λ l. get_or l 13 0) shown
 
 -- where it isn't 6, the seconds are below 60, and so it is where they are written

@@ -79,12 +79,7 @@ fn write_entry(out: &mut Vec<u8>, entry: Entry) -> Result<(), AllocError>
 }
 
 /// Appends a number between two pieces. After an error `out` may have grown.
-fn write_number(
-    out: &mut Vec<u8>,
-    head: &[u8],
-    number: u64,
-    tail: &[u8],
-) -> Result<(), AllocError>
+fn write_number(out: &mut Vec<u8>, head: &[u8], number: u64, tail: &[u8]) -> Result<(), AllocError>
     ensures ok { OnOk result (out.new.items ≡ out.old.items ++ (head.now ++ (decimal number ++ tail.now))) }
     ensures err { OnErr result (take (length out.old.items) out.new.items ≡ out.old.items) }
 {
@@ -93,12 +88,7 @@ fn write_number(
 }
 
 /// Appends three pieces. After an error `out` may have grown.
-fn append(
-    out: &mut Vec<u8>,
-    head: &[u8],
-    middle: &[u8],
-    tail: &[u8],
-) -> Result<(), AllocError>
+fn append(out: &mut Vec<u8>, head: &[u8], middle: &[u8], tail: &[u8]) -> Result<(), AllocError>
     ensures ok { OnOk result (out.new.items ≡ out.old.items ++ (head.now ++ (middle.now ++ tail.now))) }
     ensures err { OnErr result (take (length out.old.items) out.new.items ≡ out.old.items) }
 {

@@ -1,6 +1,5 @@
-use Rattle.std.proofs.Common.{◌≡◌, ◌∙◌, ◌+◌, ◌++◌, ◌∷◌, [], List, map, length, subst, sym, ap, arith}
+use Rattle.std.proofs.Common.{◌≡◌, ◌∙◌, ◌+◌, ◌++◌, ◌∷◌, [], map, length, subst, sym, ap, arith}
 use Rattle.std.proofs.lemmas.List.{map-append}
-use Rattle.profile.specs.checker.Certificates.{Entry}
 use Rattle.cal_events.specs.Series.{series_said}
 use Rattle.cal_period.proofs.EveryPair.{said_at}
 use Rattle.clash_cert.specs.Texts.{entry_said}
@@ -29,4 +28,10 @@ loop-j-preserved c =
     (said_at xs i a c.requires c.index-series-i.is) (said_at xs j b c.loop-j-test.true c.index-series-j.is) c.entry_for.ensures.good c.entry_for.ensures.made)
 
 pub returns : goal.returns
-returns c = ?
+returns c =
+    let xs = c.args.series.now in
+    let within = c.requires in
+    let most = c.loop-j.auto.j-end (omega (arith, within)) in
+    let end = c.loop-j-test.false in
+    let all : c.loop-j.j ≡ length xs = omega (arith, most, end) in
+    subst (λ n. IsRowMade (map series_said xs) c.args.i n (map entry_said c.loop-j.row.items)) all c.loop-j.invariant

@@ -1,6 +1,5 @@
-use Rattle.std.proofs.Common.{◌≡◌, ◌∙◌, ◌+◌, ◌++◌, ◌∷◌, [], List, map, length, subst, sym, ap, arith}
+use Rattle.std.proofs.Common.{◌≡◌, ◌∙◌, ◌++◌, ◌∷◌, [], map, length, subst, sym, ap, arith}
 use Rattle.std.proofs.lemmas.List.{map-append, length-map, length-append}
-use Rattle.profile.specs.checker.Certificates.{Entry}
 use Rattle.cal_events.specs.Series.{series_said}
 use Rattle.clash_cert.specs.Texts.{entry_said, rows_said}
 use Rattle.clash_cert.specs.Chosen.{IsRowMade, AreRowsMade}

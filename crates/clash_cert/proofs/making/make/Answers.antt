@@ -7,4 +7,4 @@ use Rattle.clash_cert.proofs.making.make.Goals as goal
 pub returns-clause-made : goal.returns-clause-made
 returns-clause-made c =
     let all = c.args.calendar.now in
-    c.in_ok-certificate.ensures.holds (subst (λ o. IfNone o (AreClear (IsOneOf all) (IsOneOf all))) c.in_default.is c.in_ok-clash_in.ensures.clear)
+    c.in_ok-certificate.ensures.holds (subst (λ o. IfNone o (AreClear (IsOneOf all) (IsOneOf all))) c.in_default.is c.in_ok-clash.ensures.clear)

@@ -22,5 +22,5 @@ returns-in_ok-write_number-in-Span-clause-ok c =
       text,
       subst (λ (entry : Entry). IsEntryText entry text) (sym said) (w.0, w.1, refl),
       span_put w.0 (decimal c.in-Span.days) c.args.out.now.items c.extend_from_slice-in-Span.new.self.items c.write.new.out.items c.write_number.new.out.items
-      c.in_ok-extend_from_slice-in-Span.ensures.items w.2 c.in_ok-write_number-in-Span.ensures.ok,
+          c.in_ok-extend_from_slice-in-Span.ensures.items w.2 c.in_ok-write_number-in-Span.ensures.ok,
     )

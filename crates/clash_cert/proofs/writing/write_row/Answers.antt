@@ -30,7 +30,7 @@ loop-place-preserved c =
     let count = length-map (take place row) entry_said ∙ length-take-le place row (omega (arith, test)) in
     let here : i + length said ≡ i + place = omega (arith, count) in
     let more : map entry_said (take (place + 1) row) ≡ said ++ entry_said entry ∷ [] =
-        ap (map entry_said) (take_more row place entry test ∙ ap (λ e. take place row ++ e ∷ []) (sym c.index-row-place.is)) ∙ map-append entry_said (take place row) (entry ∷ []) in
+    ap (map entry_said) (take_more row place entry test ∙ ap (λ e. take place row ++ e ∷ []) (sym c.index-row-place.is)) ∙ map-append entry_said (take place row) (entry ∷ []) in
     let written = c.in_ok-write_pair.ensures.ok in (
       subst (λ (entries : List Entry). Appends old new (SpellsRow i entries)) (sym more) (row_put i (i + place) said (entry_said entry) old now new here inv.0 written),
       keeps_more old now new written.0 inv.1 written.2,

@@ -26,7 +26,7 @@ write_row-requires c =
     let long = length-map rows (λ row. map entry_said row.items) in
     let count = row_count (length rows) (rows_said rows) place [] c.requires (omega (arith, test, long)) in
     let same : get_or (rows_said rows) place [] ≡ map entry_said row.items =
-        get_or-map (λ row. map entry_said row.items) rows place row [] test ∙ ap (λ r. map entry_said r.items) (sym c.index-rows-place.is) in
+    get_or-map (λ row. map entry_said row.items) rows place row [] test ∙ ap (λ r. map entry_said r.items) (sym c.index-rows-place.is) in
     let own = ap length same ∙ length-map row.items entry_said ∙ sym (ap length c.deref.ensures.value) in
     omega (arith, fits, count, own, test)
 
@@ -44,9 +44,9 @@ loop-place-preserved c =
     let count = length-map (take place rows) (λ row. map entry_said row.items) ∙ length-take-le place rows (omega (arith, test)) in
     let here : 1 + length before ≡ place + 1 = omega (arith, count) in
     let more : rows_said (take (place + 1) rows) ≡ before ++ map entry_said row.items ∷ [] =
-        ap rows_said (take_more rows place row test ∙ ap (λ r. take place rows ++ r ∷ []) (sym c.index-rows-place.is)) ∙ map-append (λ row. map entry_said row.items) (take place rows) (row ∷ []) in
+    ap rows_said (take_more rows place row test ∙ ap (λ r. take place rows ++ r ∷ []) (sym c.index-rows-place.is)) ∙ map-append (λ row. map entry_said row.items) (take place rows) (row ∷ []) in
     let written : Appends now new (SpellsRow (place + 1) (map entry_said row.items)) =
-        subst (λ items. Appends now new (SpellsRow (place + 1) (map entry_said items))) c.deref.ensures.value c.in_ok-write_row.ensures.ok in (
+    subst (λ items. Appends now new (SpellsRow (place + 1) (map entry_said items))) c.deref.ensures.value c.in_ok-write_row.ensures.ok in (
       subst (λ (all : List (List Entry)). Appends old new (SpellsRows 1 all)) (sym more) (rows_put (place + 1) before (map entry_said row.items) old now new here inv.0 written),
       keeps_more old now new written.0 inv.1 written.2,
     )

@@ -15,7 +15,7 @@ returns-else-is_err-clause-ok c =
     let rows = c.self.inside.rows.items in
     ok_also c.write_text-written.result _ _
     (λ put.
-        subst (λ (claims : Claims). Appends old new (λ text. SpellsCertificate text claims)) c.self.view_is
-        (certificate_put old new singles (length rows) (rows_said rows) (sym (length-map rows (λ row. map entry_said row.items))) c.self.invariant
-        (subst (λ items. Appends old new (SpellsLines singles (rows_said items))) c.deref.ensures.value put)))
+    subst (λ (claims : Claims). Appends old new (λ text. SpellsCertificate text claims)) c.self.view_is
+    (certificate_put old new singles (length rows) (rows_said rows) (sym (length-map rows (λ row. map entry_said row.items))) c.self.invariant
+    (subst (λ items. Appends old new (SpellsLines singles (rows_said items))) c.deref.ensures.value put)))
     c.write_text-written.ensures.ok
