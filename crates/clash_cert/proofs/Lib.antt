@@ -1,3 +1,10 @@
 pub mod TextLemmas
+pub mod PlaceLemmas
 pub mod WrongLines
+pub mod OneContent
+pub mod Walking
+pub mod Words
+pub mod WholeText
+pub mod StopLemmas
 pub mod MakingLemmas
+pub mod ChosenLemmas

@@ -1,13 +1,13 @@
 -- Which of two clashing instances is named first.
-use Rattle.std.proofs.Common.{◌≡◌, ◌≢◌, ◌⊎◌, ℕ, Bool, true, false, ◌<◌, ◌≤◌, ◌-◌, ℤ, ◌≤ℤ◌, List, [], ◌∷◌, length, map, get_or, subst, sym, refl, ap, inl, inr, ◌∙◌, arith, Ordering}
+use Rattle.std.proofs.Common.{◌≡◌, ◌≢◌, ℕ, Bool, true, false, ◌<◌, ◌≤◌, ℤ, ◌≤ℤ◌, List, [], ◌∷◌, length, get_or, subst, sym, refl, ap, inl, inr, ◌∙◌, arith, Ordering, map}
 use Rattle.std.specs.Prelude.{Option, Some, None, option_map, is_some, Contains, MatchBool}
 use Rattle.std.specs.declared.cmp.Ordering.TheVariants.{Less, Equal, Greater}
-use Rattle.std.specs.Ordering.{is_lt, nat_cmp, int_cmp, ordering_then, ordering_reverse}
+use Rattle.std.specs.Ordering.{is_lt, int_cmp, ordering_then, ordering_reverse}
 use Rattle.std.specs.Cmp.{IsTotalOrder}
-use Rattle.std.specs.Cmp.Lexicographic.{slice_cmp}
-use Rattle.std.proofs.lemmas.Cmp.{on_total, then_total, nat_list_cmp_total, int_cmp_total}
+use Rattle.std.proofs.lemmas.Cmp.{on_total, then_total, int_cmp_total}
 use Rattle.std.proofs.lemmas.Int.{ints}
 use Rattle.std.specs.List.{slice_get}
+use Rattle.std.proofs.lemmas.List.{length-map}
 use Rattle.std.proofs.lemmas.Bool.{false≢true, cases_lt}
 use Rattle.std.proofs.lemmas.Option.{same_Some, slice_get-get_or, slice_get_within, get_or_from_slice_get}
 use Rattle.profile.specs.checker.Instances.{Key, Instance as SaidInstance, IsClear, AreClashing, AreClear, instance_cmp, key_cmp}
@@ -15,6 +15,10 @@ use Rattle.profile.specs.events.Events.{Event}
 use Rattle.profile.specs.events.Starts.{IsInstance, SharesInstant}
 use Rattle.profile.specs.events.Confirmed.{Confirmed, IsInSeries, IsOneOf}
 use Rattle.cal_events.specs.Calendar.{instance_of, owned_key_of, HaveOwnKeys}
+use Rattle.cal_events.specs.Series.{series_said}
+use Rattle.cal_events.specs.declared.series.Series.{Series}
+use Rattle.cal_period.proofs.EveryPair.{said_at}
+use Rattle.cal_period.specs.Clear.{ShareStart}
 use Rattle.cal_events.specs.declared.instance.Instance.{Instance}
 use Rattle.cal_events.specs.declared.instance.OwnedKey.{OwnedKey}
 use Rattle.cal_events.proofs.draft_lemmas.KeyLemmas.{key_total, key_exact}
@@ -157,6 +161,13 @@ lent all place o i b e is at = same_Some (instance_of i) b (sym (ap (option_map 
 
 -- ---- series by their places
 
+-- the series at a place of a slice
+pub series_there : (xs : List Series) (all : List Event) (i : ℕ) (s : Series) (m : Event) → map series_said xs ≡ all → i < length all → s ≡ get_or xs i s → slice_get all i ≡ Some m → m ≡ series_said s
+series_there xs all i s m e w is at =
+    let long = length-map xs series_said in
+    let here : slice_get all i ≡ Some (series_said s) = ap (λ l. slice_get l i) (sym e) ∙ said_at xs i s (omega (arith, w, long, ap length e)) is in
+    same_Some m (series_said s) (sym at ∙ here)
+
 -- two instances of series, of which the later comes second, have different keys
 pub keys_apart : (all : Confirmed) → HaveOwnKeys all → (i j : ℕ) (a b : Event) (x y : SaidInstance) → i ≤ j → j < length all.series → slice_get all.series i ≡ Some a → slice_get all.series j ≡ Some b
     → IsInstance a x → IsInstance b y → (i ≡ j → x.key ≢ y.key) → x.key ≢ y.key
@@ -183,6 +194,9 @@ shares a b t c = record { instant = t; before = c.before; in_first = c.in_first;
 
 pub shares_turned : (start end from to : ℤ) → SharesInstant start end from to → SharesInstant from to start end
 shares_turned start end from to s = record { instant = s.instant; before = s.before; in_first = s.in_second; in_second = s.in_first }
+
+pub shares_start : (a b : SaidInstance) → ShareStart a b → SharesInstant a.start a.end b.start b.end
+shares_start a b s = record { instant = s.instant; before = s.before; in_first = s.in_first; in_second = s.in_second }
 
 -- ---- what is clear
 

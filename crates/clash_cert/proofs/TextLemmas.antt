@@ -1,6 +1,6 @@
 -- Lines: where they end, and that a text has one way to be cut into lines.
-use Rattle.std.proofs.Common.{◌≡◌, ◌≢◌, ◌==◌, ℕ, zero, suc, ◌+◌, ◌-◌, ◌^◌, ◌<◌, ◌≤◌, Bool, true, false, cond, not, ◌&&◌, List, [], ◌∷◌, ◌++◌, length, get_or, take, drop, subst, sym, refl, ap, ◌∙◌, append_assoc, arith}
-use Rattle.std.specs.Prelude.{Option, Some, None, MatchOption, position, decimal, codes}
+use Rattle.std.proofs.Common.{◌≡◌, ◌≢◌, ◌==◌, ℕ, zero, suc, ◌+◌, ◌-◌, ◌^◌, ◌<◌, Bool, true, false, cond, not, ◌&&◌, List, [], ◌∷◌, ◌++◌, length, get_or, take, drop, subst, sym, refl, ap, ◌∙◌, append_assoc, arith}
+use Rattle.std.specs.Prelude.{Option, Some, None, MatchOption, position, decimal}
 use Rattle.std.specs.Prelude.{Result, Ok, Err, ltb, MatchResult}
 use Rattle.std.specs.Result.{result_ok}
 use Rattle.std.specs.List.{position_or_len, count_by}
@@ -68,7 +68,7 @@ abbrev pub lf_free : List ℕ → Bool
 lf_free [] = true
 lf_free (c ∷ cs) = not (c == 10) && lf_free cs
 
-lf_free-append : (a b : List ℕ) → lf_free a ≡ true → lf_free b ≡ true → lf_free (a ++ b) ≡ true
+pub lf_free-append : (a b : List ℕ) → lf_free a ≡ true → lf_free b ≡ true → lf_free (a ++ b) ≡ true
 lf_free-append [] b h k = k
 lf_free-append (c ∷ a) b h k =
     let p = and_parts (not (c == 10)) (lf_free a) h in
@@ -170,6 +170,17 @@ one_rest (l ∷ ls) [] x y h k n e = absurd (omega (arith, n))
 one_rest (l ∷ ls) (m ∷ ms) x y h k n e =
     one_rest ls ms x y h.1 k.1 (omega (arith, n)) (one_cut l m (spelled ls x) (spelled ms y) h.0 k.0 e)
 
+-- lines cut at their ends are the same lines
+pub same_lines : (ls ms : List (List ℕ)) (x y : List ℕ) → AreFree ls → AreFree ms → length ls ≡ length ms → spelled ls x ≡ spelled ms y → ls ≡ ms
+same_lines [] [] x y h k n e = refl
+same_lines [] (m ∷ ms) x y h k n e = absurd (omega (arith, n))
+same_lines (l ∷ ls) [] x y h k n e = absurd (omega (arith, n))
+same_lines (l ∷ ls) (m ∷ ms) x y h k n e =
+    let rest = one_cut l m (spelled ls x) (spelled ms y) h.0 k.0 e in
+    let first : l ≡ m = one_line l m (spelled ls x) (spelled ms y) h.0 k.0 e in
+    let others : ls ≡ ms = same_lines ls ms x y h.1 k.1 (omega (arith, n)) rest in
+    ap (λ (z : List ℕ). z ∷ ls) first ∙ ap (λ (zs : List (List ℕ)). m ∷ zs) others
+
 pub spelled-take : (n : ℕ) (ls : List (List ℕ)) (rest : List ℕ) → spelled ls rest ≡ spelled (take n ls) (spelled (drop n ls) rest)
 spelled-take zero ls rest = refl
 spelled-take (suc n) [] rest = refl
@@ -243,7 +254,7 @@ cut_from_end bytes end h =
       parts = sym (take-append-drop end bytes) ∙ ap (λ l. take end bytes ++ l) (there ∙ ap (λ l. 10 ∷ l) (sym whole));
     }
 
-same_front : (a b x y : List ℕ) → length a ≡ length b → a ++ x ≡ b ++ y → a ≡ b
+pub same_front : {X : Type 0} (a b x y : List X) → length a ≡ length b → a ++ x ≡ b ++ y → a ≡ b
 same_front [] [] x y n e = refl
 same_front [] (d ∷ b) x y n e = absurd (omega (arith, n))
 same_front (c ∷ a) [] x y n e = absurd (omega (arith, n))

@@ -1,2 +1,6 @@
 pub mod Texts
+pub mod Places
+pub mod Reading
+pub mod Stops
+pub mod Chosen
 pub mod Makings

@@ -1,7 +1,7 @@
 -- What the steps of the reader say.
-use Rattle.std.specs.Prelude.{ℕ, List, [], ◌∷◌, ◌++◌, ◌^◌, ◌<◌, ◌≡◌, ◌≢◌, ◌⊎◌, ◌==◌, Some, None, length, position, decimal, map, Vec}
+use Rattle.std.specs.Prelude.{ℕ, List, ◌∷◌, ◌++◌, ◌^◌, ◌<◌, ◌≡◌, ◌≢◌, ◌==◌, Some, None, length, position, decimal, map, Vec}
 use Rattle.std.specs.declared.alloc.Global.{Global}
-use Rattle.profile.specs.checker.Certificates.{FirstWrong, spelled}
+use Rattle.profile.specs.checker.Certificates.{FirstWrong}
 use Rattle.profile.specs.checker.Certificates as said
 use Rattle.clash_cert.specs.declared.certificate.Entry.{Entry}
 use Rattle.clash_cert.specs.declared.certificate.Entry.TheVariants
@@ -37,19 +37,6 @@ LacksLf bytes = position (λ octet. octet == 10) bytes ≡ None
 pub record IsCutAtLf (bytes line rest : List ℕ) : Type 0 where
   pub at : position (λ octet. octet == 10) bytes ≡ Some (length line)
   pub parts : bytes ≡ line ++ 10 ∷ rest
-
--- of these lines some are at the front of the octets, and then not the next one
-pub record MissesLine (lines : List (List ℕ)) (bytes rest : List ℕ) : Type 0 where
-  pub front : List (List ℕ)
-  pub line : List ℕ
-  pub back : List (List ℕ)
-  pub whole : lines ≡ front ++ line ∷ back
-  pub is : bytes ≡ spelled front rest
-  pub lacks : LacksLine line rest
-
--- so it is, or all of them are there, and something follows
-abbrev pub IsBroken : List (List ℕ) → List ℕ → List ℕ → Type 0
-IsBroken lines bytes rest = MissesLine lines bytes rest ⊎ ((bytes ≡ spelled lines rest) × (rest ≢ []))
 
 -- what an entry says
 abbrev pub entry_said : Entry → said.Entry

@@ -1,12 +1,14 @@
 //! The text of a certificate: lines ended by LF, `ROOMCERT 1`, `SINGLES k`, `SERIES n`, for all 1 <= i <= j <= n, by i and then by j, a line
 //! `PAIR i j END` or `PAIR i j SPAN from days`, and `DONE`, with nothing after. Numbers are decimal, of 64 bits, without leading zeros; an
 //! instant is `YYYYMMDDTHHMMSSZ` with seconds up to 59.
-ghost use Rattle.std.specs.Prelude.{ℕ, List, [], ◌≡◌, IfOk, IfErr, OnOk, OnErr};
+ghost use Rattle.std.specs.Prelude.{ℕ, List, [], ◌≡◌, length, IfOk, IfErr, OnOk, OnErr};
 ghost use Rattle.std.specs.List.{slice_index_or};
-ghost use Rattle.profile.specs.checker.Certificates.{Claims, FirstWrong, SpellsCertificate, entry_of};
+ghost use Rattle.profile.specs.checker.Certificates.{Claims, IsClaims, FirstWrong, SpellsCertificate, entry_of};
 ghost use Rattle.ical_values.specs.Written.{Appends};
 ghost use Rattle.clash_cert.specs.Texts.{IsCertFault, entry_said, rows_said};
 
+use crate::reading::{Stop, after_count, after_line, line_of, read_entries};
+use crate::writing::write_text;
 use ical_values::Stamp;
 use std::alloc::{AllocError, Global};
 use std::marker::Model;
@@ -54,6 +56,14 @@ impl Model for Certificate {
 }
 
 impl Certificate {
+    /// The certificate of that many singles, with a row of entries for each series.
+    pub(crate) fn of(singles: u64, rows: Vec<Vec<Entry>>) -> Certificate
+        requires { IsClaims (record { singles = singles; series = length rows.items; rows = rows_said rows.items }) }
+        ensures { result ≡ record { singles = singles; series = length rows.items; rows = rows_said rows.items } }
+    {
+        Certificate { singles, rows }
+    }
+
     /// The certificate that the octets spell; else the number of the first wrong or missing line. It takes the time of the lines up to that,
     /// and memory for the entries read.
     pub fn read(alloc: Global, bytes: &[u8]) -> Result<Certificate, CertFault>
@@ -61,7 +71,21 @@ impl Certificate {
         ensures only { IfOk result (λ c. (d : Claims) → SpellsCertificate bytes.now d → d ≡ c) }
         ensures fault { IfErr result (IsCertFault bytes.now) }
     {
-        Err(CertFault::Memory)
+        let Some(rest) = after_line(bytes, b"ROOMCERT 1") else {
+            return Err(CertFault::Line(1));
+        };
+        let Some((singles, rest)) = after_count(rest, b"SINGLES ") else {
+            return Err(CertFault::Line(2));
+        };
+        let Some((series, rest)) = after_count(rest, b"SERIES ") else {
+            return Err(CertFault::Line(3));
+        };
+        one_certificate();
+        match read_entries(alloc, rest, series) {
+            Ok(rows) => Ok(Certificate { singles, rows }),
+            Err(Stop::At(rest)) => Err(CertFault::Line(line_of(bytes, rest))),
+            Err(Stop::Memory) => Err(CertFault::Memory),
+        }
     }
 
     /// Appends the certificate's text. Fails only when out of memory, and then `out` is unchanged.
@@ -69,7 +93,12 @@ impl Certificate {
         ensures ok { OnOk result (Appends out.old.items out.new.items (λ text. SpellsCertificate text self.now)) }
         ensures err { OnErr result (out.new.items ≡ out.old.items) }
     {
-        Err(AllocError)
+        let before = out.len();
+        let written = write_text(out, self.singles, &self.rows);
+        if written.is_err() {
+            out.truncate(before);
+        }
+        written
     }
 
     /// How many singles it says there are.
@@ -107,6 +136,15 @@ fn entry_at(rows: &[Vec<Entry>], row: usize, place: usize) -> Entry
         },
         None => Entry::End,
     }
+}
+
+/// A text spells at most one certificate, and a certificate has one text. With the contracts of `read` and `write`: what was written is read as
+/// the same certificate.
+pub fn one_certificate()
+    ensures reading { (text : List ℕ) (c d : Claims) → SpellsCertificate text c → SpellsCertificate text d → d ≡ c }
+    ensures form { (x y : List ℕ) (c : Claims) → SpellsCertificate x c → SpellsCertificate y c → x ≡ y }
+{
+    ical_values::stamp::one_stamp();
 }
 
 /// A text has one first wrong line at most: the line that a fault names is the only one.

@@ -2,7 +2,11 @@
 #![tactic(auto)]
 
 pub mod certificate;
+mod choosing;
 pub mod making;
+mod reading;
+mod writing;
 
-pub use certificate::{CertFault, Certificate, Entry, first_wrong_line_is_one};
-pub use making::{Clash, Made, certificate_of, clash_of, make};
+pub use certificate::{CertFault, Certificate, Entry, first_wrong_line_is_one, one_certificate};
+pub use choosing::certificate_of;
+pub use making::{Clash, Made, clash_of, make};

@@ -1,14 +1,18 @@
 //! Making: a certificate where what is confirmed is clear, else a clash.
-ghost use Rattle.std.specs.Prelude.{◌≡◌, ◌↔◌, ℕ, List, IfOk};
+ghost use Rattle.std.specs.Prelude.{◌≡◌, ◌↔◌, IfOk, IfSome, IfNone};
 ghost use Rattle.std.specs.Ordering.{is_lt};
-ghost use Rattle.profile.specs.checker.Instances.{IsClear, AreClear, instance_cmp};
-ghost use Rattle.profile.specs.checker.Certificates.{SpellsCertificate, CertificateHoldsFor, IsCertificateMade};
+ghost use Rattle.profile.specs.checker.Instances.{AreClear, instance_cmp};
 ghost use Rattle.profile.specs.events.Confirmed.{IsOneOf};
 ghost use Rattle.cal_events.specs.Calendar.{instance_of, owned_key_of};
-ghost use Rattle.clash_cert.specs.Makings.{IsCertificate, IsChosenFor, IsMadeFor, IsNamedAs, IsLaterStart};
+ghost use Rattle.cal_events.specs.Clashes.{Names};
+ghost use Rattle.cal_period.specs.Besides.{IsBeside};
+ghost use Rattle.cal_period.specs.Every.{IsFound};
+ghost use Rattle.clash_cert.specs.Makings.{IsCertificate, IsChosenFor, IsMadeFor, IsNamedClash, IsNamedAs, IsLaterStart};
 
 use crate::certificate::Certificate;
-use cal_events::{Calendar, Instance, OwnedKey};
+use crate::choosing::certificate_of;
+use cal_events::{Calendar, Instance, Overlap, OwnedKey};
+use cal_period::{Beside, Shared, clash_of_all, single_beside_series};
 use std::alloc::{AllocError, Global};
 
 /// Two instances of different keys and an instant in both, before the horizon: the later start.
@@ -29,22 +33,74 @@ pub enum Made {
     Clash(Clash),
 }
 
-/// A certificate that holds where what is confirmed is clear, else a clash. Fails only when out of memory.
+/// A certificate that holds where what is confirmed is clear, else a clash: first of two singles, then of a single and a series, then of series.
+/// Fails only when out of memory.
 pub fn make(alloc: Global, calendar: &Calendar) -> Result<Made, AllocError>
     ensures made { IfOk result (IsMadeFor calendar.now) }
     ensures clear { IfOk result (λ made. IsCertificate made ↔ AreClear (IsOneOf calendar.now) (IsOneOf calendar.now)) }
     ensures chosen { IfOk result (IsChosenFor calendar.now) }
 {
-    Err(AllocError)
+    if let Some(clash) = clash_in(alloc, calendar)? {
+        return Ok(Made::Clash(clash));
+    }
+    let certificate = certificate_of(alloc, calendar)?;
+    Ok(Made::Clear(certificate))
 }
 
-/// The certificate of a calendar that is known to be clear, by what its series say alone: no instance is looked at. Fails only when out of
-/// memory.
-pub fn certificate_of(alloc: Global, calendar: &Calendar) -> Result<Certificate, AllocError>
-    ensures made { IfOk result (IsCertificateMade calendar.now) }
-    ensures holds { IfOk result (λ c. IsClear (IsOneOf calendar.now) → (text : List ℕ) → SpellsCertificate text c → CertificateHoldsFor calendar.now text) }
+/// Two confirmed instances that share an instant, None where all are clear. Fails only when out of memory.
+fn clash_in(alloc: Global, calendar: &Calendar) -> Result<Option<Clash>, AllocError>
+    ensures clash { IfOk result (λ found. IfSome found (IsNamedClash calendar.now)) }
+    ensures clear { IfOk result (λ found. IfNone found (AreClear (IsOneOf calendar.now) (IsOneOf calendar.now))) }
 {
-    Err(AllocError)
+    if let Some(overlap) = calendar.first_overlap(alloc)? {
+        return Ok(Some(of_singles(calendar, overlap)?));
+    }
+    if let Some(beside) = single_beside_series(calendar) {
+        return Ok(Some(of_single_and_series(alloc, calendar, beside)?));
+    }
+    match clash_of_all(calendar.series()) {
+        Some(shared) => Ok(Some(of_series(alloc, calendar, shared)?)),
+        None => Ok(None),
+    }
+}
+
+/// The clash of two singles.
+fn of_singles(calendar: &Calendar, overlap: Overlap) -> Result<Clash, AllocError>
+    requires { Names calendar.now.singles overlap }
+    ensures { IfOk result (IsNamedClash calendar.now) }
+{
+    let a = calendar.single(overlap.first).unwrap();
+    let b = calendar.single(overlap.second).unwrap();
+    let of_a = calendar.key(overlap.first)?.unwrap();
+    let of_b = calendar.key(overlap.second)?.unwrap();
+    Ok(clash_of(&a, &b, of_a, of_b))
+}
+
+/// The clash of a single and an instance of a series.
+fn of_single_and_series(
+    alloc: Global,
+    calendar: &Calendar,
+    beside: Beside<'_>,
+) -> Result<Clash, AllocError>
+    requires { IsBeside calendar.now beside }
+    ensures { IfOk result (IsNamedClash calendar.now) }
+{
+    let single = calendar.single(beside.single).unwrap();
+    let of_single = calendar.key(beside.single)?.unwrap();
+    let series = calendar.series();
+    let of_series = series[beside.series].key(alloc, beside.instance.start)?;
+    Ok(clash_of(&single, &beside.instance, of_single, of_series))
+}
+
+/// The clash of two instances of series.
+fn of_series(alloc: Global, calendar: &Calendar, shared: Shared<'_>) -> Result<Clash, AllocError>
+    requires { IsFound calendar.now.series shared }
+    ensures { IfOk result (IsNamedClash calendar.now) }
+{
+    let series = calendar.series();
+    let of_first = series[shared.i].key(alloc, shared.first.start)?;
+    let of_second = series[shared.j].key(alloc, shared.second.start)?;
+    Ok(clash_of(&shared.first, &shared.second, of_first, of_second))
 }
 
 /// The clash of two instances, whose keys are owned: the lesser by start, organiser, UID and slot is first, and the instant is the later

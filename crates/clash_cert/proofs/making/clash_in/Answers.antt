@@ -1,0 +1,16 @@
+use Rattle.std.proofs.Common.{ℕ, List, ◌≤◌, ◌<◌, length, subst}
+use Rattle.std.specs.Prelude.{Contains, IfNone}
+use Rattle.profile.specs.checker.Instances.{IsClear}
+use Rattle.profile.specs.events.Events.{Event}
+use Rattle.cal_period.specs.Every.{IsPairClear}
+use Rattle.cal_period.proofs.EveryPair.{where_none}
+use Rattle.clash_cert.proofs.MakingLemmas.{singles_clear, all_clear}
+use Rattle.clash_cert.proofs.making.clash_in.Goals as goal
+
+pub returns-in-None-clause-clear : goal.returns-in-None-clause-clear
+returns-in-None-clause-clear c =
+    let all = c.args.calendar.now in
+    let clear = subst (λ o. IfNone o (IsClear (Contains all.singles))) c.in_default.is c.in_ok-overlap.ensures.clear in
+    let pairs = where_none c.clash_of_all.result _ _ c.in-None.is c.clash_of_all.ensures in
+    all_clear all (singles_clear all clear c.in_default-single_beside_series.ensures)
+    (subst (λ (l : List Event). (p q : ℕ) → p ≤ q → q < length l → IsPairClear l p q) c.series.ensures.are pairs)
