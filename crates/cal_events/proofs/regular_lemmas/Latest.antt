@@ -60,10 +60,10 @@ module _ (times : EventTimes) (rule : Rule) (one : IsOneMeaning (clock_of times.
   pub is_last : (last : ℤ) → IsLastStartTo times rule 3_652_424 last → last <ℤ horizon → IsLastStart times rule last
   is_last last h before = record { starts = starts 3_652_424 last h; before = before; last = λ t s b. not_later 3_652_424 last t h s (day_there t s) }
 
-  pub none_earlier : (last : ℤ) → IsLastStartTo times rule 3_652_424 last → horizon ≤ℤ last → NoDayTo rule 3_652_423 → HasNoStart times rule
+  none_earlier : (last : ℤ) → IsLastStartTo times rule 3_652_424 last → horizon ≤ℤ last → NoDayTo rule 3_652_423 → HasNoStart times rule
   none_earlier last h past none t s before = true≢false (sym s.listed ∙ none s.day (day_earlier last t h past s before))
 
-  pub is_earlier : (last earlier : ℤ) → IsLastStartTo times rule 3_652_424 last → horizon ≤ℤ last → IsLastStartTo times rule 3_652_423 earlier → IsLastStart times rule earlier
+  is_earlier : (last earlier : ℤ) → IsLastStartTo times rule 3_652_424 last → horizon ≤ℤ last → IsLastStartTo times rule 3_652_423 earlier → IsLastStart times rule earlier
   is_earlier last earlier h past k =
       let near = k.near in
       let day = k.is.not_after in

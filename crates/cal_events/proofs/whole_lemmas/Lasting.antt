@@ -1,5 +1,5 @@
 -- How long the instances of a series last.
--- Cited by instances_last, Series::width of series.
+-- Cited by instances_last of whole.
 use Rattle.std.proofs.Common.{◌≡◌, ◌∙◌, ℕ, ◌*◌, Bool, List, codes, ap, subst, sym, inl, inr, arith, rules, ℤ, pos, ◌+ℤ◌, ◌-ℤ◌, ◌≤ℤ◌}
 use Rattle.std.specs.Prelude.{Option, Some, None}
 use Rattle.std.proofs.Math.Logic.{∥∥₁_map}
@@ -51,7 +51,7 @@ merely_lasts series width b said w h = (
 -- ---- a third of the width at least
 
 -- three times as long
-abbrev pub thrice : ℤ → ℤ
+abbrev thrice : ℤ → ℤ
 thrice long = long +ℤ (long +ℤ long)
 
 module _ (regular : (tree : Tree) (z : Zone) → SaysZone tree z → IsRegular z) (offsets : (z : Zone) → IsRegular z → (least : ℤ) × (greatest : ℤ) × AreOffsetsOf z least greatest) where
