@@ -1,5 +1,5 @@
 -- A series while it is made: its master by its rule alone, and the instants that overrides of its meeting replace.
-use Rattle.std.specs.Prelude.{◌≡◌, ◌↔◌, ◌<ℤ◌, Bool, true, AllPairs, Contains, List, [], ◌++◌, Some, is_some, length, ℤ}
+use Rattle.std.specs.Prelude.{◌≡◌, ◌↔◌, ◌<ℤ◌, Bool, true, AllPairs, Contains, List, [], Some, is_some, length, ℤ}
 use Rattle.std.specs.Ordering.{ordering_then, nat_cmp, is_lt, is_eq}
 use Rattle.std.specs.Cmp.Lexicographic.{slice_cmp}
 use Rattle.std.specs.declared.cmp.Ordering.{Ordering}

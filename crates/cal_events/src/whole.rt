@@ -1,6 +1,6 @@
 //! What the instances of an event are when they are taken to their end.
 
-ghost use Rattle.std.specs.Prelude.{ℕ, List, Contains, ℤ, ◌≡◌, ◌↔◌, ◌+ℤ◌, ◌≤ℤ◌};
+ghost use Rattle.std.specs.Prelude.{ℕ, List, Contains, ℤ, ◌≡◌, ◌↔◌, ◌+ℤ◌, ◌-ℤ◌, ◌≤ℤ◌};
 ghost use Rattle.profile.specs.checker.Instances.{Instance};
 ghost use Rattle.profile.specs.events.Events.{Event as SaidEvent, SpellsEvent};
 ghost use Rattle.profile.specs.events.Spans.{IsSaidSeries, IsWidthOf};
@@ -13,6 +13,7 @@ ghost use Rattle.cal_events.specs.declared.instances.Instances.{Instances};
 ghost use Rattle.cal_events.specs.declared.series.Series.{Series};
 
 use crate::event::one_instance;
+use cal_zones::zones_repeat;
 
 /// `Series::starts` gives all starts of a series at an instant or later, ascending, each once, if it is taken to its end.
 pub fn all_starts()
@@ -31,13 +32,20 @@ pub fn series_are_said()
     ensures { (series : Series) → ∥ IsSaidSeries (series_said series) ∥₁ }
 {}
 
-/// Whose times and rule some VEVENT says, of that series no instance ends before it starts, and none lasts longer than its width.
+/// Whose times and rule some VEVENT says, of that series no instance ends before it starts, and each lasts about as long as its width: no longer,
+/// and a third of that at least. Its days are nominal, so they differ from theirs by half a day at most.
 pub fn instances_last()
     ensures said { (series : SaidEvent) (width : ℤ) (b : Instance) → IsSaidSeries series → IsWidthOf series width → IsInstance series b
         → (b.start ≤ℤ b.end) × (b.end ≤ℤ (b.start +ℤ width)) }
+    ensures said_third { (series : SaidEvent) (width : ℤ) (b : Instance) → IsSaidSeries series → IsWidthOf series width → IsInstance series b
+        → width ≤ℤ ((b.end -ℤ b.start) +ℤ ((b.end -ℤ b.start) +ℤ (b.end -ℤ b.start))) }
     ensures series { (series : Series) (width : ℤ) (b : Instance) → IsWidthOf (series_said series) width → IsInstance (series_said series) b
         → (b.start ≤ℤ b.end) × (b.end ≤ℤ (b.start +ℤ width)) }
-{}
+    ensures series_third { (series : Series) (width : ℤ) (b : Instance) → IsWidthOf (series_said series) width → IsInstance (series_said series) b
+        → width ≤ℤ ((b.end -ℤ b.start) +ℤ ((b.end -ℤ b.start) +ℤ (b.end -ℤ b.start))) }
+{
+    zones_repeat();
+}
 
 /// All instances of a series are the elements of some list: they start before year 10000.
 pub fn listed_series()

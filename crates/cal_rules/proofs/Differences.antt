@@ -1,12 +1,12 @@
 -- The shifts of a rule are the multiples of its period: they are closed under sums and differences.
 -- Cited by shifts_are_multiples of law.
-use Rattle.std.proofs.Common.{◌≡◌, ◌∙◌, ap, sym, refl, subst, inl, inr, ◌⊎◌, ℕ, zero, suc, ◌+◌, ◌-◌, ◌*◌, ◌/◌, ◌%◌, ◌<◌, ◌≤◌, true, false, arith}
+use Rattle.std.proofs.Common.{◌≡◌, ◌∙◌, ap, sym, refl, subst, inl, inr, ℕ, zero, suc, ◌+◌, ◌-◌, ◌*◌, ◌/◌, ◌%◌, ◌≤◌, arith}
 use Rattle.std.proofs.Math.Nat.{add-mul, mul-sub, mul_comm, mod-lt}
 use Rattle.std.proofs.lemmas.Nat.{div-add-mod'}
 use Rattle.std.proofs.lemmas.Bool.{cases_lt}
 use Rattle.profile.specs.series.Days.{Frequency, Daily, Weekly, Monthly, Yearly}
-use Rattle.profile.specs.series.Rules.{Pattern, is_missing}
-use Rattle.profile.specs.series.Periods.{IsMultiple, IsInStep, IsShift, IsPeriod, names_dates}
+use Rattle.profile.specs.series.Rules.{Pattern}
+use Rattle.profile.specs.series.Periods.{IsMultiple, IsInStep, IsShift, IsPeriod}
 
 -- ---- numbers
 

@@ -1,6 +1,6 @@
 -- The last day of a rule up to one.
 -- Cited by Rule::last_not_after of rule.
-use Rattle.std.proofs.Common.{◌≡◌, ◌∙◌, ap, subst, ℕ, ◌+◌, ◌<◌, ◌≤◌, Bool, true, false, ◌&&◌, inl, inr, ◌⊎◌, arith}
+use Rattle.std.proofs.Common.{◌≡◌, ap, ℕ, ◌+◌, ◌<◌, false, ◌&&◌, inl, inr, arith}
 use Rattle.std.proofs.lemmas.Bool.{cases_lt}
 use Rattle.profile.specs.series.Rules.{Rule, is_rule_day, is_within_count}
 use Rattle.cal_rules.specs.Counted.{NoneIn}

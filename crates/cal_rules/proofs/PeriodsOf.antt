@@ -1,9 +1,9 @@
 -- The period of a rule, by its frequency.
-use Rattle.std.proofs.Common.{◌≡◌, ◌∙◌, ap, sym, refl, subst, ℕ, ◌*◌, ◌<◌, ◌≤◌, Bool, true, false, arith}
+use Rattle.std.proofs.Common.{◌≡◌, refl, ℕ, ◌*◌, ◌<◌, ◌≤◌, Bool, true, false, arith}
 use Rattle.std.specs.Prelude.{IfSome, MatchOption, Option, None, Some}
-use Rattle.profile.specs.series.Days.{Frequency, Daily, Weekly, Monthly, Yearly}
+use Rattle.profile.specs.series.Days.{Daily, Weekly, Monthly, Yearly}
 use Rattle.profile.specs.series.Rules.{Pattern, is_missing}
-use Rattle.profile.specs.series.Periods.{IsMultiple, IsInStep, IsShift, IsPeriod, HasNoPeriod, IsLeastMultiple, HasNoMultiple, most_period, names_dates}
+use Rattle.profile.specs.series.Periods.{IsMultiple, IsInStep, IsPeriod, HasNoPeriod, IsLeastMultiple, HasNoMultiple, most_period, names_dates}
 use Rattle.cal_rules.specs.Shifting.{days_of_parts, IsLeastCycle, HasNoCycle}
 use Rattle.cal_rules.proofs.Multiples.{some_times}
 

@@ -1,11 +1,11 @@
 -- After a shift of its period a rule does the same.
-use Rattle.std.proofs.Common.{◌≡◌, ◌∙◌, ap, sym, refl, subst, inl, inr, ℕ, zero, suc, ◌+◌, ◌-◌, ◌*◌, ◌/◌, ◌%◌, ◌<◌, ◌≤◌, Bool, true, false, not, ◌&&◌, ◌||◌, ◌==◌, nat_le, List, [], ◌∷◌, arith}
+use Rattle.std.proofs.Common.{◌≡◌, ◌∙◌, ap, sym, refl, subst, ℕ, zero, suc, ◌+◌, ◌-◌, ◌*◌, ◌/◌, ◌%◌, ◌<◌, ◌≤◌, Bool, true, false, not, ◌&&◌, ◌||◌, ◌==◌, nat_le, List, [], ◌∷◌, arith}
 use Rattle.std.specs.List.{list_any, list_all}
 use Rattle.std.proofs.Math.Nat.{add-mul-mod_self_right, mul_comm}
 use Rattle.std.specs.Prelude.{None}
 use Rattle.std.proofs.lemmas.Bool.{and_parts, true≢false, leb-true, le-leb}
 use Rattle.profile.specs.series.Days.{Frequency, Daily, Weekly, Monthly, Yearly, period_of, month_of, weekday_of, month_days_before, month_days_after, year_days_before, year_days_after}
-use Rattle.profile.specs.series.Rules.{Pattern, Rule, WeekdayNumber, allows, is_nth, is_plain, is_long, is_weekly, is_yearly, is_missing, names_no_day, implies_month, implies_month_day, implies_weekday, months_meant, month_days_meant, weekdays_meant, counts_in_year, same_weekdays_before, same_weekdays_after, names_weekday, passes_month, passes_month_day, passes_weekday, passes, is_in_step, is_base, count_days, reach, is_day, is_mate, mates_before, mates_after, is_placed, is_counted, is_within_count, is_rule_day, last_rule_day}
+use Rattle.profile.specs.series.Rules.{Pattern, Rule, WeekdayNumber, allows, is_plain, is_long, is_yearly, is_missing, implies_weekday, weekdays_meant, counts_in_year, same_weekdays_before, same_weekdays_after, names_weekday, passes_month, passes_month_day, passes_weekday, passes, is_in_step, is_base, count_days, reach, is_day, is_mate, mates_before, mates_after, is_placed, is_counted, is_within_count, is_rule_day, last_rule_day}
 use Rattle.profile.specs.series.Periods.{IsMultiple, IsInStep, IsShift, names_dates}
 use Rattle.cal_days.proofs.Dates.{named_later, weekday_later, year_days_before_later, year_days_after_later, month_days_before_later, month_days_after_later, period_later}
 use Rattle.std.proofs.lemmas.Bool.Decides.{nat_tests}

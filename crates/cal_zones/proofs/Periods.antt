@@ -213,18 +213,20 @@ begun_from o first from is e t =
     (λ l. (first, is, omega (arith, ints, l, e)), λ (other, also, past). let same = first_is_one o first other is also in omega (arith, ints, e, past, same))
 
 pub single_begun : (a : Observance) (from : ℤ) → IsBegunFrom a from → IsRegularFrom (Single a) from
-single_begun a from begun t =
-    (λ l. let f = (begun t).0 l in (Some f.0, None, (f.0, f.1, refl {a = Some f.0}, refl), f.2, tt),
-    λ (x, y, (first, is, e, f), p, q). (begun t).1 (first, is, subst (λ o. IfSome o (IsHalfDayPast t)) e p))
+single_begun a from begun t = (
+  λ l. let f = (begun t).0 l in (Some f.0, None, (f.0, f.1, refl {a = Some f.0}, refl), f.2, tt),
+  λ (x, y, (first, is, e, f), p, q). (begun t).1 (first, is, subst (λ o. IfSome o (IsHalfDayPast t)) e p),
+)
 
 pub both_begun : (a b : Observance) (x y from : ℤ) → IsBegunFrom a x → IsBegunFrom b y → from ≡ int_max x y → IsRegularFrom (Pair a b) from
-both_begun a b x y from first second e t =
-    (λ l. let f = (first t).0 (grind (arith, ints, l, e)) in let g = (second t).0 (grind (arith, ints, l, e)) in
-    (Some f.0, Some g.0, (f.0, g.0, f.1, g.1, refl {a = Some f.0}, refl {a = Some g.0}), f.2, g.2),
-    λ (u, v, (fa, fb, is, also, p, q), h, k).
-        let m = (first t).1 (fa, is, subst (λ o. IfSome o (IsHalfDayPast t)) p h) in
-        let n = (second t).1 (fb, also, subst (λ o. IfSome o (IsHalfDayPast t)) q k) in
-        grind (arith, ints, m, n, e))
+both_begun a b x y from first second e t = (
+  λ l. let f = (first t).0 (grind (arith, ints, l, e)) in let g = (second t).0 (grind (arith, ints, l, e)) in
+      (Some f.0, Some g.0, (f.0, g.0, f.1, g.1, refl {a = Some f.0}, refl {a = Some g.0}), f.2, g.2),
+  λ (u, v, (fa, fb, is, also, p, q), h, k).
+      let m = (first t).1 (fa, is, subst (λ o. IfSome o (IsHalfDayPast t)) p h) in
+      let n = (second t).1 (fb, also, subst (λ o. IfSome o (IsHalfDayPast t)) q k) in
+      grind (arith, ints, m, n, e),
+)
 
 pub past_from : (z : Zone) (from : ℤ) → IsRegularFrom z from → IsPastOnsets z from
 past_from (Constant k) from is = (None, None, (refl, refl), tt, tt)

@@ -1,3 +1,6 @@
-pub mod VerdictLemmas
-pub mod ClashLemmas
-pub mod FreeLemmas
+pub mod WalkLemmas
+pub mod Counts
+pub mod SweepLemmas
+pub mod EntryLemmas
+pub mod SingleLemmas
+pub mod JudgingLemmas

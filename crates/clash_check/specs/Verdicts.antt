@@ -1,14 +1,15 @@
 -- What the checker's answers say.
-use Rattle.std.specs.Prelude.{ℕ, ℤ, List, ◌≡◌, ◌+◌, ◌*◌, ◌-◌, ◌^◌, ◌≤◌, ◌<ℤ◌, ◌⊎◌, length, min}
+use Rattle.std.specs.Prelude.{ℕ, ℤ, List, ◌≡◌, ◌+◌, ◌-◌, ◌^◌, ◌≤◌, ◌<ℤ◌, ◌⊎◌, length, min}
 use Rattle.profile.specs.checker.Instances.{Instance as SaidInstance, horizon, IsWithin}
-use Rattle.profile.specs.faults.Faults.{is_calendar_fault, is_object_fault}
 use Rattle.profile.specs.checker.Calendars.{SpellsCalendar, CalendarTextFault}
-use Rattle.profile.specs.checker.Certificates.{CertificateHoldsFor, IsWrongText, IsWrongCount, HasFailingEntry, HasClashes}
+use Rattle.profile.specs.checker.Certificates.{Claims, SpellsCertificate, entry_of, CertificateHoldsFor, IsWrongText, IsWrongCount, HasFailingEntry, HasClashes}
 use Rattle.profile.specs.events.Confirmed.{Confirmed}
 use Rattle.cal_events.specs.declared.instance.Instance.{Instance}
 use Rattle.cal_events.specs.declared.instance.OwnedKey.{OwnedKey}
 use Rattle.cal_events.specs.Calendar.{key_of, owned_key_of, HaveDifferentKeys, HaveOwnKeys}
-use Rattle.cal_period.specs.Every.{AreLists, all_count}
+use Rattle.clash_check.specs.Counted.{AreCounts, count_all, count_before}
+use Rattle.clash_check.specs.Entries.{HasCompared}
+use Rattle.clash_check.specs.Singles.{singles_count}
 use Rattle.clash_check.specs.declared.verdict.Checked.{Checked}
 use Rattle.clash_check.specs.declared.verdict.Verdict.{Verdict}
 use Rattle.clash_check.specs.declared.verdict.Verdict.TheVariants.{Yes, No}
@@ -25,19 +26,31 @@ abbrev pub IsNo : ℕ → ℕ → ℕ → Verdict → Type 0
 IsNo number first second Yes = ⊥
 IsNo number first second (No why) = (why.number ≡ number) × (why.first ≡ first) × (why.second ≡ second)
 
--- for each single itself, and eight more for each series
-abbrev pub singles_count : Confirmed → ℕ
-singles_count all = (length all.series * 8 + 1) * length all.singles
+-- all instances that the entries of the certificate have compared were made, and those for the singles: each single, and at most three more
+-- of each series
+abbrev pub MakesAll : Confirmed → List ℕ → ℕ → Type 0
+MakesAll all text made =
+    (c : Claims) → SpellsCertificate text c → (count : ℕ → ℕ → ℕ) → AreCounts all c count
+    → (n : ℕ) × (length all.singles ≤ n) × (n ≤ singles_count all) × (made ≡ min (count_all count c.series + n) (2 ^ 64 - 1))
 
--- all of both series for each pair, and those for the singles, as far as 64 bits go; a no takes no more, and none for a text or a count
--- that is wrong
-abbrev pub MakesFewFor : Confirmed → ℕ → Verdict → Type 0
-MakesFewFor all made Yes = (lists : List (List SaidInstance)) → AreLists all.series lists → made ≡ min (all_count lists + singles_count all) (2 ^ 64 - 1)
-MakesFewFor all made (No why) =
-    (why.number ≤ 82 → made ≡ 0) × ((lists : List (List SaidInstance)) → AreLists all.series lists → made ≤ all_count lists + singles_count all)
+-- those were made that the entries before a pair's have compared, and some of its own, at least one; none of its own where its entry is no
+-- span of the pair
+abbrev pub MakesSome : Confirmed → List ℕ → ℕ → ℕ → ℕ → Type 0
+MakesSome all text first second made =
+    (c : Claims) → SpellsCertificate text c → (count : ℕ → ℕ → ℕ) → AreCounts all c count
+    → (HasCompared all first second (entry_of c first second)
+    × ((n : ℕ) × (1 ≤ n) × (n ≤ count first second) × (made ≡ min (count_before count c.series first second + n) (2 ^ 64 - 1))))
+    ⊎ ((HasCompared all first second (entry_of c first second) → ⊥) × (made ≡ min (count_before count c.series first second) (2 ^ 64 - 1)))
 
-abbrev pub MakesFew : Confirmed → Checked → Type 0
-MakesFew all checked = MakesFewFor all checked.made checked.verdict
+-- as far as 64 bits go: on yes and where a single clashes (84) all of them, where an entry fails (83) some, and none where the text or a count
+-- is wrong (81, 82)
+abbrev pub MakesFewFor : Confirmed → List ℕ → ℕ → Verdict → Type 0
+MakesFewFor all text made Yes = MakesAll all text made
+MakesFewFor all text made (No why) =
+    (why.number ≤ 82 → made ≡ 0) × (why.number ≡ 83 → MakesSome all text why.first why.second made) × (why.number ≡ 84 → MakesAll all text made)
+
+abbrev pub MakesFew : Confirmed → List ℕ → Checked → Type 0
+MakesFew all text checked = MakesFewFor all text checked.made checked.verdict
 
 -- the calendar is refused: 80, and its octets have a fault
 abbrev pub IsRefusedCalendar : List ℕ → Checked → Type 0
@@ -50,7 +63,7 @@ pub record IsJudgement (room calendar text : List ℕ) (checked : Checked) : Typ
   pub keys : HaveDifferentKeys all.singles
   pub own : HaveOwnKeys all
   pub verdict : IsVerdict all text checked.verdict
-  pub made : MakesFew all checked
+  pub made : MakesFew all text checked
 
 -- the instance has the key
 abbrev pub HasThatKey : OwnedKey → Instance → Type 0

@@ -2,10 +2,14 @@
 //! makes no certificate of its own.
 #![tactic(auto)]
 
-pub mod checking;
-pub mod law;
+pub mod drawn;
+pub mod judging;
+mod pairs;
+mod singles;
+mod sweep;
 pub mod verdict;
+mod walk;
 
-pub use checking::{certificate_means_clear, check, check_clash, judge_read};
-pub use law::yes_means_free;
+pub use drawn::Drawn;
+pub use judging::judge;
 pub use verdict::{Checked, Verdict, Why};

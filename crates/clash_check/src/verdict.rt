@@ -6,8 +6,9 @@ ghost use Rattle.clash_check.specs.Verdicts.{IsNo};
 #[derive(Clone, Copy, PartialEq, Eq)]
 pub struct Checked {
     pub verdict: Verdict,
-    /// How many instances were made, 2^64-1 at most: for each pair of series those of both, once where they are one, and for each single
-    /// itself and eight more for each series. None for a refused calendar, or a wrong text or count.
+    /// How many instances were made, 2^64-1 at most: for each entry those of its two series that start before its bound, once where they are
+    /// one, up to the first entry that fails; and then each single, and at most three more for each series beside it. None for a refused
+    /// calendar, or a wrong text or count.
     pub made: u64,
 }
 

@@ -7,9 +7,11 @@ ghost use Rattle.profile.specs.rooms.Messages.{Outcome};
 ghost use Rattle.profile.specs.rooms.Rooms.{PartAnswer, Book, Claim, Delivery, IsStep, Runs, empty_book, kind_of, IsWithinLimits};
 ghost use Rattle.profile.specs.rooms.Rooms.{Confirms, confirmed_series, confirmed_singles};
 ghost use Rattle.profile.specs.streams.Streams.{IsDelivered, IsReached, AllAnswers, Box, Hosted, Config, new_box};
-ghost use Rattle.profile.specs.rooms.Kept.{IsKeptCalendar, kept_certificate};
+ghost use Rattle.profile.specs.rooms.Kept.{IsKeptCalendar, IsKeptCertificate};
 ghost use Rattle.profile.specs.checker.Calendars.{CertificateHolds, SpellsCalendar};
 ghost use Rattle.profile.specs.Headline.{AcceptedWhereClear, DeclineNamesClash};
+
+use cal_events::one_calendar_text;
 
 /// Whatever messages a room took, one after another from the first: no two of its confirmed instances of
 /// different keys hold the room in the same second, and its series and its single instances are within their limits.
@@ -38,11 +40,12 @@ pub fn accepted_where_clear()
 {}
 
 /// Whatever messages come, in any order and repeated: the calendar that a room keeps after them spells what it has
-/// confirmed, and the certificate beside it holds for that calendar.
+/// confirmed, and the certificate that is made for it holds for it.
 pub fn kept_texts_pass()
     ensures { (room : List ℕ) (book : Book) (calendar : List ℕ) → IsReached room book → IsKeptCalendar room book calendar
-        → CertificateHolds room calendar (kept_certificate book) }
+        → (certificate : List ℕ) → IsKeptCertificate room calendar certificate → CertificateHolds room calendar certificate }
 {
+    one_calendar_text();
     ical_lines::lines_read_back();
     cal_zones::zone_reads_back();
 }
@@ -65,8 +68,10 @@ pub fn served_texts_pass()
     ensures { (moment : ℤ) (hosts : Config) (first : ℕ) (objects : List (List ℕ)) (after : Box) (answers : List ℕ) (refused : ℕ)
         → AllAnswers moment first objects (new_box hosts) after answers refused
         → (room : Hosted) → Contains after.rooms room
-        → (kept : List ℕ) → IsKeptCalendar room.address room.book kept → CertificateHolds room.address kept (kept_certificate room.book) }
+        → (kept : List ℕ) → IsKeptCalendar room.address room.book kept
+        → (certificate : List ℕ) → IsKeptCertificate room.address kept certificate → CertificateHolds room.address kept certificate }
 {
+    one_calendar_text();
     ical_lines::lines_read_back();
     cal_zones::zone_reads_back();
 }

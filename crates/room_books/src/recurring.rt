@@ -8,7 +8,7 @@ ghost use Rattle.room_books.specs.Recurring.{AreBeside, AreClearFrom, IsSharedAl
 use crate::decide::SharedInstant;
 use crate::meeting::MeetingKey;
 use cal_events::{Instance, Series, Single, Span};
-use cal_period::{clash_of_pair, sweep_alone};
+use cal_period::{clash_alone, clash_of_pair};
 use std::alloc::AllocError;
 
 /// A series, and the name of its meeting.
@@ -105,7 +105,7 @@ fn alone(series: &Series) -> Option<(Single, Single)>
     ensures { IsSharedAlone series.now result }
 {
     cal_events::known_by_start();
-    let (first, second) = sweep_alone(series).shared?;
+    let (first, second) = clash_alone(series)?;
     Some((as_single(&first), as_single(&second)))
 }
 

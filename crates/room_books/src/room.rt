@@ -18,7 +18,7 @@ ghost use Rattle.profile.specs.Headline.{AcceptedWhereClear, DeclineNamesClash, 
 ghost use Rattle.profile.specs.checker.Calendars.{CertificateHolds};
 ghost use Rattle.profile.specs.rooms.Rooms as rooms;
 ghost use Rattle.profile.specs.rooms.Rooms.{Book, empty_book};
-ghost use Rattle.profile.specs.rooms.Kept.{kept_certificate, IsKeptCalendar, Refreshes, Replies};
+ghost use Rattle.profile.specs.rooms.Kept.{IsKeptCalendar, IsKeptCertificate, Refreshes, Replies};
 ghost use Rattle.room_books.specs.Gone.{AreSeparate, IsParted, Shifts};
 ghost use Rattle.room_books.specs.Meeting.{same_key, all_confirmed, all_singles, instance_list, confirmed_at, singles_by, others, AreAllApart, IsKeyOf};
 ghost use Rattle.room_books.specs.Meeting.{all_recurring, all_series, beside, in_room, other_recurring, recurring_at, series_at, series_by, AreFewer, AreRecurring, IsClearIn, MayJoin};
@@ -53,8 +53,9 @@ use crate::slots::{answers_of, slots_of};
 use crate::taking::{AnswersKept, Views, candidates, decided, held_with, is_accept, parts_of};
 use crate::texts::{KeptTexts, calendar_of, certificate_octets};
 use crate::timeline::Timeline;
-use cal_events::{Series, Single};
-use clash_cert::{Clash, Confirmed, make};
+use cal_events::{Calendar, Series, Single, one_calendar_text};
+use clash_cert::Clash;
+use ical_lines::Fault;
 use ical_values::{Address, Stamp};
 use indexmap::IndexMap;
 use itip_messages::RoomMessage;
@@ -112,25 +113,6 @@ struct Answered {
     changes: Changes,
     added: Vec<Single>,
     outcome: Option<Outcome>,
-}
-
-/// What a room has confirmed is clear, whatever it takes.
-impl Confirmed for Room {
-    ghost use Rattle.room_books.specs.Meeting.{in_room};
-
-    ghost confirmed = { λ room. in_room room.meetings.entries };
-
-    fn count(&self) -> u64 {
-        self.timeline.confirmed() as u64
-    }
-
-    fn count_of_series(&self) -> u64 {
-        self.series as u64
-    }
-
-    fn clash(&self, _alloc: Global) -> Result<Option<Clash>, AllocError> {
-        Ok(None)
-    }
 }
 
 impl Room {
@@ -203,11 +185,12 @@ impl Room {
         ensures spells_each { IfOk result (λ texts. (book : Book) → IsReached (address_octets self.now.address) book → Represents self.now.meetings.entries book
             → SpellsConfirmed (address_octets self.now.address) book texts.calendar.items) }
         ensures calendar { IfOk result (λ texts. (book : Book) → Represents self.now.meetings.entries book → IsKeptCalendar (address_octets self.now.address) book texts.calendar.items) }
-        ensures certificate { IfOk result (λ texts. (book : Book) → Represents self.now.meetings.entries book → texts.certificate.items ≡ kept_certificate book) }
+        ensures certificate { IfOk result (λ texts. IsKeptCertificate (address_octets self.now.address) texts.calendar.items texts.certificate.items) }
     {
         kept_texts_spell();
+        kept_texts_pass();
         let calendar = self.calendar_text()?;
-        let certificate = self.certificate_text()?;
+        let certificate = self.certificate_for(&calendar)?;
         Ok(KeptTexts {
             calendar,
             certificate,
@@ -217,9 +200,9 @@ impl Room {
     /// The kept calendar: each accepted part in the view, and what hides instances of an accepted whole, the meetings in order of first arrival.
     pub fn calendar_text(&self) -> Result<Vec<u8>, AllocError>
         ensures kept { IfOk result (λ text. (book : Book) → Represents self.now.meetings.entries book → IsKeptCalendar (address_octets self.now.address) book text.items) }
-        // The certificate of a book that messages led to holds for it.
+        // Where messages led to the book, each certificate that is made for what it spells holds for it.
         ensures passes { IfOk result (λ text. (book : Book) → IsReached (address_octets self.now.address) book → Represents self.now.meetings.entries book
-            → CertificateHolds (address_octets self.now.address) text.items (kept_certificate book)) }
+            → (certificate : List ℕ) → IsKeptCertificate (address_octets self.now.address) text.items certificate → CertificateHolds (address_octets self.now.address) text.items certificate) }
     {
         kept_texts_pass();
         let text = calendar_of(self.alloc, &self.meetings, &self.address)?;
@@ -228,12 +211,30 @@ impl Room {
 
     /// The certificate that holds for the kept calendar.
     pub fn certificate_text(&self) -> Result<Vec<u8>, AllocError>
-        ensures { IfOk result (λ text. (book : Book) → Represents self.now.meetings.entries book → text.items ≡ kept_certificate book) }
+        ensures { IfOk result (λ text. (calendar : List ℕ) × ((book : Book) → Represents self.now.meetings.entries book → IsKeptCalendar (address_octets self.now.address) book calendar)
+            × IsKeptCertificate (address_octets self.now.address) calendar text.items) }
     {
-        keys_differ(&self.meetings);
-        let made = make(self.alloc, self)?;
-        let octets = certificate_octets(self.alloc, &made)?;
-        Ok(octets)
+        let KeptTexts {
+            calendar: _,
+            certificate,
+        } = self.kept()?;
+        Ok(certificate)
+    }
+
+    /// The certificate of the kept calendar, which is read back: the checker judges its octets. It costs what reading them does, and no look at an
+    /// instance.
+    fn certificate_for(&self, calendar: &[u8]) -> Result<Vec<u8>, AllocError>
+        requires kept { (book : Book) → Represents self.now.meetings.entries book → IsKeptCalendar (address_octets self.now.address) book calendar.now }
+        ensures { IfOk result (λ text. IsKeptCertificate (address_octets self.now.address) calendar.now text.items) }
+    {
+        kept_texts_spell();
+        one_calendar_text();
+        match Calendar::read(self.alloc, calendar, &self.address) {
+            Ok(calendar) => certificate_octets(self.alloc, &calendar),
+            Err(Fault::Memory) => Err(AllocError),
+            // the kept calendar reads back
+            Err(Fault::Refused(_)) => unreachable!(),
+        }
     }
 
     /// Takes the claims of a message, of one meeting, that adds instances or doesn't; the part is the first one's.

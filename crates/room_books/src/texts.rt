@@ -4,8 +4,7 @@ ghost use Rattle.std.specs.Prelude.{◌≡◌, ◌∷◌, [], ℕ, List, true, f
 ghost use Rattle.indexmap.specs.IndexMap.{values};
 ghost use Rattle.ical_values.specs.Octets.{address_octets};
 ghost use Rattle.itip_order.specs.Parts.{part_of};
-ghost use Rattle.clash_cert.specs.Makings.{MadeHasCounts, IsCertificate};
-ghost use Rattle.profile.specs.checker.Certificates.{text_of};
+ghost use Rattle.profile.specs.checker.Certificates.{Claims, IsCertificateMade, SpellsCertificate};
 ghost use Rattle.profile.specs.rooms.Kept.{IsKeptCalendar};
 ghost use Rattle.profile.specs.rooms.Revisions.{is_whole};
 ghost use Rattle.profile.specs.rooms.Rooms.{Book};
@@ -18,7 +17,8 @@ use crate::meeting::PartAnswer;
 use crate::reply::recurrence_of;
 use crate::slots::{is_touched, put_in_order};
 use crate::taking::is_accept;
-use clash_cert::Made;
+use cal_events::Calendar;
+use clash_cert::certificate_of;
 use ical_values::Address;
 use itip_messages::{ObjectWriter, Zones, write_body, write_slot};
 use itip_order::{Body, Part, Slot};
@@ -55,15 +55,15 @@ pub(crate) fn calendar_of(
     Ok(object.finish())
 }
 
-/// The octets of what was made, where it is a certificate.
-pub(crate) fn certificate_octets(alloc: Global, made: &Made) -> Result<Vec<u8>, AllocError>
-    ensures { IfOk result (λ octets. (singles series : ℕ) → IsCertificate made.now → MadeHasCounts singles series made.now
-        → octets.items ≡ text_of (record { singles = singles; series = series })) }
+/// The octets of the certificate that is made for a calendar, which is clear.
+pub(crate) fn certificate_octets(
+    alloc: Global,
+    calendar: &Calendar,
+) -> Result<Vec<u8>, AllocError>
+    ensures { IfOk result (λ octets. (c : Claims) × IsCertificateMade calendar.now c × SpellsCertificate octets.items c) }
 {
+    let certificate = certificate_of(alloc, calendar)?;
     let mut octets = Vec::new(alloc);
-    let Made::Clear(certificate) = made else {
-        return Ok(octets);
-    };
     certificate.write(&mut octets)?;
     Ok(octets)
 }

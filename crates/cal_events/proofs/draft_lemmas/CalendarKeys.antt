@@ -1,7 +1,7 @@
 -- Instances of two series of a calendar have different keys, and so have a single and an instance of a series.
 -- Cited by Draft::into_calendar.
-use Rattle.std.proofs.Common.{◌≡◌, ◌≢◌, ◌&&◌, Bool, true, false, cond, filter, List, [], ◌∷◌, ℕ, subst, sym, refl, arith, ℤ}
-use Rattle.std.specs.Prelude.{Some, None, All, AllPairs, Contains, is_some}
+use Rattle.std.proofs.Common.{◌≡◌, ◌≢◌, ◌&&◌, Bool, true, false, cond, filter, List, [], ◌∷◌, ℕ, subst, sym, refl, arith}
+use Rattle.std.specs.Prelude.{None, All, AllPairs, Contains, is_some}
 use Rattle.std.specs.List.{AllZip}
 use Rattle.std.proofs.lemmas.Bool.{and_parts}
 use Rattle.profile.specs.checker.Instances.{Instance}

@@ -1,6 +1,6 @@
 -- The VEVENTs of an object say at most one calendar for a room, and none where they have a fault.
 -- Cited by one_calendar.
-use Rattle.std.proofs.Common.{◌≡◌, ◌∙◌, ℕ, Bool, false, List, filter, subst, sym, ap, inl, inr, arith, Option, None}
+use Rattle.std.proofs.Common.{◌≡◌, ◌∙◌, ℕ, List, filter, subst, sym, ap, inl, inr, arith, Option, None}
 use Rattle.std.specs.List.{AllZip, flat_map}
 use Rattle.profile.specs.text.Trees.{Tree, vevents}
 use Rattle.profile.specs.checker.Instances.{Instance}

@@ -1,16 +1,15 @@
 -- The last start of a rule before year 10000 is on its last day, or on the last one before 9999-12-31.
 -- Cited by last_start of regular.
-use Rattle.std.proofs.Common.{◌≡◌, ◌∙◌, ℕ, ◌<◌, ◌≤◌, ◌*◌, false, true, refl, sym, ap, subst, inl, inr, ◌⊎◌, arith, ℤ, pos, ◌+ℤ◌, ◌≤ℤ◌, ◌<ℤ◌}
+use Rattle.std.proofs.Common.{◌≡◌, ◌∙◌, ℕ, ◌≤◌, sym, subst, inl, inr, arith, ℤ, ◌≤ℤ◌, ◌<ℤ◌}
 use Rattle.std.specs.Prelude.{Option, Some, None, MatchOption}
 use Rattle.std.proofs.lemmas.Bool.{cases_lt, cases_order, true≢false}
 use Rattle.std.proofs.lemmas.Int.{ints}
 use Rattle.profile.specs.checker.Instances.{horizon}
-use Rattle.profile.specs.series.Rules.{Rule, is_rule_day}
+use Rattle.profile.specs.series.Rules.{Rule}
 use Rattle.profile.specs.series.Zones.{Zone, IsOneMeaning, Means, local_time}
 use Rattle.profile.specs.events.ZonedTimes.{EventTimes, clock_of}
-use Rattle.profile.specs.events.EventRules.{IsOnDay}
 use Rattle.profile.specs.events.Starts.{IsRuleStart}
-use Rattle.cal_rules.specs.LastDays.{NoDayTo, IsLastDayTo}
+use Rattle.cal_rules.specs.LastDays.{NoDayTo}
 use Rattle.cal_events.specs.Clocks.{IsAscending}
 use Rattle.cal_events.specs.LastStarts.{HasNoStart, IsLastStart, IsLastStartTo}
 use Rattle.cal_events.proofs.shared_lemmas.InstanceLemmas.{last_of_rule, one_second}
@@ -61,10 +60,10 @@ module _ (times : EventTimes) (rule : Rule) (one : IsOneMeaning (clock_of times.
   pub is_last : (last : ℤ) → IsLastStartTo times rule 3_652_424 last → last <ℤ horizon → IsLastStart times rule last
   is_last last h before = record { starts = starts 3_652_424 last h; before = before; last = λ t s b. not_later 3_652_424 last t h s (day_there t s) }
 
-  pub none_earlier : (last : ℤ) → IsLastStartTo times rule 3_652_424 last → horizon ≤ℤ last → NoDayTo rule 3_652_423 → HasNoStart times rule
+  none_earlier : (last : ℤ) → IsLastStartTo times rule 3_652_424 last → horizon ≤ℤ last → NoDayTo rule 3_652_423 → HasNoStart times rule
   none_earlier last h past none t s before = true≢false (sym s.listed ∙ none s.day (day_earlier last t h past s before))
 
-  pub is_earlier : (last earlier : ℤ) → IsLastStartTo times rule 3_652_424 last → horizon ≤ℤ last → IsLastStartTo times rule 3_652_423 earlier → IsLastStart times rule earlier
+  is_earlier : (last earlier : ℤ) → IsLastStartTo times rule 3_652_424 last → horizon ≤ℤ last → IsLastStartTo times rule 3_652_423 earlier → IsLastStart times rule earlier
   is_earlier last earlier h past k =
       let near = k.near in
       let day = k.is.not_after in

@@ -1,7 +1,7 @@
 -- The least instant past some things, one after another.
--- Cited by the functions of regular.
-use Rattle.std.proofs.Common.{◌≡◌, ◌∙◌, ℕ, ◌<◌, ◌≤◌, ◌+◌, Bool, true, false, List, [], ◌∷◌, ◌++◌, length, take, get_or, refl, sym, ap, subst, inl, inr, ◌⊎◌, arith, ℤ, pos, ◌+ℤ◌, ◌≤ℤ◌, ◌<ℤ◌, to_z, of_z, w64}
-use Rattle.std.specs.Prelude.{Option, Some, None, is_some, IfSome, Contains}
+-- Cited by the functions of regular, Series::of_ruled and Series::regular_from of series.
+use Rattle.std.proofs.Common.{◌≡◌, ◌∙◌, ℕ, ◌<◌, ◌≤◌, ◌+◌, true, false, List, [], ◌∷◌, ◌++◌, length, take, get_or, refl, sym, ap, subst, inl, inr, ◌⊎◌, arith, ℤ, pos, ◌+ℤ◌, ◌≤ℤ◌, ◌<ℤ◌, to_z, of_z, w64}
+use Rattle.std.specs.Prelude.{Option, Some, None, is_some, IfSome}
 use Rattle.std.specs.Int.{int_max}
 use Rattle.std.proofs.lemmas.Bool.{false≢true}
 use Rattle.std.proofs.lemmas.Option.{same_Some}
@@ -15,10 +15,10 @@ use Rattle.profile.specs.events.Properties.{first_second}
 use Rattle.profile.specs.events.ZonedTimes.{EventTimes, clock_of}
 use Rattle.profile.specs.events.EventComponents.{EventComponent as Said}
 use Rattle.profile.specs.events.Events.{Event}
-use Rattle.profile.specs.events.Spans.{has_end, IsHalfDayPast, IsPastOnsets, IsPastAll, IsLeastPast}
+use Rattle.profile.specs.events.Spans.{has_end, IsHalfDayPast, IsPastOnsets, IsLeastPast}
 use Rattle.profile.specs.events.Starts.{IsRuleStart}
 use Rattle.cal_zones.specs.Repeats.{IsRegularFrom}
-use Rattle.cal_events.specs.LastStarts.{HasNoStart, IsLastStart}
+use Rattle.cal_events.specs.LastStarts.{IsLastStart}
 use Rattle.cal_events.specs.Past.{IsFirstPast, IsPastException, ArePast, IsPastRule, IsPastMaster, IsLeastPastMaster, IsKeptPast}
 use Rattle.cal_events.proofs.shared_lemmas.InOneOrder.{none_in}
 use Rattle.cal_events.proofs.shared_lemmas.OwnSingles.{of_master}
@@ -61,12 +61,6 @@ onsets_past (Pair o s) x y from regular m a some r is = later_past from regular 
 pub exception_past : (from e m : ℤ) → first_second ≤ℤ e → e <ℤ horizon → m ≡ int_max from (e +ℤ pos 1) → IsFirstPast from (IsPastException e) m
 exception_past from e m low high is = later_past from (e +ℤ pos 1) m (IsPastException e) is (λ t le _ _. omega (arith, ints, le)) (λ t past. let l = past low high in omega (arith, ints, l))
 
-pub early_ignored : (from e : ℤ) → e <ℤ first_second → IsFirstPast from (IsPastException e) from
-early_ignored from e out = already from (IsPastException e) (λ low _. absurd (omega (arith, ints, out, low)))
-
-pub late_ignored : (from e : ℤ) → horizon ≤ℤ e → IsFirstPast from (IsPastException e) from
-late_ignored from e out = already from (IsPastException e) (λ _ high. absurd (omega (arith, ints, out, high)))
-
 pub none_past : (from : ℤ) → IsFirstPast from (ArePast []) from
 none_past from = already from (ArePast []) (λ e c. absurd (none_in e c))
 
@@ -91,16 +85,7 @@ take_whole from past all k le h = subst (λ (l : List ℤ). IsFirstPast from (Ar
 
 -- ---- a rule that ends
 
-pub no_rule : (times : EventTimes) (given : Option Rule) (from : ℤ) → given ≡ None → IsFirstPast from (IsPastRule times given) from
-no_rule times given from none = already from (IsPastRule times given) (λ rule is. absurd (false≢true (ap is_some (sym none ∙ is))))
-
 module _ (times : EventTimes) (given : Option Rule) (rule : Rule) (is : given ≡ Some rule) where
-  pub endless_past : (from : ℤ) → has_end rule ≡ false → IsFirstPast from (IsPastRule times given) from
-  endless_past from endless = already from (IsPastRule times given) (λ other has end. absurd (false≢true (sym endless ∙ ap has_end (same_Some rule other (sym is ∙ has)) ∙ end)))
-
-  pub no_start_past : (from : ℤ) → HasNoStart times rule → IsFirstPast from (IsPastRule times given) from
-  no_start_past from none = already from (IsPastRule times given) (λ other has end t starts before. absurd (none t (subst (λ (r : Rule). IsRuleStart times r t) (sym (same_Some rule other (sym is ∙ has))) starts) before))
-
   pub starts_past : (from last m : ℤ) → has_end rule ≡ true → IsLastStart times rule last → m ≡ int_max from (last +ℤ pos 1) → IsFirstPast from (IsPastRule times given) m
   starts_past from last m ends l e =
       later_past from (last +ℤ pos 1) m (IsPastRule times given) e

@@ -1,6 +1,6 @@
 -- The period of a series is the least common multiple of those of its rule and its zone.
 -- Cited by Series::period_days of series.
-use Rattle.std.proofs.Common.{◌≡◌, ◌≢◌, ◌∙◌, ℕ, zero, suc, ◌*◌, ◌<◌, ◌≤◌, Bool, true, false, ◌||◌, refl, sym, ap, subst, inl, inr, ◌⊎◌, arith}
+use Rattle.std.proofs.Common.{◌≡◌, ◌≢◌, ◌∙◌, ℕ, zero, suc, ◌<◌, ◌≤◌, true, false, ◌||◌, refl, sym, ap, subst, inl, inr, ◌⊎◌, arith}
 use Rattle.std.specs.Prelude.{◌↔◌, Option, Some, None, is_some, MatchOption, IfSome}
 use Rattle.std.proofs.lemmas.Bool.{false≢true, or_parts}
 use Rattle.std.proofs.lemmas.Option.{same_Some}
@@ -12,6 +12,7 @@ use Rattle.profile.specs.events.EventComponents.{EventComponent}
 use Rattle.profile.specs.events.Events.{Event}
 use Rattle.profile.specs.events.Spans.{has_end, IsRulePeriod, IsZonePeriod, IsPeriodOf, IsLeastPeriodOf, HasNoPeriodOf}
 use Rattle.cal_zones.specs.Repeats.{IsLeastZonePeriod}
+use Rattle.cal_events.proofs.shared_lemmas.DraftKeys.{none_there}
 
 -- the periods are the multiples of one
 abbrev AreMultiples : (ℕ → Type 0) → ℕ → Type 0
@@ -36,10 +37,6 @@ of_zone (Pair o s) days h =
 
 -- ---- of a rule
 
-none_of : {A : Type 0} (o : Option A) → is_some o ≡ false → o ≡ None
-none_of None h = refl
-none_of (Some x) h = absurd (false≢true (sym h))
-
 some_here : {A : Type 0} (o : Option A) → is_some o ≡ true → o ≢ None
 some_here o h e = false≢true (ap is_some (sym e) ∙ h)
 
@@ -51,7 +48,7 @@ module _ (rule : Rule) (found : Option ℕ)
   found_endless : has_end rule ≡ false → MatchOption found (HasNoPeriod rule.pattern) (IsPeriod rule.pattern)
   found_endless none =
       let parts = or_parts (is_some rule.count) (is_some rule.until) none in
-      endless (none_of rule.count parts.0) (none_of rule.until parts.1)
+      endless (none_there rule.count parts.0) (none_there rule.until parts.1)
 
   found_ended : has_end rule ≡ true → found ≡ Some 1
   found_ended ends = elim (is_some rule.count) as (λ b. is_some rule.count ≡ b → found ≡ Some 1) [

@@ -1,6 +1,6 @@
 -- Of a series some VEVENT says the times and the rule, since one said those of its master.
 -- Cited by Series::of_ruled of series.
-use Rattle.std.proofs.Common.{◌≡◌, ◌∙◌, refl, sym, ap, true}
+use Rattle.std.proofs.Common.{◌≡◌, ◌∙◌, sym, ap, true}
 use Rattle.std.proofs.Math.Logic.{∥∥₁_map}
 use Rattle.std.specs.Prelude.{is_some, []}
 use Rattle.profile.specs.events.EventComponents.{EventComponent}

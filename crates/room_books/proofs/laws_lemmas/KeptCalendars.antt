@@ -14,18 +14,18 @@ use Rattle.profile.specs.events.Events.{Event, is_master}
 use Rattle.profile.specs.events.Starts.{IsInstance}
 use Rattle.profile.specs.events.Confirmed.{Confirmed, AreConfirmed, AreOfRule, AreSingles, IsOneOf, IsReplacedAmong, IsSeries, alone, by_its_rule, has_series, is_kept, is_series}
 use Rattle.profile.specs.checker.Calendars.{SpellsCalendar, CertificateHolds}
-use Rattle.profile.specs.checker.Instances.{Instance, Key}
+use Rattle.profile.specs.checker.Instances.{Instance, IsClear, Key}
 use Rattle.profile.specs.rooms.Messages.{opening_lines, slot_of, slot_named}
 use Rattle.profile.specs.rooms.Revisions.{Part, Slot, Whole, At, in_view, is_whole, same_meeting, same_part, same_place, slot_cmp}
 use Rattle.profile.specs.rooms.Rooms.{Claim, PartAnswer, Book, Confirms, Recurring, confirmed_series, confirmed_singles, is_confirmed, is_hidden, is_set}
-use Rattle.profile.specs.rooms.Kept.{KeptComponent, Shown, Hidden, part_kept, IsKept, IsKeptComponent, AreKept, IsKeptEvent, IsKeptCalendar, kept_certificate, zone_texts, zones_kept}
+use Rattle.profile.specs.rooms.Kept.{KeptComponent, Shown, Hidden, part_kept, IsKept, IsKeptComponent, AreKept, IsKeptEvent, IsKeptCalendar, IsKeptCertificate, zone_texts, zones_kept}
 use Rattle.profile.specs.streams.Streams.{AsksFor, IsReached}
 use Rattle.cal_events.proofs.shared_lemmas.OwnSingles.{master_alone}
 use Rattle.itip_order.proofs.Lasting.{view_taken}
 use Rattle.itip_order.proofs.Lists.{in_head, in_tail, any_at, any_from}
 use Rattle.itip_order.proofs.Registers.{same_part_is, same_part_refl}
 use Rattle.itip_messages.proofs.shared_lemmas.ContentLines.{LinesBack, ReadsLines, no_method}
-use Rattle.clash_cert.proofs.MakingLemmas.{certificate_holds}
+use Rattle.profile.proofs.MadeCertificates.{made_holds}
 use Rattle.room_books.specs.Slots.{Reordered}
 use Rattle.room_books.specs.Room.{Pairwise}
 use Rattle.room_books.specs.Texts.{SpellsConfirmed}
@@ -456,21 +456,27 @@ keeps_same back reads zone_back room book keeps calendar c =
       exact = λ b. (one_to room book keeps c.entries c.kept s.series s.each b, one_from room book keeps c.entries c.kept s.series s.each b);
     }
 
+-- octets spell one calendar for a room
+abbrev pub OneCalendar : Type 0
+OneCalendar = (room octets : List ℕ) (a b : Confirmed) → SpellsCalendar room octets a → SpellsCalendar room octets b → a ≡ b
+
 -- what is kept passes
-pub keeps_pass : LinesBack → ReadsLines → ZoneBack → (room : List ℕ) (book : Book) → KeepsAll room book → (calendar : List ℕ) → IsKeptCalendar room book calendar → CertificateHolds room calendar (kept_certificate book)
-keeps_pass back reads zone_back room book keeps calendar c =
+pub keeps_pass : LinesBack → ReadsLines → ZoneBack → OneCalendar → (room : List ℕ) (book : Book) → KeepsAll room book → (calendar : List ℕ) → IsKeptCalendar room book calendar
+    → (certificate : List ℕ) → IsKeptCertificate room calendar certificate → CertificateHolds room calendar certificate
+keeps_pass back reads zone_back one room book keeps calendar c certificate k =
     let s = keeps_same back reads zone_back room book keeps calendar c in
-    let few = keeps.sound.good.few in
+    let same = one room calendar s.all k.confirmed s.spells k.spells in
+    let clear : IsClear (IsOneOf s.all) = λ a b t x y clash. keeps.sound.good.clear a b t ((s.exact a).0 x) ((s.exact b).0 y) clash in
     record {
-      confirmed = s.all;
-      spells = s.spells;
-      holds = certificate_holds s.all (record { singles = length (confirmed_singles book); series = length (confirmed_series book) }) (omega (arith, few.singles), omega (arith, few.series)) (sym s.singles) (sym s.series)
-          (λ a b t x y clash. keeps.sound.good.clear a b t ((s.exact a).0 x) ((s.exact b).0 y) clash);
+      confirmed = k.confirmed;
+      spells = k.spells;
+      holds = made_holds k.confirmed (subst (λ (all : Confirmed). IsClear (IsOneOf all)) same clear) k.c certificate k.made k.text;
     }
 
 pub kept_same : LinesBack → ReadsLines → ZoneBack → (room : List ℕ) (book : Book) → IsReached room book → (calendar : List ℕ) → IsKeptCalendar room book calendar → SpellsConfirmed room book calendar
 kept_same back reads zone_back room book r = keeps_same back reads zone_back room book (runs_keep room r.deliveries book r.delivered r.runs)
 
 -- whatever messages come, what is kept after them passes
-pub kept_passes : LinesBack → ReadsLines → ZoneBack → (room : List ℕ) (book : Book) (calendar : List ℕ) → IsReached room book → IsKeptCalendar room book calendar → CertificateHolds room calendar (kept_certificate book)
-kept_passes back reads zone_back room book calendar r = keeps_pass back reads zone_back room book (runs_keep room r.deliveries book r.delivered r.runs) calendar
+pub kept_passes : LinesBack → ReadsLines → ZoneBack → OneCalendar → (room : List ℕ) (book : Book) (calendar : List ℕ) → IsReached room book → IsKeptCalendar room book calendar
+    → (certificate : List ℕ) → IsKeptCertificate room calendar certificate → CertificateHolds room calendar certificate
+kept_passes back reads zone_back one room book calendar r = keeps_pass back reads zone_back one room book (runs_keep room r.deliveries book r.delivered r.runs) calendar

@@ -1,4 +1,4 @@
-use Rattle.std.proofs.Common.{◌≡◌, subst, arith, pos, ℤ, ◌≤ℤ◌, ◌<ℤ◌, ◌^◌, to_z, of_z, w64, FitsSigned, rules, to_z-of_z, inl, inr}
+use Rattle.std.proofs.Common.{◌≡◌, arith, pos, ◌≤ℤ◌, ◌<ℤ◌, ◌^◌, to_z, of_z, w64, FitsSigned, rules, to_z-of_z, inl, inr}
 use Rattle.std.specs.Int.{int_max}
 use Rattle.std.proofs.lemmas.Int.{ints}
 use Rattle.cal_events.proofs.shared_lemmas.Overlaps.{last_more, last_whole, later_of}

@@ -1,7 +1,5 @@
-use Rattle.std.proofs.Common.{◌≡◌, ◌∙◌, ℕ, ◌≤ℤ◌, ◌+ℤ◌, pos, refl, sym, subst, arith, to_z, of_z, w64, ℤ, rules, FitsSigned, to_z-of_z}
-use Rattle.std.proofs.lemmas.Int.{ints}
+use Rattle.std.proofs.Common.{◌≡◌, ◌∙◌, subst, to_z, of_z, w64, rules, FitsSigned, to_z-of_z}
 use Rattle.profile.specs.series.Days.{IsDayNumber, day_index}
-use Rattle.profile.specs.series.Rules.{Rule}
 use Rattle.profile.specs.series.Zones.{Zone, Means, local_time}
 use Rattle.profile.specs.events.ZonedTimes.{clock_of}
 use Rattle.cal_rules.specs.LastDays.{IsLastDayTo}

@@ -1,9 +1,9 @@
-use Rattle.std.proofs.Common.{◌≡◌, ℤ, pos, ◌+ℤ◌, ◌≤ℤ◌, ◌<ℤ◌, to_z, of_z, w64, FitsSigned, rules, to_z-of_z, arith}
+use Rattle.std.proofs.Common.{◌≡◌, pos, ◌+ℤ◌, ◌≤ℤ◌, ◌<ℤ◌, to_z, of_z, w64, FitsSigned, rules, to_z-of_z, arith}
 use Rattle.std.proofs.lemmas.Int.{ints}
 use Rattle.std.specs.Int.{int_max}
 use Rattle.profile.specs.checker.Instances.{horizon}
 use Rattle.profile.specs.events.Properties.{first_second}
-use Rattle.cal_events.proofs.regular_lemmas.Past.{exception_past, early_ignored, late_ignored, next_fits}
+use Rattle.cal_events.proofs.regular_lemmas.Past.{exception_past, next_fits}
 use Rattle.cal_events.proofs.regular.past_exception.Goals as goal
 
 pub returns : goal.returns

@@ -1,4 +1,4 @@
-use Rattle.std.proofs.Common.{◌≡◌, ℤ, to_z, of_z, w64, FitsSigned, rules, to_z-of_z}
+use Rattle.std.proofs.Common.{◌≡◌, to_z, of_z, w64, FitsSigned, rules, to_z-of_z}
 use Rattle.std.specs.Int.{int_max}
 use Rattle.cal_zones.specs.Kinds.{zone_of}
 use Rattle.cal_events.proofs.regular_lemmas.Past.{no_onsets, onsets_past}

@@ -1,8 +1,7 @@
-use Rattle.std.proofs.Common.{◌≡◌, sym, ℤ, pos, ◌+ℤ◌, to_z, of_z, w64, FitsSigned, rules, to_z-of_z, arith}
-use Rattle.std.proofs.lemmas.Int.{ints}
+use Rattle.std.proofs.Common.{◌≡◌, sym, pos, ◌+ℤ◌, to_z, of_z, w64, FitsSigned, rules, to_z-of_z}
 use Rattle.std.specs.Int.{int_max}
 use Rattle.cal_events.specs.Component.{times_of}
-use Rattle.cal_events.proofs.regular_lemmas.Past.{no_rule, endless_past, no_start_past, starts_past}
+use Rattle.cal_events.proofs.regular_lemmas.Past.{starts_past}
 use Rattle.cal_events.proofs.regular.past_rule.Goals as goal
 
 pub returns-in-Some-last_start : goal.returns-in-Some-last_start

@@ -1,9 +1,9 @@
-use Rattle.std.proofs.Common.{◌≡◌, ◌∙◌, List, ℤ, pos, ◌+ℤ◌, sym, ap, subst, to_z, of_z, w64, FitsSigned, rules, to_z-of_z, arith}
+use Rattle.std.proofs.Common.{◌≡◌, List, ℤ, pos, ◌+ℤ◌, ap, subst, to_z, of_z, w64, FitsSigned, rules, to_z-of_z, arith}
 use Rattle.std.proofs.lemmas.Int.{ints}
 use Rattle.profile.specs.series.Zones.{Zone}
 use Rattle.profile.specs.events.Spans.{IsPastOnsets}
-use Rattle.cal_events.specs.Component.{component_of, times_of}
-use Rattle.cal_events.specs.Past.{ArePast, IsFirstPast, IsPastRule}
+use Rattle.cal_events.specs.Component.{component_of}
+use Rattle.cal_events.specs.Past.{ArePast, IsFirstPast}
 use Rattle.cal_events.proofs.regular_lemmas.Past.{all_past}
 use Rattle.cal_events.proofs.regular.regular_from.Goals as goal
 

@@ -5,4 +5,4 @@ use Rattle.room_books.proofs.laws.served_texts_pass.Goals as goal
 
 pub returns : goal.returns
 returns c = λ moment hosts first objects after octets refused answers room has.
-    keeps_pass c.lines_read_back.ensures.lines c.lines_read_back.ensures.reads c.zone_reads_back.ensures room.address room.book (served_keeps moment hosts first objects after octets refused answers room has)
+    keeps_pass c.lines_read_back.ensures.lines c.lines_read_back.ensures.reads c.zone_reads_back.ensures c.one_calendar_text.ensures.one room.address room.book (served_keeps moment hosts first objects after octets refused answers room has)

@@ -12,12 +12,12 @@ pub returns-in_err-first : goal.returns-in_err-first
 returns-in_err-first c =
     let s = c.args.series.now in
     subst (IsSharedAlone s) (sym c.from_residual.ensures)
-    (none_alone s (subst (λ o. MatchOption o (IsSeriesClear (series_said s)) (λ p. AreTwo (series_said s) (instance_of p.0) (instance_of p.1))) (c.in_err-first.was) c.sweep_alone.ensures.shared))
+    (none_alone s (subst (λ o. MatchOption o (IsSeriesClear (series_said s)) (λ p. AreTwo (series_said s) (instance_of p.0) (instance_of p.1))) (c.in_err-first.was) c.clash_alone.ensures))
 
 pub returns : goal.returns
 returns c =
     let s = c.args.series.now in
-    let two = subst (λ o. MatchOption o (IsSeriesClear (series_said s)) (λ p. AreTwo (series_said s) (instance_of p.0) (instance_of p.1))) (c.in_ok-first.was) c.sweep_alone.ensures.shared in
+    let two = subst (λ o. MatchOption o (IsSeriesClear (series_said s)) (λ p. AreTwo (series_said s) (instance_of p.0) (instance_of p.1))) (c.in_ok-first.was) c.clash_alone.ensures in
     let x = c.as_single.ensures in let y = c.as_single-2.ensures in
     two_alone s (c.known_by_start.ensures s) (instance_of c.in_ok-first.first) (instance_of c.in_ok-first.second) c.as_single.result c.as_single-2.result two
     x.slot x.start x.end y.slot y.start y.end

@@ -1,4 +1,4 @@
-use Rattle.std.proofs.Common.{◌≡◌, ◌∙◌, sym, subst, List, ℤ, pos, get_or, take, FitsSigned, to_z, of_z, w64, to_z-of_z, rules}
+use Rattle.std.proofs.Common.{◌≡◌, subst, List, ℤ, pos, get_or, FitsSigned, to_z, of_z, w64, to_z-of_z, rules}
 use Rattle.std.specs.List.{AllZip}
 use Rattle.std.proofs.lemmas.List.{take_all}
 use Rattle.cal_events.specs.Component.{component_of}

@@ -1,4 +1,4 @@
-use Rattle.std.proofs.Common.{true, false, subst, List, ℕ}
+use Rattle.std.proofs.Common.{true, subst, List, ℕ}
 use Rattle.std.specs.Prelude.{None}
 use Rattle.std.proofs.lemmas.Result.{IfErr-weaker}
 use Rattle.ical_lines.specs.Fault.{RefusesBy}

@@ -1,9 +1,9 @@
-use Rattle.std.proofs.Common.{◌≡◌, ◌∙◌, ℕ, Bool, true, List, [], length, map, sym, subst, ap, to_z, of_z, w64, FitsSigned, rules, to_z-of_z}
-use Rattle.std.specs.Prelude.{Option, Some, is_some, option_map}
+use Rattle.std.proofs.Common.{◌≡◌, ◌∙◌, true, [], length, map, sym, subst, ap, to_z, of_z, w64, FitsSigned, rules, to_z-of_z}
+use Rattle.std.specs.Prelude.{Some, is_some, option_map}
 use Rattle.std.proofs.lemmas.Option.{same_Some}
 use Rattle.cal_events.specs.Component.{component_of}
 use Rattle.cal_events.specs.Event.{said_meeting}
-use Rattle.cal_events.specs.Past.{IsKeptPast, IsLeastPastMaster}
+use Rattle.cal_events.specs.Past.{IsLeastPastMaster}
 use Rattle.cal_events.specs.declared.component.EventComponent.{EventComponent}
 use Rattle.cal_events.proofs.shared_lemmas.OwnSingles.{of_master}
 use Rattle.cal_events.proofs.series_lemmas.Said.{series_is_said}
@@ -24,10 +24,12 @@ invariant_of-result c =
     record {
       ruled = (
         ap is_some master,
-        ((λ other is.
-        let e : m ≡ other = same_Some m other (sym master ∙ is) in
-        (subst (λ (x : EventComponent). is_some x.rule ≡ true) e c.requires.rule, subst (λ (x : EventComponent). length x.additions.items ≡ 0) e (ap length c.requires.none_added))),
-        ap length none),
+        (
+          (λ other is.
+              let e : m ≡ other = same_Some m other (sym master ∙ is) in
+              (subst (λ (x : EventComponent). is_some x.rule ≡ true) e c.requires.rule, subst (λ (x : EventComponent). length x.additions.items ≡ 0) e (ap length c.requires.none_added))),
+          ap length none,
+        ),
       );
       said = series_is_said (said_meeting event) (component_of m) same c.requires.rule c.requires.none_added m.said;
       past = rw cast (kept_past (said_meeting event) (component_of m) from same least);

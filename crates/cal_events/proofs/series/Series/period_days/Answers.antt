@@ -1,4 +1,4 @@
-use Rattle.std.proofs.Common.{ℕ, sym, subst, ap}
+use Rattle.std.proofs.Common.{ℕ, subst, ap}
 use Rattle.std.specs.Prelude.{option_map, ◌↔◌}
 use Rattle.profile.specs.series.Zones.{Zone}
 use Rattle.profile.specs.series.Periods.{IsMultiple}

@@ -1,4 +1,4 @@
-use Rattle.std.proofs.Common.{◌≡◌, ◌∙◌, Option, sym, subst, ap, ℤ, to_z, of_z, w64, FitsSigned, rules, to_z-of_z}
+use Rattle.std.proofs.Common.{◌≡◌, subst, ap, to_z, of_z, w64, FitsSigned, rules, to_z-of_z}
 use Rattle.std.specs.Prelude.{option_map}
 use Rattle.profile.specs.series.Zones.{Zone, AreFirstOnsets}
 use Rattle.cal_events.specs.Component.{component_of}

@@ -1,12 +1,7 @@
-use Rattle.std.proofs.Common.{◌≡◌, ◌∙◌, ap, sym, subst, ℕ, ◌*◌, arith}
-use Rattle.std.specs.Prelude.{MatchOption, Option, None, Some}
-use Rattle.profile.specs.series.Days.{Frequency, Daily, Weekly, Monthly, Yearly}
-use Rattle.profile.specs.series.Rules.{Pattern}
-use Rattle.profile.specs.series.Periods.{IsInStep, IsPeriod, HasNoPeriod, IsLeastMultiple, HasNoMultiple}
+use Rattle.std.proofs.Common.{ap}
 use Rattle.cal_days.specs.Views.{frequency_of}
 use Rattle.cal_rules.specs.Views.{pattern_of}
-use Rattle.cal_rules.specs.Shifting.{days_of_parts, IsLeastCycle, HasNoCycle}
-use Rattle.cal_rules.proofs.PeriodsOf.{found, by_days, by_weeks, by_months, by_years}
+use Rattle.cal_rules.proofs.PeriodsOf.{by_days, by_weeks, by_months, by_years}
 use Rattle.cal_rules.proofs.written.Written.period_days.Goals as goal
 
 pub returns-in-Daily-clause-period : goal.returns-in-Daily-clause-period

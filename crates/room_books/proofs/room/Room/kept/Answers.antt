@@ -1,14 +1,14 @@
 -- What holds of the calendar for the certificate of each book holds for the one that is kept.
-use Rattle.std.proofs.Common.{sym, subst, List, ℕ}
+use Rattle.std.proofs.Common.{subst, List, ℕ}
 use Rattle.std.proofs.Math.Logic.{∥∥₁_map}
 use Rattle.ical_values.specs.Octets.{address_octets}
-use Rattle.profile.specs.checker.Calendars.{CertificateHolds}
+use Rattle.profile.specs.rooms.Kept.{IsKeptCertificate}
 use Rattle.room_books.proofs.room.Room.kept.Goals as goal
 
 pub returns-clause-passes : goal.returns-clause-passes
 returns-clause-passes c = ∥∥₁_map c.args.self.now.reached (λ was.
-    subst (λ (text : List ℕ). CertificateHolds (address_octets c.args.self.now.address) c.in_ok-calendar.calendar.items text)
-    (sym (c.in_ok-certificate.ensures was.book was.represents)) (c.in_ok-calendar.ensures.passes was.book was.reached was.represents))
+    c.in_ok-calendar.ensures.passes was.book was.reached was.represents c.in_ok-certificate.certificate.items
+    (subst (λ (octets : List ℕ). IsKeptCertificate (address_octets c.args.self.now.address) octets c.in_ok-certificate.certificate.items) c.deref.ensures.value c.in_ok-certificate.ensures))
 
 pub returns-clause-spells_each : goal.returns-clause-spells_each
 returns-clause-spells_each c book reached st =
