@@ -8,3 +8,4 @@ pub mod WholeText
 pub mod StopLemmas
 pub mod MakingLemmas
 pub mod ChosenLemmas
+mod Worked

@@ -123,7 +123,7 @@ digits_free (c ∷ ds) h =
     let p = and_parts (is_ascii_digit c) (all_ascii_digits ds) h in
     and_from (not (c == 10)) (lf_free ds) (digit_free c p.0) (digits_free ds p.1)
 
-digits_model : IsNumeralModel (λ ds. all_ascii_digits ds ≡ true) (digits_value 10)
+pub digits_model : IsNumeralModel (λ ds. all_ascii_digits ds ≡ true) (digits_value 10)
 digits_model = numerals_by_value (λ ds. all_ascii_digits ds ≡ true) tells_all_ascii_digits
 
 pub decimal_free : (n : ℕ) → n < 2 ^ 64 → lf_free (decimal n) ≡ true
