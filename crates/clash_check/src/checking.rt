@@ -11,6 +11,7 @@ ghost use Rattle.ical_values.specs.Octets.{address_octets};
 ghost use Rattle.cal_events.specs.Calendar.{instance_of, owned_key_of};
 ghost use Rattle.cal_events.specs.Series.{series_said};
 ghost use Rattle.clash_cert.specs.Makings.{IsClashIn};
+ghost use Rattle.clash_check.specs.declared.verdict.Verdict.{Verdict};
 ghost use Rattle.clash_check.specs.Verdicts.{IsVerdict, MakesFew, IsRefusedCalendar, IsJudgement, HasThatKey, ShareInstant};
 
 use crate::drawing::Drawing;
