@@ -1,20 +1,18 @@
 -- What is to come of the series of a calendar, before and after a draw.
-use Rattle.std.proofs.Common.{◌≡◌, ◌≢◌, ◌∙◌, refl, sym, ap, subst, inl, inr, arith, ℕ, ◌+◌, ◌-◌, ◌<◌, ◌≤◌, List, [], map, length, set, get_or, ℤ, pos, ◌+ℤ◌, ◌≤ℤ◌, ◌<ℤ◌}
-use Rattle.std.specs.Prelude.{Option, Some, None, IfSome, MatchOption, ◌↔◌}
+use Rattle.std.proofs.Common.{◌≡◌, ◌≢◌, ◌∙◌, sym, ap, subst, inl, inr, arith, ℕ, ◌-◌, ◌<◌, List, [], map, length, set, get_or, ℤ, pos, ◌+ℤ◌, ◌≤ℤ◌, ◌<ℤ◌}
+use Rattle.std.specs.Prelude.{Option, Some, None, MatchOption, ◌↔◌}
 use Rattle.std.specs.List.{slice_get}
 use Rattle.std.proofs.lemmas.Bool.{cases_lt}
-use Rattle.std.proofs.lemmas.Int.{ints, by_lt_z}
+use Rattle.std.proofs.lemmas.Int.{ints}
 use Rattle.std.proofs.lemmas.List.{length-map, length-set, get_or-set_same, get_or-set_other}
 use Rattle.std.proofs.lemmas.Option.{same_Some, slice_get-get_or, slice_get_past}
-use Rattle.profile.specs.checker.Instances.{Instance}
 use Rattle.profile.specs.checker.Certificates.{IsSeriesAt}
 use Rattle.profile.specs.events.Events.{Event}
-use Rattle.profile.specs.events.Starts.{IsInstance}
 use Rattle.profile.specs.events.Confirmed.{Confirmed}
 use Rattle.cal_events.specs.Series.{series_said}
 use Rattle.cal_events.specs.declared.series.Series.{Series}
 use Rattle.clash_check.proofs.OpenLemmas.{at_place}
-use Rattle.clash_check.specs.Draws.{IsPlace, IsSpanOf, IsSpanBetween}
+use Rattle.clash_check.specs.Draws.{IsPlace, IsSpanBetween}
 use Rattle.clash_check.specs.Opened.{IsFirstFrom, IsFirstBetween}
 use Rattle.clash_check.specs.Drawings.{IsComing}
 use Rattle.clash_check.specs.declared.drawing.Wanted.{Wanted}
@@ -128,8 +126,7 @@ module _ (all : Confirmed) (ws : List Wanted) (i : ℕ) (series : Event) (part :
       let w : Wanted = record { from = first +ℤ pos 1; bound = part.bound } in
       let now = coming all (set ws (i - 1) w) i series w counted at (same_place ws (i - 1) w within) start end in
       let before = coming all ws i series part counted at wants start end in
-      let from = is.0.1 in
-      (
+      let from = is.0.1 in (
         λ c.
             let k = now.0 c in
             let l = k.1 in

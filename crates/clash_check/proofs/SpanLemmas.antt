@@ -1,14 +1,14 @@
 -- Where a certificate holds, nothing clashes: END settles a pair of series by itself, and a span by what both do in one period.
-use Rattle.std.proofs.Common.{◌≡◌, ◌≢◌, ◌⊎◌, ◌∙◌, refl, sym, ap, subst, inl, inr, arith, ℕ, suc, ◌+◌, ◌-◌, ◌*◌, ◌<◌, ◌≤◌, ℤ, pos, ◌+ℤ◌, ◌-ℤ◌, ◌≤ℤ◌, ◌<ℤ◌, List, [], length}
+use Rattle.std.proofs.Common.{◌≡◌, ◌≢◌, ◌∙◌, refl, sym, ap, subst, inl, inr, arith, ℕ, suc, ◌-◌, ◌*◌, ◌<◌, ◌≤◌, ℤ, pos, ◌+ℤ◌, ◌-ℤ◌, ◌≤ℤ◌, ◌<ℤ◌, List, [], length}
 use Rattle.std.proofs.Math.Logic.{∥∥₁_elim}
 use mathlib.Core.HLevel.{⊥_prop}
-use Rattle.std.specs.Prelude.{Some, Contains, int_lt, if◌then◌else◌}
+use Rattle.std.specs.Prelude.{Some, Contains}
 use Rattle.std.specs.List.{slice_get}
 use Rattle.std.proofs.lemmas.Int.{ints, by_lt_z}
 use Rattle.std.proofs.lemmas.Bool.{cases_lt}
 use Rattle.std.proofs.lemmas.Option.{same_Some, slice_get-get_or, slice_get_within, get_or_from_slice_get}
 use Rattle.profile.specs.checker.Instances.{Key, Instance, horizon, IsWithin, AreClashing, AreClear, IsClear}
-use Rattle.profile.specs.checker.Certificates.{Claims, Entry, End, Span, EntryHolds, IsSeriesAt, CertificateHoldsFor, entry_of}
+use Rattle.profile.specs.checker.Certificates.{Entry, End, Span, EntryHolds, IsSeriesAt, CertificateHoldsFor, entry_of}
 use Rattle.profile.specs.series.Repeating.{LastsAtMost, RepeatsFrom}
 use Rattle.profile.specs.events.EventComponents.{EventComponent}
 use Rattle.profile.specs.events.Events.{Event}

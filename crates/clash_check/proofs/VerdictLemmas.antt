@@ -1,5 +1,5 @@
 -- A verdict is yes exactly where the certificate holds.
-use Rattle.std.proofs.Common.{◌≡◌, ℕ, List, ◌⊎◌, sym, refl, subst, ◌∙◌, inl, inr}
+use Rattle.std.proofs.Common.{◌≡◌, ℕ, List, ◌⊎◌, refl, subst, inl, inr}
 use Rattle.std.specs.Prelude.{◌↔◌, Result, Ok, Err, IfOk}
 use Rattle.profile.specs.events.Confirmed.{Confirmed}
 use Rattle.profile.specs.checker.Certificates.{Claims, IsPair, SpellsCertificate, HasCounts, EntryFails, CertificateHoldsFor, IsWrongText, IsWrongCount, HasFailingEntry, HasClashes, entry_of}

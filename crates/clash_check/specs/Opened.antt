@@ -1,5 +1,5 @@
 -- A series of which the instances from an instant on are looked through.
-use Rattle.std.specs.Prelude.{◌≡◌, ℕ, ℤ, ◌≤ℤ◌, ◌<ℤ◌, Option, Some, MatchOption}
+use Rattle.std.specs.Prelude.{◌≡◌, ℕ, ℤ, ◌≤ℤ◌, Option, Some, MatchOption}
 use Rattle.std.specs.List.{slice_get}
 use Rattle.profile.specs.checker.Instances.{Instance}
 use Rattle.profile.specs.events.Events.{Event}

@@ -1,5 +1,4 @@
-use Rattle.std.proofs.Common.{◌≡◌, subst, rules, sym, to_z, of_z, w64, FitsSigned, to_z-of_z}
-use Rattle.clash_check.specs.declared.drawing.Wanted.{Wanted}
+use Rattle.std.proofs.Common.{◌≡◌, to_z, of_z, w64, to_z-of_z}
 use Rattle.clash_check.proofs.DrawLemmas.{begun, others}
 use Rattle.clash_check.proofs.drawing.DrawingDrawn.begin.Goals as goal
 

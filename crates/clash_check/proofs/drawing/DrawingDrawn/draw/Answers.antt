@@ -1,9 +1,8 @@
-use Rattle.std.proofs.Common.{◌≡◌, ◌∙◌, sym, ap, subst, rules, arith, ◌-◌, ◌<◌, length, ℤ, pos, ◌+ℤ◌, to_z, of_z, w64, FitsSigned, to_z-of_z}
+use Rattle.std.proofs.Common.{◌≡◌, ◌∙◌, ap, rules, arith, ◌-◌, ◌<◌, length, pos, ◌+ℤ◌, to_z, of_z, w64, FitsSigned, to_z-of_z}
 use Rattle.std.specs.Prelude.{Some, None}
 use Rattle.std.specs.List.{slice_get}
 use Rattle.std.proofs.lemmas.Int.{ints}
 use Rattle.profile.specs.events.Confirmed.{Confirmed}
-use Rattle.clash_check.specs.Opened.{IsFirstFrom}
 use Rattle.clash_check.proofs.DrawLemmas.{drawn_first, later, others, series_at, wanted_at}
 use Rattle.clash_check.proofs.drawing.DrawingDrawn.draw.Goals as goal
 

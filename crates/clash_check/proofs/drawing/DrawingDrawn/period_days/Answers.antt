@@ -1,7 +1,7 @@
-use Rattle.std.proofs.Common.{◌≡◌, subst, rules, to_z, of_z, w64, FitsSigned, to_z-of_z}
+use Rattle.std.proofs.Common.{subst}
 use Rattle.std.specs.Option.{MatchOption}
 use Rattle.profile.specs.events.Events.{Event}
-use Rattle.profile.specs.events.Spans.{IsLeastPast, HasNoPeriodOf, IsLeastPeriodOf}
+use Rattle.profile.specs.events.Spans.{HasNoPeriodOf, IsLeastPeriodOf}
 use Rattle.clash_check.proofs.DrawLemmas.{there}
 use Rattle.clash_check.proofs.drawing.DrawingDrawn.period_days.Goals as goal
 

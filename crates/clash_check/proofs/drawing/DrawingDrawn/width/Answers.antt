@@ -1,5 +1,4 @@
 use Rattle.std.proofs.Common.{◌≡◌, subst, rules, to_z, of_z, w64, FitsSigned, to_z-of_z}
-use Rattle.std.specs.Option.{MatchOption}
 use Rattle.profile.specs.events.Events.{Event}
 use Rattle.profile.specs.events.Spans.{IsWidthOf}
 use Rattle.clash_check.proofs.DrawLemmas.{there}

@@ -1,4 +1,4 @@
-use Rattle.std.proofs.Common.{◌≡◌, rules, subst, ℤ, pos, ◌+ℤ◌, to_z, of_z, w64, FitsSigned, to_z-of_z}
+use Rattle.std.proofs.Common.{◌≡◌, rules, pos, ◌+ℤ◌, to_z, of_z, w64, FitsSigned, to_z-of_z}
 use Rattle.std.specs.Prelude.{Some, None}
 use Rattle.std.proofs.lemmas.Int.{ints}
 use Rattle.clash_check.proofs.OpenLemmas.{ready, still_of, first_there, none_first, none_still_before, none_still_left, dated, one_first, later_before, later_left}
