@@ -4,3 +4,9 @@ pub mod SweepLemmas
 pub mod EntryLemmas
 pub mod SingleLemmas
 pub mod JudgingLemmas
+pub mod OpenLemmas
+pub mod DrawLemmas
+pub mod SpanLemmas
+pub mod VerdictLemmas
+pub mod ClashLemmas
+pub mod FreeLemmas

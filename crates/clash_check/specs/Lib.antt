@@ -6,3 +6,5 @@ pub mod Entries
 pub mod Singles
 pub mod Verdicts
 pub mod Judgings
+pub mod Opened
+pub mod Drawings

@@ -2,14 +2,22 @@
 //! makes no certificate of its own.
 #![tactic(auto)]
 
+pub mod checking;
+pub mod drawing;
 pub mod drawn;
 pub mod judging;
+pub mod law;
+mod open_series;
 mod pairs;
 mod singles;
 mod sweep;
+mod two_open;
 pub mod verdict;
 mod walk;
 
+pub use checking::{certificate_means_clear, check, check_clash, judge_read};
+pub use drawing::Drawing;
 pub use drawn::Drawn;
 pub use judging::judge;
+pub use law::yes_means_free;
 pub use verdict::{Checked, Verdict, Why};
