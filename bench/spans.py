@@ -96,10 +96,10 @@ def pair_alone(worked, requests, program):
     return (least(lambda: asked(times + 1)) - least(lambda: asked(1))) / times / 2
 
 
-def weekly(count):
-    """So many weekly series of an hour each, none beside another."""
+def weekly(count, zone=""):
+    """So many weekly series of an hour each, none beside another, in UTC or in New York."""
     days = [f"202501{6 + number % 7:02}T{number // 7 + 5:02}0000Z" for number in range(count)]
-    return [recurring(number, start, "FREQ=WEEKLY") for number, start in enumerate(days)]
+    return [recurring(number, start, "FREQ=WEEKLY", zone=zone) for number, start in enumerate(days)]
 
 
 def spans(program, worked):
@@ -116,8 +116,8 @@ def spans(program, worked):
     for work, bar, requests in (("two weekly series in two zones decided", 20, two_zones), ("two daily series in New York decided", 120, daily), ("two yearly series of INTERVAL 3 and 5 decided", 50, yearly)):
         row(work, decided(program, requests), bar, by_both(program, requests)[1])
     row("the pair of the daily ones alone", pair_alone(worked, daily, program), 60, by_both(program, daily)[1])
-    settled, to_the_horizon = by_both(program, weekly(8))
-    row("8 weekly series checked, at least 8 times", settled, "", to_the_horizon)
+    settled, to_the_horizon = by_both(program, weekly(8, NEW_YORK))
+    row("8 weekly series in New York checked, 8 times", settled, "", to_the_horizon)
     series = weekly(64)
     written = least(lambda: kept(program, series, "--certificate")[0]) - least(lambda: serve(program, [preamble(1), *series], 64)[0])
     row("the certificate of 64 series written", max(written, 1e-4), 50, by_both(program, weekly(8))[1])
