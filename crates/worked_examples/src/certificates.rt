@@ -1,6 +1,8 @@
 //! Cases of the texts of certificates: `certificate | TEXT` reads one, `certificate-of | TEXT` reads one and writes it, after an octet that is
 //! there already.
 
+ghost use Rattle.std.specs.Prelude.{◌<◌};
+
 use clash_cert::{CertFault, Certificate, Entry};
 use clash_check::{Checked, Verdict};
 use example_cases::answers::append;
@@ -46,7 +48,9 @@ fn add_entries(
     certificate: &Certificate,
     i: u64,
     list: &mut String,
-) -> Result<(), NoAnswer> {
+) -> Result<(), NoAnswer>
+    requires { 0 < i }
+{
     for j in i - 1..certificate.series() {
         let item = entry_text(alloc, certificate.entry(i, j + 1))?;
         append(list, ", ", item.as_str())?;
