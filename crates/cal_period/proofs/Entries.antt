@@ -21,7 +21,7 @@ use Rattle.cal_events.proofs.shared_lemmas.InstanceLemmas as instances
 use Rattle.cal_events.proofs.shared_lemmas.OwnSingles.{at_start}
 use Rattle.cal_events.proofs.shared_lemmas.SeriesLemmas.{alone_said}
 use Rattle.cal_period.specs.Walks.{AreAllLeft, AreLeftFrom}
-use Rattle.cal_period.specs.Onward.{IsFirstStart, MeetFrom, IsEntry}
+use Rattle.cal_period.specs.Onward.{IsFirstStart, HasBegun, MeetFrom, IsEntry}
 use Rattle.cal_period.proofs.Going.{at_first, not_less}
 
 -- ---- how long instances last
@@ -59,6 +59,11 @@ saturated : (z : ℤ) → (saturate_signed w64 z ≤ℤ z) ⊎ (saturate_signed 
 saturated (pos n) = inl (omega (arith, ints))
 saturated (negsuc n) = elim (cases_lt n 9_223_372_036_854_775_808) [ inl below ↦ inl (omega (arith, ints, below)) | inr from ↦ inr (omega (arith, ints, from)) ]
 
+-- it isn't less, where it isn't more than 64 bits hold
+pub not_less_saturated : (z : ℤ) → z ≤ℤ pos 9_223_372_036_854_775_807 → z ≤ℤ saturate_signed w64 z
+not_less_saturated (pos n) h = omega (arith, ints, h)
+not_less_saturated (negsuc n) h = elim (cases_lt n 9_223_372_036_854_775_808) [ inl below ↦ omega (arith, ints, below) | inr from ↦ omega (arith, ints, from) ]
+
 pub entry_is : (series : SaidEvent) (by n entry : ℤ) → AreKnownByStart series → negsuc 9_223_372_036_854_775_807 ≤ℤ by → pos 0 ≤ℤ n → ((b : SaidInstance) → IsInstance series b → b.end ≤ℤ (b.start +ℤ n))
     → entry ≡ saturate_signed w64 (by -ℤ n) → IsEntry series by entry
 entry_is series by n entry known fits length last is =
@@ -83,8 +88,11 @@ none_at series old new known all given b is = given.1.0 b ((all b).1 is)
 begins_early : (series : SaidEvent) (t : ℤ) → AreKnownByStart series → IsFirstStart series (Some t) → t <ℤ horizon
 begins_early series t known (none, (b, is, at)) = let d = (known.dates b is).1 in omega (arith, ints, d, at)
 
+begun : (series : SaidEvent) (s m : ℤ) → IsFirstStart series (Some s) → s ≤ℤ m → HasBegun series m
+begun series s m (none, (b, is, at)) l = (b, is, omega (arith, ints, at, l))
+
 pub later_start : (a b : SaidEvent) (s t m : ℤ) → AreKnownByStart a → AreKnownByStart b → IsFirstStart a (Some s) → IsFirstStart b (Some t) → m ≡ int_max s t → MeetFrom a b m
 later_start a b s t m known_a known_b f g is =
     by_lt_z t s
-    (λ l. let e : m ≡ s = grind (arith, ints, is, l) in let d = begins_early a s known_a f in record { before = omega (arith, ints, e, d); begins = inl (λ x h. let n = f.0 x h in omega (arith, ints, e, n)) })
-    (λ l. let e : m ≡ t = grind (arith, ints, is, l) in let d = begins_early b t known_b g in record { before = omega (arith, ints, e, d); begins = inr (λ x h. let n = g.0 x h in omega (arith, ints, e, n)) })
+    (λ l. let e : m ≡ s = grind (arith, ints, is, l) in let d = begins_early a s known_a f in record { before = omega (arith, ints, e, d); first = begun a s m f (omega (arith, ints, e)); second = begun b t m g (omega (arith, ints, e, l)); begins = inl (λ x h. let n = f.0 x h in omega (arith, ints, e, n)) })
+    (λ l. let e : m ≡ t = grind (arith, ints, is, l) in let d = begins_early b t known_b g in record { before = omega (arith, ints, e, d); first = begun a s m f (omega (arith, ints, e, l)); second = begun b t m g (omega (arith, ints, e)); begins = inr (λ x h. let n = g.0 x h in omega (arith, ints, e, n)) })

@@ -19,7 +19,7 @@ use Rattle.cal_period.proofs.Sweeping.{Share, turned, next_is, all_behind}
 -- ---- where they first can meet
 
 pub from_turned : (a b : Event) (by : ℤ) → MeetFrom a b by → MeetFrom b a by
-from_turned a b by from = record { before = from.before; begins = elim from.begins [ inl x ↦ inr x | inr y ↦ inl y ] }
+from_turned a b by from = record { before = from.before; first = from.second; second = from.first; begins = elim from.begins [ inl x ↦ inr x | inr y ↦ inl y ] }
 
 -- what two share is then or later
 shared_late : (a b : Event) (by : ℤ) → MeetFrom a b by → (x y : SaidInstance) → IsInstance a x → IsInstance b y → (s : Share x y) → by ≤ℤ s.instant

@@ -36,9 +36,15 @@ abbrev pub IsFirstStart : Event → Option ℤ → Type 0
 IsFirstStart series first =
     MatchOption first ((b : SaidInstance) → IsInstance series b → ⊥) (λ t. AreNoneBefore series t × ((b : SaidInstance) × IsInstance series b × (b.start ≡ t)))
 
--- two series first meet then or later: one of them begins then
+-- an instance of a series starts up to an instant
+abbrev pub HasBegun : Event → ℤ → Type 0
+HasBegun series instant = (b : SaidInstance) × IsInstance series b × (b.start ≤ℤ instant)
+
+-- two series first meet then or later: both have begun by then, and one of them begins then
 pub record MeetFrom (a b : Event) (instant : ℤ) : Type 0 where
   pub before : instant <ℤ horizon
+  pub first : HasBegun a instant
+  pub second : HasBegun b instant
   pub begins : AreNoneBefore a instant ⊎ AreNoneBefore b instant
 
 -- what starts before the entry is over by an instant

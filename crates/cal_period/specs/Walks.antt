@@ -63,6 +63,10 @@ MeetsNone last other = IfSome last (λ l. (other.end ≤ℤ other.start) ⊎ (l.
 abbrev pub MeetsInstance : Option Instance → Instance → Instance → Type 0
 MeetsInstance last other l = (last ≡ Some l) × (other.start <ℤ other.end) × (other.start <ℤ l.end)
 
+-- there is one, and it isn't over by an instant
+abbrev pub IsGoingOn : Option Instance → ℤ → Type 0
+IsGoingOn last instant = (l : Instance) × (last ≡ Some l) × (instant <ℤ l.end)
+
 -- the later end
 pub record EndsLater (old : Option Instance) (next later : Instance) : Type 0 where
   pub one : (old ≡ Some later) ⊎ (later ≡ next)

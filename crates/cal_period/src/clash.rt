@@ -1,5 +1,7 @@
 //! A search for a clash of two series. It goes past the starts of both from where the later of them begins, less a width, to the end of one common
 //! period and a width after it, or of the one that ends first. No memory is taken.
+ghost use Rattle.std.specs.Prelude.{ℤ, ◌+ℤ◌, ◌≤ℤ◌};
+ghost use Rattle.profile.specs.events.Spans.{IsWidthOf};
 ghost use Rattle.cal_events.specs.Series.{series_said};
 ghost use Rattle.cal_period.specs.Onward.{IsSharedByPair, IsSharedBelow, IsFirstStart, MeetFrom, IsEntry};
 
@@ -64,9 +66,10 @@ fn clash_onward<'a>(
     }
 }
 
-/// Where to enter a series: what starts earlier is over by an instant.
+/// Where to enter a series: what starts earlier is over by an instant. It is no more than a width before that.
 fn entry(series: &Series, by: i64) -> i64
-    ensures { IsEntry (series_said series.now) by result }
+    ensures over { IsEntry (series_said series.now) by result }
+    ensures near { (width : ℤ) × IsWidthOf (series_said series.now) width × (by ≤ℤ (result +ℤ width)) }
 {
     known_by_start();
     by.saturating_sub(series.width())

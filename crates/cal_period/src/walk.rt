@@ -1,10 +1,10 @@
 //! A walk through the instances of a series, by start. Of those behind it remembers the one that ends last.
-ghost use Rattle.std.specs.Prelude.{◌≡◌, ◌≤ℤ◌, ◌<ℤ◌, false, ℤ, Option, Some, IfSome, IfNone};
+ghost use Rattle.std.specs.Prelude.{◌≡◌, ◌≤ℤ◌, ◌<ℤ◌, true, false, ℤ, Option, Some, IfSome, IfNone};
 ghost use Rattle.profile.specs.events.Events.{Event};
 ghost use Rattle.cal_events.specs.Left.{GivesFirst};
 ghost use Rattle.cal_events.specs.Series.{AreKnownByStart};
 ghost use Rattle.cal_events.specs.declared.instances.Instances.{Instances};
-ghost use Rattle.cal_period.specs.Walks.{IsNoneBelow, AreAllLeft, AreLeftFrom, BeginsWalk, EntersWalk, IsWalkOf, Tail, GoesPast, GoesOn, MeetsNone, MeetsInstance, EndsLater};
+ghost use Rattle.cal_period.specs.Walks.{IsNoneBelow, AreAllLeft, AreLeftFrom, BeginsWalk, EntersWalk, IsWalkOf, Tail, GoesPast, GoesOn, MeetsNone, MeetsInstance, IsGoingOn, EndsLater};
 
 use cal_events::Instance;
 
@@ -57,7 +57,8 @@ impl<'a> Walk<'a> {
 
     /// Whether an instance behind it is still going on at an instant.
     pub(crate) fn reaches(&self, instant: i64) -> bool
-        ensures { result ≡ false → IfSome self.now.last (λ l. l.end ≤ℤ instant) }
+        ensures on { result ≡ true → IsGoingOn self.now.last instant }
+        ensures over { result ≡ false → IfSome self.now.last (λ l. l.end ≤ℤ instant) }
     {
         match self.last {
             Some(last) => instant < last.end,

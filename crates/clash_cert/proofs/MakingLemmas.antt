@@ -23,7 +23,7 @@ use Rattle.cal_events.specs.declared.instance.Instance.{Instance}
 use Rattle.cal_events.specs.declared.instance.OwnedKey.{OwnedKey}
 use Rattle.cal_events.proofs.draft_lemmas.KeyLemmas.{key_total, key_exact}
 use Rattle.clash_cert.specs.declared.making.Clash.{Clash}
-use Rattle.clash_cert.specs.Makings.{HasKeys, IsNamedClash, IsNamedAs, AreNamed, IsLaterStart}
+use Rattle.clash_cert.specs.Makings.{HasKeys, IsNamedClash, IsNamedAs, AreNamed, IsLaterStart, NamesOf}
 use Rattle.ical_values.proofs.Facts.{is_lt_true}
 
 booked_total : IsTotalOrder instance_cmp
@@ -115,6 +115,15 @@ pub named_by : (all : Confirmed) (a b x y : SaidInstance) (clash : Clash) → x 
     → IsNamedAs x y clash → IsNamedClash all clash
 named_by all a b x y clash ea eb in_a in_b differ s n =
     named_clash all a b clash in_a in_b differ s (subst (λ v. IsNamedAs a v clash) eb (subst (λ u. IsNamedAs u y clash) ea n))
+
+-- so named, they are of their kinds
+pub names_of : (These Those : SaidInstance → Type 0) (a b x y : SaidInstance) (clash : Clash) → x ≡ a → y ≡ b → These a → Those b → IsNamedAs x y clash → NamesOf These Those clash
+names_of These Those a b x y clash ea eb in_a in_b n =
+    keyed (is_lt (instance_cmp b a)) (subst (λ v. IsNamedAs a v clash) eb (subst (λ u. IsNamedAs u y clash) ea n)).0
+  where
+    keyed : (r : Bool) → MatchBool r (HasKeys b a clash.instant clash) (HasKeys a b clash.instant clash) → NamesOf These Those clash
+    keyed true keys = record { a = b; b = a; keys = keys; of = inr (in_b, in_a) }
+    keyed false keys = record { a = a; b = b; keys = keys; of = inl (in_a, in_b) }
 
 -- the lesser is named first
 pub named_first : (a b : SaidInstance) (t : ℤ) (clash : Clash) (r : Bool) → is_lt (instance_cmp b a) ≡ r → MatchBool r (HasKeys b a t clash) (HasKeys a b t clash) → AreNamed a b t clash

@@ -1,10 +1,10 @@
 -- What making gives, and which clash a `Clash` names.
-use Rattle.std.specs.Prelude.{ℕ, ℤ, List, MatchBool, ◌≡◌, ◌⊎◌, ◌≤ℤ◌}
+use Rattle.std.specs.Prelude.{ℕ, ℤ, List, Contains, MatchBool, ◌≡◌, ◌⊎◌, ◌≤ℤ◌}
 use Rattle.std.specs.Ordering.{is_lt}
 use Rattle.std.specs.declared.cmp.Ordering.TheVariants.{Less}
-use Rattle.profile.specs.checker.Instances.{Instance, AreClashing, instance_cmp}
+use Rattle.profile.specs.checker.Instances.{Instance, IsClear, AreClear, AreClashing, instance_cmp}
 use Rattle.profile.specs.checker.Certificates.{SpellsCertificate, CertificateHoldsFor, IsCertificateMade}
-use Rattle.profile.specs.events.Confirmed.{Confirmed, IsOneOf}
+use Rattle.profile.specs.events.Confirmed.{Confirmed, IsInSeries, IsOneOf}
 use Rattle.cal_events.specs.Calendar.{owned_key_of}
 use Rattle.clash_cert.specs.declared.making.Clash.{Clash}
 use Rattle.clash_cert.specs.declared.making.Made.{Made}
@@ -36,6 +36,20 @@ pub record IsNamedClash (all : Confirmed) (clash : Clash) : Type 0 where
   pub less : instance_cmp a b ≡ Less
   pub later : clash.instant ≡ b.start
 
+-- it has the keys of one instance of these and one of those, in any order
+pub record NamesOf (These Those : Instance → Type 0) (clash : Clash) : Type 0 where
+  pub a : Instance
+  pub b : Instance
+  pub keys : HasKeys a b clash.instant clash
+  pub of : (These a × Those b) ⊎ (Those a × These b)
+
+-- it names two singles; or a single and an instance of a series, and no two singles clash; or two instances of series, and no single clashes
+abbrev pub IsFirstClash : Confirmed → Clash → Type 0
+IsFirstClash all clash =
+    NamesOf (Contains all.singles) (Contains all.singles) clash
+    ⊎ (IsClear (Contains all.singles) × NamesOf (Contains all.singles) (IsInSeries all.series) clash)
+    ⊎ (AreClear (Contains all.singles) (IsOneOf all) × NamesOf (IsInSeries all.series) (IsInSeries all.series) clash)
+
 -- each text of the certificate is one for what is confirmed; else a clash of two
 abbrev pub IsMadeFor : Confirmed → Made → Type 0
 IsMadeFor all (made.Clear c) = (text : List ℕ) → SpellsCertificate text c → CertificateHoldsFor all text
@@ -45,6 +59,11 @@ IsMadeFor all (made.Clash clash) = IsNamedClash all clash
 abbrev pub IsCertificate : Made → Type 0
 IsCertificate (made.Clear c) = Unit {0}
 IsCertificate (made.Clash clash) = ⊥
+
+-- of the clashes there are it is of the first kind
+abbrev pub IsFirstMade : Confirmed → Made → Type 0
+IsFirstMade all (made.Clear c) = Unit {0}
+IsFirstMade all (made.Clash clash) = IsFirstClash all clash
 
 -- of all certificates it is the one that is made for what is confirmed
 abbrev pub IsChosenFor : Confirmed → Made → Type 0

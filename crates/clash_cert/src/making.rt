@@ -1,13 +1,13 @@
 //! Making: a certificate where what is confirmed is clear, else a clash.
-ghost use Rattle.std.specs.Prelude.{◌≡◌, ◌↔◌, IfOk, IfSome, IfNone};
+ghost use Rattle.std.specs.Prelude.{◌≡◌, ◌↔◌, Contains, IfOk, IfSome, IfNone};
 ghost use Rattle.std.specs.Ordering.{is_lt};
 ghost use Rattle.profile.specs.checker.Instances.{AreClear, instance_cmp};
-ghost use Rattle.profile.specs.events.Confirmed.{IsOneOf};
+ghost use Rattle.profile.specs.events.Confirmed.{IsInSeries, IsOneOf};
 ghost use Rattle.cal_events.specs.Calendar.{instance_of, owned_key_of};
 ghost use Rattle.cal_events.specs.Clashes.{Names};
 ghost use Rattle.cal_period.specs.Besides.{IsBeside};
 ghost use Rattle.cal_period.specs.Every.{IsFound};
-ghost use Rattle.clash_cert.specs.Makings.{IsCertificate, IsChosenFor, IsMadeFor, IsNamedClash, IsNamedAs, IsLaterStart};
+ghost use Rattle.clash_cert.specs.Makings.{IsCertificate, IsChosenFor, IsFirstClash, IsFirstMade, IsMadeFor, IsNamedClash, IsNamedAs, IsLaterStart, NamesOf};
 
 use crate::certificate::Certificate;
 use crate::choosing::certificate_of;
@@ -39,6 +39,7 @@ pub fn make(alloc: Global, calendar: &Calendar) -> Result<Made, AllocError>
     ensures made { IfOk result (IsMadeFor calendar.now) }
     ensures clear { IfOk result (λ made. IsCertificate made ↔ AreClear (IsOneOf calendar.now) (IsOneOf calendar.now)) }
     ensures chosen { IfOk result (IsChosenFor calendar.now) }
+    ensures first { IfOk result (IsFirstMade calendar.now) }
 {
     if let Some(clash) = clash_in(alloc, calendar)? {
         return Ok(Made::Clash(clash));
@@ -50,6 +51,7 @@ pub fn make(alloc: Global, calendar: &Calendar) -> Result<Made, AllocError>
 /// Two confirmed instances that share an instant, None where all are clear. Fails only when out of memory.
 fn clash_in(alloc: Global, calendar: &Calendar) -> Result<Option<Clash>, AllocError>
     ensures clash { IfOk result (λ found. IfSome found (IsNamedClash calendar.now)) }
+    ensures first { IfOk result (λ found. IfSome found (IsFirstClash calendar.now)) }
     ensures clear { IfOk result (λ found. IfNone found (AreClear (IsOneOf calendar.now) (IsOneOf calendar.now))) }
 {
     if let Some(overlap) = calendar.first_overlap(alloc)? {
@@ -67,7 +69,8 @@ fn clash_in(alloc: Global, calendar: &Calendar) -> Result<Option<Clash>, AllocEr
 /// The clash of two singles.
 fn of_singles(calendar: &Calendar, overlap: Overlap) -> Result<Clash, AllocError>
     requires { Names calendar.now.singles overlap }
-    ensures { IfOk result (IsNamedClash calendar.now) }
+    ensures clash { IfOk result (IsNamedClash calendar.now) }
+    ensures of { IfOk result (NamesOf (Contains calendar.now.singles) (Contains calendar.now.singles)) }
 {
     let a = calendar.single(overlap.first).unwrap();
     let b = calendar.single(overlap.second).unwrap();
@@ -83,7 +86,8 @@ fn of_single_and_series(
     beside: Beside<'_>,
 ) -> Result<Clash, AllocError>
     requires { IsBeside calendar.now beside }
-    ensures { IfOk result (IsNamedClash calendar.now) }
+    ensures clash { IfOk result (IsNamedClash calendar.now) }
+    ensures of { IfOk result (NamesOf (Contains calendar.now.singles) (IsInSeries calendar.now.series)) }
 {
     let single = calendar.single(beside.single).unwrap();
     let of_single = calendar.key(beside.single)?.unwrap();
@@ -95,7 +99,8 @@ fn of_single_and_series(
 /// The clash of two instances of series.
 fn of_series(alloc: Global, calendar: &Calendar, shared: Shared<'_>) -> Result<Clash, AllocError>
     requires { IsFound calendar.now.series shared }
-    ensures { IfOk result (IsNamedClash calendar.now) }
+    ensures clash { IfOk result (IsNamedClash calendar.now) }
+    ensures of { IfOk result (NamesOf (IsInSeries calendar.now.series) (IsInSeries calendar.now.series)) }
 {
     let series = calendar.series();
     let of_first = series[shared.i].key(alloc, shared.first.start)?;

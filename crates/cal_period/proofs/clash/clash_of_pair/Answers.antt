@@ -35,4 +35,4 @@ returns c =
     let bound = c.settled_by.result in
     let fits : FitsSigned w64 bound = search rules in
     let cast : to_z w64 (of_z w64 bound) ≡ bound = to_z-of_z fits in
-    pair_settled a b bound c.clash_onward.result c.settled_by.ensures.pair (rw cast at c.clash_onward.ensures)
+    pair_settled a b bound c.clash_onward.result c.settled_by.ensures.settles.pair (rw cast at c.clash_onward.ensures)

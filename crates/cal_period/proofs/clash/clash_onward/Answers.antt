@@ -22,8 +22,8 @@ loop-next-init c =
     let cast_m : to_z w64 (of_z w64 m) ≡ m = to_z-of_z fits_m in
     let fits_n : FitsSigned w64 n = search rules in
     let cast_n : to_z w64 (of_z w64 n) ≡ n = to_z-of_z fits_n in
-    let in_a = rw cast at c.entry.ensures in
-    let in_b = rw cast at c.entry-2.ensures in
+    let in_a = rw cast at c.entry.ensures.over in
+    let in_b = rw cast at c.entry-2.ensures.over in
     let left_a = entered a by m c.starts-of_a.result c.requires.before in_a (rw cast_m at c.starts-of_a.ensures.left) in
     let left_b = entered b by n c.starts-of_b.result c.requires.before in_b (rw cast_n at c.starts-of_b.ensures.left) in
     rw cast
