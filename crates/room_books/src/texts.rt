@@ -56,10 +56,7 @@ pub(crate) fn calendar_of(
 }
 
 /// The octets of the certificate that is made for a calendar, which is clear.
-pub(crate) fn certificate_octets(
-    alloc: Global,
-    calendar: &Calendar,
-) -> Result<Vec<u8>, AllocError>
+pub(crate) fn certificate_octets(alloc: Global, calendar: &Calendar) -> Result<Vec<u8>, AllocError>
     ensures { IfOk result (λ octets. (c : Claims) × IsCertificateMade calendar.now c × SpellsCertificate octets.items c) }
 {
     let certificate = certificate_of(alloc, calendar)?;

@@ -12,5 +12,5 @@ unreachable-requires c =
     let octets = c.args.calendar.now in
     let fault = subst (RefusesBy (CalendarTextFault octets)) c.in-Err-Refused.field-0-is c.in-Err-Refused.ensures.fault in
     ∥∥₁_elim c.args.self.now.reached (λ x y. absurd x) (λ was.
-        let s = c.kept_texts_spell.ensures room was.reached.deliveries was.book octets was.reached.delivered was.reached.runs (c.requires.kept was.book was.represents) in
-        c.one_calendar_text.ensures.or_a_fault room octets s.0 c.in-Err-Refused.field-0-0.number s.1 fault)
+    let s = c.kept_texts_spell.ensures room was.reached.deliveries was.book octets was.reached.delivered was.reached.runs (c.requires.kept was.book was.represents) in
+    c.one_calendar_text.ensures.or_a_fault room octets s.0 c.in-Err-Refused.field-0-0.number s.1 fault)
