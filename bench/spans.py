@@ -88,7 +88,7 @@ def pair_alone(worked, requests, program):
             for name in ("messages.txt", "commands.txt", "events.txt", "calendars.txt", "organisers.txt"):
                 with open(os.path.join(folder, name), "w", encoding="utf-8") as file:
                     file.write(case if name == "messages.txt" else "")
-            seconds, _, status, output = run([worked], subprocess.DEVNULL, folder)
+            seconds, _, status, output = run([os.path.abspath(worked)], subprocess.DEVNULL, folder)
         if status != 0 or output.count(b"clear, clear") != count:
             sys.exit(f"clashes: status {status}, {output!r}")
         return seconds
@@ -104,11 +104,11 @@ def weekly(count, zone=""):
 
 def spans(program, worked):
     share = LISTED / in_new_york(program, LISTED)[0] / FAST
-    print(f"{'by one common period':<46}{'ms':>8}{'of a fast machine':>19}{'bar':>6}{'up to 10000, ms':>17}{'times':>7}")
+    print(f"{'by one common period':<46}{'ms':>8}{'of a fast machine':>19}{'bar':>6}{'up to 10000, ms':>17}{'times':>9}")
 
     def row(work, seconds, bar, to_the_horizon):
         fast = seconds * share * 1000
-        print(f"{work:<46}{seconds * 1000:>8.1f}{fast:>19.1f}{bar:>6}{to_the_horizon * 1000:>17.0f}{to_the_horizon / seconds:>7.1f}")
+        print(f"{work:<46}{seconds * 1000:>8.1f}{fast:>19.1f}{bar:>6}{to_the_horizon * 1000:>17.0f}{to_the_horizon / seconds:>9.1f}")
 
     two_zones = [recurring(0, "20250106T100000Z", "FREQ=WEEKLY", zone=NEW_YORK), in_paris(1, "20250106T173000Z", "FREQ=WEEKLY")]
     daily = [recurring(number, f"20250106T{9 + number:02}0000Z", "FREQ=DAILY", zone=NEW_YORK) for number in range(2)]
