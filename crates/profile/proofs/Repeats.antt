@@ -3,7 +3,6 @@
 use Rattle.std.proofs.Common.{◌≡◌, ◌≢◌, refl, subst, ap, arith, ℕ, zero, suc, ◌+◌, ◌-◌, ◌*◌, ℤ, pos, negsuc, ◌+ℤ◌, ◌-ℤ◌, ◌≤ℤ◌, ◌<ℤ◌}
 use Rattle.std.proofs.lemmas.Int.{ints, by_lt_z}
 use Rattle.profile.specs.checker.Instances.{IsWithin}
-use Rattle.std.specs.Prelude.{List, Contains}
 use Rattle.std.proofs.Common.{◌⊎◌, inl, inr, ◌<◌, ◌≤◌}
 use Rattle.std.proofs.lemmas.Bool.{cases_lt}
 use Rattle.profile.specs.series.Repeating.{LastsAtMost, RepeatsFrom, AreApartBelow, IsApartBelow, IsCongruent, StartsAt, ArcsMeet}
@@ -112,10 +111,10 @@ arcs_meet m r s w v a b c d t p q short brief x y =
       same = (l + o, n + k, int_eq_by (omega (arith, ints, e, f, first, second)) (omega (arith, ints, e, f, first, second)));
     }
 
-pub residues_apart : (These Those : ℤ → ℤ → Type 0) (m : ℕ) (w v : ℤ) (first second : List ℕ) → StartsAt These m first → StartsAt Those m second
-    → LastsAtMost These w → LastsAtMost Those v → ((r s : ℕ) → Contains first r → Contains second s → ArcsMeet m r w s v → ⊥)
+pub residues_apart : (These Those : ℤ → ℤ → Type 0) (m : ℕ) (w v : ℤ) (First Second : ℕ → Type 0) → StartsAt These m First → StartsAt Those m Second
+    → LastsAtMost These w → LastsAtMost Those v → ((r s : ℕ) → First r → Second s → ArcsMeet m r w s v → ⊥)
     → (a b c d t : ℤ) → These a b → Those c d → IsWithin a b t → IsWithin c d t → ⊥
-residues_apart These Those m w v first second starts begins short brief clear a b c d t these those x y =
+residues_apart These Those m w v First Second starts begins short brief clear a b c d t these those x y =
     let p = starts a b these in
     let q = begins c d those in
     clear p.0 q.0 p.1 q.1 (arcs_meet m p.0 q.0 w v a b c d t p.2 q.2 (short a b these) (brief c d those) x y)
@@ -167,13 +166,13 @@ one_residue m r w a b c d t narrow p q differ short brief x y = by (cases_lt (p.
             let second = q.2 in
             differ (int_eq_by (omega (arith, ints, g, e, f, first, second)) (omega (arith, ints, g, e, f, first, second)))
 
-pub residues_alone : (These : ℤ → ℤ → Type 0) (m : ℕ) (w : ℤ) (all : List ℕ) → w ≤ℤ pos m → StartsAt These m all → LastsAtMost These w
-    → ((r s : ℕ) → Contains all r → Contains all s → r ≢ s → ArcsMeet m r w s w → ⊥)
+pub residues_alone : (These : ℤ → ℤ → Type 0) (m : ℕ) (w : ℤ) (All : ℕ → Type 0) → w ≤ℤ pos m → StartsAt These m All → LastsAtMost These w
+    → ((r s : ℕ) → All r → All s → r ≢ s → ArcsMeet m r w s w → ⊥)
     → (a b c d t : ℤ) → These a b → These c d → a ≢ c → IsWithin a b t → IsWithin c d t → ⊥
-residues_alone These m w all narrow starts short clear a b c d t these those differ x y =
+residues_alone These m w All narrow starts short clear a b c d t these those differ x y =
     by (starts a b these) (starts c d those)
   where
-    by : (r : ℕ) × Contains all r × IsCongruent m a (pos r) → (s : ℕ) × Contains all s × IsCongruent m c (pos s) → ⊥
+    by : (r : ℕ) × All r × IsCongruent m a (pos r) → (s : ℕ) × All s × IsCongruent m c (pos s) → ⊥
     by p q = which (cases_lt p.0 q.0)
       where
         apart : (p.0 ≢ q.0) → ⊥

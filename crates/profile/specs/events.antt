@@ -9,3 +9,4 @@ pub mod Starts
 pub mod Confirmed
 pub mod Expanding
 pub mod Spans
+pub mod Residues

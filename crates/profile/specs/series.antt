@@ -6,3 +6,4 @@ pub mod Periods
 pub mod RuleTexts
 pub mod Zones
 pub mod ZoneTexts
+pub mod Residues

@@ -1,5 +1,5 @@
 -- The text of a certificate, and when it holds. The format is this profile's own.
-use Rattle.std.specs.Prelude.{ℕ, zero, suc, List, [], ◌∷◌, ◌++◌, ◌-◌, ◌*◌, ◌^◌, ◌<◌, ◌≤◌, ◌≡◌, ◌⊎◌, ℤ, pos, ◌≤ℤ◌, ◌<ℤ◌, All, Contains, Some, length, take, codes, decimal}
+use Rattle.std.specs.Prelude.{ℕ, zero, suc, List, [], ◌∷◌, ◌++◌, ◌-◌, ◌*◌, ◌^◌, ◌<◌, ◌≤◌, ◌≡◌, ◌⊎◌, ◌==◌, Bool, ℤ, pos, ◌≤ℤ◌, ◌<ℤ◌, All, Contains, Some, length, take, codes, decimal}
 use Rattle.std.specs.List.{slice_get, slice_index_or}
 use Rattle.profile.specs.checker.Instances.{HasClash, AreClear, horizon}
 use Rattle.profile.specs.text.Values.{WritesStamp, IsClockSeconds}
@@ -7,14 +7,16 @@ use Rattle.profile.specs.events.Events.{Event}
 use Rattle.profile.specs.events.Starts.{IsInstance}
 use Rattle.profile.specs.events.Confirmed.{Confirmed, IsOneOf}
 use Rattle.profile.specs.events.Spans.{IsBoundOf, IsPastAll, IsPeriodOf, IsSpan, SpanHolds, SpanFails}
+use Rattle.profile.specs.events.Residues.{IsLeastStride, ResiduesHold}
 
 -- ---- what a certificate says
 
 -- what it says of two series, or of one by itself: that no two of their instances clash up to the horizon; or up to the end of one period of so
--- many days from an instant on and the greater width after it
+-- many days from an instant on and the greater width after it; or that no arcs of their residues modulo so many seconds meet
 pub data Entry : Type 0 where
   End : Entry
   Span : ℤ → ℕ → Entry
+  Res : ℕ → Entry
 
 -- how many singles and how many series its calendar has, and an entry for each pair of series: in a row for each series, of it with itself and
 -- with those after it
@@ -27,6 +29,7 @@ pub record Claims : Type 0 where
 abbrev pub IsEntry : Entry → Type 0
 IsEntry End = Unit {0}
 IsEntry (Span from days) = IsClockSeconds from × (days < 2 ^ 64)
+IsEntry (Res m) = m < 2 ^ 64
 
 -- rows of so many entries, of one less, and so on down to one
 abbrev pub AreRows : ℕ → List (List Entry) → Type 0
@@ -53,6 +56,7 @@ entry_of c i j = slice_index_or (slice_index_or c.rows (i - 1) []) (j - i) End
 abbrev pub IsEntryText : Entry → List ℕ → Type 0
 IsEntryText End text = text ≡ codes "END"
 IsEntryText (Span from days) text = (stamp : List ℕ) × WritesStamp stamp from × (text ≡ codes "SPAN " ++ (stamp ++ (codes " " ++ decimal days)))
+IsEntryText (Res m) text = text ≡ codes "RES " ++ decimal m
 
 -- the line of a pair that has this entry
 abbrev pub IsPairLine : ℕ → ℕ → Entry → List ℕ → Type 0
@@ -121,11 +125,13 @@ IsSeriesAt confirmed place series = slice_get confirmed.series (place - 1) ≡ S
 abbrev pub EntryHolds : Confirmed → ℕ → ℕ → Entry → Type 0
 EntryHolds confirmed i j End = (a b : Event) → IsSeriesAt confirmed i a → IsSeriesAt confirmed j b → AreClear (IsInstance a) (IsInstance b)
 EntryHolds confirmed i j (Span from days) = (a b : Event) → IsSeriesAt confirmed i a → IsSeriesAt confirmed j b → SpanHolds a b from days
+EntryHolds confirmed i j (Res m) = (a b : Event) → IsSeriesAt confirmed i a → IsSeriesAt confirmed j b → ResiduesHold (i == j) a b m
 
--- it doesn't: there are two that clash, or it is no span of them
+-- it doesn't: there are two that clash, or it is no span of them, or arcs of their residues meet or m is out of its range
 abbrev pub EntryFails : Confirmed → ℕ → ℕ → Entry → Type 0
 EntryFails confirmed i j End = (a : Event) × (b : Event) × IsSeriesAt confirmed i a × IsSeriesAt confirmed j b × HasClash (IsInstance a) (IsInstance b)
 EntryFails confirmed i j (Span from days) = (a : Event) × (b : Event) × IsSeriesAt confirmed i a × IsSeriesAt confirmed j b × SpanFails a b from days
+EntryFails confirmed i j (Res m) = (a : Event) × (b : Event) × IsSeriesAt confirmed i a × IsSeriesAt confirmed j b × (ResiduesHold (i == j) a b m → ⊥)
 
 -- the entries of all pairs hold
 abbrev pub EntriesHold : Confirmed → Claims → Type 0
@@ -149,16 +155,27 @@ pub record IsLeastSpan (a b : Event) (from : ℤ) (days : ℕ) : Type 0 where
   pub first : (n : ℕ) → IsPastAll a (pos (86_400 * n)) → IsPastAll b (pos (86_400 * n)) → from ≤ℤ pos (86_400 * n)
   pub least : (n : ℕ) → 0 < n → IsPeriodOf a n → IsPeriodOf b n → days ≤ n
 
--- SPAN where its bound is before the horizon, else END
-abbrev pub IsEntryMade : Event → Event → Entry → Type 0
-IsEntryMade a b (Span from days) = IsLeastSpan a b from days × ((bound : ℤ) × IsBoundOf a b from days bound × (bound <ℤ horizon))
-IsEntryMade a b End = (from : ℤ) (days : ℕ) (bound : ℤ) → IsLeastSpan a b from days → IsBoundOf a b from days bound → horizon ≤ℤ bound
+-- residues that settle them, modulo the seconds of the least days after which the forms of both rules allow the same days
+abbrev pub AreSettling : Bool → Event → Event → ℕ → Type 0
+AreSettling own a b m = (days : ℕ) × IsLeastStride a b days × (m ≡ 86_400 * days) × ResiduesHold own a b m
+
+-- there are none
+abbrev pub NoneSettle : Bool → Event → Event → Type 0
+NoneSettle own a b = (m : ℕ) → AreSettling own a b m → ⊥
+
+-- the entry of two series, or of one (`own`) with itself: RES where residues settle them, else SPAN where its bound is before the horizon, else END
+abbrev pub IsEntryMade : Bool → Event → Event → Entry → Type 0
+IsEntryMade own a b (Res m) = AreSettling own a b m
+IsEntryMade own a b (Span from days) =
+    NoneSettle own a b × IsLeastSpan a b from days × ((bound : ℤ) × IsBoundOf a b from days bound × (bound <ℤ horizon))
+IsEntryMade own a b End =
+    NoneSettle own a b × ((from : ℤ) (days : ℕ) (bound : ℤ) → IsLeastSpan a b from days → IsBoundOf a b from days bound → horizon ≤ℤ bound)
 
 -- the one that is made for what is confirmed
 pub record IsCertificateMade (confirmed : Confirmed) (c : Claims) : Type 0 where
   pub claims : IsClaims c
   pub counts : HasCounts confirmed c
-  pub entries : (i j : ℕ) → IsPair c.series i j → (a b : Event) → IsSeriesAt confirmed i a → IsSeriesAt confirmed j b → IsEntryMade a b (entry_of c i j)
+  pub entries : (i j : ℕ) → IsPair c.series i j → (a b : Event) → IsSeriesAt confirmed i a → IsSeriesAt confirmed j b → IsEntryMade (i == j) a b (entry_of c i j)
 
 -- ---- why it doesn't
 

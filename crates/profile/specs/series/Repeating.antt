@@ -1,6 +1,6 @@
 -- Series in the abstract: a relation that says of two instants whether an instance lasts from the one to the other. No calendar, rule or zone
 -- is in it. A series without end is settled by what it does in one period: what starts later was there a period before, as long.
-use Rattle.std.specs.Prelude.{◌≡◌, ◌≢◌, ℕ, ◌*◌, ℤ, pos, ◌+ℤ◌, ◌-ℤ◌, ◌≤ℤ◌, ◌<ℤ◌, List, Contains}
+use Rattle.std.specs.Prelude.{◌≡◌, ◌≢◌, ℕ, ◌*◌, ℤ, pos, ◌+ℤ◌, ◌-ℤ◌, ◌≤ℤ◌, ◌<ℤ◌}
 use Rattle.profile.specs.checker.Instances.{IsWithin}
 
 -- no instance lasts longer than this many seconds
@@ -28,8 +28,8 @@ abbrev pub IsCongruent : ℕ → ℤ → ℤ → Type 0
 IsCongruent m x y = (k : ℕ) × (l : ℕ) × ((x +ℤ pos (k * m)) ≡ (y +ℤ pos (l * m)))
 
 -- each instance starts at one of these residues
-abbrev pub StartsAt : (ℤ → ℤ → Type 0) → ℕ → List ℕ → Type 0
-StartsAt Is m residues = (start end : ℤ) → Is start end → (residue : ℕ) × Contains residues residue × IsCongruent m start (pos residue)
+abbrev pub StartsAt : (ℤ → ℤ → Type 0) → ℕ → (ℕ → Type 0) → Type 0
+StartsAt Is m These = (start end : ℤ) → Is start end → (residue : ℕ) × These residue × IsCongruent m start (pos residue)
 
 -- some of the `width` seconds from one residue on is one of the `other` seconds from another on
 pub record ArcsMeet (m first : ℕ) (width : ℤ) (second : ℕ) (other : ℤ) : Type 0 where
