@@ -7,3 +7,4 @@ pub mod Besides
 pub mod Recurring
 pub mod Members
 pub mod Spanning
+pub mod LocalResidues
