@@ -26,8 +26,10 @@ pub record IsLocalResidue (series : Event) (m residue : ℕ) : Type 0 where
 
 -- no arc of the one meets an arc of the other
 abbrev pub AreLocallyApart : Event → Event → ℕ → Type 0
-AreLocallyApart a b m = (w v : ℤ) → IsWidthOf a w → IsWidthOf b v → (r s : ℕ) → IsLocalResidue a m r → IsLocalResidue b m s → ArcsMeet m r w s v → ⊥
+AreLocallyApart a b m =
+    (w : ℤ) × (v : ℤ) × IsWidthOf a w × IsWidthOf b v × ((r s : ℕ) → IsLocalResidue a m r → IsLocalResidue b m s → ArcsMeet m r w s v → ⊥)
 
 -- the arcs of one series aren't longer than m, and those of different residues don't meet
 abbrev pub IsLocallyApart : Event → ℕ → Type 0
-IsLocallyApart a m = (w : ℤ) → IsWidthOf a w → (w ≤ℤ pos m) × ((r s : ℕ) → IsLocalResidue a m r → IsLocalResidue a m s → r ≢ s → ArcsMeet m r w s w → ⊥)
+IsLocallyApart a m =
+    (w : ℤ) × IsWidthOf a w × (w ≤ℤ pos m) × ((r s : ℕ) → IsLocalResidue a m r → IsLocalResidue a m s → r ≢ s → ArcsMeet m r w s w → ⊥)

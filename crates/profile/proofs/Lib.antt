@@ -11,6 +11,7 @@ mod StartExamples
 mod ConfirmedExamples
 mod OrganiserExamples
 pub mod Repeats
+pub mod ResidueStarts
 pub mod ZoneRepeats
 pub mod SeriesRepeats
 pub mod PairRepeats

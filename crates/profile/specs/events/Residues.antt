@@ -45,11 +45,13 @@ IsModulus m = (days : ℕ) × (m ≡ 86_400 * days) × (0 < days) × (days ≤ 4
 
 -- no arc of the one meets an arc of the other: an arc is as many seconds from a residue on as an instance lasts at the most, around m
 abbrev pub AreArcsApart : Event → Event → ℕ → Type 0
-AreArcsApart a b m = (w v : ℤ) → IsWidthOf a w → IsWidthOf b v → (r s : ℕ) → IsResidue a m r → IsResidue b m s → ArcsMeet m r w s v → ⊥
+AreArcsApart a b m =
+    (w : ℤ) × (v : ℤ) × IsWidthOf a w × IsWidthOf b v × ((r s : ℕ) → IsResidue a m r → IsResidue b m s → ArcsMeet m r w s v → ⊥)
 
 -- the arcs of one series aren't longer than m, and those of different residues don't meet
 abbrev pub IsArcsApart : Event → ℕ → Type 0
-IsArcsApart a m = (w : ℤ) → IsWidthOf a w → (w ≤ℤ pos m) × ((r s : ℕ) → IsResidue a m r → IsResidue a m s → r ≢ s → ArcsMeet m r w s w → ⊥)
+IsArcsApart a m =
+    (w : ℤ) × IsWidthOf a w × (w ≤ℤ pos m) × ((r s : ℕ) → IsResidue a m r → IsResidue a m s → r ≢ s → ArcsMeet m r w s w → ⊥)
 
 -- residues modulo m settle two series, or one (`own`) by itself
 pub record ResiduesHold (own : Bool) (a b : Event) (m : ℕ) : Type 0 where
