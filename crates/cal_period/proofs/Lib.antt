@@ -1,3 +1,4 @@
+mod ResidueLaw
 pub mod Going
 pub mod Sweeping
 pub mod OneSeries
