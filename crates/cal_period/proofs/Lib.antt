@@ -1,3 +1,4 @@
+mod ResidueLaw
 pub mod Going
 pub mod Sweeping
 pub mod OneSeries
@@ -12,3 +13,4 @@ pub mod SeriesLaw
 pub mod Settling
 pub mod Spanning
 pub mod Members
+pub mod AroundLemmas
