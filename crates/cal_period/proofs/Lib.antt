@@ -12,3 +12,4 @@ pub mod SeriesLaw
 pub mod Settling
 pub mod Spanning
 pub mod Members
+pub mod OnsetTheorem

@@ -8,3 +8,4 @@ pub mod Recurring
 pub mod Members
 pub mod Spanning
 pub mod LocalResidues
+pub mod Onsets
