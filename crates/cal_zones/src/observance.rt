@@ -35,7 +35,7 @@ impl Observance {
     ghost use Rattle.cal_zones.specs.Onsets.{observance_of, IsFirstDayOf};
     ghost use Rattle.cal_zones.specs.Kinds.{IsOrdered};
     ghost use Rattle.cal_zones.specs.Repeats.{IsBegunFrom};
-    ghost use Rattle.cal_zones.specs.Spans.{AreNoneBetween};
+    ghost use Rattle.cal_zones.specs.Spans.{AreNoneBetween, IsNextOr};
 
     /// The observance with that DTSTART, RRULE, TZOFFSETFROM and TZOFFSETTO.
     pub fn new(start: LocalTime, rule: Option<Yearly>, from: UtcOffset, to: UtcOffset) -> Observance
@@ -113,6 +113,21 @@ impl Observance {
         match self.rule {
             None => Some(first),
             Some(rule) => Some(rule.latest_onset(first_day, first, instant)),
+        }
+    }
+
+    /// The first onset later than an instant. None where there is none that 64 bits hold.
+    pub(crate) fn next_onset(&self, after: i64) -> Option<i64>
+        ensures { IsNextOr (IsOnset (observance_of self.now)) after result }
+    {
+        let first_day = self.first_day();
+        let first = self.onset_on(first_day);
+        if after < first {
+            return Some(first);
+        }
+        match self.rule {
+            None => None,
+            Some(rule) => rule.next_onset(first_day, first, after),
         }
     }
 

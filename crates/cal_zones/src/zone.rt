@@ -56,7 +56,7 @@ impl Zone {
     ghost use Rattle.profile.specs.series.ZoneTexts.{AreMatched, AreSpaced, IsSingleFault, IsPairFault, SaysZone, ZoneFault};
     ghost use Rattle.cal_zones.specs.Onsets.{observance_of};
     ghost use Rattle.cal_zones.specs.Kinds.{zone_of, pair_of, AreEnds};
-    ghost use Rattle.cal_zones.specs.Spans.{AreNoneBetween};
+    ghost use Rattle.cal_zones.specs.Spans.{AreNoneBetween, IsNextOr};
     ghost use Rattle.cal_zones.specs.Repeats.{IsRegularFrom, IsLeastZonePeriod};
     ghost use Rattle.profile.specs.events.Spans.{IsPastOnsets};
     ghost use Rattle.ical_lines.specs.Fault.{RefusesBy};
@@ -214,6 +214,17 @@ impl Zone {
             Form::Constant(_) => 1,
             Form::Single(_) => 1,
             Form::Pair(_) => 146_097,
+        }
+    }
+
+    /// The first onset later than an instant. None where there is none that 64 bits hold. Of each observance two years are looked at.
+    pub fn next_onset(&self, after: i64) -> Option<i64>
+        ensures { IsNextOr (IsZoneOnset (zone_of self.now)) after result }
+    {
+        match &self.kind {
+            Form::Constant(_) => None,
+            Form::Single(once) => once.observance.next_onset(after),
+            Form::Pair(pair) => pair.next_onset(after),
         }
     }
 
