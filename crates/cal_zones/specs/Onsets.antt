@@ -22,6 +22,13 @@ observance_of o = record {
   offset_to = o.offset_to;
 }
 
+-- their DTSTARTs and their offsets are the same
+pub record HasTimesOf (o other : rust.Observance) : Type 0 where
+  pub day : o.day ≡ other.day
+  pub second : o.second ≡ other.second
+  pub before : o.offset_from ≡ other.offset_from
+  pub after : o.offset_to ≡ other.offset_to
+
 -- the first day on which it begins
 pub record IsFirstDayOf (o : Observance) (day : ℕ) : Type 0 where
   pub begins : begins_on o day ≡ true

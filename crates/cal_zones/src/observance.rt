@@ -29,10 +29,10 @@ pub struct Observance {
 }
 
 impl Observance {
-    ghost use Rattle.std.specs.Prelude.{◌≡◌, ◌↔◌, ◌≤◌, true, pos, negsuc, unsigned_abs, IfSome, MatchOption, ◌+ℤ◌, ◌-ℤ◌, ◌≤ℤ◌};
+    ghost use Rattle.std.specs.Prelude.{◌≡◌, ◌↔◌, ◌≤◌, ℕ, true, pos, negsuc, unsigned_abs, IfSome, MatchOption, ◌+ℤ◌, ◌-ℤ◌, ◌≤ℤ◌};
     ghost use Rattle.profile.specs.text.Values.{IsOffset};
     ghost use Rattle.profile.specs.series.Zones.{Single, local_time, IsOffsetAt, IsOnset, IsLatest, IsFirstOf, NoneBegun, onset_at};
-    ghost use Rattle.cal_zones.specs.Onsets.{observance_of, IsFirstDayOf};
+    ghost use Rattle.cal_zones.specs.Onsets.{observance_of, yearly_rule, HasTimesOf, IsFirstDayOf};
     ghost use Rattle.cal_zones.specs.Kinds.{IsOrdered};
     ghost use Rattle.cal_zones.specs.Repeats.{IsBegunFrom};
     ghost use Rattle.cal_zones.specs.Spans.{AreNoneBetween, IsNextOr};
@@ -161,6 +161,34 @@ impl Observance {
         match self.latest_onset(instant) {
             None => self.offset_from,
             Some(_) => self.offset_to,
+        }
+    }
+
+    /// Whether another begins at the same times, by the same offsets.
+    pub(crate) fn is_same(&self, other: &Observance) -> bool
+        ensures { result ≡ true → observance_of self.now ≡ observance_of other.now }
+    {
+        self.has_times_of(other) && Observance::is_same_rule(self.rule, other.rule)
+    }
+
+    /// Whether its DTSTART and its offsets are those of another.
+    fn has_times_of(&self, other: &Observance) -> bool
+        ensures { result ≡ true → HasTimesOf self.now other.now }
+    {
+        self.day == other.day
+            && self.second == other.second
+            && self.offset_from == other.offset_from
+            && self.offset_to == other.offset_to
+    }
+
+    /// Whether two rules are the same, or neither is there.
+    fn is_same_rule(one: Option<Yearly>, other: Option<Yearly>) -> bool
+        ensures { result ≡ true → (day : ℕ) → yearly_rule day one ≡ yearly_rule day other }
+    {
+        match (one, other) {
+            (Some(a), Some(b)) => a.is_same(b),
+            (None, None) => true,
+            _ => false,
         }
     }
 

@@ -66,6 +66,13 @@ impl Pair {
         a.offset_to == b.offset_from && b.offset_to == a.offset_from && a.is_near()
     }
 
+    /// Whether another has the same two, each in its place.
+    pub(crate) fn is_same(&self, other: &Pair) -> bool
+        ensures { result ≡ true → pair_of self.now.standard self.now.daylight ≡ pair_of other.now.standard other.now.daylight }
+    {
+        self.standard.is_same(&other.standard) && self.daylight.is_same(&other.daylight)
+    }
+
     /// The offset in force: what the later of the latest onsets sets, and before all onsets what the first one ends.
     pub(crate) fn offset(&self, instant: i64) -> i32
         ensures offset { IsOffsetAt (pair_of self.now.standard self.now.daylight) instant result }

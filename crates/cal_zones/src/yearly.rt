@@ -47,6 +47,13 @@ impl Yearly {
         Some(Yearly { month, days })
     }
 
+    /// Whether another names the same day of the same month, in the same words.
+    pub(crate) fn is_same(self, other: Yearly) -> bool
+        ensures { result ≡ true → (self.month ≡ other.month) × (self.days ≡ other.days) }
+    {
+        self.month == other.month && self.days == other.days
+    }
+
     /// How many days of its month are before the day, in a month of this many days that begins on the day
     /// of index `first`.
     fn place(self, first: u32, length: u32) -> u32

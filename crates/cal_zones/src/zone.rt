@@ -49,7 +49,7 @@ pub struct Zone {
 }
 
 impl Zone {
-    ghost use Rattle.std.specs.Prelude.{◌≡◌, ◌<◌, ◌≤◌, ℕ, None, pos, unsigned_abs, ◌-ℤ◌, IfOk, IfErr, MatchOption, OnOk, OnErr};
+    ghost use Rattle.std.specs.Prelude.{◌≡◌, ◌<◌, ◌≤◌, ℕ, true, None, pos, unsigned_abs, ◌-ℤ◌, IfOk, IfErr, MatchOption, OnOk, OnErr};
     ghost use Rattle.profile.specs.text.Values.{IsOffset};
     ghost use Rattle.profile.specs.series.Days.{day_index};
     ghost use Rattle.profile.specs.series.Zones.{Constant, Single, IsZoneOnset, IsOffsetAt, Means, AreFirstOnsets, IsBounds, IsOneOffset, IsOneMeaning, IsNearEpoch, IsLastDay, NoneFrom};
@@ -139,6 +139,18 @@ impl Zone {
             kind: Form::Constant(Fixed {
                 offset: observance.offset_from,
             }),
+        }
+    }
+
+    /// Whether another zone is the same, in the same words: then its clocks are the same.
+    pub fn is_same(&self, other: &Zone) -> bool
+        ensures { result ≡ true → zone_of self.now ≡ zone_of other.now }
+    {
+        match (&self.kind, &other.kind) {
+            (Form::Constant(a), Form::Constant(b)) => a.offset == b.offset,
+            (Form::Single(a), Form::Single(b)) => a.observance.is_same(&b.observance),
+            (Form::Pair(a), Form::Pair(b)) => a.is_same(b),
+            _ => false,
         }
     }
 
