@@ -16,7 +16,7 @@ use Rattle.profile.proofs.Repeats.{residues_apart, residues_alone}
 use Rattle.profile.proofs.ResidueStarts.{at_residue, rule_day_in_form}
 use Rattle.cal_period.specs.LocalResidues.{IsLocalResidue, AreLocallyApart, IsLocallyApart}
 use Rattle.cal_period.specs.Clear.{AreClearBelow, IsClearBelow}
-use Rattle.cal_period.specs.Onsets.{AreClearSince, IsClearSince, window_end}
+use Rattle.cal_period.specs.Onsets.{IsHalfDayBefore, AreClearNear, IsClearNear}
 
 int_is : {a b : ℤ} → a ≤ℤ b → b ≤ℤ a → a ≡ b
 int_is {a} {b} l m = omega (arith, ints, l, m)
@@ -154,9 +154,8 @@ module _ (z : Zone) (one : IsOneOffset z) (jump : (u : Onset) → IsZoneOnset z 
         apart_by x y is_a is_b p.0 rx ry p.2 p.1 s
 
     -- where they are clear of each other near each onset, they are
-    pub clear_by_onsets : (width from bound : ℤ) → IsWidthOf b width → ((x : Instance) → IsInstance a x → (from +ℤ pos 43_200) ≤ℤ x.start) → ((y : Instance) → IsInstance b y → (from +ℤ pos 43_200) ≤ℤ y.start)
-        → ((u : Onset) → IsZoneOnset z u → from ≤ℤ u.instant → u.instant <ℤ bound → AreClearSince a b u.instant (window_end u.instant width)) → AreClearBelow a b bound
-    clear_by_onsets width from bound wide early_a early_b near x y is_a is_b lx ly s =
+    pub clear_by_onsets : (after bound : ℤ) → IsHalfDayBefore a after → IsHalfDayBefore b after → AreClearNear z a b after bound → AreClearBelow a b bound
+    clear_by_onsets after bound early_a early_b (reach, (width, wide, is), near) x y is_a is_b lx ly s =
         let brief = ruled_b.lasts width y wide is_b in
         let ea = early_a x is_a in
         let eb = early_b y is_b in
@@ -164,9 +163,9 @@ module _ (z : Zone) (one : IsOneOffset z) (jump : (u : Onset) → IsZoneOnset z 
         let j = s.in_second in
         by_lt_z y.start x.start
         (λ less. second_early x y is_a is_b (omega (arith, ints, less))
-        (λ u is since to. near u is (omega (arith, ints, since, eb)) (omega (arith, ints, to, lx)) x y is_a is_b (omega (arith, ints, since, brief, i.0, j.1)) s (omega (arith, ints, to, i.0))) s)
+        (λ u listed since to. near u listed (omega (arith, ints, since, eb)) (omega (arith, ints, to, lx)) x y is_a is_b (omega (arith, ints, since, is, brief, i.0, j.1)) s (omega (arith, ints, to, i.0))) s)
         (λ most. first_early x y is_a is_b most
-        (λ u is since to. near u is (omega (arith, ints, since, ea)) (omega (arith, ints, to, ly)) x y is_a is_b (omega (arith, ints, since, brief, j.0, j.1)) s (omega (arith, ints, to, j.0))) s)
+        (λ u listed since to. near u listed (omega (arith, ints, since, ea)) (omega (arith, ints, to, ly)) x y is_a is_b (omega (arith, ints, since, is, brief, j.0, j.1)) s (omega (arith, ints, to, j.0))) s)
 
   -- ---- one series
 
@@ -196,22 +195,21 @@ module _ (z : Zone) (one : IsOneOffset z) (jump : (u : Onset) → IsZoneOnset z 
         clear.3 rx.local (x.end +ℤ p) ry.local (y.end +ℤ p) (s.instant +ℤ p) (inl (refl, refl)) (inr (refl, refl)) (λ e. omega (arith, ints, e, ex, ey, l))
         (omega (arith, ints, ex, i.0), omega (arith, ints, i.1)) (omega (arith, ints, ey, j.0), omega (arith, ints, j.1))
 
-    alone_ordered : (width from bound : ℤ) → IsWidthOf a width → ((x : Instance) → IsInstance a x → (from +ℤ pos 43_200) ≤ℤ x.start)
-        → ((u : Onset) → IsZoneOnset z u → from ≤ℤ u.instant → u.instant <ℤ bound → IsClearSince a u.instant (window_end u.instant width))
-        → (x y : Instance) → IsInstance a x → IsInstance a y → y.start <ℤ bound → x.key ≢ y.key → x.start <ℤ y.start → SharesInstant x.start x.end y.start y.end → ⊥
-    alone_ordered width from bound wide early near x y is_x is_y ly differ less s =
+    alone_ordered : (after bound : ℤ) → IsHalfDayBefore a after → IsClearNear z a after bound → (x y : Instance) → IsInstance a x → IsInstance a y → y.start <ℤ bound → x.key ≢ y.key → x.start <ℤ y.start
+        → SharesInstant x.start x.end y.start y.end → ⊥
+    alone_ordered after bound early (reach, (width, wide, is), near) x y is_x is_y ly differ less s =
         let short = ruled.lasts width x wide is_x in
         let ex = early x is_x in
         let i = s.in_first in
         let j = s.in_second in
         one_early x y is_x is_y less
-        (λ u is since to. near u is (omega (arith, ints, since, ex)) (omega (arith, ints, to, ly)) x y is_x is_y (omega (arith, ints, since, short, i.0, i.1)) (omega (arith, ints, since, short, i.1, j.0)) differ s (omega (arith, ints, to, j.0))) s
+        (λ u listed since to. near u listed (omega (arith, ints, since, ex)) (omega (arith, ints, to, ly)) x y is_x is_y (omega (arith, ints, since, is, short, i.0, i.1)) (omega (arith, ints, since, is, short, i.1, j.0)) differ s
+        (omega (arith, ints, to, j.0))) s
 
     -- where it is clear near each onset, it is
-    pub alone_by_onsets : (width from bound : ℤ) → IsWidthOf a width → ((x : Instance) → IsInstance a x → (from +ℤ pos 43_200) ≤ℤ x.start)
-        → ((u : Onset) → IsZoneOnset z u → from ≤ℤ u.instant → u.instant <ℤ bound → IsClearSince a u.instant (window_end u.instant width)) → IsClearBelow a bound
-    alone_by_onsets width from bound wide early near x y is_x is_y lx ly differ s =
-        by_lt_z x.start y.start (λ less. alone_ordered width from bound wide early near x y is_x is_y ly differ less s)
+    pub alone_by_onsets : (after bound : ℤ) → IsHalfDayBefore a after → IsClearNear z a after bound → IsClearBelow a bound
+    alone_by_onsets after bound early near x y is_x is_y lx ly differ s =
+        by_lt_z x.start y.start (λ less. alone_ordered after bound early near x y is_x is_y ly differ less s)
         (λ most. by_lt_z y.start x.start
-        (λ less. alone_ordered width from bound wide early near y x is_y is_x lx (λ e. differ (sym e)) less (record { instant = s.instant; before = s.before; in_first = s.in_second; in_second = s.in_first }))
+        (λ less. alone_ordered after bound early near y x is_y is_x lx (λ e. differ (sym e)) less (record { instant = s.instant; before = s.before; in_first = s.in_second; in_second = s.in_first }))
         (λ least. differ (ap (λ (b : Instance). b.key) (known x y is_x is_y (int_is least most)))))
