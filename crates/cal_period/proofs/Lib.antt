@@ -13,3 +13,4 @@ pub mod Settling
 pub mod Spanning
 pub mod Members
 pub mod OnsetTheorem
+pub mod NearOnsets

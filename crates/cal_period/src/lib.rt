@@ -8,6 +8,7 @@ mod beside;
 mod clash;
 mod every_pair;
 mod law;
+mod onsets;
 mod recurs;
 mod residues;
 mod settled;
