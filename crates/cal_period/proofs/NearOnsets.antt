@@ -1,9 +1,9 @@
 -- The search near the onsets of a zone.
-use Rattle.std.proofs.Common.{◌≡◌, ◌≢◌, ◌∙◌, refl, sym, subst, ap, inl, inr, ◌⊎◌, arith, ℕ, ◌<◌, ℤ, pos, negsuc, ◌+ℤ◌, ◌-ℤ◌, ◌≤ℤ◌, ◌<ℤ◌, w64, unsigned_abs}
+use Rattle.std.proofs.Common.{◌≡◌, ◌≢◌, ◌∙◌, refl, sym, subst, ap, inl, inr, ◌⊎◌, arith, ℕ, ◌<◌, ◌^◌, ℤ, pos, negsuc, ◌+ℤ◌, ◌-ℤ◌, ◌≤ℤ◌, ◌<ℤ◌, w64, FitsSigned, unsigned_abs}
 use Rattle.std.proofs.lemmas.Int.{ints, by_lt_z}
 use Rattle.std.proofs.Math.Logic.{∥∥₁_elim}
 use Rattle.std.specs.Prelude.{Option, Some, None, option_map, MatchOption}
-use Rattle.std.specs.Int.{saturate_signed}
+use Rattle.std.specs.Int.{saturate_signed, int_min}
 use Rattle.profile.specs.text.Trees.{Tree}
 use Rattle.profile.specs.checker.Instances.{Key, Instance as SaidInstance, horizon}
 use Rattle.profile.specs.series.Zones.{Zone, Constant, Single, Pair, Onset, IsZoneOnset, Since, IsOffsetAt, IsOneOffset}
@@ -61,6 +61,13 @@ nearer bound last onset further before =
     let a = abs_is (bound -ℤ onset) (omega (arith, ints, before)) in
     let b = abs_is (bound -ℤ last) (omega (arith, ints, before, further)) in
     omega (arith, ints, a, b, further)
+
+fits_of : (z : ℤ) → negsuc 9_223_372_036_854_775_807 ≤ℤ z → z <ℤ pos (2 ^ 63) → FitsSigned w64 z
+fits_of (pos n) low high = record { sfits = omega (arith, ints, high) }
+fits_of (negsuc n) low high = record { sfits = omega (arith, ints, low) }
+
+pub sum_fits : (x y : ℤ) → FitsSigned w64 x → x <ℤ horizon → pos 0 ≤ℤ y → y <ℤ pos (2 ^ 51) → FitsSigned w64 (x +ℤ y)
+sum_fits x y f l m n = fits_of (x +ℤ y) (omega (arith, ints, f, m)) (omega (arith, ints, l, n))
 
 -- ---- the instances of one series beside another
 
@@ -168,7 +175,7 @@ module _ (a : Event) (from : ℤ) (left : Instances) (walk : Walk) (at : IsAlone
           | inr e ↦ never none x was (subst (SharesLate x) e (s, late))
         ]
         | inr e ↦ elim (g.one y k) [
-          | inl were ↦ never none y were (subst (SharesLate y) e (turned x y s, late))
+          | inl were ↦ never none y were (subst (SharesLate y) e (record { instant = s.instant; before = s.before; in_first = s.in_second; in_second = s.in_first }, late))
           | inr f ↦ differ (ap (λ (b : SaidInstance). b.key) (e ∙ sym f))
         ]
       ];
@@ -184,6 +191,12 @@ half_day_before series t before known first is x h =
       | inl low ↦ omega (arith, ints, least, is, low)
       | inr low ↦ omega (arith, ints, date, is, low)
     ]
+
+pub half_day_earlier : (series : Event) (first before : ℤ) → before ≤ℤ first → IsHalfDayBefore series first → IsHalfDayBefore series before
+half_day_earlier series first before l early x h = let e = early x h in omega (arith, ints, e, l)
+
+pub within_both : (bound last : ℤ) → last ≡ int_min bound horizon → (t : ℤ) → t <ℤ bound → t <ℤ horizon → t <ℤ last
+within_both bound last is t l m = grind (arith, ints, is, l, m)
 
 -- ---- what the crates below say
 
@@ -229,20 +242,30 @@ ruled_in z a zone facts s =
 pub pair_found : (z : Zone) (a b : Event) (after bound last : ℤ) (found : Option (Instance × Instance)) → ZoneFacts z → SeriesFacts z a → SeriesFacts z b → (m : ℕ) × (0 < m) × AreLocallyApart a b m
     → ((t : ℤ) → t <ℤ bound → t <ℤ horizon → t <ℤ last) → IsHalfDayBefore a after → IsHalfDayBefore b after
     → MatchOption found (AreClearNear z a b after last) (λ s. ArePair a b (instance_of s.0) (instance_of s.1)) → IsSharedBelow a b bound found
-pair_found z a b after bound last None zone in_a in_b (m, some, apart) within early_a early_b near x y h k lx ly s =
-    let jump = jumps z zone.bounds.0 zone.bounds.1 zone.bounds.2 in
-    ∥∥₁_elim in_a.said (λ p q. absurd p)
-    (λ said_a. ∥∥₁_elim in_b.said (λ p q. absurd p)
-    (λ said_b. clear_by_onsets z zone.one jump m some a b (ruled_in z a zone in_a said_a) (ruled_in z b zone in_b said_b) apart after last early_a early_b near x y h k
-    (within x.start lx (in_a.known.dates x h).1) (within y.start ly (in_b.known.dates y k).1) s))
-pair_found z a b after bound last (Some p) zone in_a in_b apart within early_a early_b near = near
+pair_found z a b after bound last found zone in_a in_b (m, some, apart) within early_a early_b near = by found near
+  where
+    clear : AreClearNear z a b after last → AreClearBelow a b bound
+    clear near x y h k lx ly s =
+        ∥∥₁_elim in_a.said (λ p q. absurd p)
+        (λ said_a. ∥∥₁_elim in_b.said (λ p q. absurd p)
+        (λ said_b. clear_by_onsets z zone.one (jumps z zone.bounds.0 zone.bounds.1 zone.bounds.2) m some a b (ruled_in z a zone in_a said_a) (ruled_in z b zone in_b said_b) apart after last early_a early_b near x y h k
+        (within x.start lx (in_a.known.dates x h).1) (within y.start ly (in_b.known.dates y k).1) s))
+
+    by : (found : Option (Instance × Instance)) → MatchOption found (AreClearNear z a b after last) (λ s. ArePair a b (instance_of s.0) (instance_of s.1)) → IsSharedBelow a b bound found
+    by None near = clear near
+    by (Some p) pair = pair
 
 pub alone_found_near : (z : Zone) (a : Event) (after bound last : ℤ) (found : Option (Instance × Instance)) → ZoneFacts z → SeriesFacts z a → (m : ℕ) × (0 < m) × IsLocallyApart a m
     → ((t : ℤ) → t <ℤ bound → t <ℤ horizon → t <ℤ last) → IsHalfDayBefore a after
     → MatchOption found (IsClearNear z a after last) (λ s. AreTwo a (instance_of s.0) (instance_of s.1)) → IsSharedAloneBelow a bound found
-alone_found_near z a after bound last None zone in_a (m, some, apart) within early near x y h k lx ly differ s =
-    let jump = jumps z zone.bounds.0 zone.bounds.1 zone.bounds.2 in
-    ∥∥₁_elim in_a.said (λ p q. absurd p)
-    (λ said_a. alone_by_onsets z zone.one jump m some a (ruled_in z a zone in_a said_a) in_a.known.one apart after last early near x y h k
-    (within x.start lx (in_a.known.dates x h).1) (within y.start ly (in_a.known.dates y k).1) differ s)
-alone_found_near z a after bound last (Some p) zone in_a apart within early near = near
+alone_found_near z a after bound last found zone in_a (m, some, apart) within early near = by found near
+  where
+    clear : IsClearNear z a after last → IsClearBelow a bound
+    clear near x y h k lx ly differ s =
+        ∥∥₁_elim in_a.said (λ p q. absurd p)
+        (λ said_a. alone_by_onsets z zone.one (jumps z zone.bounds.0 zone.bounds.1 zone.bounds.2) m some a (ruled_in z a zone in_a said_a) in_a.known.one apart after last early near x y h k
+        (within x.start lx (in_a.known.dates x h).1) (within y.start ly (in_a.known.dates y k).1) differ s)
+
+    by : (found : Option (Instance × Instance)) → MatchOption found (IsClearNear z a after last) (λ s. AreTwo a (instance_of s.0) (instance_of s.1)) → IsSharedAloneBelow a bound found
+    by None near = clear near
+    by (Some p) two = two
