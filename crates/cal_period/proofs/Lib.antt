@@ -1,3 +1,4 @@
+mod ResidueLaw
 pub mod Going
 pub mod Sweeping
 pub mod OneSeries
@@ -14,3 +15,4 @@ pub mod Spanning
 pub mod Members
 pub mod OnsetTheorem
 pub mod NearOnsets
+pub mod AroundLemmas

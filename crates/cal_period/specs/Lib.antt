@@ -9,3 +9,4 @@ pub mod Members
 pub mod Spanning
 pub mod LocalResidues
 pub mod Onsets
+pub mod Around

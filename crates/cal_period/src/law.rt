@@ -1,11 +1,15 @@
 //! What a series does again after each of its periods, and that these are the multiples of the least one: laws, with nothing to do.
-ghost use Rattle.std.specs.Prelude.{◌↔◌, ℕ, ◌*◌, ℤ, pos};
+ghost use Rattle.std.specs.Prelude.{◌↔◌, ◌≢◌, ℕ, ◌*◌, ◌<◌, ℤ, pos, true, false};
+ghost use Rattle.profile.specs.checker.Instances.{Instance, IsWithin};
 ghost use Rattle.profile.specs.events.Events.{Event};
 ghost use Rattle.profile.specs.events.Spans.{IsSaidSeries, IsPastAll, IsPeriodOf, IsLeastPeriodOf};
 ghost use Rattle.profile.specs.series.Periods.{IsMultiple};
-ghost use Rattle.profile.specs.series.Repeating.{RepeatsFrom};
+ghost use Rattle.profile.specs.series.Repeating.{IsCongruent, RepeatsFrom};
+ghost use Rattle.profile.specs.events.Starts.{IsInstance};
+ghost use Rattle.profile.specs.events.Residues.{IsResidue, ResiduesHold};
 ghost use Rattle.cal_period.specs.Members.{Lasts, ComesAgainFrom};
 
+use cal_events::instances_last;
 use cal_rules::rule_days_repeat;
 use cal_zones::zones_repeat;
 
@@ -23,3 +27,15 @@ pub fn series_repeat()
 pub fn periods_are_multiples()
     ensures { (a : Event) (days n : ℕ) → IsLeastPeriodOf a days → IsPeriodOf a n ↔ IsMultiple n days }
 {}
+
+/// Each instance of a series that a VEVENT says starts at one of its residues, modulo any number of seconds. Where residues hold of two series no two of
+/// their instances share an instant, and where they hold of one no two of its own, at whatever time.
+pub fn residues_settle()
+    ensures start { (a : Event) (m : ℕ) (x : Instance) → IsSaidSeries a → 0 < m → IsInstance a x → (r : ℕ) × IsResidue a m r × IsCongruent m x.start (pos r) }
+    ensures two { (a b : Event) (m : ℕ) (x y : Instance) (t : ℤ) → IsSaidSeries a → IsSaidSeries b → ResiduesHold false a b m → IsInstance a x → IsInstance b y
+        → IsWithin x.start x.end t → IsWithin y.start y.end t → ⊥ }
+    ensures one { (a b : Event) (m : ℕ) (x y : Instance) (t : ℤ) → IsSaidSeries a → ResiduesHold true a b m → IsInstance a x → IsInstance a y → x.start ≢ y.start
+        → IsWithin x.start x.end t → IsWithin y.start y.end t → ⊥ }
+{
+    instances_last();
+}

@@ -4,22 +4,24 @@
 
 mod abreast;
 mod alone;
+mod arcs;
 mod beside;
 mod clash;
 mod every_pair;
 mod law;
 mod onsets;
 mod recurs;
-mod residues;
+mod residue;
 mod settled;
 mod span;
 mod walk;
 
 pub use alone::clash_alone;
+pub use arcs::{are_apart, is_apart, reaches};
 pub use beside::{Beside, single_beside_series};
 pub use clash::clash_of_pair;
 pub use every_pair::{Shared, clash_of_all};
-pub use law::{periods_are_multiples, series_repeat};
+pub use law::{periods_are_multiples, residues_settle, series_repeat};
 pub use recurs::{Recurs, common_period};
-pub use residues::{residues, settling_residues};
+pub use residue::{residues, settling_residues};
 pub use span::{PairSpan, span_of_pair};

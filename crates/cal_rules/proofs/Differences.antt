@@ -10,13 +10,13 @@ use Rattle.profile.specs.series.Periods.{IsMultiple, IsInStep, IsShift, IsPeriod
 
 -- ---- numbers
 
-none : (of : ℕ) → IsMultiple 0 of
+pub none : (of : ℕ) → IsMultiple 0 of
 none of = (0, omega arith)
 
-sum : (a b of : ℕ) → IsMultiple a of → IsMultiple b of → IsMultiple (a + b) of
+pub sum : (a b of : ℕ) → IsMultiple a of → IsMultiple b of → IsMultiple (a + b) of
 sum a b of (k, e) (j, f) = let m = add-mul k j of in (k + j, omega (arith, e, f, m))
 
-difference : (a b of : ℕ) → IsMultiple (a + b) of → IsMultiple a of → IsMultiple b of
+pub difference : (a b of : ℕ) → IsMultiple (a + b) of → IsMultiple a of → IsMultiple b of
 difference a b of (k, e) (j, f) = let m : (k - j) * of ≡ k * of - j * of = mul_comm (k - j) of ∙ mul-sub of k j ∙ rw (mul_comm of k, mul_comm of j) refl in (k - j, omega (arith, e, f, m))
 
 -- so many cycles, and a multiple of an interval of periods

@@ -25,3 +25,6 @@ pub mod Multiples
 pub mod PeriodsOf
 pub mod LastDays
 pub mod Differences
+pub mod Forms
+pub mod Covers
+pub mod FormParts

@@ -32,7 +32,7 @@ pub no_days : (r : Rule) (from : ℕ) → NoDayFrom r from → rule_days_from r 
 unfolding rule_days_from
 no_days r from h = filter_none (is_rule_day r) from (last_rule_day + 1 - from) h
 
-counted_rule_day : (r : Rule) (n : ℕ) → is_rule_day r n ≡ true → is_counted r n ≡ true
+pub counted_rule_day : (r : Rule) (n : ℕ) → is_rule_day r n ≡ true → is_counted r n ≡ true
 unfolding is_rule_day
 counted_rule_day r n h = (and_parts _ _ h).0
 

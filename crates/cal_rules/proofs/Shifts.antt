@@ -51,7 +51,7 @@ period_many n (suc q) =
     let y = period_later Yearly 0 (n + q * 146_097) (omega arith) in
     rw (times_more n q) (omega (arith, k.0, m), omega (arith, k.1, y))
 
-seven_times : (k i : ℕ) → k * (7 * i) ≡ 7 * (k * i)
+pub seven_times : (k i : ℕ) → k * (7 * i) ≡ 7 * (k * i)
 seven_times zero i = omega arith
 seven_times (suc k) i = omega (arith, seven_times k i)
 
@@ -67,7 +67,7 @@ mod_same Monthly ws i days n h (q, e, (k, m)) =
 mod_same Yearly ws i days n h (q, e, (k, m)) =
     ap (λ d. period_of Yearly 0 (n + d) % i) e ∙ (ap (λ x. x % i) ((period_many n q).1 ∙ ap (λ x. period_of Yearly 0 n + x) m) ∙ add-mul-mod_self_right (period_of Yearly 0 n) k i)
 
-step_same : (p : Pattern) (days n : ℕ) → p.week_start < 7 → IsInStep p.frequency p.interval days → is_in_step p (n + days) ≡ is_in_step p n
+pub step_same : (p : Pattern) (days n : ℕ) → p.week_start < 7 → IsInStep p.frequency p.interval days → is_in_step p (n + days) ≡ is_in_step p n
 unfolding is_in_step
 step_same p days n h s =
     ap (λ x. x == period_of p.frequency p.week_start p.start % p.interval) (mod_same p.frequency p.week_start p.interval days n h s)
@@ -125,7 +125,7 @@ both_true false b e = absurd (true≢false e)
 missing_both : (p : Pattern) → names_dates p ≡ false → (is_missing p.months ≡ true) × (is_missing p.month_days ≡ true)
 missing_both p e = both_true (is_missing p.months) (is_missing p.month_days) e
 
-weekday_weeks : (n k : ℕ) → weekday_of (n + k * 7) ≡ weekday_of n
+pub weekday_weeks : (n k : ℕ) → weekday_of (n + k * 7) ≡ weekday_of n
 unfolding weekday_of
 weekday_weeks n k = let e : n + k * 7 + 5 ≡ n + 5 + k * 7 = omega arith in ap (λ x. x % 7) e ∙ add-mul-mod_self_right (n + 5) k 7
 

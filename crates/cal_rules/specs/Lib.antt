@@ -8,3 +8,4 @@ pub mod Taken
 pub mod Lists
 pub mod Shifting
 pub mod LastDays
+pub mod Forms

@@ -4,6 +4,7 @@
 
 mod cursor;
 mod facts;
+mod form;
 mod law;
 mod listing;
 mod parts;
@@ -14,6 +15,7 @@ mod values;
 mod write;
 mod written;
 
+pub use form::form_days_repeat;
 pub use law::{base_days_repeat, rule_days_repeat, shifts_are_multiples};
 pub use period::{MOST_PERIOD, common_multiple};
 pub use rule::{Days, Rule};

@@ -141,7 +141,7 @@ impl Written {
     }
 
     /// Does the rule take its weekday from DTSTART?
-    fn implies_weekday(&self) -> bool
+    pub fn implies_weekday(&self) -> bool
         ensures { result ≡ implies_weekday (pattern_of self.now 0) }
     {
         self.frequency == Frequency::Weekly && self.weekdays.is_empty()

@@ -1,3 +1,4 @@
+pub mod Ends
 pub mod OneDay
 pub mod Bases
 pub mod Force

@@ -49,10 +49,11 @@ pub struct Zone {
 }
 
 impl Zone {
-    ghost use Rattle.std.specs.Prelude.{◌≡◌, ◌<◌, ◌≤◌, ℕ, true, None, pos, unsigned_abs, ◌-ℤ◌, IfOk, IfErr, MatchOption, OnOk, OnErr};
+    ghost use Rattle.std.specs.Prelude.{◌≡◌, ◌↔◌, ◌⊎◌, ℤ, ◌<◌, ◌≤◌, ℕ, true, None, pos, unsigned_abs, ◌-ℤ◌, IfOk, IfErr, MatchOption, OnOk, OnErr};
     ghost use Rattle.profile.specs.text.Values.{IsOffset};
     ghost use Rattle.profile.specs.series.Days.{day_index};
     ghost use Rattle.profile.specs.series.Zones.{Constant, Single, IsZoneOnset, IsOffsetAt, Means, AreFirstOnsets, IsBounds, IsOneOffset, IsOneMeaning, IsNearEpoch, IsLastDay, NoneFrom};
+    ghost use Rattle.profile.specs.series.Residues.{IsOffsetOf};
     ghost use Rattle.profile.specs.series.ZoneTexts.{AreMatched, AreSpaced, IsSingleFault, IsPairFault, SaysZone, ZoneFault};
     ghost use Rattle.cal_zones.specs.Onsets.{observance_of};
     ghost use Rattle.cal_zones.specs.Kinds.{zone_of, pair_of, AreEnds};
@@ -167,10 +168,11 @@ impl Zone {
         }
     }
 
-    /// The least and the greatest offset, in seconds: each is in force at some instant, and no other is at any.
+    /// The least and the greatest offset, in seconds: each is in force at some instant, and no other is at any. They are those that it names.
     pub fn offsets(&self) -> (i32, i32)
         ensures bounds { IsBounds (zone_of self.now) result.0 result.1 }
         ensures range { IsOffset result.0 × IsOffset result.1 }
+        ensures is_offset { (offset : ℤ) → IsOffsetOf (zone_of self.now) offset ↔ ((offset ≡ result.0) ⊎ (offset ≡ result.1)) }
     {
         // Only for the proof: each is in force at a first onset, or before it.
         let _ = self.first_onsets();

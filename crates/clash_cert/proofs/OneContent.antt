@@ -5,7 +5,7 @@ use Rattle.std.proofs.lemmas.List.{append_cancel_left, append_cancel_right}
 use Rattle.std.proofs.lemmas.List.Elements.{All-head, All-tail}
 use Rattle.std.proofs.lemmas.Fmt.{decimal_injective}
 use Rattle.profile.specs.text.Values.{WritesStamp, two_digits, four_digits}
-use Rattle.profile.specs.checker.Certificates.{Entry, End, Span, Claims, IsEntry, IsEntryText, IsPairLine, AreRows, AreRowLines, ArePairLines, spelled, SpellsCertificate}
+use Rattle.profile.specs.checker.Certificates.{Entry, End, Span, Res, Claims, IsEntry, IsEntryText, IsPairLine, AreRows, AreRowLines, ArePairLines, spelled, SpellsCertificate}
 use Rattle.clash_cert.specs.Places.{AreLinesFor, line_places}
 use Rattle.clash_cert.proofs.TextLemmas.{cancel, same_front, same_lines}
 use Rattle.clash_cert.proofs.PlaceLemmas.{fit_length, lines_free}
@@ -35,6 +35,11 @@ module _ (one_stamp : (text : List ℕ) (a b : ℤ) → WritesStamp text a → W
       let numbers : codes " " ++ decimal days ≡ codes " " ++ decimal more = cancel stamp _ _ (both ∙ ap (λ s. s ++ (codes " " ++ decimal more)) (sym stamps)) in
       let count : days ≡ more = decimal_injective days more h.1 k.1 (cancel (codes " ") _ _ numbers) in
       ap (λ t. Span t days) same ∙ ap (Span later) count
+  one_entry End (Res m) text h k e f = absurd (let first : 69 ≡ 82 = ap (λ l. get_or l 0 0) (sym e ∙ f) in omega (arith, first))
+  one_entry (Res m) End text h k e f = absurd (let first : 82 ≡ 69 = ap (λ l. get_or l 0 0) (sym e ∙ f) in omega (arith, first))
+  one_entry (Span from days) (Res m) text h k (stamp, w, e) f = absurd (let first : 83 ≡ 82 = ap (λ l. get_or l 0 0) (sym e ∙ f) in omega (arith, first))
+  one_entry (Res m) (Span from days) text h k e (stamp, w, f) = absurd (let first : 82 ≡ 83 = ap (λ l. get_or l 0 0) (sym e ∙ f) in omega (arith, first))
+  one_entry (Res m) (Res n) text h k e f = ap Res (decimal_injective m n h k (cancel (codes "RES ") _ _ (sym e ∙ f)))
 
   one_pair : (i j : ℕ) (entry other : Entry) (line : List ℕ) → IsEntry entry → IsEntry other → IsPairLine i j entry line → IsPairLine i j other line → entry ≡ other
   one_pair i j entry other line h k (text, w, e) (word, v, f) =
@@ -104,6 +109,7 @@ module _ (one_stamp : (text : List ℕ) (a b : ℤ) → WritesStamp text a → W
   one_text_of_entry : (entry : Entry) (x y : List ℕ) → IsEntryText entry x → IsEntryText entry y → x ≡ y
   one_text_of_entry End x y e f = e ∙ sym f
   one_text_of_entry (Span from days) x y (stamp, w, e) (other, v, f) = e ∙ ap (λ s. codes "SPAN " ++ (s ++ (codes " " ++ decimal days))) (one_form stamp other from w v) ∙ sym f
+  one_text_of_entry (Res m) x y e f = e ∙ sym f
 
   one_row_of : (i j : ℕ) (row : List Entry) (xs ys : List (List ℕ)) → AreRowLines i j row xs → AreRowLines i j row ys → xs ≡ ys
   one_row_of i j [] xs ys e f = e ∙ sym f

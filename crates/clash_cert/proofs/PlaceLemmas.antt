@@ -4,7 +4,7 @@ use Rattle.std.specs.Prelude.{codes, decimal, All}
 use Rattle.std.proofs.lemmas.Bool.{and_from}
 use Rattle.std.proofs.lemmas.Bool.Decides.{nat_tests}
 use Rattle.std.proofs.lemmas.List.Elements.{All-nil, All-cons, All-head, All-tail}
-use Rattle.profile.specs.checker.Certificates.{Entry, End, Span, IsEntry, IsEntryText, AreRows, AreRowLines, ArePairLines}
+use Rattle.profile.specs.checker.Certificates.{Entry, End, Span, Res, IsEntry, IsEntryText, AreRows, AreRowLines, ArePairLines}
 use Rattle.profile.specs.text.Values.{WritesStamp, two_digits, four_digits}
 use Rattle.clash_cert.specs.Places.{Place, Pair, Last, IsLineFor, AreLinesFor, row_places, pair_places}
 use Rattle.clash_cert.proofs.TextLemmas.{lf_free, AreFree, decimal_free, lf_free-append}
@@ -69,6 +69,7 @@ entry_free (Span from days) text h (stamp, w, e) =
     let last : lf_free (codes " " ++ decimal days) ≡ true = decimal_free days h.1 in
     let all : lf_free (codes "SPAN " ++ (stamp ++ (codes " " ++ decimal days))) ≡ true = lf_free-append stamp (codes " " ++ decimal days) (stamp_free stamp from w) last in
     subst (λ t. lf_free t ≡ true) (sym e) all
+entry_free (Res m) text h e = subst (λ t. lf_free t ≡ true) (sym e) (lf_free-append (codes "RES ") (decimal m) refl (decimal_free m h))
 
 line_free : (place : Place) (line : List ℕ) → IsLineFor place line → lf_free line ≡ true
 line_free (Pair i j) line (first, second, (entry, is, (text, of, e))) =

@@ -10,10 +10,10 @@ use Rattle.std.proofs.lemmas.Option.{same_Some, none-some}
 use Rattle.std.proofs.lemmas.List.{length-append}
 use Rattle.std.proofs.lemmas.Bool.{true≢false}
 use Rattle.profile.specs.text.Values.{SpellsStamp, WritesStamp, SpellsClock, two_digits, four_digits}
-use Rattle.profile.specs.checker.Certificates.{Entry, End, Span, IsEntry, IsEntryText}
+use Rattle.profile.specs.checker.Certificates.{Entry, End, Span, Res, IsEntry, IsEntryText}
 use Rattle.clash_cert.specs.Texts.{Lacks, LacksLf, IsCutAtLf, IsNoNumber}
 use Rattle.clash_cert.specs.Places.{Pair, LacksPlace}
-use Rattle.clash_cert.specs.Reading.{pair_names, IsNoEntry, IsPairAt}
+use Rattle.clash_cert.specs.Reading.{pair_names, IsNoEntry, IsNoSpan, IsPairAt}
 use Rattle.clash_cert.proofs.TextLemmas.{cancel, position_at, same_front}
 use Rattle.clash_cert.proofs.PlaceLemmas.{entry_free}
 use Rattle.clash_cert.proofs.OneContent.{stamp_length}
@@ -60,16 +60,14 @@ not_sixty text t (local, w, e) f =
 
 -- ---- the words of an entry
 
--- what SPAN's words begin with
-pub no_span : (words : List ℕ) → words ≢ codes "END" → Lacks (codes "SPAN ") words → IsNoEntry words
-no_span words other lacks End h e = other e
-no_span words other lacks (Span from days) h (stamp, w, e) = lacks (stamp ++ (codes " " ++ decimal days)) e
+-- SPAN's words begin so
+pub no_span : (words : List ℕ) → Lacks (codes "SPAN ") words → IsNoSpan words
+no_span words lacks from days h (stamp, w, e) = lacks (stamp ++ (codes " " ++ decimal days)) e
 
 -- what follows is a stamp, a space and a number
-module _ (words rest : List ℕ) (other : words ≢ codes "END") (begins : words ≡ codes "SPAN " ++ rest) where
-  pub words_short : length rest < 16 → IsNoEntry words
-  words_short short End h e = other e
-  words_short short (Span from days) h (stamp, w, e) =
+module _ (words rest : List ℕ) (begins : words ≡ codes "SPAN " ++ rest) where
+  pub words_short : length rest < 16 → IsNoSpan words
+  words_short short from days h (stamp, w, e) =
       let same : rest ≡ stamp ++ (codes " " ++ decimal days) = cancel (codes "SPAN ") _ _ (sym begins ∙ e) in
       let n = ap length same in
       let k = stamp_length stamp from w in
@@ -83,20 +81,33 @@ module _ (words rest : List ℕ) (other : words ≢ codes "END") (begins : words
         let front : first ≡ stamp = same_front first stamp last _ (long ∙ sym (stamp_length stamp from w)) same in
         (front, cancel first _ _ (same ∙ ap (λ s. s ++ (codes " " ++ decimal days)) (sym front)))
 
-    pub no_stamp : ((t : ℤ) → WritesStamp first t → ⊥) → IsNoEntry words
-    no_stamp none End h e = other e
-    no_stamp none (Span from days) h t = none from (subst (λ s. WritesStamp s from) (sym (stamps from days t).0) t.1)
+    pub no_stamp : ((t : ℤ) → WritesStamp first t → ⊥) → IsNoSpan words
+    no_stamp none from days h t = none from (subst (λ s. WritesStamp s from) (sym (stamps from days t).0) t.1)
 
-    pub no_space : Lacks (codes " ") last → IsNoEntry words
-    no_space lacks End h e = other e
-    no_space lacks (Span from days) h t = lacks (decimal days) (stamps from days t).1
+    pub no_space : Lacks (codes " ") last → IsNoSpan words
+    no_space lacks from days h t = lacks (decimal days) (stamps from days t).1
 
-    pub no_days : (digits : List ℕ) → last ≡ codes " " ++ digits → IsNoNumber digits → IsNoEntry words
-    no_days digits e none End h f = other f
-    no_days digits e none (Span from days) h t = none days h.1 (cancel (codes " ") _ _ (sym e ∙ (stamps from days t).1))
+    pub no_days : (digits : List ℕ) → last ≡ codes " " ++ digits → IsNoNumber digits → IsNoSpan words
+    no_days digits e none from days h t = none days h.1 (cancel (codes " ") _ _ (sym e ∙ (stamps from days t).1))
 
     pub span_words : (t : ℤ) (digits : List ℕ) (n : ℕ) → WritesStamp first t → last ≡ codes " " ++ digits → digits ≡ decimal n → IsEntryText (Span t n) words
     span_words t digits n w e f = (first, w, begins ∙ ap (λ l. codes "SPAN " ++ l) (parts ∙ ap (λ l. first ++ l) (e ∙ ap (λ l. codes " " ++ l) f)))
+
+-- other words than those of END and RES are SPAN's, if an entry's
+pub no_entry : (words : List ℕ) → words ≢ codes "END" → Lacks (codes "RES ") words → IsNoSpan words → IsNoEntry words
+no_entry words other lacks none End h e = other e
+no_entry words other lacks none (Span from days) h w = none from days h w
+no_entry words other lacks none (Res m) h e = lacks (decimal m) e
+
+pub or_span : {A : Type 0} (words : List ℕ) (r : Option A) (P : A → Type 0) → words ≢ codes "END" → Lacks (codes "RES ") words → MatchOption r (IsNoSpan words) P → MatchOption r (IsNoEntry words) P
+or_span words None P other lacks none = no_entry words other lacks none
+or_span words (Some x) P other lacks is = is
+
+-- after RES comes a number
+pub no_modulus : (words digits : List ℕ) → words ≡ codes "RES " ++ digits → IsNoNumber digits → IsNoEntry words
+no_modulus words digits begins none End h e = let first : 82 ≡ 69 = ap (λ l. get_or l 0 0) (sym begins ∙ e) in omega (arith, first)
+no_modulus words digits begins none (Span from days) h (stamp, w, e) = let first : 82 ≡ 83 = ap (λ l. get_or l 0 0) (sym begins ∙ e) in omega (arith, first)
+no_modulus words digits begins none (Res m) h e = none m h (cancel (codes "RES ") _ _ (sym begins ∙ e))
 
 -- ---- the line of a pair
 

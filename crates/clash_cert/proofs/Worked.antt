@@ -1,5 +1,5 @@
 -- The definitions at worked examples: texts that spell a certificate, and texts that don't.
-use Rattle.std.proofs.Common.{◌≡◌, ◌∙◌, pos, [], ◌∷◌, length, refl, sym, ap, lit<, lit≤, inl, arith}
+use Rattle.std.proofs.Common.{ℕ, List, ◌≡◌, ◌≢◌, ◌∙◌, pos, [], ◌∷◌, get_or, length, refl, sym, ap, lit<, lit≤, inl, arith}
 use Rattle.std.specs.Prelude.{codes, decimal}
 use Rattle.std.specs.Fmt.{digits}
 use Rattle.std.specs.Str.Parse.{digits_value}
@@ -8,12 +8,12 @@ use Rattle.std.proofs.lemmas.List.Elements.{All-nil, All-cons}
 use Rattle.std.proofs.lemmas.Int.{ints}
 use Rattle.profile.specs.series.Days.{days_before_year, days_of_months}
 use Rattle.profile.specs.text.Values.{WritesStamp}
-use Rattle.profile.specs.checker.Certificates.{End, Span, IsEntry, SpellsCertificate, BeginsWell, FirstWrong}
-use Rattle.clash_cert.specs.Texts.{IsNoNumber}
+use Rattle.profile.specs.checker.Certificates.{End, Span, Res, IsEntry, SpellsCertificate, BeginsWell, FirstWrong}
+use Rattle.clash_cert.specs.Texts.{Lacks, IsNoNumber}
 use Rattle.clash_cert.specs.Places.{Pair, Last}
-use Rattle.clash_cert.specs.Reading.{IsNoEntry}
+use Rattle.clash_cert.specs.Reading.{IsNoEntry, IsNoSpan}
 use Rattle.clash_cert.proofs.TextLemmas.{digits_model}
-use Rattle.clash_cert.proofs.Words.{no_stamp, no_days, no_words, not_sixty}
+use Rattle.clash_cert.proofs.Words.{no_entry, no_modulus, no_stamp, no_days, no_words, not_sixty}
 use Rattle.clash_cert.proofs.WrongLines.{wrong_entry}
 
 -- ---- without series
@@ -100,6 +100,20 @@ of_span = record {
   is = refl;
 }
 
+-- and by the residues modulo a week
+of_res : SpellsCertificate (codes "ROOMCERT 1\nSINGLES 0\nSERIES 1\nPAIR 1 1 RES 604800\nDONE\n") (record { singles = 0; series = 1; rows = (Res 604_800 ∷ []) ∷ [] })
+unfolding digits
+of_res = record {
+  claims = record { singles = lit< tt; series = lit< tt; rows = (refl, All-cons IsEntry (Res 604_800) [] (lit< tt) (All-nil IsEntry), refl) };
+  lines = codes "ROOMCERT 1" ∷ codes "SINGLES 0" ∷ codes "SERIES 1" ∷ codes "PAIR 1 1 RES 604800" ∷ codes "DONE" ∷ [];
+  are = record {
+    pairs = codes "PAIR 1 1 RES 604800" ∷ [];
+    are = (codes "PAIR 1 1 RES 604800" ∷ [], [], refl, ((codes "RES 604800", refl, refl), refl), refl);
+    is = refl;
+  };
+  is = refl;
+}
+
 -- of two series: each with itself, and the first with the second
 of_two : SpellsCertificate (codes "ROOMCERT 1\nSINGLES 0\nSERIES 2\nPAIR 1 1 END\nPAIR 1 2 SPAN 20250116T000000Z 7\nPAIR 2 2 END\nDONE\n")
     (record { singles = 0; series = 2; rows = (End ∷ Span (pos 1_736_985_600) 7 ∷ []) ∷ (End ∷ []) ∷ [] })
@@ -131,11 +145,21 @@ of_two = record {
 
 -- ---- what isn't an entry
 
+-- words that begin with S are SPAN's, if an entry's
+other_is_none : (words : List ℕ) → get_or words 0 0 ≡ 83 → IsNoSpan words → IsNoEntry words
+other_is_none words first none = no_entry words other lacks none
+  where
+    other : words ≢ codes "END"
+    other e = let end : 83 ≡ 69 = sym first ∙ ap (λ l. get_or l 0 0) e in omega (arith, end)
+
+    lacks : Lacks (codes "RES ") words
+    lacks rest e = let res : 83 ≡ 82 = sym first ∙ ap (λ l. get_or l 0 0) e in omega (arith, res)
+
 -- second 60
 no_second_60 : IsNoEntry (codes "SPAN 20250116T000060Z 7")
 no_second_60 =
-    no_stamp (codes "SPAN 20250116T000060Z 7") (codes "20250116T000060Z 7") (λ e. absurd (let n = ap length e in omega (arith, n))) refl (codes "20250116T000060Z") (codes " 7") refl refl
-    (λ t w. not_sixty (codes "20250116T000060Z") t w refl)
+    other_is_none (codes "SPAN 20250116T000060Z 7") refl
+    (no_stamp (codes "SPAN 20250116T000060Z 7") (codes "20250116T000060Z 7") refl (codes "20250116T000060Z") (codes " 7") refl refl (λ t w. not_sixty (codes "20250116T000060Z") t w refl))
 
 -- a leading zero
 no_zero : IsNoNumber (codes "07")
@@ -148,7 +172,11 @@ no_zero n h e =
 
 no_leading_zero : IsNoEntry (codes "SPAN 20250116T000000Z 07")
 no_leading_zero =
-    no_days (codes "SPAN 20250116T000000Z 07") (codes "20250116T000000Z 07") (λ e. absurd (let n = ap length e in omega (arith, n))) refl (codes "20250116T000000Z") (codes " 07") refl refl (codes "07") refl no_zero
+    other_is_none (codes "SPAN 20250116T000000Z 07") refl
+    (no_days (codes "SPAN 20250116T000000Z 07") (codes "20250116T000000Z 07") refl (codes "20250116T000000Z") (codes " 07") refl refl (codes "07") refl no_zero)
+
+no_zero_of_res : IsNoEntry (codes "RES 07")
+no_zero_of_res = no_modulus (codes "RES 07") (codes "07") refl no_zero
 
 -- so the line of a pair with such words is the first wrong one
 wrong_line : FirstWrong (codes "ROOMCERT 1\nSINGLES 0\nSERIES 1\nPAIR 1 1 SPAN 20250116T000060Z 7\nDONE\n") 4

@@ -1,7 +1,7 @@
 -- What was read of the lines of entries, and what was written of them.
 use Rattle.std.specs.Prelude.{ℕ, ℤ, List, [], ◌∷◌, ◌++◌, ◌-◌, ◌≡◌, All, length, codes, decimal}
 use Rattle.profile.specs.text.Values.{WritesStamp}
-use Rattle.profile.specs.checker.Certificates.{Entry, IsEntry, IsEntryText, IsPairLine, AreRows, AreRowLines, ArePairLines, AreLines, spelled}
+use Rattle.profile.specs.checker.Certificates.{Entry, Span, IsEntry, IsEntryText, IsPairLine, AreRows, AreRowLines, ArePairLines, AreLines, spelled}
 
 -- what comes before the words of an entry
 abbrev pub pair_names : ℕ → ℕ → List ℕ
@@ -10,6 +10,10 @@ pair_names i j = codes "PAIR " ++ (decimal i ++ (codes " " ++ (decimal j ++ code
 -- they are the words of no entry
 abbrev pub IsNoEntry : List ℕ → Type 0
 IsNoEntry words = (entry : Entry) → IsEntry entry → IsEntryText entry words → ⊥
+
+-- they are those of no SPAN
+abbrev pub IsNoSpan : List ℕ → Type 0
+IsNoSpan words = (from : ℤ) (days : ℕ) → IsEntry (Span from days) → IsEntryText (Span from days) words → ⊥
 
 -- a line of that pair with this entry is at the front of the octets
 pub record IsPairAt (i j : ℕ) (entry : Entry) (bytes rest : List ℕ) : Type 0 where

@@ -42,6 +42,7 @@ pub record IsCutAtLf (bytes line rest : List ℕ) : Type 0 where
 abbrev pub entry_said : Entry → said.Entry
 entry_said TheVariants.End = said.End
 entry_said (TheVariants.Span from days) = said.Span from days
+entry_said (TheVariants.Res m) = said.Res m
 
 -- what the entries of all rows say
 abbrev pub rows_said : List (Vec Entry Global) → List (List said.Entry)

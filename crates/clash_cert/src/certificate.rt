@@ -1,6 +1,6 @@
 //! The text of a certificate: lines ended by LF, `ROOMCERT 1`, `SINGLES k`, `SERIES n`, for all 1 <= i <= j <= n, by i and then by j, a line
-//! `PAIR i j END` or `PAIR i j SPAN from days`, and `DONE`, with nothing after. Numbers are decimal, of 64 bits, without leading zeros; an
-//! instant is `YYYYMMDDTHHMMSSZ` with seconds up to 59.
+//! `PAIR i j END`, `PAIR i j SPAN from days` or `PAIR i j RES m`, and `DONE`, with nothing after. Numbers are decimal, of 64 bits, without
+//! leading zeros; an instant is `YYYYMMDDTHHMMSSZ` with seconds up to 59.
 ghost use Rattle.std.specs.Prelude.{ℕ, List, [], ◌≡◌, length, IfOk, IfErr, OnOk, OnErr};
 ghost use Rattle.std.specs.List.{slice_index_or};
 ghost use Rattle.profile.specs.checker.Certificates.{Claims, IsClaims, FirstWrong, SpellsCertificate, entry_of};
@@ -33,6 +33,9 @@ pub enum Entry {
     /// From an instant on both do the same after so many days, and no two of their instances share an instant up to the end of that period
     /// and the greater width after it.
     Span { from: Stamp, days: u64 },
+    /// Arcs of their residues modulo so many seconds don't meet, so no two of their instances ever share an instant. Which numbers these may be,
+    /// the checker judges.
+    Res(u64),
 }
 
 /// What a certificate says: how many singles and how many series its calendar has, and an entry for each pair of series.

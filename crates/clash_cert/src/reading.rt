@@ -6,7 +6,7 @@ ghost use Rattle.profile.specs.text.Values.{WritesStamp};
 ghost use Rattle.profile.specs.checker.Certificates.{IsEntry, IsEntryText, Span};
 ghost use Rattle.clash_cert.specs.Texts.{Lacks, LacksLine, LacksCount, LacksLf, IsCutAtLf, IsNoNumber, entry_said, rows_said};
 ghost use Rattle.clash_cert.specs.Places.{Pair, LacksPlace, MissesPlace, IsBroken, row_places, pair_places, line_places};
-ghost use Rattle.clash_cert.specs.Reading.{pair_names, IsNoEntry, IsNoStamp, IsPairAt, IsRowOf, AreRowsOf, AreEntriesOf};
+ghost use Rattle.clash_cert.specs.Reading.{pair_names, IsNoEntry, IsNoSpan, IsNoStamp, IsPairAt, IsRowOf, AreRowsOf, AreEntriesOf};
 ghost use Rattle.clash_cert.specs.Stops.{StopsAt};
 
 use crate::certificate::Entry;
@@ -130,6 +130,17 @@ fn entry_of(words: &[u8]) -> Option<Entry>
     if words == b"END".as_slice() {
         return Some(Entry::End);
     }
+    let Some(digits) = after(words, b"RES ") else {
+        return span_of(words);
+    };
+    let modulus = number_of(digits)?;
+    Some(Entry::Res(modulus))
+}
+
+/// The entry of the words of a SPAN.
+fn span_of(words: &[u8]) -> Option<Entry>
+    ensures { MatchOption result (IsNoSpan words.now) (λ entry. IsEntry (entry_said entry) × IsEntryText (entry_said entry) words.now) }
+{
     let rest = after(words, b"SPAN ")?;
     let (stamp, rest) = rest.split_at_checked(16)?;
     let from = stamp_of(stamp)?;

@@ -74,6 +74,7 @@ fn write_entry(out: &mut Vec<u8>, entry: Entry) -> Result<(), AllocError>
             from.write(out)?;
             write_number(out, b" ", days, b"")?;
         }
+        Entry::Res(modulus) => write_number(out, b"RES ", modulus, b"")?,
     }
     Ok(())
 }

@@ -6,7 +6,8 @@ mod ZoneTextExamples
 mod WrittenZoneExamples
 mod EventRuleExamples
 mod OccurrenceExamples
-mod SpanExamples
+pub mod SpanExamples
+mod ResidueExamples
 mod StartExamples
 mod ConfirmedExamples
 mod OrganiserExamples

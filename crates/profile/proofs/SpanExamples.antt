@@ -14,13 +14,13 @@ use Rattle.profile.specs.events.Spans.{IsBoundOf, IsLeastPeriodOf, IsPastAll, Is
 
 -- ---- Mondays from 2025-01-06 on, but not 2025-01-13
 
-abbrev mondays : Pattern
+abbrev pub mondays : Pattern
 mondays = record { frequency = Weekly; interval = 1; week_start = 0; months = []; month_days = []; weekdays = []; positions = []; start = 739_622 }
 
-abbrev each_monday : Rule
+abbrev pub each_monday : Rule
 each_monday = record { pattern = mondays; count = None; last = 3_652_424; until = None }
 
-abbrev master : EventComponent
+abbrev pub master : EventComponent
 master = record {
   uid = [];
   organiser = None;
@@ -36,7 +36,7 @@ master = record {
   attendees = [];
 }
 
-abbrev series : Event
+abbrev pub series : Event
 series = record { master = Some master; overrides = [] }
 
 the_rule : (rule : Rule) → master.rule ≡ Some rule → each_monday ≡ rule
