@@ -49,7 +49,7 @@ pub fn make(alloc: Global, calendar: &Calendar) -> Result<Made, AllocError>
 }
 
 /// Two confirmed instances that share an instant, None where all are clear. Fails only when out of memory.
-fn clash_in(alloc: Global, calendar: &Calendar) -> Result<Option<Clash>, AllocError>
+pub(crate) fn clash_in(alloc: Global, calendar: &Calendar) -> Result<Option<Clash>, AllocError>
     ensures clash { IfOk result (λ found. IfSome found (IsNamedClash calendar.now)) }
     ensures first { IfOk result (λ found. IfSome found (IsFirstClash calendar.now)) }
     ensures clear { IfOk result (λ found. IfNone found (AreClear (IsOneOf calendar.now) (IsOneOf calendar.now))) }
