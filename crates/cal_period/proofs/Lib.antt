@@ -14,3 +14,6 @@ pub mod Settling
 pub mod Spanning
 pub mod Members
 pub mod AroundLemmas
+pub mod PhaseLemmas
+pub mod PhasesOf
+pub mod Turning

@@ -9,3 +9,6 @@ pub mod Members
 pub mod Spanning
 pub mod LocalResidues
 pub mod Around
+pub mod Phases
+pub mod PhaseViews
+pub mod Strides
