@@ -3,7 +3,7 @@ use Rattle.std.proofs.Common.{◌≡◌, ◌≢◌, ◌∙◌, ap, sym, refl, su
 use Rattle.std.specs.Prelude.{MatchOption, Option, None}
 use Rattle.std.specs.Int.{IsGcd}
 use Rattle.std.specs.List.Sorted.{IsStrictlyIncreasing}
-use Rattle.std.proofs.Math.Nat.{mul_assoc, mul_comm, le_antisymm}
+use Rattle.std.proofs.Math.Nat.{div-le_self, mul_assoc, mul_comm}
 use Rattle.std.proofs.lemmas.Nat.{div-add-mod'}
 use Rattle.std.proofs.lemmas.Nat.Gcd.{mod-eq-zero_of_dvd}
 use Rattle.std.proofs.lemmas.Bool.{true≢false}
@@ -22,6 +22,17 @@ use Rattle.cal_period.specs.Strides.{HasLongStride, IsStrideOr}
 use Rattle.cal_period.proofs.Spanning.{width_is_one}
 
 -- ---- turns
+
+pub some_divisor : (cycle days g : ℕ) → IsGcd cycle days g → 0 < cycle → 0 < g
+some_divisor cycle days zero gcd some =
+    let e = div-add-mod' cycle 0 in
+    let f = mod-eq-zero_of_dvd 0 gcd.0 in
+    let n : cycle / 0 * 0 ≡ 0 = omega arith in
+    absurd (omega (arith, e, f, n, some))
+some_divisor cycle days (suc g) gcd some = omega arith
+
+pub few_turns : (days g : ℕ) → days ≤ 420 → days / g ≤ 420
+few_turns days g few = let l = div-le_self days g in omega (arith, l, few)
 
 module _ (cycle days m g : ℕ) (gcd : IsGcd cycle days g) (is : m ≡ 86_400 * days) (some : 0 < days) where
   whole_days : days ≡ days / g * g
@@ -105,26 +116,32 @@ module _ (a b : Event) (m : ℕ) (modulus : IsModulus m) (first : List ℕ) (of_
   own_hold apart = record {
     modulus = modulus;
     two = λ e. absurd (true≢false e);
-    one = λ _ v of. subst (λ x. (x ≤ℤ pos m) × ((r s : ℕ) → IsResidue a m r → IsResidue a m s → r ≢ s → ArcsMeet m r x s x → ⊥)) (width_is_one a w v width of)
-        (apart.0, λ r s c d. apart.1 r s ((of_first.exact r).1 c) ((of_first.exact s).1 d));
+    one = λ _. (w, width, apart.0, λ r s c d. apart.1 r s ((of_first.exact r).1 c) ((of_first.exact s).1 d));
   }
 
   pub own_apart : ResiduesHold true a b m → IsApart m first w
-  own_apart holds = let one = holds.one refl w width in (one.0, λ r s c d. one.1 r s ((of_first.exact r).0 c) ((of_first.exact s).0 d))
+  own_apart holds = by (holds.one refl)
+    where
+      by : IsArcsApart a m → IsApart m first w
+      by (x, of, narrow, apart) =
+          subst (IsApart m first) (width_is_one a x w of width) (narrow, λ r s c d. apart r s ((of_first.exact r).0 c) ((of_first.exact s).0 d))
 
   -- two series
   module _ (second : List ℕ) (of_second : AreResidues b m second) (v : ℤ) (other : IsWidthOf b v) where
     pub two_hold : AreApart m first w second v → ResiduesHold false a b m
     two_hold apart = record {
       modulus = modulus;
-      two = λ _ x y of there r s c d.
-          subst (λ x. ArcsMeet m r x s y → ⊥) (width_is_one a w x width of)
-          (subst (λ y. ArcsMeet m r w s y → ⊥) (width_is_one b v y other there) (apart r s ((of_first.exact r).1 c) ((of_second.exact s).1 d)));
+      two = λ _. (w, v, width, other, λ r s c d. apart r s ((of_first.exact r).1 c) ((of_second.exact s).1 d));
       one = λ e. absurd (true≢false (sym e));
     }
 
     pub two_apart : ResiduesHold false a b m → AreApart m first w second v
-    two_apart holds r s c d = holds.two refl w v width other r s ((of_first.exact r).0 c) ((of_second.exact s).0 d)
+    two_apart holds = by (holds.two refl)
+      where
+        by : AreArcsApart a b m → AreApart m first w second v
+        by (x, y, of, there, apart) =
+            subst (λ x. AreApart m first x second v) (width_is_one a x w of width)
+            (subst (λ y. AreApart m first x second y) (width_is_one b y v there other) (λ r s c d. apart r s ((of_first.exact r).0 c) ((of_second.exact s).0 d)))
 
 -- ---- what settles
 

@@ -2,7 +2,7 @@
 ghost use Rattle.std.specs.Prelude.{◌≡◌, ◌↔◌, ℕ, ◌*◌, ◌<◌, ◌≤◌, Contains, IsTrue, IfOk, MatchOption};
 ghost use Rattle.std.specs.List.Sorted.{IsStrictlyIncreasing};
 ghost use Rattle.profile.specs.series.Periods.{IsMultiple};
-ghost use Rattle.profile.specs.events.Residues.{AreResidues, IsModulus, ResiduesHold};
+ghost use Rattle.profile.specs.events.Residues.{AreResidues, IsModulus, IsStrideOf, ResiduesHold};
 ghost use Rattle.profile.specs.checker.Certificates.{AreSettling, NoneSettle};
 ghost use Rattle.cal_events.specs.Series.{series_said};
 ghost use Rattle.cal_period.specs.Strides.{IsStrideOr};
@@ -73,13 +73,25 @@ pub fn settling_residues(
 fn common_stride(a: &Series, b: &Series) -> Option<u64>
     ensures { IsStrideOr (series_said a.now) (series_said b.now) result }
 {
-    // Only for the proof: the strides of a rule are the multiples of the least one.
-    form_days_repeat();
-    let days = common_multiple(a.rule().stride(), b.rule().stride())?;
+    let first = stride(a);
+    let second = stride(b);
+    let Some(days) = common_multiple(first, second) else {
+        return None;
+    };
     if days > MOST_DAYS {
         return None;
     }
     Some(days)
+}
+
+/// The number of days after whose multiples the form of the rule allows the same days, and after no others.
+fn stride(series: &Series) -> u64
+    ensures { (days : ℕ) → IsStrideOf (series_said series.now) days ↔ IsMultiple days result }
+{
+    // Only for the proof: it has a rule, whose strides are the multiples of the least one.
+    form_days_repeat();
+    let _ = series.second();
+    series.rule().stride()
 }
 
 /// Do residues modulo m hold of two series, or of one by itself? Fails only when out of memory.
