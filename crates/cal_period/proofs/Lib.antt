@@ -16,3 +16,6 @@ pub mod Members
 pub mod OnsetTheorem
 pub mod NearOnsets
 pub mod AroundLemmas
+pub mod PhaseLemmas
+pub mod PhasesOf
+pub mod Turning

@@ -10,3 +10,6 @@ pub mod Spanning
 pub mod LocalResidues
 pub mod Onsets
 pub mod Around
+pub mod Phases
+pub mod PhaseViews
+pub mod Strides

@@ -10,6 +10,7 @@ mod clash;
 mod every_pair;
 mod law;
 mod onsets;
+mod phases;
 mod recurs;
 mod residue;
 mod settled;

@@ -10,6 +10,7 @@ ghost use Rattle.cal_rules.specs.Forms.{form_cycle};
 ghost use Rattle.cal_period.specs.Phases.{MeetsOther, nth_offset};
 
 use crate::arcs::{arcs_meet, residue_of};
+use cal_events::Series;
 use cal_rules::Rule;
 use std::alloc::{AllocError, Global};
 
@@ -35,7 +36,24 @@ pub(crate) struct Phases<'a> {
 
 impl<'a> Phases<'a> {
     ghost use Rattle.std.specs.Prelude.{◌↔◌, ℕ, Contains, IfOk};
+    ghost use Rattle.profile.specs.events.Residues.{IsResidue};
+    ghost use Rattle.cal_events.specs.Series.{series_said};
+    ghost use Rattle.cal_period.specs.LocalResidues.{IsLocalResidue};
     ghost use Rattle.cal_period.specs.PhaseViews.{AreTurnsOf, IsNthOr, IsPhaseOf};
+
+    /// Those of a series: its residues.
+    pub fn of(series: &'a Series) -> Phases<'a>
+        ensures { (m residue : ℕ) → IsResidue (series_said series.now) m residue ↔ IsPhaseOf result m residue }
+    {
+        Phases::new(series.rule(), series.second(), series.zone().offsets())
+    }
+
+    /// Those of a series by the clocks of its zone.
+    pub fn local(series: &'a Series) -> Phases<'a>
+        ensures { (m residue : ℕ) → IsLocalResidue (series_said series.now) m residue ↔ IsPhaseOf result m residue }
+    {
+        Phases::new(series.rule(), series.second(), (0, 0))
+    }
 
     /// Those of a rule, at a second of the day, by these offsets.
     pub fn new(rule: &'a Rule, second: u32, offsets: (i32, i32)) -> Phases<'a>
