@@ -55,7 +55,7 @@ module _ (series : Series) (n : ℤ) (width : (master : Said) → IsMasterOf (se
 
 -- ---- where to enter
 
-saturated : (z : ℤ) → (saturate_signed w64 z ≤ℤ z) ⊎ (saturate_signed w64 z ≡ negsuc 9_223_372_036_854_775_807)
+pub saturated : (z : ℤ) → (saturate_signed w64 z ≤ℤ z) ⊎ (saturate_signed w64 z ≡ negsuc 9_223_372_036_854_775_807)
 saturated (pos n) = inl (omega (arith, ints))
 saturated (negsuc n) = elim (cases_lt n 9_223_372_036_854_775_808) [ inl below ↦ inl (omega (arith, ints, below)) | inr from ↦ inr (omega (arith, ints, from)) ]
 

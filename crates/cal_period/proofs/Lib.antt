@@ -13,4 +13,6 @@ pub mod SeriesLaw
 pub mod Settling
 pub mod Spanning
 pub mod Members
+pub mod OnsetTheorem
+pub mod NearOnsets
 pub mod AroundLemmas

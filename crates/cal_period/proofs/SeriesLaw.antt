@@ -232,6 +232,9 @@ module _ (a : Event) (h : HasSaid a) where
           | inr endless ↦ from_rule (start +ℤ d) (end +ℤ d) (later endless start end l listed (lasts_by_rule start end is))
         ]
 
+pub said_starts : (a : Event) (h : HasSaid a) (b : Instance) → IsInstance a b → IsRuleStart h.master.times h.rule b.start
+said_starts a h b is = (to_rule a h b is).given
+
 pub repeats_earlier : RulesDown → RulesUp → ZonesLaw → (a : Event) (from : ℤ) (days : ℕ) → IsSaidSeries a → IsPastAll a from → IsPeriodOf a days → RepeatsFrom (Lasts a) from (pos (86_400 * days))
 repeats_earlier rules_down rules_up zones a from days s past period =
     let h = has_said zones.said a s in

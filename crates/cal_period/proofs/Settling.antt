@@ -34,7 +34,7 @@ horizon_settles a b known_a known_b = record {
 -- ---- up to the bound of a span
 
 -- the later start of two that share an instant is in both
-later_start : (a b c d t : ℤ) → IsWithin a b t → IsWithin c d t → (u : ℤ) × ((u ≡ a) ⊎ (u ≡ c)) × IsWithin a b u × IsWithin c d u
+pub later_start : (a b c d t : ℤ) → IsWithin a b t → IsWithin c d t → (u : ℤ) × ((u ≡ a) ⊎ (u ≡ c)) × IsWithin a b u × IsWithin c d u
 later_start a b c d t x y =
     by_lt_z a c
     (λ less. (c, inr refl, (omega (arith, ints, less), omega (arith, ints, x.1, y.0)), (omega (arith, ints), omega (arith, ints, y.0, y.1))))

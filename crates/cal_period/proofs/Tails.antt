@@ -40,7 +40,7 @@ skipped a b by entry left next from early ahead x is l = elim from.begins [
 ]
 
 -- an instance shares nothing with what is behind where it doesn't with the one that ends last
-meets_none_since : (series : Event) (by place : ℤ) (last : Option Instance) (other : Instance) → IsLastSince series by place last → MeetsNone last other
+pub meets_none_since : (series : Event) (by place : ℤ) (last : Option Instance) (other : Instance) → IsLastSince series by place last → MeetsNone last other
     → (x : SaidInstance) → IsBehind series place x → (s : Share x (instance_of other)) → by ≤ℤ s.instant → ⊥
 meets_none_since series by place None other l m x h s late = let e = l x h in omega (arith, ints, e, late, s.in_first)
 meets_none_since series by place (Some z) other l (inl none) x h s late = omega (arith, ints, none, s.in_second)

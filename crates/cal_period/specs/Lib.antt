@@ -8,4 +8,5 @@ pub mod Recurring
 pub mod Members
 pub mod Spanning
 pub mod LocalResidues
+pub mod Onsets
 pub mod Around

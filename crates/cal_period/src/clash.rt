@@ -23,7 +23,7 @@ pub fn clash_of_pair<'a>(a: &'a Series, b: &'a Series) -> Option<(Instance<'a>, 
 }
 
 /// When the first instance of a series starts, if it has one.
-fn first_start(series: &Series) -> Option<i64>
+pub(crate) fn first_start(series: &Series) -> Option<i64>
     ensures { IsFirstStart (series_said series.now) result }
 {
     known_by_start();
@@ -67,7 +67,7 @@ fn clash_onward<'a>(
 }
 
 /// Where to enter a series: what starts earlier is over by an instant. It is no more than a width before that.
-fn entry(series: &Series, by: i64) -> i64
+pub(crate) fn entry(series: &Series, by: i64) -> i64
     ensures over { IsEntry (series_said series.now) by result }
     ensures near { (width : ℤ) × IsWidthOf (series_said series.now) width × (by ≤ℤ (result +ℤ width)) }
 {

@@ -13,7 +13,9 @@ pub fn residues(alloc: Global, series: &Series, m: u64) -> Result<Vec<u64>, Allo
     requires { IsModulus m }
     ensures { IfOk result (λ all. AreResidues (series_said series.now) m all.items) }
 {
-    let _ = (alloc, series, m);
+    let _ = alloc;
+    let _ = m;
+    let _ = &series;
     Err(AllocError)
 }
 
@@ -27,6 +29,9 @@ pub fn settling_residues(
 ) -> Result<Option<u64>, AllocError>
     ensures { IfOk result (λ found. MatchOption found (NoneSettle own (series_said a.now) (series_said b.now)) (AreSettling own (series_said a.now) (series_said b.now))) }
 {
-    let _ = (alloc, a, b, own);
+    let _ = alloc;
+    let _ = own;
+    let _ = &a;
+    let _ = &b;
     Err(AllocError)
 }

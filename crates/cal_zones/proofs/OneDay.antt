@@ -245,6 +245,20 @@ latest_cycles r n day cycles within h =
     let flip : 146_097 * cycles ≡ cycles * 146_097 = omega arith in
     rw flip at (rw there at (latest_cycles_later r (n - cycles * 146_097) day cycles h))
 
+-- the first is as many cycles later
+pub first_cycles : (r : Yearly) (n day cycles : ℕ) → cycles * 146_097 ≤ n → IsFirstDay r (n - cycles * 146_097) day → IsFirstDay r n (day + cycles * 146_097)
+first_cycles r n day cycles within h =
+    let flip : 146_097 * cycles ≡ cycles * 146_097 = omega arith in
+    record {
+      on = rw flip at (on_cycles_later r day cycles h.on);
+      from = let f = h.from in omega (arith, f, within);
+      least = λ other o w.
+          let e : other ≡ (other - 146_097 * cycles) + 146_097 * cycles = omega (arith, w, within) in
+          let early = on_cycles_earlier r (other - 146_097 * cycles) cycles (rw (sym e) o) in
+          let l = h.least (other - 146_097 * cycles) early (omega (arith, w, within)) in
+          omega (arith, l, w, within);
+    }
+
 -- the years of the days up to 9999-12-31, and of the day found
 pub year_range : (n : ℕ) → n ≤ 3_652_424 → year_of n ≤ 9999
 year_range n h =

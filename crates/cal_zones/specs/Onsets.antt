@@ -1,5 +1,5 @@
 -- The onsets of one observance.
-use Rattle.std.specs.Prelude.{◌≡◌, ℕ, ◌*◌, ◌≤◌, true, Option, Some, None, ℤ, pos, ◌+ℤ◌, ◌≤ℤ◌}
+use Rattle.std.specs.Prelude.{◌≡◌, ℕ, ◌+◌, ◌*◌, ◌^◌, ◌≤◌, true, Option, Some, None, ℤ, pos, ◌+ℤ◌, ◌≤ℤ◌, ◌<ℤ◌}
 use Rattle.profile.specs.series.Rules.{Pattern}
 use Rattle.profile.specs.series.Zones.{Observance, begins_on}
 use Rattle.cal_zones.specs.Shapes.{yearly_pattern}
@@ -22,6 +22,13 @@ observance_of o = record {
   offset_to = o.offset_to;
 }
 
+-- their DTSTARTs and their offsets are the same
+pub record HasTimesOf (o other : rust.Observance) : Type 0 where
+  pub day : o.day ≡ other.day
+  pub second : o.second ≡ other.second
+  pub before : o.offset_from ≡ other.offset_from
+  pub after : o.offset_to ≡ other.offset_to
+
 -- the first day on which it begins
 pub record IsFirstDayOf (o : Observance) (day : ℕ) : Type 0 where
   pub begins : begins_on o day ≡ true
@@ -35,3 +42,17 @@ pub record IsLatestAfter (r : Yearly) (first_day : ℕ) (first instant result : 
   pub place : result +ℤ pos (86_400 * first_day) ≡ first +ℤ pos (86_400 * day)
   pub begun : result ≤ℤ instant
   pub latest : (other : ℕ) → IsOn r other → (first +ℤ pos (86_400 * other)) ≤ℤ (instant +ℤ pos (86_400 * first_day)) → other ≤ day
+
+-- the first of them later than an instant
+pub record IsNextAfter (r : Yearly) (first_day : ℕ) (first after result : ℤ) : Type 0 where
+  pub day : ℕ
+  pub on : IsOn r day
+  pub from : first_day ≤ day
+  pub place : result +ℤ pos (86_400 * first_day) ≡ first +ℤ pos (86_400 * day)
+  pub ahead : after <ℤ result
+  pub first_one : (other : ℕ) → IsOn r other → (after +ℤ pos (86_400 * first_day)) <ℤ (first +ℤ pos (86_400 * other)) → day ≤ other
+
+-- 64 bits hold none of the later ones
+abbrev pub IsNoneAfter : Yearly → ℕ → ℤ → ℤ → Type 0
+IsNoneAfter r first_day first after =
+    (other : ℕ) → IsOn r other → (after +ℤ pos (86_400 * first_day)) <ℤ (first +ℤ pos (86_400 * other)) → pos (2 ^ 63 + 86_400 * first_day) ≤ℤ (first +ℤ pos (86_400 * other))

@@ -29,13 +29,13 @@ pub struct Observance {
 }
 
 impl Observance {
-    ghost use Rattle.std.specs.Prelude.{◌≡◌, ◌↔◌, ◌≤◌, true, pos, negsuc, unsigned_abs, IfSome, MatchOption, ◌+ℤ◌, ◌-ℤ◌, ◌≤ℤ◌};
+    ghost use Rattle.std.specs.Prelude.{◌≡◌, ◌↔◌, ◌≤◌, ℕ, true, pos, negsuc, unsigned_abs, IfSome, MatchOption, ◌+ℤ◌, ◌-ℤ◌, ◌≤ℤ◌};
     ghost use Rattle.profile.specs.text.Values.{IsOffset};
     ghost use Rattle.profile.specs.series.Zones.{Single, local_time, IsOffsetAt, IsOnset, IsLatest, IsFirstOf, NoneBegun, onset_at};
-    ghost use Rattle.cal_zones.specs.Onsets.{observance_of, IsFirstDayOf};
+    ghost use Rattle.cal_zones.specs.Onsets.{observance_of, yearly_rule, HasTimesOf, IsFirstDayOf};
     ghost use Rattle.cal_zones.specs.Kinds.{IsOrdered};
     ghost use Rattle.cal_zones.specs.Repeats.{IsBegunFrom};
-    ghost use Rattle.cal_zones.specs.Spans.{AreNoneBetween};
+    ghost use Rattle.cal_zones.specs.Spans.{AreNoneBetween, IsNextOr};
 
     /// The observance with that DTSTART, RRULE, TZOFFSETFROM and TZOFFSETTO.
     pub fn new(start: LocalTime, rule: Option<Yearly>, from: UtcOffset, to: UtcOffset) -> Observance
@@ -116,6 +116,21 @@ impl Observance {
         }
     }
 
+    /// The first onset later than an instant. None where there is none that 64 bits hold.
+    pub(crate) fn next_onset(&self, after: i64) -> Option<i64>
+        ensures { IsNextOr (IsOnset (observance_of self.now)) after result }
+    {
+        let first_day = self.first_day();
+        let first = self.onset_on(first_day);
+        if after < first {
+            return Some(first);
+        }
+        match self.rule {
+            None => None,
+            Some(rule) => rule.next_onset(first_day, first, after),
+        }
+    }
+
     /// An instant such that no onset comes after the given one and before it. It needn't be later than the given one: on
     /// the day of an onset, once that has come, it is that onset.
     pub(crate) fn quiet_until(&self, instant: i64) -> i64
@@ -146,6 +161,34 @@ impl Observance {
         match self.latest_onset(instant) {
             None => self.offset_from,
             Some(_) => self.offset_to,
+        }
+    }
+
+    /// Whether another begins at the same times, by the same offsets.
+    pub(crate) fn is_same(&self, other: &Observance) -> bool
+        ensures { result ≡ true → observance_of self.now ≡ observance_of other.now }
+    {
+        self.has_times_of(other) && Observance::is_same_rule(self.rule, other.rule)
+    }
+
+    /// Whether its DTSTART and its offsets are those of another.
+    fn has_times_of(&self, other: &Observance) -> bool
+        ensures { result ≡ true → HasTimesOf self.now other.now }
+    {
+        self.day == other.day
+            && self.second == other.second
+            && self.offset_from == other.offset_from
+            && self.offset_to == other.offset_to
+    }
+
+    /// Whether two rules are the same, or neither is there.
+    fn is_same_rule(one: Option<Yearly>, other: Option<Yearly>) -> bool
+        ensures { result ≡ true → (day : ℕ) → yearly_rule day one ≡ yearly_rule day other }
+    {
+        match (one, other) {
+            (Some(a), Some(b)) => a.is_same(b),
+            (None, None) => true,
+            _ => false,
         }
     }
 

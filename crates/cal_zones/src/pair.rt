@@ -31,7 +31,7 @@ impl Pair {
     ghost use Rattle.profile.specs.series.ZoneTexts.{AreMatched, AreSpaced, IsPairFault};
     ghost use Rattle.cal_zones.specs.Onsets.{observance_of};
     ghost use Rattle.cal_zones.specs.Kinds.{pair_of};
-    ghost use Rattle.cal_zones.specs.Spans.{AreNoneBetween};
+    ghost use Rattle.cal_zones.specs.Spans.{AreNoneBetween, IsNextOr};
 
     /// The pair of two observances. Refused with 40 where one has no rule, else with 41 where each TZOFFSETFROM isn't the
     /// other's TZOFFSETTO or they are more than 12 hours apart, else with 42 where two onsets of their rules are less than
@@ -66,6 +66,13 @@ impl Pair {
         a.offset_to == b.offset_from && b.offset_to == a.offset_from && a.is_near()
     }
 
+    /// Whether another has the same two, each in its place.
+    pub(crate) fn is_same(&self, other: &Pair) -> bool
+        ensures { result ≡ true → pair_of self.now.standard self.now.daylight ≡ pair_of other.now.standard other.now.daylight }
+    {
+        self.standard.is_same(&other.standard) && self.daylight.is_same(&other.daylight)
+    }
+
     /// The offset in force: what the later of the latest onsets sets, and before all onsets what the first one ends.
     pub(crate) fn offset(&self, instant: i64) -> i32
         ensures offset { IsOffsetAt (pair_of self.now.standard self.now.daylight) instant result }
@@ -79,6 +86,21 @@ impl Pair {
             (Some(_), None) => self.standard.offset_to,
             (Some(x), Some(y)) if x >= y => self.standard.offset_to,
             (Some(_), Some(_)) => self.daylight.offset_to,
+        }
+    }
+
+    /// The first onset of either later than an instant. None where there is none that 64 bits hold.
+    pub(crate) fn next_onset(&self, after: i64) -> Option<i64>
+        ensures { IsNextOr (IsZoneOnset (pair_of self.now.standard self.now.daylight)) after result }
+    {
+        let standard = self.standard.next_onset(after);
+        let daylight = self.daylight.next_onset(after);
+        match (standard, daylight) {
+            (None, None) => None,
+            (None, Some(y)) => Some(y),
+            (Some(x), None) => Some(x),
+            (Some(x), Some(y)) if x <= y => Some(x),
+            (Some(_), Some(y)) => Some(y),
         }
     }
 

@@ -30,11 +30,11 @@ pub struct Yearly {
 }
 
 impl Yearly {
-    ghost use Rattle.std.specs.Prelude.{◌≡◌, ◌↔◌, ◌<◌, ◌≤◌, ◌+◌, true, IsSome, IfSome, negsuc, ◌≤ℤ◌};
+    ghost use Rattle.std.specs.Prelude.{◌≡◌, ◌↔◌, ◌<◌, ◌≤◌, ◌+◌, true, IsSome, IfSome, MatchOption, negsuc, ◌≤ℤ◌};
     ghost use Rattle.profile.specs.series.ZoneTexts.{is_each_year};
     ghost use Rattle.cal_zones.specs.Shapes.{days_of, IsPlaceInMonth};
     ghost use Rattle.cal_zones.specs.Yearly.{IsOn, IsDayOfYear, IsLatestDay, IsFirstDay, HasEarlier};
-    ghost use Rattle.cal_zones.specs.Onsets.{IsLatestAfter};
+    ghost use Rattle.cal_zones.specs.Onsets.{IsLatestAfter, IsNextAfter, IsNoneAfter};
 
     /// The rule of that month and these days of it. None where a year lacks the day or has two of it.
     pub fn new(month: u8, days: MonthDays) -> Option<Yearly>
@@ -45,6 +45,13 @@ impl Yearly {
             return None;
         }
         Some(Yearly { month, days })
+    }
+
+    /// Whether another names the same day of the same month, in the same words.
+    pub(crate) fn is_same(self, other: Yearly) -> bool
+        ensures { result ≡ true → (self.month ≡ other.month) × (self.days ≡ other.days) }
+    {
+        self.month == other.month && self.days == other.days
     }
 
     /// How many days of its month are before the day, in a month of this many days that begins on the day
@@ -122,6 +129,18 @@ impl Yearly {
         self.day_in(year + 1)
     }
 
+    /// The same for any later day. The days repeat after 400 years.
+    fn first_on(self, n: u64) -> u64
+        requires { (366 ≤ n) × (n ≤ 1_000_000_000_000_000) }
+        ensures first { IsFirstDay self n result }
+        ensures near { result ≤ n + 3_652_789 }
+    {
+        let cycles = (n - FIRST_INDEX as u64) / CYCLE as u64;
+        let later = cycles * CYCLE as u64;
+        let early = (n - later) as u32;
+        self.first_from(early) as u64 + later
+    }
+
     /// The latest onset up to an instant that isn't before the first onset.
     pub(crate) fn latest_onset(self, first_day: u32, first: i64, instant: i64) -> i64
         requires day { (366 ≤ first_day) × (first_day ≤ 3_653_155) }
@@ -136,6 +155,19 @@ impl Yearly {
         let day = first_day as u64 + since / whole_day;
         let back = since % whole_day + whole_day * (day - self.latest(day));
         instant - back as i64
+    }
+
+    /// The first onset later than an instant that isn't before the first onset. None where 64 bits don't hold it.
+    pub(crate) fn next_onset(self, first_day: u32, first: i64, after: i64) -> Option<i64>
+        requires day { (366 ≤ first_day) × (first_day ≤ 3_653_155) }
+        requires begun { first ≤ℤ after }
+        ensures { MatchOption result (IsNoneAfter self first_day first after) (IsNextAfter self first_day first after) }
+    {
+        let since = after.abs_diff(first);
+        let whole_day = DAY_SECONDS as u64;
+        let day = first_day as u64 + since / whole_day;
+        let ahead = whole_day * (self.first_on(day + 1) - day) - since % whole_day;
+        after.checked_add(ahead as i64)
     }
 }
 

@@ -49,7 +49,7 @@ pub struct Zone {
 }
 
 impl Zone {
-    ghost use Rattle.std.specs.Prelude.{◌≡◌, ◌↔◌, ◌⊎◌, ℤ, ◌<◌, ◌≤◌, ℕ, None, pos, unsigned_abs, ◌-ℤ◌, IfOk, IfErr, MatchOption, OnOk, OnErr};
+    ghost use Rattle.std.specs.Prelude.{◌≡◌, ◌↔◌, ◌⊎◌, ℤ, ◌<◌, ◌≤◌, ℕ, true, None, pos, unsigned_abs, ◌-ℤ◌, IfOk, IfErr, MatchOption, OnOk, OnErr};
     ghost use Rattle.profile.specs.text.Values.{IsOffset};
     ghost use Rattle.profile.specs.series.Days.{day_index};
     ghost use Rattle.profile.specs.series.Zones.{Constant, Single, IsZoneOnset, IsOffsetAt, Means, AreFirstOnsets, IsBounds, IsOneOffset, IsOneMeaning, IsNearEpoch, IsLastDay, NoneFrom};
@@ -57,7 +57,7 @@ impl Zone {
     ghost use Rattle.profile.specs.series.ZoneTexts.{AreMatched, AreSpaced, IsSingleFault, IsPairFault, SaysZone, ZoneFault};
     ghost use Rattle.cal_zones.specs.Onsets.{observance_of};
     ghost use Rattle.cal_zones.specs.Kinds.{zone_of, pair_of, AreEnds};
-    ghost use Rattle.cal_zones.specs.Spans.{AreNoneBetween};
+    ghost use Rattle.cal_zones.specs.Spans.{AreNoneBetween, IsNextOr};
     ghost use Rattle.cal_zones.specs.Repeats.{IsRegularFrom, IsLeastZonePeriod};
     ghost use Rattle.profile.specs.events.Spans.{IsPastOnsets};
     ghost use Rattle.ical_lines.specs.Fault.{RefusesBy};
@@ -143,6 +143,18 @@ impl Zone {
         }
     }
 
+    /// Whether another zone is the same, in the same words: then its clocks are the same.
+    pub fn is_same(&self, other: &Zone) -> bool
+        ensures { result ≡ true → zone_of self.now ≡ zone_of other.now }
+    {
+        match (&self.kind, &other.kind) {
+            (Form::Constant(a), Form::Constant(b)) => a.offset == b.offset,
+            (Form::Single(a), Form::Single(b)) => a.observance.is_same(&b.observance),
+            (Form::Pair(a), Form::Pair(b)) => a.is_same(b),
+            _ => false,
+        }
+    }
+
     /// The offset in force at an instant, in seconds (RFC 5545 3.6.5). Instants are seconds from
     /// 1970-01-01T00:00:00Z.
     pub fn offset(&self, instant: i64) -> i32
@@ -216,6 +228,17 @@ impl Zone {
             Form::Constant(_) => 1,
             Form::Single(_) => 1,
             Form::Pair(_) => 146_097,
+        }
+    }
+
+    /// The first onset later than an instant. None where there is none that 64 bits hold. Of each observance two years are looked at.
+    pub fn next_onset(&self, after: i64) -> Option<i64>
+        ensures { IsNextOr (IsZoneOnset (zone_of self.now)) after result }
+    {
+        match &self.kind {
+            Form::Constant(_) => None,
+            Form::Single(once) => once.observance.next_onset(after),
+            Form::Pair(pair) => pair.next_onset(after),
         }
     }
 
