@@ -9,5 +9,6 @@ pub mod StopLemmas
 pub mod MakingLemmas
 pub mod TurnLemmas
 pub mod KeptLemmas
+pub mod LookedLemmas
 pub mod ChosenLemmas
 mod Worked

@@ -3,7 +3,8 @@ use Rattle.std.specs.Prelude.{◌≡◌, ℕ, ◌+◌, ◌<◌, ◌==◌, List, 
 use Rattle.std.specs.List.{slice_get}
 use Rattle.profile.specs.checker.Certificates.{Claims, Entry, End, IsEntry, IsEntryMade, IsSeriesAt, IsCertificateMade}
 use Rattle.profile.specs.events.Events.{Event}
-use Rattle.profile.specs.events.Confirmed.{Confirmed}
+use Rattle.profile.specs.events.Confirmed.{Confirmed, IsOneOf}
+use Rattle.profile.specs.checker.Instances.{IsClear}
 
 -- the old certificate is the one that is made for some calendar, whose series of a number is the one that is kept under it, and none is kept twice
 pub record AreKept (old : Claims) (kept : List (Option ℕ)) (all : List Event) : Type 0 where
@@ -12,6 +13,10 @@ pub record AreKept (old : Claims) (kept : List (Option ℕ)) (all : List Event) 
   pub counted : (i n : ℕ) → slice_get kept i ≡ Some (Some n) → 0 < n
   pub same : (i n : ℕ) (a : Event) → slice_get kept i ≡ Some (Some n) → slice_get all i ≡ Some a → IsSeriesAt was n a
   pub once : (i j n : ℕ) → slice_get kept i ≡ Some (Some n) → slice_get kept j ≡ Some (Some n) → i ≡ j
+
+-- and that calendar was clear
+abbrev pub AreKeptClear : Claims → List (Option ℕ) → List Event → Type 0
+AreKeptClear old kept all = (known : AreKept old kept all) × IsClear (IsOneOf known.was)
 
 -- the entry of two series of the calendar for which a certificate is made, by their numbers
 abbrev pub IsSaidOf : Claims → ℕ → ℕ → Entry → Type 0

@@ -99,7 +99,7 @@ fn entry_at(
 }
 
 /// The old number of the series at a place, None where it has none.
-fn number_at(kept: &[Option<u32>], place: usize) -> Option<u32>
+pub(crate) fn number_at(kept: &[Option<u32>], place: usize) -> Option<u32>
     ensures { result ≡ slice_index_or kept.now place None }
 {
     match kept.get(place) {

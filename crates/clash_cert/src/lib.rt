@@ -4,6 +4,7 @@
 pub mod certificate;
 mod choosing;
 mod extending;
+mod looking;
 pub mod making;
 mod reading;
 mod writing;
