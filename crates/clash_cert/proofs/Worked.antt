@@ -1,6 +1,8 @@
 -- The definitions at worked examples: texts that spell a certificate, and texts that don't.
-use Rattle.std.proofs.Common.{ℕ, List, ◌≡◌, ◌≢◌, ◌∙◌, pos, [], ◌∷◌, get_or, length, refl, sym, ap, lit<, lit≤, inl, arith}
-use Rattle.std.specs.Prelude.{codes, decimal}
+use Rattle.std.proofs.Common.{ℕ, zero, suc, ◌-◌, ◌⊎◌, List, ◌≡◌, ◌≢◌, ◌∙◌, pos, [], ◌∷◌, get_or, length, refl, sym, ap, lit<, lit≤, inl, inr, arith}
+use Rattle.std.specs.Prelude.{Option, Some, None, codes, decimal}
+use Rattle.std.specs.List.{slice_get}
+use Rattle.std.proofs.lemmas.Option.{same_Some, none-some}
 use Rattle.std.specs.Fmt.{digits}
 use Rattle.std.specs.Str.Parse.{digits_value}
 use Rattle.std.proofs.lemmas.Fmt.{digits_value-decimal}
@@ -8,7 +10,10 @@ use Rattle.std.proofs.lemmas.List.Elements.{All-nil, All-cons}
 use Rattle.std.proofs.lemmas.Int.{ints}
 use Rattle.profile.specs.series.Days.{days_before_year, days_of_months}
 use Rattle.profile.specs.text.Values.{WritesStamp}
-use Rattle.profile.specs.checker.Certificates.{End, Span, Res, IsEntry, SpellsCertificate, BeginsWell, FirstWrong}
+use Rattle.profile.specs.checker.Certificates.{Claims, End, Span, Res, IsEntry, SpellsCertificate, BeginsWell, FirstWrong, IsSeriesAt, IsCertificateMade}
+use Rattle.profile.specs.events.Events.{Event}
+use Rattle.profile.specs.events.Confirmed.{Confirmed}
+use Rattle.clash_cert.specs.Chosen.{AreKept}
 use Rattle.clash_cert.specs.Texts.{Lacks, IsNoNumber}
 use Rattle.clash_cert.specs.Places.{Pair, Last}
 use Rattle.clash_cert.specs.Reading.{IsNoEntry, IsNoSpan}
@@ -194,3 +199,35 @@ wrong_line =
       is = refl;
       lacks = no_words 1 1 (codes "PAIR 1 1 SPAN 20250116T000060Z 7\nDONE\n") (codes "SPAN 20250116T000060Z 7\nDONE\n") refl (codes "SPAN 20250116T000060Z 7") (codes "DONE\n") (record { at = refl; parts = refl }) no_second_60;
     })) refl
+
+-- ---- an old certificate
+
+-- of a calendar of two series: the second comes first now, then a new one, then the first
+module _ (old : Claims) (was : Confirmed) (a b c : Event) (made : IsCertificateMade was old) (series : was.series ≡ a ∷ b ∷ []) where
+  numbers : List (Option ℕ)
+  numbers = Some 2 ∷ None ∷ Some 1 ∷ []
+
+  number_of : (i n : ℕ) → slice_get numbers i ≡ Some (Some n) → ((i ≡ 0) × (n ≡ 2)) ⊎ ((i ≡ 2) × (n ≡ 1))
+  unfolding numbers
+  number_of zero n e = inl (refl, sym (same_Some 2 n (same_Some (Some 2) (Some n) e)))
+  number_of (suc zero) n e = absurd (none-some n (same_Some None (Some n) e))
+  number_of (suc (suc zero)) n e = inr (refl, sym (same_Some 1 n (same_Some (Some 1) (Some n) e)))
+  number_of (suc (suc (suc i))) n e = absurd (none-some (Some n) e)
+
+  same_series : (i n : ℕ) (x : Event) → slice_get numbers i ≡ Some (Some n) → slice_get (b ∷ c ∷ a ∷ []) i ≡ Some x → IsSeriesAt was n x
+  same_series i n x e at = elim (number_of i n e) [
+    | inl (place, number) ↦ ap (slice_get was.series) (ap (λ k. k - 1) number) ∙ ap (λ xs. slice_get xs 1) series ∙ sym (ap (slice_get (b ∷ c ∷ a ∷ [])) place) ∙ at
+    | inr (place, number) ↦ ap (slice_get was.series) (ap (λ k. k - 1) number) ∙ ap (λ xs. slice_get xs 0) series ∙ sym (ap (slice_get (b ∷ c ∷ a ∷ [])) place) ∙ at
+  ]
+
+  kept_turned : AreKept old numbers (b ∷ c ∷ a ∷ [])
+  kept_turned = record {
+    was = was;
+    made = made;
+    counted = λ i n e. elim (number_of i n e) [ inl (place, number) ↦ omega (arith, number) | inr (place, number) ↦ omega (arith, number) ];
+    same = same_series;
+    once = λ i j n e f. elim (number_of i n e) [
+      | inl (place, number) ↦ elim (number_of j n f) [ inl (other, again) ↦ place ∙ sym other | inr (other, again) ↦ absurd (omega (arith, number, again)) ]
+      | inr (place, number) ↦ elim (number_of j n f) [ inl (other, again) ↦ absurd (omega (arith, number, again)) | inr (other, again) ↦ place ∙ sym other ]
+    ];
+  }
