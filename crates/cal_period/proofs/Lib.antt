@@ -17,3 +17,4 @@ pub mod AroundLemmas
 pub mod PhaseLemmas
 pub mod PhasesOf
 pub mod Turning
+pub mod ByResidues
