@@ -36,12 +36,7 @@ pub(crate) fn is_clear_by_residues(a: &Series) -> bool
 pub fn are_locally_apart(a: &Series, b: &Series) -> bool
     ensures { result ≡ true → (m : ℕ) × (0 < m) × AreLocallyApart (series_said a.now) (series_said b.now) m }
 {
-    are_phases_apart(
-        &Phases::local(a),
-        a.width(),
-        &Phases::local(b),
-        b.width(),
-    )
+    are_phases_apart(&Phases::local(a), a.width(), &Phases::local(b), b.width())
 }
 
 /// The same of a series by itself.
@@ -58,15 +53,9 @@ pub fn may_meet(series: &Series, span: Span) -> bool
     series_are_said();
     instances_last();
     let phases = Phases::of(series);
-    let m = modulus(&phases, &phases);
+    let m = cycle_seconds(&phases);
     let length = span.end.saturating_sub(span.start);
-    phases.meet(
-        m,
-        series.width(),
-        residue_of(m, span.start),
-        length,
-        false,
-    )
+    phases.meet(m, series.width(), residue_of(m, span.start), length, false)
 }
 
 /// Does no arc of the one, `width` seconds long, meet an arc of the other, `other` seconds long?
@@ -80,11 +69,19 @@ fn are_phases_apart(first: &Phases<'_>, width: i64, second: &Phases<'_>, other: 
 fn are_phases_alone(phases: &Phases<'_>, width: i64) -> bool
     ensures { result ≡ true → ArePhasesAlone phases.now width }
 {
-    let m = modulus(phases, phases);
+    let m = cycle_seconds(phases);
     if (m as i64) < width {
         return false;
     }
-    phases.are_apart(m, width, phases, width, true)
+    phases.is_apart(m, width)
+}
+
+/// The seconds of a cycle.
+fn cycle_seconds(phases: &Phases<'_>) -> u64
+    ensures range { (0 < result) × (result < 2 ^ 40) }
+    ensures turn { AreTurnsOf phases.now result 1 }
+{
+    DAY * phases.cycle()
 }
 
 /// The seconds of the greatest number of days that goes into the cycles of both.

@@ -8,6 +8,6 @@ returns c = λ t.
     let vf : FitsSigned w64 c.args.width = search rules in
     let w : to_z w64 (of_z w64 c.args.width) ≡ c.args.width = to_z-of_z wf in
     let v : to_z w64 (of_z w64 c.args.width) ≡ c.args.width = to_z-of_z vf in
-    let apart = rw w at (c.are_apart.ensures t) in
-    let narrow = c.if-m-lt-width.false in
-    (c.modulus-m.result, c.modulus-m.ensures.range.0, omega (arith, ints, narrow), λ r s p q differ meet. apart r s p q ((λ own. differ), meet))
+    let apart = rw w at (c.is_apart.ensures t) in
+    let narrow = c.if-m-width.false in
+    (c.cycle_seconds-m.result, c.cycle_seconds-m.ensures.range.0, omega (arith, ints, narrow), λ r s p q differ meet. apart r s p q ((λ own. differ), meet))

@@ -7,7 +7,7 @@ use Rattle.cal_period.proofs.by_residues.may_meet.Goals as goal
 pub returns : goal.returns
 returns c = λ t.
     let a = c.args.series.now in
-    let m = c.modulus-m.result in
+    let m = c.cycle_seconds-m.result in
     let ff : FitsSigned w64 c.args.span.start = search rules in
     let ef : FitsSigned w64 c.args.span.end = search rules in
     let start : to_z w64 (of_z w64 c.args.span.start) ≡ c.args.span.start = to_z-of_z ff in
@@ -20,5 +20,5 @@ returns c = λ t.
     let none = rw (w, v, is) at (c.meet.ensures t) in
     let same = rw start at c.residue_of.ensures.same in
     span_clear (series_said a) (c.series_are_said.ensures a) (c.instances_last.ensures.series a) c.width.result c.args.span.start c.args.span.end c.width.ensures.of m c.residue_of.result
-    c.modulus-m.ensures.range.0 c.modulus-m.ensures.range.1 c.residue_of.ensures.below same
+    c.cycle_seconds-m.ensures.range.0 c.cycle_seconds-m.ensures.range.1 c.residue_of.ensures.below same
     (λ r p meet. none r ((c.of-phases.ensures m r).0 p) ((λ own. absurd (true≢false (sym own))), meet))
