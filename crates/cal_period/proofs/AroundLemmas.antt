@@ -400,7 +400,7 @@ saturates (pos n) some = by (cases_lt n (2 ^ 63))
     by (inr most) = let e : min n (2 ^ 63 - 1) ≡ 2 ^ 63 - 1 = omega (arith, most) in inr (omega (arith, ints, e))
 saturates (negsuc n) some = absurd (omega (arith, ints, some))
 
-saturated_meet : (m q r : ℕ) (w long : ℤ) → q < m → r < m → m < 2 ^ 40 → ArcsMeet m q long r w → ArcsMeet m q (saturate_signed w64 long) r w
+pub saturated_meet : (m q r : ℕ) (w long : ℤ) → q < m → r < m → m < 2 ^ 40 → ArcsMeet m q long r w → ArcsMeet m q (saturate_signed w64 long) r w
 saturated_meet m q r w long low small short meet = by (saturates long some.0)
   where
     some : (pos 0 <ℤ long) × (pos 0 <ℤ w)

@@ -19,3 +19,4 @@ pub mod AroundLemmas
 pub mod PhaseLemmas
 pub mod PhasesOf
 pub mod Turning
+pub mod ByResidues

@@ -1,5 +1,6 @@
 -- The phases that are kept.
-use Rattle.std.specs.Prelude.{◌≡◌, ℕ, ◌<◌, List, Contains, ◌↔◌, None, MatchOption, Option}
+use Rattle.std.specs.Prelude.{◌≡◌, ◌≢◌, ℕ, ◌<◌, List, Contains, ◌↔◌, None, MatchOption, Option, ℤ, pos, ◌≤ℤ◌}
+use Rattle.profile.specs.series.Repeating.{ArcsMeet}
 use Rattle.cal_rules.specs.Forms.{listed_day}
 use Rattle.cal_period.specs.declared.phases.Phases.{Phases}
 use Rattle.cal_period.specs.Phases.{AreTurns, IsNth, IsPhase, nth_number}
@@ -24,3 +25,14 @@ AreFirst f m count residues = (residue : ℕ) → Contains residues residue ↔ 
 -- this holds of the phases of the first numbers
 abbrev pub HoldsOfFirst : Phases → ℕ → ℕ → (ℕ → Type 0) → Type 0
 HoldsOfFirst f m count holds = (number residue : ℕ) → number < count → IsNthOf f m number residue → holds residue
+
+-- ---- arcs
+
+-- modulo some number of seconds no arc of the one meets an arc of the other
+abbrev pub ArePhasesApart : Phases → ℤ → Phases → ℤ → Type 0
+ArePhasesApart first width second other = (m : ℕ) × (0 < m) × ((r s : ℕ) → IsPhaseOf first m r → IsPhaseOf second m s → ArcsMeet m r width s other → ⊥)
+
+-- modulo some number of seconds the arcs aren't longer than that, and none meets another
+abbrev pub ArePhasesAlone : Phases → ℤ → Type 0
+ArePhasesAlone phases width =
+    (m : ℕ) × (0 < m) × (width ≤ℤ pos m) × ((r s : ℕ) → IsPhaseOf phases m r → IsPhaseOf phases m s → r ≢ s → ArcsMeet m r width s width → ⊥)

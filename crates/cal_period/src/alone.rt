@@ -2,15 +2,19 @@
 ghost use Rattle.cal_events.specs.Series.{series_said};
 ghost use Rattle.cal_period.specs.Onward.{IsSharedAlone, IsSharedAloneBelow};
 
+use crate::by_residues::is_clear_by_residues;
 use crate::settled::settled_by;
 use crate::walk::Walk;
 use cal_events::{Instance, Series, known_by_start};
 
-/// Two instances of a series that share an instant before the horizon; None where no two do. It begins at the first start and stops at the first
+/// Two instances of a series that share an instant before the horizon; None where no two do. Where residues don't show that, it begins at the first start and stops at the first
 /// clash, or at the end of one period and the width after it. No memory is taken.
 pub fn clash_alone(a: &Series) -> Option<(Instance<'_>, Instance<'_>)>
     ensures { IsSharedAlone (series_said a.now) result }
 {
+    if is_clear_by_residues(a) {
+        return None;
+    }
     clash_alone_below(a, settled_by(a, a))
 }
 

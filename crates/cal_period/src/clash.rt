@@ -1,4 +1,4 @@
-//! A search for a clash of two series. It goes past the starts of both from where the later of them begins, less a width, to the end of one common
+//! A search for a clash of two series, where residues don't show that there is none. It goes past the starts of both from where the later of them begins, less a width, to the end of one common
 //! period and a width after it, or of the one that ends first. No memory is taken.
 ghost use Rattle.std.specs.Prelude.{ℤ, ◌+ℤ◌, ◌≤ℤ◌};
 ghost use Rattle.profile.specs.events.Spans.{IsWidthOf};
@@ -6,16 +6,20 @@ ghost use Rattle.cal_events.specs.Series.{series_said};
 ghost use Rattle.cal_period.specs.Onward.{IsSharedByPair, IsSharedBelow, IsFirstStart, MeetFrom, IsEntry};
 
 use crate::abreast::{Turn, turn_of};
+use crate::by_residues::are_clear_by_residues;
 use crate::settled::settled_by;
 use crate::walk::Walk;
 use cal_events::{Instance, Series, known_by_start};
 
-/// Two instances, one of each series, that share an instant before the horizon; None where the series are clear. It begins where the later of
-/// the two first can meet, and stops at the first clash, at the end of one common period and the greater width after it, or where the shorter
+/// Two instances, one of each series, that share an instant before the horizon; None where the series are clear. Where residues don't show that,
+/// it begins where the later of the two first can meet, and stops at the first clash, at the end of one common period and the greater width after it, or where the shorter
 /// series ends. No memory is taken.
 pub fn clash_of_pair<'a>(a: &'a Series, b: &'a Series) -> Option<(Instance<'a>, Instance<'a>)>
     ensures { IsSharedByPair (series_said a.now) (series_said b.now) result }
 {
+    if are_clear_by_residues(a, b) {
+        return None;
+    }
     known_by_start();
     let first = first_start(a)?;
     let second = first_start(b)?;

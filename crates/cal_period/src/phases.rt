@@ -159,6 +159,23 @@ impl<'a> Phases<'a> {
         }
         true
     }
+
+    /// Do no arcs of different phases, `width` seconds long, meet?
+    pub fn is_apart(&self, m: u64, width: i64) -> bool
+        requires some { 0 < m }
+        requires modulus { m < 2 ^ 40 }
+        requires turn { AreTurnsOf self.now m 1 }
+        ensures { result ≡ true → (r s : ℕ) → IsPhaseOf self.now m r → IsPhaseOf self.now m s → MeetsOther true m r width s width → ⊥ }
+    {
+        for number in 0..OF_A_TURN {
+            if let Some(residue) = self.nth(m, number) {
+                if self.meet(m, width, residue, width, true) {
+                    return false;
+                }
+            }
+        }
+        true
+    }
 }
 
 /// Do the arcs of two residues meet, where one with itself counts or not?

@@ -1,0 +1,11 @@
+use Rattle.std.proofs.Common.{◌≡◌, ◌∙◌, ◌*◌, ◌<◌, ◌≤◌, ap, sym, refl, subst, ℕ, ℤ, to_z, of_z, w64, to_z-of_z, FitsSigned, rules, true, false, arith}
+use Rattle.cal_period.proofs.by_residues.is_locally_apart.Goals as goal
+
+pub returns : goal.returns
+returns c = λ t.
+    let wf : FitsSigned w64 c.width.result = search rules in
+    let vf : FitsSigned w64 c.width.result = search rules in
+    let w : to_z w64 (of_z w64 c.width.result) ≡ c.width.result = to_z-of_z wf in
+    let v : to_z w64 (of_z w64 c.width.result) ≡ c.width.result = to_z-of_z vf in
+    let apart = rw w at (c.are_phases_alone.ensures t) in
+    (apart.0, apart.1, (c.width.result, c.width.ensures.of, apart.2, λ r s p q. apart.3 r s ((c.local.ensures apart.0 r).0 p) ((c.local.ensures apart.0 s).0 q)))
