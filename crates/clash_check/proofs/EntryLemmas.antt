@@ -11,7 +11,7 @@ use Rattle.std.proofs.lemmas.Nat.{div-add-mod'}
 use Rattle.std.proofs.lemmas.Option.{same_Some}
 use Rattle.std.proofs.Math.Nat.{mul-mod_left}
 use Rattle.profile.specs.checker.Instances.{Instance as SaidInstance, horizon, AreClear, HasClash}
-use Rattle.profile.specs.checker.Certificates.{Claims, Entry, End, Span, IsPair, IsSeriesAt, EntryHolds, EntryFails, EntriesHold, entry_of}
+use Rattle.profile.specs.checker.Certificates.{Claims, Entry, End, Span, Res, IsPair, IsSeriesAt, EntryHolds, EntryFails, EntriesHold, entry_of}
 use Rattle.profile.specs.events.Events.{Event}
 use Rattle.profile.specs.events.Confirmed.{Confirmed}
 use Rattle.profile.specs.events.Spans.{IsPastAll, IsLeastPast, IsPeriodOf, HasNoPeriodOf, IsSpan, SpanHolds, SpanFails, StartsBelow, IsBoundOf, IsWidthOf, greater, span_end}
@@ -126,10 +126,10 @@ alone_clear all i j a b bound same here there r h = subst (λ (m : Event). Match
     }
     go false h = λ x y t m n clash. h x y m n clash.differ (record { instant = t; before = clash.before; in_first = clash.in_first; in_second = clash.in_second })
 
-one_place : (i j : ℕ) → i ≡ j → (i == j) ≡ true
+pub one_place : (i j : ℕ) → i ≡ j → (i == j) ≡ true
 one_place i j e = grind (arith, nat_tests)
 
-two_places : (i j : ℕ) → (i ≡ j → ⊥) → (i == j) ≡ false
+pub two_places : (i j : ℕ) → (i ≡ j → ⊥) → (i == j) ≡ false
 two_places i j f = grind (arith, nat_tests)
 
 pub pair_drawn : (i j old new m n : ℕ) → i ≢ j → (r : Bool) → AreDrawn r old new (m + n) → AreDrawn (not (not r)) old new (pair_count i j m n)
@@ -369,6 +369,7 @@ rows_count all c before calendar old new e at count are = subst (λ k. IsMore ol
 -- no entry both holds and fails
 pub never_both : (all : Confirmed) (i j : ℕ) (entry : Entry) → EntryHolds all i j entry → EntryFails all i j entry → ⊥
 never_both all i j End holds (a, b, here, there, c) = holds a b here there c.a c.b c.t c.first c.second c.clash
+never_both all i j (Res m) holds (a, b, here, there, none) = none (holds a b here there)
 never_both all i j (Span from days) holds (a, b, here, there, inl none) = none (holds a b here there).span
 never_both all i j (Span from days) holds (a, b, here, there, inr (bound, is, c)) =
     let h = holds a b here there in

@@ -4,15 +4,17 @@ use Rattle.std.specs.Prelude.{Some, Contains, min}
 use Rattle.std.specs.List.{slice_get}
 use Rattle.std.proofs.lemmas.Option.{slice_get-get_or}
 use Rattle.profile.specs.checker.Instances.{AreClear, HasClash}
-use Rattle.profile.specs.checker.Certificates.{Claims, Entry, End, Span, IsSeriesAt, EntryHolds, EntriesHold, HasCounts, HasFailingEntry, HasClashes, IsWrongCount, entry_of}
+use Rattle.profile.specs.checker.Certificates.{Claims, Entry, End, Span, Res, IsSeriesAt, EntryHolds, EntriesHold, HasCounts, HasFailingEntry, HasClashes, IsWrongCount, entry_of}
 use Rattle.profile.specs.events.Starts.{IsInstance}
 use Rattle.profile.specs.events.Confirmed.{Confirmed, IsOneOf}
+use Rattle.profile.specs.events.Residues.{ResiduesHold}
 use Rattle.clash_check.specs.Counted.{AreCounts, count_all, count_before}
 use Rattle.clash_check.specs.Draws.{IsDrawable}
 use Rattle.clash_check.specs.Entries.{IsMore, HasCompared, FailsDrawn, IsFailing}
 use Rattle.clash_check.specs.Judgings.{SpellsOnly, IsVerdictOf}
 use Rattle.clash_check.specs.Singles.{IsEachClear, AreSinglesDrawn}
 use Rattle.clash_check.specs.Verdicts.{IsVerdict, IsNo, MakesAll, MakesSome, MakesFewFor}
+use Rattle.clash_check.proofs.EntryLemmas.{one_place}
 use Rattle.clash_check.specs.declared.verdict.Verdict.{Verdict}
 use Rattle.clash_check.specs.declared.verdict.Verdict.TheVariants.{Yes, No}
 
@@ -28,6 +30,7 @@ each_clear all drawable c counts holds series (k, w, e) =
     by : (entry : Entry) → EntryHolds all (k + 1) (k + 1) entry → AreClear (IsInstance series) (IsInstance series)
     by End h = h series series there there
     by (Span from days) h = drawable.settled series (k, w, e) from days (h series series there there)
+    by (Res m) h = drawable.apart series (k, w, e) m (subst (λ own. ResiduesHold own series series m) (one_place (k + 1) (k + 1) refl) (h series series there there))
 
 -- ---- verdicts
 

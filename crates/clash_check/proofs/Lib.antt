@@ -2,6 +2,7 @@ pub mod WalkLemmas
 pub mod Counts
 pub mod SweepLemmas
 pub mod EntryLemmas
+pub mod ResidueLemmas
 pub mod SingleLemmas
 pub mod JudgingLemmas
 pub mod OpenLemmas

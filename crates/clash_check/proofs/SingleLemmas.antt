@@ -3,7 +3,7 @@ use Rattle.std.proofs.Common.{◌≡◌, ◌≢◌, ◌∙◌, ap, sym, refl, su
 use Rattle.std.specs.Prelude.{Option, Some, None, ◌↔◌, IfSome, MatchBool, MatchOption, Contains}
 use Rattle.std.specs.Int.{saturate_signed}
 use Rattle.std.specs.List.{slice_get}
-use Rattle.std.proofs.Math.Nat.{add_comm, mul_comm, mul-le-mul_right}
+use Rattle.std.proofs.Math.Nat.{add_comm, mul_assoc, mul_comm, mul-le-mul_right}
 use Rattle.std.proofs.Math.Seq.{take-length}
 use Rattle.std.proofs.lemmas.List.{length-map, map-append, take_more, get_or-map, get_or_default}
 use Rattle.std.proofs.lemmas.Option.{same_Some, slice_get-get_or, slice_get_within, get_or_from_slice_get}
@@ -25,7 +25,7 @@ use Rattle.clash_cert.proofs.MakingLemmas.{singles_clear}
 use Rattle.cal_events.specs.declared.sweep.Span.{Span}
 use Rattle.clash_check.specs.Draws.{IsPlace, IsSpanBetween, IsDrawable, IsSingleAt, LastsAbout, drawn_more, one_if}
 use Rattle.clash_check.specs.Entries.{IsMore}
-use Rattle.clash_check.specs.Singles.{span_in, HasSharer, HasNoSharer, HaveSharer, HaveNoSharer, HaveSharers, HaveNoSharers, IsEachClear, IsFewMore, AreSinglesDrawn, singles_count, IsEntry}
+use Rattle.clash_check.specs.Singles.{span_in, HasSharer, HasNoSharer, HasSharers, HasNoSharers, HaveSharers, HaveNoSharers, IsEachClear, IsFewMore, AreSinglesDrawn, singles_count, IsEntry}
 use Rattle.clash_check.specs.Walks.{walk_place}
 use Rattle.clash_check.proofs.SweepLemmas.{series_there, series_in}
 use Rattle.clash_check.proofs.WalkLemmas.{next_one, none_before, further, rest_is}
@@ -259,7 +259,7 @@ pub near_within : (a : Event) (span : Span) (width entry : ℤ) (Coming : ℤ �
 near_within a span width entry Coming old new None h = omega (arith, ints)
 near_within a span width entry Coming old new (Some x) h = let l = h.is.2 in omega (arith, ints, l)
 
--- ---- one span beside all series
+-- ---- one series beside all spans
 
 few_then : (old mid new m n : ℕ) → IsFewMore old mid m → IsFewMore mid new n → IsFewMore old new (m + n)
 few_then old mid new m n (j, a, b) (k, c, d) = (j + k, omega (arith, a, c), omega (arith, b, d))
@@ -267,105 +267,106 @@ few_then old mid new m n (j, a, b) (k, c, d) = (j + k, omega (arith, a, c), omeg
 few_most : (old new m n : ℕ) → m ≤ n → IsFewMore old new m → IsFewMore old new n
 few_most old new m n l (k, a, b) = (k, omega (arith, a, l), b)
 
-pub record IsAnyAt (all : Confirmed) (span : Span) (before : ℕ) (calendar : Confirmed) (old new : ℕ) : Type 0 where
-  pub same : calendar ≡ all
-  pub none : (i : ℕ) (a : Event) → 0 < i → i ≤ before → IsSeriesAt all i a → HasNoSharer a span.start span.end
-  pub few : IsEachClear all → IsFewMore old new (before * 3)
+pub none_more : (n most : ℕ) → IsFewMore n n most
+none_more n most = (0, omega arith, omega arith)
 
-pub any_first : (all : Confirmed) (span : Span) (n : ℕ) → IsAnyAt all span 0 all n n
-any_first all span n = record {
+pub record IsMetAt (all : Confirmed) (i : ℕ) (spans : List Span) (index : ℕ) (calendar : Confirmed) (old new : ℕ) : Type 0 where
+  pub same : calendar ≡ all
+  pub none : (a : Event) → IsSeriesAt all i a → (k : ℕ) (s : Span) → k < index → slice_get spans k ≡ Some s → HasNoSharer a s.start s.end
+  pub few : (a : Event) → IsSeriesAt all i a → AreClear (IsInstance a) (IsInstance a) → IsFewMore old new (index * 3)
+
+pub met_first : (all : Confirmed) (i : ℕ) (spans : List Span) (n : ℕ) → IsMetAt all i spans 0 all n n
+met_first all i spans n = record { same = refl; none = λ a there k s less. absurd (omega (arith, less)); few = λ a there clear. none_more n (0 * 3) }
+
+module _ (all : Confirmed) (i : ℕ) (spans : List Span) (index : ℕ) (calendar : Confirmed) (old mid new : ℕ) (s : Span) (there : slice_get spans index ≡ Some s) (at : IsMetAt all i spans index calendar old mid)
+    (few : (a : Event) → IsSeriesAt all i a → AreClear (IsInstance a) (IsInstance a) → IsFewMore mid new 3) where
+  met_few : (a : Event) → IsSeriesAt all i a → AreClear (IsInstance a) (IsInstance a) → IsFewMore old new (index * 3 + 3)
+  met_few a here clear = few_then old mid new (index * 3) 3 (at.few a here clear) (few a here clear)
+
+  pub met_next : (calendar' : Confirmed) → calendar' ≡ calendar → ((a : Event) → IsSeriesAt all i a → HasNoSharer a s.start s.end) → IsMetAt all i spans (index + 1) calendar' old new
+  met_next calendar' same none = record {
+    same = same ∙ at.same;
+    none = λ a here k x less is. elim (cases_lt k index) [
+      | inl was ↦ at.none a here k x was is
+      | inr from ↦
+          let e : k ≡ index = omega (arith, less, from) in
+          let one : s ≡ x = same_Some s x (sym there ∙ ap (slice_get spans) (sym e) ∙ is) in
+          subst (λ (y : Span). HasNoSharer a y.start y.end) one (none a here)
+    ];
+    few = λ a here clear. few_most old new (index * 3 + 3) ((index + 1) * 3) (omega arith) (met_few a here clear);
+  }
+
+  pub met_found : ((a : Event) → IsSeriesAt all i a → HasSharer a s.start s.end) → (a : Event) → IsSeriesAt all i a → HasSharers a spans
+  met_found has a here = (s, (index, slice_get_within spans index s there, get_or_from_slice_get spans index s s there), has a here)
+
+  pub met_some : (a : Event) → IsSeriesAt all i a → AreClear (IsInstance a) (IsInstance a) → IsFewMore old new (length spans * 3)
+  met_some a here clear =
+      let w = slice_get_within spans index s there in
+      few_most old new (index * 3 + 3) (length spans * 3) (omega (arith, w)) (met_few a here clear)
+
+pub met_none : (all : Confirmed) (i : ℕ) (spans : List Span) (index : ℕ) (calendar : Confirmed) (old new : ℕ) → length spans ≤ index → IsMetAt all i spans index calendar old new
+    → (a : Event) → IsSeriesAt all i a → HasNoSharers a spans
+met_none all i spans index calendar old new past at a here s (k, w, e) = at.none a here k s (omega (arith, w, past)) (slice_get-get_or spans k s w ∙ ap Some e)
+
+pub met_all : (all : Confirmed) (i : ℕ) (spans : List Span) (index : ℕ) (calendar : Confirmed) (old new : ℕ) → index ≤ length spans → IsMetAt all i spans index calendar old new
+    → (a : Event) → IsSeriesAt all i a → AreClear (IsInstance a) (IsInstance a) → IsFewMore old new (length spans * 3)
+met_all all i spans index calendar old new most at a here clear = few_most old new (index * 3) (length spans * 3) (omega (arith, most)) (at.few a here clear)
+
+-- ---- all series
+
+pub record IsAnyAt (all : Confirmed) (spans : List Span) (before : ℕ) (calendar : Confirmed) (old new : ℕ) : Type 0 where
+  pub same : calendar ≡ all
+  pub none : (i : ℕ) (a : Event) → 0 < i → i ≤ before → IsSeriesAt all i a → HasNoSharers a spans
+  pub few : IsEachClear all → IsFewMore old new (before * (length spans * 3))
+
+pub any_first : (all : Confirmed) (spans : List Span) (n : ℕ) → IsAnyAt all spans 0 all n n
+any_first all spans n = record {
   same = refl;
   none = λ i a some none. absurd (omega (arith, some, none));
-  few = λ clear. (0, omega arith, omega arith);
+  few = λ clear. none_more n (0 * (length spans * 3));
 }
 
-module _ (all : Confirmed) (span : Span) (before : ℕ) (calendar : Confirmed) (old mid new : ℕ) (w : before < length all.series) (at : IsAnyAt all span before calendar old mid)
-    (few : (a : Event) → IsSeriesAt all (before + 1) a → AreClear (IsInstance a) (IsInstance a) → IsFewMore mid new 3) where
-  any_few : IsEachClear all → IsFewMore old new (before * 3 + 3)
+one_more_times : (k m : ℕ) → (k + 1) * m ≡ k * m + m
+one_more_times k m = let e : k + 1 ≡ suc k = omega arith in let f : suc k * m ≡ m + k * m = omega arith in ap (λ n. n * m) e ∙ f ∙ add_comm m (k * m)
+
+module _ (all : Confirmed) (spans : List Span) (before : ℕ) (calendar : Confirmed) (old mid new : ℕ) (w : before < length all.series) (at : IsAnyAt all spans before calendar old mid)
+    (few : (a : Event) → IsSeriesAt all (before + 1) a → AreClear (IsInstance a) (IsInstance a) → IsFewMore mid new (length spans * 3)) where
+  any_few : IsEachClear all → IsFewMore old new ((before + 1) * (length spans * 3))
   any_few clear =
       let (a, there) = series_there all (before + 1) (omega arith, omega (arith, w)) in
-      few_then old mid new (before * 3) 3 (at.few clear) (few a there (clear a (series_in all (before + 1) a there)))
+      subst (IsFewMore old new) (sym (one_more_times before (length spans * 3)))
+      (few_then old mid new (before * (length spans * 3)) (length spans * 3) (at.few clear) (few a there (clear a (series_in all (before + 1) a there))))
 
-  pub any_next : (calendar' : Confirmed) → calendar' ≡ calendar → ((a : Event) → IsSeriesAt all (before + 1) a → HasNoSharer a span.start span.end) → IsAnyAt all span (before + 1) calendar' old new
+  pub any_next : (calendar' : Confirmed) → calendar' ≡ calendar → ((a : Event) → IsSeriesAt all (before + 1) a → HasNoSharers a spans) → IsAnyAt all spans (before + 1) calendar' old new
   any_next calendar' same none = record {
     same = same ∙ at.same;
     none = λ i a some most there. elim (cases_lt before i) [
       | inl last ↦ none a (subst (λ k. IsSeriesAt all k a) (omega (arith, last, most)) there)
       | inr was ↦ at.none i a some was there
     ];
-    few = λ clear. few_most old new (before * 3 + 3) ((before + 1) * 3) (omega arith) (any_few clear);
+    few = any_few;
   }
 
-  pub any_found : ((a : Event) → IsSeriesAt all (before + 1) a → HasSharer a span.start span.end) → HaveSharer all span.start span.end
+  pub any_found : ((a : Event) → IsSeriesAt all (before + 1) a → HasSharers a spans) → HaveSharers all spans
   any_found has =
       let (a, there) = series_there all (before + 1) (omega arith, omega (arith, w)) in
-      let (b, is, share) = has a there in
-      (b, (a, series_in all (before + 1) a there, is), share)
+      let h = has a there in
+      let shared = h.2 in
+      (h.0, h.1, (shared.0, (a, series_in all (before + 1) a there, shared.1), shared.2))
 
-  pub any_some : IsEachClear all → IsFewMore old new (length all.series * 3)
-  any_some clear = few_most old new (before * 3 + 3) (length all.series * 3) (omega (arith, w)) (any_few clear)
+  pub any_some : IsEachClear all → IsFewMore old new (length all.series * (length spans * 3))
+  any_some clear =
+      few_most old new ((before + 1) * (length spans * 3)) (length all.series * (length spans * 3)) (mul-le-mul_right (length spans * 3) (omega (arith, w))) (any_few clear)
 
-pub any_none : (all : Confirmed) (span : Span) (before : ℕ) (calendar : Confirmed) (old new : ℕ) → length all.series ≤ before → IsAnyAt all span before calendar old new → HaveNoSharer all span.start span.end
-any_none all span before calendar old new past at b (a, (k, w, e), is) =
+pub any_none : (all : Confirmed) (spans : List Span) (before : ℕ) (calendar : Confirmed) (old new : ℕ) → length all.series ≤ before → IsAnyAt all spans before calendar old new → HaveNoSharers all spans
+any_none all spans before calendar old new past at s c b (a, (k, w, e), is) share =
     let there : slice_get all.series (k + 1 - 1) ≡ Some a = ap (slice_get all.series) (let e : k + 1 - 1 ≡ k = omega arith in e) ∙ slice_get-get_or all.series k a w ∙ ap Some e in
-    at.none (k + 1) a (omega arith) (omega (arith, w, past)) there b is
+    at.none (k + 1) a (omega arith) (omega (arith, w, past)) there s c b is share
 
-pub any_all : (all : Confirmed) (span : Span) (before : ℕ) (calendar : Confirmed) (old new : ℕ) → before ≤ length all.series → IsAnyAt all span before calendar old new → IsEachClear all
-    → IsFewMore old new (length all.series * 3)
-any_all all span before calendar old new most at clear = few_most old new (before * 3) (length all.series * 3) (omega (arith, most)) (at.few clear)
-
--- ---- all spans
-
-pub record AreMetAt (all : Confirmed) (spans : List Span) (index : ℕ) (calendar : Confirmed) (old new : ℕ) : Type 0 where
-  pub same : calendar ≡ all
-  pub none : (k : ℕ) (s : Span) → k < index → slice_get spans k ≡ Some s → HaveNoSharer all s.start s.end
-  pub few : IsEachClear all → IsFewMore old new (index * (length all.series * 3))
-
-pub met_first : (all : Confirmed) (spans : List Span) (n : ℕ) → AreMetAt all spans 0 all n n
-met_first all spans n = record {
-  same = refl;
-  none = λ k s less. absurd (omega (arith, less));
-  few = λ clear. (0, omega arith, omega arith);
-}
-
-one_more_times : (k m : ℕ) → (k + 1) * m ≡ k * m + m
-one_more_times k m = let e : k + 1 ≡ suc k = omega arith in let f : suc k * m ≡ m + k * m = omega arith in ap (λ n. n * m) e ∙ f ∙ add_comm m (k * m)
-
-module _ (all : Confirmed) (spans : List Span) (index : ℕ) (calendar : Confirmed) (old mid new : ℕ) (s : Span) (there : slice_get spans index ≡ Some s) (at : AreMetAt all spans index calendar old mid)
-    (few : IsEachClear all → IsFewMore mid new (length all.series * 3)) where
-  met_few : IsEachClear all → IsFewMore old new ((index + 1) * (length all.series * 3))
-  met_few clear =
-      subst (IsFewMore old new) (sym (one_more_times index (length all.series * 3)))
-      (few_then old mid new (index * (length all.series * 3)) (length all.series * 3) (at.few clear) (few clear))
-
-  pub met_next : (calendar' : Confirmed) → calendar' ≡ calendar → HaveNoSharer all s.start s.end → AreMetAt all spans (index + 1) calendar' old new
-  met_next calendar' same none = record {
-    same = same ∙ at.same;
-    none = λ k x less is. elim (cases_lt k index) [
-      | inl was ↦ at.none k x was is
-      | inr from ↦
-          let e : k ≡ index = omega (arith, less, from) in
-          let one : s ≡ x = same_Some s x (sym there ∙ ap (slice_get spans) (sym e) ∙ is) in
-          subst (λ (y : Span). HaveNoSharer all y.start y.end) one none
-    ];
-    few = met_few;
-  }
-
-  pub met_found : HaveSharer all s.start s.end → HaveSharers all spans
-  met_found has = (s, (index, slice_get_within spans index s there, get_or_from_slice_get spans index s s there), has)
-
-  pub met_some : IsEachClear all → IsFewMore old new (length spans * (length all.series * 3))
-  met_some clear =
-      let w = slice_get_within spans index s there in
-      few_most old new ((index + 1) * (length all.series * 3)) (length spans * (length all.series * 3)) (mul-le-mul_right (length all.series * 3) (omega (arith, w))) (met_few clear)
-
-pub met_none : (all : Confirmed) (spans : List Span) (index : ℕ) (calendar : Confirmed) (old new : ℕ) → length spans ≤ index → AreMetAt all spans index calendar old new → HaveNoSharers all spans
-met_none all spans index calendar old new past at s (k, w, e) = at.none k s (omega (arith, w, past)) (slice_get-get_or spans k s w ∙ ap Some e)
-
-pub met_all : (all : Confirmed) (spans : List Span) (index : ℕ) (calendar : Confirmed) (old new : ℕ) → index ≤ length spans → AreMetAt all spans index calendar old new → IsEachClear all
-    → IsFewMore old new (length spans * (length all.series * 3))
-met_all all spans index calendar old new most at clear =
-    few_most old new (index * (length all.series * 3)) (length spans * (length all.series * 3)) (mul-le-mul_right (length all.series * 3) most) (at.few clear)
+pub any_all : (all : Confirmed) (spans : List Span) (before : ℕ) (calendar : Confirmed) (old new : ℕ) → before ≤ length all.series → IsAnyAt all spans before calendar old new → IsEachClear all
+    → IsFewMore old new (length all.series * (length spans * 3))
+any_all all spans before calendar old new most at clear =
+    few_most old new (before * (length spans * 3)) (length all.series * (length spans * 3)) (mul-le-mul_right (length spans * 3) most) (at.few clear)
 
 -- ---- the singles themselves
 
@@ -510,11 +511,15 @@ singles_some all old new is =
     let e = each_times all in
     (length all.singles, omega arith, omega (arith, e), is)
 
-pub singles_drawn : (all : Confirmed) (spans : List Span) → spans ≡ map span_in all.singles → (old mid new : ℕ) → IsMore old mid (length all.singles) → IsFewMore mid new (length spans * (length all.series * 3))
+-- three for each series and each span, and for each span and each series
+turned_times : (m n : ℕ) → m * (n * 3) ≡ n * (m * 3)
+turned_times m n = sym (mul_assoc m n 3) ∙ ap (λ k. k * 3) (mul_comm m n) ∙ mul_assoc n m 3
+
+pub singles_drawn : (all : Confirmed) (spans : List Span) → spans ≡ map span_in all.singles → (old mid new : ℕ) → IsMore old mid (length all.singles) → IsFewMore mid new (length all.series * (length spans * 3))
     → AreSinglesDrawn all old new
 singles_drawn all spans is old mid new drawn (k, few, more) =
     let long : length spans ≡ length all.singles = ap length is ∙ length-map all.singles span_in in
-    let most = ap (λ n. n * (length all.series * 3)) long in
+    let most = turned_times (length all.series) (length spans) ∙ ap (λ n. n * (length all.series * 3)) long in
     let e = each_times all in
     (length all.singles + k, omega arith, omega (arith, few, most, e), omega (arith, drawn, more))
 

@@ -1,15 +1,16 @@
--- Where a certificate holds, nothing clashes: END settles a pair of series by itself, and a span by what both do in one period.
-use Rattle.std.proofs.Common.{◌≡◌, ◌≢◌, ◌∙◌, refl, sym, ap, subst, inl, inr, arith, ℕ, suc, ◌-◌, ◌*◌, ◌<◌, ◌≤◌, ℤ, pos, ◌+ℤ◌, ◌-ℤ◌, ◌≤ℤ◌, ◌<ℤ◌, List, [], length}
+-- Where a certificate holds, nothing clashes: END settles a pair of series by itself, a span by what both do in one period, and residues for all time.
+use Rattle.std.proofs.Common.{◌≡◌, ◌≢◌, ◌∙◌, refl, sym, ap, subst, inl, inr, arith, true, false, ℕ, suc, ◌-◌, ◌*◌, ◌<◌, ◌≤◌, ℤ, pos, ◌+ℤ◌, ◌-ℤ◌, ◌≤ℤ◌, ◌<ℤ◌, List, [], length}
 use Rattle.std.proofs.Math.Logic.{∥∥₁_elim}
 use mathlib.Core.HLevel.{⊥_prop}
 use Rattle.std.specs.Prelude.{Some, Contains}
 use Rattle.std.specs.List.{slice_get}
 use Rattle.std.proofs.lemmas.Int.{ints, by_lt_z}
-use Rattle.std.proofs.lemmas.Bool.{cases_lt}
+use Rattle.std.proofs.lemmas.Bool.{cases_lt, cases_eq}
 use Rattle.std.proofs.lemmas.Option.{same_Some, slice_get-get_or, slice_get_within, get_or_from_slice_get}
 use Rattle.profile.specs.checker.Instances.{Key, Instance, horizon, IsWithin, AreClashing, AreClear, IsClear}
-use Rattle.profile.specs.checker.Certificates.{Entry, End, Span, EntryHolds, IsSeriesAt, CertificateHoldsFor, entry_of}
+use Rattle.profile.specs.checker.Certificates.{Entry, End, Span, Res, EntryHolds, IsSeriesAt, CertificateHoldsFor, entry_of}
 use Rattle.profile.specs.series.Repeating.{LastsAtMost, RepeatsFrom}
+use Rattle.profile.specs.events.Residues.{ResiduesHold}
 use Rattle.profile.specs.events.EventComponents.{EventComponent}
 use Rattle.profile.specs.events.Events.{Event}
 use Rattle.profile.specs.events.Starts.{IsInstance, IsStart, EndsAt, key_at}
@@ -17,6 +18,7 @@ use Rattle.profile.specs.events.Confirmed.{Confirmed, IsInSeries, IsOneOf}
 use Rattle.profile.specs.events.Spans.{IsPeriodOf, IsPastAll, IsWidthOf, IsSaidSeries, AreSaidSeries, SpanHolds, greater}
 use Rattle.profile.proofs.Repeats.{always}
 use Rattle.clash_check.specs.Draws.{IsSpanOf}
+use Rattle.clash_check.proofs.EntryLemmas.{one_place, two_places}
 
 -- ---- the instances of a series that a VEVENT says
 
@@ -57,6 +59,28 @@ greater_second a b = grind (arith, ints)
 -- a clash is one of the second with the first too
 turned : (a b : Instance) (t : ℤ) → AreClashing a b t → AreClashing b a t
 turned a b t clash = record { differ = λ same. clash.differ (sym same); before = clash.before; in_first = clash.in_second; in_second = clash.in_first }
+
+-- ---- residues that hold
+
+-- no two instances with different starts share an instant
+abbrev pub OneSettles : Type 0
+OneSettles =
+    (a b : Event) (m : ℕ) (x y : Instance) (t : ℤ) → IsSaidSeries a → ResiduesHold true a b m → IsInstance a x → IsInstance a y → x.start ≢ y.start
+    → IsWithin x.start x.end t → IsWithin y.start y.end t → ⊥
+
+abbrev pub TwoSettle : Type 0
+TwoSettle =
+    (a b : Event) (m : ℕ) (x y : Instance) (t : ℤ) → IsSaidSeries a → IsSaidSeries b → ResiduesHold false a b m → IsInstance a x → IsInstance b y
+    → IsWithin x.start x.end t → IsWithin y.start y.end t → ⊥
+
+-- two of one start have one key
+one_residues_clear : OneSettles → (a b : Event) (m : ℕ) → IsSaidSeries a → ResiduesHold true a b m → AreClear (IsInstance a) (IsInstance a)
+one_residues_clear settles a b m p holds x y t in_x in_y clash =
+    settles a b m x y t p holds in_x in_y (λ same. clash.differ ((at_start a p x in_x).key ∙ ap (key_at p.master) same ∙ sym (at_start a p y in_y).key)) clash.in_first clash.in_second
+
+-- that some VEVENT says it is enough
+pub residues_clear : OneSettles → (series : Event) (m : ℕ) → ∥ IsSaidSeries series ∥₁ → ResiduesHold true series series m → AreClear (IsInstance series) (IsInstance series)
+residues_clear settles series m said holds x y t in_x in_y clash = ∥∥₁_elim said ⊥_prop (λ p. one_residues_clear settles series series m p holds x y t in_x in_y clash)
 
 -- ---- two instances of a pair whose span holds, or of one series by itself
 
@@ -150,14 +174,22 @@ module _
   pub alone_clear : (series : Event) (from : ℤ) (days : ℕ) → ∥ IsSaidSeries series ∥₁ → SpanHolds series series from days → AreClear (IsInstance series) (IsInstance series)
   alone_clear series from days said holds x y t in_x in_y clash = ∥∥₁_elim said ⊥_prop (λ p. span_clear series series from days p p holds x y t in_x in_y clash)
 
-  entry_clear : (all : Confirmed) (i j : ℕ) (entry : Entry) (a b : Event) → IsSaidSeries a → IsSaidSeries b → IsSeriesAt all i a → IsSeriesAt all j b → EntryHolds all i j entry
+  entry_clear : TwoSettle → OneSettles → (all : Confirmed) (i j : ℕ) (entry : Entry) (a b : Event) → IsSaidSeries a → IsSaidSeries b → IsSeriesAt all i a → IsSeriesAt all j b → EntryHolds all i j entry
       → AreClear (IsInstance a) (IsInstance b)
-  entry_clear all i j End a b p q at_i at_j holds = holds a b at_i at_j
-  entry_clear all i j (Span from days) a b p q at_i at_j holds = span_clear a b from days p q (holds a b at_i at_j)
+  entry_clear two one all i j End a b p q at_i at_j holds = holds a b at_i at_j
+  entry_clear two one all i j (Span from days) a b p q at_i at_j holds = span_clear a b from days p q (holds a b at_i at_j)
+  entry_clear two one all i j (Res m) a b p q at_i at_j holds = elim (cases_eq i j) [
+    | inl same ↦
+        let e : a ≡ b = same_Some a b (sym at_i ∙ ap (λ k. slice_get all.series (k - 1)) same ∙ at_j) in
+        subst (λ s. AreClear (IsInstance a) (IsInstance s)) e
+        (one_residues_clear one a b m p (subst (λ own. ResiduesHold own a b m) (one_place i j same) (holds a b at_i at_j)))
+    | inr differ ↦ λ x y t in_x in_y clash.
+        two a b m x y t p q (subst (λ own. ResiduesHold own a b m) (two_places i j differ) (holds a b at_i at_j)) in_x in_y clash.in_first clash.in_second
+  ]
 
   -- ---- all that is confirmed
 
-  module _ (all : Confirmed) (text : List ℕ) (said : AreSaidSeries all.series) (holds : CertificateHoldsFor all text) where
+  module _ (two : TwoSettle) (one : OneSettles) (all : Confirmed) (text : List ℕ) (said : AreSaidSeries all.series) (holds : CertificateHoldsFor all text) where
     -- the series at two places, in their order
     pair_clear : (i j : ℕ) (a b : Event) → i ≤ j → j < length all.series → slice_get all.series i ≡ Some a → slice_get all.series j ≡ Some b → AreClear (IsInstance a) (IsInstance b)
     pair_clear i j a b order within at_i at_j x y t in_a in_b clash =
@@ -168,7 +200,7 @@ module _
         let entry = holds.entries (suc i) (suc j) (omega arith, omega (arith, order), omega (arith, within, series)) in
         ∥∥₁_elim (said a (i, slice_get_within all.series i a at_i, get_or_from_slice_get all.series i a a at_i)) ⊥_prop (λ p.
         ∥∥₁_elim (said b (j, slice_get_within all.series j b at_j, get_or_from_slice_get all.series j b b at_j)) ⊥_prop (λ q.
-        entry_clear all (suc i) (suc j) (entry_of claims (suc i) (suc j)) a b p q (ap (slice_get all.series) first ∙ at_i) (ap (slice_get all.series) second ∙ at_j) entry x y t in_a in_b clash))
+        entry_clear two one all (suc i) (suc j) (entry_of claims (suc i) (suc j)) a b p q (ap (slice_get all.series) first ∙ at_i) (ap (slice_get all.series) second ∙ at_j) entry x y t in_a in_b clash))
 
     series_clear : (x y : Instance) (t : ℤ) → IsInSeries all.series x → IsInSeries all.series y → AreClashing x y t → ⊥
     series_clear x y t (a, (i, v, e), in_a) (b, (j, w, f), in_b) clash =

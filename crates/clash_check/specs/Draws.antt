@@ -1,11 +1,13 @@
 -- What a calendar that hands out its instances one by one shows of itself.
-use Rattle.std.specs.Prelude.{◌≡◌, ℕ, ◌+◌, ◌-◌, ◌^◌, ◌<◌, ◌≤◌, ℤ, ◌+ℤ◌, ◌-ℤ◌, ◌≤ℤ◌, ◌<ℤ◌, if◌then◌else◌, min, Option, Some, is_some, Contains}
+use Rattle.std.specs.Prelude.{◌≡◌, ℕ, pos, true, ◌+◌, ◌-◌, ◌^◌, ◌<◌, ◌≤◌, ℤ, ◌+ℤ◌, ◌-ℤ◌, ◌≤ℤ◌, ◌<ℤ◌, if◌then◌else◌, min, Option, Some, is_some, Contains}
 use Rattle.std.specs.List.{slice_get}
 use Rattle.profile.specs.checker.Instances.{Instance, AreClear}
 use Rattle.profile.specs.events.Events.{Event}
 use Rattle.profile.specs.events.Starts.{IsInstance}
 use Rattle.profile.specs.events.Confirmed.{Confirmed}
+use Rattle.profile.specs.events.Residues.{IsResidue, ResiduesHold}
 use Rattle.profile.specs.events.Spans.{IsWidthOf, SpanHolds}
+use Rattle.profile.specs.series.Repeating.{IsCongruent}
 use Rattle.cal_events.specs.Calendar.{HaveDifferentKeys, HaveOwnKeys}
 use Rattle.cal_events.specs.Series.{AreKnownByStart}
 
@@ -31,8 +33,8 @@ pub record LastsAbout (series : Event) (width : ℤ) : Type 0 where
   pub most : (b : Instance) → IsInstance series b → b.end ≤ℤ (b.start +ℤ width)
   pub least : (b : Instance) → IsInstance series b → width ≤ℤ ((b.end -ℤ b.start) +ℤ ((b.end -ℤ b.start) +ℤ (b.end -ℤ b.start)))
 
--- different instances have different keys; those of a series are known by their starts, last about as long as its width says, and are settled
--- by a span that holds
+-- different instances have different keys; those of a series are known by their starts, last about as long as its width says, start each at one of
+-- its residues, and are settled by a span that holds and by residues that do
 pub record IsDrawable (all : Confirmed) : Type 0 where
   pub keys : HaveDifferentKeys all.singles
   pub own : HaveOwnKeys all
@@ -40,6 +42,9 @@ pub record IsDrawable (all : Confirmed) : Type 0 where
   pub lengths : (series : Event) → Contains all.series series → (width : ℤ) → IsWidthOf series width → LastsAbout series width
   pub settled : (series : Event) → Contains all.series series → (from : ℤ) (days : ℕ) → SpanHolds series series from days
       → AreClear (IsInstance series) (IsInstance series)
+  pub apart : (series : Event) → Contains all.series series → (m : ℕ) → ResiduesHold true series series m → AreClear (IsInstance series) (IsInstance series)
+  pub starts : (series : Event) → Contains all.series series → (m : ℕ) → 0 < m → (b : Instance) → IsInstance series b
+      → ((residue : ℕ) → IsResidue series m residue → IsCongruent m b.start (pos residue) → ⊥) → ⊥
 
 -- so many more are drawn, as far as 64 bits go
 abbrev pub drawn_more : ℕ → ℕ → ℕ

@@ -1,6 +1,6 @@
 -- What is said of the entries of a certificate: which of them is the first that doesn't hold, and how many instances that took.
 use Rattle.std.specs.Prelude.{◌≡◌, ◌⊎◌, ℕ, suc, ◌+◌, ◌-◌, ◌^◌, ◌≤◌, ◌<◌, Bool, true, false, min, MatchOption, Option}
-use Rattle.profile.specs.checker.Certificates.{Claims, Entry, End, Span, IsPair, IsPairBefore, IsSeriesAt, EntryHolds, EntryFails, EntriesHold, entry_of}
+use Rattle.profile.specs.checker.Certificates.{Claims, Entry, End, Span, Res, IsPair, IsPairBefore, IsSeriesAt, EntryHolds, EntryFails, EntriesHold, entry_of}
 use Rattle.profile.specs.events.Events.{Event}
 use Rattle.profile.specs.events.Confirmed.{Confirmed}
 use Rattle.profile.specs.events.Spans.{IsSpan}
@@ -14,12 +14,13 @@ IsMore old new more = min new (2 ^ 64 - 1) ≡ min (old + more) (2 ^ 64 - 1)
 abbrev pub IsSomeMore : ℕ → ℕ → ℕ → Type 0
 IsSomeMore old new most = (n : ℕ) × (1 ≤ n) × (n ≤ most) × IsMore old new n
 
--- an entry has its two series compared: it says END, or is a span of them
+-- an entry has its two series compared: it says END, or is a span of them. RES has nothing drawn
 abbrev pub HasCompared : Confirmed → ℕ → ℕ → Entry → Type 0
 HasCompared all i j End = Unit {0}
 HasCompared all i j (Span from days) = (a b : Event) → IsSeriesAt all i a → IsSeriesAt all j b → IsSpan a b from days
+HasCompared all i j (Res m) = ⊥
 
--- where an entry fails that has this many instances to compare: some of them were drawn, at least one, or none where it is no span
+-- where an entry fails that has this many instances to compare: some of them were drawn, at least one, or none where it is no span or says RES
 abbrev pub FailsDrawn : Confirmed → ℕ → ℕ → Entry → ℕ → ℕ → ℕ → Type 0
 FailsDrawn all i j entry old new most =
     (HasCompared all i j entry × IsSomeMore old new most) ⊎ ((HasCompared all i j entry → ⊥) × IsMore old new 0)

@@ -8,6 +8,10 @@ use Rattle.profile.specs.events.Confirmed.{Confirmed, IsInSeries}
 use Rattle.cal_events.specs.declared.sweep.Span.{Span}
 use Rattle.clash_check.specs.Entries.{IsMore}
 
+-- the seconds of a week
+abbrev pub week : ℕ
+week = 604_800
+
 -- when an instance starts and ends
 abbrev pub span_in : Instance → Span
 span_in b = record { start = b.start; end = b.end }
@@ -19,6 +23,14 @@ HasSharer series start end = (b : Instance) × IsInstance series b × SharesInst
 -- none does
 abbrev pub HasNoSharer : Event → ℤ → ℤ → Type 0
 HasNoSharer series start end = (b : Instance) → IsInstance series b → SharesInstant b.start b.end start end → ⊥
+
+-- one of the spans has one of the series
+abbrev pub HasSharers : Event → List Span → Type 0
+HasSharers series spans = (span : Span) × Contains spans span × HasSharer series span.start span.end
+
+-- none has
+abbrev pub HasNoSharers : Event → List Span → Type 0
+HasNoSharers series spans = (span : Span) → Contains spans span → HasNoSharer series span.start span.end
 
 -- an instance of one of the series does
 abbrev pub HaveSharer : Confirmed → ℤ → ℤ → Type 0

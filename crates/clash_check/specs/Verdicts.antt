@@ -34,7 +34,7 @@ MakesAll all text made =
     → (n : ℕ) × (length all.singles ≤ n) × (n ≤ singles_count all) × (made ≡ min (count_all count c.series + n) (2 ^ 64 - 1))
 
 -- those were made that the entries before a pair's have compared, and some of its own, at least one; none of its own where its entry is no
--- span of the pair
+-- span of the pair or says RES
 abbrev pub MakesSome : Confirmed → List ℕ → ℕ → ℕ → ℕ → Type 0
 MakesSome all text first second made =
     (c : Claims) → SpellsCertificate text c → (count : ℕ → ℕ → ℕ) → AreCounts all c count

@@ -22,7 +22,7 @@ use cal_events::{
     Calendar, HORIZON, Instance, OwnedKey, Series, instances_last, known_by_start,
     one_calendar_text, series_are_said,
 };
-use cal_period::series_repeat;
+use cal_period::{residues_settle, series_repeat};
 use clash_cert::{Clash, one_certificate};
 use ical_lines::Fault;
 use ical_values::Address;
@@ -76,12 +76,13 @@ pub fn judge_read(
 }
 
 /// A certificate that holds is enough: no two of all confirmed instances clash, of singles and of series. Of two series END says so by itself,
-/// and SPAN because both do in each period after the first what they did in that.
+/// SPAN because both do in each period after the first what they did in that, and RES because no arcs of their residues meet.
 pub fn certificate_means_clear()
     ensures { (all : Confirmed) (text : List ℕ) → AreSaidSeries all.series → CertificateHoldsFor all text → IsClear (IsOneOf all) }
 {
     instances_last();
     series_repeat();
+    residues_settle();
 }
 
 /// Is this a clash of two confirmed instances of the calendar?

@@ -8,7 +8,7 @@ ghost use Rattle.clash_check.specs.Opened.{IsFirstFrom, IsFirstBetween};
 use crate::drawn::Drawn;
 use crate::two_open::TwoOpen;
 use cal_events::{Calendar, instances_last, known_by_start, series_are_said};
-use cal_period::series_repeat;
+use cal_period::{residues, residues_settle, series_repeat};
 use std::alloc::{AllocError, Global};
 
 /// What is wanted of a series: its instances that start from an instant on and before a bound.
@@ -64,6 +64,7 @@ impl<'a> Drawn for Drawing<'a> {
         series_are_said();
         instances_last();
         series_repeat();
+        residues_settle();
     }
 
     fn series(&self) -> u64 {
@@ -84,6 +85,10 @@ impl<'a> Drawn for Drawing<'a> {
 
     fn width(&self, i: u64) -> i64 {
         self.calendar.series()[place_of(i)].width()
+    }
+
+    fn residues(&self, alloc: Global, i: u64, m: u64) -> Result<Vec<u64>, AllocError> {
+        residues(alloc, &self.calendar.series()[place_of(i)], m)
     }
 
     fn begin(&mut self, i: u64, from: i64, bound: i64) {

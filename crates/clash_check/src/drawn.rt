@@ -1,14 +1,17 @@
 //! What the checker draws from: a calendar that hands out its instances one by one, and counts them.
-ghost use Rattle.std.specs.Prelude.{ℕ, ℤ, ◌≡◌, ◌≢◌, ◌↔◌, ◌^◌, ◌≤◌, ◌<◌, ◌≤ℤ◌, ◌<ℤ◌, pos, length, Contains, MatchOption, IfSome};
+ghost use Rattle.std.specs.Prelude.{ℕ, ℤ, ◌≡◌, ◌≢◌, ◌↔◌, ◌^◌, ◌≤◌, ◌<◌, ◌≤ℤ◌, ◌<ℤ◌, pos, length, Contains, MatchOption, IfOk, IfSome};
 ghost use Rattle.profile.specs.checker.Instances.{Instance};
 ghost use Rattle.profile.specs.checker.Certificates.{IsSeriesAt};
 ghost use Rattle.profile.specs.events.Events.{Event};
 ghost use Rattle.profile.specs.events.Confirmed.{Confirmed};
+ghost use Rattle.profile.specs.events.Residues.{AreResidues, IsModulus};
 ghost use Rattle.profile.specs.events.Spans.{IsLeastPast, HasNoPeriodOf, IsLeastPeriodOf, IsWidthOf};
 ghost use Rattle.clash_check.specs.Draws.{IsPlace, IsSingleAt, IsSpanBetween, IsDrawable, drawn_more, one_if};
 
+use std::alloc::{AllocError, Global};
+
 /// A calendar that hands out its instances one by one. It never changes. Its series and its singles are counted from 1, in its order.
-/// No call takes memory.
+/// Only `residues` takes memory.
 pub trait Drawn {
     // The calendar.
     ghost calendar: { Self → Confirmed };
@@ -46,6 +49,12 @@ pub trait Drawn {
         requires { IsPlace (length (Self.calendar self.now).series) i }
         ensures width { (series : Event) → IsSeriesAt (Self.calendar self.now) i series → IsWidthOf series result }
         ensures range { (pos 0 ≤ℤ result) × (result <ℤ pos (2 ^ 50)) };
+
+    /// The residues of a series modulo m seconds. Fails only when out of memory.
+    fn residues(&self, alloc: Global, i: u64, m: u64) -> Result<Vec<u64>, AllocError>
+        requires place { IsPlace (length (Self.calendar self.now).series) i }
+        requires modulus { IsModulus m }
+        ensures { IfOk result (λ all. (series : Event) → IsSeriesAt (Self.calendar self.now) i series → AreResidues series m all.items) };
 
     /// From now on the instances of a series come that start from an instant on and before a bound.
     fn begin(&mut self, i: u64, from: i64, bound: i64)

@@ -62,7 +62,7 @@ fn judge_counted<D: Drawn>(
     ensures few { D.count drawn.old ≡ 0 → IfOk result (MakesFewOf (D.calendar drawn.old) certificate.now) }
 {
     drawn.is_drawable();
-    if let Some((i, j)) = first_failing(drawn, certificate) {
+    if let Some((i, j)) = first_failing(alloc, drawn, certificate)? {
         return Ok(Checked::no_at(Why::ENTRY, i, j, drawn.drawn()));
     }
     if have_clash(alloc, drawn)? {

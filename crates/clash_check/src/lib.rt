@@ -9,6 +9,7 @@ pub mod judging;
 pub mod law;
 mod open_series;
 mod pairs;
+mod residues;
 mod singles;
 mod sweep;
 mod two_open;

@@ -1,5 +1,5 @@
-//! The entries of a certificate, each judged by what is drawn of its two series. No memory is taken.
-ghost use Rattle.std.specs.Prelude.{ℕ, ℤ, List, ◌≡◌, ◌↔◌, ◌+◌, ◌*◌, ◌^◌, ◌<◌, ◌≤◌, ◌≤ℤ◌, ◌<ℤ◌, pos, true, not, length, IsTrue, MatchBool};
+//! The entries of a certificate, each judged by what is drawn of its two series, or by their residues. Only residues take memory.
+ghost use Rattle.std.specs.Prelude.{ℕ, ℤ, List, ◌≡◌, ◌↔◌, ◌+◌, ◌*◌, ◌^◌, ◌<◌, ◌≤◌, ◌≤ℤ◌, ◌<ℤ◌, pos, true, not, length, IsTrue, IfOk, MatchBool};
 ghost use Rattle.profile.specs.checker.Instances.{Instance, AreClear, HasClash};
 ghost use Rattle.profile.specs.checker.Certificates.{IsSeriesAt, IsPair, EntryHolds, EntryFails, Span as SaidSpan};
 ghost use Rattle.profile.specs.events.Events.{Event};
@@ -13,63 +13,79 @@ ghost use Rattle.clash_check.specs.Entries.{IsEntryDrawn, IsRowJudged, IsRowDraw
 ghost use Rattle.clash_check.specs.Sweeps.{AreDrawn};
 
 use crate::drawn::Drawn;
+use crate::residues::residues_hold;
 use crate::sweep::{sweep_alone, sweep_pair};
 use cal_events::HORIZON;
 use cal_period::periods_are_multiples;
 use clash_cert::{Certificate, Entry};
+use std::alloc::{AllocError, Global};
 
 /// The most days that a span may have.
 const MOST_DAYS: u64 = 2_932_897;
 
-/// The first pair of which the entry doesn't hold, counted from 1: by its first series, and then by its second. None where all hold.
+/// The first pair of which the entry doesn't hold, counted from 1: by its first series, and then by its second. None where all hold. Fails only
+/// when out of memory.
 pub(crate) fn first_failing<D: Drawn>(
+    alloc: Global,
     drawn: &mut D,
     certificate: &Certificate,
-) -> Option<(u64, u64)>
+) -> Result<Option<(u64, u64)>, AllocError>
     requires { certificate.now.series ≡ length (D.calendar drawn.old).series }
     ensures calendar { D.calendar drawn.new ≡ D.calendar drawn.old }
-    ensures judged { AreJudged (D.calendar drawn.old) certificate.now result }
-    ensures count { AreAllDrawn (D.calendar drawn.old) certificate.now result (D.count drawn.old) (D.count drawn.new) }
+    ensures judged { IfOk result (λ found. AreJudged (D.calendar drawn.old) certificate.now found) }
+    ensures count { IfOk result (λ found. AreAllDrawn (D.calendar drawn.old) certificate.now found (D.count drawn.old) (D.count drawn.new)) }
 {
     for before in 0..certificate.series() {
         let i = before + 1;
-        if let Some(j) = failing_in_row(drawn, certificate, i) {
-            return Some((i, j));
+        if let Some(j) = failing_in_row(alloc, drawn, certificate, i)? {
+            return Ok(Some((i, j)));
         }
     }
-    None
+    Ok(None)
 }
 
 /// The first series, from one on, with which that one has an entry that doesn't hold.
-fn failing_in_row<D: Drawn>(drawn: &mut D, certificate: &Certificate, i: u64) -> Option<u64>
+fn failing_in_row<D: Drawn>(
+    alloc: Global,
+    drawn: &mut D,
+    certificate: &Certificate,
+    i: u64,
+) -> Result<Option<u64>, AllocError>
     requires counts { certificate.now.series ≡ length (D.calendar drawn.old).series }
     requires place { IsPlace (length (D.calendar drawn.old).series) i }
     ensures calendar { D.calendar drawn.new ≡ D.calendar drawn.old }
-    ensures judged { IsRowJudged (D.calendar drawn.old) certificate.now i result }
-    ensures count { IsRowDrawn (D.calendar drawn.old) certificate.now i result (D.count drawn.old) (D.count drawn.new) }
+    ensures judged { IfOk result (λ found. IsRowJudged (D.calendar drawn.old) certificate.now i found) }
+    ensures count { IfOk result (λ found. IsRowDrawn (D.calendar drawn.old) certificate.now i found (D.count drawn.old) (D.count drawn.new)) }
 {
     for before in i - 1..certificate.series() {
         let j = before + 1;
-        if !entry_holds(drawn, certificate.entry(i, j), i, j) {
-            return Some(j);
+        if !entry_holds(alloc, drawn, certificate.entry(i, j), i, j)? {
+            return Ok(Some(j));
         }
     }
-    None
+    Ok(None)
 }
 
-/// Does an entry hold of two series?
-fn entry_holds<D: Drawn>(drawn: &mut D, entry: Entry, i: u64, j: u64) -> bool
+/// Does an entry hold of two series? RES draws nothing, and takes memory for their residues. Fails only when out of it.
+fn entry_holds<D: Drawn>(
+    alloc: Global,
+    drawn: &mut D,
+    entry: Entry,
+    i: u64,
+    j: u64,
+) -> Result<bool, AllocError>
     requires { IsPair (length (D.calendar drawn.old).series) i j }
     ensures calendar { D.calendar drawn.new ≡ D.calendar drawn.old }
-    ensures holds { MatchBool result (EntryHolds (D.calendar drawn.old) i j (entry_said entry)) (EntryFails (D.calendar drawn.old) i j (entry_said entry)) }
-    ensures count { (n : ℕ) → IsPairCount (D.calendar drawn.old) i j (entry_said entry) n
-        → IsEntryDrawn (D.calendar drawn.old) i j (entry_said entry) result (D.count drawn.old) (D.count drawn.new) n }
+    ensures holds { IfOk result (λ r. MatchBool r (EntryHolds (D.calendar drawn.old) i j (entry_said entry)) (EntryFails (D.calendar drawn.old) i j (entry_said entry))) }
+    ensures count { IfOk result (λ r. (n : ℕ) → IsPairCount (D.calendar drawn.old) i j (entry_said entry) n
+        → IsEntryDrawn (D.calendar drawn.old) i j (entry_said entry) r (D.count drawn.old) (D.count drawn.new) n) }
 {
     // Only for the proof: each instance starts before the horizon.
     drawn.is_drawable();
     match entry {
-        Entry::End => are_clear(drawn, i, j, HORIZON),
-        Entry::Span { from, days } => span_holds(drawn, i, j, from.instant(), days),
+        Entry::End => Ok(are_clear(drawn, i, j, HORIZON)),
+        Entry::Span { from, days } => Ok(span_holds(drawn, i, j, from.instant(), days)),
+        Entry::Res(m) => residues_hold(alloc, drawn, i, j, m),
     }
 }
 

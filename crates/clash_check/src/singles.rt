@@ -1,19 +1,25 @@
-//! The singles: each is drawn once, and compared with the others and with the instances of the series around it.
+//! The singles: each is drawn once, and compared with the others and with the instances of the series around it. A series is drawn only beside those
+//! that may share an instant with what starts at its residues modulo a week.
 ghost use Rattle.std.specs.Prelude.{◌≡◌, ◌↔◌, ◌*◌, ◌<ℤ◌, ◌^◌, pos, length, map, IsTrue, Contains, MatchBool, IfOk};
 ghost use Rattle.profile.specs.checker.Instances.{Instance, AreClear, HasClash, horizon};
 ghost use Rattle.profile.specs.checker.Certificates.{IsSeriesAt};
 ghost use Rattle.profile.specs.events.Events.{Event};
 ghost use Rattle.profile.specs.events.Starts.{IsInstance};
 ghost use Rattle.profile.specs.events.Confirmed.{IsOneOf};
+ghost use Rattle.profile.specs.events.Residues.{AreResidues};
 ghost use Rattle.profile.specs.events.Spans.{IsWidthOf};
 ghost use Rattle.clash_check.specs.Draws.{IsPlace};
 ghost use Rattle.clash_check.specs.Entries.{IsMore};
-ghost use Rattle.clash_check.specs.Singles.{span_in, HasSharer, HasNoSharer, HaveSharer, HaveNoSharer, HaveSharers, HaveNoSharers, IsEachClear, IsFewMore, AreSinglesDrawn, IsEntry};
+ghost use Rattle.clash_check.specs.Singles.{span_in, week, HasSharer, HasNoSharer, HasSharers, HasNoSharers, HaveSharers, HaveNoSharers, IsEachClear, IsFewMore, AreSinglesDrawn, IsEntry};
 
 use crate::drawn::Drawn;
 use crate::walk::draw_span;
 use cal_events::{HORIZON, Span, first_overlap};
+use cal_period::reaches;
 use std::alloc::{AllocError, Global};
+
+/// The seconds of a week. A rule has few residues modulo them, whatever its weekdays.
+const WEEK_SECONDS: u64 = 7 * 86_400;
 
 /// Does a single clash with another or with an instance of a series? Each single is drawn once, so all are kept: it takes memory, and fails
 /// only when out of it.
@@ -27,7 +33,7 @@ pub(crate) fn have_clash<D: Drawn>(alloc: Global, drawn: &mut D) -> Result<bool,
     let spans = draw_singles(alloc, drawn)?;
     match first_overlap(alloc, &spans)? {
         Some(_) => Ok(true),
-        None => Ok(any_meets(drawn, &spans)),
+        None => any_meets(alloc, drawn, &spans),
     }
 }
 
@@ -45,37 +51,60 @@ fn draw_singles<D: Drawn>(alloc: Global, drawn: &mut D) -> Result<Vec<Span>, All
     Ok(spans)
 }
 
-/// Does one of the spans share an instant with an instance of a series?
-fn any_meets<D: Drawn>(drawn: &mut D, spans: &[Span]) -> bool
+/// Does one of the spans share an instant with an instance of a series? Fails only when out of memory.
+fn any_meets<D: Drawn>(alloc: Global, drawn: &mut D, spans: &[Span]) -> Result<bool, AllocError>
     ensures calendar { D.calendar drawn.new ≡ D.calendar drawn.old }
-    ensures meets { MatchBool result (HaveSharers (D.calendar drawn.old) spans.now) (HaveNoSharers (D.calendar drawn.old) spans.now) }
-    ensures count { IsEachClear (D.calendar drawn.old) → IsFewMore (D.count drawn.old) (D.count drawn.new) (length spans.now * (length (D.calendar drawn.old).series * 3)) }
-{
-    for span in spans {
-        if meets_any(drawn, span) {
-            return true;
-        }
-    }
-    false
-}
-
-/// Does a span share an instant with an instance of a series?
-fn meets_any<D: Drawn>(drawn: &mut D, span: &Span) -> bool
-    ensures calendar { D.calendar drawn.new ≡ D.calendar drawn.old }
-    ensures meets { MatchBool result (HaveSharer (D.calendar drawn.old) span.now.start span.now.end) (HaveNoSharer (D.calendar drawn.old) span.now.start span.now.end) }
-    ensures count { IsEachClear (D.calendar drawn.old) → IsFewMore (D.count drawn.old) (D.count drawn.new) (length (D.calendar drawn.old).series * 3) }
+    ensures meets { IfOk result (λ r. MatchBool r (HaveSharers (D.calendar drawn.old) spans.now) (HaveNoSharers (D.calendar drawn.old) spans.now)) }
+    ensures count { IsEachClear (D.calendar drawn.old)
+        → IfOk result (λ _. IsFewMore (D.count drawn.old) (D.count drawn.new) (length (D.calendar drawn.old).series * (length spans.now * 3))) }
 {
     for before in 0..drawn.series() {
-        if meets(drawn, before + 1, *span) {
+        if series_meets(alloc, drawn, before + 1, spans)? {
+            return Ok(true);
+        }
+    }
+    Ok(false)
+}
+
+/// Does one of the spans share an instant with an instance of a series? Its residues are listed once for all of them. Fails only when out of memory.
+fn series_meets<D: Drawn>(
+    alloc: Global,
+    drawn: &mut D,
+    i: u64,
+    spans: &[Span],
+) -> Result<bool, AllocError>
+    requires { IsPlace (length (D.calendar drawn.old).series) i }
+    ensures calendar { D.calendar drawn.new ≡ D.calendar drawn.old }
+    ensures meets { IfOk result (λ r. (a : Event) → IsSeriesAt (D.calendar drawn.old) i a → MatchBool r (HasSharers a spans.now) (HasNoSharers a spans.now)) }
+    ensures count { IfOk result (λ _. (a : Event) → IsSeriesAt (D.calendar drawn.old) i a → AreClear (IsInstance a) (IsInstance a)
+        → IsFewMore (D.count drawn.old) (D.count drawn.new) (length spans.now * 3)) }
+{
+    let residues = drawn.residues(alloc, i, WEEK_SECONDS)?;
+    Ok(meets_one(drawn, i, &residues, spans))
+}
+
+/// Does a series of these residues modulo a week share an instant with one of the spans?
+fn meets_one<D: Drawn>(drawn: &mut D, i: u64, residues: &[u64], spans: &[Span]) -> bool
+    requires place { IsPlace (length (D.calendar drawn.old).series) i }
+    requires residues { (a : Event) → IsSeriesAt (D.calendar drawn.old) i a → AreResidues a week residues.now }
+    ensures calendar { D.calendar drawn.new ≡ D.calendar drawn.old }
+    ensures meets { (a : Event) → IsSeriesAt (D.calendar drawn.old) i a → MatchBool result (HasSharers a spans.now) (HasNoSharers a spans.now) }
+    ensures count { (a : Event) → IsSeriesAt (D.calendar drawn.old) i a → AreClear (IsInstance a) (IsInstance a)
+        → IsFewMore (D.count drawn.old) (D.count drawn.new) (length spans.now * 3) }
+{
+    for span in spans {
+        if meets(drawn, i, residues, *span) {
             return true;
         }
     }
     false
 }
 
-/// Does a span share an instant before the horizon with an instance of a series? Where one of them has no length nothing is drawn.
-fn meets<D: Drawn>(drawn: &mut D, i: u64, span: Span) -> bool
-    requires { IsPlace (length (D.calendar drawn.old).series) i }
+/// Does a span share an instant before the horizon with an instance of a series of these residues modulo a week? Nothing is drawn where one of them
+/// has no length, and where no instance at these residues may.
+fn meets<D: Drawn>(drawn: &mut D, i: u64, residues: &[u64], span: Span) -> bool
+    requires place { IsPlace (length (D.calendar drawn.old).series) i }
+    requires residues { (a : Event) → IsSeriesAt (D.calendar drawn.old) i a → AreResidues a week residues.now }
     ensures calendar { D.calendar drawn.new ≡ D.calendar drawn.old }
     ensures meets { (a : Event) → IsSeriesAt (D.calendar drawn.old) i a → MatchBool result (HasSharer a span.start span.end) (HasNoSharer a span.start span.end) }
     ensures count { (a : Event) → IsSeriesAt (D.calendar drawn.old) i a → AreClear (IsInstance a) (IsInstance a)
@@ -87,6 +116,9 @@ fn meets<D: Drawn>(drawn: &mut D, i: u64, span: Span) -> bool
         return false;
     }
     if !holds_instant(span) {
+        return false;
+    }
+    if !reaches(WEEK_SECONDS, residues, width, span.start, span.end) {
         return false;
     }
     meets_near(drawn, i, span, width)

@@ -1,43 +1,54 @@
-use Rattle.std.proofs.Common.{◌≡◌, ◌*◌, length, pos, subst, arith, Some}
-use Rattle.std.specs.List.{slice_get}
-use Rattle.std.proofs.lemmas.Option.{slice_get-get_or}
+use Rattle.std.proofs.Common.{◌+◌, ◌*◌, Bool, length, subst, arith}
+use Rattle.std.specs.Prelude.{MatchBool}
+use Rattle.profile.specs.checker.Certificates.{IsSeriesAt}
+use Rattle.profile.specs.checker.Instances.{AreClear}
 use Rattle.profile.specs.events.Confirmed.{Confirmed}
-use Rattle.cal_events.specs.Sweep.{span_at}
-use Rattle.clash_check.specs.Singles.{HaveSharer, HaveNoSharer, IsEachClear, IsFewMore}
-use Rattle.clash_check.proofs.SingleLemmas.{met_found, met_some, met_next, met_none}
+use Rattle.profile.specs.events.Events.{Event}
+use Rattle.profile.specs.events.Starts.{IsInstance}
+use Rattle.clash_check.specs.Singles.{HasSharers, HasNoSharers, IsFewMore}
+use Rattle.clash_check.proofs.SingleLemmas.{any_found, any_some, any_next, any_none, any_all}
 use Rattle.clash_check.proofs.singles.any_meets.Goals as goal
 
-pub returns-then-meets_any-clause-meets : goal.returns-then-meets_any-clause-meets
-returns-then-meets_any-clause-meets g c =
+pub returns-then-branch-clause-meets : goal.returns-then-branch-clause-meets
+returns-then-branch-clause-meets g c =
     let spans = c.args.spans.now in
-    let place = c.loop-span.span-index in
-    let s = span_at spans place in
-    let there : slice_get spans place ≡ Some s = slice_get-get_or spans place (record { start = pos 0; end = pos 0 }) c.loop-span-test.true in
-    met_found (g.D.Drawn.calendar c.args.drawn.now) spans place (g.D.Drawn.calendar c.loop-span.drawn) _ _ (g.D.Drawn.count c.meets_any.new.drawn) s there c.loop-span.invariant
-    (subst (λ (x : Confirmed). IsEachClear x → IsFewMore (g.D.Drawn.count c.loop-span.drawn) (g.D.Drawn.count c.meets_any.new.drawn) (length x.series * 3)) c.loop-span.invariant.same c.meets_any.ensures.count)
-    (subst (λ (x : Confirmed). HaveSharer x s.start s.end) c.loop-span.invariant.same c.if-meets_any.ensures.meets)
+    let test = c.loop-before-test.true in
+    let end = c.series-before-end.ensures in
+    any_found (g.D.Drawn.calendar c.args.drawn.now) spans c.loop-before.before (g.D.Drawn.calendar c.loop-before.drawn) _ _ (g.D.Drawn.count c.series_meets.new.drawn) (omega (arith, test, end)) c.loop-before.invariant
+    (subst (λ (x : Confirmed). (a : Event) → IsSeriesAt x (c.loop-before.before + 1) a → AreClear (IsInstance a) (IsInstance a) → IsFewMore (g.D.Drawn.count c.loop-before.drawn) (g.D.Drawn.count c.series_meets.new.drawn) (length spans * 3))
+    c.loop-before.invariant.same c.in_ok-series_meets.ensures.count)
+    (subst (λ (b : Bool). (a : Event) → IsSeriesAt (g.D.Drawn.calendar c.args.drawn.now) (c.loop-before.before + 1) a → MatchBool b (HasSharers a spans) (HasNoSharers a spans)) c.if-branch.true
+    (subst (λ (x : Confirmed). (a : Event) → IsSeriesAt x (c.loop-before.before + 1) a → MatchBool c.in_ok-series_meets.field-0 (HasSharers a spans) (HasNoSharers a spans)) c.loop-before.invariant.same c.in_ok-series_meets.ensures.meets))
 
-pub returns-then-meets_any-clause-count : goal.returns-then-meets_any-clause-count
-returns-then-meets_any-clause-count g c =
+pub returns-then-branch-clause-count : goal.returns-then-branch-clause-count
+returns-then-branch-clause-count g c =
     let spans = c.args.spans.now in
-    let place = c.loop-span.span-index in
-    let s = span_at spans place in
-    let there : slice_get spans place ≡ Some s = slice_get-get_or spans place (record { start = pos 0; end = pos 0 }) c.loop-span-test.true in
-    met_some (g.D.Drawn.calendar c.args.drawn.now) spans place (g.D.Drawn.calendar c.loop-span.drawn) _ _ (g.D.Drawn.count c.meets_any.new.drawn) s there c.loop-span.invariant
-    (subst (λ (x : Confirmed). IsEachClear x → IsFewMore (g.D.Drawn.count c.loop-span.drawn) (g.D.Drawn.count c.meets_any.new.drawn) (length x.series * 3)) c.loop-span.invariant.same c.meets_any.ensures.count)
+    let test = c.loop-before-test.true in
+    let end = c.series-before-end.ensures in
+    any_some (g.D.Drawn.calendar c.args.drawn.now) spans c.loop-before.before (g.D.Drawn.calendar c.loop-before.drawn) _ _ (g.D.Drawn.count c.series_meets.new.drawn) (omega (arith, test, end)) c.loop-before.invariant
+    (subst (λ (x : Confirmed). (a : Event) → IsSeriesAt x (c.loop-before.before + 1) a → AreClear (IsInstance a) (IsInstance a) → IsFewMore (g.D.Drawn.count c.loop-before.drawn) (g.D.Drawn.count c.series_meets.new.drawn) (length spans * 3))
+    c.loop-before.invariant.same c.in_ok-series_meets.ensures.count)
 
-pub loop-span-preserved : goal.loop-span-preserved
-loop-span-preserved g c =
+pub loop-before-preserved : goal.loop-before-preserved
+loop-before-preserved g c =
     let spans = c.args.spans.now in
-    let place = c.loop-span.span-index in
-    let s = span_at spans place in
-    let there : slice_get spans place ≡ Some s = slice_get-get_or spans place (record { start = pos 0; end = pos 0 }) c.loop-span-test.true in
-    met_next (g.D.Drawn.calendar c.args.drawn.now) spans place (g.D.Drawn.calendar c.loop-span.drawn) _ _ (g.D.Drawn.count c.meets_any.new.drawn) s there c.loop-span.invariant
-    (subst (λ (x : Confirmed). IsEachClear x → IsFewMore (g.D.Drawn.count c.loop-span.drawn) (g.D.Drawn.count c.meets_any.new.drawn) (length x.series * 3)) c.loop-span.invariant.same c.meets_any.ensures.count)
-    (g.D.Drawn.calendar c.meets_any.new.drawn) c.meets_any.ensures.calendar
-    (subst (λ (x : Confirmed). HaveNoSharer x s.start s.end) c.loop-span.invariant.same c.if-meets_any.ensures.meets)
+    let test = c.loop-before-test.true in
+    let end = c.series-before-end.ensures in
+    any_next (g.D.Drawn.calendar c.args.drawn.now) spans c.loop-before.before (g.D.Drawn.calendar c.loop-before.drawn) _ _ (g.D.Drawn.count c.series_meets.new.drawn) (omega (arith, test, end)) c.loop-before.invariant
+    (subst (λ (x : Confirmed). (a : Event) → IsSeriesAt x (c.loop-before.before + 1) a → AreClear (IsInstance a) (IsInstance a) → IsFewMore (g.D.Drawn.count c.loop-before.drawn) (g.D.Drawn.count c.series_meets.new.drawn) (length spans * 3))
+    c.loop-before.invariant.same c.in_ok-series_meets.ensures.count)
+    (g.D.Drawn.calendar c.series_meets.new.drawn) c.series_meets.ensures.calendar
+    (subst (λ (b : Bool). (a : Event) → IsSeriesAt (g.D.Drawn.calendar c.args.drawn.now) (c.loop-before.before + 1) a → MatchBool b (HasSharers a spans) (HasNoSharers a spans)) c.if-branch.false
+    (subst (λ (x : Confirmed). (a : Event) → IsSeriesAt x (c.loop-before.before + 1) a → MatchBool c.in_ok-series_meets.field-0 (HasSharers a spans) (HasNoSharers a spans)) c.loop-before.invariant.same c.in_ok-series_meets.ensures.meets))
 
 pub returns-clause-meets : goal.returns-clause-meets
 returns-clause-meets g c =
-    let test = c.loop-span-test.false in
-    met_none (g.D.Drawn.calendar c.args.drawn.now) c.args.spans.now c.loop-span.span-index (g.D.Drawn.calendar c.loop-span.drawn) _ _ (omega (arith, test)) c.loop-span.invariant
+    let test = c.loop-before-test.false in
+    let end = c.series-before-end.ensures in
+    any_none (g.D.Drawn.calendar c.args.drawn.now) c.args.spans.now c.loop-before.before (g.D.Drawn.calendar c.loop-before.drawn) _ _ (omega (arith, test, end)) c.loop-before.invariant
+
+pub returns-clause-count : goal.returns-clause-count
+returns-clause-count g c =
+    let most = c.loop-before.auto.before-end in
+    let end = c.series-before-end.ensures in
+    any_all (g.D.Drawn.calendar c.args.drawn.now) c.args.spans.now c.loop-before.before (g.D.Drawn.calendar c.loop-before.drawn) _ _ (omega (arith, most, end)) c.loop-before.invariant

@@ -1,5 +1,5 @@
-use Rattle.clash_check.proofs.SingleLemmas.{AreMetAt}
+use Rattle.clash_check.proofs.SingleLemmas.{IsAnyAt}
 use Rattle.clash_check.proofs.singles.any_meets.Given as goal
 
-abbrev pub invariant-loop-span : goal.invariant-loop-span
-invariant-loop-span g l = AreMetAt (g.D.Drawn.calendar l.fn.drawn) l.spans l.span-index (g.D.Drawn.calendar l.drawn) (g.D.Drawn.count l.fn.drawn) (g.D.Drawn.count l.drawn)
+abbrev pub invariant-loop-before : goal.invariant-loop-before
+invariant-loop-before g l = IsAnyAt (g.D.Drawn.calendar l.fn.drawn) l.spans l.before (g.D.Drawn.calendar l.drawn) (g.D.Drawn.count l.fn.drawn) (g.D.Drawn.count l.drawn)
