@@ -15,4 +15,5 @@ pub mod Spanning
 pub mod Members
 pub mod OnsetTheorem
 pub mod NearOnsets
+pub mod SpanLists
 pub mod AroundLemmas

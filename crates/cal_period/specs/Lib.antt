@@ -9,4 +9,5 @@ pub mod Members
 pub mod Spanning
 pub mod LocalResidues
 pub mod Onsets
+pub mod OnsetSpans
 pub mod Around

@@ -9,6 +9,7 @@ mod beside;
 mod clash;
 mod every_pair;
 mod law;
+mod onset_spans;
 mod onsets;
 mod recurs;
 mod residue;

@@ -160,7 +160,7 @@ fn clash_alone_since<'a>(
 }
 
 /// The first onset of a zone after an instant, where it is before a bound.
-fn onset_below(zone: &Zone, after: i64, bound: i64) -> Option<i64>
+pub(crate) fn onset_below(zone: &Zone, after: i64, bound: i64) -> Option<i64>
     ensures { IsNextBelow (IsZoneOnset (zone_of zone.now)) after bound result }
 {
     match zone.next_onset(after) {
@@ -189,7 +189,7 @@ fn half_day_before(series: &Series) -> i64
 }
 
 /// When an instance lasts.
-fn span_of(instance: Instance<'_>) -> Span
+pub(crate) fn span_of(instance: Instance<'_>) -> Span
     ensures { (result.start ≡ instance.entry.start) × (result.end ≡ instance.entry.end) }
 {
     Span {
