@@ -1,15 +1,18 @@
 //! When a series lasts near the onsets of its zone: found once, and compared with many others.
-ghost use Rattle.std.specs.Prelude.{◌≡◌, ◌^◌, pos, true, ◌≤ℤ◌, ◌<ℤ◌, IfOk};
+ghost use Rattle.std.specs.Prelude.{◌≡◌, ℕ, ◌<◌, ◌^◌, pos, true, ◌≤ℤ◌, ◌<ℤ◌, IfOk};
 ghost use Rattle.profile.specs.checker.Instances.{horizon};
 ghost use Rattle.cal_zones.specs.Kinds.{zone_of};
 ghost use Rattle.cal_events.specs.Series.{series_said};
+ghost use Rattle.cal_period.specs.Clear.{AreClearBelow};
+ghost use Rattle.cal_period.specs.LocalResidues.{AreLocallyApart};
+ghost use Rattle.cal_period.specs.Onsets.{GoesBy};
 ghost use Rattle.cal_period.specs.OnsetSpans.{RiseByStart, AreApartFrom, HoldsMore, AreSpansNear};
 
 use crate::clash::entry;
-use crate::onsets::{onset_below, span_of};
+use crate::onsets::{half_day_before, onset_below, reach_of, span_of};
 use crate::walk::Walk;
-use cal_events::{Series, Span, known_by_start};
-use cal_zones::Zone;
+use cal_events::{Series, Span, instances_last, known_by_start, series_are_said};
+use cal_zones::{Zone, zones_repeat};
 use std::alloc::{AllocError, Global};
 
 /// Which seconds are near an onset: those of the onsets between two instants.
@@ -63,6 +66,40 @@ fn push_since(
         walk = walk.past(next, starts.next());
     }
     Ok(())
+}
+
+/// Whether two series are clear of each other up to the end of the windows, as far as their spans near the onsets of their zone tell: true where no
+/// two share an instant and the windows are long enough. At one offset they never meet.
+pub(crate) fn are_clear_by_spans(
+    a: &Series,
+    b: &Series,
+    zone: &Zone,
+    windows: Windows,
+    these: &[Span],
+    those: &[Span],
+) -> bool
+    requires zone { GoesBy (series_said a.now) zone.now × GoesBy (series_said b.now) zone.now }
+    requires apart { (m : ℕ) × (0 < m) × AreLocallyApart (series_said a.now) (series_said b.now) m }
+    requires these { AreSpansNear (zone_of zone.now) (series_said a.now) windows these.now }
+    requires those { AreSpansNear (zone_of zone.now) (series_said b.now) windows those.now }
+    ensures { result ≡ true → AreClearBelow (series_said a.now) (series_said b.now) windows.bound }
+{
+    known_by_start();
+    series_are_said();
+    instances_last();
+    zones_repeat();
+    zone.one_meaning();
+    let reach = reach_of(b) + a.width();
+    if windows.reach < reach {
+        return false;
+    }
+    if half_day_before(a) < windows.after {
+        return false;
+    }
+    if half_day_before(b) < windows.after {
+        return false;
+    }
+    are_apart_from(these, those)
 }
 
 /// Whether no span of the one list shares an instant with one of the other, by one walk through both. It may answer no where a span holds no instant.
