@@ -1,4 +1,4 @@
-use Rattle.std.proofs.Common.{◌≡◌, subst, sym, arith, to_z, of_z, w64, FitsSigned, rules, to_z-of_z}
+use Rattle.std.proofs.Common.{◌≡◌, subst, sym, to_z, of_z, w64, FitsSigned, rules, to_z-of_z}
 use Rattle.cal_events.specs.Series.{series_said}
 use Rattle.cal_period.proofs.Entries.{entered}
 use Rattle.cal_period.proofs.SpanLists.{AreTaken, taken_first, taken_past, taken_all}
