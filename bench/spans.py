@@ -71,8 +71,8 @@ def checked(program, calendar, certificate):
 def by_both(program, requests):
     """The seconds of the checker's yes to the kept certificate, and to one whose entries say END."""
     calendar, certificate = kept(program, requests)[1], kept(program, requests, "--certificate")[1]
-    if b"SPAN" not in certificate:
-        sys.exit(f"no SPAN: {certificate!r}")
+    if b"END" in certificate:
+        sys.exit(f"no period: {certificate!r}")
     ends = certificate_of(0, len(requests)).encode()
     return least(lambda: checked(program, calendar, certificate)), checked(program, calendar, ends)
 
@@ -85,7 +85,7 @@ def pair_alone(worked, requests, program):
     def asked(count):
         case = f"a pair | text | {calendar}" + f" | clashes {ROOM.format(0)}" * count + "\n"
         with tempfile.TemporaryDirectory() as folder:
-            for name in ("messages.txt", "commands.txt", "events.txt", "calendars.txt", "organisers.txt"):
+            for name in ("messages.txt", "residues.txt", "commands.txt", "events.txt", "calendars.txt", "organisers.txt"):
                 with open(os.path.join(folder, name), "w", encoding="utf-8") as file:
                     file.write(case if name == "messages.txt" else "")
             seconds, _, status, output = run([os.path.abspath(worked)], subprocess.DEVNULL, folder)
@@ -112,7 +112,7 @@ def spans(program, worked):
 
     two_zones = [recurring(0, "20250106T100000Z", "FREQ=WEEKLY", zone=NEW_YORK), in_paris(1, "20250106T173000Z", "FREQ=WEEKLY")]
     daily = [recurring(number, f"20250106T{9 + number:02}0000Z", "FREQ=DAILY", zone=NEW_YORK) for number in range(2)]
-    yearly = [recurring(0, "20250106T090000Z", "FREQ=YEARLY;INTERVAL=3"), recurring(1, "20250106T100000Z", "FREQ=YEARLY;INTERVAL=5")]
+    yearly = [recurring(0, "20250106T090000Z", "FREQ=YEARLY;INTERVAL=3"), recurring(1, "20250107T090000Z", "FREQ=YEARLY;INTERVAL=5")]
     for work, bar, requests in (("two weekly series in two zones decided", 20, two_zones), ("two daily series in New York decided", 120, daily), ("two yearly series of INTERVAL 3 and 5 decided", 50, yearly)):
         row(work, decided(program, requests), bar, by_both(program, requests)[1])
     row("the pair of the daily ones alone", pair_alone(worked, daily, program), 60, by_both(program, daily)[1])

@@ -1,11 +1,19 @@
-"""Makes the certificate of a calendar, and judges one, by Python alone: rules are those of dateutil, zones are reckoned here from their VTIMEZONE.
+"""Makes the certificate of a calendar, and judges one, by Python alone: rules are those of dateutil, zones and residues are reckoned here.
 
     python3 tests/certificate_by_dateutil.py bin/roombox --keep ROOMS [SEED]
+    python3 tests/certificate_by_dateutil.py bin/roombox --judge CALENDARS [SEED] [bin/worked_examples]
     python3 tests/certificate_by_dateutil.py bin/roombox --examples
     python3 tests/certificate_by_dateutil.py --of CALENDAR [ROOM]
+    python3 tests/certificate_by_dateutil.py --residues CALENDAR M
+    python3 tests/certificate_by_dateutil.py --judged CALENDAR CERTIFICATE
 
 The first fills rooms with random series and singles, and compares the kept certificate with that of the kept calendar; the checker has to say yes to it.
-The second does that for the streams in examples/. The third prints the certificate of a calendar: the files `certificate-NAME` of worked_examples were made so of `calendar-NAME`.
+The second makes random calendars, some of which clash, and certificates by strangers, whose entries say RES of any number, SPAN and END; the checker has to
+say of each what is said here, and with worked_examples to make as many instances, or fewer beside singles. The third does for the streams in examples/
+what the first does for random rooms.
+
+The others print: the certificate of a calendar, by which the files `certificate-NAME` of worked_examples were made of `calendar-NAME`; the residues of its
+first series; what the checker says of a certificate, and how many instances it makes at the most.
 """
 
 import random
@@ -14,7 +22,7 @@ import subprocess
 import sys
 import tempfile
 from datetime import date, datetime, timedelta
-from math import lcm
+from math import gcd, lcm
 from pathlib import Path
 
 from dateutil.rrule import rrulestr
@@ -26,6 +34,9 @@ HORIZON = 253_402_300_800
 FIRST = -DAY
 MOST = 2_932_897
 CYCLE = 146_097
+# Residues are taken modulo at most so many days.
+MOST_MODULUS = 420
+WEEK = 7 * DAY
 
 
 def seconds(moment):
@@ -259,6 +270,70 @@ class Event:
         whole = 4800 if frequency == "MONTHLY" else 400
         return CYCLE * lcm(k, whole) // whole
 
+    def weekdays(self):
+        """Those that BYDAY names, without its numbers, Monday being 0; None where there is no BYDAY."""
+        named = self.parts().get("BYDAY")
+        return named and {WEEKDAYS.index(it[-2:]) for it in named.split(",")}
+
+    def stride(self):
+        """After how many days the form of its rule allows the same days."""
+        parts = self.parts()
+        k, week = int(parts.get("INTERVAL", 1)), 7 if "BYDAY" in parts else 1
+        return {"DAILY": lcm(k, week), "WEEKLY": 7 * k}.get(parts["FREQ"], week)
+
+    def allows(self, day):
+        """Whether the form of its rule allows a day, counted from 1970-01-01, of any sign."""
+        parts = self.parts()
+        k, first, named = int(parts.get("INTERVAL", 1)), self.local // DAY, self.weekdays()
+        # 1970-01-01 was a Thursday
+        weekday = lambda it: (it + 3) % 7
+        week = lambda it: (it + 3 - WEEKDAYS.index(parts.get("WKST", "MO"))) // 7
+        if parts["FREQ"] == "WEEKLY":
+            return (week(day) - week(first)) % k == 0 and weekday(day) in (named or {weekday(first)})
+        in_step = parts["FREQ"] != "DAILY" or (day - first) % k == 0
+        return in_step and (named is None or weekday(day) in named)
+
+    def residues(self, m):
+        """Where its instances can start modulo m seconds, which are whole days: by each offset of its zone on each day, of any sign, that the form allows."""
+        days = m // DAY
+        # the days modulo `days` of a class modulo the stride are all of its class modulo this
+        step = gcd(self.stride(), days)
+        classes = {it % step for it in range(self.stride()) if self.allows(it)}
+        allowed = [it for it in range(days) if it % step in classes]
+        return sorted({(it * DAY + self.local % DAY - offset) % m for it in allowed for offset in self.zone.offsets})
+
+
+# ---- arcs around m seconds
+
+
+def pieces(arcs, m):
+    """What arcs cover, each a start below m and a length, as pieces between 0 and m."""
+    found = []
+    for start, length in arcs:
+        length = min(length, m)
+        found += [(start, min(start + length, m)), (0, max(start + length - m, 0))]
+    return [it for it in found if it[0] < it[1]]
+
+
+def covered(found):
+    """How many seconds lie in one of these pieces at least."""
+    seconds, reached = 0, 0
+    for start, end in sorted(found):
+        seconds += max(end, reached) - max(start, reached)
+        reached = max(reached, end)
+    return seconds
+
+
+def are_apart(first, second, m):
+    """Whether no arc of the first meets one of the second: both together cover as much as each for itself."""
+    a, b = pieces(first, m), pieces(second, m)
+    return covered(a + b) == covered(a) + covered(b)
+
+
+def is_apart(arcs, m):
+    """Whether no arc, all being of one length, is longer than m or meets another one: together they cover all that they are long."""
+    return all(length <= m for _, length in arcs) and covered(pieces(arcs, m)) == sum(length for _, length in arcs)
+
 
 class Series:
     """A master with RRULE by its rule alone."""
@@ -306,32 +381,41 @@ class Calendar:
                 if start not in hidden and start not in event.taken and FIRST <= start < HORIZON:
                     self.singles.append((start, event.end(start)))
 
+    def arcs(self, i, m):
+        """Those of a series: the greatest time that an instance lasts, from each of its residues on."""
+        event = self.series[i].event
+        return [(it, event.width()) for it in event.residues(m)]
+
+    def settled(self, i, j, m):
+        """Whether residues modulo m seconds settle a pair."""
+        if m % DAY or not DAY <= m <= MOST_MODULUS * DAY:
+            return False
+        return is_apart(self.arcs(i, m), m) if i == j else are_apart(self.arcs(i, m), self.arcs(j, m), m)
+
     def entry(self, i, j):
-        """The entry that is made of a pair, and the bound below which it looks."""
+        """The entry that is made of a pair."""
         a, b = self.series[i], self.series[j]
+        m = lcm(a.event.stride(), b.event.stride()) * DAY
+        if self.settled(i, j, m):
+            return f"RES {m}"
         periods = a.event.period(), b.event.period()
         days = lcm(*periods) if None not in periods else None
         if days is None or days > MOST:
-            return "END", HORIZON
+            return "END"
         day = -(-max(a.past(), b.past()) // DAY)
         bound = (day + days) * DAY + max(a.event.width(), b.event.width())
-        if bound >= HORIZON:
-            return "END", HORIZON
-        return f"SPAN {stamp(day * DAY)} {days}", bound
+        return f"SPAN {stamp(day * DAY)} {days}" if bound < HORIZON else "END"
 
     def pairs(self):
         return [(i, j) for i in range(len(self.series)) for j in range(i, len(self.series))]
 
-    def certificate(self):
-        entries = [f"PAIR {i + 1} {j + 1} {self.entry(i, j)[0]}" for i, j in self.pairs()]
+    def certificate(self, entry=None):
+        """The text that is made, or the one of other entries: what `entry` says of a pair."""
+        entries = [f"PAIR {i + 1} {j + 1} {(entry or self.entry)(i, j)}" for i, j in self.pairs()]
         return "\n".join(["ROOMCERT 1", f"SINGLES {len(self.singles)}", f"SERIES {len(self.series)}", *entries, "DONE", ""])
 
-    def starts_below(self, i, j, bound):
-        """How many starts of a pair a checker goes through, all below the bound."""
-        return sum(sum(1 for _ in self.series[it].starts(bound)) for it in {i, j})
-
-    def beside(self):
-        """How many instances are drawn for the singles where all are clear: each itself, and of each series those that start less than its width before it ends."""
+    def most_beside(self):
+        """How many instances are drawn for the singles at the most: each itself, and of each series those that start less than its width before it ends."""
         drawn = len(self.singles)
         for start, end in self.singles:
             for series in self.series:
@@ -339,9 +423,9 @@ class Calendar:
                     drawn += sum(1 for it in series.starts(min(end, HORIZON)) if it > start - series.event.width())
         return drawn
 
-    def made(self, ends=False):
-        """How many instances the checker makes for the certificate that is made, or for one whose entries all say END."""
-        return sum(self.starts_below(i, j, HORIZON if ends else self.entry(i, j)[1]) for i, j in self.pairs()) + self.beside()
+    def reaches(self, i, start, end):
+        """Whether residues modulo a week leave it open that an instance of a series shares an instant with a span."""
+        return not are_apart(self.arcs(i, WEEK), [(start % WEEK, end - start)], WEEK)
 
     def spans_below(self, i, bound):
         return ((start, self.series[i].event.end(start)) for start in self.series[i].starts(bound))
@@ -349,6 +433,8 @@ class Calendar:
     def fails(self, i, j, entry):
         """Whether the entry of a pair doesn't hold, and how many instances are drawn for that, start by start."""
         words, bound = entry.split(), HORIZON
+        if words[0] == "RES":
+            return not self.settled(i, j, int(words[1])), 0
         if words[0] == "SPAN":
             start, days, a, b = moment(words[1]), int(words[2]), self.series[i], self.series[j]
             periods = a.event.period(), b.event.period()
@@ -365,17 +451,17 @@ class Calendar:
         return False, sum(it.drawn for it in walks)
 
     def clashes_with_singles(self):
-        """Whether a single clashes, and how many instances are drawn for that: first each single, then for each the series one after another."""
+        """Whether a single clashes, and how many instances are drawn for that: first each single, then of each series those beside the singles that it reaches."""
         drawn, last = len(self.singles), None
         for start, end in sorted(self.singles):
             if end > start and start < HORIZON:
                 if last is not None and start < last:
                     return True, drawn
                 last = end
-        for start, end in self.singles:
-            for series in self.series:
-                width = series.event.width()
-                if end <= start or width == 0:
+        for i, series in enumerate(self.series):
+            width = series.event.width()
+            for start, end in self.singles:
+                if end <= start or start >= HORIZON or width == 0 or not self.reaches(i, start, end):
                     continue
                 for it in series.starts(end):
                     if it <= start - width:
@@ -386,15 +472,16 @@ class Calendar:
         return False, drawn
 
     def judged(self, text):
-        """What the checker says of a certificate's text, which is one, with this calendar's counts: yes, or no with its number and pair; and how many it makes."""
+        """What the checker says of a certificate's text, which is one, with this calendar's counts: yes, or no with its number and pair. And how many instances
+        it makes: exactly, and the most that it may where there are singles."""
         entries, drawn = iter(text.splitlines()[3:-1]), 0
         for i, j in self.pairs():
             failed, more = self.fails(i, j, next(entries).split(" ", 3)[3])
             drawn += more
             if failed:
-                return f"no 83 {i + 1} {j + 1}, {drawn} made"
+                return f"no 83 {i + 1} {j + 1}", drawn, drawn
         failed, more = self.clashes_with_singles()
-        return f"no 84 0 0, {drawn + more} made" if failed else f"yes, {drawn + more} made"
+        return "no 84 0 0" if failed else "yes", drawn + more, drawn + self.most_beside()
 
 
 class Walk:
@@ -423,15 +510,25 @@ ZONES = {
                          ("DAYLIGHT", "20070311T020000", "FREQ=YEARLY;BYMONTH=3;BYDAY=2SU", "-0500", "-0400")),
     "Europe/Paris": (("STANDARD", "19961027T030000", "FREQ=YEARLY;BYMONTH=10;BYDAY=-1SU", "+0200", "+0100"),
                      ("DAYLIGHT", "19970330T020000", "FREQ=YEARLY;BYMONTH=3;BYDAY=-1SU", "+0100", "+0200")),
+    # Its clocks are set by half an hour.
+    "Lord_Howe": (("STANDARD", "20080406T020000", "FREQ=YEARLY;BYMONTH=4;BYDAY=1SU", "+1100", "+1030"),
+                  ("DAYLIGHT", "20081005T020000", "FREQ=YEARLY;BYMONTH=10;BYDAY=1SU", "+1030", "+1100")),
     "Once": (("STANDARD", "20251102T020000", None, "-0400", "-0500"),),
     "India": (("STANDARD", "19700101T000000", None, "+0530", "+0530"),),
+    "Nepal": (("STANDARD", "19700101T000000", None, "+0545", "+0545"),),
 }
-# Each rule with the days, from a Monday, on which it may begin.
+# Each rule with the days, from a Monday, on which it may begin. For dateutil a day has to be both where BYDAY names one with a number and one without.
 RULES = (
-    ("FREQ=DAILY", 0), ("FREQ=DAILY;INTERVAL=3", 0), ("FREQ=DAILY;BYDAY=MO,WE,FR", 0), ("FREQ=DAILY;BYMONTH=1", 0), ("FREQ=WEEKLY", 0),
-    ("FREQ=WEEKLY;INTERVAL=2;BYDAY=TU,SU;WKST=SU", 1), ("FREQ=WEEKLY;BYMONTH=1,7", 0), ("FREQ=MONTHLY", 0), ("FREQ=MONTHLY;INTERVAL=7", 0), ("FREQ=MONTHLY;BYDAY=1MO", 0),
-    ("FREQ=MONTHLY;BYDAY=MO,TU;BYSETPOS=1", 0), ("FREQ=YEARLY", 0), ("FREQ=YEARLY;INTERVAL=3", 0), ("FREQ=YEARLY;INTERVAL=21", 0), ("FREQ=YEARLY;INTERVAL=19", 0),
+    ("FREQ=DAILY", 0), ("FREQ=DAILY;INTERVAL=3", 0), ("FREQ=DAILY;BYDAY=MO,WE,FR", 0), ("FREQ=DAILY;INTERVAL=2;BYDAY=MO,TU,WE,TH,FR", 0), ("FREQ=DAILY;BYMONTH=1", 0),
+    ("FREQ=DAILY;INTERVAL=421", 0), ("FREQ=WEEKLY", 0), ("FREQ=WEEKLY;BYDAY=MO,TU,WE,TH,FR", 0), ("FREQ=WEEKLY;INTERVAL=2;BYDAY=MO,SU", 0),
+    ("FREQ=WEEKLY;INTERVAL=2;BYDAY=TU,SU;WKST=SU", 1), ("FREQ=WEEKLY;INTERVAL=3;BYDAY=MO,WE,SA;WKST=WE", 0), ("FREQ=WEEKLY;INTERVAL=61", 0), ("FREQ=WEEKLY;BYMONTH=1,7", 0),
+    ("FREQ=MONTHLY", 0), ("FREQ=MONTHLY;INTERVAL=7", 0), ("FREQ=MONTHLY;BYDAY=1MO", 0), ("FREQ=MONTHLY;INTERVAL=5;BYDAY=1MO,-1FR", 0),
+    ("FREQ=MONTHLY;BYDAY=MO,TU;BYSETPOS=1", 0), ("FREQ=YEARLY", 0), ("FREQ=YEARLY;INTERVAL=3", 0), ("FREQ=YEARLY;BYDAY=1MO", 0), ("FREQ=YEARLY;INTERVAL=5;BYMONTH=1;BYDAY=MO,TH", 0),
+    ("FREQ=YEARLY;INTERVAL=21", 0), ("FREQ=YEARLY;INTERVAL=19", 0),
 )
+LENGTHS = ("PT15M", "PT30M", "PT30M", "PT1H", "PT90M", "PT2H", "PT0S", "PT24H", "PT25H")
+# Days are nominal.
+DAYS = ("P1D", "P1DT1H", "P2D")
 
 
 def vtimezone(name):
@@ -449,19 +546,34 @@ def vevent(number, sequence, *lines):
     return ["BEGIN:VEVENT", f"UID:m{number}", f"SEQUENCE:{sequence}", "DTSTAMP:20250101T000000Z", "ORGANIZER:mailto:ann@example.com", f"ATTENDEE:{ROOM}", *lines, "END:VEVENT"]
 
 
-def request(chance, number):
-    """A series, at an hour of its own where that is so, and perhaps the cancellation of an instance that may be none."""
+def timed(chance, number, zone):
+    """The lines of a series' times: with a zone those by which the series of a room are one behind the other by its clocks; else any zone, at an hour of its
+    own where that is so."""
     rule, day = chance.choice(RULES)
-    end = chance.choice(["", "", "", f";COUNT={chance.randint(1, 40)}", f";UNTIL={chance.randint(2026, 2600)}0131T000000Z"])
-    zone = chance.choice([None, None, *ZONES])
-    local = datetime(2025, 1, 6 + day, chance.choice([number, 1, 2]), chance.choice([0, 30])) + timedelta(weeks=52 * chance.randint(0, 1) * (rule in ("FREQ=DAILY", "FREQ=WEEKLY")))
+    end = chance.choice(["", "", "", "", f";COUNT={chance.randint(1, 40)}", f";UNTIL={chance.randint(2026, 2600)}0131T000000Z"])
+    hour, minute, length = number, 0, "PT1H"
+    if zone is None:
+        zone = chance.choice([None, None, *ZONES])
+        hour, minute = chance.choice([number, 1, 2]), chance.choice([0, 30])
+        length = chance.choice(DAYS if "DAILY" not in rule and chance.random() < 0.3 else LENGTHS)
+    local = datetime(2025, 1, 6 + day, hour, minute) + timedelta(weeks=52 * chance.randint(0, 1) * (rule in ("FREQ=DAILY", "FREQ=WEEKLY")))
     start = f"DTSTART;TZID={zone}:{local:%Y%m%dT%H%M%S}" if zone else f"DTSTART:{local:%Y%m%dT%H%M%S}Z"
-    length = chance.choice(["PT30M", "PT30M", "PT1H", "PT0S", "P1D" if "YEARLY" in rule or "MONTHLY" in rule else "PT15M"])
     excepted = [f"EXDATE:{chance.randint(1965, 2700)}{chance.randint(1, 12):02}01T{number:02}0000Z"] if chance.random() < 0.3 else []
-    messages = [message("REQUEST", vtimezone(zone) if zone else [], vevent(number, 0, start, f"DURATION:{length}", f"RRULE:{rule}{end}", *excepted))]
+    return zone, [start, f"DURATION:{length}", f"RRULE:{rule}{end}", *excepted]
+
+
+def request(chance, number, zone):
+    """A series, and perhaps the cancellation of an instance that may be none."""
+    zone, lines = timed(chance, number, zone)
+    messages = [message("REQUEST", vtimezone(zone) if zone else [], vevent(number, 0, *lines))]
     if chance.random() < 0.3:
         messages.append(message("CANCEL", [], vevent(number, 1, f"RECURRENCE-ID:{chance.randint(1970, 2400)}0203T0{chance.randint(0, 9)}0000Z")))
     return messages
+
+
+def one_zone(chance):
+    """The zone in which the series of a room are one behind the other, in some rooms."""
+    return chance.choice([None, None, *ZONES]) if chance.random() < 0.5 else None
 
 
 def kept(program, stream, *words):
@@ -472,7 +584,7 @@ def kept(program, stream, *words):
 
 
 def compared(program, stream):
-    """The kept certificate is that of the kept calendar, and the checker says yes. How many entries of it say SPAN, or None where it differs."""
+    """The kept certificate is that of the kept calendar, and the checker says yes. Its entries, or None where it differs."""
     text, found = kept(program, stream), kept(program, stream, "--certificate")
     wanted = Calendar(text, ROOM).certificate()
     with tempfile.TemporaryDirectory() as folder:
@@ -481,19 +593,90 @@ def compared(program, stream):
             path.write_text(octets, newline="")
         answer = subprocess.run([program, "check", *paths, ROOM], capture_output=True, timeout=600).stdout
     if found == wanted and answer == b"yes\n":
-        return found.count("SPAN")
+        return [it.split(" ")[3] for it in found.splitlines() if it.startswith("PAIR")]
     print(f"different: {answer!r}\n{text}\n{found}\n{wanted}")
     return None
 
 
 def rooms(program, count, seed):
-    chance, spans, different = random.Random(seed), 0, 0
+    chance, entries, different = random.Random(seed), [], 0
     for _ in range(count):
-        messages = [it for number in range(3, 3 + chance.randint(1, 5)) for it in request(chance, number)]
+        zone = one_zone(chance)
+        messages = [it for number in range(3, 3 + chance.randint(1, 5)) for it in request(chance, number, zone)]
         found = compared(program, f"{NOW}room {ROOM}\n\n" + "".join(messages))
         different += found is None
-        spans += found or 0
-    print(f"{count} rooms, {spans} entries say SPAN, {different} different")
+        entries += found or []
+    print(f"{count} rooms, {different} different; of the entries {', '.join(f'{entries.count(it)} say {it}' for it in ('RES', 'SPAN', 'END'))}")
+    return different
+
+
+# ---- calendars and certificates by strangers
+
+
+def calendar_text(chance):
+    """A calendar of series that the room has accepted, and of singles, whether they clash or not."""
+    zone, zones, events = one_zone(chance), {}, []
+    for number in range(3, 3 + chance.randint(1, 4)):
+        named, lines = timed(chance, number, zone)
+        zones |= {named: vtimezone(named)} if named else {}
+        events.append(vevent(number, 0, *lines))
+    for number in range(chance.choice([0, 0, 2])):
+        start = f"{chance.randint(2025, 2027)}{chance.randint(1, 12):02}{chance.randint(1, 28):02}T{chance.randint(0, 23):02}{chance.choice(['00', '30'])}00Z"
+        events.append(vevent(100 + number, 0, f"DTSTART:{start}", f"DURATION:{chance.choice(['PT30M', 'PT1H', 'PT0S', 'P2D'])}"))
+    lines = ["BEGIN:VCALENDAR", "VERSION:2.0", "PRODID:-//test//EN", *(it for zone in zones.values() for it in zone), *(it for event in events for it in event), "END:VCALENDAR", ""]
+    return "\r\n".join(lines).replace(f"ATTENDEE:{ROOM}", f"ATTENDEE;PARTSTAT=ACCEPTED:{ROOM}")
+
+
+def strange(chance, calendar, i, j):
+    """An entry that a stranger may write of a pair: the one that is made, or RES or SPAN with other numbers, or END."""
+    events = [calendar.series[it].event for it in (i, j)]
+    stride = lcm(*(it.stride() for it in events))
+    made = calendar.entry(i, j)
+    if chance.random() < 0.8:
+        return made
+    days = chance.choice([stride, stride, 2 * stride, gcd(*(it.stride() for it in events)), chance.randint(1, 420), 7 * chance.randint(1, 60), 0, 421])
+    if chance.random() < 0.9:
+        return f"RES {days * DAY + (chance.random() < 0.05)}"
+    if all({"COUNT", "UNTIL"} & {*it.parts()} for it in events):
+        return "END"
+    return f"SPAN 20250107T000000Z {days}"
+
+
+def said_by(program, calendar, certificate):
+    """What the program says of a certificate, in the words of here."""
+    with tempfile.TemporaryDirectory() as folder:
+        paths = [Path(folder, name) for name in ("r1.ics", "r1.cert")]
+        for path, octets in zip(paths, (calendar, certificate)):
+            path.write_text(octets, newline="")
+        said = subprocess.run([program, "check", *paths, ROOM], capture_output=True, timeout=600).stdout.decode().rstrip("\n")
+    return "no 84 0 0" if said == "no 84" else said
+
+
+def counted_by(worked, calendar, certificate):
+    """The same of worked_examples, and how many instances were made."""
+    calendar, certificate = calendar.replace("\r\n", "\\r\\n"), certificate.replace("\n", "\\n")
+    with tempfile.TemporaryDirectory() as folder:
+        for name in ("messages.txt", "commands.txt", "events.txt", "calendars.txt", "organisers.txt", "residues.txt"):
+            Path(folder, name).write_text(f"a case | text | {calendar} | check {ROOM} {certificate}\n" if name == "messages.txt" else "")
+        said = subprocess.run([Path(worked).resolve()], cwd=folder, stdin=subprocess.DEVNULL, capture_output=True, timeout=600).stdout.decode()
+    verdict, made = re.fullmatch(r"a case: (.*), (\d+) made\n", said).groups()
+    return verdict, int(made)
+
+
+def strangers(program, count, seed, worked=None):
+    chance, verdicts, different = random.Random(seed), [], 0
+    for _ in range(count):
+        text = calendar_text(chance)
+        calendar = Calendar(text, ROOM)
+        certificate = calendar.certificate(lambda i, j: strange(chance, calendar, i, j))
+        verdict, _, most = calendar.judged(certificate)
+        verdicts.append(verdict[:5])
+        said, made = counted_by(worked, text, certificate) if worked else (said_by(program, text, certificate), most)
+        # only beside singles may it be fewer
+        if said != verdict or made > most or not calendar.singles and made != most:
+            different += 1
+            print(f"different: {said}, {made} made, and {verdict}, {most}\n{text}\n{certificate}")
+    print(f"{count} calendars, {different} different; {', '.join(f'{verdicts.count(it)} times {it}' for it in ('yes', 'no 83', 'no 84'))}")
     return different
 
 
@@ -512,14 +695,26 @@ def read(path):
         return file.read()
 
 
+def printed(mode, path, *rest):
+    """What is asked of one calendar."""
+    calendar = Calendar(read(path), rest[0] if mode == "--of" and rest else ROOM)
+    if mode == "--of":
+        return calendar.certificate()
+    if mode == "--residues":
+        return f"{calendar.series[0].event.residues(int(rest[0]))}\n"
+    verdict, made, most = calendar.judged(read(rest[0]))
+    return f"{verdict}, {made} made, at most {most}\n"
+
+
 def main():
-    if sys.argv[1] == "--of":
-        print(Calendar(read(sys.argv[2]), (sys.argv[3:] or [ROOM])[0]).certificate(), end="")
+    if sys.argv[1] in ("--of", "--residues", "--judged"):
+        print(printed(*sys.argv[1:]), end="")
         return 0
     program, mode, *rest = sys.argv[1:]
     if mode == "--examples":
         return 1 if examples(program) else 0
-    return 1 if rooms(program, int((rest or [20])[0]), int((rest[1:] or [1])[0])) else 0
+    count, seed = int((rest or [20])[0]), int((rest[1:] or [1])[0])
+    return 1 if (strangers(program, count, seed, *rest[2:]) if mode == "--judge" else rooms(program, count, seed)) else 0
 
 
 if __name__ == "__main__":

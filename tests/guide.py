@@ -405,16 +405,34 @@ def kept_series(cases, program):
                 ["BEGIN", "UID", "SEQUENCE", "DTSTAMP", "DTSTART", "DURATION", "RRULE", "RDATE", "EXDATE", "ORGANIZER", "ATTENDEE;PARTSTAT=ACCEPTED", "END"])
     gone = message("CANCEL", vevent("s", 1, "20250311T090000Z", slot="20250311T090000Z"))
     cases.holds("a cancelled start of a series", [line for line in lines_of(recurring(), gone) if line.startswith(("RECURRENCE-ID", "STATUS"))], ["RECURRENCE-ID:20250311T090000Z", "STATUS:CANCELLED"])
-    # the last start is on the 12th, also where it is excepted
-    one = "ROOMCERT 1\nSINGLES 0\nSERIES 1\nPAIR 1 1 SPAN 20250313T000000Z 1\nDONE\n"
-    two = "ROOMCERT 1\nSINGLES 0\nSERIES 2\nPAIR 1 1 SPAN 20250311T000000Z 2\nPAIR 1 2 SPAN 20250312T000000Z 2\nPAIR 2 2 SPAN 20250312T000000Z 2\nDONE\n"
+    one = "ROOMCERT 1\nSINGLES 0\nSERIES 1\nPAIR 1 1 RES 86400\nDONE\n"
+    two = "ROOMCERT 1\nSINGLES 0\nSERIES 2\nPAIR 1 1 RES 172800\nPAIR 1 2 RES 172800\nPAIR 2 2 RES 172800\nDONE\n"
+    # of days that are before those of the other series, at the same hour
+    before, beside = recurring("t", start="20250301T090000Z", rule="FREQ=DAILY;COUNT=2"), two.replace("172800", "86400")
     certified("its certificate", one, recurring(), gone)
     certified("two endless series", two, recurring(rule="FREQ=DAILY;INTERVAL=2"), recurring("t", start="20250311T090000Z", rule="FREQ=DAILY;INTERVAL=2"))
     certified("RDATE is a single unless the rule gives it", one.replace("SINGLES 0", "SINGLES 1"), recurring(lines=("RDATE:20250311T150000Z,20250312T090000Z",)))
     moved = message("REQUEST", vevent("s", 1, "20250311T150000Z", slot="20250311T090000Z"))
     certified("so is an instance with a VEVENT of its own", one.replace("SINGLES 0", "SINGLES 1"), recurring(), moved)
-    certified("a series that no number of days settles", one.replace("SPAN 20250313T000000Z 1", "END"), recurring(rule="FREQ=YEARLY;INTERVAL=21"))
-    certified("a series all of whose starts are excepted", one, recurring(lines=("EXDATE:20250310T090000Z,20250311T090000Z,20250312T090000Z",)))
+    # the last start is on the 12th, also where it is excepted
+    excepted = recurring(lines=("EXDATE:20250310T090000Z,20250311T090000Z,20250312T090000Z",))
+    certified("two series that residues don't settle", beside.replace("1 2 RES 86400", "1 2 SPAN 20250313T000000Z 1"), recurring(), before)
+    certified("one all of whose starts are excepted", beside.replace("1 2 RES 86400", "1 2 SPAN 20250313T000000Z 1"), excepted, before)
+    certified("two that no number of days settles", beside.replace("1 2 RES 86400", "1 2 END"), recurring(rule="FREQ=YEARLY;INTERVAL=21"), before)
+    certified("a series all of whose starts are excepted", one, excepted)
+
+    def judged(certificate, *objects):
+        with tempfile.TemporaryDirectory() as folder:
+            calendar, text = Path(folder, "r1.ics"), Path(folder, "r1.cert")
+            calendar.write_text(run(program, "keep", R1, given=PREAMBLE + "".join(objects))[1], newline="")
+            text.write_text(certificate, newline="")
+            return run(program, "check", calendar, text, R1)[1]
+
+    cases.holds("a RES of other days that is allowed", judged(one.replace("86400", "259200"), recurring(rule="FREQ=DAILY;INTERVAL=2")), "yes\n")
+    for what, seconds in (("no days", 0), ("a part of a day", 86401), ("421 days", 36374400)):
+        cases.holds(f"a RES of {what}", judged(one.replace("86400", str(seconds)), recurring()), "no 83 1 1\n")
+    cases.holds("a RES whose arcs meet", judged(beside, recurring(), before), "no 83 1 2\n")
+    cases.holds("a SPAN instead of it", judged(beside.replace("RES 86400", "SPAN 20250313T000000Z 1"), recurring(), before), "yes\n")
 
 
 def numbers_of_guide():

@@ -31,3 +31,4 @@ pub mod Series
 pub mod Masters
 pub mod OwnInstances
 pub mod LastStarts
+pub mod Seconds

@@ -47,6 +47,7 @@ pub struct Series {
 
 impl Series {
     ghost use Rattle.cal_events.specs.Series.{series_said, IsMasterOf, IsSeriesWithout};
+    ghost use Rattle.cal_events.specs.Seconds.{IsSecondOf};
 
     /// The series of a master, where overrides replace these instances, in order. It fails only when out of memory.
     pub(crate) fn of(
@@ -137,6 +138,14 @@ impl Series {
         ensures { (master : Said) → IsMasterOf (series_said self.now) master → zone_of result ≡ clock_of master.times.zone }
     {
         self.master().times.start.clock()
+    }
+
+    /// The second of its day at which it starts, by the clocks of its zone.
+    pub fn second(&self) -> u32
+        ensures { IsSecondOf (series_said self.now) result }
+    {
+        let (_, second) = self.master().times.start.local.day_and_second();
+        second
     }
 
     /// No instance of it lasts longer, in exact seconds: its length with days of 86,400 seconds, and where it has days the difference of its

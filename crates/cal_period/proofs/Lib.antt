@@ -17,3 +17,6 @@ pub mod OnsetTheorem
 pub mod NearOnsets
 pub mod SpanLists
 pub mod AroundLemmas
+pub mod PhaseLemmas
+pub mod PhasesOf
+pub mod Turning

@@ -11,3 +11,6 @@ pub mod LocalResidues
 pub mod Onsets
 pub mod OnsetSpans
 pub mod Around
+pub mod Phases
+pub mod PhaseViews
+pub mod Strides

@@ -11,6 +11,7 @@ mod every_pair;
 mod law;
 mod onset_spans;
 mod onsets;
+mod phases;
 mod recurs;
 mod residue;
 mod settled;

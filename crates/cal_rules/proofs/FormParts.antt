@@ -15,12 +15,12 @@ use Rattle.cal_rules.specs.declared.written.Written as rust
 
 -- ---- what a text that is taken has
 
-record Ranges (t : RuleText) : Type 0 where
+pub record Ranges (t : RuleText) : Type 0 where
   pub some : 1 ≤ t.interval
   pub few : t.interval ≤ 9_999
   pub week : t.week_start < 7
 
-in_range : (t : RuleText) → IsTrue (is_in_range t) → Ranges t
+pub in_range : (t : RuleText) → IsTrue (is_in_range t) → Ranges t
 unfolding is_in_range
 in_range t h = record { some = grind (arith, nat_tests); few = grind (arith, nat_tests); week = grind (arith, nat_tests) }
 

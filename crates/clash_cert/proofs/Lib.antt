@@ -7,5 +7,8 @@ pub mod Words
 pub mod WholeText
 pub mod StopLemmas
 pub mod MakingLemmas
+pub mod TurnLemmas
+pub mod KeptLemmas
+pub mod LookedLemmas
 pub mod ChosenLemmas
 mod Worked

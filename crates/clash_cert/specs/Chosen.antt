@@ -1,15 +1,37 @@
--- Which entries are chosen for pairs of series. Series are counted from 0.
-use Rattle.std.specs.Prelude.{◌≡◌, ℕ, ◌+◌, ◌<◌, List, [], All, Some, length, slice_index_or}
+-- Which entries are chosen for pairs of series. Series are counted from 0, and their numbers in an old certificate from 1.
+use Rattle.std.specs.Prelude.{◌≡◌, ℕ, ◌+◌, ◌<◌, ◌==◌, List, [], All, Option, Some, length, slice_index_or}
 use Rattle.std.specs.List.{slice_get}
-use Rattle.profile.specs.checker.Certificates.{Entry, End, IsEntry, IsEntryMade}
+use Rattle.profile.specs.checker.Certificates.{Claims, Entry, End, IsEntry, IsEntryMade, IsSeriesAt, IsCertificateMade}
 use Rattle.profile.specs.events.Events.{Event}
+use Rattle.profile.specs.events.Confirmed.{Confirmed, IsOneOf}
+use Rattle.profile.specs.checker.Instances.{IsClear}
+
+-- the old certificate is the one that is made for some calendar, whose series of a number is the one that is kept under it, and none is kept twice
+pub record AreKept (old : Claims) (kept : List (Option ℕ)) (all : List Event) : Type 0 where
+  pub was : Confirmed
+  pub made : IsCertificateMade was old
+  pub counted : (i n : ℕ) → slice_get kept i ≡ Some (Some n) → 0 < n
+  pub same : (i n : ℕ) (a : Event) → slice_get kept i ≡ Some (Some n) → slice_get all i ≡ Some a → IsSeriesAt was n a
+  pub once : (i j n : ℕ) → slice_get kept i ≡ Some (Some n) → slice_get kept j ≡ Some (Some n) → i ≡ j
+
+-- and that calendar was clear
+abbrev pub AreKeptClear : Claims → List (Option ℕ) → List Event → Type 0
+AreKeptClear old kept all = (known : AreKept old kept all) × IsClear (IsOneOf known.was)
+
+-- the entry of two series of the calendar for which a certificate is made, by their numbers
+abbrev pub IsSaidOf : Claims → ℕ → ℕ → Entry → Type 0
+IsSaidOf old n m entry = (was : Confirmed) (a b : Event) → IsCertificateMade was old → 0 < n → 0 < m → IsSeriesAt was n a → IsSeriesAt was m b → IsEntryMade (n == m) a b entry
+
+-- where so much is known, the entry of the series at two places
+abbrev pub IsEntryAt : Type 0 → List Event → ℕ → ℕ → Entry → Type 0
+IsEntryAt Known all i j entry = Known → (a b : Event) → slice_get all i ≡ Some a → slice_get all j ≡ Some b → IsEntryMade (i == j) a b entry
 
 -- those of the series at a place, with itself and those after it up to an end
-pub record IsRowMade (all : List Event) (i end : ℕ) (row : List Entry) : Type 0 where
+pub record IsRowMade (Known : Type 0) (all : List Event) (i end : ℕ) (row : List Entry) : Type 0 where
   pub long : length row + i ≡ end
   pub good : All IsEntry row
-  pub made : (k : ℕ) (a b : Event) → k < length row → slice_get all i ≡ Some a → slice_get all (i + k) ≡ Some b → IsEntryMade a b (slice_index_or row k End)
+  pub made : (k : ℕ) → k < length row → IsEntryAt Known all i (i + k) (slice_index_or row k End)
 
 -- those of the first series, each with itself and all after it
-abbrev pub AreRowsMade : List Event → List (List Entry) → Type 0
-AreRowsMade all rows = (i : ℕ) → i < length rows → IsRowMade all i (length all) (slice_index_or rows i [])
+abbrev pub AreRowsMade : Type 0 → List Event → List (List Entry) → Type 0
+AreRowsMade Known all rows = (i : ℕ) → i < length rows → IsRowMade Known all i (length all) (slice_index_or rows i [])

@@ -3,4 +3,5 @@ pub mod Places
 pub mod Reading
 pub mod Stops
 pub mod Chosen
+pub mod Looked
 pub mod Makings

@@ -3,9 +3,10 @@
 //! leading zeros; an instant is `YYYYMMDDTHHMMSSZ` with seconds up to 59.
 ghost use Rattle.std.specs.Prelude.{ℕ, List, [], ◌≡◌, length, IfOk, IfErr, OnOk, OnErr};
 ghost use Rattle.std.specs.List.{slice_index_or};
-ghost use Rattle.profile.specs.checker.Certificates.{Claims, IsClaims, FirstWrong, SpellsCertificate, entry_of};
+ghost use Rattle.profile.specs.checker.Certificates.{Claims, IsClaims, IsEntry, FirstWrong, SpellsCertificate, entry_of};
 ghost use Rattle.ical_values.specs.Written.{Appends};
 ghost use Rattle.clash_cert.specs.Texts.{IsCertFault, entry_said, rows_said};
+ghost use Rattle.clash_cert.specs.Chosen.{IsSaidOf};
 
 use crate::reading::{Stop, after_count, after_line, line_of, read_entries};
 use crate::writing::write_text;
@@ -125,6 +126,18 @@ impl Certificate {
         let row = i.saturating_sub(1) as usize;
         let place = j.saturating_sub(i) as usize;
         entry_at(&self.rows, row, place)
+    }
+
+    /// What it says of two of its series, the one that comes first in the calendar first or second.
+    pub(crate) fn between(&self, first: u64, second: u64) -> Entry
+        ensures good { IsEntry (entry_said result) }
+        ensures said { IsSaidOf self.now first second (entry_said result) }
+    {
+        if first <= second {
+            self.entry(first, second)
+        } else {
+            self.entry(second, first)
+        }
     }
 }
 

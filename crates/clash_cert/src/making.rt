@@ -6,13 +6,14 @@ ghost use Rattle.profile.specs.events.Confirmed.{IsInSeries, IsOneOf};
 ghost use Rattle.cal_events.specs.Calendar.{instance_of, owned_key_of};
 ghost use Rattle.cal_events.specs.Clashes.{Names};
 ghost use Rattle.cal_period.specs.Besides.{IsBeside};
-ghost use Rattle.cal_period.specs.Every.{IsFound};
+ghost use Rattle.clash_cert.specs.Looked.{AreLookedAt, IsPairFound};
 ghost use Rattle.clash_cert.specs.Makings.{IsCertificate, IsChosenFor, IsFirstClash, IsFirstMade, IsMadeFor, IsNamedClash, IsNamedAs, IsLaterStart, NamesOf};
 
 use crate::certificate::Certificate;
 use crate::choosing::certificate_of;
+use crate::looking::clash_of_new;
 use cal_events::{Calendar, Instance, Overlap, OwnedKey};
-use cal_period::{Beside, Shared, clash_of_all, single_beside_series};
+use cal_period::{Beside, Shared, single_beside_series};
 use std::alloc::{AllocError, Global};
 
 /// Two instances of different keys and an instant in both, before the horizon: the later start.
@@ -41,18 +42,23 @@ pub fn make(alloc: Global, calendar: &Calendar) -> Result<Made, AllocError>
     ensures chosen { IfOk result (IsChosenFor calendar.now) }
     ensures first { IfOk result (IsFirstMade calendar.now) }
 {
-    if let Some(clash) = clash_in(alloc, calendar)? {
+    if let Some(clash) = clash_in(alloc, calendar, &[])? {
         return Ok(Made::Clash(clash));
     }
     let certificate = certificate_of(alloc, calendar)?;
     Ok(Made::Clear(certificate))
 }
 
-/// Two confirmed instances that share an instant, None where all are clear. Fails only when out of memory.
-fn clash_in(alloc: Global, calendar: &Calendar) -> Result<Option<Clash>, AllocError>
+/// Two confirmed instances that share an instant, None where all that it looks at are clear: all but the pairs of series that have both an old
+/// number in `kept`. Fails only when out of memory.
+pub(crate) fn clash_in(
+    alloc: Global,
+    calendar: &Calendar,
+    kept: &[Option<u32>],
+) -> Result<Option<Clash>, AllocError>
     ensures clash { IfOk result (λ found. IfSome found (IsNamedClash calendar.now)) }
     ensures first { IfOk result (λ found. IfSome found (IsFirstClash calendar.now)) }
-    ensures clear { IfOk result (λ found. IfNone found (AreClear (IsOneOf calendar.now) (IsOneOf calendar.now))) }
+    ensures clear { IfOk result (λ found. IfNone found (AreLookedAt kept.now calendar.now)) }
 {
     if let Some(overlap) = calendar.first_overlap(alloc)? {
         return Ok(Some(of_singles(calendar, overlap)?));
@@ -60,7 +66,7 @@ fn clash_in(alloc: Global, calendar: &Calendar) -> Result<Option<Clash>, AllocEr
     if let Some(beside) = single_beside_series(calendar) {
         return Ok(Some(of_single_and_series(alloc, calendar, beside)?));
     }
-    match clash_of_all(calendar.series()) {
+    match clash_of_new(calendar.series(), kept) {
         Some(shared) => Ok(Some(of_series(alloc, calendar, shared)?)),
         None => Ok(None),
     }
@@ -98,7 +104,7 @@ fn of_single_and_series(
 
 /// The clash of two instances of series.
 fn of_series(alloc: Global, calendar: &Calendar, shared: Shared<'_>) -> Result<Clash, AllocError>
-    requires { IsFound calendar.now.series shared }
+    requires { IsPairFound calendar.now.series shared }
     ensures clash { IfOk result (IsNamedClash calendar.now) }
     ensures of { IfOk result (NamesOf (IsInSeries calendar.now.series) (IsInSeries calendar.now.series)) }
 {

@@ -64,6 +64,7 @@ fn entry_text(alloc: Global, entry: Entry) -> Result<String, NoAnswer> {
         Entry::Span { from, days } => {
             Ok(format!(in alloc; "{days} days from {}", from.instant())?)
         }
+        Entry::Res(m) => Ok(format!(in alloc; "residues modulo {m}")?),
     }
 }
 

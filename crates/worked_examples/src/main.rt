@@ -1,6 +1,6 @@
-//! Worked examples of messages, calendars, certificates, the order of parts, streams, commands, events and organisers, in five tables. Each line of a table
-//! names a call and gives its input, often as names of files. What is printed of each case is compared by `rt ci` with the file `stdout`,
-//! whose lines come from the RFCs, by hand or from another program.
+//! Worked examples of messages, calendars, certificates, residues, the order of parts, streams, commands, events and organisers, in six tables. Each
+//! line of a table names a call and gives its input, often as names of files. What is printed of each case is compared by `rt ci` with the file
+//! `stdout`, whose lines come from the RFCs, by hand or from another program.
 #![tactic(auto)]
 
 mod calendar_files;
@@ -26,6 +26,8 @@ use std::{fs, io};
 
 fn main(rt: HostRuntime) -> io::Result<()> {
     print_answers(&rt, "messages.txt")?;
+    // by hand, and by tests/certificate_by_dateutil.py
+    print_answers(&rt, "residues.txt")?;
     print_commands(&rt)?;
     // made by tests/events_by_dateutil.py
     print_answers(&rt, "events.txt")?;

@@ -6,6 +6,7 @@
 //!     series ROOM INSTANT     how many series, and of each its width and its first starts from an instant on
 //!     pairs ROOM              each pair of series, and each with itself: how many starts where it is clear, else two that share an instant
 //!     clashes ROOM            each pair of series, both ways round: two instances that share an instant, or that it is clear
+//!     residues ROOM SECONDS   the residues of the first series modulo so many seconds
 //!     answers ROOM            when each event ends, and what the room answered
 //!     times                   the start and the length of each VEVENT, in seconds
 //!     ends                    the instant at which each VEVENT ends
@@ -22,7 +23,7 @@
 use crate::calendar_files::{answered, certified, checked, counted, ends, kept, series, times};
 use crate::event_files::{event, instances, overlap};
 use crate::message_files::{addressed, components, message, own_lines, parts};
-use crate::series_files::{clashes, pairs};
+use crate::series_files::{clashes, first_residues, pairs};
 use example_cases::answers::Answers;
 use example_cases::spelled::octets_of;
 use example_cases::words::first_word;
@@ -87,6 +88,7 @@ fn room_answer(alloc: Global, octets: &[u8], call: &str, input: &str) -> Result<
         "series" => series(alloc, octets, &room, text),
         "pairs" => pairs(alloc, octets, &room),
         "clashes" => clashes(alloc, octets, &room),
+        "residues" => first_residues(alloc, octets, &room, text),
         "answers" => answered(alloc, octets, &room),
         "check" => checked(alloc, octets, &room, text),
         "make" => certified(alloc, octets, &room),

@@ -1,9 +1,10 @@
-//! What is answered about the series of a calendar, two by two.
+//! What is answered about the series of a calendar, two by two; and the residues of one.
 
 use cal_events::{Calendar, Instance, Series};
-use cal_period::{clash_alone, clash_of_pair};
+use cal_period::{clash_alone, clash_of_pair, residues};
 use example_cases::NoAnswer;
 use example_cases::answers::append;
+use example_cases::words::count;
 use ical_values::Address;
 use std::alloc::Global;
 
@@ -66,4 +67,33 @@ fn add_clashes(alloc: Global, list: &mut String, series: &[Series]) -> Result<()
         add(alloc, list, clash_of_pair(second, first))?;
     }
     Ok(())
+}
+
+/// The residues of the first series modulo so many seconds, which have to be those of 1 to 420 days.
+pub fn first_residues(
+    alloc: Global,
+    octets: &[u8],
+    room: &Address,
+    seconds: &str,
+) -> Result<String, NoAnswer> {
+    let seconds = u64::from(count(seconds)?);
+    let days = seconds / 86_400;
+    if days == 0 || 420 < days || 86_400 * days != seconds {
+        return Err(NoAnswer::Unreadable);
+    }
+    let calendar = Calendar::read(alloc, octets, room)?;
+    let Some((first, _)) = calendar.series().split_first() else {
+        return Err(NoAnswer::Unreadable);
+    };
+    listed(alloc, residues(alloc, first, 86_400 * days)?.as_slice())
+}
+
+/// Numbers, in their order.
+fn listed(alloc: Global, numbers: &[u64]) -> Result<String, NoAnswer> {
+    let mut list = String::new(alloc);
+    for number in numbers {
+        let item = number.to_string(alloc)?;
+        append(&mut list, ", ", item.as_str())?;
+    }
+    Ok(list)
 }

@@ -1,28 +1,23 @@
-use Rattle.std.proofs.Common.{◌<◌, ◌^◌, length, subst, sym, rules}
+use Rattle.std.proofs.Common.{◌≡◌, ◌∙◌, List, [], ap, length, subst, sym}
+use Rattle.std.specs.Prelude.{Vec}
+use Rattle.std.specs.declared.alloc.Global.{Global}
 use Rattle.profile.specs.checker.Certificates.{Claims, IsCertificateMade}
 use Rattle.profile.proofs.MadeCertificates.{made_holds}
-use Rattle.clash_cert.proofs.ChosenLemmas.{claims_kept, certificate_kept}
+use Rattle.clash_cert.specs.declared.certificate.Entry.{Entry as Kept}
+use Rattle.clash_cert.specs.Chosen.{AreKept}
+use Rattle.clash_cert.specs.Texts.{rows_said}
+use Rattle.clash_cert.proofs.KeptLemmas.{if_ok_then, nothing_kept}
 use Rattle.clash_cert.proofs.choosing.certificate_of.Goals as goal
-
-pub of-requires : goal.of-requires
-of-requires c =
-    let all = c.args.calendar.now in
-    let rows = c.in_ok-rows.rows.items in
-    let few : length rows < 2 ^ 64 = search rules in
-    claims_kept all c.series.result.now c.single_count.result rows c.series.ensures.are c.single_count.ensures c.single_count.type_inv few c.in_ok-rows.ensures.count c.in_ok-rows.ensures.made
 
 pub returns-clause-made : goal.returns-clause-made
 returns-clause-made c =
     let all = c.args.calendar.now in
-    let rows = c.in_ok-rows.rows.items in
-    let few : length rows < 2 ^ 64 = search rules in
-    let made = certificate_kept all c.series.result.now c.single_count.result rows c.series.ensures.are c.single_count.ensures c.single_count.type_inv few c.in_ok-rows.ensures.count c.in_ok-rows.ensures.made in
-    subst (λ (claims : Claims). IsCertificateMade all claims) (sym c.of.ensures) made
+    let old : c.of-nothing.result ≡ record { singles = 0; series = 0; rows = [] } =
+    c.of-nothing.ensures ∙ ap (λ (rows : List (Vec Kept Global)). record { singles = 0; series = length rows; rows = rows_said rows }) c.new.ensures.items in
+    let kept : AreKept c.of-nothing.result [] all.series = subst (λ (claims : Claims). AreKept claims [] all.series) (sym old) (nothing_kept all.series) in
+    if_ok_then c.certificate_from.result _ (IsCertificateMade all) (λ made is. is all c.single_count-singles.ensures c.series.ensures.are kept) c.certificate_from.ensures
 
 pub returns-clause-holds : goal.returns-clause-holds
 returns-clause-holds c =
     let all = c.args.calendar.now in
-    let rows = c.in_ok-rows.rows.items in
-    let few : length rows < 2 ^ 64 = search rules in
-    let made = certificate_kept all c.series.result.now c.single_count.result rows c.series.ensures.are c.single_count.ensures c.single_count.type_inv few c.in_ok-rows.ensures.count c.in_ok-rows.ensures.made in
-    λ clear text. made_holds all clear c.of.result text (subst (λ (claims : Claims). IsCertificateMade all claims) (sym c.of.ensures) made)
+    if_ok_then c.certificate_from.result (IsCertificateMade all) _ (λ made is clear text. made_holds all clear made text is) (returns-clause-made c)

@@ -1,25 +1,33 @@
-use Rattle.std.proofs.Common.{◌≡◌, ◌∙◌, ℤ, subst, sym, rules, w64, to_z, of_z, FitsSigned}
-use Rattle.std.specs.Prelude.{Option, IfSome}
-use Rattle.std.proofs.lemmas.Int.{to_z-of_z}
-use Rattle.profile.specs.text.Values.{IsClockSeconds}
-use Rattle.profile.specs.checker.Certificates.{Span, IsEntryMade}
+use Rattle.std.proofs.Common.{◌≡◌, ◌∙◌, ◌==◌, sym, subst}
+use Rattle.std.proofs.lemmas.Option.{same_Some}
+use Rattle.profile.specs.events.Events.{Event}
+use Rattle.profile.specs.checker.Certificates.{AreSettling, IsEntryMade}
 use Rattle.cal_events.specs.Series.{series_said}
-use Rattle.cal_period.proofs.Spanning.{some_width}
-use Rattle.clash_cert.proofs.ChosenLemmas.{clock_of_span}
+use Rattle.cal_period.proofs.EveryPair.{said_at, where_none, where_some}
+use Rattle.clash_cert.specs.Texts.{entry_said}
 use Rattle.clash_cert.proofs.choosing.entry_for.Goals as goal
 
-pub unwrap-from-requires : goal.unwrap-from-requires
-unwrap-from-requires c =
-    let span = c.in-Some.span in
-    let is = c.in-Some.ensures in
-    let fits : FitsSigned w64 span.from = search rules in
-    c.of_instant.ensures.found.1
-    (subst IsClockSeconds (sym (to_z-of_z w64 span.from fits)) (clock_of_span some_width (series_said c.args.a.now) (series_said c.args.b.now) span.from span.days span.bound is.0 is.1 is.2))
+pub returns-in-Some-clause-made : goal.returns-in-Some-clause-made
+returns-in-Some-clause-made c known a b at_a at_b =
+    let xs = c.args.series.now in
+    let s = c.index-series-i.result in
+    let u = c.index-series-j.result in
+    let own = c.args.i == c.args.j in
+    let m = c.in-Some.modulus in
+    let first : series_said s ≡ a = same_Some (series_said s) a (sym (said_at xs c.args.i s c.requires.0 c.index-series-i.is) ∙ at_a) in
+    let second : series_said u ≡ b = same_Some (series_said u) b (sym (said_at xs c.args.j u c.requires.1 c.index-series-j.is) ∙ at_b) in
+    let settle = where_some c.in_ok-modulus.field-0 _ (AreSettling own (series_said s) (series_said u)) m c.in-Some.is c.in_ok-modulus.ensures in
+    subst (λ (y : Event). AreSettling own a y m) second (subst (λ (x : Event). AreSettling own x (series_said u) m) first settle)
 
-pub returns-clause-made : goal.returns-clause-made
-returns-clause-made c =
-    let span = c.in-Some.span in
-    let is = c.in-Some.ensures in
-    let fits : FitsSigned w64 span.from = search rules in
-    let same = subst (λ (o : Option ℤ). IfSome o (λ t. t ≡ to_z w64 (of_z w64 span.from))) c.unwrap-from.ensures c.of_instant.ensures.value ∙ to_z-of_z w64 span.from fits in
-    subst (λ (t : ℤ). IsEntryMade (series_said c.args.a.now) (series_said c.args.b.now) (Span t span.days)) (sym same) (is.0, (span.bound, is.1, is.2))
+pub returns-in-None-clause-made : goal.returns-in-None-clause-made
+returns-in-None-clause-made c known a b at_a at_b =
+    let xs = c.args.series.now in
+    let s = c.index-series-i.result in
+    let u = c.index-series-j.result in
+    let own = c.args.i == c.args.j in
+    let entry = entry_said c.entry_by_span.result in
+    let first : series_said s ≡ a = same_Some (series_said s) a (sym (said_at xs c.args.i s c.requires.0 c.index-series-i.is) ∙ at_a) in
+    let second : series_said u ≡ b = same_Some (series_said u) b (sym (said_at xs c.args.j u c.requires.1 c.index-series-j.is) ∙ at_b) in
+    let none = where_none c.in_ok-modulus.field-0 _ (AreSettling own (series_said s) (series_said u)) c.in-None.is c.in_ok-modulus.ensures in
+    let made = c.entry_by_span.ensures.made own none in
+    subst (λ (y : Event). IsEntryMade own a y entry) second (subst (λ (x : Event). IsEntryMade own x (series_said u) entry) first made)

@@ -2,7 +2,7 @@ use Rattle.std.proofs.Common.{◌≡◌, ◌∙◌, ◌++◌, ◌∷◌, [], map
 use Rattle.std.proofs.lemmas.List.{map-append, length-map, length-append}
 use Rattle.cal_events.specs.Series.{series_said}
 use Rattle.clash_cert.specs.Texts.{entry_said, rows_said}
-use Rattle.clash_cert.specs.Chosen.{IsRowMade, AreRowsMade}
+use Rattle.clash_cert.specs.Chosen.{AreKept, IsRowMade, AreRowsMade}
 use Rattle.clash_cert.proofs.ChosenLemmas.{rows_made_more}
 use Rattle.clash_cert.proofs.choosing.rows_of.Goals as goal
 
@@ -10,7 +10,7 @@ pub loop-i-init : goal.loop-i-init
 loop-i-init c =
     let all = map series_said c.args.series.now in
     let none = c.new-rows.ensures.items in
-    (ap length none, subst (λ items. AreRowsMade all (rows_said items)) (sym none) (λ i w. absurd (omega (arith, w))))
+    (ap length none, subst (λ items. AreRowsMade (AreKept c.args.old.now c.args.kept.now all) all (rows_said items)) (sym none) (λ i w. absurd (omega (arith, w))))
 
 pub loop-i-preserved : goal.loop-i-preserved
 loop-i-preserved c =
@@ -25,5 +25,6 @@ loop-i-preserved c =
     let count = ap length items ∙ length-append old (row ∷ []) in
     let sum = inv.0 in
     let here = length-map old (λ row. map entry_said row.items) ∙ inv.0 in
-    let made : IsRowMade all i (length all) (map entry_said row.items) = subst (λ n. IsRowMade all i n (map entry_said row.items)) (sym (length-map xs series_said)) c.in_ok-row.ensures in
-    (omega (arith, count, sum), subst (AreRowsMade all) (sym said) (rows_made_more all i (rows_said old) (map entry_said row.items) inv.1 here made))
+    let made : IsRowMade (AreKept c.args.old.now c.args.kept.now all) all i (length all) (map entry_said row.items) =
+    subst (λ n. IsRowMade (AreKept c.args.old.now c.args.kept.now all) all i n (map entry_said row.items)) (sym (length-map xs series_said)) c.in_ok-row.ensures in
+    (omega (arith, count, sum), subst (AreRowsMade (AreKept c.args.old.now c.args.kept.now all) all) (sym said) (rows_made_more (AreKept c.args.old.now c.args.kept.now all) all i (rows_said old) (map entry_said row.items) inv.1 here made))

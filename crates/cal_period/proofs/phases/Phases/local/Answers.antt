@@ -1,0 +1,10 @@
+use Rattle.cal_events.specs.Series.{series_said}
+use Rattle.cal_period.proofs.PhasesOf.{are_local_phases}
+use Rattle.cal_period.proofs.phases.Phases.local.Goals as goal
+
+pub returns : goal.returns
+returns c =
+    let s = c.second.ensures in
+    let rule = c.rule.ensures s.0 s.1 in
+    rw (c.new.ensures.rule, c.new.ensures.second, c.new.ensures.offsets.0, c.new.ensures.offsets.1)
+    (are_local_phases (series_said c.args.series.now) s.0 s.1 c.rule.result.now rule s.2 c.second.result s.3)

@@ -1,5 +1,0 @@
-use Rattle.clash_check.proofs.SingleLemmas.{IsAnyAt}
-use Rattle.clash_check.proofs.singles.meets_any.Given as goal
-
-abbrev pub invariant-loop-before : goal.invariant-loop-before
-invariant-loop-before g l = IsAnyAt (g.D.Drawn.calendar l.fn.drawn) l.span l.before (g.D.Drawn.calendar l.drawn) (g.D.Drawn.count l.fn.drawn) (g.D.Drawn.count l.drawn)
