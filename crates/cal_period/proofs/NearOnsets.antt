@@ -55,6 +55,10 @@ pub holds_all : (Is : Onset → Type 0) (P : ℤ → Type 0) (after last bound :
 holds_all Is P after last bound old none u is past before =
     by_lt_z last u.instant (λ less. let least = none u is less in absurd (omega (arith, ints, least, before))) (λ early. old u is past early)
 
+-- what holds of fewer holds of more
+pub holds_more : (Is : Onset → Type 0) (P Q : ℤ → Type 0) (after last : ℤ) → ((t : ℤ) → P t → Q t) → HoldsTo Is P after last → HoldsTo Is Q after last
+holds_more Is P Q after last more old u is past most = more u.instant (old u is past most)
+
 -- how far it is to a bound
 pub nearer : (bound last onset : ℤ) → last <ℤ onset → onset <ℤ bound → unsigned_abs (bound -ℤ onset) < unsigned_abs (bound -ℤ last)
 nearer bound last onset further before =
@@ -62,7 +66,7 @@ nearer bound last onset further before =
     let b = abs_is (bound -ℤ last) (omega (arith, ints, before, further)) in
     omega (arith, ints, a, b, further)
 
-fits_of : (z : ℤ) → negsuc 9_223_372_036_854_775_807 ≤ℤ z → z <ℤ pos (2 ^ 63) → FitsSigned w64 z
+pub fits_of : (z : ℤ) → negsuc 9_223_372_036_854_775_807 ≤ℤ z → z <ℤ pos (2 ^ 63) → FitsSigned w64 z
 fits_of (pos n) low high = record { sfits = omega (arith, ints, high) }
 fits_of (negsuc n) low high = record { sfits = omega (arith, ints, low) }
 

@@ -9,6 +9,7 @@ pub mod Members
 pub mod Spanning
 pub mod LocalResidues
 pub mod Onsets
+pub mod OnsetSpans
 pub mod Around
 pub mod Phases
 pub mod PhaseViews

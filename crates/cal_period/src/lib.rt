@@ -10,6 +10,7 @@ mod by_residues;
 mod clash;
 mod every_pair;
 mod law;
+mod onset_spans;
 mod onsets;
 mod phases;
 mod recurs;

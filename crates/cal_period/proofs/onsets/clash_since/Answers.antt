@@ -1,6 +1,5 @@
-use Rattle.std.proofs.Common.{◌≡◌, arith, subst, to_z, of_z, w64, FitsSigned, rules, to_z-of_z}
+use Rattle.std.proofs.Common.{◌≡◌, to_z, of_z, w64, FitsSigned, rules, to_z-of_z}
 use Rattle.cal_events.specs.Series.{series_said}
-use Rattle.cal_period.specs.Onsets.{AreClearSince}
 use Rattle.cal_period.proofs.Entries.{entered}
 use Rattle.cal_period.proofs.NearOnsets.{beside_first, beside_found, beside_past, beside_end}
 use Rattle.cal_period.proofs.Sweeping.{fewer_left}
