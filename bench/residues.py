@@ -302,7 +302,6 @@ def residues(program):
     for work, seconds in last_requests(asked).items():
         row(work, seconds, 10)
     asked.end()
-    print(f"{'the 64th series by dateutil, up to 2100 alone':<52}{by_list() * 1000:>9.1f}")
     whole, peak = served(program, pieces)
     row("the whole room from nothing", whole, 1500)
     certificate = least(lambda: kept(program, pieces[1:], "--certificate")[0]) - least(lambda: kept(program, pieces[1:])[0])
@@ -316,6 +315,8 @@ def residues(program):
     memory = max(peak, most) / 2**20
     missed += memory > 64
     print(f"{'peak memory, MiB':<52}{memory:>9.1f}{'':>19}{64:>7}  {'MET' if memory <= 64 else 'MISSED'}")
+    # at the end, since the peak of a program that is started counts this script's own memory too
+    print(f"{'the 64th series by dateutil, up to 2100 alone':<52}{by_list() * 1000:>9.1f}")
     return missed
 
 

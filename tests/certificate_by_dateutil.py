@@ -627,13 +627,12 @@ def calendar_text(chance):
     return "\r\n".join(lines).replace(f"ATTENDEE:{ROOM}", f"ATTENDEE;PARTSTAT=ACCEPTED:{ROOM}")
 
 
-def strange(chance, calendar, i, j):
-    """An entry that a stranger may write of a pair: the one that is made, or RES or SPAN with other numbers, or END."""
+def strange(chance, calendar, i, j, made_ones):
+    """An entry that a stranger may write of a pair: the one that is made, with this chance, or RES or SPAN with other numbers, or END."""
     events = [calendar.series[it].event for it in (i, j)]
     stride = lcm(*(it.stride() for it in events))
-    made = calendar.entry(i, j)
-    if chance.random() < 0.8:
-        return made
+    if chance.random() < made_ones:
+        return calendar.entry(i, j)
     days = chance.choice([stride, stride, 2 * stride, gcd(*(it.stride() for it in events)), chance.randint(1, 420), 7 * chance.randint(1, 60), 0, 421])
     if chance.random() < 0.9:
         return f"RES {days * DAY + (chance.random() < 0.05)}"
@@ -668,7 +667,8 @@ def strangers(program, count, seed, worked=None):
     for _ in range(count):
         text = calendar_text(chance)
         calendar = Calendar(text, ROOM)
-        certificate = calendar.certificate(lambda i, j: strange(chance, calendar, i, j))
+        made_ones = chance.choice([1, 0.8])
+        certificate = calendar.certificate(lambda i, j: strange(chance, calendar, i, j, made_ones))
         verdict, _, most = calendar.judged(certificate)
         verdicts.append(verdict[:5])
         said, made = counted_by(worked, text, certificate) if worked else (said_by(program, text, certificate), most)
