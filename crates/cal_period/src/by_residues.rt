@@ -33,14 +33,14 @@ pub(crate) fn is_clear_by_residues(a: &Series) -> bool
 }
 
 /// Do residues by local times show it of two series, where both start by one offset?
-pub fn are_locally_apart(a: &Series, b: &Series) -> bool
+pub(crate) fn are_locally_apart(a: &Series, b: &Series) -> bool
     ensures { result ≡ true → (m : ℕ) × (0 < m) × AreLocallyApart (series_said a.now) (series_said b.now) m }
 {
     are_phases_apart(&Phases::local(a), a.width(), &Phases::local(b), b.width())
 }
 
 /// The same of a series by itself.
-pub fn is_locally_apart(a: &Series) -> bool
+pub(crate) fn is_locally_apart(a: &Series) -> bool
     ensures { result ≡ true → (m : ℕ) × (0 < m) × IsLocallyApart (series_said a.now) m }
 {
     are_phases_alone(&Phases::local(a), a.width())

@@ -22,7 +22,7 @@ mod walk;
 pub use alone::clash_alone;
 pub use arcs::{are_apart, is_apart, reaches};
 pub use beside::{Beside, single_beside_series};
-pub use by_residues::{are_locally_apart, is_locally_apart, may_meet};
+pub use by_residues::may_meet;
 pub use clash::clash_of_pair;
 pub use every_pair::{Shared, clash_of_all};
 pub use law::{periods_are_multiples, residues_settle, series_repeat};

@@ -11,6 +11,7 @@ ghost use Rattle.cal_period.specs.LocalResidues.{AreLocallyApart, IsLocallyApart
 ghost use Rattle.cal_period.specs.Onward.{IsSharedBelow, IsSharedAloneBelow};
 ghost use Rattle.cal_period.specs.Onsets.{GoesBy, AreClearSince, IsClearSince, AreClearNear, IsClearNear, IsReach, IsHalfDayBefore, IsNextBelow};
 
+use crate::by_residues::{are_locally_apart, is_locally_apart};
 use crate::clash::{entry, first_start};
 use crate::walk::Walk;
 use cal_events::{
@@ -21,8 +22,31 @@ use cal_zones::{Zone, zones_repeat};
 /// Half a day, by which the offsets of a zone differ at the most, and a second more.
 const PAST_HALF_DAY: i64 = 43_201;
 
+/// The zone of two series, where they have the same and never meet by its clocks.
+pub(crate) fn zone_apart(a: &Series, b: &Series) -> Option<Zone>
+    ensures zone { IfSome result (λ zone. GoesBy (series_said a.now) zone × GoesBy (series_said b.now) zone) }
+    ensures apart { IfSome result (λ _. (m : ℕ) × (0 < m) × AreLocallyApart (series_said a.now) (series_said b.now) m) }
+{
+    let zone = same_zone(a, b)?;
+    if !are_locally_apart(a, b) {
+        return None;
+    }
+    Some(zone)
+}
+
+/// The zone of a series of which no two instances meet by its clocks.
+pub(crate) fn zone_alone_apart(a: &Series) -> Option<Zone>
+    ensures zone { IfSome result (λ zone. GoesBy (series_said a.now) zone) }
+    ensures apart { IfSome result (λ _. (m : ℕ) × (0 < m) × IsLocallyApart (series_said a.now) m) }
+{
+    if !is_locally_apart(a) {
+        return None;
+    }
+    Some(a.zone())
+}
+
 /// The zone of two series, where they have the same.
-pub(crate) fn same_zone(a: &Series, b: &Series) -> Option<Zone>
+fn same_zone(a: &Series, b: &Series) -> Option<Zone>
     ensures { IfSome result (λ zone. GoesBy (series_said a.now) zone × GoesBy (series_said b.now) zone) }
 {
     let zone = a.zone();

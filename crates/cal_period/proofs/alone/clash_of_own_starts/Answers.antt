@@ -4,7 +4,7 @@ use Rattle.cal_events.specs.Series.{series_said}
 use Rattle.cal_period.specs.Clear.{IsClearBelow}
 use Rattle.cal_period.proofs.OneSeries.{alone_first, alone_end, alone_found, alone_past}
 use Rattle.cal_period.proofs.Sweeping.{all_left, fewer_left}
-use Rattle.cal_period.proofs.alone.clash_alone_below.Goals as goal
+use Rattle.cal_period.proofs.alone.clash_of_own_starts.Goals as goal
 
 pub loop-next-init : goal.loop-next-init
 loop-next-init c =
