@@ -1,12 +1,12 @@
 -- Where no arcs of residues meet, series are clear.
-use Rattle.std.proofs.Common.{◌≡◌, ◌≢◌, ◌∙◌, ap, sym, refl, subst, ℕ, zero, suc, ◌+◌, ◌*◌, ◌/◌, ◌<◌, ◌≤◌, ◌^◌, false, ℤ, pos, ◌+ℤ◌, ◌-ℤ◌, ◌≤ℤ◌, w64, arith}
+use Rattle.std.proofs.Common.{◌≡◌, ◌≢◌, ◌∙◌, ap, sym, refl, subst, ℕ, zero, suc, ◌+◌, ◌*◌, ◌/◌, ◌<◌, ◌≤◌, ◌^◌, ℤ, pos, ◌+ℤ◌, ◌-ℤ◌, ◌≤ℤ◌, w64, arith}
 use Rattle.std.specs.Int.{IsGcd, saturate_signed}
 use Rattle.std.proofs.Math.Logic.{∥∥₁_elim}
 use Rattle.std.proofs.Math.Nat.{mul_assoc, mul_comm}
 use Rattle.std.proofs.lemmas.Int.{ints}
 use Rattle.std.proofs.lemmas.Nat.{div-add-mod'}
 use Rattle.std.proofs.lemmas.Nat.Gcd.{mod-eq-zero_of_dvd}
-use Rattle.profile.specs.checker.Instances.{Instance, IsWithin}
+use Rattle.profile.specs.checker.Instances.{Instance}
 use Rattle.profile.specs.series.Repeating.{ArcsMeet, IsCongruent, LastsAtMost, StartsAt}
 use Rattle.profile.specs.series.Periods.{IsMultiple}
 use Rattle.profile.specs.events.Events.{Event}

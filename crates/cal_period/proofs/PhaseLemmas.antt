@@ -1,5 +1,5 @@
 -- Some phases by their numbers stand for all.
-use Rattle.std.proofs.Common.{◌≡◌, ◌∙◌, ap, sym, refl, subst, inl, inr, ◌⊎◌, ℕ, zero, suc, ◌+◌, ◌-◌, ◌*◌, ◌/◌, ◌%◌, ◌<◌, ◌≤◌, ◌==◌, Bool, true, false, Some, None, List, [], ◌∷◌, ◌++◌, length, Contains, if◌then◌else◌, ℤ, pos, ◌+ℤ◌, ◌-ℤ◌, ◌≤ℤ◌, arith}
+use Rattle.std.proofs.Common.{◌≡◌, ◌∙◌, ap, sym, refl, subst, inl, inr, ◌⊎◌, ℕ, zero, suc, ◌+◌, ◌-◌, ◌*◌, ◌/◌, ◌%◌, ◌<◌, ◌≤◌, ◌==◌, Bool, true, false, Some, None, List, [], ◌∷◌, ◌++◌, Contains, if◌then◌else◌, ℤ, pos, ◌+ℤ◌, ◌-ℤ◌, ◌≤ℤ◌, arith}
 use Rattle.std.proofs.lemmas.Int.{ints}
 use Rattle.std.proofs.Math.Nat.{add-mul, mul_assoc, mul_comm, mod-lt, mod-eq_of_lt, add-mul-mod_self_right}
 use Rattle.std.proofs.lemmas.Nat.{div-add-mod'}
@@ -7,10 +7,9 @@ use Rattle.std.proofs.lemmas.Bool.{cases_lt}
 use Rattle.std.proofs.lemmas.List.Elements.{Contains-append_cases, Contains-append_left, Contains-append_right}
 use Rattle.std.proofs.lemmas.Option.{same_Some, cond_some, none-some}
 use Rattle.profile.specs.series.Rules.{Pattern}
-use Rattle.profile.specs.series.Periods.{IsMultiple}
 use Rattle.profile.specs.series.Zones.{local_time}
 use Rattle.profile.specs.series.Repeating.{IsCongruent}
-use Rattle.profile.specs.series.Residues.{is_in_form, IsStride}
+use Rattle.profile.specs.series.Residues.{is_in_form}
 use Rattle.cal_rules.specs.Forms.{AreApartBy, IsCovered, form_cycle, form_day, is_listed, listed_day}
 use Rattle.cal_rules.proofs.Forms.{form_shift, stride_times}
 use Rattle.cal_rules.proofs.Covers.{cover, cycle_stride, listed_form}

@@ -1,14 +1,14 @@
 -- Each instance of a series that is said starts at one of its residues; where no arcs of residues meet, no two instances share an instant.
-use Rattle.std.proofs.Common.{◌≡◌, ◌≢◌, ◌∙◌, refl, sym, subst, ap, inl, inr, arith, ◌⊎◌, ℕ, ◌*◌, ◌<◌, ◌≤◌, true, false, List, [], ℤ, pos, ◌+ℤ◌, ◌≤ℤ◌}
+use Rattle.std.proofs.Common.{◌≡◌, ◌≢◌, ◌∙◌, refl, sym, subst, ap, inl, inr, arith, ◌⊎◌, ℕ, ◌<◌, true, false, List, [], ℤ, pos, ◌+ℤ◌, ◌≤ℤ◌}
 use Rattle.std.proofs.lemmas.Option.{same_Some}
-use Rattle.std.specs.Prelude.{Some, Contains, Option}
+use Rattle.std.specs.Prelude.{Some, Contains}
 use Rattle.profile.specs.checker.Instances.{Instance, IsWithin}
 use Rattle.profile.specs.series.Rules.{Rule}
 use Rattle.profile.specs.series.Repeating.{IsCongruent, LastsAtMost, StartsAt}
 use Rattle.profile.specs.events.EventComponents.{EventComponent}
 use Rattle.profile.specs.events.Events.{Event}
 use Rattle.profile.specs.events.Spans.{IsSaidSeries, IsWidthOf}
-use Rattle.profile.specs.events.Starts.{IsInstance, IsGiven, IsStart, IsRuleStart}
+use Rattle.profile.specs.events.Starts.{IsInstance, IsGiven, IsRuleStart}
 use Rattle.profile.specs.events.Residues.{IsResidue, ResiduesHold}
 use Rattle.profile.proofs.Repeats.{residues_apart, residues_alone}
 use Rattle.profile.proofs.ResidueStarts.{start_at_residue}

@@ -1,6 +1,5 @@
 -- Turns, strides of two series, and what holds by their residues.
-use Rattle.std.proofs.Common.{◌≡◌, ◌≢◌, ◌∙◌, ap, sym, refl, subst, ℕ, zero, suc, ◌+◌, ◌*◌, ◌/◌, ◌%◌, ◌<◌, ◌≤◌, Bool, true, false, List, Contains, Some, ℤ, pos, ◌≤ℤ◌, arith}
-use Rattle.std.specs.Prelude.{MatchOption, Option, None}
+use Rattle.std.proofs.Common.{◌≡◌, ◌∙◌, ap, sym, refl, subst, ℕ, zero, suc, ◌*◌, ◌/◌, ◌<◌, ◌≤◌, Bool, true, false, List, Contains, Some, ℤ, arith}
 use Rattle.std.specs.Int.{IsGcd}
 use Rattle.std.specs.List.Sorted.{IsStrictlyIncreasing}
 use Rattle.std.proofs.Math.Nat.{div-le_self, mul_assoc, mul_comm}
@@ -8,8 +7,7 @@ use Rattle.std.proofs.lemmas.Nat.{div-add-mod'}
 use Rattle.std.proofs.lemmas.Nat.Gcd.{mod-eq-zero_of_dvd}
 use Rattle.std.proofs.lemmas.Bool.{true≢false}
 use Rattle.std.proofs.lemmas.Option.{same_Some}
-use Rattle.profile.specs.series.Periods.{IsLeastMultiple, IsMultiple, HasNoMultiple, most_period}
-use Rattle.profile.specs.series.Repeating.{ArcsMeet}
+use Rattle.profile.specs.series.Periods.{IsLeastMultiple, IsMultiple, HasNoMultiple}
 use Rattle.profile.specs.series.Residues.{IsLeastStrideOf, IsStride}
 use Rattle.profile.specs.series.Rules.{Pattern, Rule}
 use Rattle.profile.specs.events.EventComponents.{EventComponent}
@@ -18,7 +16,7 @@ use Rattle.profile.specs.events.Residues.{AreArcsApart, AreResidues, IsArcsApart
 use Rattle.profile.specs.events.Spans.{IsWidthOf}
 use Rattle.profile.specs.checker.Certificates.{AreSettling, NoneSettle}
 use Rattle.cal_period.specs.Around.{AreApart, AreAround, IsApart}
-use Rattle.cal_period.specs.Strides.{HasLongStride, IsStrideOr}
+use Rattle.cal_period.specs.Strides.{HasLongStride}
 use Rattle.cal_period.proofs.Spanning.{width_is_one}
 
 -- ---- turns

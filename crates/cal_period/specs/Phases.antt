@@ -1,6 +1,6 @@
 -- Where the starts of a series fall, modulo a number m of seconds: on the days that the form of a rule allows, at one second of the day, by one of
 -- two offsets. At most fourteen of them stand for all in each turn of the form's cycle.
-use Rattle.std.specs.Prelude.{◌≡◌, ◌≢◌, ◌⊎◌, ℕ, ◌+◌, ◌*◌, ◌/◌, ◌%◌, ◌<◌, ◌==◌, Bool, true, if◌then◌else◌, Some, None, ℤ, pos, ◌-ℤ◌}
+use Rattle.std.specs.Prelude.{◌≡◌, ◌≢◌, ◌⊎◌, ℕ, ◌+◌, ◌*◌, ◌/◌, ◌%◌, ◌<◌, ◌==◌, Bool, true, if◌then◌else◌, Some, ℤ, pos, ◌-ℤ◌}
 use Rattle.profile.specs.series.Rules.{Pattern}
 use Rattle.profile.specs.series.Periods.{IsMultiple}
 use Rattle.profile.specs.series.Zones.{local_time}

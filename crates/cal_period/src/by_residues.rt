@@ -62,7 +62,7 @@ pub fn may_meet(series: &Series, span: Span) -> bool
 fn are_phases_apart(first: &Phases<'_>, width: i64, second: &Phases<'_>, other: i64) -> bool
     ensures { result ≡ true → ArePhasesApart first.now width second.now other }
 {
-    first.are_apart(modulus(first, second), width, second, other, false)
+    first.are_apart(modulus(first, second), width, second, other)
 }
 
 /// Are the arcs short enough, and does none meet another?

@@ -143,16 +143,16 @@ impl<'a> Phases<'a> {
     }
 
     /// Do no arcs of these phases, `width` seconds long, meet arcs of others, `other` seconds long?
-    pub fn are_apart(&self, m: u64, width: i64, others: &Phases<'_>, other: i64, own: bool) -> bool
+    pub fn are_apart(&self, m: u64, width: i64, others: &Phases<'_>, other: i64) -> bool
         requires some { 0 < m }
         requires modulus { m < 2 ^ 40 }
         requires first { AreTurnsOf self.now m 1 }
         requires second { AreTurnsOf others.now m 1 }
-        ensures { result ≡ true → (r s : ℕ) → IsPhaseOf self.now m r → IsPhaseOf others.now m s → MeetsOther own m r width s other → ⊥ }
+        ensures { result ≡ true → (r s : ℕ) → IsPhaseOf self.now m r → IsPhaseOf others.now m s → MeetsOther false m r width s other → ⊥ }
     {
         for number in 0..OF_A_TURN {
             if let Some(residue) = others.nth(m, number) {
-                if self.meet(m, width, residue, other, own) {
+                if self.meet(m, width, residue, other, false) {
                     return false;
                 }
             }

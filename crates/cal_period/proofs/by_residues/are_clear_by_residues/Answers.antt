@@ -1,4 +1,4 @@
-use Rattle.std.proofs.Common.{◌≡◌, ◌∙◌, ◌*◌, ◌<◌, ◌≤◌, ap, sym, refl, subst, ℕ, ℤ, to_z, of_z, w64, to_z-of_z, FitsSigned, rules, true, false, arith}
+use Rattle.std.proofs.Common.{◌≡◌, to_z, of_z, w64, to_z-of_z, FitsSigned, rules}
 use Rattle.cal_events.specs.Series.{series_said}
 use Rattle.cal_period.proofs.ByResidues.{two_clear}
 use Rattle.cal_period.proofs.by_residues.are_clear_by_residues.Goals as goal

@@ -1,4 +1,4 @@
-use Rattle.std.proofs.Common.{◌≡◌, ◌∙◌, ◌*◌, ◌<◌, ◌≤◌, ap, sym, refl, subst, ℕ, ℤ, to_z, of_z, w64, to_z-of_z, FitsSigned, rules, true, false, arith}
+use Rattle.std.proofs.Common.{◌≡◌, to_z, of_z, w64, to_z-of_z, FitsSigned, rules, arith}
 use Rattle.std.proofs.lemmas.Int.{ints}
 use Rattle.cal_period.proofs.by_residues.are_phases_alone.Goals as goal
 

@@ -1,4 +1,4 @@
-use Rattle.std.proofs.Common.{◌≡◌, ◌∙◌, ◌*◌, ◌<◌, ◌≤◌, ap, sym, refl, subst, ℕ, ℤ, to_z, of_z, w64, to_z-of_z, FitsSigned, rules, true, false, arith}
+use Rattle.std.proofs.Common.{◌≡◌, sym, to_z, of_z, w64, to_z-of_z, FitsSigned, rules}
 use Rattle.std.proofs.lemmas.Bool.{true≢false}
 use Rattle.cal_period.proofs.by_residues.are_phases_apart.Goals as goal
 

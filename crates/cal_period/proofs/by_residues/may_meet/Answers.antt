@@ -1,4 +1,4 @@
-use Rattle.std.proofs.Common.{◌≡◌, ◌∙◌, ◌*◌, ◌<◌, ◌≤◌, ap, sym, refl, subst, ℕ, ℤ, to_z, of_z, w64, to_z-of_z, FitsSigned, rules, true, false, arith}
+use Rattle.std.proofs.Common.{◌≡◌, sym, to_z, of_z, w64, to_z-of_z, FitsSigned, rules}
 use Rattle.cal_events.specs.Series.{series_said}
 use Rattle.cal_period.proofs.ByResidues.{span_clear}
 use Rattle.std.proofs.lemmas.Bool.{true≢false}

@@ -1,7 +1,6 @@
-use Rattle.std.proofs.Common.{◌≡◌, ◌∙◌, ◌*◌, ◌<◌, ◌≤◌, ap, sym, refl, subst, ℕ, ℤ, to_z, of_z, w64, to_z-of_z, FitsSigned, rules, true, false, arith}
+use Rattle.std.proofs.Common.{◌*◌, subst, arith}
 use Rattle.std.proofs.lemmas.Nat.Gcd.{IsGcd-swap}
 use Rattle.profile.specs.series.Periods.{IsMultiple}
-use Rattle.cal_rules.specs.Forms.{form_cycle}
 use Rattle.cal_period.proofs.ByResidues.{low_divisor, one_turn}
 use Rattle.cal_period.proofs.Turning.{some_divisor}
 use Rattle.cal_period.proofs.by_residues.modulus.Goals as goal

@@ -1,4 +1,4 @@
-use Rattle.std.proofs.Common.{◌≡◌, sym, subst, Bool, to_z, of_z, w64, to_z-of_z, FitsSigned, rules}
+use Rattle.std.proofs.Common.{◌≡◌, sym, subst, to_z, of_z, w64, to_z-of_z, FitsSigned, rules}
 use Rattle.std.specs.Prelude.{◌↔◌, IsTrue}
 use Rattle.profile.specs.events.Residues.{ResiduesHold}
 use Rattle.cal_events.specs.Series.{series_said}

@@ -1,4 +1,4 @@
-use Rattle.std.proofs.Common.{◌≡◌, ◌∙◌, sym, refl, ◌*◌}
+use Rattle.std.proofs.Common.{◌∙◌, sym, refl, ◌*◌}
 use Rattle.std.proofs.lemmas.Bool.{true≢false}
 use Rattle.cal_events.specs.Series.{series_said}
 use Rattle.cal_period.proofs.Turning.{none_fail, none_long}

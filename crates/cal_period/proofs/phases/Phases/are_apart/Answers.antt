@@ -1,4 +1,4 @@
-use Rattle.std.proofs.Common.{◌≡◌, ℕ, to_z, of_z, w64, to_z-of_z, FitsSigned, rules, arith}
+use Rattle.std.proofs.Common.{◌≡◌, ℕ, to_z, of_z, w64, to_z-of_z, FitsSigned, rules, false, arith}
 use Rattle.cal_period.specs.Phases.{MeetsOther}
 use Rattle.cal_period.specs.PhaseViews.{IsPhaseOf}
 use Rattle.cal_period.proofs.PhaseLemmas.{holds_more, holds_still, holds_of_all}
@@ -16,10 +16,10 @@ loop-number-preserved c =
     rw (w, o) (elim c.match-nth.branch [
       | in-Some+else-meet v ↦
           holds_more f.rule.now.pattern f.second f.least f.greatest c.args.m c.loop-number.number v.in-Some.residue
-          (λ s. (r : ℕ) → IsPhaseOf c.args.self.now c.args.m r → MeetsOther c.args.own c.args.m r c.args.width s c.args.other → ⊥) before v.in-Some.ensures (rw (w, o) at (v.meet.ensures v.if-meet.false))
+          (λ s. (r : ℕ) → IsPhaseOf c.args.self.now c.args.m r → MeetsOther false c.args.m r c.args.width s c.args.other → ⊥) before v.in-Some.ensures (rw (w, o) at (v.meet.ensures v.if-meet.false))
       | in_default v ↦
           holds_still f.rule.now.pattern f.second f.least f.greatest c.args.m c.loop-number.number
-          (λ s. (r : ℕ) → IsPhaseOf c.args.self.now c.args.m r → MeetsOther c.args.own c.args.m r c.args.width s c.args.other → ⊥) before v.in_default.ensures
+          (λ s. (r : ℕ) → IsPhaseOf c.args.self.now c.args.m r → MeetsOther false c.args.m r c.args.width s c.args.other → ⊥) before v.in_default.ensures
     ])
 
 pub returns : goal.returns
@@ -32,4 +32,4 @@ returns c = λ _ r s phase other met.
     let o : to_z w64 (of_z w64 c.args.other) ≡ c.args.other = to_z-of_z of in
     let before = rw (w, o) at c.loop-number.invariant in
     holds_of_all f.rule.now.pattern f.second f.least f.greatest c.args.m c.loop-number.number
-    (λ s. (r : ℕ) → IsPhaseOf c.args.self.now c.args.m r → MeetsOther c.args.own c.args.m r c.args.width s c.args.other → ⊥) f.form.0 f.form.1 c.requires.second (omega (arith, past)) before s other r phase met
+    (λ s. (r : ℕ) → IsPhaseOf c.args.self.now c.args.m r → MeetsOther false c.args.m r c.args.width s c.args.other → ⊥) f.form.0 f.form.1 c.requires.second (omega (arith, past)) before s other r phase met

@@ -1,6 +1,5 @@
-use Rattle.std.proofs.Common.{arith, subst, List, ℕ}
-use Rattle.cal_period.specs.PhaseViews.{AreFirst}
-use Rattle.cal_period.proofs.PhaseLemmas.{first_none, first_more, first_still, all_first}
+use Rattle.std.proofs.Common.{arith}
+use Rattle.cal_period.proofs.PhaseLemmas.{first_more, first_still, all_first}
 use Rattle.cal_period.proofs.phases.Phases.list.Goals as goal
 use Rattle.cal_period.proofs.phases.Phases.list.Goals.{in-Some+in_ok-push, in_default}
 

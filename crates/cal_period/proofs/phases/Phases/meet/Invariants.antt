@@ -1,6 +1,5 @@
-use Rattle.std.proofs.Common.{ℕ}
 use Rattle.cal_period.specs.Phases.{MeetsOther}
-use Rattle.cal_period.specs.PhaseViews.{HoldsOfFirst, IsPhaseOf}
+use Rattle.cal_period.specs.PhaseViews.{HoldsOfFirst}
 use Rattle.cal_period.proofs.phases.Phases.meet.Given as goal
 
 -- those that were looked at don't meet it

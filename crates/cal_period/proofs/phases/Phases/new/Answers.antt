@@ -1,6 +1,6 @@
-use Rattle.std.proofs.Common.{◌≡◌, ◌<◌, sym, subst, to_z, of_z, w32, FitsSigned, rules, to_z-of_z}
+use Rattle.std.proofs.Common.{◌≡◌, sym, subst, to_z, of_z, w32, FitsSigned, rules, to_z-of_z}
 use Rattle.profile.specs.text.Values.{IsOffset}
-use Rattle.profile.specs.series.Rules.{IsAllowed, RuleText, text_in}
+use Rattle.profile.specs.series.Rules.{IsAllowed, text_in}
 use Rattle.cal_rules.proofs.FormParts.{in_range}
 use Rattle.cal_period.proofs.phases.Phases.new.Goals as goal
 

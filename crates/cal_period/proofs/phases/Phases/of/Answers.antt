@@ -1,6 +1,3 @@
-use Rattle.std.proofs.Common.{subst}
-use Rattle.profile.specs.series.Zones.{Zone}
-use Rattle.profile.specs.series.Residues.{IsOffsetOf}
 use Rattle.cal_events.specs.Series.{series_said}
 use Rattle.cal_period.proofs.PhasesOf.{are_phases}
 use Rattle.cal_period.proofs.phases.Phases.of.Goals as goal
