@@ -1,22 +1,21 @@
 -- Entries that say RES: what the lists of residues say of their series.
 -- Cited by residues_hold, is_modulus, one_apart, two_apart, entry_holds, meets.
-use Rattle.std.proofs.Common.{◌≡◌, ◌≢◌, ◌∙◌, ap, sym, refl, subst, inr, ℕ, ◌+◌, ◌-◌, ◌*◌, ◌/◌, ◌%◌, ◌^◌, ◌<◌, ◌≤◌, ◌==◌, true, false, Bool, arith, List, length, ℤ, pos, ◌≤ℤ◌, ◌+ℤ◌}
+use Rattle.std.proofs.Common.{◌≡◌, ◌≢◌, ◌∙◌, sym, refl, subst, inr, ℕ, ◌/◌, ◌%◌, ◌^◌, ◌<◌, ◌≤◌, ◌==◌, true, false, Bool, arith, List, length, ℤ, pos, ◌≤ℤ◌, ◌+ℤ◌}
 use Rattle.std.specs.Prelude.{◌↔◌, Contains, MatchBool, IsTrue}
 use Rattle.std.proofs.lemmas.Bool.{true≢false, false≢true}
 use Rattle.std.proofs.lemmas.Nat.{div-add-mod'}
-use Rattle.profile.specs.checker.Instances.{Instance as SaidInstance, IsWithin}
+use Rattle.profile.specs.checker.Instances.{IsWithin}
 use Rattle.profile.specs.checker.Certificates.{Res, IsPair, IsSeriesAt, EntryHolds, EntryFails}
 use Rattle.profile.specs.events.Events.{Event}
-use Rattle.profile.specs.events.Starts.{IsInstance}
 use Rattle.profile.specs.events.Confirmed.{Confirmed}
-use Rattle.profile.specs.events.Residues.{IsResidue, AreResidues, IsModulus, AreArcsApart, IsArcsApart, ResiduesHold}
+use Rattle.profile.specs.events.Residues.{AreResidues, IsModulus, AreArcsApart, IsArcsApart, ResiduesHold}
 use Rattle.profile.specs.events.Spans.{IsWidthOf}
 use Rattle.profile.specs.series.Repeating.{ArcsMeet, IsCongruent}
 use Rattle.cal_period.specs.Around.{AreAround, AreApart, IsApart}
 use Rattle.cal_period.proofs.Spanning.{width_is_one}
 use Rattle.clash_check.specs.Counted.{IsPairCount}
 use Rattle.clash_check.specs.Draws.{IsDrawable, LastsAbout}
-use Rattle.clash_check.specs.Entries.{IsMore, IsEntryDrawn}
+use Rattle.clash_check.specs.Entries.{IsEntryDrawn}
 use Rattle.clash_check.specs.Singles.{week, HasNoSharer}
 use Rattle.clash_check.proofs.EntryLemmas.{one_place, two_places, rest_of_multiple}
 use Rattle.clash_check.proofs.SweepLemmas.{series_there, series_in}

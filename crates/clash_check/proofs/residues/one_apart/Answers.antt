@@ -1,4 +1,4 @@
-use Rattle.std.proofs.Common.{◌≡◌, ◌<◌, ℕ, List, sym, subst, rules, to_z, of_z, to_z-of_z, w64, FitsSigned}
+use Rattle.std.proofs.Common.{◌≡◌, sym, subst, rules, to_z, of_z, to_z-of_z, w64, FitsSigned}
 use Rattle.profile.specs.events.Residues.{AreResidues}
 use Rattle.clash_check.proofs.ResidueLemmas.{around_of, modulus_range, tells_one}
 use Rattle.clash_check.proofs.SweepLemmas.{series_there}

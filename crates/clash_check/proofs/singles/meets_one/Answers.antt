@@ -1,4 +1,4 @@
-use Rattle.std.proofs.Common.{◌≡◌, ◌<◌, ◌≤◌, sym, ◌*◌, length, pos, subst, arith, Some}
+use Rattle.std.proofs.Common.{◌≡◌, pos, subst, arith, Some}
 use Rattle.std.specs.List.{slice_get}
 use Rattle.std.proofs.lemmas.Option.{slice_get-get_or}
 use Rattle.profile.specs.checker.Certificates.{IsSeriesAt}
@@ -7,7 +7,6 @@ use Rattle.profile.specs.events.Confirmed.{Confirmed}
 use Rattle.profile.specs.events.Events.{Event}
 use Rattle.profile.specs.events.Starts.{IsInstance}
 use Rattle.cal_events.specs.Sweep.{span_at}
-use Rattle.clash_check.specs.Draws.{IsPlace}
 use Rattle.clash_check.specs.Singles.{HasSharer, HasNoSharer, IsFewMore}
 use Rattle.clash_check.proofs.SingleLemmas.{met_found, met_some, met_next, met_none, met_all}
 use Rattle.clash_check.proofs.singles.meets_one.Goals as goal
