@@ -3,6 +3,7 @@ ghost use Rattle.std.specs.Prelude.{map};
 ghost use Rattle.cal_events.specs.Series.{series_said};
 ghost use Rattle.cal_period.specs.Besides.{IsBesideOr, IsSingleOr, IsSharerOr};
 
+use crate::sharer;
 use cal_events::{Calendar, Instance, Series, Span};
 
 /// A single and an instance of a series that share an instant before the horizon, and the places of the single and of the series, counted
@@ -48,7 +49,7 @@ fn first_sharer(series: &[Series], span: Span) -> Option<(usize, Instance<'_>)>
     ensures { IsSharerOr (map series_said series.now) span.start span.end result }
 {
     for place in 0..series.len() {
-        if let Some(instance) = series[place].first_sharer(span) {
+        if let Some(instance) = sharer::first_sharer(&series[place], span) {
             return Some((place, instance));
         }
     }

@@ -16,6 +16,7 @@ mod phases;
 mod recurs;
 mod residue;
 mod settled;
+mod sharer;
 mod span;
 mod walk;
 
@@ -28,4 +29,5 @@ pub use every_pair::{Shared, clash_of_all};
 pub use law::{periods_are_multiples, residues_settle, series_repeat};
 pub use recurs::{Recurs, common_period};
 pub use residue::{residues, settling_residues};
+pub use sharer::first_sharer;
 pub use span::{PairSpan, span_of_pair};

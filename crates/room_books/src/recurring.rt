@@ -8,7 +8,7 @@ ghost use Rattle.room_books.specs.Recurring.{AreBeside, AreClearFrom, IsSharedAl
 use crate::decide::SharedInstant;
 use crate::meeting::MeetingKey;
 use cal_events::{Instance, Series, Single, Span};
-use cal_period::{clash_alone, clash_of_pair};
+use cal_period::{clash_alone, clash_of_pair, first_sharer};
 use std::alloc::AllocError;
 
 /// A series, and the name of its meeting.
@@ -56,7 +56,7 @@ fn series_at<'a>(single: Single, all: &[Recurring<'a>]) -> Option<(&'a MeetingKe
     ensures { IsBesideOne single all.now result }
 {
     for recurring in all {
-        if let Some(instance) = recurring.series.first_sharer(single.span) {
+        if let Some(instance) = first_sharer(recurring.series, single.span) {
             return Some((recurring.key, as_single(&instance)));
         }
     }

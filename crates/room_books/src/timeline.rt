@@ -12,6 +12,7 @@ ghost use Rattle.std.specs.Vec.{vec_len, vec_capacity};
 use crate::gone::Gone;
 use crate::recurring::as_single;
 use cal_events::{HORIZON, Series, Single, Span};
+use cal_period::first_sharer;
 use std::alloc::{AllocError, Global};
 
 /// An instance that holds the room.
@@ -84,7 +85,7 @@ impl Timeline {
             if is_gone(busy, own, gone) {
                 continue;
             }
-            if let Some(instance) = series.first_sharer(busy.single.span) {
+            if let Some(instance) = first_sharer(series, busy.single.span) {
                 return Some((as_single(&instance), *busy));
             }
         }
