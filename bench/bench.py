@@ -598,10 +598,12 @@ def main():
     for work, calendar_text, certificate_text in odd:
         seconds, peak, size = quickly(program, calendar_text, certificate_text)
         line(work, 1, seconds, f"{size / seconds / 1e6:.0f} MB/s", peak)
-    # its own module uses this one
+    # their own modules use this one
+    from residues import residues
     from spans import spans
 
     spans(program, sys.argv[3])
+    residues(program)
 
 
 if __name__ == "__main__":
