@@ -15,7 +15,6 @@ pub mod Spanning
 pub mod Members
 pub mod OnsetTheorem
 pub mod NearOnsets
-pub mod SpanLists
 pub mod AroundLemmas
 pub mod PhaseLemmas
 pub mod PhasesOf

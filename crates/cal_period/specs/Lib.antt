@@ -9,7 +9,6 @@ pub mod Members
 pub mod Spanning
 pub mod LocalResidues
 pub mod Onsets
-pub mod OnsetSpans
 pub mod Around
 pub mod Phases
 pub mod PhaseViews

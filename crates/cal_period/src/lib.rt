@@ -10,7 +10,6 @@ mod by_residues;
 mod clash;
 mod every_pair;
 mod law;
-mod onset_spans;
 mod onsets;
 mod phases;
 mod recurs;

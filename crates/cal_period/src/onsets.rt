@@ -184,7 +184,7 @@ fn clash_alone_since<'a>(
 }
 
 /// The first onset of a zone after an instant, where it is before a bound.
-pub(crate) fn onset_below(zone: &Zone, after: i64, bound: i64) -> Option<i64>
+fn onset_below(zone: &Zone, after: i64, bound: i64) -> Option<i64>
     ensures { IsNextBelow (IsZoneOnset (zone_of zone.now)) after bound result }
 {
     match zone.next_onset(after) {
@@ -194,7 +194,7 @@ pub(crate) fn onset_below(zone: &Zone, after: i64, bound: i64) -> Option<i64>
 }
 
 /// How long after an onset a start of another series still has to do with it, where it meets an instance of this one.
-pub(crate) fn reach_of(series: &Series) -> i64
+fn reach_of(series: &Series) -> i64
     ensures reach { IsReach (series_said series.now) result }
     ensures range { (pos 0 ≤ℤ result) × (result <ℤ pos (2 ^ 51)) }
 {
@@ -202,7 +202,7 @@ pub(crate) fn reach_of(series: &Series) -> i64
 }
 
 /// An instant more than half a day before the first start of a series; any where it has none.
-pub(crate) fn half_day_before(series: &Series) -> i64
+fn half_day_before(series: &Series) -> i64
     ensures { IsHalfDayBefore (series_said series.now) result }
 {
     known_by_start();
@@ -213,7 +213,7 @@ pub(crate) fn half_day_before(series: &Series) -> i64
 }
 
 /// When an instance lasts.
-pub(crate) fn span_of(instance: Instance<'_>) -> Span
+fn span_of(instance: Instance<'_>) -> Span
     ensures { (result.start ≡ instance.entry.start) × (result.end ≡ instance.entry.end) }
 {
     Span {
