@@ -1,5 +1,5 @@
 -- The search near the onsets of a zone.
-use Rattle.std.proofs.Common.{◌≡◌, ◌≢◌, ◌∙◌, refl, sym, subst, ap, inl, inr, ◌⊎◌, arith, ℕ, ◌<◌, ◌^◌, ℤ, pos, negsuc, ◌+ℤ◌, ◌-ℤ◌, ◌≤ℤ◌, ◌<ℤ◌, w64, FitsSigned, unsigned_abs}
+use Rattle.std.proofs.Common.{◌≡◌, ◌≢◌, ◌∙◌, refl, sym, subst, ap, inl, inr, arith, ℕ, ◌<◌, ◌^◌, ℤ, pos, negsuc, ◌+ℤ◌, ◌-ℤ◌, ◌≤ℤ◌, ◌<ℤ◌, w64, FitsSigned, unsigned_abs}
 use Rattle.std.proofs.lemmas.Int.{ints, by_lt_z}
 use Rattle.std.proofs.Math.Logic.{∥∥₁_elim}
 use Rattle.std.specs.Prelude.{Option, Some, None, option_map, MatchOption}
@@ -8,12 +8,11 @@ use Rattle.profile.specs.text.Trees.{Tree}
 use Rattle.profile.specs.checker.Instances.{Key, Instance as SaidInstance, horizon}
 use Rattle.profile.specs.series.Zones.{Zone, Constant, Single, Pair, Onset, IsZoneOnset, Since, IsOffsetAt, IsOneOffset}
 use Rattle.profile.specs.series.ZoneTexts.{SaysZone}
-use Rattle.profile.specs.events.Properties.{first_second}
 use Rattle.profile.specs.events.ZonedTimes.{clock_of}
 use Rattle.profile.specs.events.EventComponents.{EventComponent}
 use Rattle.profile.specs.events.Events.{Event}
 use Rattle.profile.specs.events.Spans.{IsSaidSeries, IsWidthOf}
-use Rattle.profile.specs.events.Starts.{IsInstance, SharesInstant, IsFirstSharer}
+use Rattle.profile.specs.events.Starts.{IsInstance, IsFirstSharer}
 use Rattle.cal_zones.specs.Repeats.{IsRegular, AreOffsetsOf}
 use Rattle.cal_zones.specs.Spans.{AreNoneBetween, IsNextOnset}
 use Rattle.cal_events.specs.Calendar.{instance_of}
@@ -32,7 +31,7 @@ use Rattle.cal_period.proofs.OnsetTheorem.{IsRuledIn, clear_by_onsets, alone_by_
 use Rattle.cal_period.proofs.SaidSeries.{has_said}
 use Rattle.cal_period.proofs.SeriesLaw.{said_starts}
 use Rattle.cal_period.proofs.Settling.{later_start}
-use Rattle.cal_period.proofs.Sweeping.{Share, turned, met_start, next_is, all_behind}
+use Rattle.cal_period.proofs.Sweeping.{Share, met_start, next_is, all_behind}
 use Rattle.cal_period.proofs.Tails.{meets_none_since, behind_since}
 
 same_int : {a b : ℤ} → a ≤ℤ b → b ≤ℤ a → a ≡ b

@@ -1,12 +1,12 @@
 -- Two series in one zone that never meet by its clocks clash only near an onset: two starts that are read by one offset are as far apart as their
 -- local times are.
-use Rattle.std.proofs.Common.{◌≡◌, ◌≢◌, ◌∙◌, refl, sym, subst, ap, inl, inr, ◌⊎◌, arith, ℕ, ◌*◌, ◌<◌, ◌≤◌, true, ℤ, pos, ◌+ℤ◌, ◌-ℤ◌, ◌≤ℤ◌, ◌<ℤ◌}
+use Rattle.std.proofs.Common.{◌≡◌, ◌≢◌, refl, sym, subst, ap, inl, inr, ◌⊎◌, arith, ℕ, ◌<◌, ℤ, pos, ◌+ℤ◌, ◌-ℤ◌, ◌≤ℤ◌, ◌<ℤ◌}
 use Rattle.std.proofs.lemmas.Int.{ints, by_lt_z}
 use Rattle.std.specs.Prelude.{Some}
-use Rattle.profile.specs.checker.Instances.{Instance, IsWithin}
+use Rattle.profile.specs.checker.Instances.{Instance}
 use Rattle.profile.specs.series.Rules.{Rule}
 use Rattle.profile.specs.series.Zones.{Zone, Constant, Single, Pair, Onset, IsZoneOnset, InForce, Since, Until, IsOffsetAt, IsOneOffset, Means, local_time}
-use Rattle.profile.specs.series.Repeating.{ArcsMeet, IsCongruent}
+use Rattle.profile.specs.series.Repeating.{IsCongruent}
 use Rattle.profile.specs.events.ZonedTimes.{clock_of}
 use Rattle.profile.specs.events.EventComponents.{EventComponent}
 use Rattle.profile.specs.events.Events.{Event}
