@@ -1,15 +1,17 @@
 //! What is answered about an object as a calendar.
 
-use crate::calendars::made;
+use crate::calendars::{made, made_text};
 use crate::certificates::verdict_text;
+use crate::counting::Counting;
 use cal_events::{
     Calendar, EventComponent, Instances, MeetingComponents, PartStat, Purpose, Series,
 };
-use clash_check::check;
+use clash_cert::{Certificate, extend};
+use clash_check::{Drawing, Drawn, check, judge};
 use example_cases::NoAnswer;
 use example_cases::answers::append;
 use example_cases::spelled::octets_of;
-use example_cases::words::number;
+use example_cases::words::{count, first_word, number};
 use ical_lines::{Limits, Unfolded};
 use ical_tree::read_object;
 use ical_values::Address;
@@ -145,4 +147,40 @@ pub fn checked(
 pub fn certified(alloc: Global, octets: &[u8], room: &Address) -> Result<String, NoAnswer> {
     let calendar = Calendar::read(alloc, octets, room)?;
     made(alloc, &calendar)
+}
+
+/// Whether the text is a certificate of the calendar, judged over one that hands on what another hands out, and how many that counted.
+pub fn handed_on(
+    alloc: Global,
+    octets: &[u8],
+    room: &Address,
+    certificate: &str,
+) -> Result<String, NoAnswer> {
+    let certificate = octets_of(alloc, certificate)?;
+    let calendar = Calendar::read(alloc, octets, room)?;
+    let mut counting = Counting::of(Drawing::new(alloc, &calendar)?);
+    let checked = judge(alloc, &mut counting, certificate.as_slice())?;
+    let verdict = verdict_text(alloc, checked)?;
+    Ok(format!(in alloc; "{verdict}, {} counted", counting.drawn())?)
+}
+
+/// What is made for a calendar where an old certificate is there, and for each series its number in that, or 0 for a new one.
+pub fn extended(
+    alloc: Global,
+    octets: &[u8],
+    room: &Address,
+    input: &str,
+) -> Result<String, NoAnswer> {
+    let (numbers, text) = first_word(input);
+    let text = octets_of(alloc, text)?;
+    let Ok(old) = Certificate::read(alloc, text.as_slice()) else {
+        return Err(NoAnswer::Unreadable);
+    };
+    let mut kept = Vec::new(alloc);
+    for word in numbers.split(",") {
+        let number = count(word)?;
+        kept.push(if number == 0 { None } else { Some(number) })?;
+    }
+    let calendar = Calendar::read(alloc, octets, room)?;
+    made_text(alloc, extend(alloc, &old, kept.as_slice(), &calendar)?)
 }

@@ -129,7 +129,12 @@ fn overlap(alloc: Global, calendar: &Calendar) -> Result<String, NoAnswer> {
 }
 
 pub fn made(alloc: Global, calendar: &Calendar) -> Result<String, NoAnswer> {
-    match make(alloc, calendar)? {
+    made_text(alloc, make(alloc, calendar)?)
+}
+
+/// The text of the certificate, or the two of a clash.
+pub fn made_text(alloc: Global, made: Made) -> Result<String, NoAnswer> {
+    match made {
         Made::Clear(certificate) => {
             let mut text = Vec::new(alloc);
             certificate.write(&mut text)?;

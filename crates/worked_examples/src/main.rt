@@ -7,6 +7,7 @@ mod calendar_files;
 mod calendars;
 mod certificates;
 mod commands;
+mod counting;
 mod event_files;
 mod files;
 mod message_files;

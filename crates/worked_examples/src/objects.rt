@@ -14,13 +14,17 @@
 //!     instances               its first instances
 //!     overlap START END       the first that shares an instant with this span
 //!     check ROOM TEXT         whether the text is a certificate of the room's calendar
+//!     hand-on ROOM TEXT       the same, judged over one that hands on what is drawn, and how many that counted
+//!     extend ROOM KEPT TEXT   the certificate that is made where this is an old one: the series' numbers in it, 0 for a new one; or the clash
 //!     message                 what the message says
 //!     components              how many components the message has, where the object was read before
 //!     parts ROOM              the parts for a room
 //!     addressed ROOM          whether the message names the room
 //!     own-lines SLOT          the own content lines of the VEVENT of the slot, `whole` or an instant
 
-use crate::calendar_files::{answered, certified, checked, counted, ends, kept, series, times};
+use crate::calendar_files::{
+    answered, certified, checked, counted, ends, extended, handed_on, kept, series, times,
+};
 use crate::event_files::{event, instances, overlap};
 use crate::message_files::{addressed, components, message, own_lines, parts};
 use crate::series_files::{clashes, first_residues, pairs};
@@ -92,6 +96,8 @@ fn room_answer(alloc: Global, octets: &[u8], call: &str, input: &str) -> Result<
         "answers" => answered(alloc, octets, &room),
         "check" => checked(alloc, octets, &room, text),
         "make" => certified(alloc, octets, &room),
+        "hand-on" => handed_on(alloc, octets, &room, text),
+        "extend" => extended(alloc, octets, &room, text),
         "parts" => parts(alloc, octets, &room),
         "addressed" => addressed(alloc, octets, &room),
         _ => Err(NoAnswer::Unreadable),
