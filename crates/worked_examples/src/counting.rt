@@ -58,9 +58,14 @@ impl<D: Drawn + Drop> Drawn for Counting<D> {
     }
 
     fn draw(&mut self, i: u64) -> Option<(i64, i64)> {
-        let next = self.inner.draw(i)?;
-        self.counted = self.counted.saturating_add(1);
-        Some(next)
+        let counted = self.counted;
+        match self.inner.draw(i) {
+            Some(next) => {
+                self.counted = counted.saturating_add(1);
+                Some(next)
+            }
+            None => None,
+        }
     }
 
     fn single(&mut self, k: u64) -> (i64, i64) {
