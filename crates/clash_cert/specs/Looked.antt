@@ -37,3 +37,15 @@ pub record IsPairFound (all : List Event) (s : Shared) : Type 0 where
   pub order : s.i ≤ s.j
   pub within : s.j < length all
   pub is : PairShares all s.i s.j (instance_of s.first) (instance_of s.second)
+
+-- of the first pair in the row of a series that isn't clear
+pub record IsFirstInRow (kept : List (Option ℕ)) (all : List Event) (i : ℕ) (s : Shared) : Type 0 where
+  pub found : IsPairFound all s
+  pub of_row : s.i ≡ i
+  pub row : IsRowLookedAt kept all i s.j
+
+-- of the first pair of all, by the first series and then by the second
+pub record IsFirstFound (kept : List (Option ℕ)) (all : List Event) (s : Shared) : Type 0 where
+  pub found : IsPairFound all s
+  pub rows : AreRowsLookedAt kept all s.i
+  pub row : IsRowLookedAt kept all s.i s.j
