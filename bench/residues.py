@@ -72,8 +72,10 @@ def monthly(day, hour, minute=0):
 
 
 def by_weekday(count, day, hour):
-    """On the first, second .. such weekday of each month. The first Monday of 2025 is in the first week."""
-    return at(day + 7 * (count - 1), hour), f"FREQ=MONTHLY;BYDAY={count}{WEEK[day]}"
+    """On the first, second .. such weekday of each month, from February 2025 on."""
+    month = datetime(2025, 2, 1)
+    start = month + timedelta(days=(day - month.weekday()) % 7 + 7 * (count - 1), hours=hour)
+    return start, f"FREQ=MONTHLY;BYDAY={count}{WEEK[day]}"
 
 
 def yearly(month, day, hour, minute=0):
