@@ -32,20 +32,9 @@ taken_of a b c lent shown count is kept front end consumes within =
       moved = (sym kept ∙ taken, λ none. second (take count lent) zs (sym taken ∙ end none));
     }
 
--- the front of the octets in memory
-pub front_taken : (xs : List ℕ) (count : ℕ) → xs ≡ take count xs ++ drop count xs
-front_taken xs count = sym (take-append-drop count xs)
-
 -- what only the reader can stop isn't stopped by another writer's failure
 pub whatever_writer : (reader writer : Bool) (f : ServeFault) → StopsFor reader false f → StopsFor reader writer f
 whatever_writer reader writer Read h = h
 whatever_writer reader writer Write h = absurd (true≢false (sym h))
 whatever_writer reader writer TooLong h = tt
 whatever_writer reader writer Memory h = tt
-
--- a buffer that is empty after it was filled is at the end
-pub filled_end : (a b : Option (List ℕ)) (shown buffered : List ℕ) → IfSome a (λ xs. length shown ≡ 0 → xs ≡ []) → Keeps a b → IfSome a (λ _. length shown ≤ length buffered)
-    → length buffered ≡ 0 → OnSome a (IsAtEnd b)
-filled_end None b shown buffered end kept few none = tt
-filled_end (Some xs) None shown buffered end kept few none = absurd kept
-filled_end (Some xs) (Some ys) shown buffered end kept few none = kept ∙ end (omega (arith, few, none))

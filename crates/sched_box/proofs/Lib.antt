@@ -7,7 +7,6 @@ pub mod HostLemmas
 pub mod Lines
 pub mod ObjectLemmas
 pub mod OrganiserLemmas
-pub mod OutputLemmas
 pub mod PreambleLemmas
 pub mod ServingLemmas
 pub mod SettingLemmas

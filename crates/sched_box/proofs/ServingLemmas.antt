@@ -14,7 +14,7 @@ use Rattle.sched_box.specs.declared.serving.ServeReport.{ServeReport}
 use Rattle.sched_box.specs.Answering.{AreHosted, IsHosted, room_addresses}
 use Rattle.sched_box.specs.Books.{AnswersKept, AreBooksOf, hosted_rooms}
 use Rattle.sched_box.specs.declared.books.Books.{Books}
-use Rattle.sched_box.specs.Input.{IsFilledWithin}
+use Rattle.sched_devices.specs.Input.{IsFilledWithin}
 use Rattle.sched_box.specs.Objects.{kept_of, LendsNext, TakesNextObject, ReadsObject, StopsReading}
 use Rattle.sched_box.specs.Serving.{AnswersWhole, Ends, Gives, GivesPart, GivesRead, IsWithinBound, ServesAll, ServesSome, HasRead, ServesUntil, Serves, BooksServe, ServesStream, KeepsTexts, StopsKeeping}
 use Rattle.std.proofs.Common.{◌≢◌, Contains, true≢false}
@@ -29,7 +29,7 @@ use Rattle.room_books.specs.Room.{Represents}
 use Rattle.sched_box.specs.declared.fault.StreamFault.{StreamFault}
 use Rattle.sched_box.specs.declared.fault.StreamFault.TheVariants as stream
 use Rattle.sched_box.specs.Faults.{IfRefusedStream, IsReadFault, StopsFor}
-use Rattle.sched_box.specs.Output.{StopsSending}
+use Rattle.sched_box.specs.Sending.{StopsSending}
 use Rattle.sched_box.specs.Preamble.{OpensStream, OpensNot, StopsInPreamble}
 use Rattle.sched_box.proofs.HostLemmas.{MadeSofar}
 use Rattle.sched_box.proofs.ObjectLemmas.{after_short}

@@ -3,10 +3,9 @@ pub mod Asked
 pub mod Books
 pub mod Config
 pub mod Faults
-pub mod Input
 pub mod Objects
 pub mod Organising
-pub mod Output
 pub mod Preamble
+pub mod Sending
 pub mod Serving
 pub mod Settings

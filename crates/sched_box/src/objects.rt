@@ -8,7 +8,7 @@ ghost use Rattle.sched_box.specs.Objects.{Cuts, IsPieceFault, LendsAfter, LendsN
 ghost use Rattle.sched_box.specs.declared.fault.ServeFault.TheVariants.{Read};
 
 use crate::fault::ServeFault;
-use crate::input::{Input, lend};
+use sched_devices::{Input, lend};
 use ical_lines::Cutter;
 use std::alloc::{AllocError, Global};
 

@@ -4,14 +4,14 @@ ghost use Rattle.std.specs.Prelude.{◌≡◌, ◌≤◌, ◌<◌, ◌+◌, ◌-
 ghost use Rattle.std.specs.Io.KnownBytes.{Keeps};
 ghost use Rattle.sched_box.specs.Config.{config_hosts};
 ghost use Rattle.sched_box.specs.Faults.{IfRefusedStream, IsReadFault, KeepsButRead, RefusesPreamble, StopsFor, StreamKeepsButRead, StreamStopsFor};
-ghost use Rattle.sched_box.specs.Input.{IsFilledWithin};
+ghost use Rattle.sched_devices.specs.Input.{IsFilledWithin};
 ghost use Rattle.sched_box.specs.Objects.{IsPieceFault};
 ghost use Rattle.sched_box.specs.Preamble.{IsLong, Leads, OpensStream, OpensNot, StopsInPreamble, TakesPreamblePiece, TakesPreamble, is_closed, next_place};
 ghost use Rattle.sched_box.specs.declared.preamble.LineState.TheVariants.{Inside};
 
 use crate::config::{Config, LONGEST};
 use crate::fault::{ServeFault, StreamFault};
-use crate::input::{Input, lend};
+use sched_devices::{Input, lend};
 use ical_lines::{Fault, Refusal};
 use ical_values::Stamp;
 use memchr::memchr;

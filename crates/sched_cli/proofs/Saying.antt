@@ -3,9 +3,9 @@ use Rattle.std.proofs.Common.{◌≡◌, inl, inr, ℕ, Bool, true, List, [], �
 use lib.Seq.{take-append_seam}
 use Rattle.std.specs.Io.KnownBytes.{Appends, Keeps}
 use Rattle.std.proofs.KnownBytes.{Appends-trans}
-use Rattle.sched_box.specs.Output.{StopsWriting}
-use Rattle.sched_box.specs.declared.output.WriteFault.{WriteFault}
-use Rattle.sched_box.specs.declared.output.WriteFault.TheVariants as write
+use Rattle.sched_devices.specs.Output.{StopsWriting}
+use Rattle.sched_devices.specs.declared.output.WriteFault.{WriteFault}
+use Rattle.sched_devices.specs.declared.output.WriteFault.TheVariants as write
 use Rattle.ical_lines.specs.Fault.{RefusesBy}
 use Rattle.ical_lines.specs.declared.fault.Fault.{Fault}
 use Rattle.ical_lines.specs.declared.fault.Fault.TheVariants as lines

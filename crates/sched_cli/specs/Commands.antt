@@ -15,9 +15,9 @@ use Rattle.sched_box.specs.Serving.{Ends, HasRead, ServesStream, KeepsTexts}
 use Rattle.sched_box.specs.declared.fault.ServeFault.TheVariants.{Read, Write, TooLong, Memory}
 use Rattle.sched_box.specs.declared.fault.StreamFault.{StreamFault}
 use Rattle.sched_box.specs.declared.fault.StreamFault.TheVariants.{Refused, Serve}
-use Rattle.sched_box.specs.declared.output.WriteFault.{WriteFault}
-use Rattle.sched_box.specs.declared.output.WriteFault.TheVariants.{Failed}
-use Rattle.sched_box.specs.declared.output.WriteFault.TheVariants as write
+use Rattle.sched_devices.specs.declared.output.WriteFault.{WriteFault}
+use Rattle.sched_devices.specs.declared.output.WriteFault.TheVariants.{Failed}
+use Rattle.sched_devices.specs.declared.output.WriteFault.TheVariants as write
 use Rattle.sched_box.specs.declared.serving.ServeReport.{ServeReport}
 use Rattle.sched_cli.specs.declared.commands.KeptText.{KeptText}
 use Rattle.sched_cli.specs.declared.commands.KeptText.TheVariants.{Calendar, Certificate}

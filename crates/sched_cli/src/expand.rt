@@ -6,7 +6,7 @@ ghost use Rattle.profile.specs.text.Values.{WritesStamp};
 ghost use Rattle.profile.specs.events.Events.{EventTextFault};
 ghost use Rattle.cal_events.specs.Calendar.{instance_of};
 ghost use Rattle.cal_events.specs.Event.{said_meeting};
-ghost use Rattle.sched_box.specs.Output.{KeepsButFailed, WriteStopsFor};
+ghost use Rattle.sched_devices.specs.Output.{KeepsButFailed, WriteStopsFor};
 ghost use Rattle.sched_cli.specs.Commands.{BlamesDevice, IsStatusSaid, SaysLine, TellsDevice, refused_text};
 ghost use Rattle.sched_cli.specs.Expanding.{IsPrintedLine, IsHandedOver, PrintsFirst, PrintsNext, ExpandsTo};
 

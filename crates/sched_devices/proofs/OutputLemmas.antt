@@ -1,5 +1,5 @@
 -- What a writer that fails has taken.
-use Rattle.std.proofs.Common.{◌≡◌, ℕ, ◌-◌, List, [], ◌∷◌, ◌++◌, length, take, drop, Option, Result, Ok, Err, OnOk, refl, sym, ap, subst, ◌∙◌, arith, take-append-drop}
+use Rattle.std.proofs.Common.{◌≡◌, ℕ, ◌-◌, List, [], ◌∷◌, ◌++◌, length, take, drop, Option, Result, Ok, Err, OnOk, OnErr, refl, sym, ap, subst, ◌∙◌, arith, take-append-drop}
 use Rattle.std.proofs.lemmas.List.{append_assoc, append-nil, take_rest}
 use lib.Seq.{take-append_seam}
 use Rattle.std.specs.Io.KnownBytes.{Appends, Keeps}
@@ -12,6 +12,10 @@ moves_front all done rest n e =
 pub any_ok : {A E : Type 0} (r : Result A E) (P : Type 0) → P → OnOk r P
 any_ok (Ok x) P p = p
 any_ok (Err e) P p = tt
+
+pub any_err : {A E : Type 0} (r : Result A E) (P : Type 0) → P → OnErr r P
+any_err (Ok x) P p = tt
+any_err (Err e) P p = p
 
 pub all_written : (a b c : Option (List ℕ)) (all done rest : List ℕ) → all ≡ done ++ rest → Appends a b done → length rest ≡ 0 → Keeps b c → Appends a c all
 all_written a b c all done rest split appended none kept =

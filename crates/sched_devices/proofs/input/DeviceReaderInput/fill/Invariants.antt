@@ -1,7 +1,7 @@
 use Rattle.std.proofs.Common.{◌≡◌}
 use Rattle.std.specs.Io.KnownBytes.{Keeps}
 use Rattle.std.specs.Io.Buffered.{reader_remaining}
-use Rattle.sched_box.proofs.input.DeviceReaderInput.fill.Given as goal
+use Rattle.sched_devices.proofs.input.DeviceReaderInput.fill.Given as goal
 
 abbrev pub invariant-loop : goal.invariant-loop
 invariant-loop g l =

@@ -2,8 +2,8 @@ use Rattle.std.proofs.Common.{subst}
 use Rattle.std.specs.Io.BufRead.{FillKeeps}
 use Rattle.std.specs.Io.Buffered.{reader_buffer, reader_remaining}
 use Rattle.std.proofs.Common.{length, Some}
-use Rattle.sched_box.proofs.InputLemmas.{filled_end}
-use Rattle.sched_box.proofs.input.DeviceReader.fill_once.Goals as goal
+use Rattle.sched_devices.proofs.InputLemmas.{filled_end}
+use Rattle.sched_devices.proofs.input.DeviceReader.fill_once.Goals as goal
 
 pub returns-clause-end : goal.returns-clause-end
 returns-clause-end g c =

@@ -49,7 +49,7 @@ pub trait Input {
 }
 
 /// Has octets lent by a reader, unless its input has ended. It is filled only where it lends none: what it lends is consumed first.
-pub(crate) fn lend<R: Input>(reader: &mut R) -> io::Result<()>
+pub fn lend<R: Input>(reader: &mut R) -> io::Result<()>
     ensures keeps { Keeps (R.remaining reader.old) (R.remaining reader.new) }
     ensures end { OnOk result (length (R.lent reader.new) ≡ 0 → OnSome (R.remaining reader.old) (IsAtEnd (R.remaining reader.new))) }
     ensures none { OnErr result (length (R.lent reader.old) ≡ 0) }

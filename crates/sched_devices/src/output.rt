@@ -2,8 +2,8 @@
 
 ghost use Rattle.std.specs.Prelude.{◌≡◌, ◌≤◌, ◌<◌, ℕ, List, Option, Some, None, Bool, true, false, length, take, IfOk, IfErr, OnOk, OnErr};
 ghost use Rattle.std.specs.Io.KnownBytes.{Appends, Keeps};
-ghost use Rattle.sched_box.specs.Output.{KeepsButFailed, StopsWriting};
-ghost use Rattle.sched_box.specs.declared.output.WriteFault.TheVariants as fault;
+ghost use Rattle.sched_devices.specs.Output.{KeepsButFailed, StopsWriting};
+ghost use Rattle.sched_devices.specs.declared.output.WriteFault.TheVariants as fault;
 
 use crate::input::TRIES;
 use std::alloc::AllocError;
@@ -64,7 +64,7 @@ impl Output for Vec<u8> {
 
 /// Takes all, and keeps nothing.
 #[derive(Drop)]
-pub(crate) struct Nowhere;
+pub struct Nowhere;
 
 impl Output for Nowhere {
     ghost has_failed = { λ _. false };

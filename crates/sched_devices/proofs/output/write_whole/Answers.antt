@@ -1,9 +1,8 @@
 use Rattle.std.proofs.Common.{◌++◌, take, rules}
 use Rattle.std.proofs.lemmas.Result.{err_from_is_err_and}
 use Rattle.std.proofs.KnownBytes.{Appends-trans}
-use Rattle.sched_box.proofs.OutputLemmas.{moves_front, any_ok, all_written, some_written}
-use Rattle.ical_values.proofs.Exits.{any_err}
-use Rattle.sched_box.proofs.output.write_whole.Goals as goal
+use Rattle.sched_devices.proofs.OutputLemmas.{moves_front, any_ok, any_err, all_written, some_written}
+use Rattle.sched_devices.proofs.output.write_whole.Goals as goal
 
 pub loop-rest-preserved : goal.loop-rest-preserved
 loop-rest-preserved g c =

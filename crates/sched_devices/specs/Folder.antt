@@ -1,0 +1,20 @@
+-- What a call of a folder does, and what it leaves as it was.
+use Rattle.std.specs.Prelude.{◌≡◌, ◌<◌, ◌≤◌, ◌⊎◌, ℕ, Bool, List, [], ◌∷◌, None}
+use Rattle.profile.specs.streams.Folders.{AreSame, Image, Temporary, with_files}
+
+-- nothing of the folder has changed, and a stop leaves nothing else
+pub record IsKept {F : Type 0} (is_known : F → Bool) (image : F → Image) (temporary : F → Temporary) (may_leave : F → Image → Type 0) (old new : F) : Type 0 where
+  pub known : is_known new ≡ is_known old
+  pub same : image new ≡ image old
+  pub temporary_is : temporary new ≡ temporary old
+  pub stop : (left : Image) → may_leave new left → may_leave old left
+
+-- the temporary has this name now, under which nothing stood
+pub record IsPublished (old new : Image) (name : List ℕ) (temporary : Temporary) : Type 0 where
+  pub free : old name ≡ None
+  pub added : AreSame new (with_files old (record { name = name; octets = temporary.octets } ∷ []))
+
+-- The count of failures doesn't fall, and a call that fails has raised it, or it stays the greatest u64.
+pub record HasCause (before now : ℕ) (failed : Type 0) : Type 0 where
+  pub later : before ≤ now
+  pub cause : failed → (before < now) ⊎ ((before ≡ 18_446_744_073_709_551_615) × (now ≡ before))

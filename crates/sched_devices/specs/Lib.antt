@@ -1,0 +1,3 @@
+pub mod Folder
+pub mod Input
+pub mod Output

@@ -1,0 +1,10 @@
+//! What may fail: readers, writers and folders, in memory or of a device.
+#![tactic(auto)]
+
+mod folder;
+pub mod input;
+pub mod output;
+
+pub use folder::{Folder, FolderFault};
+pub use input::{DeviceReader, Input};
+pub use output::{DeviceWriter, Nowhere, Output, WriteFault};
