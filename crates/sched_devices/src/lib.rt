@@ -6,5 +6,5 @@ pub mod input;
 pub mod output;
 
 pub use folder::{Folder, FolderFault};
-pub use input::{DeviceReader, Input};
+pub use input::{DeviceReader, Input, lend};
 pub use output::{DeviceWriter, Nowhere, Output, WriteFault};
