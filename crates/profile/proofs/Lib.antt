@@ -11,6 +11,7 @@ mod ResidueExamples
 mod StartExamples
 mod ConfirmedExamples
 mod OrganiserExamples
+mod FolderExamples
 pub mod Repeats
 pub mod ResidueStarts
 pub mod ZoneRepeats
