@@ -92,6 +92,41 @@ def sweep(name, words, stream, wholes, shim, status=0):
     sys.exit(f"{name}: no end")
 
 
+def files_of(folder):
+    """The files of a folder, and what they hold."""
+    return {name: open(os.path.join(folder, name), "rb").read() for name in sorted(os.listdir(folder))}
+
+
+def sweep_box(program, folder, shim):
+    """The same of a box over two files: an early end leaves a beginning of the answers, whole, and the next run writes the others."""
+    config, inbox = os.path.join(folder, "box.conf"), os.path.join(folder, "inbox")
+    open(config, "wb").write(b"room mailto:r1@example.com\n")
+    os.mkdir(inbox)
+    stems = ["00000001-20250102T000000Z", "00000002-20250102T000000Z"]
+    for stem, request in zip(stems, ["request-a", "request-b-busy"]):
+        open(os.path.join(inbox, f"{stem}.ics"), "wb").write(read(request))
+    answers = dict(zip([f"{stem}.out" for stem in stems], [read("accepted-a"), read("declined-b")]))
+    beginnings = [dict(list(answers.items())[:count]) for count in range(3)]
+    refused, unmoved = 0, 0
+    for number in range(1, 100_000):
+        with tempfile.TemporaryDirectory(dir=folder) as outbox:
+            words = [program, "box", config, inbox, outbox]
+            result = run(words, b"", shim, number)
+            left = {name: octets for name, octets in files_of(outbox).items() if not name.startswith(".")}
+            again = subprocess.run(words, capture_output=True, check=False)
+            if (again.returncode, files_of(outbox)) != (0, answers):
+                sys.exit(f"a box: the run after allocation {number} was refused: {again}, {sorted(files_of(outbox))}")
+        if (result.returncode, result.stdout, left) == (0, b"", answers):
+            unmoved += 1
+            if unmoved > 100:
+                return refused
+            continue
+        unmoved, refused = 0, refused + 1
+        if (result.returncode, result.stdout, result.stderr) != (5, b"", b"roombox: memory\n") or left not in beginnings:
+            sys.exit(f"a box: allocation {number} refused: {result}, {sorted(left)}")
+    sys.exit("a box: no end")
+
+
 def main():
     program = sys.argv[1]
     with tempfile.TemporaryDirectory() as folder:
@@ -127,6 +162,7 @@ def main():
         ]
         for name, words, stream, wholes, *status in rows:
             print(f"{name}: {sweep(name, words, stream, wholes, shim, *status)} allocations, each refused in turn")
+        print(f"a box: {sweep_box(program, folder, shim)} allocations, each refused in turn")
 
 
 main()
