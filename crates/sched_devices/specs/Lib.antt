@@ -1,3 +1,4 @@
 pub mod Folder
 pub mod Input
+pub mod Memory
 pub mod Output

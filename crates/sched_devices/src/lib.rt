@@ -3,6 +3,7 @@
 
 mod folder;
 pub mod input;
+mod memory_file;
 pub mod output;
 
 pub use folder::{Folder, FolderFault};
