@@ -1,3 +1,4 @@
+pub mod Calls
 pub mod Folder
 pub mod Input
 pub mod Memory

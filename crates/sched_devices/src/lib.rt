@@ -1,6 +1,7 @@
 //! What may fail: readers, writers and folders, in memory or of a device.
 #![tactic(auto)]
 
+mod call_record;
 mod folder;
 pub mod input;
 mod memory_file;
