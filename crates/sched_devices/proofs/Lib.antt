@@ -1,2 +1,3 @@
+pub mod HeldPast
 pub mod InputLemmas
 pub mod OutputLemmas

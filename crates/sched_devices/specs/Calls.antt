@@ -1,7 +1,7 @@
 -- The calls of a folder in memory, and which of them fail.
 use Rattle.std.specs.Prelude.{◌≡◌, ◌==◌, ◌||◌, nat_le, min, ℕ, ◌+◌, Bool, true, false, List, [], ◌∷◌, ◌++◌, length, Option, None, Some}
-use Rattle.sched_devices.specs.declared.call_record.Call.{Call}
-use Rattle.sched_devices.specs.declared.call_record.Plan.{Plan}
+use Rattle.sched_devices.specs.declared.call_log.Call.{Call}
+use Rattle.sched_devices.specs.declared.call_log.Plan.{Plan}
 use Rattle.sched_devices.specs.declared.folder.FolderFault.{FolderFault}
 use Rattle.sched_devices.specs.declared.folder.FolderFault.TheVariants.{Device, Missing, Exists, Memory}
 

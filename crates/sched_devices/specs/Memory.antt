@@ -21,9 +21,12 @@ has_name name file = bytes_eq file.name name
 abbrev pub file_named : List ℕ → List HeldFile → Option HeldFile
 file_named name files = find (has_name name) files
 
+abbrev pub names_held : List HeldFile → List (List ℕ)
+names_held files = map (λ file. file.name) files
+
 -- no two files have the same name
 abbrev pub AreApart : List HeldFile → Type 0
-AreApart files = AllPairs (λ file other. file.name ≢ other.name) files
+AreApart files = AllPairs ◌≢◌ (names_held files)
 
 -- what it holds under each name
 abbrev pub image_of : List HeldFile → Image
@@ -82,3 +85,10 @@ none_earlier (files ∷ past) left had = none_earlier past left had
 pub only_left : (past : List (Vec HeldFile Global)) (files : List HeldFile) (left : Image) → LeftSince past files (length past) left → MayLeave files left
 only_left past files left (inl now) = now
 only_left past files left (inr had) = absurd (none_earlier past left had)
+
+-- ---- one thing that a stop may leave
+
+-- under a name, where names that aren't synced are lost or none is, and octets that aren't synced are these
+abbrev pub left_under : Bool → List ℕ → Option HeldFile → Option (List ℕ)
+left_under lost torn None = None
+left_under lost torn (Some file) = if is_left lost file then Some (left_file torn file).octets else None

@@ -1,7 +1,7 @@
 //! The files that a folder in memory holds.
 
-ghost use Rattle.std.specs.Prelude.{◌≡◌, ◌++◌, ◌∷◌, [], true, map, string_bytes, option_copied, IfOk};
-ghost use Rattle.sched_devices.specs.Memory.{file_named, files_left, has_name, is_left, left_file, with_name_synced};
+ghost use Rattle.std.specs.Prelude.{◌≡◌, ◌++◌, ◌∷◌, [], true, map, string_bytes, option_copied, option_map, IfOk};
+ghost use Rattle.sched_devices.specs.Memory.{file_named, files_left, has_name, is_left, image_of, left_file, names_held, with_name_synced};
 
 use std::alloc::{AllocError, Global};
 use std::marker::Model;
@@ -111,9 +111,23 @@ pub(crate) fn file_named<'a>(files: &'a [MemoryFile], name: &str) -> Option<&'a 
     files.iter().find(|file| file.has_name(name))
 }
 
+/// The octets of the file of this name, if there is one.
+pub(crate) fn octets_of(
+    alloc: Global,
+    files: &[MemoryFile],
+    name: &str,
+) -> Result<Option<Vec<u8>>, AllocError>
+    ensures { IfOk result (λ octets. option_map (λ list. list.items) octets ≡ image_of files.now name.now) }
+{
+    match file_named(files, name) {
+        Some(file) => Ok(Some(file.octets().to_vec(alloc)?)),
+        None => Ok(None),
+    }
+}
+
 /// The names of files.
 pub(crate) fn names_of(alloc: Global, files: &[MemoryFile]) -> Result<Vec<String>, AllocError>
-    ensures { IfOk result (λ names. map string_bytes names.items ≡ map (λ file. file.name) files.now) }
+    ensures { IfOk result (λ names. map string_bytes names.items ≡ names_held files.now) }
 {
     let mut names = Vec::new(alloc);
     for file in files {

@@ -74,20 +74,20 @@ fn is_from(first: Option<u64>, call: u64) -> bool
 
 /// The calls so far, those that are to fail, and how many failed, up to the greatest u64.
 #[derive(Drop)]
-pub(crate) struct CallRecord {
+pub(crate) struct CallLog {
     pub(crate) calls: Vec<Call>,
     pub(crate) plan: Plan,
     pub(crate) failures: u64,
 }
 
-impl CallRecord {
+impl CallLog {
     /// No calls yet, and none that is to fail. So many have failed before.
-    pub(crate) fn new(alloc: Global, failures: u64) -> CallRecord
+    pub(crate) fn new(alloc: Global, failures: u64) -> CallLog
         ensures calls { result.calls.items ≡ [] }
         ensures plan { result.plan ≡ record { at = None; after = None; from = None } }
         ensures failures { result.failures ≡ failures }
     {
-        CallRecord {
+        CallLog {
             calls: Vec::new(alloc),
             plan: Plan::NONE,
             failures,
