@@ -37,7 +37,7 @@ elapses_push past v old new is = record {
   later = omega (arith, length-append past (v ∷ []));
   nothing_else = λ moment left le since. ⊎_elim (λ now. inr now) (λ had. inl (was moment left (adds (drop moment past) v left (subst (λ (l : Contents). HadLeft l left) (drop_push moment past v le) had)))) since;
   keeps = λ moment left le since. inr (subst (λ (l : Contents). HadLeft l left) (sym (drop_push moment past v le))
-    (⊎_elim (λ now. newest (drop moment past) v left (subst (λ (l : List HeldFile). MayLeave l left) (sym is) now)) (keeps (drop moment past) v left) since));
+      (⊎_elim (λ now. newest (drop moment past) v left (subst (λ (l : List HeldFile). MayLeave l left) (sym is) now)) (keeps (drop moment past) v left) since));
 }
   where
     was : (moment : ℕ) (left : Image) → HadLeft (drop moment past) left ⊎ MayLeave v.items left → LeftSince past old moment left
@@ -49,3 +49,8 @@ pub elapses_to : (past later : Contents) (v : Vec HeldFile Global) (old new : Li
     → Elapses (length past) (length later) (LeftSince past old) (LeftSince later new) (MayLeave new)
 elapses_to past later v old new is same =
     subst (λ (l : Contents). Elapses (length past) (length l) (LeftSince past old) (LeftSince l new) (MayLeave new)) (sym same) (elapses_push past v old new is)
+
+-- what it held, by another name
+pub elapses_from : (past later : Contents) (held old next : List HeldFile) → held ≡ old → Elapses (length past) (length later) (LeftSince past held) (LeftSince later next) (MayLeave next)
+    → Elapses (length past) (length later) (LeftSince past old) (LeftSince later next) (MayLeave next)
+elapses_from past later held old next is time = subst (λ (l : List HeldFile). Elapses (length past) (length later) (LeftSince past l) (LeftSince later next) (MayLeave next)) is time

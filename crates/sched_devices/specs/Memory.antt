@@ -1,5 +1,5 @@
 -- What a folder in memory holds, what a stop may leave of it, and what it has held before.
-use Rattle.std.specs.Prelude.{◌≡◌, ◌≢◌, ◌⊎◌, ◌≤◌, ◌<◌, ◌&&◌, not, min, ℕ, ◌+◌, Bool, true, false, if◌then◌else◌, List, [], ◌∷◌, length, drop, map, filter, find, Option, None, Some, option_map, AllPairs, Vec}
+use Rattle.std.specs.Prelude.{◌≡◌, ◌≢◌, ◌⊎◌, ◌&&◌, not, ℕ, Bool, true, false, if◌then◌else◌, List, [], ◌∷◌, length, drop, map, filter, find, Option, None, Some, option_map, AllPairs, Vec}
 use Rattle.std.specs.Str.{bytes_eq}
 use Rattle.std.specs.declared.alloc.Global.{Global}
 use Rattle.profile.specs.streams.Folders.{Image, Temporary}

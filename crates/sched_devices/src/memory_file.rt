@@ -1,6 +1,7 @@
 //! The files that a folder in memory holds.
 
 ghost use Rattle.std.specs.Prelude.{◌≡◌, ◌++◌, ◌∷◌, [], true, map, string_bytes, option_copied, option_map, IfOk};
+ghost use Rattle.std.specs.Option.{is_some};
 ghost use Rattle.sched_devices.specs.Memory.{file_named, files_left, has_name, is_left, image_of, left_file, names_held, with_name_synced};
 
 use std::alloc::{AllocError, Global};
@@ -109,6 +110,13 @@ pub(crate) fn file_named<'a>(files: &'a [MemoryFile], name: &str) -> Option<&'a 
     ensures { option_copied result ≡ file_named name.now files.now }
 {
     files.iter().find(|file| file.has_name(name))
+}
+
+/// Whether one of them has this name.
+pub(crate) fn has_file(files: &[MemoryFile], name: &str) -> bool
+    ensures { result ≡ is_some (file_named name.now files.now) }
+{
+    file_named(files, name).is_some()
 }
 
 /// The octets of the file of this name, if there is one.

@@ -9,7 +9,10 @@ ghost use Rattle.std.proofs.Common.{inl};
 
 use crate::call_log::{Call, CallLog};
 use crate::folder::{Folder, FolderFault};
-use crate::memory_file::{MemoryFile, copied, file_named, files_left, names_of, names_synced, octets_of, with_file};
+use crate::memory_file::{
+    MemoryFile, copied, file_named, files_left, has_file, names_of, names_synced, octets_of,
+    with_file,
+};
 use crate::temporary_file::TemporaryFile;
 use std::alloc::{AllocError, Global};
 
@@ -70,7 +73,7 @@ impl MemoryFolder {
         ensures temporary { self.new.temporary ≡ self.old.temporary }
         ensures calls { self.new.log ≡ self.old.log }
     {
-        if file_named(&self.files, name).is_some() {
+        if has_file(&self.files, name) {
             return Ok(());
         }
         let file = MemoryFile::new(self.alloc, name, octets, true, synced)?;
@@ -210,9 +213,10 @@ impl Folder for MemoryFolder {
         Ok(())
     }
 
+    #[tactic(auto, using(crate::proofs::HeldFiles::may_stay))]
     fn publish(&mut self, name: &str) -> Result<(), FolderFault> {
         let call = Call::Publish(String::from_str(self.alloc, name)?);
-        if file_named(&self.files, name).is_some() {
+        if has_file(&self.files, name) {
             self.log.begin(call)?;
             self.log.end()?;
             return Err(FolderFault::Exists);
