@@ -1,5 +1,5 @@
 -- The files that a folder in memory holds: what is under a name after a change, and what a stop may leave then.
-use Rattle.std.proofs.Common.{◌≡◌, ◌≢◌, ◌⊎◌, inl, inr, ⊎_elim, ℕ, zero, suc, ◌<◌, Bool, true, false, not, ◌&&◌, cond, List, [], ◌∷◌, ◌++◌, length, get_or, map, filter, Option, None, Some, option_map, refl, sym, ap, subst, ◌∙◌, arith}
+use Rattle.std.proofs.Common.{◌≡◌, ◌≢◌, ◌⊎◌, inl, inr, ⊎_elim, ℕ, zero, suc, ◌<◌, Bool, true, false, not, ◌||◌, cond, List, [], ◌∷◌, ◌++◌, length, get_or, map, filter, Option, None, Some, option_map, refl, sym, ap, subst, ◌∙◌, arith}
 use Rattle.std.specs.Option.{is_some, option_or}
 use Rattle.std.specs.List.{AllPairs, Contains}
 use Rattle.std.specs.Str.{bytes_eq}
@@ -279,7 +279,7 @@ may_be_under : (lost : Bool) (torn : List ℕ) (o : Option HeldFile) → MayLeav
 may_be_under lost torn None = refl
 may_be_under lost torn (Some file) = by_marks lost file.is_name_synced file.is_synced refl refl
   where
-    by_marks : (l named synced : Bool) → file.is_name_synced ≡ named → file.is_synced ≡ synced → MayLeaveFile (Some file) (cond (not (l && not named)) (Some (cond synced file.octets torn)) None)
+    by_marks : (l named synced : Bool) → file.is_name_synced ≡ named → file.is_synced ≡ synced → MayLeaveFile (Some file) (cond (not l || named) (Some (cond synced file.octets torn)) None)
     by_marks true true true n s = λ e. refl
     by_marks true true false n s = λ e. absurd (false≢true (sym s ∙ e))
     by_marks true false synced n s = n

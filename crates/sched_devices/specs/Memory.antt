@@ -1,5 +1,5 @@
 -- What a folder in memory holds, what a stop may leave of it, and what it has held before.
-use Rattle.std.specs.Prelude.{◌≡◌, ◌≢◌, ◌⊎◌, ◌&&◌, not, ℕ, Bool, true, false, if◌then◌else◌, List, [], ◌∷◌, length, drop, map, filter, find, Option, None, Some, option_map, AllPairs, Vec}
+use Rattle.std.specs.Prelude.{◌≡◌, ◌≢◌, ◌⊎◌, ◌||◌, not, ℕ, Bool, true, false, if◌then◌else◌, List, [], ◌∷◌, length, drop, map, filter, find, Option, None, Some, option_map, AllPairs, Vec}
 use Rattle.std.specs.Str.{bytes_eq}
 use Rattle.std.specs.declared.alloc.Global.{Global}
 use Rattle.profile.specs.streams.Folders.{Image, Temporary}
@@ -53,7 +53,7 @@ with_name_synced file = record { name = file.name; octets = file.octets; is_sync
 
 -- One thing that a stop may leave: names that aren't synced are lost, or none is, and octets that aren't synced are these. It is on the disk.
 abbrev pub is_left : Bool → HeldFile → Bool
-is_left lost file = not (lost && not file.is_name_synced)
+is_left lost file = not lost || file.is_name_synced
 
 abbrev pub left_file : List ℕ → HeldFile → HeldFile
 left_file torn file = record {

@@ -64,7 +64,7 @@ impl MemoryFile {
     fn is_left(&self, lost: bool) -> bool
         ensures { result ≡ is_left lost self.now }
     {
-        !(lost && !self.is_name_synced)
+        !lost || self.is_name_synced
     }
 
     /// The same file.
