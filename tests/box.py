@@ -297,8 +297,14 @@ def without_leave(cases, parent):
 
 def configurations(cases, parent):
     """The words are judged first, then the configuration, then the folders."""
+    def of_octets(count):
+        # 63 rooms with addresses of 1,024 octets, and one that fills the rest
+        rooms = [f"room mailto:{number:02}{'x' * 1_015}\n" for number in range(63)]
+        return "".join(rooms) + f"room mailto:63{'x' * (count - 63 * 1_030 - 15)}\n"
+
+    cases.holds("a configuration of 65,536 octets", (len(of_octets(65_536)), Boxes(parent, of_octets(65_536)).run()), (65_536, DONE))
     for what, text in [("empty", ""), ("with a moment", f"now {NOW}\n{CONFIG}"), ("of one room twice", CONFIG + CONFIG), ("with another line", CONFIG + "what\n"),
-                       ("of 65,537 octets", f"room {ROOM}{'x' * (65_536 - len(CONFIG) + 1)}\n")]:
+                       ("of 65,537 octets", of_octets(65_537)), ("longer than is read", of_octets(65_536) + "\n" + "\n" * 10)]:
         made = Boxes(parent, text)
         made.put(named(1), request("a", "20250310T090000Z", "DURATION:PT1H"))
         cases.holds(f"a configuration {what}", (made.run(), made.names()), (REFUSED, []))
