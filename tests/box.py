@@ -390,6 +390,55 @@ def order_of_calls(cases, parent):
 # ---- a run that ends too soon
 
 
+def failing_calls(cases, parent):
+    """Each call of the system on the folders fails in turn, once in each run: the run ends with 4, and leaves the answers to the first files; the next one
+    answers all of them. An interrupted call is made again."""
+    if not shutil.which("strace"):
+        print("left out: calls that fail (no strace)")
+        return
+    boxes = Boxes(parent)
+    for number in (1, 2):
+        boxes.put(named(number), request(f"m{number}", f"20250310T{8 + number:02}0000Z", "DURATION:PT1H"))
+    answers = {named(number, end="out"): accepted(f"m{number}") for number in (1, 2)}
+    files = [boxes.inbox / name for name in os.listdir(boxes.inbox)]
+    paths = [boxes.inbox, boxes.outbox, *files, boxes.outbox / TEMPORARY, *(boxes.outbox / name for name in answers)]
+
+    def emptied():
+        shutil.rmtree(boxes.outbox)
+        boxes.outbox.mkdir()
+
+    def injected(call, error, number):
+        """The same as a run of the boxes, with the error at the call of this number."""
+        filters = [word for path in paths for word in ("-P", str(path))]
+        words = ["strace", "-qq", "-o", "/dev/null", *filters, "-e", f"trace={call}", "-e", f"inject={call}:error={error}:when={number}", *boxes.words()]
+        ended = subprocess.run(words, stdin=subprocess.DEVNULL, capture_output=True, text=True)
+        return ended.returncode, ended.stdout, ended.stderr
+
+    # how often each is called for two files: both folders are listed in two calls each, and opened for it; the outbox is opened once more, to be synced.
+    # Before that a temporary is unlinked that isn't there: whether that fails doesn't matter
+    for call, error, first, often in [("openat", "EIO", 1, 3 + 2 * 2), ("getdents64", "EIO", 1, 2 * 2), ("statx", "EACCES", 1, 2), ("read", "EIO", 1, 2 * 2),
+                                      ("unlink", "EIO", 2, 1 + 2 * 2), ("write", "ENOSPC", 1, 2), ("fsync", "EIO", 1, 1 + 2 * 2), ("link", "EIO", 1, 2)]:
+        for number in range(first, often + 1):
+            emptied()
+            cases.holds(f"{call} {number} fails", injected(call, error, number), DEVICE)
+            left = {name: text for name, text in boxes.answers().items() if name != TEMPORARY}
+            cases.holds(f"what {call} {number} leaves", left, dict(list(answers.items())[:len(left)]))
+            cases.holds(f"after {call} {number}", (boxes.run(), boxes.answers()), (DONE, answers))
+        emptied()
+        cases.holds(f"{call} is called {often} times", injected(call, error, often + 1), DONE)
+    # the two listings are left out: std's own function doesn't open a folder again
+    for call, numbers in [("openat", (1, 4, 5, 6, 7)), ("read", range(1, 5)), ("write", (1, 2)), ("fsync", range(1, 6))]:
+        for number in numbers:
+            emptied()
+            cases.holds(f"{call} {number} is interrupted", (injected(call, "EINTR", number), boxes.answers()), (DONE, answers))
+    emptied()
+    cases.holds("each read is interrupted", injected("read", "EINTR", "1+"), DEVICE)
+    cases.holds("answered after that", (boxes.run(), boxes.answers()), (DONE, answers))
+    # an error of a read is no difference
+    for number in range(1, 9):
+        cases.holds(f"read {number} of a run that compares fails", (injected("read", "EIO", number), boxes.answers()), (DEVICE, answers))
+
+
 def is_beginning(names, count):
     """These are the answers to the first files, of so many, and at most the temporary beside them."""
     return [name for name in names if name != TEMPORARY] == [named(number, end="out") for number in range(1, count + 1)][:len([name for name in names if name != TEMPORARY])]
@@ -508,7 +557,7 @@ def on_a_terminal(cases, parent):
 def main():
     cases = Cases()
     parts = [two_and_a_third, whole_and_empty, order_of_names, books_over_all, other_names, of_no_use, without_leave, configurations, usage, temporaries, order_of_calls,
-             on_a_terminal, full_disk, vanished, killed]
+             failing_calls, on_a_terminal, full_disk, vanished, killed]
     with tempfile.TemporaryDirectory(dir=sys.argv[2] if len(sys.argv) > 2 else None) as parent:
         os.chmod(parent, 0o755)
         for part in parts:

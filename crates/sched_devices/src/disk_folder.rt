@@ -27,8 +27,8 @@ const MOST_OCTETS: usize = 1_073_741_824;
 /// - `write_temp`: unlink the temporary that an earlier run may have left, open a new one that mustn't be there, write.
 /// - `sync_temp`: sync the temporary.
 /// - `publish`: link the temporary under the name, unlink the temporary's own name, close. A link is made at once or not at all, and never
-///   where the name stands; a rename would replace what stands there.
-/// - `sync_dir`: sync the folder, which is opened at the first time and stays open.
+///   where the name stands; a rename would replace what stands there. A file system without such links fails here.
+/// - `sync_dir`: at the first time open the folder, which stays open, and unlink the temporary that an earlier run may have left; sync the folder.
 ///
 /// So the octets are on the disk before the name is, and a temporary that is left is taken away and never written over: where a run
 /// was killed between link and unlink, it is a published file by another name.
@@ -85,14 +85,18 @@ impl<'a, R: Files + AllocGlobal + Clone + Drop> DiskFolder<'a, R> {
         read_whole(alloc, &mut DeviceReader::new(alloc, file)?)
     }
 
+    /// Takes the temporary's name away, if it is there.
+    fn remove_temp(&self) -> io::Result<()> {
+        match fs::remove_file(self.rt, self.path_of(TEMPORARY)?.as_str()) {
+            Err(error) if error.kind() != ErrorKind::NotFound => Err(error),
+            _ => Ok(()),
+        }
+    }
+
     /// A new temporary of these octets, open.
     fn write_anew(&self, bytes: &[u8]) -> io::Result<R::File> {
-        let path = self.path_of(TEMPORARY)?;
-        match fs::remove_file(self.rt, path.as_str()) {
-            Err(error) if error.kind() != ErrorKind::NotFound => return Err(error),
-            _ => {}
-        }
-        let mut file = File::create_new(self.rt, path.as_str())?;
+        self.remove_temp()?;
+        let mut file = File::create_new(self.rt, self.path_of(TEMPORARY)?.as_str())?;
         match write_whole(&mut file, bytes) {
             Ok(()) => Ok(file),
             Err(_) => Err(io::Error::from(ErrorKind::WriteZero)),
@@ -116,6 +120,10 @@ impl<'a, R: Files + AllocGlobal + Clone + Drop> DiskFolder<'a, R> {
             return folder.sync_all();
         }
         let folder = File::open(self.rt, self.path)?;
+        if self.temporary.is_none() {
+            // One that can't be taken away is told where the next one is written.
+            let _ = self.remove_temp();
+        }
         let synced = folder.sync_all();
         self.opened = Some(folder);
         synced
