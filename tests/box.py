@@ -401,7 +401,8 @@ def failing_calls(cases, parent):
         boxes.put(named(number), request(f"m{number}", f"20250310T{8 + number:02}0000Z", "DURATION:PT1H"))
     answers = {named(number, end="out"): accepted(f"m{number}") for number in (1, 2)}
     files = [boxes.inbox / name for name in os.listdir(boxes.inbox)]
-    paths = [boxes.inbox, boxes.outbox, *files, boxes.outbox / TEMPORARY, *(boxes.outbox / name for name in answers)]
+    # the folders are listed under their names with a slash
+    paths = [boxes.inbox, f"{boxes.inbox}/", boxes.outbox, f"{boxes.outbox}/", *files, boxes.outbox / TEMPORARY, *(boxes.outbox / name for name in answers)]
 
     def emptied():
         shutil.rmtree(boxes.outbox)
@@ -412,7 +413,8 @@ def failing_calls(cases, parent):
         filters = [word for path in paths for word in ("-P", str(path))]
         words = ["strace", "-qq", "-o", "/dev/null", *filters, "-e", f"trace={call}", "-e", f"inject={call}:error={error}:when={number}", *boxes.words()]
         ended = subprocess.run(words, stdin=subprocess.DEVNULL, capture_output=True, text=True)
-        return ended.returncode, ended.stdout, ended.stderr
+        said = [line for line in ended.stderr.splitlines(True) if not line.startswith("strace: Requested path ")]
+        return ended.returncode, ended.stdout, "".join(said)
 
     # how often each is called for two files: both folders are listed in two calls each, and opened for it; the outbox is opened once more, to be synced.
     # Before that a temporary is unlinked that isn't there: whether that fails doesn't matter
