@@ -5,12 +5,13 @@ use crate::progress::Progress;
 use ical_lines::Fault;
 use ical_values::Address;
 use sched_box::config::LONGEST;
-use sched_box::{DeviceReader, DeviceWriter, DiskFolder, Output};
+use sched_box::{DeviceReader, DeviceWriter, Output};
 use sched_cli::commands::{KeptText, run_check, run_keep, run_serve};
 use sched_cli::status::{USAGE, report_device, report_memory, report_too_long};
 use sched_cli::{
     Tally, run_expand, run_explain, run_explain_object, run_folders, run_serve_report,
 };
+use sched_devices::DiskFolder;
 use std::alloc::Global;
 use std::fs::File;
 use std::io::{self, ErrorKind, IsTerminal, Read, Stderr, Write};

@@ -2,7 +2,8 @@
 
 ghost use Rattle.std.specs.Prelude.{◌≡◌};
 
-use sched_box::{Folder, FolderFault, MessageName};
+use sched_box::file_names::MessageName;
+use sched_devices::{Folder, FolderFault};
 use std::alloc::{AllocError, Global};
 
 /// After so many files it is said how far it is.

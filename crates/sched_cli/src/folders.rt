@@ -20,7 +20,7 @@ pub fn run_folders<I: Folder, O: Folder, E: Output>(
 ) -> u8
     ensures status { (result ≡ 0) ⊎ (result ≡ 3) ⊎ (result ≡ 4) ⊎ (result ≡ 5) }
     ensures device { result ≡ 4 → HasRisen (I.failed inbox.old) (I.failed inbox.new) ⊎ HasRisen (O.failed outbox.old) (O.failed outbox.new) }
-    ensures kept { I.is_known inbox.old ≡ true → I.image inbox.new ≡ I.image inbox.old }
+    ensures kept { I.image inbox.new ≡ I.image inbox.old }
     ensures runs { (RunsNone result config.now (E.contents errors.old) (E.contents errors.new) (E.may_lose errors.new) × (inbox.new ≡ inbox.old) × (outbox.new ≡ outbox.old))
         ⊎ RunsWith result config.now
         (λ hosts ended. I.is_known inbox.old ≡ true → O.is_known outbox.old ≡ true → LosesNamesAlone (O.image outbox.old) (O.may_leave outbox.old)
