@@ -2,6 +2,7 @@
 #![tactic(auto)]
 
 mod call_log;
+mod disk_folder;
 mod folder;
 pub mod input;
 mod memory_file;
@@ -10,6 +11,7 @@ pub mod output;
 mod temporary_file;
 
 pub use call_log::Call;
+pub use disk_folder::DiskFolder;
 pub use folder::{Folder, FolderFault};
 pub use input::{DeviceReader, Input, lend};
 pub use memory_folder::MemoryFolder;
