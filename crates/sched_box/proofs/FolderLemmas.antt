@@ -1,19 +1,19 @@
 -- What an outbox holds and may lose, while the answers to one file after another are published in it.
-use Rattle.std.proofs.Common.{◌≡◌, ◌≢◌, ◌∙◌, ◌⊎◌, inl, inr, ℕ, ℤ, suc, zero, ◌+◌, ◌<◌, ◌≤◌, Bool, true, false, if◌then◌else◌, Global, List, [], ◌∷◌, ◌++◌, length, get_or, take, drop, map, Contains, Option, Some, None, IsNone, Result, Ok, Err, String, string_bytes, refl, sym, ap, subst, arith, true≢false}
+use Rattle.std.proofs.Common.{◌≡◌, ◌≢◌, ◌∙◌, inl, inr, ℕ, suc, ◌+◌, ◌<◌, Bool, true, false, if◌then◌else◌, List, [], ◌∷◌, ◌++◌, length, get_or, take, drop, map, Contains, Option, Some, None, IsNone, Result, Ok, Err, refl, sym, ap, subst, arith}
 use Rattle.std.proofs.Math.Seq.{take-append_seam, take-length}
 use Rattle.std.proofs.lemmas.Bool.{cases_lt}
-use Rattle.std.proofs.lemmas.List.{get_or-take, length-append, length-take, map-append, take_more, append-nil, take-append-le, take-append-drop, take_all}
-use Rattle.std.proofs.lemmas.List.Elements.{Contains-append_left, Contains-get_or, Contains-push, Contains-push_cases, at_from_Contains}
+use Rattle.std.proofs.lemmas.List.{get_or-take, length-append, length-take, map-append, append-nil, take-append-le, take-append-drop, take_all}
+use Rattle.std.proofs.lemmas.List.Elements.{Contains-push_cases, at_from_Contains}
 use Rattle.std.proofs.lemmas.Slice.Eq.{bytes_eq-Decides}
 use Rattle.std.specs.Option.{is_none, option_or}
 use Rattle.std.specs.Str.{bytes_eq}
 use Rattle.sched_devices.specs.declared.folder.FolderFault.{FolderFault}
 use Rattle.sched_devices.specs.declared.folder.FolderFault.TheVariants as folder
-use Rattle.profile.specs.streams.Folders.{AnswersFile, AnswersFiles, AnswersInbox, AreMessageFiles, AreNames, AreNamesSynced, AreSame, Elapses, File, Image, IsAnswered, IsBeginning, IsDifferent, LosesNamesAlone, MessageFile, StopsBetweenFiles, count_missing, octets_of, with_files}
+use Rattle.profile.specs.streams.Folders.{AnswersFile, AnswersFiles, AreMessageFiles, AreNames, AreNamesSynced, AreSame, Elapses, File, Image, IsBeginning, LosesNamesAlone, MessageFile, StopsBetweenFiles, count_missing, octets_of, with_files}
 use Rattle.profile.specs.streams.Streams.{Box, Config as SaidConfig, new_box}
 use Rattle.sched_box.specs.Books.{AreBooksOf}
-use Rattle.sched_box.specs.Boxes.{HasRisen, IsBreak, IsCounted, IsNoDifference, Outbox, Runs}
-use Rattle.sched_box.specs.Running.{AnswersMessage, AnswersSofar, AreApart, Course, GoesOn, HasAnswered, HasEnded, IsGained, IsWhole, LeavesHeld, MayGain, RunsOver, Settles, Stands, StandsOther, answers_name, box_fault, file_of}
+use Rattle.sched_box.specs.Boxes.{IsBreak, IsNoDifference, Outbox, Runs}
+use Rattle.sched_box.specs.Running.{AnswersMessage, AnswersSofar, AreApart, Course, GoesOn, HasAnswered, HasEnded, IsGained, IsWhole, LeavesHeld, MayGain, RunsOver, Settles, Stands, answers_name, box_fault, file_of}
 use Rattle.sched_box.specs.declared.books.Books.{Books}
 use Rattle.sched_box.specs.declared.file_names.MessageName.{MessageName}
 use Rattle.sched_box.specs.declared.folders.BoxFault.{BoxFault}
@@ -202,10 +202,9 @@ answers_file name octets = record { name = answers_name name; octets = octets }
 
 -- a message whose name no answer so far has
 module _ (course : Course) (names : List MessageName) (name : MessageName) (news newer : Books) (now new : Image) (mid last : ℕ) (exact : Type 0) (past middle since : ℕ → Image → Type 0) (before after : Image → Type 0)
-         (report : BoxReport) (octets : List ℕ) (so : HasAnswered course names news now mid exact past middle before report)
-         (apart : (answer : File) → Contains so.answers answer → answer.name ≢ answers_name name)
-         (goes : GoesOn mid last middle since (MayGain (answers_file name octets) before)) where
-
+    (report : BoxReport) (octets : List ℕ) (so : HasAnswered course names news now mid exact past middle before report)
+    (apart : (answer : File) → Contains so.answers answer → answer.name ≢ answers_name name)
+    (goes : GoesOn mid last middle since (MayGain (answers_file name octets) before)) where
   stops_more : exact → GoesOn course.first last past since (IsBeginning course.start (so.answers ++ answers_file name octets ∷ []))
   stops_more e =
       let (first, leaves) = so.stops e in
@@ -345,20 +344,20 @@ stops_between start answers m0 m1 m2 m3 ls0 ls1 ls2 ls3 ml0 ml1 ml2 sync names r
       before = λ left since.
           elim (run.between m0 m1 left (omega arith) (omega arith) since) [
             | inl second ↦ elim (names.nothing_else m0 left (omega arith) second) [
-                | inl first ↦ elim (sync.nothing_else m0 left (omega arith) first) [
-                    | inl past ↦ inl (only0 left past)
-                    | inr may ↦ inr (on left may)
-                  ]
-                | inr may ↦ inr (on left (fewer left may))
+              | inl first ↦ elim (sync.nothing_else m0 left (omega arith) first) [
+                | inl past ↦ inl (only0 left past)
+                | inr may ↦ inr (on left may)
               ]
+              | inr may ↦ inr (on left (fewer left may))
+            ]
             | inr there ↦ inr there
           ];
       after = λ left since.
           elim (run.leaves m1 left (omega arith) since) [
             | inl second ↦ elim (names.nothing_else m1 left (omega arith) second) [
-                | inl first ↦ nothing left (only1 left first)
-                | inr may ↦ nothing left (fewer left may)
-              ]
+              | inl first ↦ nothing left (only1 left first)
+              | inr may ↦ nothing left (fewer left may)
+            ]
             | inr begun ↦ begun
           ];
     }
@@ -392,7 +391,7 @@ run_over hosts now course files news m0 m3 exact ls2 ls3 ml0 ml3 known books are
 run_over hosts now course files news m0 m3 exact ls2 ls3 ml0 ml3 known books are e stops (Err fault) so =
     let (after, answered) = so.answered known (new_box hosts) books in
     let split : map (file_of course.inbox) files ≡ map (file_of course.inbox) (take so.count files) ++ map (file_of course.inbox) (drop so.count files) =
-        ap (map (file_of course.inbox)) (sym (take-append-drop so.count files)) ∙ map-append (file_of course.inbox) (take so.count files) (drop so.count files) in
+    ap (map (file_of course.inbox)) (sym (take-append-drop so.count files)) ∙ map-append (file_of course.inbox) (take so.count files) (drop so.count files) in
     inr (
       so.answers,
       (map (file_of course.inbox) (drop so.count files), record { files = map (file_of course.inbox) (take so.count files); are = subst (AreMessageFiles course.inbox) split are; after = after; answered = answered }),

@@ -1,17 +1,16 @@
 -- The messages of an inbox, of which the names are known.
-use Rattle.std.proofs.Common.{◌≡◌, ◌≢◌, ◌∙◌, ◌⊎◌, inl, inr, ℕ, ℤ, ◌+◌, ◌<◌, Global, List, [], ◌∷◌, ◌++◌, length, get_or, take, map, codes, Contains, Option, Some, None, String, string_bytes, refl, sym, ap, subst, arith}
+use Rattle.std.proofs.Common.{◌≡◌, ◌∙◌, ◌⊎◌, inl, inr, ℕ, ℤ, ◌<◌, Global, List, [], ◌∷◌, ◌++◌, length, get_or, take, map, codes, Contains, Some, String, string_bytes, sym, ap, subst, arith}
 use Rattle.std.proofs.Math.Seq.{take-append_seam}
 use Rattle.std.proofs.lemmas.List.{get_or_append_left, length-append, map-append}
 use Rattle.std.proofs.Math.Seq.{get_or-append_seam}
 use Rattle.std.proofs.lemmas.List.Elements.{Contains-append_left, Contains-get_or, Contains-push, Contains-push_cases}
 use Rattle.std.proofs.lemmas.List.Quantifiers.{all_pairs_push}
-use Rattle.std.specs.List.{AllPairs}
 use Rattle.std.specs.Option.{unwrap_or}
 use Rattle.std.specs.declared.cmp.Ordering.TheVariants.{Less, Equal}
 use Rattle.profile.specs.rooms.Revisions.{octets_cmp}
 use Rattle.profile.specs.streams.Folders.{AreMessageFiles, AreNames, Image, IsInboxName, IsMessageFile, MessageFile, inbox_name}
-use Rattle.sched_box.specs.FileNames.{IsNamed, IsNoName, name_stem, renamed}
-use Rattle.sched_box.specs.Running.{AreApart, AreRising, answers_name, file_of}
+use Rattle.sched_box.specs.FileNames.{IsNamed, IsNoName, name_stem}
+use Rattle.sched_box.specs.Running.{AreApart, AreRising, file_of}
 use Rattle.sched_box.specs.declared.file_names.MessageName.{MessageName}
 use Rattle.cal_events.proofs.shared_lemmas.InOneOrder.{in_mapped, of_mapped}
 use Rattle.sched_box.proofs.NameOrder.{pairs_mapped, pairs_of_mapped, same_cmp}
@@ -87,10 +86,10 @@ read_more names name files file so same named = record {
   rising = λ up.
       let before = so.rising (fewer names name up) in
       let below : (k : ℕ) (d : List ℕ) → k < length (map name_of files) → octets_cmp (get_or (map name_of files) k d) (name_of file) ≡ Less = λ k d within.
-          let (f, among, is) = of_mapped name_of files (get_or (map name_of files) k d) (Contains-get_or (map name_of files) k d within) in
-          let P : List ℕ → Type 0 = λ x. octets_cmp x (name_of file) ≡ Less in
-          let Q : List ℕ → Type 0 = λ y. octets_cmp (name_of f) y ≡ Less in
-          subst P is (subst Q (sym same) (last_is_greatest names name up (name_of f) (so.each f among).1)) in
+      let (f, among, is) = of_mapped name_of files (get_or (map name_of files) k d) (Contains-get_or (map name_of files) k d within) in
+      let P : List ℕ → Type 0 = λ x. octets_cmp x (name_of file) ≡ Less in
+      let Q : List ℕ → Type 0 = λ y. octets_cmp (name_of f) y ≡ Less in
+      subst P is (subst Q (sym same) (last_is_greatest names name up (name_of f) (so.each f among).1)) in
       subst AreRising (sym (map-append name_of files (file ∷ []))) (all_pairs_push (λ a b. octets_cmp a b ≡ Less) (map name_of files) (name_of file) before below);
 }
   where

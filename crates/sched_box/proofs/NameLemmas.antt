@@ -1,5 +1,5 @@
 -- What the names of files say.
-use Rattle.std.proofs.Common.{◌≡◌, ◌≢◌, ◌↔◌, ◌∙◌, ℕ, ℤ, suc, zero, ◌+◌, ◌-◌, ◌<◌, ◌≤◌, Bool, true, IsTrue, List, [], ◌∷◌, ◌++◌, length, get_or, take, drop, codes, refl, sym, ap, subst, arith, length-append, append_assoc, Option, Some, None, MatchOption, Result, Ok, Err, IfOk, OnErr}
+use Rattle.std.proofs.Common.{◌≡◌, ◌≢◌, ◌∙◌, ℕ, ℤ, suc, ◌+◌, ◌-◌, ◌<◌, ◌≤◌, true, List, [], ◌∷◌, ◌++◌, length, get_or, take, drop, codes, refl, sym, ap, subst, arith, length-append, append_assoc, Option, Some, None, MatchOption, Result, Ok, Err, IfOk, OnErr}
 use Rattle.std.specs.Result.{result_ok}
 use Rattle.ical_lines.specs.declared.fault.Refusal.{Refusal}
 use Rattle.std.proofs.Math.Seq.{take-append_seam, get_or-append_seam}

@@ -1,11 +1,11 @@
 -- How far a run of the box has come: the files of its inbox that were answered, and what its outbox holds and may lose.
-use Rattle.std.specs.Prelude.{◌≡◌, ◌≢◌, ◌⊎◌, ◌<◌, ◌≤◌, ◌++◌, ◌∷◌, ℕ, ℤ, List, [], Bool, true, false, map, take, length, Option, Some, None, Contains, AllPairs, Result, Ok, Err, string_bytes}
+use Rattle.std.specs.Prelude.{◌≡◌, ◌≢◌, ◌⊎◌, ◌≤◌, ◌∷◌, ℕ, ℤ, List, [], Bool, true, false, map, take, length, Some, None, Contains, AllPairs, Result, Ok, Err, string_bytes}
 use Rattle.std.specs.Option.{unwrap_or}
 use Rattle.std.specs.declared.cmp.Ordering.TheVariants.{Less}
 use Rattle.sched_devices.specs.declared.folder.FolderFault.{FolderFault}
 use Rattle.sched_devices.specs.declared.folder.FolderFault.TheVariants as folder
 use Rattle.profile.specs.rooms.Revisions.{octets_cmp}
-use Rattle.profile.specs.streams.Folders.{AnswersFile, AnswersFiles, AreMessageFiles, AreSame, File, Image, IsBeginning, MessageFile, count_missing, with_files}
+use Rattle.profile.specs.streams.Folders.{AnswersFile, AnswersFiles, AreSame, File, Image, IsBeginning, MessageFile, count_missing, with_files}
 use Rattle.profile.specs.streams.Streams.{AllAnswers, AreObjects, Box}
 use Rattle.sched_box.specs.Books.{AreBooksOf}
 use Rattle.sched_box.specs.Boxes.{IsBreak}

@@ -1,7 +1,7 @@
 //! The names of a box's files: `dddddddd-STAMP.ics`, eight digits and the moment at which it is answered, for a message in the inbox, and the same
 //! with `.out` for its answers in the outbox. These names are roombox's own.
 
-ghost use Rattle.std.specs.Prelude.{◌≡◌, ◌↔◌, ◌++◌, ℕ, List, codes, length, string_bytes, IfOk, IfSome, IsNone, IsTrue, MatchOption};
+ghost use Rattle.std.specs.Prelude.{◌≡◌, ◌↔◌, ◌++◌, codes, length, string_bytes, IfOk, IsTrue, MatchOption};
 ghost use Rattle.std.specs.List.{list_all};
 ghost use Rattle.std.specs.Char.{is_ascii_digit};
 ghost use Rattle.std.specs.Str.Parse.{AllDigits};
@@ -20,7 +20,7 @@ pub struct MessageName {
 }
 
 impl MessageName {
-    ghost use Rattle.std.specs.Prelude.{◌≡◌, ◌++◌, List, ℕ, codes, string_bytes, IfOk, MatchOption};
+    ghost use Rattle.std.specs.Prelude.{◌≡◌, ◌++◌, codes, string_bytes, IfOk, MatchOption};
     ghost use Rattle.sched_box.specs.FileNames.{IsNamed, IsNoName, renamed};
 
     /// Reads a name. None where it isn't of this form or its stamp is no date: such a file is left alone.

@@ -1,17 +1,12 @@
 //! A box of folders: messages come as files of an inbox, and each of them is answered by a file of an outbox.
 
-ghost use Rattle.std.specs.Prelude.{◌≡◌, ◌≢◌, ◌⊎◌, ◌↔◌, ◌≤◌, ℕ, List, [], true, false, map, None, Some, IsNone, Contains, IfOk, IfErr, OnOk, OnErr, IsErrOf, IsTrue, string_bytes};
-ghost use Rattle.std.specs.List.Sorted.{IsSorted};
-ghost use Rattle.std.specs.Ordering.{nat_cmp};
-ghost use Rattle.std.specs.Cmp.Lexicographic.{slice_cmp};
-ghost use Rattle.profile.specs.streams.Folders.{AreMessageFiles, AreNames, Elapses, Image, LosesNamesAlone, IsMessageFile};
-ghost use Rattle.profile.specs.streams.Streams.{Box};
+ghost use Rattle.std.specs.Prelude.{◌≡◌, ◌⊎◌, ◌↔◌, ◌≤◌, ℕ, List, true, false, map, None, Some, IsNone, Contains, IfOk, IfErr, OnOk, OnErr, IsErrOf, IsTrue, string_bytes};
+ghost use Rattle.profile.specs.streams.Folders.{AreMessageFiles, AreNames, AreNamesSynced, Elapses, Image, IsMessageFile, LosesNamesAlone};
 ghost use Rattle.sched_devices.specs.Folder.{HasCause, IsKept};
 ghost use Rattle.sched_devices.specs.declared.folder.FolderFault.TheVariants as folder;
-ghost use Rattle.sched_box.specs.Books.{AreBooksOf};
 ghost use Rattle.sched_box.specs.Boxes.{HasRisen, IsNoDifference, Runs};
 ghost use Rattle.sched_box.specs.Config.{config_hosts};
-ghost use Rattle.sched_box.specs.Running.{AnswersMessage, AnswersOctets, AreApart, AreRising, answers_name, GoesOn, IsGained, IsWhole, MayGain, RunsOver, LeavesHeld, Settles, box_fault, file_of};
+ghost use Rattle.sched_box.specs.Running.{AnswersMessage, AnswersOctets, AreApart, AreRising, GoesOn, IsGained, IsWhole, LeavesHeld, MayGain, RunsOver, Settles, answers_name, box_fault, file_of};
 ghost use Rattle.sched_box.specs.declared.folders.BoxFault.TheVariants.{Device, Differs, Memory};
 
 use crate::books::Books;
@@ -91,6 +86,18 @@ fn sorted_names<F: Folder>(alloc: Global, place: &mut F) -> Result<Vec<String>, 
     Ok(names)
 }
 
+/// Syncs a folder: what an earlier run published in it may not be on the disk yet.
+fn sync_names<F: Folder>(place: &mut F) -> Result<(), FolderFault>
+    ensures synced { OnOk result (AreNamesSynced (F.image place.old) (F.may_leave place.old) (F.may_leave place.new)) }
+    ensures kept { IsKept F.is_known F.image F.temporary F.may_leave place.old place.new }
+    ensures time { Elapses (F.moment place.old) (F.moment place.new) (F.left_since place.old) (F.left_since place.new) (F.may_leave place.new) }
+    ensures not_missing { IsErrOf result folder.Missing → ⊥ }
+    ensures not_existing { IsErrOf result folder.Exists → ⊥ }
+    ensures cause { HasCause (F.failed place.old) (F.failed place.new) (IsErrOf result folder.Device) }
+{
+    place.sync_dir()
+}
+
 /// Puts names in the order of their octets, each once: a folder that isn't known may list one twice.
 fn put_in_order(names: &mut Vec<String>)
     ensures same { (name : List ℕ) → Contains (map string_bytes names.old.items) name ↔ Contains (map string_bytes names.new.items) name }
@@ -105,7 +112,9 @@ fn is_among(names: &[String], name: &str) -> bool
     requires { AreRising (map string_bytes names.now) }
     ensures { IsTrue result ↔ Contains (map string_bytes names.now) name.now }
 {
-    names.binary_search_by(|other| other.as_str().cmp(name)).is_ok()
+    names
+        .binary_search_by(|other| other.as_str().cmp(name))
+        .is_ok()
 }
 
 /// The messages of the inbox, in the order of the octets of their names. Files of other names are left alone.
@@ -168,7 +177,14 @@ fn answers_to(
 {
     let mut reader = octets;
     let mut answers = Vec::new(alloc);
-    match serve_objects(alloc, books, &mut reader, &mut answers, moment, MOST_OF_FILE) {
+    match serve_objects(
+        alloc,
+        books,
+        &mut reader,
+        &mut answers,
+        moment,
+        MOST_OF_FILE,
+    ) {
         Ok(_) => Ok(answers),
         // Octets in memory don't fail, and a file has fewer than may be read: what is wanting is memory.
         Err(_) => Err(BoxFault::Memory),
@@ -176,7 +192,7 @@ fn answers_to(
 }
 
 /// Has the answers to a message stand in the outbox: where a file of their name is there it is compared, else they are published.
-/// Whether they were published.
+/// Whether they were published; `Differs` where another file is there, which is left as it is.
 fn settle<O: Folder>(
     alloc: Global,
     outbox: &mut O,
@@ -309,10 +325,11 @@ impl BoxReport {
     }
 }
 
-/// Answers each file of the inbox, in the byte order of their names, by a file of the same stem in the outbox. All books are kept over all files,
-/// from empty ones. An answer that is there is compared, and the run ends where it differs; one that isn't is written, synced and published, and the
-/// folder synced, before the next file is read. So a stop at any moment leaves whole files, those of a beginning of the run, and a run after it goes on.
-/// Device comes only where a folder has failed.
+/// Answers each file of the inbox, in the byte order of their names, by a file of the same stem in the outbox. Files of other names are left alone. All
+/// books are kept over all files, from empty ones. An answer that is there is compared, and left as it is; one that isn't is written, synced and
+/// published, and the folder synced, before the next file is read. So a stop at any moment leaves whole files, the answers to the first of the files,
+/// and a later run goes on from there. `Device` comes only where a folder has failed. `Differs` comes at the first answer that differs from what the
+/// outbox holds under its name: nothing is published after it.
 pub fn run_box<I: Folder, O: Folder>(
     alloc: Global,
     inbox: &mut I,
@@ -323,10 +340,9 @@ pub fn run_box<I: Folder, O: Folder>(
     ensures kept { I.image inbox.new ≡ I.image inbox.old }
     ensures runs { I.is_known inbox.old ≡ true → O.is_known outbox.old ≡ true → LosesNamesAlone (O.image outbox.old) (O.may_leave outbox.old)
         → Runs (I.image inbox.old) (config_hosts config.now) (record { start = O.image outbox.old; now = O.image outbox.new; first = O.moment outbox.old; last = O.moment outbox.new })
-            (O.may_leave outbox.old) (O.may_leave outbox.new) (O.left_since outbox.new) result }
+        (O.may_leave outbox.old) (O.may_leave outbox.new) (O.left_since outbox.new) result }
 {
-    // What an earlier run published may not be on the disk yet.
-    outbox.sync_dir()?;
+    sync_names(outbox)?;
     let files = message_files(alloc, inbox)?;
     let theirs = sorted_names(alloc, outbox)?;
     let mut books = Books::new(alloc, config)?;

@@ -18,5 +18,7 @@ pub use config::Config;
 pub use fault::{ServeFault, StreamFault};
 pub use folders::{BoxFault, BoxReport, run_box};
 pub use preamble::read_preamble;
-pub use sched_devices::{DeviceReader, DeviceWriter, Folder, FolderFault, Input, Output, WriteFault};
+pub use sched_devices::{
+    DeviceReader, DeviceWriter, Folder, FolderFault, Input, Output, WriteFault,
+};
 pub use serving::{ServeReport, keep, serve, serve_stream};

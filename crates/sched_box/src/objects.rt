@@ -8,8 +8,8 @@ ghost use Rattle.sched_box.specs.Objects.{Cuts, IsPieceFault, LendsAfter, LendsN
 ghost use Rattle.sched_box.specs.declared.fault.ServeFault.TheVariants.{Read};
 
 use crate::fault::ServeFault;
-use sched_devices::{Input, lend};
 use ical_lines::Cutter;
+use sched_devices::{Input, lend};
 use std::alloc::{AllocError, Global};
 
 /// The most octets that are read of a stream; this profile's choice.

@@ -16,13 +16,12 @@ ghost use Rattle.sched_box.specs.Serving.{AnswersWhole, BooksServe, KeepsTexts, 
 use crate::books::Books;
 use crate::config::Config;
 use crate::fault::{ServeFault, StreamFault};
-use sched_devices::Input;
 use crate::objects::{MOST_OCTETS, Objects};
-use sched_devices::{Nowhere, Output, WriteFault};
 use crate::preamble::read_preamble;
 use ical_lines::Refusal;
 use ical_values::{Address, Stamp};
 use room_books::served_texts_pass;
+use sched_devices::{Input, Nowhere, Output, WriteFault};
 use std::alloc::{AllocError, Global};
 
 /// How many objects a stream had, and how many of them were refused.

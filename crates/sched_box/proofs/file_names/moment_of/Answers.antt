@@ -1,4 +1,4 @@
-use Rattle.std.proofs.Common.{◌∙◌, ◌≡◌, sym, arith, Some, None, subst, ap, length, List, ℕ, true≢false}
+use Rattle.std.proofs.Common.{◌∙◌, ◌≡◌, sym, arith, Some, None, subst, length, List, ℕ, true≢false}
 use Rattle.std.proofs.lemmas.Str.Pattern.{split_parts}
 use Rattle.std.specs.Str.Parse.{AllDigits}
 use Rattle.sched_box.proofs.NameLemmas.{none_exit, none_uncut, none_whole, none_numbered, none_stamped, named, read_exit}

@@ -1,13 +1,11 @@
-use Rattle.std.proofs.Common.{◌≡◌, ◌∙◌, ◌+◌, ◌≤◌, ◌++◌, ◌∷◌, [], List, ℕ, Ok, Err, Result, Bool, true, refl, take, get_or, sym, ap, subst, arith, string_bytes, map, Contains}
+use Rattle.std.proofs.Common.{◌≡◌, ◌∙◌, ◌+◌, ◌++◌, ◌∷◌, [], List, ℕ, Bool, true, refl, take, sym, ap, subst, arith, Contains}
 use Rattle.std.proofs.lemmas.Grind.{common_steps}
 use Rattle.std.proofs.lemmas.List.{take_more}
 use Rattle.sched_box.specs.declared.books.Books.{Books}
 use Rattle.std.proofs.lemmas.Result.{err_from_is_err_and}
 use Rattle.profile.specs.streams.Folders.{Image, IsMessageFile}
-use Rattle.sched_box.specs.Running.{AnswersMessage, Course, HasAnswered, LeavesHeld, RunsOver, answers_name, file_of}
+use Rattle.sched_box.specs.Running.{AnswersMessage, HasAnswered, LeavesHeld, answers_name, file_of}
 use Rattle.sched_box.specs.declared.file_names.MessageName.{MessageName}
-use Rattle.sched_box.specs.declared.folders.BoxFault.{BoxFault}
-use Rattle.sched_box.specs.declared.folders.BoxReport.{BoxReport}
 use Rattle.cal_events.proofs.shared_lemmas.InOneOrder.{in_mapped}
 use Rattle.sched_box.proofs.FolderLemmas.{ended_between, free_where_not, held_where_listed, none_is, not_named, run_ended, settled_last, settled_more}
 use Rattle.sched_box.proofs.folders.answer_all.Goals as goal
@@ -85,7 +83,7 @@ loop-file-preserved g c =
           let apart = not_named files i name c.requires.apart (omega arith) c.file-item.is so.answers so.named in
           let more = settled_more _ (take i files) name c.loop-file.books c.answers_of.new.books _ (g.O.Folder.image c.settle.new.outbox) _ _ _ _ _ _ (g.O.Folder.may_leave c.loop-file.outbox) (g.O.Folder.may_leave c.settle.new.outbox) c.loop-file.report c.deref.result.now so apart (c.in_ok-is_new.ensures.time known') c.with_file-report.result c.in_ok-is_new.is_new one (c.in_ok-is_new.ensures.settles known') c.with_file-report.ensures.files c.with_file-report.ensures.written in
           let P : List MessageName → Type 0 = λ l. HasAnswered (record { known = g.I.Folder.is_known c.args.inbox.now; inbox = g.I.Folder.image c.args.inbox.now; books = c.args.books.now; start = g.O.Folder.image c.args.outbox.now; first = g.O.Folder.moment c.args.outbox.now })
-              l c.answers_of.new.books (g.O.Folder.image c.settle.new.outbox) (g.O.Folder.moment c.settle.new.outbox) (LeavesHeld (g.O.Folder.image c.args.outbox.now) (g.O.Folder.may_leave c.args.outbox.now))
-              (g.O.Folder.left_since c.args.outbox.now) (g.O.Folder.left_since c.settle.new.outbox) (g.O.Folder.may_leave c.settle.new.outbox) c.with_file-report.result in
+          l c.answers_of.new.books (g.O.Folder.image c.settle.new.outbox) (g.O.Folder.moment c.settle.new.outbox) (LeavesHeld (g.O.Folder.image c.args.outbox.now) (g.O.Folder.may_leave c.args.outbox.now))
+          (g.O.Folder.left_since c.args.outbox.now) (g.O.Folder.left_since c.settle.new.outbox) (g.O.Folder.may_leave c.settle.new.outbox) c.with_file-report.result in
           subst P (sym front) more;
     }

@@ -1,4 +1,4 @@
-use Rattle.std.proofs.Common.{◌∙◌, ◌≡◌, ◌++◌, List, ℕ, codes, sym, ap, string_bytes}
+use Rattle.std.proofs.Common.{◌∙◌, ◌≡◌, ◌++◌, codes, ap, string_bytes}
 use Rattle.sched_box.specs.FileNames.{name_stem}
 use Rattle.sched_box.proofs.NameLemmas.{cut_or}
 use Rattle.sched_box.proofs.file_names.MessageName.answer_name.Goals as goal

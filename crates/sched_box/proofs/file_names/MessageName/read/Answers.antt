@@ -1,4 +1,4 @@
-use Rattle.std.proofs.Common.{◌∙◌, sym, arith, Some, None, subst, ap}
+use Rattle.std.proofs.Common.{subst}
 use Rattle.sched_box.specs.FileNames.{IsNoName}
 use Rattle.sched_box.proofs.NameLemmas.{none_exit}
 use Rattle.sched_box.proofs.file_names.MessageName.read.Goals as goal
