@@ -45,7 +45,8 @@ bin/worked_examples: bin/roombox FORCE
 	@-cd crates/worked_examples && $(RT) run < /dev/null > /dev/null 2> ../../out/build.log
 	@cp crates/worked_examples/out/worked_examples bin/worked_examples || { cat out/build.log; exit 1; }
 
-# One table: serving, reading, rules and checking, with sizes, times, peak memory and growth. It takes about half a minute.
+# One table: serving, reading, rules, checking and boxes, with sizes, times, peak memory and growth. It takes about half a minute, and then as long as the
+# disk takes for 20,000 answers or more, each synced twice.
 bench: bin/roombox bin/text_examples bin/worked_examples
 	python3 bench/bench.py bin/roombox bin/text_examples bin/worked_examples
 

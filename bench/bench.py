@@ -599,11 +599,13 @@ def main():
         seconds, peak, size = quickly(program, calendar_text, certificate_text)
         line(work, 1, seconds, f"{size / seconds / 1e6:.0f} MB/s", peak)
     # their own modules use this one
+    from boxes import boxes
     from residues import residues
     from spans import spans
 
     spans(program, sys.argv[3])
     residues(program)
+    boxes(program)
 
 
 if __name__ == "__main__":

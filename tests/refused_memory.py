@@ -92,6 +92,48 @@ def sweep(name, words, stream, wholes, shim, status=0):
     sys.exit(f"{name}: no end")
 
 
+def box_of(folder, config, messages):
+    """A configuration, an inbox of these messages under their numbers and one moment, and an empty outbox: the words of `box`, and the outbox."""
+    paths = [os.path.join(folder, name) for name in ("config", "inbox", "outbox")]
+    with open(paths[0], "wb") as file:
+        file.write(config)
+    for path in paths[1:]:
+        os.mkdir(path)
+    for name, octets in messages.items():
+        with open(os.path.join(paths[1], name + ".ics"), "wb") as file:
+            file.write(octets)
+    return ["box", *paths], paths[2]
+
+
+def held(outbox):
+    """What the outbox holds under each name, but the temporary."""
+    return {name: open(os.path.join(outbox, name), "rb").read() for name in sorted(os.listdir(outbox)) if not name.startswith(".")}
+
+
+def sweep_box(name, program, config, messages, answers, shim):
+    """The same of a box: each end leaves the answers to the first files, and another run those to all of them."""
+    whole = {name + ".out": answer for name, answer in zip(sorted(messages), answers)}
+    beginnings = [dict(list(whole.items())[:count]) for count in range(len(whole) + 1)]
+    refused, unmoved = 0, 0
+    for number in range(1, 100_000):
+        with tempfile.TemporaryDirectory() as folder:
+            words, outbox = box_of(folder, config, messages)
+            result = run([program, *words], b"", shim, number)
+            left = held(outbox)
+            if (result.returncode, left) == (0, whole):
+                unmoved += 1
+                if unmoved > 100:
+                    return refused
+                continue
+            unmoved, refused = 0, refused + 1
+            if (result.returncode, result.stdout, result.stderr) != (5, b"", b"roombox: memory\n") or left not in beginnings:
+                sys.exit(f"{name}: allocation {number} refused: {result}, {left}")
+            again = subprocess.run([program, *words], capture_output=True)
+            if (again.returncode, again.stderr, held(outbox)) != (0, b"", whole):
+                sys.exit(f"{name}: after allocation {number} was refused: {again}, {held(outbox)}")
+    sys.exit(f"{name}: no end")
+
+
 def main():
     program = sys.argv[1]
     with tempfile.TemporaryDirectory() as folder:
@@ -127,6 +169,10 @@ def main():
         ]
         for name, words, stream, wholes, *status in rows:
             print(f"{name}: {sweep(name, words, stream, wholes, shim, *status)} allocations, each refused in turn")
+        now, hosts = read("preamble").rstrip(b"\n").split(b"\n", 1)
+        messages = {f"{number:08}-{now.split()[1].decode()}": read(message) for number, message in enumerate(("request-a", "request-b-busy"))}
+        name = "a box of two files"
+        print(f"{name}: {sweep_box(name, program, hosts, messages, [accepted, declined], shim)} allocations, each refused in turn")
 
 
 main()

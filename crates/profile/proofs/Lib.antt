@@ -11,7 +11,6 @@ mod ResidueExamples
 mod StartExamples
 mod ConfirmedExamples
 mod OrganiserExamples
-mod FolderExamples
 pub mod Repeats
 pub mod ResidueStarts
 pub mod ZoneRepeats

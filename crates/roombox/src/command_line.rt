@@ -5,7 +5,7 @@ use clap::{Arg, ArgAction, ArgMatches, Command, Error};
 use sched_cli::commands::KeptText;
 use std::alloc::{AllocError, Global};
 
-/// What a command line asks for. ROOM, N and NUMBER are still words here; CALENDAR and CERTIFICATE are paths.
+/// What a command line asks for. ROOM, N and NUMBER are still words here; CALENDAR, CERTIFICATE, CONFIG, INBOX and OUTBOX are paths.
 #[derive(Clone, Copy)]
 pub enum Invocation<'a> {
     Serve {
@@ -26,6 +26,11 @@ pub enum Invocation<'a> {
     Explain {
         number: Option<&'a str>,
     },
+    Box {
+        config: &'a str,
+        inbox: &'a str,
+        outbox: &'a str,
+    },
 }
 
 const ROOMBOX: &str =
@@ -38,7 +43,7 @@ Exit status:
   0  done, also where objects of a stream were refused
   1  the checker's no; the object that explain reads is refused
   2  the words of the command line can't be read
-  3  the input is refused, or too long
+  3  the input is refused or too long, or an answer of `roombox box` differs
   4  a device failed
   5  out of memory
 
@@ -127,6 +132,28 @@ has that number; 4 a device failed; 5 out of memory.
 Example: roombox explain 43
 Example: roombox explain < invitation.ics";
 
+const BOX: &str =
+    "Answers each message of a folder by a file of another folder, also after a crash.";
+
+const BOX_MORE: &str = "\
+Input: CONFIG has the lines of a preamble, but for `now`. In INBOX each file of the name
+  00000001-20250102T000000Z.ics
+has objects, as `roombox serve` reads them behind its preamble, and the moment of its name is
+their `now`. The digits are any eight. Files of other names are left alone. All are taken by one
+box, in the byte order of their names.
+
+Output: for each of them a file in OUTBOX, whole or not at all, of the name
+  00000001-20250102T000000Z.out
+with what `roombox serve` writes. One that is there is compared, and never written again: run it
+again after a crash, and when files have come. The inbox has to keep all files, since the books
+are made from them. On a terminal it says how many files it has read, after each 1000th.
+
+Exit status: 0 done: each file is answered; 2 usage; 3 CONFIG is refused (90), or a file of
+OUTBOX differs from the answer: standard error has its name; 4 a file or a folder can't be used;
+5 out of memory. docs/PROFILE.md lists all numbers.
+
+Example: roombox box rooms.conf inbox outbox";
+
 /// How many instances are printed where no limit is given.
 const LIMIT: &str = "100";
 
@@ -138,6 +165,12 @@ const CALENDAR_HELP: &str = "The file of the calendar, as `roombox keep` prints 
 
 const CERTIFICATE_HELP: &str =
     "The file of its certificate, as `roombox keep --certificate` prints it";
+
+const CONFIG_HELP: &str = "The file of the rooms and organisers, a line each";
+
+const INBOX_HELP: &str = "The folder of the messages, each written whole before it gets its name";
+
+const OUTBOX_HELP: &str = "The folder of the answers, which this program alone writes";
 
 /// Reads the words; the first is the program's name.
 pub fn read_words<'a>(alloc: Global, words: &'a [String]) -> Result<Invocation<'a>, Error> {
@@ -179,7 +212,8 @@ fn program<'a>(alloc: Global) -> Result<Command<'a>, AllocError> {
         .subcommand(keep_command(alloc)?)?
         .subcommand(check_command(alloc)?)?
         .subcommand(expand_command(alloc)?)?
-        .subcommand(explain_command(alloc)?)
+        .subcommand(explain_command(alloc)?)?
+        .subcommand(box_command(alloc)?)
 }
 
 fn serve_command<'a>(alloc: Global) -> Result<Command<'a>, AllocError> {
@@ -231,6 +265,15 @@ fn explain_command<'a>(alloc: Global) -> Result<Command<'a>, AllocError> {
         .arg(Arg::new(alloc, "NUMBER").help(NUMBER_HELP))
 }
 
+fn box_command<'a>(alloc: Global) -> Result<Command<'a>, AllocError> {
+    Command::new(alloc, "box")
+        .about(BOX)
+        .after_help(BOX_MORE)
+        .arg(required(alloc, "CONFIG", CONFIG_HELP))?
+        .arg(required(alloc, "INBOX", INBOX_HELP))?
+        .arg(required(alloc, "OUTBOX", OUTBOX_HELP))
+}
+
 fn required<'a>(alloc: Global, name: &'a str, help: &'a str) -> Arg<'a> {
     Arg::new(alloc, name).required(true).help(help)
 }
@@ -251,6 +294,11 @@ fn invocation_of<'a>(matches: &ArgMatches<'a>) -> Invocation<'a> {
         },
         Some(("explain", words)) => Invocation::Explain {
             number: words.get_str("NUMBER"),
+        },
+        Some(("box", words)) => Invocation::Box {
+            config: words.get_str("CONFIG").unwrap_or(""),
+            inbox: words.get_str("INBOX").unwrap_or(""),
+            outbox: words.get_str("OUTBOX").unwrap_or(""),
         },
         Some(("serve", words)) => Invocation::Serve {
             report: words.get_flag("report"),

@@ -1,15 +1,20 @@
 //! The real reader, writer and files: `run` hands them to the commands.
 
 use crate::command_line::{BadWord, Invocation, fault_of, read_words};
+use crate::progress::Progress;
 use ical_lines::Fault;
 use ical_values::Address;
+use sched_box::config::LONGEST;
 use sched_box::{DeviceReader, DeviceWriter, Output};
 use sched_cli::commands::{KeptText, run_check, run_keep, run_serve};
 use sched_cli::status::{USAGE, report_device, report_memory, report_too_long};
-use sched_cli::{Tally, run_expand, run_explain, run_explain_object, run_serve_report};
+use sched_cli::{
+    Tally, run_expand, run_explain, run_explain_object, run_folders, run_serve_report,
+};
+use sched_devices::DiskFolder;
 use std::alloc::Global;
 use std::fs::File;
-use std::io::{self, ErrorKind, Read, Write};
+use std::io::{self, ErrorKind, IsTerminal, Read, Stderr, Write};
 use std::rt::Runtime;
 use std::{env, str};
 
@@ -21,6 +26,9 @@ const MOST_INSTANCES: usize = 100_000;
 
 /// The octets that `expand` and `explain` read: one more than an object may have.
 const OBJECT_OCTETS: u64 = 1_048_577;
+
+/// The octets that `box` reads of a configuration: one more than it may have.
+const CONFIG_OCTETS: u64 = LONGEST as u64 + 1;
 
 /// Standard error, as a writer of text.
 #[derive(Drop)]
@@ -50,13 +58,13 @@ enum FileFault {
 }
 
 /// Runs the program on the words of its command line, and gives its status.
-pub fn run<R: Runtime + AllocGlobal>(rt: &R) -> u8 {
+pub fn run<R: Runtime + AllocGlobal>(rt: &R, stderr: Stderr) -> u8 {
     let alloc = rt.alloc();
     let Ok(words) = words_of(rt, alloc) else {
         return no_memory(rt);
     };
     match read_words(alloc, words.as_slice()) {
-        Ok(invocation) => invoke(rt, alloc, invocation),
+        Ok(invocation) => invoke(rt, alloc, stderr, invocation),
         Err(error) => print_usage(rt, &error),
     }
 }
@@ -89,7 +97,12 @@ fn words_of<R: Runtime + AllocGlobal>(rt: &R, alloc: Global) -> io::Result<Vec<S
     Ok(env::args(rt)?.collect(alloc)?)
 }
 
-fn invoke<R: Runtime + AllocGlobal>(rt: &R, alloc: Global, invocation: Invocation<'_>) -> u8 {
+fn invoke<R: Runtime + AllocGlobal>(
+    rt: &R,
+    alloc: Global,
+    stderr: Stderr,
+    invocation: Invocation<'_>,
+) -> u8 {
     match invocation {
         Invocation::Serve { report } => invoke_serve(rt, alloc, report),
         Invocation::Keep { room, kept } => match read_room(rt, alloc, room) {
@@ -112,6 +125,11 @@ fn invoke<R: Runtime + AllocGlobal>(rt: &R, alloc: Global, invocation: Invocatio
             number: Some(number),
         } => invoke_explain(rt, alloc, number),
         Invocation::Explain { number: None } => invoke_explain_object(rt, alloc),
+        Invocation::Box {
+            config,
+            inbox,
+            outbox,
+        } => invoke_box(rt, alloc, stderr, config, inbox, outbox),
     }
 }
 
@@ -238,6 +256,41 @@ fn invoke_explain<R: Runtime + AllocGlobal>(rt: &R, alloc: Global, word: &str) -
     status
 }
 
+/// Answers the files of a folder; where standard error is a terminal, it shows how far that is.
+fn invoke_box<R: Runtime + AllocGlobal>(
+    rt: &R,
+    alloc: Global,
+    stderr: Stderr,
+    config: &str,
+    inbox: &str,
+    outbox: &str,
+) -> u8 {
+    let mut errors = DeviceWriter::new(ErrorPrinter { to: rt });
+    let config = match read_front(rt, alloc, config, CONFIG_OCTETS) {
+        Ok(octets) => octets,
+        Err(fault) => return report_file(&mut errors, fault),
+    };
+    let mut inbox = DiskFolder::new(rt, inbox);
+    let mut outbox = DiskFolder::new(rt, outbox);
+    if stderr.is_terminal() {
+        let mut shown = Progress::new(rt, inbox);
+        return run_folders(
+            alloc,
+            config.as_slice(),
+            &mut shown,
+            &mut outbox,
+            &mut errors,
+        );
+    }
+    run_folders(
+        alloc,
+        config.as_slice(),
+        &mut inbox,
+        &mut outbox,
+        &mut errors,
+    )
+}
+
 fn report_file<E: Output>(errors: &mut E, fault: FileFault) -> u8 {
     match fault {
         FileFault::Device => report_device(errors),
@@ -252,18 +305,27 @@ fn read_file<R: Runtime + AllocGlobal>(
     alloc: Global,
     path: &str,
 ) -> Result<Vec<u8>, FileFault> {
-    let Ok(file) = File::open(rt, path) else {
-        return Err(FileFault::Device);
-    };
-    let mut octets = Vec::new(alloc);
-    if let Err(error) = file.take(MOST_OCTETS + 1).read_to_end(&mut octets) {
-        return Err(match error.kind() {
-            ErrorKind::OutOfMemory => FileFault::Memory,
-            _ => FileFault::Device,
-        });
-    }
+    let octets = read_front(rt, alloc, path, MOST_OCTETS + 1)?;
     if octets.len() as u64 > MOST_OCTETS {
         return Err(FileFault::TooLong);
     }
     Ok(octets)
+}
+
+/// The first octets of a file, at most so many.
+fn read_front<R: Runtime + AllocGlobal>(
+    rt: &R,
+    alloc: Global,
+    path: &str,
+    most: u64,
+) -> Result<Vec<u8>, FileFault> {
+    let Ok(file) = File::open(rt, path) else {
+        return Err(FileFault::Device);
+    };
+    let mut octets = Vec::new(alloc);
+    match file.take(most).read_to_end(&mut octets) {
+        Ok(_) => Ok(octets),
+        Err(error) if error.kind() == ErrorKind::OutOfMemory => Err(FileFault::Memory),
+        Err(_) => Err(FileFault::Device),
+    }
 }

@@ -3,9 +3,10 @@
 
 mod command_line;
 mod host;
+mod progress;
 
 use std::process::ExitCode;
 
 fn main(rt: HostRuntime) -> ExitCode {
-    ExitCode::from(host::run(&rt))
+    ExitCode::from(host::run(&rt, rt.stderr()))
 }

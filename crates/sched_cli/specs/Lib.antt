@@ -5,4 +5,5 @@ pub mod Explained
 pub mod Expanding
 pub mod Places
 pub mod Reporting
+pub mod Running
 pub mod Searching

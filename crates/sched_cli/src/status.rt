@@ -3,10 +3,11 @@
 ghost use Rattle.std.specs.Prelude.{◌≡◌, OnErr, OnOk};
 ghost use Rattle.std.specs.Io.KnownBytes.{Appends};
 ghost use Rattle.sched_cli.specs.Commands.{SaysLine, device_text, fault_status, fault_text, memory_text, read_status, read_text, refused_text, too_long_text, write_status, write_text};
+ghost use Rattle.sched_cli.specs.Running.{box_status, box_text, differs_text};
 
 use ical_lines::{Fault, Refusal};
 use itoa::Buffer;
-use sched_box::{Output, ServeFault, StreamFault, WriteFault};
+use sched_box::{BoxFault, Output, ServeFault, StreamFault, WriteFault};
 
 /// Done. Objects that were refused in a stream leave it.
 pub const DONE: u8 = 0;
@@ -55,6 +56,35 @@ pub fn report_write<E: Output>(errors: &mut E, fault: WriteFault) -> u8
         WriteFault::Failed => report_device(errors),
         WriteFault::Memory => report_memory(errors),
     }
+}
+
+/// Says why a run of the box ended before its end, and gives the status for it.
+pub fn report_box<E: Output>(errors: &mut E, fault: BoxFault) -> u8
+    ensures status { result ≡ box_status fault }
+    ensures says { SaysLine (box_text fault) (E.contents errors.old) (E.contents errors.new) (E.may_lose errors.new) }
+{
+    match fault {
+        BoxFault::Device => report_device(errors),
+        BoxFault::Differs(name) => report_differs(errors, name.as_str()),
+        BoxFault::Memory => report_memory(errors),
+    }
+}
+
+/// Says which file of the outbox differs from what the box answers.
+fn report_differs<E: Output>(errors: &mut E, name: &str) -> u8
+    ensures status { result ≡ 3 }
+    ensures says { SaysLine (differs_text name.now) (E.contents errors.old) (E.contents errors.new) (E.may_lose errors.new) }
+{
+    let _ = say_differs(errors, name);
+    REFUSED
+}
+
+fn say_differs<E: Output>(errors: &mut E, name: &str) -> Result<(), WriteFault>
+    ensures { SaysLine (differs_text name.now) (E.contents errors.old) (E.contents errors.new) (E.may_lose errors.new) }
+{
+    errors.put(b"roombox: differs ")?;
+    errors.put(name.as_bytes())?;
+    errors.put(b"\n")
 }
 
 /// Says that the input is refused, and with which number.

@@ -121,7 +121,7 @@ impl<W: Write + Drop> Output for DeviceWriter<W> {
 }
 
 /// Writes octets whole, and flushes them.
-fn write_whole<W: Write>(writer: &mut W, octets: &[u8]) -> Result<(), WriteFault>
+pub(crate) fn write_whole<W: Write>(writer: &mut W, octets: &[u8]) -> Result<(), WriteFault>
     ensures written { OnOk result (Appends (W.contents writer.old) (W.contents writer.new) octets.now) }
     ensures fault { IfErr result (λ fault. fault ≡ WriteFault.Failed) }
     ensures cut { OnErr result ((n : ℕ) × Appends (W.contents writer.old) (W.contents writer.new) (take n octets.now)) }

@@ -1,0 +1,49 @@
+-- What a run over folders says, and what it leaves.
+use Rattle.std.specs.Prelude.{◌≡◌, ◌⊎◌, ℕ, Bool, List, ◌++◌, codes, string_bytes, Option, Result, Ok, Err}
+use Rattle.std.specs.Io.KnownBytes.{Keeps}
+use Rattle.profile.specs.streams.Streams.{Config, IsConfiguration}
+use Rattle.sched_box.specs.declared.folders.BoxFault.{BoxFault}
+use Rattle.sched_box.specs.declared.folders.BoxFault.TheVariants.{Device, Differs, Memory}
+use Rattle.sched_box.specs.declared.folders.BoxReport.{BoxReport}
+use Rattle.sched_cli.specs.Commands.{SaysLine, device_text, memory_text, refused_text}
+
+abbrev pub differs_text : List ℕ → List ℕ
+differs_text name = codes "roombox: differs " ++ (name ++ codes "\n")
+
+-- what is said where a run of the box ends before its end
+abbrev pub box_text : BoxFault → List ℕ
+box_text Device = device_text
+box_text (Differs name) = differs_text (string_bytes name)
+box_text Memory = memory_text
+
+-- 3 where an answer differs, 4 where a folder failed, 5 where memory was refused
+abbrev pub box_status : BoxFault → ℕ
+box_status Device = 4
+box_status (Differs name) = 3
+box_status Memory = 5
+
+-- 0 where all files are answered
+abbrev pub run_status : Result BoxReport BoxFault → ℕ
+run_status (Ok report) = 0
+run_status (Err fault) = box_status fault
+
+-- what is said at its end
+abbrev pub SaysRun : Result BoxReport BoxFault → Option (List ℕ) → Option (List ℕ) → Bool → Type 0
+SaysRun (Ok report) old new lost = Keeps old new
+SaysRun (Err fault) old new lost = SaysLine (box_text fault) old new lost
+
+-- no box was run: the octets are no configuration, and that was said; or memory was refused
+abbrev pub RunsNone : ℕ → List ℕ → Option (List ℕ) → Option (List ℕ) → Bool → Type 0
+RunsNone status config old new lost =
+    ((status ≡ 3) × ((closed : Bool) (hosts : Config) → IsConfiguration closed config hosts → ⊥) × SaysLine (refused_text 90) old new lost)
+    ⊎ ((status ≡ 5) × SaysLine memory_text old new lost)
+
+-- the octets are the configuration of these hosts, a run of their box ended so, this is the status for it, and this was said
+pub record RunsWith (status : ℕ) (config : List ℕ) (MayEnd : Config → Result BoxReport BoxFault → Type 0) (old new : Option (List ℕ)) (lost : Bool) : Type 0 where
+  pub closed : Bool
+  pub hosts : Config
+  pub spells : IsConfiguration closed config hosts
+  pub ended : Result BoxReport BoxFault
+  pub runs : MayEnd hosts ended
+  pub status_is : status ≡ run_status ended
+  pub said : SaysRun ended old new lost

@@ -1,0 +1,39 @@
+//! `box`: answers the files of one folder by files of another.
+
+ghost use Rattle.std.specs.Prelude.{◌≡◌, ◌⊎◌, true};
+ghost use Rattle.profile.specs.streams.Folders.{LosesNamesAlone};
+ghost use Rattle.sched_box.specs.Boxes.{HasRisen, Runs};
+ghost use Rattle.sched_cli.specs.Running.{RunsNone, RunsWith};
+
+use crate::status::{DONE, report_box, report_read};
+use sched_box::{Config, Folder, Output, run_box};
+use std::alloc::Global;
+
+/// `box`: reads a configuration, and answers each file of the inbox by one of the outbox. Gives 0 where all are answered, 3 where the
+/// configuration is refused or an answer that is there differs, 4 where a folder failed, and 5 where memory was refused.
+pub fn run_folders<I: Folder, O: Folder, E: Output>(
+    alloc: Global,
+    config: &[u8],
+    inbox: &mut I,
+    outbox: &mut O,
+    errors: &mut E,
+) -> u8
+    ensures status { (result ≡ 0) ⊎ (result ≡ 3) ⊎ (result ≡ 4) ⊎ (result ≡ 5) }
+    ensures device { result ≡ 4 → HasRisen (I.failed inbox.old) (I.failed inbox.new) ⊎ HasRisen (O.failed outbox.old) (O.failed outbox.new) }
+    ensures kept { I.image inbox.new ≡ I.image inbox.old }
+    ensures runs { (RunsNone result config.now (E.contents errors.old) (E.contents errors.new) (E.may_lose errors.new) × (inbox.new ≡ inbox.old) × (outbox.new ≡ outbox.old))
+        ⊎ RunsWith result config.now
+        (λ hosts ended. I.is_known inbox.old ≡ true → O.is_known outbox.old ≡ true → LosesNamesAlone (O.image outbox.old) (O.may_leave outbox.old)
+        → Runs (I.image inbox.old) hosts (record { start = O.image outbox.old; now = O.image outbox.new; first = O.moment outbox.old; last = O.moment outbox.new })
+        (O.may_leave outbox.old) (O.may_leave outbox.new) (O.left_since outbox.new) ended)
+        (E.contents errors.old) (E.contents errors.new) (E.may_lose errors.new) }
+{
+    let config = match Config::read(alloc, config) {
+        Ok(config) => config,
+        Err(fault) => return report_read(errors, fault),
+    };
+    match run_box(alloc, inbox, outbox, &config) {
+        Ok(_) => DONE,
+        Err(fault) => report_box(errors, fault),
+    }
+}

@@ -1,0 +1,26 @@
+# Completion of rb in bash: `source docs/rb.bash`. Made by bench/man_page.py from the help of rb.
+
+_rb() {
+    local word=${COMP_WORDS[COMP_CWORD]} options="serve keep check expand explain box --help --version" at
+    for ((at = 1; at < COMP_CWORD; at++)); do
+        case ${COMP_WORDS[at]} in
+        serve | keep | check | expand | explain | box) break ;;
+        esac
+    done
+    COMPREPLY=()
+    if ((at < COMP_CWORD)); then
+        # behind a command a word that begins no option is the name of a file, or not known
+        [[ $word == -* ]] || return
+    fi
+    case ${COMP_WORDS[at]} in
+    serve) options="--report --help" ;;
+    keep) options="--certificate --help" ;;
+    check) options="--help" ;;
+    expand) options="--limit --help" ;;
+    explain) options="--help" ;;
+    box) options="--help" ;;
+    esac
+    mapfile -t COMPREPLY < <(compgen -W "$options" -- "$word")
+}
+
+complete -o default -F _rb rb
