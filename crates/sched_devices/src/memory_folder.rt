@@ -226,6 +226,7 @@ impl Folder for MemoryFolder {
         }
         let file = self.temporary.named(self.alloc, name)?;
         let files = with_file(self.alloc, &self.files, file)?;
+        // All that may be refused memory comes before the change. Where the call fails, a moment more of the same content does no harm.
         keep(self.alloc, &self.files, &mut self.past)?;
         self.log.begin(call)?;
         self.files = files;
