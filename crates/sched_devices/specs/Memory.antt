@@ -2,8 +2,8 @@
 use Rattle.std.specs.Prelude.{◌≡◌, ◌≢◌, ◌⊎◌, ◌||◌, not, ℕ, Bool, true, false, if◌then◌else◌, List, [], ◌∷◌, length, drop, map, filter, find, Option, None, Some, option_map, AllPairs, Vec}
 use Rattle.std.specs.Str.{bytes_eq}
 use Rattle.std.specs.declared.alloc.Global.{Global}
-use Rattle.profile.specs.streams.Folders.{Image, Temporary}
 use mathlib.Core.Logic.{inl, inr}
+use Rattle.profile.specs.streams.Folders.{Image, Temporary}
 
 -- ---- what it holds
 
@@ -82,7 +82,8 @@ none_earlier [] left had = had
 none_earlier (files ∷ past) left had = none_earlier past left had
 
 -- since this moment only what it may leave now
-pub only_left : (past : List (Vec HeldFile Global)) (files : List HeldFile) (left : Image) → LeftSince past files (length past) left → MayLeave files left
+pub only_left : (past : List (Vec HeldFile Global)) (files : List HeldFile) (left : Image)
+    → LeftSince past files (length past) left → MayLeave files left
 only_left past files left (inl now) = now
 only_left past files left (inr had) = absurd (none_earlier past left had)
 

@@ -99,7 +99,8 @@ impl CallLog {
         ensures noted { OnOk result (self.new.calls.items ≡ self.old.calls.items ++ call ∷ []) }
         ensures planned { OnOk result (fails self.old.plan (length self.old.calls.items + 1) ≡ false) }
         ensures works { OnOk result (self.new.failures ≡ self.old.failures) }
-        ensures stops { IfErr result (IsNotDone self.old.plan self.old.calls.items call self.old.failures self.new.calls.items self.new.failures) }
+        ensures stops { IfErr result
+            (IsNotDone self.old.plan self.old.calls.items call self.old.failures self.new.calls.items self.new.failures) }
         ensures plan { self.new.plan ≡ self.old.plan }
         ensures not_missing { IsErrOf result Missing → ⊥ }
         ensures not_existing { IsErrOf result Exists → ⊥ }
@@ -119,7 +120,8 @@ impl CallLog {
         ensures planned { OnOk result (fails_when_done self.old.plan (length self.old.calls.items) ≡ false) }
         ensures works { OnOk result (self.new.failures ≡ self.old.failures) }
         ensures fault { IfErr result (λ fault. fault ≡ Device) }
-        ensures failed { OnErr result ((fails_when_done self.old.plan (length self.old.calls.items) ≡ true) × (self.new.failures ≡ one_more self.old.failures)) }
+        ensures failed { OnErr result ((fails_when_done self.old.plan (length self.old.calls.items) ≡ true)
+            × (self.new.failures ≡ one_more self.old.failures)) }
         ensures cause { HasCause self.old.failures self.new.failures (IsErrOf result Device) }
     {
         if is_number(self.plan.after, self.calls.len() as u64) {
@@ -135,7 +137,8 @@ impl CallLog {
         ensures plan { self.new.plan ≡ self.old.plan }
         ensures counted { self.new.failures ≡ one_more self.old.failures }
         ensures later { self.old.failures ≤ self.new.failures }
-        ensures raised { (self.old.failures < self.new.failures) ⊎ ((self.old.failures ≡ 18_446_744_073_709_551_615) × (self.new.failures ≡ self.old.failures)) }
+        ensures raised { (self.old.failures < self.new.failures)
+            ⊎ ((self.old.failures ≡ 18_446_744_073_709_551_615) × (self.new.failures ≡ self.old.failures)) }
     {
         self.failures = self.failures.saturating_add(1);
         FolderFault::Device

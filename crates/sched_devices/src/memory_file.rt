@@ -22,11 +22,12 @@ impl Model for MemoryFile {
 
     ghost Value = { HeldFile };
 
-    ghost view = { λ file. record { name = string_bytes file.name; octets = file.octets.items; is_synced = file.is_synced; is_name_synced = file.is_name_synced } };
+    ghost view = { λ file.
+        record { name = string_bytes file.name; octets = file.octets.items; is_synced = file.is_synced; is_name_synced = file.is_name_synced } };
 }
 
 impl MemoryFile {
-    /// A file of this name.
+    /// A file of this name, with copies of these octets.
     pub(crate) fn new(
         alloc: Global,
         name: &str,
@@ -34,7 +35,8 @@ impl MemoryFile {
         is_synced: bool,
         is_name_synced: bool,
     ) -> Result<MemoryFile, AllocError>
-        ensures { IfOk result (λ file. file ≡ record { name = name.now; octets = octets.now; is_synced = is_synced; is_name_synced = is_name_synced }) }
+        ensures { IfOk result (λ file. file
+            ≡ record { name = name.now; octets = octets.now; is_synced = is_synced; is_name_synced = is_name_synced }) }
     {
         let name = String::from_str(alloc, name)?;
         let octets = octets.to_vec(alloc)?;

@@ -19,7 +19,7 @@ use std::alloc::{AllocError, Global};
 /// The longest file that is read, in octets.
 const MOST_OCTETS: usize = 1_073_741_824;
 
-/// A folder in memory. A call that is refused memory changes nothing of it, and isn't among its calls.
+/// A folder in memory. A call that is refused memory changes nothing of what it holds, and isn't among its calls.
 #[derive(Drop)]
 pub struct MemoryFolder {
     alloc: Global,
@@ -66,7 +66,8 @@ impl MemoryFolder {
         ensures added { OnOk result (AreSame (image_of self.new.files.items)
             (with_files (image_of self.old.files.items) (record { name = name.now; octets = octets.now } ∷ []))) }
         ensures held { OnOk result ((other : List ℕ) → file_named other self.new.files.items
-            ≡ option_or (file_named other self.old.files.items) (file_named other (record { name = name.now; octets = octets.now; is_synced = true; is_name_synced = synced } ∷ []))) }
+            ≡ option_or (file_named other self.old.files.items)
+            (file_named other (record { name = name.now; octets = octets.now; is_synced = true; is_name_synced = synced } ∷ []))) }
         ensures unchanged { OnErr result (self.new.files.items ≡ self.old.files.items) }
         ensures time { Elapses (length self.old.past.items) (length self.new.past.items) (LeftSince self.old.past.items self.old.files.items)
             (LeftSince self.new.past.items self.new.files.items) (MayLeave self.new.files.items) }
@@ -122,10 +123,12 @@ impl MemoryFolder {
 
     /// A folder as a stop at this moment may leave it: with `lost` the names that aren't synced are gone, else all are kept, and octets that
     /// weren't synced are `torn`, as those of the temporary are. What is left is on the disk now. It has had no calls, and none is to fail.
+    /// An error where memory is refused.
     pub fn restart(&self, lost: bool, torn: &[u8]) -> Result<MemoryFolder, AllocError>
         ensures possible { IfOk result (λ left. MayLeave self.now.files.items (image_of left.files.items)) }
         ensures only { IfOk result (λ left. (image : Image) → MayLeave left.files.items image → AreSame image (image_of left.files.items)) }
-        ensures under { IfOk result (λ left. (name : List ℕ) → image_of left.files.items name ≡ left_under lost torn.now (file_named name self.now.files.items)) }
+        ensures under { IfOk result (λ left. (name : List ℕ)
+            → image_of left.files.items name ≡ left_under lost torn.now (file_named name self.now.files.items)) }
         ensures temporary { IfOk result (λ left. left.temporary ≡ record { is_there = false; octets = torn.now; is_synced = false }) }
         ensures calls { IfOk result (λ left. left.log.calls.items ≡ []) }
         ensures plan { IfOk result (λ left. left.log.plan ≡ record { at = None; after = None; from = None }) }
@@ -151,8 +154,8 @@ fn keep(
 ) -> Result<(), AllocError>
     ensures time { Elapses (length past.old.items) (length past.new.items) (LeftSince past.old.items files.now)
         (LeftSince past.new.items files.now) (MayLeave files.now) }
-    ensures change { OnOk result ((next : List HeldFile) → Elapses (length past.old.items) (length past.new.items) (LeftSince past.old.items files.now)
-        (LeftSince past.new.items next) (MayLeave next)) }
+    ensures change { OnOk result ((next : List HeldFile)
+        → Elapses (length past.old.items) (length past.new.items) (LeftSince past.old.items files.now) (LeftSince past.new.items next) (MayLeave next)) }
 {
     let content = copied(alloc, files)?;
     past.push(content)?;
@@ -223,6 +226,7 @@ impl Folder for MemoryFolder {
         }
         let file = self.temporary.named(self.alloc, name)?;
         let files = with_file(self.alloc, &self.files, file)?;
+        // All that may be refused memory comes before the change. Where the call fails, a moment more of the same content does no harm.
         keep(self.alloc, &self.files, &mut self.past)?;
         self.log.begin(call)?;
         self.files = files;

@@ -67,7 +67,8 @@ impl TemporaryFile {
 
     /// The file that it is under a name, which isn't synced.
     pub(crate) fn named(&self, alloc: Global, name: &str) -> Result<MemoryFile, AllocError>
-        ensures { IfOk result (λ file. file ≡ record { name = name.now; octets = self.now.octets; is_synced = self.now.is_synced; is_name_synced = false }) }
+        ensures { IfOk result (λ file. file
+            ≡ record { name = name.now; octets = self.now.octets; is_synced = self.now.is_synced; is_name_synced = false }) }
     {
         let file = MemoryFile::new(alloc, name, &self.octets, self.is_synced, false)?;
         Ok(file)
