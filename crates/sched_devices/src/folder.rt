@@ -117,6 +117,7 @@ pub trait Folder {
     fn publish(&mut self, name: &str) -> Result<(), FolderFault>
         requires { (Self.temporary self.old).is_there ≡ true }
         ensures published { OnOk result (Self.is_known self.old ≡ true → IsPublished (Self.image self.old) (Self.image self.new) name.now (Self.temporary self.old)) }
+        ensures taken { OnOk result ((Self.temporary self.new).is_there ≡ false) }
         ensures whole { OnErr result (Self.is_known self.old ≡ true
             → AreSame (Self.image self.new) (Self.image self.old) ⊎ IsPublished (Self.image self.old) (Self.image self.new) name.now (Self.temporary self.old)) }
         ensures known { Self.is_known self.new ≡ Self.is_known self.old }
