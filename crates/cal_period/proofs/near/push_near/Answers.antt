@@ -1,7 +1,8 @@
-use Rattle.std.proofs.Common.{◌≡◌, refl, subst, sym, arith, pos, ◌+ℤ◌, ◌<ℤ◌, to_z, of_z, w64, FitsSigned, rules, to_z-of_z}
+use Rattle.std.proofs.Common.{◌≡◌, List, refl, subst, sym, arith, pos, ◌+ℤ◌, to_z, of_z, w64, FitsSigned, rules, to_z-of_z}
 use Rattle.std.proofs.lemmas.Int.{ints}
 use Rattle.std.specs.Prelude.{Contains}
 use Rattle.cal_events.specs.Series.{series_said}
+use Rattle.cal_period.specs.declared.near.NearSpan.{NearSpan}
 use Rattle.cal_period.proofs.Entries.{entered}
 use Rattle.cal_period.proofs.NearLists.{AreTaken, taken_first, taken_past, taken_all}
 use Rattle.cal_period.proofs.NearOnsets.{sum_fits}
@@ -38,7 +39,7 @@ loop-next-preserved c =
     let by = to_z w64 (of_z w64 c.args.onset) in
     let g = c.past-walk.ensures.tail a by c.loop-next.starts c.next-in-Some.new.self c.loop-next.invariant.tail c.next-in-Some.ensures.steps in
     let more = taken_past a by c.args.near.now.items c.loop-next.near.items c.loop-next.starts c.next-in-Some.new.self c.loop-next.walk c.past-walk.result c.in-Some.next c.span_of.result c.loop-next.invariant g c.span_of.ensures.0 c.span_of.ensures.1 in
-    subst (λ items. AreTaken a by c.args.near.now.items items c.next-in-Some.new.self c.past-walk.result) (sym c.in_ok-push.ensures.items) more
+    subst (λ items. AreTaken a by c.args.near.now.items items c.next-in-Some.new.self c.past-walk.result) (sym {A = List NearSpan} c.in_ok-push.ensures.items) more
 
 pub returns-clause-holds : goal.returns-clause-holds
 returns-clause-holds c =

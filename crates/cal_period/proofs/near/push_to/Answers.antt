@@ -1,6 +1,4 @@
-use Rattle.std.proofs.Common.{◌≡◌, arith, ◌<ℤ◌, to_z, of_z, w64, FitsSigned, rules, to_z-of_z}
-use Rattle.std.proofs.lemmas.Int.{ints}
-use Rattle.profile.specs.checker.Instances.{horizon}
+use Rattle.std.proofs.Common.{◌≡◌, to_z, of_z, w64, FitsSigned, rules, to_z-of_z}
 use Rattle.cal_zones.specs.Kinds.{zone_of}
 use Rattle.cal_events.specs.Series.{series_said}
 use Rattle.cal_period.proofs.EveryPair.{where_none}
