@@ -13,8 +13,8 @@ from repository import ROOT
 
 CRATES = ROOT / "crates"
 # crates of examples and tests, and the definitions themselves
-LEFT_OUT = {"profile", "example_cases", "text_examples", "worked_examples", "device_tests", "roombox"}
-EXPORT = re.compile(r"^pub use [\w:]+?::(?:\{([^}]*)\}|(\w+));", re.MULTILINE)
+LEFT_OUT = {"profile", "example_cases", "text_examples", "worked_examples", "folder_examples", "device_tests", "roombox"}
+EXPORT = re.compile(r"^pub use (\w+)[\w:]*?::(?:\{([^}]*)\}|(\w+));", re.MULTILINE)
 DEFINED = re.compile(r"^ *(?:pub )?(?:abbrev|unfoldable|data|record)(?: pub)? ([^\s:({]+)", re.MULTILINE)
 HEADING = "## The words of the code"
 
@@ -29,7 +29,10 @@ def offered():
         crate = lib.parts[-3]
         if crate in LEFT_OUT:
             continue
-        for several, one in EXPORT.findall(lib.read_text(encoding="utf-8")):
+        for module, several, one in EXPORT.findall(lib.read_text(encoding="utf-8")):
+            # what another crate offers has its row there
+            if (CRATES / module).is_dir():
+                continue
             for item in filter(None, (it.strip() for it in (several or one).split(","))):
                 name = item.split(" as ")[-1].strip()
                 if is_type(name):
