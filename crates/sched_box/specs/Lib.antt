@@ -1,7 +1,6 @@
 pub mod Answering
 pub mod Asked
 pub mod Books
-pub mod Boxes
 pub mod Config
 pub mod Faults
 pub mod Objects
