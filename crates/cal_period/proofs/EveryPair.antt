@@ -1,8 +1,7 @@
--- All pairs of series, one after another.
-use Rattle.std.proofs.Common.{◌≡◌, ◌∙◌, ℕ, ◌+◌, ◌<◌, ◌≤◌, List, length, map, get_or, subst, sym, ap, inl, inr, arith}
+-- Pairs of series by their places.
+use Rattle.std.proofs.Common.{◌≡◌, ◌∙◌, ℕ, ◌<◌, List, length, map, get_or, subst, sym, ap}
 use Rattle.std.specs.Prelude.{Option, Some, None, option_map, MatchOption}
 use Rattle.std.specs.List.{slice_get}
-use Rattle.std.proofs.lemmas.Bool.{cases_lt}
 use Rattle.std.proofs.lemmas.Option.{same_Some, slice_get-get_or, slice_get-map}
 use Rattle.profile.specs.checker.Instances as instances
 use Rattle.profile.specs.checker.Instances.{Instance as SaidInstance, AreClashing}
@@ -14,8 +13,7 @@ use Rattle.cal_events.specs.declared.instance.Instance.{Instance}
 use Rattle.cal_events.specs.declared.series.Series.{Series}
 use Rattle.cal_period.specs.Clear.{AreSeriesClear, IsSeriesClear, ArePair, AreTwo}
 use Rattle.cal_period.specs.Onward.{IsSharedByPair, IsSharedAlone}
-use Rattle.cal_period.specs.Every.{IsPairClear, PairShares, IsAtShared, IsRowClear, IsFoundInRow, IsFound}
-use Rattle.cal_period.specs.declared.every_pair.Shared.{Shared}
+use Rattle.cal_period.specs.Every.{IsPairClear, PairShares, IsAtShared}
 
 -- ---- what was found
 
@@ -70,48 +68,3 @@ module _ (all : List Event) (i j : ℕ) where
           let two : a ≡ d = same_Some a d (sym at_j ∙ f) in
           subst (λ m. instances.AreClear (IsInstance m) (IsInstance d)) one (subst (λ m. instances.AreClear (IsInstance a) (IsInstance m)) two (clear_alone a clear))
       go (Some p) is = record { a = a; b = a; at_first = at_i; at_second = at_j; first = is.first; second = is.second; differ = λ e. is.differ; shared = is.shared }
-
--- ---- a row
-
-pub row_start : (all : List Event) (i : ℕ) → IsRowClear all i i
-row_start all i q l w = absurd (omega (arith, l, w))
-
-pub row_more : (all : List Event) (i j : ℕ) → IsRowClear all i j → IsPairClear all i j → IsRowClear all i (j + 1)
-row_more all i j clear more q l w =
-    elim (cases_lt q j) [
-      | inl before ↦ clear q l before
-      | inr from ↦ let here : j ≡ q = omega (arith, w, from) in subst (IsPairClear all i) here more
-    ]
-
-pub row_all : (all : List Event) (i j : ℕ) → length all ≤ j → IsRowClear all i j → IsRowClear all i (length all)
-row_all all i j past clear q l w = clear q l (omega (arith, w, past))
-
--- ---- all rows
-
--- the pairs of the series before a place are clear
-abbrev pub AreRowsClear : List Event → ℕ → Type 0
-AreRowsClear all end = (p : ℕ) → p < end → IsRowClear all p (length all)
-
-pub rows_start : (all : List Event) → AreRowsClear all 0
-rows_start all p w = absurd (omega (arith, w))
-
-pub rows_more : (all : List Event) (i : ℕ) → AreRowsClear all i → IsRowClear all i (length all) → AreRowsClear all (i + 1)
-rows_more all i clear more p w =
-    elim (cases_lt p i) [
-      | inl before ↦ clear p before
-      | inr from ↦ let here : i ≡ p = omega (arith, w, from) in subst (λ k. IsRowClear all k (length all)) here more
-    ]
-
-pub rows_all : (all : List Event) (i : ℕ) → length all ≤ i → AreRowsClear all i → (p q : ℕ) → p ≤ q → q < length all → IsPairClear all p q
-rows_all all i past clear p q l w = clear p (omega (arith, l, w, past)) q l w
-
-pub rows_found : (all : List Event) (i : ℕ) (s : Shared) → AreRowsClear all i → IsFoundInRow all i s → IsFound all s
-rows_found all i s clear f = record {
-  order = subst (λ k. k ≤ s.j) (sym f.at) f.order;
-  within = f.within;
-  is = subst (λ k. PairShares all k s.j (instance_of s.first) (instance_of s.second)) (sym f.at) f.is;
-  before = λ p q l w b. elim b [
-    | inl less ↦ clear p (subst (λ k. p < k) f.at less) q l w
-    | inr (same, less) ↦ let here : p ≡ i = same ∙ f.at in subst (λ k. IsPairClear all k q) (sym here) (f.before q (subst (λ k. k ≤ q) here l) less)
-  ];
-}

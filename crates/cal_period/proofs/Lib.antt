@@ -15,6 +15,7 @@ pub mod Spanning
 pub mod Members
 pub mod OnsetTheorem
 pub mod NearOnsets
+pub mod NearLists
 pub mod AroundLemmas
 pub mod PhaseLemmas
 pub mod PhasesOf

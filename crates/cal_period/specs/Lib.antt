@@ -9,6 +9,8 @@ pub mod Members
 pub mod Spanning
 pub mod LocalResidues
 pub mod Onsets
+pub mod NearSpans
+pub mod Compared
 pub mod Around
 pub mod Phases
 pub mod PhaseViews

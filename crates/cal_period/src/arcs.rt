@@ -7,7 +7,7 @@ ghost use Rattle.profile.specs.series.Repeating.{ArcsMeet, IsCongruent};
 ghost use Rattle.cal_period.specs.Around.{AreAround, IsOver, AreNeighbours, MeetsNone, AreApart, IsApart, AreStepsOver, IsLastOver};
 
 /// Does no arc of the first residues, `width` seconds long, meet an arc of the second ones, `other` seconds long? It takes a binary search
-/// among the second for each of the first.
+/// among the second for each of the first. It requires an m below 2^40, and of each residues that are below m and ascending, none twice.
 pub fn are_apart(m: u64, first: &[u64], width: i64, second: &[u64], other: i64) -> bool
     requires modulus { m < 2 ^ 40 }
     requires first { AreAround m first.now }
@@ -22,7 +22,8 @@ pub fn are_apart(m: u64, first: &[u64], width: i64, second: &[u64], other: i64) 
     true
 }
 
-/// Are the arcs of these residues, `width` seconds long, not longer than m, and does none of them meet that of another?
+/// Are the arcs of these residues, `width` seconds long, not longer than m, and does none of them meet that of another? It requires an m below 2^40,
+/// and residues that are below m and ascending, none twice.
 pub fn is_apart(m: u64, all: &[u64], width: i64) -> bool
     requires modulus { m < 2 ^ 40 }
     requires all { AreAround m all.now }
@@ -35,7 +36,8 @@ pub fn is_apart(m: u64, all: &[u64], width: i64) -> bool
 }
 
 /// May an instance that starts at one of these residues, and lasts `width` seconds at most, share an instant with what lasts from `start` to
-/// `end`? It takes one binary search. Instants are seconds from 1970-01-01T00:00:00Z.
+/// `end`? It takes one binary search. Instants are seconds from 1970-01-01T00:00:00Z. It requires an m from 1 on and below 2^40, and residues that are
+/// below m and ascending, none twice.
 pub fn reaches(m: u64, residues: &[u64], width: i64, start: i64, end: i64) -> bool
     requires some { 0 < m }
     requires modulus { m < 2 ^ 40 }

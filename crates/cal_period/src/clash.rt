@@ -26,7 +26,11 @@ pub fn clash_of_pair<'a>(a: &'a Series, b: &'a Series) -> Option<(Instance<'a>, 
 
 /// Two instances, one of each series, that start before a bound and share an instant. Where both series go by one zone, and never meet by its clocks,
 /// only what starts near its onsets is looked at.
-fn clash_below<'a>(a: &'a Series, b: &'a Series, bound: i64) -> Option<(Instance<'a>, Instance<'a>)>
+pub(crate) fn clash_below<'a>(
+    a: &'a Series,
+    b: &'a Series,
+    bound: i64,
+) -> Option<(Instance<'a>, Instance<'a>)>
     ensures { IsSharedBelow (series_said a.now) (series_said b.now) bound result }
 {
     match zone_apart(a, b) {

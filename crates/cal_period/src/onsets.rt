@@ -184,7 +184,7 @@ fn clash_alone_since<'a>(
 }
 
 /// The first onset of a zone after an instant, where it is before a bound.
-fn onset_below(zone: &Zone, after: i64, bound: i64) -> Option<i64>
+pub(crate) fn onset_below(zone: &Zone, after: i64, bound: i64) -> Option<i64>
     ensures { IsNextBelow (IsZoneOnset (zone_of zone.now)) after bound result }
 {
     match zone.next_onset(after) {
@@ -194,7 +194,7 @@ fn onset_below(zone: &Zone, after: i64, bound: i64) -> Option<i64>
 }
 
 /// How long after an onset a start of another series still has to do with it, where it meets an instance of this one.
-fn reach_of(series: &Series) -> i64
+pub(crate) fn reach_of(series: &Series) -> i64
     ensures reach { IsReach (series_said series.now) result }
     ensures range { (pos 0 ≤ℤ result) × (result <ℤ pos (2 ^ 51)) }
 {
@@ -213,7 +213,7 @@ fn half_day_before(series: &Series) -> i64
 }
 
 /// When an instance lasts.
-fn span_of(instance: Instance<'_>) -> Span
+pub(crate) fn span_of(instance: Instance<'_>) -> Span
     ensures { (result.start ≡ instance.entry.start) × (result.end ≡ instance.entry.end) }
 {
     Span {

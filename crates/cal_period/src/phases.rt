@@ -12,13 +12,14 @@ ghost use Rattle.cal_period.specs.Phases.{MeetsOther, nth_offset};
 use crate::arcs::{arcs_meet, residue_of};
 use cal_events::Series;
 use cal_rules::Rule;
+use ical_values::DAY_SECONDS;
 use std::alloc::{AllocError, Global};
 
 /// The seconds from 0000-01-01 to 1970-01-01.
 const EPOCH: i64 = 62_167_219_200;
 
 /// The seconds of a day.
-pub(crate) const DAY: u64 = 86_400;
+pub(crate) const DAY: u64 = DAY_SECONDS as u64;
 
 /// How many phases stand for all in one turn: two offsets for each of seven days.
 const OF_A_TURN: u32 = 14;

@@ -14,7 +14,7 @@ use cal_rules::{common_multiple, form_days_repeat};
 use std::alloc::{AllocError, Global};
 
 /// The most days of which the seconds may be a modulus.
-const MOST_DAYS: u64 = 420;
+pub const MOST_RESIDUE_DAYS: u64 = 420;
 
 /// The residues of a series modulo m, a number of seconds: ascending, each once. It goes by the classes of the days that the form of the rule allows,
 /// at most seven of them, and takes the time and the memory of the residues. Fails only when out of memory.
@@ -78,7 +78,7 @@ fn common_stride(a: &Series, b: &Series) -> Option<u64>
     let Some(days) = common_multiple(first, second) else {
         return None;
     };
-    if days > MOST_DAYS {
+    if days > MOST_RESIDUE_DAYS {
         return None;
     }
     Some(days)

@@ -1,5 +1,5 @@
 //! The span of two series: from which instant on, and after how many days, both do the same again.
-ghost use Rattle.std.specs.Prelude.{◌≡◌, ◌^◌, ◌≤◌, pos, ◌≤ℤ◌, ◌<ℤ◌, MatchOption};
+ghost use Rattle.std.specs.Prelude.{◌≡◌, ◌^◌, ◌≤◌, pos, negsuc, ◌≤ℤ◌, ◌<ℤ◌, MatchOption};
 ghost use Rattle.profile.specs.series.Periods.{most_period};
 ghost use Rattle.profile.specs.events.Spans.{span_end};
 ghost use Rattle.profile.specs.checker.Instances.{horizon};
@@ -8,9 +8,7 @@ ghost use Rattle.cal_period.specs.Spanning.{HasNoSpan, IsSpanOf, IsNextMidnight}
 
 use crate::recurs::common_period;
 use cal_events::{HORIZON, Series};
-
-/// The seconds of a day.
-const DAY_SECONDS: i64 = 86_400;
+use ical_values::DAY_SECONDS;
 
 /// A common period of two series.
 #[derive(Clone, Copy)]
@@ -34,16 +32,17 @@ pub fn span_of_pair(a: &Series, b: &Series) -> Option<PairSpan>
         return None;
     }
     let from = next_midnight(past);
-    let bound = bound_at(from, days, a.width().max(b.width()));
+    let bound = span_end(from, days, a.width().max(b.width()));
     if bound >= HORIZON {
         return None;
     }
     Some(PairSpan { from, days, bound })
 }
 
-/// The end of so many days from an instant on, and a width after it.
-fn bound_at(from: i64, days: u64, width: i64) -> i64
-    requires from { (pos 0 ≤ℤ from) × (from ≤ℤ horizon) }
+/// The end of so many days from an instant on, and a width after it: instants and widths are in seconds. It requires an instant of the years 1 to 9999
+/// or the first one after these, at most 2,932,897 days, and a width from 0 on and below 2^50.
+pub fn span_end(from: i64, days: u64, width: i64) -> i64
+    requires from { (negsuc 62_135_596_799 ≤ℤ from) × (from ≤ℤ horizon) }
     requires days { days ≤ most_period }
     requires width { (pos 0 ≤ℤ width) × (width <ℤ pos (2 ^ 50)) }
     ensures { result ≡ span_end from days width }

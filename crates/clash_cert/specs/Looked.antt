@@ -6,7 +6,7 @@ use Rattle.profile.specs.events.Confirmed.{Confirmed, IsOneOf}
 use Rattle.cal_events.specs.Calendar.{instance_of}
 use Rattle.cal_events.specs.declared.instance.Instance.{Instance}
 use Rattle.cal_period.specs.Every.{IsPairClear, PairShares}
-use Rattle.cal_period.specs.declared.every_pair.Shared.{Shared}
+use Rattle.clash_cert.specs.declared.looking.Shared.{Shared}
 
 -- the series at two places have old numbers
 abbrev pub are_both_kept : List (Option ℕ) → ℕ → ℕ → Bool

@@ -5,7 +5,16 @@ ghost use Rattle.clash_cert.specs.Looked.{are_both_kept, IsRowLookedAt, AreRowsL
 
 use crate::choosing::number_at;
 use cal_events::{Instance, Series};
-use cal_period::{Shared, clash_alone, clash_of_pair};
+use cal_period::{clash_alone, clash_of_pair};
+
+/// Two instances that share an instant before the horizon, and the places of their series, counted from 0.
+#[derive(Clone, Copy)]
+pub(crate) struct Shared<'a> {
+    pub(crate) i: usize,
+    pub(crate) j: usize,
+    pub(crate) first: Instance<'a>,
+    pub(crate) second: Instance<'a>,
+}
 
 /// Two instances of the first pair that isn't clear, by the first series and then by the second; None where all pairs that it looks at are. A pair
 /// is one series by itself, or with one after it. It passes over those that are both kept.

@@ -11,9 +11,9 @@ ghost use Rattle.clash_cert.specs.Makings.{IsCertificate, IsChosenFor, IsFirstCl
 
 use crate::certificate::Certificate;
 use crate::choosing::certificate_of;
-use crate::looking::clash_of_new;
+use crate::looking::{Shared, clash_of_new};
 use cal_events::{Calendar, Instance, Overlap, OwnedKey};
-use cal_period::{Beside, Shared, single_beside_series};
+use cal_period::{Beside, single_beside_series};
 use std::alloc::{AllocError, Global};
 
 /// Two instances of different keys and an instant in both, before the horizon: the later start.

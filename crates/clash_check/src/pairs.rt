@@ -1,9 +1,9 @@
 //! The entries of a certificate, each judged by what is drawn of its two series, or by their residues. Only residues take memory.
-ghost use Rattle.std.specs.Prelude.{ℕ, ℤ, List, ◌≡◌, ◌↔◌, ◌+◌, ◌*◌, ◌^◌, ◌<◌, ◌≤◌, ◌≤ℤ◌, ◌<ℤ◌, pos, true, not, length, IsTrue, IfOk, MatchBool};
+ghost use Rattle.std.specs.Prelude.{ℕ, List, ◌≡◌, ◌↔◌, ◌<◌, ◌≤◌, true, not, length, IsTrue, IfOk, MatchBool};
 ghost use Rattle.profile.specs.checker.Instances.{Instance, AreClear, HasClash};
 ghost use Rattle.profile.specs.checker.Certificates.{IsSeriesAt, IsPair, EntryHolds, EntryFails, Span as SaidSpan};
 ghost use Rattle.profile.specs.events.Events.{Event};
-ghost use Rattle.profile.specs.events.Spans.{IsPastAll, IsPeriodOf, IsSpan, SpanHolds, SpanFails, StartsBelow, span_end};
+ghost use Rattle.profile.specs.events.Spans.{IsPastAll, IsPeriodOf, IsSpan, SpanHolds, SpanFails, StartsBelow};
 ghost use Rattle.profile.specs.series.Periods.{most_period, IsMultiple};
 ghost use Rattle.profile.specs.text.Values.{IsClockSeconds};
 ghost use Rattle.clash_cert.specs.Texts.{entry_said};
@@ -16,7 +16,7 @@ use crate::drawn::Drawn;
 use crate::residues::residues_hold;
 use crate::sweep::{sweep_alone, sweep_pair};
 use cal_events::HORIZON;
-use cal_period::periods_are_multiples;
+use cal_period::{periods_are_multiples, span_end};
 use clash_cert::{Certificate, Entry};
 use std::alloc::{AllocError, Global};
 
@@ -144,16 +144,6 @@ fn is_multiple(days: u64, period: u64) -> bool
     ensures { IsTrue result ↔ IsMultiple days period }
 {
     days % period == 0
-}
-
-/// Where a span ends: so many days and a width after an instant.
-fn span_end(from: i64, days: u64, width: i64) -> i64
-    requires from { IsClockSeconds from }
-    requires days { days ≤ most_period }
-    requires width { (pos 0 ≤ℤ width) × (width <ℤ pos (2 ^ 50)) }
-    ensures { result ≡ span_end from days width }
-{
-    from + (86_400 * days) as i64 + width
 }
 
 /// Do no two instances of two series clash, of those that start before a bound? Where the series are one, of any two of its instances. On yes

@@ -6,14 +6,9 @@ ghost use Rattle.profile.specs.events.Residues.{IsModulus, AreArcsApart, IsArcsA
 ghost use Rattle.clash_check.specs.Draws.{IsPlace};
 
 use crate::drawn::Drawn;
-use cal_period::{are_apart, is_apart};
+use cal_period::{MOST_RESIDUE_DAYS, are_apart, is_apart};
+use ical_values::DAY_SECONDS;
 use std::alloc::{AllocError, Global};
-
-/// The seconds of a day.
-const DAY_SECONDS: u64 = 86_400;
-
-/// The most days that the seconds of a RES may be.
-const MOST_DAYS: u64 = 420;
 
 /// Do residues modulo m seconds settle two series, or one by itself? Fails only when out of memory.
 pub(crate) fn residues_hold<D: Drawn>(
@@ -40,14 +35,15 @@ pub(crate) fn residues_hold<D: Drawn>(
 fn is_modulus(m: u64) -> bool
     ensures { IsTrue result ↔ IsModulus m }
 {
-    m % DAY_SECONDS == 0 && is_few(m / DAY_SECONDS)
+    let day = DAY_SECONDS as u64;
+    m % day == 0 && is_few(m / day)
 }
 
 /// Are these 1 to 420 days?
 fn is_few(days: u64) -> bool
     ensures { IsTrue result ↔ (0 < days) × (days ≤ 420) }
 {
-    0 < days && days <= MOST_DAYS
+    0 < days && days <= MOST_RESIDUE_DAYS
 }
 
 /// Are the arcs of a series not longer than m, and apart?

@@ -1,6 +1,6 @@
 //! Series beside what else a room has confirmed: which instances share an instant. Only what is new is looked at.
 
-ghost use Rattle.std.specs.Prelude.{◌≡◌, ◌++◌, ◌≤◌, length, map, Contains, OnOk};
+ghost use Rattle.std.specs.Prelude.{◌≡◌, ◌++◌, ◌≤◌, length, map, Contains, IfOk, OnOk};
 ghost use Rattle.cal_events.specs.declared.series.Series.{Series};
 ghost use Rattle.room_books.specs.Meeting.{Recurs};
 ghost use Rattle.room_books.specs.Recurring.{AreBeside, AreClearFrom, IsSharedAlone, IsBesideOne, keyed_of};
@@ -8,8 +8,8 @@ ghost use Rattle.room_books.specs.Recurring.{AreBeside, AreClearFrom, IsSharedAl
 use crate::decide::SharedInstant;
 use crate::meeting::MeetingKey;
 use cal_events::{Instance, Series, Single, Span};
-use cal_period::{clash_alone, clash_of_pair, first_sharer};
-use std::alloc::AllocError;
+use cal_period::{NewSeries, clash_alone, first_sharer};
+use std::alloc::{AllocError, Global};
 
 /// A series, and the name of its meeting.
 #[derive(Clone, Copy)]
@@ -63,41 +63,51 @@ fn series_at<'a>(single: Single, all: &[Recurring<'a>]) -> Option<(&'a MeetingKe
     None
 }
 
-/// An instance of a series from a place on, and one that shares an instant with it: of a series before that place, or of its own.
-pub(crate) fn clash_from<'a>(all: &[Recurring<'a>], from: usize) -> Option<SharedInstant<'a>>
+/// An instance of a series from a place on, and one that shares an instant with it: of a series before that place, or of its own. Fails only when out
+/// of memory.
+pub(crate) fn clash_from<'a>(
+    alloc: Global,
+    all: &[Recurring<'a>],
+    from: usize,
+) -> Result<Option<SharedInstant<'a>>, AllocError>
     requires { from ≤ length all.now }
-    ensures { AreClearFrom all.now from result }
+    ensures { IfOk result (AreClearFrom all.now from) }
 {
     for place in from..all.len() {
         let Recurring { key, series } = all[place];
-        if let Some(shared) = clash_with(series, &all[..place]) {
-            return Some(shared);
+        if let Some(shared) = clash_with(alloc, series, &all[..place])? {
+            return Ok(Some(shared));
         }
         if let Some((asked, booked)) = alone(series) {
-            return Some(SharedInstant {
+            return Ok(Some(SharedInstant {
                 asked,
                 other: key,
                 booked,
-            });
+            }));
         }
     }
-    None
+    Ok(None)
 }
 
-/// An instance of a series, and one of one of these series that shares an instant with it.
-fn clash_with<'a>(series: &Series, all: &[Recurring<'a>]) -> Option<SharedInstant<'a>>
-    ensures { AreBeside (Recurs series.now) all.now result }
+/// An instance of a series, and one of one of these series that shares an instant with it. Fails only when out of memory.
+fn clash_with<'a>(
+    alloc: Global,
+    series: &Series,
+    all: &[Recurring<'a>],
+) -> Result<Option<SharedInstant<'a>>, AllocError>
+    ensures { IfOk result (AreBeside (Recurs series.now) all.now) }
 {
+    let mut new = NewSeries::of(alloc, series);
     for recurring in all {
-        if let Some((asked, booked)) = clash_of_pair(series, recurring.series) {
-            return Some(SharedInstant {
+        if let Some((asked, booked)) = new.clash_with(recurring.series)? {
+            return Ok(Some(SharedInstant {
                 asked: as_single(&asked),
                 other: recurring.key,
                 booked: as_single(&booked),
-            });
+            }));
         }
     }
-    None
+    Ok(None)
 }
 
 /// Two instances of a series that share an instant.

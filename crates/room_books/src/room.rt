@@ -586,7 +586,7 @@ impl Room {
         if wanted.is_empty() {
             return Ok(None);
         }
-        if let Some(shared) = clash_from(all, from) {
+        if let Some(shared) = clash_from(self.alloc, all, from)? {
             return Ok(Some(shared));
         }
         let gone = Gone::of(self.alloc, gone)?;

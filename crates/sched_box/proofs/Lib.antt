@@ -1,10 +1,14 @@
-pub mod InputLemmas
 pub mod AnswerLemmas
 pub mod AskedLemmas
 pub mod BookLemmas
 pub mod FaultLemmas
+pub mod FolderLemmas
 pub mod HostLemmas
+pub mod InputLemmas
 pub mod Lines
+pub mod MessageLemmas
+pub mod NameLemmas
+pub mod NameOrder
 pub mod ObjectLemmas
 pub mod OrganiserLemmas
 pub mod PreambleLemmas

@@ -16,7 +16,7 @@ use Rattle.sched_box.specs.Books.{AnswersKept, AreBooksOf, hosted_rooms}
 use Rattle.sched_box.specs.declared.books.Books.{Books}
 use Rattle.sched_devices.specs.Input.{IsFilledWithin}
 use Rattle.sched_box.specs.Objects.{kept_of, LendsNext, TakesNextObject, ReadsObject, StopsReading}
-use Rattle.sched_box.specs.Serving.{AnswersWhole, Ends, Gives, GivesPart, GivesRead, IsWithinBound, ServesAll, ServesSome, HasRead, ServesUntil, Serves, BooksServe, ServesStream, KeepsTexts, StopsKeeping}
+use Rattle.sched_box.specs.Serving.{AnswersWhole, Ends, Gives, GivesPart, GivesRead, IsWithin, IsWithinBound, ServesAll, ServesSome, HasRead, ServesUntil, Serves, BooksServe, ServesStream, KeepsTexts, StopsKeeping}
 use Rattle.std.proofs.Common.{◌≢◌, Contains, true≢false}
 use Rattle.std.specs.Str.{bytes_eq}
 use Rattle.std.proofs.lemmas.Slice.Eq.{bytes_eq-Decides}
@@ -123,23 +123,23 @@ pub record ServedSofar (moment : ℤ) (news : Books) (input left output written 
   pub counted : report.objects ≡ length objects
   pub writes : Appends output written octets
 
--- this many octets may still be read
-abbrev pub HasLeft : Option (List ℕ) → Option (List ℕ) → ℕ → Type 0
-HasLeft None left may_read = Unit {0}
-HasLeft (Some octets) None may_read = ⊥
-HasLeft (Some octets) (Some rest) may_read = length octets + may_read ≡ length rest + 1_073_741_824
+-- of so many this many octets may still be read
+abbrev pub HasLeft : ℕ → Option (List ℕ) → Option (List ℕ) → ℕ → Type 0
+HasLeft most None left may_read = Unit {0}
+HasLeft most (Some octets) None may_read = ⊥
+HasLeft most (Some octets) (Some rest) may_read = length octets + may_read ≡ length rest + most
 
 -- from whatever the books were; the rooms keep their addresses, and this many octets were read
-pub record Sofar (moment : ℤ) (olds news : Books) (input left output written : Option (List ℕ)) (may_read : ℕ) (report : ServeReport) : Type 0 where
+pub record Sofar (most : ℕ) (moment : ℤ) (olds news : Books) (input left output written : Option (List ℕ)) (may_read : ℕ) (report : ServeReport) : Type 0 where
   pub served : (before : Box) → AreBooksOf olds before → ServedSofar moment news input left output written before report
   pub addresses : hosted_rooms news ≡ hosted_rooms olds
-  pub read : HasLeft input left may_read
-  pub few : report.objects + may_read ≤ 1_073_741_824
+  pub read : HasLeft most input left may_read
+  pub few : report.objects + may_read ≤ most
   pub refusals : report.refused ≤ report.objects
 
-pub none_served : (moment : ℤ) (books : Books) (input output : Option (List ℕ)) (report : ServeReport) (may_read : ℕ) → report.objects ≡ 0 → report.refused ≡ 0 → may_read ≡ 1_073_741_824
-    → Sofar moment books books input input output output may_read report
-none_served moment books input output report may_read no_objects no_refused all = record {
+pub none_served : (most : ℕ) (moment : ℤ) (books : Books) (input output : Option (List ℕ)) (report : ServeReport) (may_read : ℕ) → report.objects ≡ 0 → report.refused ≡ 0 → may_read ≡ most
+    → Sofar most moment books books input input output output may_read report
+none_served most moment books input output report may_read no_objects no_refused all = record {
   served = λ before have. record {
     objects = [];
     after = before;
@@ -160,35 +160,35 @@ none_served moment books input output report may_read no_objects no_refused all 
     nothing None = tt
     nothing (Some xs) = refl
 
-    unread : (a : Option (List ℕ)) → HasLeft a a may_read
+    unread : (a : Option (List ℕ)) → HasLeft most a a may_read
     unread None = tt
     unread (Some xs) = ap (λ n. length xs + n) all
 
-read_on : (a b c : Option (List ℕ)) (taken : List ℕ) (old new : ℕ) → HasLeft a b old → Consumes b c taken → new + length taken ≡ old → HasLeft a c new
-read_on None b c taken old new h consumed left = tt
-read_on (Some xs) None c taken old new h consumed left = absurd h
-read_on (Some xs) (Some ys) None taken old new h consumed left = absurd consumed
-read_on (Some xs) (Some ys) (Some zs) taken old new h consumed left =
+read_on : (most : ℕ) (a b c : Option (List ℕ)) (taken : List ℕ) (old new : ℕ) → HasLeft most a b old → Consumes b c taken → new + length taken ≡ old → HasLeft most a c new
+read_on most None b c taken old new h consumed left = tt
+read_on most (Some xs) None c taken old new h consumed left = absurd h
+read_on most (Some xs) (Some ys) None taken old new h consumed left = absurd consumed
+read_on most (Some xs) (Some ys) (Some zs) taken old new h consumed left =
     let split : length ys ≡ length taken + length zs = ap length consumed ∙ length-append taken zs in
     omega arith
 
-all_read : (a c : Option (List ℕ)) (n : ℕ) → HasLeft a c n → n ≡ 0 → HasRead 1_073_741_824 a c
-all_read None c n h e = tt
-all_read (Some xs) None n h e = absurd h
-all_read (Some xs) (Some zs) n h e = omega arith
+all_read : (most : ℕ) (a c : Option (List ℕ)) (n : ℕ) → HasLeft most a c n → n ≡ 0 → HasRead most a c
+all_read most None c n h e = tt
+all_read most (Some xs) None n h e = absurd h
+all_read most (Some xs) (Some zs) n h e = omega arith
 
-read_less : (a c : Option (List ℕ)) (n : ℕ) → HasLeft a c n → 0 < n → IsWithinBound a c
-read_less None c n h some = tt
-read_less (Some xs) None n h some = absurd h
-read_less (Some xs) (Some zs) n h some = omega arith
+read_less : (most : ℕ) (a c : Option (List ℕ)) (n : ℕ) → HasLeft most a c n → 0 < n → IsWithin most a c
+read_less most None c n h some = tt
+read_less most (Some xs) None n h some = absurd h
+read_less most (Some xs) (Some zs) n h some = omega arith
 
 -- after one more object
-pub between_more : (a b c : Option (List ℕ)) (objects more lent lent' paid spent start n : ℕ) (kept taken : List ℕ) → IsBetween a b objects lent paid start → HasLeft a b n
+pub between_more : (most : ℕ) (a b c : Option (List ℕ)) (objects more lent lent' paid spent start n : ℕ) (kept taken : List ℕ) → IsBetween a b objects lent paid start → HasLeft most a b n
     → TakesNextObject b c kept true taken → (0 < lent') ⊎ OnSome b (IsAtEnd c) → spent ≤ paid → IsBetween a c more lent' (spent + (1 - lent')) start
-between_more None b c objects more lent lent' paid spent start n kept taken so read t next less = tt
-between_more (Some xs) None c objects more lent lent' paid spent start n kept taken so read t next less = absurd read
-between_more (Some xs) (Some ys) None objects more lent lent' paid spent start n kept taken so read t next less = tt
-between_more (Some xs) (Some ys) (Some zs) objects more lent lent' paid spent start n kept taken so read t next less = at so
+between_more most None b c objects more lent lent' paid spent start n kept taken so read t next less = tt
+between_more most (Some xs) None c objects more lent lent' paid spent start n kept taken so read t next less = absurd read
+between_more most (Some xs) (Some ys) None objects more lent lent' paid spent start n kept taken so read t next less = tt
+between_more most (Some xs) (Some ys) (Some zs) objects more lent lent' paid spent start n kept taken so read t next less = at so
   where
     lead : paid ≤ start → Between more lent' (spent + (1 - lent')) start zs
     lead few = elim next [ inl some ↦ lends some (omega arith) | inr end ↦ ended end (omega arith) ]
@@ -199,13 +199,13 @@ between_more (Some xs) (Some ys) (Some zs) objects more lent lent' paid spent st
     at (ended end few) = absurd (true≢false (sym t.begun ∙ ap is_begun end))
 
 -- so the reader was filled seldom
-pub filled_within : (a b c : Option (List ℕ)) (objects lent paid old new fills lent_first spent : ℕ) (taken : List ℕ) → IsBetween a b objects lent paid (fills + 1_073_741_824 + (1 - lent_first))
-    → HasLeft a b old → Consumes b c taken → new + length taken ≡ old → spent + new ≤ paid → IsFilledWithin 2 fills spent a c
-filled_within None b c objects lent paid old new fills lent_first spent taken so read consumed left less = tt
-filled_within (Some xs) None c objects lent paid old new fills lent_first spent taken so read consumed left less = absurd read
-filled_within (Some xs) (Some ys) None objects lent paid old new fills lent_first spent taken so read consumed left less = tt
-filled_within (Some xs) (Some ys) (Some zs) objects lent paid old new fills lent_first spent taken so read consumed left less =
-    let few = paid_at objects lent paid (fills + 1_073_741_824 + (1 - lent_first)) ys so in
+pub filled_within : (most : ℕ) (a b c : Option (List ℕ)) (objects lent paid old new fills lent_first spent : ℕ) (taken : List ℕ) → IsBetween a b objects lent paid (fills + most + (1 - lent_first))
+    → HasLeft most a b old → Consumes b c taken → new + length taken ≡ old → spent + new ≤ paid → IsFilledWithin 2 fills spent a c
+filled_within most None b c objects lent paid old new fills lent_first spent taken so read consumed left less = tt
+filled_within most (Some xs) None c objects lent paid old new fills lent_first spent taken so read consumed left less = absurd read
+filled_within most (Some xs) (Some ys) None objects lent paid old new fills lent_first spent taken so read consumed left less = tt
+filled_within most (Some xs) (Some ys) (Some zs) objects lent paid old new fills lent_first spent taken so read consumed left less =
+    let few = paid_at objects lent paid (fills + most + (1 - lent_first)) ys so in
     let split : length ys ≡ length taken + length zs = ap length consumed ∙ length-append taken zs in
     omega arith
 
@@ -232,12 +232,12 @@ IsRead (Some xs) None objects taken = Unit {0}
 IsRead (Some xs) (Some zs) objects taken = (objects ≡ []) ⊎ ((0 < length taken) ⊎ (zs ≡ []))
 
 -- where octets were lent, some of them were taken
-pub is_read : (a b c : Option (List ℕ)) (objects : List (List ℕ)) (count lent paid start n : ℕ) (taken : List ℕ) → IsBetween a b count lent paid start → count ≡ length objects → HasLeft a b n
+pub is_read : (most : ℕ) (a b c : Option (List ℕ)) (objects : List (List ℕ)) (count lent paid start n : ℕ) (taken : List ℕ) → IsBetween a b count lent paid start → count ≡ length objects → HasLeft most a b n
     → Consumes b c taken → (0 < lent → 0 < length taken) → IsRead a c objects taken
-is_read None b c objects count lent paid start n taken so counted read consumed some = tt
-is_read (Some xs) None c objects count lent paid start n taken so counted read consumed some = absurd read
-is_read (Some xs) (Some ys) None objects count lent paid start n taken so counted read consumed some = tt
-is_read (Some xs) (Some ys) (Some zs) objects count lent paid start n taken so counted read consumed some = at so
+is_read most None b c objects count lent paid start n taken so counted read consumed some = tt
+is_read most (Some xs) None c objects count lent paid start n taken so counted read consumed some = absurd read
+is_read most (Some xs) (Some ys) None objects count lent paid start n taken so counted read consumed some = tt
+is_read most (Some xs) (Some ys) (Some zs) objects count lent paid start n taken so counted read consumed some = at so
   where
     none_of : (os : List (List ℕ)) → length os ≡ 0 → os ≡ []
     none_of [] e = refl
@@ -261,11 +261,11 @@ gives_read (Some xs) (Some ys) None objects before after fault g s why = absurd 
 gives_read (Some xs) (Some ys) (Some zs) objects before after fault g s why = (s.taken, subst (BeginsWith xs objects) s.consumed g, s.goes_on, why)
 
 -- the stream ended before the next object did
-pub stopped : (moment : ℤ) (olds news : Books) (a b c output written : Option (List ℕ)) (before after : Objects) (report : ServeReport) (fault : ServeFault)
-    → (lent paid bound : ℕ) → Sofar moment olds news a b output written before.left report → StopsReading b c before after fault → IsBetween a b report.objects lent paid bound → 0 < before.left
+pub stopped : (most : ℕ) (moment : ℤ) (olds news : Books) (a b c output written : Option (List ℕ)) (before after : Objects) (report : ServeReport) (fault : ServeFault)
+    → (lent paid bound : ℕ) → Sofar most moment olds news a b output written before.left report → StopsReading b c before after fault → IsBetween a b report.objects lent paid bound → 0 < before.left
     → (fault ≡ Read → 0 < lent → after.left < before.left) → (start : Box) → AreBooksOf olds start
-    → ServesUntil moment start (record { input = a; left = c; output = output; written = written }) fault
-stopped moment olds news a b c output written before after report fault lent paid bound so s between more first start have = at fault s first
+    → ServesUntil most moment start (record { input = a; left = c; output = output; written = written }) fault
+stopped most moment olds news a b c output written before after report fault lent paid bound so s between more first start have = at fault s first
   where
     some : (f : ServeFault) → StopsReading b c before after f → ServesSome GivesPart moment start (record { input = a; left = c; output = output; written = written })
     some f s =
@@ -288,26 +288,26 @@ stopped moment olds news a b c output written before after report fault lent pai
           after = served.after;
           octets = served.octets;
           refused = report.refused;
-          gives = gives_read a b c served.objects before after f served.gives s (is_read a b c served.objects report.objects lent paid bound before.left s.taken between served.counted so.read s.consumed some);
+          gives = gives_read a b c served.objects before after f served.gives s (is_read most a b c served.objects report.objects lent paid bound before.left s.taken between served.counted so.read s.consumed some);
           answers = served.answers;
           written = served.writes;
         }
 
-    left_over : (f : ServeFault) (s : StopsReading b c before after f) → HasLeft a c after.left
-    left_over f s = read_on a b c s.taken before.left after.left so.read s.consumed s.left
+    left_over : (f : ServeFault) (s : StopsReading b c before after f) → HasLeft most a c after.left
+    left_over f s = read_on most a b c s.taken before.left after.left so.read s.consumed s.left
 
     at : (f : ServeFault) → StopsReading b c before after f → (f ≡ Read → 0 < lent → after.left < before.left)
-        → ServesUntil moment start (record { input = a; left = c; output = output; written = written }) f
-    at Read s first = (all Read s (λ l. let fewer = first refl l in let left = s.left in omega arith), read_less a c after.left (left_over Read s) s.stop)
-    at Memory s first = (some Memory s, read_less a c after.left (left_over Memory s) s.stop)
-    at TooLong s first = (all TooLong s (λ l. let none = s.stop in let left = s.left in omega arith), all_read a c after.left (left_over TooLong s) s.stop)
+        → ServesUntil most moment start (record { input = a; left = c; output = output; written = written }) f
+    at Read s first = (all Read s (λ l. let fewer = first refl l in let left = s.left in omega arith), read_less most a c after.left (left_over Read s) s.stop)
+    at Memory s first = (some Memory s, read_less most a c after.left (left_over Memory s) s.stop)
+    at TooLong s first = (all TooLong s (λ l. let none = s.stop in let left = s.left in omega arith), all_read most a c after.left (left_over TooLong s) s.stop)
     at Write s first = absurd s.stop
 
 -- an object was taken, and memory was refused for the answers to it, or for writing them
-pub forgotten : (moment : ℤ) (olds news : Books) (a b c output written now : Option (List ℕ)) (before after : Objects) (report : ServeReport)
-    → Sofar moment olds news a b output written before.left report → ReadsObject b c before after true → Keeps written now → (start : Box) → AreBooksOf olds start
-    → ServesUntil moment start (record { input = a; left = c; output = output; written = now }) Memory
-forgotten moment olds news a b c output written now before after report so (taken, t, left, more) keeps start have =
+pub forgotten : (most : ℕ) (moment : ℤ) (olds news : Books) (a b c output written now : Option (List ℕ)) (before after : Objects) (report : ServeReport)
+    → Sofar most moment olds news a b output written before.left report → ReadsObject b c before after true → Keeps written now → (start : Box) → AreBooksOf olds start
+    → ServesUntil most moment start (record { input = a; left = c; output = output; written = now }) Memory
+forgotten most moment olds news a b c output written now before after report so (taken, t, left, more) keeps start have =
     let served = so.served start have in (
       record {
         objects = served.objects;
@@ -318,16 +318,16 @@ forgotten moment olds news a b c output written now before after report so (take
         answers = served.answers;
         written = Appends-kept output written now served.octets served.writes keeps;
       },
-      read_less a c after.left (read_on a b c taken before.left after.left so.read t.consumed left) more,
+      read_less most a c after.left (read_on most a b c taken before.left after.left so.read t.consumed left) more,
     )
 
 -- the same where the fault is said to be that
-pub forgotten_at : (moment : ℤ) (olds news : Books) (a b c output written : Option (List ℕ)) (before after : Objects) (report : ServeReport) (fault : ServeFault)
-    → Sofar moment olds news a b output written before.left report → ReadsObject b c before after true → fault ≡ Memory → (start : Box) → AreBooksOf olds start
-    → ServesUntil moment start (record { input = a; left = c; output = output; written = written }) fault
-forgotten_at moment olds news a b c output written before after report fault so reads is start have =
-    let P : ServeFault → Type 0 = ServesUntil moment start (record { input = a; left = c; output = output; written = written }) in
-    subst P (sym is) (forgotten moment olds news a b c output written written before after report so reads (Keeps-refl written) start have)
+pub forgotten_at : (most : ℕ) (moment : ℤ) (olds news : Books) (a b c output written : Option (List ℕ)) (before after : Objects) (report : ServeReport) (fault : ServeFault)
+    → Sofar most moment olds news a b output written before.left report → ReadsObject b c before after true → fault ≡ Memory → (start : Box) → AreBooksOf olds start
+    → ServesUntil most moment start (record { input = a; left = c; output = output; written = written }) fault
+forgotten_at most moment olds news a b c output written before after report fault so reads is start have =
+    let P : ServeFault → Type 0 = ServesUntil most moment start (record { input = a; left = c; output = output; written = written }) in
+    subst P (sym is) (forgotten most moment olds news a b c output written written before after report so reads (Keeps-refl written) start have)
 
 -- the answers to an object from the box so far
 next_answers : (moment : ℤ) (news newer : Books) (number : ℕ) (kept more taken : List ℕ) (one : ℕ) (n : ℕ) → number ≡ n + 1
@@ -339,16 +339,16 @@ next_answers moment news newer number kept more taken one n number_is answers ke
     (after, hosted, subst Q number_is answer)
 
 -- the answers to an object were made, and weren't written whole
-pub unsent : (moment : ℤ) (olds news newer : Books) (a b c output written now : Option (List ℕ)) (failed : Bool) (before after : Objects) (report : ServeReport) (number one : ℕ) (more : List ℕ) (fault : ServeFault)
-    → Sofar moment olds news a b output written before.left report → ReadsObject b c before after true → number ≡ report.objects + 1
+pub unsent : (most : ℕ) (moment : ℤ) (olds news newer : Books) (a b c output written now : Option (List ℕ)) (failed : Bool) (before after : Objects) (report : ServeReport) (number one : ℕ) (more : List ℕ) (fault : ServeFault)
+    → Sofar most moment olds news a b output written before.left report → ReadsObject b c before after true → number ≡ report.objects + 1
     → AnswersKept moment number after.octets.items news newer more one → StopsSending written now failed more fault
     → (start : Box) → AreBooksOf olds start
-    → ServesUntil moment start (record { input = a; left = c; output = output; written = now }) fault
-unsent moment olds news newer a b c output written now failed before after report number one more Read so reads number_is answers sends start have = absurd sends
-unsent moment olds news newer a b c output written now failed before after report number one more TooLong so reads number_is answers sends start have = absurd sends
-unsent moment olds news newer a b c output written now failed before after report number one more Memory so reads number_is answers sends start have =
-    forgotten moment olds news a b c output written now before after report so reads sends start have
-unsent moment olds news newer a b c output written now failed before after report number one more Write so (taken, t, left, rest) number_is answers (f, some, partly) start have =
+    → ServesUntil most moment start (record { input = a; left = c; output = output; written = now }) fault
+unsent most moment olds news newer a b c output written now failed before after report number one more Read so reads number_is answers sends start have = absurd sends
+unsent most moment olds news newer a b c output written now failed before after report number one more TooLong so reads number_is answers sends start have = absurd sends
+unsent most moment olds news newer a b c output written now failed before after report number one more Memory so reads number_is answers sends start have =
+    forgotten most moment olds news a b c output written now before after report so reads sends start have
+unsent most moment olds news newer a b c output written now failed before after report number one more Write so (taken, t, left, rest) number_is answers (f, some, partly) start have =
     let served = so.served start have in
     let same : number ≡ length served.objects + 1 = number_is ∙ ap (λ k. k + 1) served.counted in
     let (box, hosted, answer) = next_answers moment news newer number after.octets.items more taken one (length served.objects) same answers t.kept_is served.after served.hosted in (
@@ -368,15 +368,15 @@ unsent moment olds news newer a b c output written now failed before after repor
         some = some;
         written = Appends-trans output written now served.octets (take partly.0 more) served.writes partly.1;
       },
-      read_less a c after.left (read_on a b c taken before.left after.left so.read t.consumed left) rest,
+      read_less most a c after.left (read_on most a b c taken before.left after.left so.read t.consumed left) rest,
     )
 
 -- one more object
-pub served_more : (moment : ℤ) (olds news newer : Books) (a b c output written new : Option (List ℕ)) (before after : Objects) (report next : ServeReport) (number one : ℕ) (more : List ℕ)
-    → Sofar moment olds news a b output written before.left report → ReadsObject b c before after true → number ≡ report.objects + 1
+pub served_more : (most : ℕ) (moment : ℤ) (olds news newer : Books) (a b c output written new : Option (List ℕ)) (before after : Objects) (report next : ServeReport) (number one : ℕ) (more : List ℕ)
+    → Sofar most moment olds news a b output written before.left report → ReadsObject b c before after true → number ≡ report.objects + 1
     → AnswersKept moment number after.octets.items news newer more one → one ≤ 1 → hosted_rooms newer ≡ hosted_rooms news → Appends written new more
-    → next.objects ≡ number → next.refused ≡ report.refused + one → Sofar moment olds newer a c output new after.left next
-served_more moment olds news newer a b c output written new before after report next number one more so (taken, t, left, rest) number_is answers small same appended objects_are refused_are =
+    → next.objects ≡ number → next.refused ≡ report.refused + one → Sofar most moment olds newer a c output new after.left next
+served_more most moment olds news newer a b c output written new before after report next number one more so (taken, t, left, rest) number_is answers small same appended objects_are refused_are =
     let few = so.few in
     let refusals = so.refusals in
     let some = t.some refl in
@@ -399,21 +399,21 @@ served_more moment olds news newer a b c output written new before after report 
             writes = Appends-trans output written new served.octets more served.writes appended;
           };
       addresses = same ∙ so.addresses;
-      read = read_on a b c taken before.left after.left so.read t.consumed left;
+      read = read_on most a b c taken before.left after.left so.read t.consumed left;
       few = omega arith;
       refusals = omega arith;
     }
 
 -- no object is left
-pub served_all : (moment : ℤ) (olds news : Books) (a b c output written : Option (List ℕ)) (before after : Objects) (report : ServeReport)
-    → Sofar moment olds news a b output written before.left report → ReadsObject b c before after false → (start : Box) → AreBooksOf olds start
-    → (final : Box) × AreBooksOf news final × ServesAll moment start final (record { input = a; left = c; output = output; written = written }) report
-served_all moment olds news a b c output written before after report so (taken, t, left, more) start have =
+pub served_all : (most : ℕ) (moment : ℤ) (olds news : Books) (a b c output written : Option (List ℕ)) (before after : Objects) (report : ServeReport)
+    → Sofar most moment olds news a b output written before.left report → ReadsObject b c before after false → (start : Box) → AreBooksOf olds start
+    → (final : Box) × AreBooksOf news final × ServesAll most moment start final (record { input = a; left = c; output = output; written = written }) report
+served_all most moment olds news a b c output written before after report so (taken, t, left, more) start have =
     let served = so.served start have in
     let ended = gives_all a b c served.objects after.octets.items taken served.gives t in (
       served.after,
       served.hosted,
-      record { objects = served.objects; octets = served.octets; are = ended.0; end = ended.1; answers = served.answers; counted = served.counted; bound = read_less a c after.left (read_on a b c taken before.left after.left so.read t.consumed left) more; written = served.writes },
+      record { objects = served.objects; octets = served.octets; are = ended.0; end = ended.1; answers = served.answers; counted = served.counted; bound = read_less most a c after.left (read_on most a b c taken before.left after.left so.read t.consumed left) more; written = served.writes },
     )
 
 -- ---- the parts of a function's answer
@@ -427,14 +427,14 @@ answered_from moment number kept kept' olds news old new sent one none sent_is k
     let Q : List ℕ → Type 0 = λ z. AnswersKept moment number z olds news sent one in
     subst Q kept_is (subst P same answers)
 
-pub serves_from : (moment : ℤ) (before : Box) (news : Books) (ends : Ends) (r : Result ServeReport ServeFault) → BooksServe moment before news ends r → Serves moment before ends r
+pub serves_from : (moment : ℤ) (before : Box) (news : Books) (ends : Ends) (r : Result ServeReport ServeFault) → BooksServe 1_073_741_824 moment before news ends r → Serves moment before ends r
 serves_from moment before news ends (Ok report) (after, hosted, all) = (after, all)
 serves_from moment before news ends (Err fault) h = h
 
 pub serves_none : (moment : ℤ) (before : Box) (input output : Option (List ℕ)) (fault : ServeFault) → fault ≡ Memory
-    → ServesUntil moment before (record { input = input; left = input; output = output; written = output }) fault
+    → ServesUntil 1_073_741_824 moment before (record { input = input; left = input; output = output; written = output }) fault
 serves_none moment before input output fault is =
-    let P : ServeFault → Type 0 = ServesUntil moment before (record { input = input; left = input; output = output; written = output }) in
+    let P : ServeFault → Type 0 = ServesUntil 1_073_741_824 moment before (record { input = input; left = input; output = output; written = output }) in
     subst P (sym is)
     (record { objects = []; after = before; octets = []; refused = 0; gives = none input; answers = (refl, refl, refl); written = Appends-nil output }, unread input)
   where
@@ -543,7 +543,7 @@ none_at rooms i a end h (k, l, is) = look rooms (λ n e lt. h n e (omega arith) 
 
 -- what is kept of a room is the texts of its book
 pub keeps_texts : (moment : ℤ) (hosts : Config) (news : Books) (ends : Ends) (report : ServeReport) (room : Room) (address calendar certificate : List ℕ)
-    → BooksServe moment (new_box hosts) news ends (Ok report) → Contains news.rooms.rooms.items room → address_octets room.address ≡ address
+    → BooksServe 1_073_741_824 moment (new_box hosts) news ends (Ok report) → Contains news.rooms.rooms.items room → address_octets room.address ≡ address
     → ((book : Book) → Represents room.meetings.entries book → IsKeptCalendar (address_octets room.address) book calendar) → IsKeptCertificate (address_octets room.address) calendar certificate
     → KeepsTexts moment hosts ends.input ends.left address calendar certificate
 keeps_texts moment hosts news ends report room address calendar certificate (after, hosted, all) among is text proof' =
@@ -567,7 +567,7 @@ keeps_texts moment hosts news ends report room address calendar certificate (aft
 
 -- serving to a writer that never fails ends so
 pub keeping_stopped : (moment : ℤ) (before : Box) (news : Books) (a b c d : Option (List ℕ)) (reader : Bool) (f : ServeFault)
-    → BooksServe moment before news (record { input = a; left = b; output = c; written = d }) (Err f) → StopsFor reader false f → StopsKeeping a b (stream.Serve f)
+    → BooksServe 1_073_741_824 moment before news (record { input = a; left = b; output = c; written = d }) (Err f) → StopsFor reader false f → StopsKeeping a b (stream.Serve f)
 keeping_stopped moment before news a b c d reader Read h cause = h.1
 keeping_stopped moment before news a b c d reader Write h cause = absurd (true≢false (sym cause))
 keeping_stopped moment before news a b c d reader TooLong h cause = h.1

@@ -1,11 +1,14 @@
 pub mod Answering
 pub mod Asked
 pub mod Books
+pub mod Boxes
 pub mod Config
 pub mod Faults
+pub mod FileNames
 pub mod Objects
 pub mod Organising
 pub mod Preamble
+pub mod Running
 pub mod Sending
 pub mod Serving
 pub mod Settings

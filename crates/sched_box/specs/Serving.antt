@@ -43,23 +43,27 @@ GivesRead (Some input) (Some left) objects =
     (part : List ℕ) × BeginsWith input objects (part ++ left) × (after_object part ≡ [])
     × ((objects ≡ []) ⊎ ((0 < length part) ⊎ (left ≡ [])))
 
--- of a reader whose octets are known fewer than 1,073,741,824 were read; this profile's choice
+-- of a reader whose octets are known fewer than this many were read
+abbrev pub IsWithin : ℕ → Option (List ℕ) → Option (List ℕ) → Type 0
+IsWithin most input left = IfSome input (λ octets. IfSome left (λ rest. length octets < length rest + most))
+
+-- of a stream fewer than 1,073,741,824; this profile's choice
 abbrev pub IsWithinBound : Option (List ℕ) → Option (List ℕ) → Type 0
-IsWithinBound input left = IfSome input (λ octets. IfSome left (λ rest. length octets < length rest + 1_073_741_824))
+IsWithinBound input left = IsWithin 1_073_741_824 input left
 
 -- this many octets of it were read
 abbrev pub HasRead : ℕ → Option (List ℕ) → Option (List ℕ) → Type 0
 HasRead n input left = IfSome input (λ octets. IfSome left (λ rest. length octets ≡ length rest + n))
 
--- all objects were taken, and the answers to them written
-pub record ServesAll (moment : ℤ) (before after : Box) (ends : Ends) (report : ServeReport) : Type 0 where
+-- all objects were taken, of fewer octets than this, and the answers to them written
+pub record ServesAll (most : ℕ) (moment : ℤ) (before after : Box) (ends : Ends) (report : ServeReport) : Type 0 where
   pub objects : List (List ℕ)
   pub octets : List ℕ
   pub are : IfSome ends.input (λ stream. AreObjects stream objects)
   pub end : OnSome ends.input (IsAtEnd ends.left)
   pub answers : AllAnswers moment 1 objects before after octets report.refused
   pub counted : report.objects ≡ length objects
-  pub bound : IsWithinBound ends.input ends.left
+  pub bound : IsWithin most ends.input ends.left
   pub written : Appends ends.output ends.written octets
 
 -- these objects, which were given so, were taken, and the answers to them written; of the next object a part was read
@@ -89,35 +93,35 @@ pub record ServesCut (moment : ℤ) (before : Box) (ends : Ends) : Type 0 where
   pub some : 0 < length answer
   pub written : Appends ends.output ends.written (octets ++ take cut answer)
 
--- how serving ends before the input does: the stream is too long exactly where 1,073,741,824 octets were read
-abbrev pub ServesUntil : ℤ → Box → Ends → ServeFault → Type 0
-ServesUntil moment before ends Read = ServesSome GivesRead moment before ends × IsWithinBound ends.input ends.left
-ServesUntil moment before ends Memory = ServesSome GivesPart moment before ends × IsWithinBound ends.input ends.left
-ServesUntil moment before ends TooLong = ServesSome GivesRead moment before ends × HasRead 1_073_741_824 ends.input ends.left
-ServesUntil moment before ends Write = ServesCut moment before ends × IsWithinBound ends.input ends.left
+-- how serving ends before the input does: the stream is too long exactly where this many octets were read
+abbrev pub ServesUntil : ℕ → ℤ → Box → Ends → ServeFault → Type 0
+ServesUntil most moment before ends Read = ServesSome GivesRead moment before ends × IsWithin most ends.input ends.left
+ServesUntil most moment before ends Memory = ServesSome GivesPart moment before ends × IsWithin most ends.input ends.left
+ServesUntil most moment before ends TooLong = ServesSome GivesRead moment before ends × HasRead most ends.input ends.left
+ServesUntil most moment before ends Write = ServesCut moment before ends × IsWithin most ends.input ends.left
 
 -- what comes of serving, from this box on
 abbrev pub Serves : ℤ → Box → Ends → Result ServeReport ServeFault → Type 0
-Serves moment before ends (Ok report) = (after : Box) × ServesAll moment before after ends report
-Serves moment before ends (Err fault) = ServesUntil moment before ends fault
+Serves moment before ends (Ok report) = (after : Box) × ServesAll 1_073_741_824 moment before after ends report
+Serves moment before ends (Err fault) = ServesUntil 1_073_741_824 moment before ends fault
 
--- and the books are the box after it
-abbrev pub BooksServe : ℤ → Box → Books → Ends → Result ServeReport ServeFault → Type 0
-BooksServe moment before new ends (Ok report) = (after : Box) × AreBooksOf new after × ServesAll moment before after ends report
-BooksServe moment before new ends (Err fault) = ServesUntil moment before ends fault
+-- the same where this many octets may be read, and the books are the box after it
+abbrev pub BooksServe : ℕ → ℤ → Box → Books → Ends → Result ServeReport ServeFault → Type 0
+BooksServe most moment before new ends (Ok report) = (after : Box) × AreBooksOf new after × ServesAll most moment before after ends report
+BooksServe most moment before new ends (Err fault) = ServesUntil most moment before ends fault
 
 -- what comes of a stream with its preamble; where it is refused, or the reader fails or memory is refused before it is read, nothing is
 -- written, and no octet past its empty line was taken
 abbrev pub ServesStream : Ends → Result ServeReport StreamFault → Type 0
 ServesStream ends (Ok report) =
     (moment : ℤ) × (hosts : Config) × (rest : Option (List ℕ)) × (after : Box) × OpensStream ends.input rest moment hosts
-    × ServesAll moment (new_box hosts) after (record ends { input = rest }) report
+    × ServesAll 1_073_741_824 moment (new_box hosts) after (record ends { input = rest }) report
 ServesStream ends (Err (Refused refusal)) =
     IfSome ends.input OpensNot × StopsInPreamble ends.input ends.left × Keeps ends.output ends.written
 ServesStream ends (Err (Serve fault)) =
     (IsPieceFault fault × StopsInPreamble ends.input ends.left × Keeps ends.output ends.written)
     ⊎ ((moment : ℤ) × (hosts : Config) × (rest : Option (List ℕ)) × OpensStream ends.input rest moment hosts
-    × ServesUntil moment (new_box hosts) (record ends { input = rest }) fault)
+    × ServesUntil 1_073_741_824 moment (new_box hosts) (record ends { input = rest }) fault)
 
 -- where the octets of the reader are known, all that was written answers the stream that they are
 abbrev pub AnswersWhole : Ends → Type 0

@@ -5,6 +5,8 @@ mod books;
 pub mod config;
 mod directory;
 mod fault;
+pub mod file_names;
+pub mod folders;
 pub mod objects;
 mod organisers;
 pub mod preamble;
@@ -14,6 +16,10 @@ mod settings;
 
 pub use config::Config;
 pub use fault::{ServeFault, StreamFault};
+pub use file_names::MessageName;
+pub use folders::{BoxFault, BoxReport, run_box};
 pub use preamble::read_preamble;
-pub use sched_devices::{DeviceReader, DeviceWriter, Folder, FolderFault, Input, Output, WriteFault};
+pub use sched_devices::{
+    DeviceReader, DeviceWriter, DiskFolder, Folder, FolderFault, Input, Output, WriteFault,
+};
 pub use serving::{ServeReport, keep, serve, serve_stream};

@@ -8,8 +8,8 @@ ghost use Rattle.sched_box.specs.Objects.{Cuts, IsPieceFault, LendsAfter, LendsN
 ghost use Rattle.sched_box.specs.declared.fault.ServeFault.TheVariants.{Read};
 
 use crate::fault::ServeFault;
-use sched_devices::{Input, lend};
 use ical_lines::Cutter;
+use sched_devices::{Input, lend};
 use std::alloc::{AllocError, Global};
 
 /// The most octets that are read of a stream; this profile's choice.
@@ -38,13 +38,13 @@ enum Piece {
 }
 
 impl Objects {
-    /// A stream from which nothing is read yet; 1,073,741,824 octets may be read of it.
-    pub fn new(alloc: Global) -> Objects
-        ensures left { result.left ≡ MOST_OCTETS }
+    /// A stream from which nothing is read yet; this many octets may be read of it.
+    pub fn new(alloc: Global, most: u64) -> Objects
+        ensures left { result.left ≡ most }
         ensures nothing { result.octets.items ≡ [] }
     {
         Objects {
-            left: MOST_OCTETS,
+            left: most,
             octets: Vec::new(alloc),
         }
     }
@@ -57,7 +57,7 @@ impl Objects {
     }
 
     /// Reads the next object; false where only empty lines are left.
-    /// A reader that fails gives `Read`, and the 1,073,741,824th octet `TooLong`.
+    /// A reader that fails gives `Read`, and the last octet that may be read `TooLong`.
     pub fn next_object<R: Input>(&mut self, reader: &mut R) -> Result<bool, ServeFault>
         ensures reads { IfOk result (ReadsObject (R.remaining reader.old) (R.remaining reader.new) self.old self.new) }
         ensures stops { IfErr result (StopsReading (R.remaining reader.old) (R.remaining reader.new) self.old self.new) }

@@ -11,10 +11,10 @@ ghost use Rattle.sched_box.specs.declared.preamble.LineState.TheVariants.{Inside
 
 use crate::config::{Config, LONGEST};
 use crate::fault::{ServeFault, StreamFault};
-use sched_devices::{Input, lend};
 use ical_lines::{Fault, Refusal};
 use ical_values::Stamp;
 use memchr::memchr;
+use sched_devices::{Input, lend};
 use std::alloc::Global;
 
 /// Reads a preamble, and leaves the reader after its empty line. No octet past that is taken, whatever comes of it.

@@ -16,13 +16,12 @@ ghost use Rattle.sched_box.specs.Serving.{AnswersWhole, BooksServe, KeepsTexts, 
 use crate::books::Books;
 use crate::config::Config;
 use crate::fault::{ServeFault, StreamFault};
-use sched_devices::Input;
-use crate::objects::Objects;
-use sched_devices::{Nowhere, Output, WriteFault};
+use crate::objects::{MOST_OCTETS, Objects};
 use crate::preamble::read_preamble;
 use ical_lines::Refusal;
 use ical_values::{Address, Stamp};
 use room_books::served_texts_pass;
+use sched_devices::{Input, Nowhere, Output, WriteFault};
 use std::alloc::{AllocError, Global};
 
 /// How many objects a stream had, and how many of them were refused.
@@ -77,7 +76,7 @@ pub fn serve<R: Input, W: Output>(
         (record { input = R.remaining reader.old; left = R.remaining reader.new; output = W.contents writer.old; written = W.contents writer.new }) result }
 {
     let mut books = Books::new(alloc, config)?;
-    serve_objects(alloc, &mut books, reader, writer, now)
+    serve_objects(alloc, &mut books, reader, writer, now, MOST_OCTETS)
 }
 
 /// What a room keeps after the same objects: its calendar and its certificate, for which the checker says yes.
@@ -106,7 +105,7 @@ pub fn keep<R: Input>(
     }
     let mut books = Books::new(alloc, config)?;
     let mut nowhere = Nowhere;
-    serve_objects(alloc, &mut books, reader, &mut nowhere, now)?;
+    serve_objects(alloc, &mut books, reader, &mut nowhere, now, MOST_OCTETS)?;
     let Some(kept) = books.room_at(room) else {
         return Err(not_hosted());
     };
@@ -126,13 +125,14 @@ fn not_hosted() -> StreamFault
     StreamFault::Refused(Refusal::BAD_PREAMBLE)
 }
 
-/// Serves the objects from whatever the books represent.
-fn serve_objects<R: Input, W: Output>(
+/// Serves the objects from whatever the books represent, of a stream of fewer octets than `most`.
+pub(crate) fn serve_objects<R: Input, W: Output>(
     alloc: Global,
     books: &mut Books,
     reader: &mut R,
     writer: &mut W,
     now: Stamp,
+    most: u64,
 ) -> Result<ServeReport, ServeFault>
     ensures counts { IfOk result (λ report. report.refused ≤ report.objects) }
     ensures addresses { OnOk result (hosted_rooms books.new ≡ hosted_rooms books.old) }
@@ -142,14 +142,14 @@ fn serve_objects<R: Input, W: Output>(
     ensures sent { OnOk result (W.has_failed writer.new ≡ W.has_failed writer.old) }
     ensures unsent { IfErr result (KeepsButWrite (W.has_failed writer.old) (W.has_failed writer.new)) }
     ensures fills { IsFilledWithin 2 (R.fills reader.old) (R.fills reader.new) (R.remaining reader.old) (R.remaining reader.new) }
-    ensures serves { (before : Box) → AreBooksOf books.old before → BooksServe now before books.new
+    ensures serves { (before : Box) → AreBooksOf books.old before → BooksServe most now before books.new
         (record { input = R.remaining reader.old; left = R.remaining reader.new; output = W.contents writer.old; written = W.contents writer.new }) result }
 {
     let mut report = ServeReport {
         objects: 0,
         refused: 0,
     };
-    let mut objects = Objects::new(alloc);
+    let mut objects = Objects::new(alloc, most);
     let mut answers = Vec::new(alloc);
     while objects.next_object(reader)? {
         let number = report.objects + 1;

@@ -1,2 +1,4 @@
+pub mod HeldFiles
+pub mod HeldPast
 pub mod InputLemmas
 pub mod OutputLemmas

@@ -1,3 +1,5 @@
+pub mod Calls
 pub mod Folder
 pub mod Input
+pub mod Memory
 pub mod Output

@@ -43,6 +43,7 @@ impl<T: Drop> From<AllocFailed<T>> for FolderFault {
 
 /// A folder of files that are written once: octets go into a temporary file, which is synced and then published under a name.
 /// Of a folder that is known its contract says what it holds, and what a stop at any moment may leave; of a real one it says neither.
+/// Each call may also answer Device, where the folder failed and counted that, or Memory.
 pub trait Folder {
     // It tells what it holds and what a stop may leave.
     ghost is_known: { Self → Bool } = { λ _. false };
@@ -116,6 +117,7 @@ pub trait Folder {
     fn publish(&mut self, name: &str) -> Result<(), FolderFault>
         requires { (Self.temporary self.old).is_there ≡ true }
         ensures published { OnOk result (Self.is_known self.old ≡ true → IsPublished (Self.image self.old) (Self.image self.new) name.now (Self.temporary self.old)) }
+        ensures taken { OnOk result ((Self.temporary self.new).is_there ≡ false) }
         ensures whole { OnErr result (Self.is_known self.old ≡ true
             → AreSame (Self.image self.new) (Self.image self.old) ⊎ IsPublished (Self.image self.old) (Self.image self.new) name.now (Self.temporary self.old)) }
         ensures known { Self.is_known self.new ≡ Self.is_known self.old }

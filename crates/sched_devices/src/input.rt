@@ -49,6 +49,7 @@ pub trait Input {
 }
 
 /// Has octets lent by a reader, unless its input has ended. It is filled only where it lends none: what it lends is consumed first.
+/// An error only where the reader has failed.
 pub fn lend<R: Input>(reader: &mut R) -> io::Result<()>
     ensures keeps { Keeps (R.remaining reader.old) (R.remaining reader.new) }
     ensures end { OnOk result (length (R.lent reader.new) ≡ 0 → OnSome (R.remaining reader.old) (IsAtEnd (R.remaining reader.new))) }
@@ -109,6 +110,7 @@ impl<R: Read + Drop> DeviceReader<R> {
     }
 
     /// The same, with a buffer of this many octets, at least one: a buffer of none would show nothing of the device.
+    /// An error where there is no memory for it.
     pub fn with_capacity(alloc: Global, capacity: usize, device: R) -> io::Result<DeviceReader<R>>
         ensures mark { IfOk result (λ reader. reader.failed ≡ false) }
         ensures device { IfOk result (λ reader. reader_inner reader.reader ≡ device) }
@@ -123,7 +125,7 @@ impl<R: Read + Drop> DeviceReader<R> {
         })
     }
 
-    /// One try.
+    /// One try to have octets in the buffer.
     fn fill_once(&mut self) -> io::Result<()>
         ensures keeps { Keeps (reader_remaining R.remaining self.old.reader) (reader_remaining R.remaining self.new.reader) }
         ensures end { OnOk result (length (reader_buffer self.new.reader) ≡ 0

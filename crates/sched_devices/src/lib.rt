@@ -1,12 +1,18 @@
 //! What may fail: readers, writers and folders, in memory or of a device.
 #![tactic(auto)]
 
+mod call_log;
 mod disk_folder;
 mod folder;
 pub mod input;
+mod memory_file;
+mod memory_folder;
 pub mod output;
+mod temporary_file;
 
+pub use call_log::Call;
 pub use disk_folder::DiskFolder;
 pub use folder::{Folder, FolderFault};
 pub use input::{DeviceReader, Input, lend};
+pub use memory_folder::MemoryFolder;
 pub use output::{DeviceWriter, Nowhere, Output, WriteFault};

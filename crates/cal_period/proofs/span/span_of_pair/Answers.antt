@@ -25,8 +25,8 @@ returns-then-past-ge-HORIZON c =
     let late : horizon ≤ℤ past = let l = rw cast_past at c.if-past-ge-HORIZON.true in grind (arith, ints, l) in
     none_late a b p q past c.regular_from.ensures c.regular_from-2.ensures is_past late
 
-pub bound_at-bound-requires-clause-width : goal.bound_at-bound-requires-clause-width
-bound_at-bound-requires-clause-width c =
+pub span_end-bound-requires-clause-width : goal.span_end-bound-requires-clause-width
+span_end-bound-requires-clause-width c =
     let v = c.width.result in
     let w = c.width-2.result in
     let cast_v : to_z w64 (of_z w64 v) ≡ v = omega (arith, ints, c.width.type_inv) in
@@ -49,15 +49,15 @@ returns-then-bound-ge-HORIZON c =
     let from = c.next_midnight-from.result in
     let v = c.width.result in
     let w = c.width-2.result in
-    let bound = c.bound_at-bound.result in
+    let bound = c.span_end-bound.result in
     let cast_from : to_z w64 (of_z w64 from) ≡ from = omega (arith, ints, c.next_midnight-from.type_inv) in
     let cast_v : to_z w64 (of_z w64 v) ≡ v = omega (arith, ints, c.width.type_inv) in
     let cast_w : to_z w64 (of_z w64 w) ≡ w = omega (arith, ints, c.width-2.type_inv) in
     let cast_max : to_z w64 (of_z w64 c.max.result) ≡ c.max.result = omega (arith, ints, c.max.type_inv) in
-    let cast_bound : to_z w64 (of_z w64 bound) ≡ bound = omega (arith, ints, c.bound_at-bound.type_inv) in
+    let cast_bound : to_z w64 (of_z w64 bound) ≡ bound = omega (arith, ints, c.span_end-bound.type_inv) in
     let next = rw cast_past at c.next_midnight-from.ensures.midnight in
     let greatest : c.max.result ≡ int_max v w = rw (cast_v, cast_w) at c.max.ensures.value in
-    let is_bound : bound ≡ span_end from c.in_ok-days.days (int_max v w) = (rw (cast_from, cast_max) at c.bound_at-bound.ensures) ∙ ap (span_end from c.in_ok-days.days) greatest in
+    let is_bound : bound ≡ span_end from c.in_ok-days.days (int_max v w) = (rw (cast_from, cast_max) at c.span_end-bound.ensures) ∙ ap (span_end from c.in_ok-days.days) greatest in
     let far : horizon ≤ℤ bound = let l = rw cast_bound at c.if-bound-ge-HORIZON.true in grind (arith, ints, l) in
     none_far a b p q past c.regular_from.ensures c.regular_from-2.ensures is_past from next c.in_ok-days.days c.in_ok-days.ensures v w bound c.width.ensures.of c.width-2.ensures.of is_bound far
 
@@ -75,15 +75,15 @@ returns c =
     let from = c.next_midnight-from.result in
     let v = c.width.result in
     let w = c.width-2.result in
-    let bound = c.bound_at-bound.result in
+    let bound = c.span_end-bound.result in
     let cast_from : to_z w64 (of_z w64 from) ≡ from = omega (arith, ints, c.next_midnight-from.type_inv) in
     let cast_v : to_z w64 (of_z w64 v) ≡ v = omega (arith, ints, c.width.type_inv) in
     let cast_w : to_z w64 (of_z w64 w) ≡ w = omega (arith, ints, c.width-2.type_inv) in
     let cast_max : to_z w64 (of_z w64 c.max.result) ≡ c.max.result = omega (arith, ints, c.max.type_inv) in
-    let cast_bound : to_z w64 (of_z w64 bound) ≡ bound = omega (arith, ints, c.bound_at-bound.type_inv) in
+    let cast_bound : to_z w64 (of_z w64 bound) ≡ bound = omega (arith, ints, c.span_end-bound.type_inv) in
     let next = rw cast_past at c.next_midnight-from.ensures.midnight in
     let greatest : c.max.result ≡ int_max v w = rw (cast_v, cast_w) at c.max.ensures.value in
-    let is_bound : bound ≡ span_end from c.in_ok-days.days (int_max v w) = (rw (cast_from, cast_max) at c.bound_at-bound.ensures) ∙ ap (span_end from c.in_ok-days.days) greatest in
+    let is_bound : bound ≡ span_end from c.in_ok-days.days (int_max v w) = (rw (cast_from, cast_max) at c.span_end-bound.ensures) ∙ ap (span_end from c.in_ok-days.days) greatest in
     let before : bound <ℤ horizon = below bound (rw cast_bound at c.if-bound-ge-HORIZON.false) in
     rw (cast_from, cast_bound) (
       least_span a b p q past c.regular_from.ensures c.regular_from-2.ensures is_past from next c.in_ok-days.days c.in_ok-days.ensures,

@@ -15,7 +15,7 @@ returns-in_err-refused-clause-serves g c =
     let reads = subst (ReadsObject b d before after) c.if-branch.true c.in_ok-next_object.ensures.reads in
     let p = err_from_is_err_and c.from_residual-in_err-refused.result c.from_residual-in_err-refused.ensures.1 in
     rw (p.1, p.2)
-    (forgotten_at c.args.now olds news (g.R.Input.remaining c.args.reader.now) b d (g.W.Output.contents c.args.writer.now) (g.W.Output.contents c.loop-answers.writer) before after c.loop-answers.report _ c.loop-answers.invariant.0 reads c.in_err-refused.ensures.memory)
+    (forgotten_at c.args.most c.args.now olds news (g.R.Input.remaining c.args.reader.now) b d (g.W.Output.contents c.args.writer.now) (g.W.Output.contents c.loop-answers.writer) before after c.loop-answers.report _ c.loop-answers.invariant.0 reads c.in_err-refused.ensures.memory)
 
 pub returns-in_err-send-clause-serves : goal.returns-in_err-send-clause-serves
 returns-in_err-send-clause-serves g c =
@@ -33,7 +33,7 @@ returns-in_err-send-clause-serves g c =
     let answers = answered_from c.args.now number after.octets.items c.octets.result.now news newer c.clear.new.self.items c.take.new.answers.items sent one c.clear.ensures.items c.as_slice.ensures.value c.octets.ensures c.in_ok-refused.ensures.answers in
     let p = err_from_is_err_and c.from_residual-in_err-send.result c.from_residual-in_err-send.ensures.1 in
     rw (p.1, p.2)
-    (unsent c.args.now olds news newer (g.R.Input.remaining c.args.reader.now) b d (g.W.Output.contents c.args.writer.now) (g.W.Output.contents c.loop-answers.writer) (g.W.Output.contents c.send.new.writer) (g.W.Output.has_failed c.send.new.writer) before after c.loop-answers.report number one sent _
+    (unsent c.args.most c.args.now olds news newer (g.R.Input.remaining c.args.reader.now) b d (g.W.Output.contents c.args.writer.now) (g.W.Output.contents c.loop-answers.writer) (g.W.Output.contents c.send.new.writer) (g.W.Output.has_failed c.send.new.writer) before after c.loop-answers.report number one sent _
     c.loop-answers.invariant.0 reads refl answers c.in_err-send.ensures.stops)
 
 pub loop-answers-preserved : goal.loop-answers-preserved
@@ -50,11 +50,11 @@ loop-answers-preserved g c =
     let one = c.in_ok-refused.refused in
     let reads = subst (ReadsObject b d before after) c.if-branch.true c.in_ok-next_object.ensures.reads in
     let answers = answered_from c.args.now number after.octets.items c.octets.result.now news newer c.clear.new.self.items c.take.new.answers.items sent one c.clear.ensures.items c.as_slice.ensures.value c.octets.ensures c.in_ok-refused.ensures.answers in (
-      served_more c.args.now olds news newer (g.R.Input.remaining c.args.reader.now) b d (g.W.Output.contents c.args.writer.now) (g.W.Output.contents c.loop-answers.writer) (g.W.Output.contents c.send.new.writer) before after c.loop-answers.report _ number one sent
+      served_more c.args.most c.args.now olds news newer (g.R.Input.remaining c.args.reader.now) b d (g.W.Output.contents c.args.writer.now) (g.W.Output.contents c.loop-answers.writer) (g.W.Output.contents c.send.new.writer) before after c.loop-answers.report _ number one sent
           c.loop-answers.invariant.0 reads refl answers c.in_ok-refused.ensures.count c.in_ok-refused.ensures.addresses c.in_ok-send.ensures.written refl refl,
       c.in_ok-next_object.ensures.mark ∙ c.loop-answers.invariant.1,
       c.in_ok-send.ensures.sent ∙ c.loop-answers.invariant.2,
-      between_more _ b d _ number _ _ _ _ _ before.left _ _ c.loop-answers.invariant.3 c.loop-answers.invariant.0.read reads.1 (c.in_ok-next_object.ensures.after c.if-branch.true) c.next_object.ensures.fills,
+      between_more c.args.most _ b d _ number _ _ _ _ _ before.left _ _ c.loop-answers.invariant.3 c.loop-answers.invariant.0.read reads.1 (c.in_ok-next_object.ensures.after c.if-branch.true) c.next_object.ensures.fills,
       reads.3,
     )
 
@@ -65,32 +65,32 @@ returns-clause-serves g c =
     let before = c.loop-answers.objects in
     let after = c.next_object.new.self in
     let none = subst (ReadsObject b d before after) c.if-branch.false c.in_ok-next_object.ensures.reads in
-    served_all c.args.now c.args.books.now c.loop-answers.books (g.R.Input.remaining c.args.reader.now) b d (g.W.Output.contents c.args.writer.now) (g.W.Output.contents c.loop-answers.writer) before after c.loop-answers.report
+    served_all c.args.most c.args.now c.args.books.now c.loop-answers.books (g.R.Input.remaining c.args.reader.now) b d (g.W.Output.contents c.args.writer.now) (g.W.Output.contents c.loop-answers.writer) before after c.loop-answers.report
     c.loop-answers.invariant.0 none
 
 pub returns-in_err-next_object-clause-serves : goal.returns-in_err-next_object-clause-serves
 returns-in_err-next_object-clause-serves g c =
     let p = err_from_is_err_and c.from_residual.result c.from_residual.ensures.1 in
     rw (p.1, p.2)
-    (λ box have. stopped c.args.now c.args.books.now c.loop-answers.books (g.R.Input.remaining c.args.reader.now) (g.R.Input.remaining c.loop-answers.reader) (g.R.Input.remaining c.next_object.new.reader) (g.W.Output.contents c.args.writer.now) (g.W.Output.contents c.loop-answers.writer) c.loop-answers.objects c.next_object.new.self c.loop-answers.report _ _ _ _
+    (λ box have. stopped c.args.most c.args.now c.args.books.now c.loop-answers.books (g.R.Input.remaining c.args.reader.now) (g.R.Input.remaining c.loop-answers.reader) (g.R.Input.remaining c.next_object.new.reader) (g.W.Output.contents c.args.writer.now) (g.W.Output.contents c.loop-answers.writer) c.loop-answers.objects c.next_object.new.self c.loop-answers.report _ _ _ _
     c.loop-answers.invariant.0 c.in_err-next_object.ensures.stops c.loop-answers.invariant.3 c.loop-answers.invariant.4 c.in_err-next_object.ensures.first box have)
 
 pub returns-in_err-next_object-clause-fills : goal.returns-in_err-next_object-clause-fills
 returns-in_err-next_object-clause-fills g c =
     let s = c.in_err-next_object.ensures.stops in
-    filled_within _ (g.R.Input.remaining c.loop-answers.reader) _ _ _ _ c.loop-answers.objects.left c.next_object.new.self.left _ _ _ s.taken c.loop-answers.invariant.3 c.loop-answers.invariant.0.read s.consumed s.left c.next_object.ensures.fills
+    filled_within c.args.most _ (g.R.Input.remaining c.loop-answers.reader) _ _ _ _ c.loop-answers.objects.left c.next_object.new.self.left _ _ _ s.taken c.loop-answers.invariant.3 c.loop-answers.invariant.0.read s.consumed s.left c.next_object.ensures.fills
 
 pub returns-in_err-refused-clause-fills : goal.returns-in_err-refused-clause-fills
 returns-in_err-refused-clause-fills g c =
     let (taken, t, left, more) = c.in_ok-next_object.ensures.reads in
-    filled_within _ (g.R.Input.remaining c.loop-answers.reader) _ _ _ _ c.loop-answers.objects.left c.next_object.new.self.left _ _ _ taken c.loop-answers.invariant.3 c.loop-answers.invariant.0.read t.consumed left c.next_object.ensures.fills
+    filled_within c.args.most _ (g.R.Input.remaining c.loop-answers.reader) _ _ _ _ c.loop-answers.objects.left c.next_object.new.self.left _ _ _ taken c.loop-answers.invariant.3 c.loop-answers.invariant.0.read t.consumed left c.next_object.ensures.fills
 
 pub returns-in_err-send-clause-fills : goal.returns-in_err-send-clause-fills
 returns-in_err-send-clause-fills g c =
     let (taken, t, left, more) = c.in_ok-next_object.ensures.reads in
-    filled_within _ (g.R.Input.remaining c.loop-answers.reader) _ _ _ _ c.loop-answers.objects.left c.next_object.new.self.left _ _ _ taken c.loop-answers.invariant.3 c.loop-answers.invariant.0.read t.consumed left c.next_object.ensures.fills
+    filled_within c.args.most _ (g.R.Input.remaining c.loop-answers.reader) _ _ _ _ c.loop-answers.objects.left c.next_object.new.self.left _ _ _ taken c.loop-answers.invariant.3 c.loop-answers.invariant.0.read t.consumed left c.next_object.ensures.fills
 
 pub returns-clause-fills : goal.returns-clause-fills
 returns-clause-fills g c =
     let (taken, t, left, more) = c.in_ok-next_object.ensures.reads in
-    filled_within _ (g.R.Input.remaining c.loop-answers.reader) _ _ _ _ c.loop-answers.objects.left c.next_object.new.self.left _ _ _ taken c.loop-answers.invariant.3 c.loop-answers.invariant.0.read t.consumed left c.next_object.ensures.fills
+    filled_within c.args.most _ (g.R.Input.remaining c.loop-answers.reader) _ _ _ _ c.loop-answers.objects.left c.next_object.new.self.left _ _ _ taken c.loop-answers.invariant.3 c.loop-answers.invariant.0.read t.consumed left c.next_object.ensures.fills

@@ -1,0 +1,18 @@
+use Rattle.std.proofs.Common.{◌≡◌, ◌≤◌, true, take}
+use Rattle.sched_box.specs.Running.{HasAnswered, LeavesHeld}
+use Rattle.sched_box.proofs.folders.answer_all.Given as goal
+
+abbrev pub invariant-loop-file : goal.invariant-loop-file
+invariant-loop-file g l = record {
+  inbox_known : g.I.Folder.is_known l.inbox ≡ g.I.Folder.is_known l.fn.inbox;
+  inbox_same : g.I.Folder.image l.inbox ≡ g.I.Folder.image l.fn.inbox;
+  inbox_later : g.I.Folder.failed l.fn.inbox ≤ g.I.Folder.failed l.inbox;
+  outbox_known : g.O.Folder.is_known l.outbox ≡ g.O.Folder.is_known l.fn.outbox;
+  outbox_later : g.O.Folder.failed l.fn.outbox ≤ g.O.Folder.failed l.outbox;
+  counted : l.report.files ≡ l.file-index;
+  fewer : l.report.written ≤ l.report.files;
+  so : g.O.Folder.is_known l.fn.outbox ≡ true
+      → HasAnswered (record { known = g.I.Folder.is_known l.fn.inbox; inbox = g.I.Folder.image l.fn.inbox; books = l.fn.books; start = g.O.Folder.image l.fn.outbox; first = g.O.Folder.moment l.fn.outbox })
+      (take l.file-index l.files) l.books (g.O.Folder.image l.outbox) (g.O.Folder.moment l.outbox) (LeavesHeld (g.O.Folder.image l.fn.outbox) (g.O.Folder.may_leave l.fn.outbox))
+      (g.O.Folder.left_since l.fn.outbox) (g.O.Folder.left_since l.outbox) (g.O.Folder.may_leave l.outbox) l.report;
+}

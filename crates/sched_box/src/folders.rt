@@ -1,0 +1,350 @@
+//! A box of folders: messages come as files of an inbox, and each of them is answered by a file of an outbox.
+
+ghost use Rattle.std.specs.Prelude.{◌≡◌, ◌⊎◌, ◌↔◌, ◌≤◌, ℕ, List, true, false, map, None, Some, IsNone, Contains, IfOk, IfErr, OnOk, OnErr, IsErrOf, IsTrue, string_bytes};
+ghost use Rattle.profile.specs.streams.Folders.{AreMessageFiles, AreNames, AreNamesSynced, Elapses, Image, IsMessageFile, LosesNamesAlone};
+ghost use Rattle.sched_devices.specs.Folder.{HasCause, IsKept};
+ghost use Rattle.sched_devices.specs.declared.folder.FolderFault.TheVariants as folder;
+ghost use Rattle.sched_box.specs.Boxes.{HasRisen, IsNoDifference, Runs};
+ghost use Rattle.sched_box.specs.Config.{config_hosts};
+ghost use Rattle.sched_box.specs.Running.{AnswersMessage, AnswersOctets, AreApart, AreRising, GoesOn, IsGained, IsWhole, LeavesHeld, MayGain, RunsOver, Settles, answers_name, box_fault, file_of};
+ghost use Rattle.sched_box.specs.declared.folders.BoxFault.TheVariants.{Device, Differs, Memory};
+
+use crate::books::Books;
+use crate::config::Config;
+use crate::file_names::MessageName;
+use crate::objects::MOST_OCTETS;
+use crate::serving::serve_objects;
+use ical_values::Stamp;
+use sched_devices::{Folder, FolderFault};
+use std::alloc::{AllocError, AllocFailed, Global};
+use thiserror::Error;
+
+/// One octet more than a file may have: a stream of as many as may be read is too long.
+const MOST_OF_FILE: u64 = MOST_OCTETS + 1;
+
+/// How many files of the inbox were answered, and how many answers were published.
+#[derive(Clone, Copy, Debug, PartialEq, Eq)]
+pub struct BoxReport {
+    pub files: u64,
+    pub written: u64,
+}
+
+/// Why a run of the box ended before its end.
+#[derive(Debug, PartialEq, Eq, Drop, Error)]
+pub enum BoxFault {
+    /// A folder failed.
+    #[error("a folder can't be used")]
+    Device,
+    /// The file of this name in the outbox isn't the answer to its message.
+    #[error("{0} differs from the answer to its message")]
+    Differs(String),
+    /// Out of memory.
+    #[error("out of memory")]
+    Memory,
+}
+
+impl From<FolderFault> for BoxFault {
+    ghost from_gives = { λ fault e. e ≡ box_fault fault };
+
+    // Missing and Exists don't come: a name that was listed is there, and one that wasn't isn't.
+    fn from(fault: FolderFault) -> BoxFault {
+        match fault {
+            FolderFault::Memory => BoxFault::Memory,
+            FolderFault::Device | FolderFault::Missing | FolderFault::Exists => BoxFault::Device,
+        }
+    }
+}
+
+impl From<AllocError> for BoxFault {
+    ghost from_gives = { λ _ e. e ≡ Memory };
+
+    fn from(_error: AllocError) -> BoxFault {
+        BoxFault::Memory
+    }
+}
+
+impl<T: Drop> From<AllocFailed<T>> for BoxFault {
+    ghost from_gives = { λ _ e. e ≡ Memory };
+
+    fn from(_error: AllocFailed<T>) -> BoxFault {
+        BoxFault::Memory
+    }
+}
+
+/// The names of a folder, each once, in the order of their octets.
+fn sorted_names<F: Folder>(alloc: Global, place: &mut F) -> Result<Vec<String>, FolderFault>
+    ensures names { IfOk result (λ names. F.is_known place.old ≡ true → AreNames (F.image place.old) (map string_bytes names.items)) }
+    ensures rising { IfOk result (λ names. AreRising (map string_bytes names.items)) }
+    ensures kept { IsKept F.is_known F.image F.temporary F.may_leave place.old place.new }
+    ensures time { Elapses (F.moment place.old) (F.moment place.new) (F.left_since place.old) (F.left_since place.new) (F.may_leave place.new) }
+    ensures not_missing { IsErrOf result folder.Missing → ⊥ }
+    ensures not_existing { IsErrOf result folder.Exists → ⊥ }
+    ensures cause { HasCause (F.failed place.old) (F.failed place.new) (IsErrOf result folder.Device) }
+{
+    let mut names = place.names(alloc)?;
+    put_in_order(&mut names);
+    Ok(names)
+}
+
+/// Syncs a folder: what an earlier run published in it may not be on the disk yet.
+fn sync_names<F: Folder>(place: &mut F) -> Result<(), FolderFault>
+    ensures synced { OnOk result (AreNamesSynced (F.image place.old) (F.may_leave place.old) (F.may_leave place.new)) }
+    ensures kept { IsKept F.is_known F.image F.temporary F.may_leave place.old place.new }
+    ensures time { Elapses (F.moment place.old) (F.moment place.new) (F.left_since place.old) (F.left_since place.new) (F.may_leave place.new) }
+    ensures not_missing { IsErrOf result folder.Missing → ⊥ }
+    ensures not_existing { IsErrOf result folder.Exists → ⊥ }
+    ensures cause { HasCause (F.failed place.old) (F.failed place.new) (IsErrOf result folder.Device) }
+{
+    place.sync_dir()
+}
+
+/// Puts names in the order of their octets, each once: a folder that isn't known may list one twice.
+fn put_in_order(names: &mut Vec<String>)
+    ensures same { (name : List ℕ) → Contains (map string_bytes names.old.items) name ↔ Contains (map string_bytes names.new.items) name }
+    ensures rising { AreRising (map string_bytes names.new.items) }
+{
+    names.sort_unstable();
+    names.dedup();
+}
+
+/// Whether a name is among others, which are in order.
+fn is_among(names: &[String], name: &str) -> bool
+    requires { AreRising (map string_bytes names.now) }
+    ensures { IsTrue result ↔ Contains (map string_bytes names.now) name.now }
+{
+    names
+        .binary_search_by(|other| other.as_str().cmp(name))
+        .is_ok()
+}
+
+/// The messages of the inbox, in the order of the octets of their names. Files of other names are left alone.
+fn message_files<I: Folder>(alloc: Global, inbox: &mut I) -> Result<Vec<MessageName>, FolderFault>
+    ensures messages { IfOk result (λ files. I.is_known inbox.old ≡ true → AreMessageFiles (I.image inbox.old) (map (file_of (I.image inbox.old)) files.items)) }
+    ensures apart { IfOk result (λ files. AreApart files.items) }
+    ensures kept { IsKept I.is_known I.image I.temporary I.may_leave inbox.old inbox.new }
+    ensures not_missing { IsErrOf result folder.Missing → ⊥ }
+    ensures not_existing { IsErrOf result folder.Exists → ⊥ }
+    ensures cause { HasCause (I.failed inbox.old) (I.failed inbox.new) (IsErrOf result folder.Device) }
+{
+    let names = sorted_names(alloc, inbox)?;
+    let files = messages_among(alloc, names)?;
+    Ok(files)
+}
+
+/// Those of these names that are messages', in their order.
+fn messages_among(alloc: Global, names: Vec<String>) -> Result<Vec<MessageName>, AllocError>
+    ensures messages { IfOk result (λ files. (image : Image) → AreRising (map string_bytes names.items) → AreNames image (map string_bytes names.items) → AreMessageFiles image (map (file_of image) files.items)) }
+    ensures apart { IfOk result (λ files. AreRising (map string_bytes names.items) → AreApart files.items) }
+{
+    let mut files = Vec::new(alloc);
+    for name in names {
+        let Some(file) = MessageName::read(name) else {
+            continue;
+        };
+        files.push(file)?;
+    }
+    Ok(files)
+}
+
+/// The answers to a message of the inbox, by books that keep what they took of the earlier ones.
+fn answers_of<I: Folder>(
+    alloc: Global,
+    inbox: &mut I,
+    books: &mut Books,
+    file: &MessageName,
+) -> Result<Vec<u8>, BoxFault>
+    requires { I.is_known inbox.old ≡ true → IsMessageFile (I.image inbox.old) (file_of (I.image inbox.old) file.now) }
+    ensures answers { IfOk result (λ answers. I.is_known inbox.old ≡ true → AnswersMessage (I.image inbox.old) file.now books.old books.new answers.items) }
+    ensures no_difference { IfErr result IsNoDifference }
+    ensures known { I.is_known inbox.new ≡ I.is_known inbox.old }
+    ensures same { I.image inbox.new ≡ I.image inbox.old }
+    ensures later { I.failed inbox.old ≤ I.failed inbox.new }
+    ensures cause { IsErrOf result Device → HasRisen (I.failed inbox.old) (I.failed inbox.new) }
+{
+    let octets = inbox.read(alloc, file.name())?;
+    answers_to(alloc, books, &octets, file.moment())
+}
+
+/// The answers to the objects of a stream, which are counted from 1.
+fn answers_to(
+    alloc: Global,
+    books: &mut Books,
+    octets: &[u8],
+    moment: Stamp,
+) -> Result<Vec<u8>, BoxFault>
+    ensures answers { IfOk result (λ answers. AnswersOctets moment octets.now books.old books.new answers.items) }
+    ensures memory { IfErr result (λ fault. fault ≡ Memory) }
+{
+    let mut reader = octets;
+    let mut answers = Vec::new(alloc);
+    match serve_objects(
+        alloc,
+        books,
+        &mut reader,
+        &mut answers,
+        moment,
+        MOST_OF_FILE,
+    ) {
+        Ok(_) => Ok(answers),
+        // Octets in memory don't fail, and a file has fewer than may be read: what is wanting is memory.
+        Err(_) => Err(BoxFault::Memory),
+    }
+}
+
+/// Has the answers to a message stand in the outbox: where a file of their name is there it is compared, else they are published.
+/// Whether they were published; `Differs` where another file is there, which is left as it is.
+fn settle<O: Folder>(
+    alloc: Global,
+    outbox: &mut O,
+    theirs: &[String],
+    file: &MessageName,
+    answers: &[u8],
+) -> Result<bool, BoxFault>
+    requires rising { AreRising (map string_bytes theirs.now) }
+    requires there { O.is_known outbox.old ≡ true → Contains (map string_bytes theirs.now) (answers_name file.now) → IsNone (O.image outbox.old (answers_name file.now)) → ⊥ }
+    requires free { O.is_known outbox.old ≡ true → (Contains (map string_bytes theirs.now) (answers_name file.now) → ⊥) → O.image outbox.old (answers_name file.now) ≡ None }
+    ensures settles { O.is_known outbox.old ≡ true → Settles (record { name = answers_name file.now; octets = answers.now }) (O.image outbox.old) (O.image outbox.new) (O.may_leave outbox.old) (O.may_leave outbox.new) result }
+    ensures time { O.is_known outbox.old ≡ true → GoesOn (O.moment outbox.old) (O.moment outbox.new) (O.left_since outbox.old) (O.left_since outbox.new)
+        (MayGain (record { name = answers_name file.now; octets = answers.now }) (O.may_leave outbox.old)) }
+    ensures known { O.is_known outbox.new ≡ O.is_known outbox.old }
+    ensures later { O.failed outbox.old ≤ O.failed outbox.new }
+    ensures cause { IsErrOf result Device → HasRisen (O.failed outbox.old) (O.failed outbox.new) }
+{
+    let name = file.answer_name(alloc)?;
+    if !is_among(theirs, name.as_str()) {
+        publish_answers(outbox, name.as_str(), answers)?;
+        return Ok(true);
+    }
+    if stands_there(alloc, outbox, name.as_str(), answers)? {
+        Ok(false)
+    } else {
+        Err(BoxFault::Differs(name))
+    }
+}
+
+/// Whether these octets are what the outbox holds under the name.
+fn stands_there<O: Folder>(
+    alloc: Global,
+    outbox: &mut O,
+    name: &str,
+    answers: &[u8],
+) -> Result<bool, FolderFault>
+    requires { O.is_known outbox.old ≡ true → IsNone (O.image outbox.old name.now) → ⊥ }
+    ensures equal { IfOk result (λ same. O.is_known outbox.old ≡ true → (octets : List ℕ) × (O.image outbox.old name.now ≡ Some octets) × (IsTrue same ↔ octets ≡ answers.now)) }
+    ensures kept { IsKept O.is_known O.image O.temporary O.may_leave outbox.old outbox.new }
+    ensures time { Elapses (O.moment outbox.old) (O.moment outbox.new) (O.left_since outbox.old) (O.left_since outbox.new) (O.may_leave outbox.new) }
+    ensures not_missing { IsErrOf result folder.Missing → ⊥ }
+    ensures not_existing { IsErrOf result folder.Exists → ⊥ }
+    ensures cause { HasCause (O.failed outbox.old) (O.failed outbox.new) (IsErrOf result folder.Device) }
+{
+    let octets = outbox.read(alloc, name)?;
+    Ok(octets.as_slice() == answers)
+}
+
+/// Writes the temporary file, and syncs it.
+fn write_synced<O: Folder>(outbox: &mut O, octets: &[u8]) -> Result<(), FolderFault>
+    ensures there { OnOk result ((O.temporary outbox.new).is_there ≡ true) }
+    ensures octets { OnOk result (O.is_known outbox.old ≡ true → (O.temporary outbox.new).octets ≡ octets.now) }
+    ensures synced { OnOk result (O.is_known outbox.old ≡ true → (O.temporary outbox.new).is_synced ≡ true) }
+    ensures known { O.is_known outbox.new ≡ O.is_known outbox.old }
+    ensures image { O.image outbox.new ≡ O.image outbox.old }
+    ensures stop { (left : Image) → O.may_leave outbox.new left → O.may_leave outbox.old left }
+    ensures time { GoesOn (O.moment outbox.old) (O.moment outbox.new) (O.left_since outbox.old) (O.left_since outbox.new) (O.may_leave outbox.old) }
+    ensures not_missing { IsErrOf result folder.Missing → ⊥ }
+    ensures not_existing { IsErrOf result folder.Exists → ⊥ }
+    ensures later { O.failed outbox.old ≤ O.failed outbox.new }
+    ensures cause { IsErrOf result folder.Device → HasRisen (O.failed outbox.old) (O.failed outbox.new) }
+{
+    outbox.write_temp(octets)?;
+    outbox.sync_temp()
+}
+
+/// Publishes answers under a name under which nothing stands. At Ok no stop takes them away.
+fn publish_answers<O: Folder>(outbox: &mut O, name: &str, answers: &[u8]) -> Result<(), FolderFault>
+    requires { O.is_known outbox.old ≡ true → O.image outbox.old name.now ≡ None }
+    ensures published { OnOk result (O.is_known outbox.old ≡ true → IsGained (record { name = name.now; octets = answers.now }) (O.image outbox.old) (O.image outbox.new) (O.may_leave outbox.old) (O.may_leave outbox.new)) }
+    ensures whole { OnErr result (O.is_known outbox.old ≡ true → IsWhole (record { name = name.now; octets = answers.now }) (O.image outbox.old) (O.image outbox.new)) }
+    ensures known { O.is_known outbox.new ≡ O.is_known outbox.old }
+    ensures time { O.is_known outbox.old ≡ true → GoesOn (O.moment outbox.old) (O.moment outbox.new) (O.left_since outbox.old) (O.left_since outbox.new)
+        (MayGain (record { name = name.now; octets = answers.now }) (O.may_leave outbox.old)) }
+    ensures not_missing { IsErrOf result folder.Missing → ⊥ }
+    ensures not_existing { IsErrOf result folder.Exists → ⊥ }
+    ensures later { O.failed outbox.old ≤ O.failed outbox.new }
+    ensures cause { IsErrOf result folder.Device → HasRisen (O.failed outbox.old) (O.failed outbox.new) }
+{
+    write_synced(outbox, answers)?;
+    outbox.publish(name)?;
+    outbox.sync_dir()
+}
+
+/// Answers these messages of the inbox, in turn.
+fn answer_all<I: Folder, O: Folder>(
+    alloc: Global,
+    inbox: &mut I,
+    outbox: &mut O,
+    books: &mut Books,
+    files: &[MessageName],
+    theirs: &[String],
+) -> Result<BoxReport, BoxFault>
+    requires messages { I.is_known inbox.old ≡ true → AreMessageFiles (I.image inbox.old) (map (file_of (I.image inbox.old)) files.now) }
+    requires apart { AreApart files.now }
+    requires rising { AreRising (map string_bytes theirs.now) }
+    requires names { O.is_known outbox.old ≡ true → AreNames (O.image outbox.old) (map string_bytes theirs.now) }
+    ensures runs { O.is_known outbox.old ≡ true → RunsOver (record { known = I.is_known inbox.old; inbox = I.image inbox.old; books = books.old; start = O.image outbox.old; first = O.moment outbox.old })
+        files.now books.new (O.image outbox.new) (O.moment outbox.new) (LeavesHeld (O.image outbox.old) (O.may_leave outbox.old)) (O.left_since outbox.old) (O.left_since outbox.new) (O.may_leave outbox.new) result }
+    ensures same { I.image inbox.new ≡ I.image inbox.old }
+    ensures later { (I.failed inbox.old ≤ I.failed inbox.new) × (O.failed outbox.old ≤ O.failed outbox.new) }
+    ensures cause { IsErrOf result Device → HasRisen (I.failed inbox.old) (I.failed inbox.new) ⊎ HasRisen (O.failed outbox.old) (O.failed outbox.new) }
+{
+    let mut report = BoxReport {
+        files: 0,
+        written: 0,
+    };
+    for file in files {
+        let answers = answers_of(alloc, inbox, books, file)?;
+        let is_new = settle(alloc, outbox, theirs, file, &answers)?;
+        report = report.with_file(is_new);
+    }
+    Ok(report)
+}
+
+impl BoxReport {
+    ghost use Rattle.std.specs.Prelude.{◌≡◌, ◌+◌, ◌<◌, ◌^◌, if◌then◌else◌};
+
+    /// One more file was answered.
+    fn with_file(self, is_new: bool) -> BoxReport
+        requires files { self.files + 1 < 2 ^ 64 }
+        requires written { self.written + 1 < 2 ^ 64 }
+        ensures files { result.files ≡ self.files + 1 }
+        ensures written { result.written ≡ self.written + (if is_new then 1 else 0) }
+    {
+        BoxReport {
+            files: self.files + 1,
+            written: self.written + u64::from(is_new),
+        }
+    }
+}
+
+/// Answers each file of the inbox, in the byte order of their names, by a file of the same stem in the outbox. Files of other names are left alone. All
+/// books are kept over all files, from empty ones. An answer that is there is compared, and left as it is; one that isn't is written, synced and
+/// published, and the folder synced, before the next file is read. So a stop at any moment leaves whole files, the answers to the first of the files,
+/// and a later run goes on from there. `Device` comes only where a folder has failed. `Differs` comes at the first answer that differs from what the
+/// outbox holds under its name: nothing is published after it.
+pub fn run_box<I: Folder, O: Folder>(
+    alloc: Global,
+    inbox: &mut I,
+    outbox: &mut O,
+    config: &Config,
+) -> Result<BoxReport, BoxFault>
+    ensures cause { IsErrOf result Device → HasRisen (I.failed inbox.old) (I.failed inbox.new) ⊎ HasRisen (O.failed outbox.old) (O.failed outbox.new) }
+    ensures kept { I.image inbox.new ≡ I.image inbox.old }
+    ensures runs { I.is_known inbox.old ≡ true → O.is_known outbox.old ≡ true → LosesNamesAlone (O.image outbox.old) (O.may_leave outbox.old)
+        → Runs (I.image inbox.old) (config_hosts config.now) (record { start = O.image outbox.old; now = O.image outbox.new; first = O.moment outbox.old; last = O.moment outbox.new })
+        (O.may_leave outbox.old) (O.may_leave outbox.new) (O.left_since outbox.new) result }
+{
+    sync_names(outbox)?;
+    let files = message_files(alloc, inbox)?;
+    let theirs = sorted_names(alloc, outbox)?;
+    let mut books = Books::new(alloc, config)?;
+    answer_all(alloc, inbox, outbox, &mut books, &files, &theirs)
+}
