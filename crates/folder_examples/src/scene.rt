@@ -93,7 +93,10 @@ impl Scene {
     fn run_text(&mut self) -> Result<String, NoAnswer> {
         let alloc = self.alloc;
         match self.run()? {
-            Ok(report) => Ok(format!(in alloc; "{} files, {} written", report.files, report.written)?),
+            Ok(report) => Ok(format!(in alloc;
+                "{} files, {} written",
+                report.files, report.written
+            )?),
             Err(BoxFault::Differs(name)) => Ok(format!(in alloc; "{name} differs")?),
             Err(BoxFault::Device) => Ok(String::from_str(alloc, "device")?),
             Err(BoxFault::Memory) => Err(NoAnswer::Memory),

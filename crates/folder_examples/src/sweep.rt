@@ -90,7 +90,9 @@ impl Sweep<'_> {
             return Ok(Tried::Else("other files were left"));
         }
         match scene.run()? {
-            Ok(report) if is_counted(report, files) && is_same(&mut scene, whole)? => Ok(Tried::Same),
+            Ok(report) if is_counted(report, files) && is_same(&mut scene, whole)? => Ok(
+                Tried::Same,
+            ),
             Ok(_) => Ok(Tried::Else("other files at the end")),
             Err(_) => Ok(Tried::Else("the next run ended early")),
         }

@@ -1,6 +1,6 @@
 //! Serving: each object goes to the rooms that it is addressed to, or to the organiser that it names, and what is answered is written.
 
-ghost use Rattle.std.specs.Prelude.{◌≡◌, ◌≤◌, ℕ, List, Option, Bool, Contains, false, IfErr, IfOk, OnOk};
+ghost use Rattle.std.specs.Prelude.{◌≡◌, ◌<◌, ◌≤◌, ℕ, List, Option, Bool, Contains, false, IfErr, IfOk, OnOk};
 ghost use Rattle.std.specs.Io.KnownBytes.{Appends, Keeps};
 ghost use Rattle.std.specs.Result.{IsErrAnd};
 ghost use Rattle.ical_values.specs.Octets.{address_octets};
@@ -125,7 +125,7 @@ fn not_hosted() -> StreamFault
     StreamFault::Refused(Refusal::BAD_PREAMBLE)
 }
 
-/// Serves the objects from whatever the books represent, of a stream of fewer octets than `most`.
+/// Serves the objects from whatever the books represent, of a stream of fewer octets than `most`, which is some.
 pub(crate) fn serve_objects<R: Input, W: Output>(
     alloc: Global,
     books: &mut Books,
@@ -134,6 +134,7 @@ pub(crate) fn serve_objects<R: Input, W: Output>(
     now: Stamp,
     most: u64,
 ) -> Result<ServeReport, ServeFault>
+    requires { 0 < most }
     ensures counts { IfOk result (λ report. report.refused ≤ report.objects) }
     ensures addresses { OnOk result (hosted_rooms books.new ≡ hosted_rooms books.old) }
     ensures cause { IfErr result (StopsFor (R.has_failed reader.new) (W.has_failed writer.new)) }

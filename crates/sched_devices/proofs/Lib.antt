@@ -2,3 +2,4 @@ pub mod HeldFiles
 pub mod HeldPast
 pub mod InputLemmas
 pub mod OutputLemmas
+mod FolderExamples

@@ -1,8 +1,17 @@
-use Rattle.std.proofs.Common.{◌+◌, ◌∙◌, refl, subst}
+use Rattle.std.proofs.Common.{◌+◌, ◌∙◌, refl, subst, arith}
 use Rattle.std.proofs.lemmas.Result.{err_from_is_err_and}
 use Rattle.sched_box.specs.Objects.{ReadsObject}
 use Rattle.sched_box.proofs.ServingLemmas.{between_first, between_more, filled_within, forgotten_at, unsent, none_served, served_more, served_all, stopped, answered_from}
 use Rattle.sched_box.proofs.serving.serve_objects.Goals as goal
+
+pub loop-answers-init : goal.loop-answers-init
+loop-answers-init g c = (
+  none_served c.args.most c.args.now c.args.books.now (g.R.Input.remaining c.args.reader.now) (g.W.Output.contents c.args.writer.now) (record { objects = 0; refused = 0 }) c.new-objects.result.left refl refl c.new-objects.ensures.left,
+  refl,
+  refl,
+  between_first _ _ _ _ _ refl (omega (arith, c.new-objects.ensures.left)),
+  omega (arith, c.new-objects.ensures.left, c.requires),
+)
 
 pub returns-in_err-refused-clause-serves : goal.returns-in_err-refused-clause-serves
 returns-in_err-refused-clause-serves g c =
