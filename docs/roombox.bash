@@ -1,10 +1,10 @@
 # Completion of roombox in bash: `source docs/roombox.bash`. Made by bench/man_page.py from the help of roombox.
 
 _roombox() {
-    local word=${COMP_WORDS[COMP_CWORD]} options="serve keep check expand explain --help --version" at
+    local word=${COMP_WORDS[COMP_CWORD]} options="serve keep check expand explain box --help --version" at
     for ((at = 1; at < COMP_CWORD; at++)); do
         case ${COMP_WORDS[at]} in
-        serve | keep | check | expand | explain) break ;;
+        serve | keep | check | expand | explain | box) break ;;
         esac
     done
     COMPREPLY=()
@@ -18,6 +18,7 @@ _roombox() {
     check) options="--help" ;;
     expand) options="--limit --help" ;;
     explain) options="--help" ;;
+    box) options="--help" ;;
     esac
     mapfile -t COMPREPLY < <(compgen -W "$options" -- "$word")
 }

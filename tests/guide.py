@@ -580,7 +580,7 @@ def command_line(cases, program):
                             (("keep", "r1"), "<ROOM>"), (("check", "a", "b", "r1"), "<ROOM>"), (("explain", "44"), "[NUMBER]"), (("explain", "no"), "[NUMBER]")]:
         status, out, said = run(program, *given)
         cases.holds(f"a bad word: {given}", (status, out, said.startswith(f"error: invalid value '{given[-1]}' for '{argument}': "), said.endswith("\n\nFor more information, try '--help'.\n")), (2, "", True, True))
-    for given in [("what",), ("keep",), ("expand", "--limt", "1"), ("explain", "43", "44"), ("serve", "--report", "x")]:
+    for given in [("what",), ("keep",), ("expand", "--limt", "1"), ("explain", "43", "44"), ("serve", "--report", "x"), ("box", "config", "inbox")]:
         status, out, said = run(program, *given)
         cases.holds(f"a bad word: {given}", (status, out, said.startswith("error: "), said.endswith("\n\nFor more information, try '--help'.\n")), (2, "", True, True))
     cases.holds("the greatest limit", run(program, "expand", "--limit", "100000", given="\r\n".join(OBJECT[:2] + OBJECT[3:]))[:2], (0, "20250310T090000Z 20250310T090000Z 3600\n"))
@@ -593,7 +593,7 @@ def command_line(cases, program):
     script = ROOT / "docs" / "roombox.bash"
     cases.holds("so is the completion", script.read_text(encoding="utf-8"), man_page.completion(program))
     if shutil.which("bash"):
-        for line, wanted in [("roombox ex", "expand explain"), ("roombox serve --", "--report --help"), ("roombox keep --c", "--certificate"), ("roombox keep ", ""), ("roombox --v", "--version")]:
+        for line, wanted in [("roombox ex", "expand explain"), ("roombox b", "box"), ("roombox serve --", "--report --help"), ("roombox keep --c", "--certificate"), ("roombox keep ", ""), ("roombox --v", "--version")]:
             line = line.split(" ")
             made = f"source '{script}'; COMP_WORDS=({' '.join(repr(word) for word in line)}); COMP_CWORD={len(line) - 1}; _roombox; echo \"${{COMPREPLY[*]}}\""
             cases.holds(f"completed: {line}", subprocess.run(["bash", "-c", made], capture_output=True, text=True).stdout, wanted + "\n")
