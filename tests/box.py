@@ -177,6 +177,16 @@ def whole_and_empty(cases, parent):
     cases.holds("and again", (boxes.run(), boxes.answers()), (DONE, wanted))
 
 
+def longest(cases, parent):
+    """A file of the most octets is answered whole, one object that is too long; one of an octet more can't be read. Both are holes, and take no disk."""
+    boxes = Boxes(parent)
+    for number, size in ((1, 1_073_741_824), (2, 1_073_741_825)):
+        boxes.put(named(number), "")
+        os.truncate(boxes.inbox / named(number), size)
+        wanted = (DONE, DEVICE)[number - 1]
+        cases.holds(f"a file of {size} octets", (boxes.run(), boxes.answers()), (wanted, {named(1, end="out"): "REFUSED;OBJECT=1:6\r\n"}))
+
+
 def order_of_names(cases, parent):
     """The first in the byte order of names is served first, whatever moment it says and whenever it was written."""
     boxes = Boxes(parent)
@@ -558,7 +568,7 @@ def on_a_terminal(cases, parent):
 
 def main():
     cases = Cases()
-    parts = [two_and_a_third, whole_and_empty, order_of_names, books_over_all, other_names, of_no_use, without_leave, configurations, usage, temporaries, order_of_calls,
+    parts = [two_and_a_third, whole_and_empty, longest, order_of_names, books_over_all, other_names, of_no_use, without_leave, configurations, usage, temporaries, order_of_calls,
              failing_calls, on_a_terminal, full_disk, vanished, killed]
     with tempfile.TemporaryDirectory(dir=sys.argv[2] if len(sys.argv) > 2 else None) as parent:
         os.chmod(parent, 0o755)
