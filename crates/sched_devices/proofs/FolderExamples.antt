@@ -125,7 +125,8 @@ midnight = (
     spelled = refl;
     counted = refl;
   },
-  refl)
+  refl,
+)
 
 abbrev message : MessageFile
 message = record { stem = codes "00000001-20250102T000000Z"; moment = pos 1_735_776_000; octets = [] }

@@ -30,7 +30,7 @@ loop-recurring-preserved c =
     let clear = subst (IsSharedByPair (series_said s) (series_said r.series.now)) c.in_default.is found in (
       c.clash_with.ensures.same ∙ c.loop-recurring.invariant.0,
       holds_more (AreFreeOf (Recurs s)) c.args.all.now c.loop-recurring.recurring-index r c.loop-recurring-test.true
-      (subst (AreFreeOf (Recurs s)) c.recurring-item.is (λ x is y t other h. none_of_pair s r.series.now clear x y t is other h)) c.loop-recurring.invariant.1,
+          (subst (AreFreeOf (Recurs s)) c.recurring-item.is (λ x is y t other h. none_of_pair s r.series.now clear x y t is other h)) c.loop-recurring.invariant.1,
     )
 
 pub returns : goal.returns
