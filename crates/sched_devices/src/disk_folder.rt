@@ -181,7 +181,7 @@ impl<R: Files + AllocGlobal + Clone + Drop> Folder for DiskFolder<'_, R> {
     ghost only_now = { λ folder left since. absurd since };
 }
 
-/// What a call of the system gave. Each error is counted as a failure, but want of memory.
+/// What a call of the system gave. Each error is counted as a failure, but not where it is out of memory.
 fn tell<T: Drop>(failures: &mut u64, outcome: io::Result<T>) -> Result<T, FolderFault>
     ensures value { IfOk result (λ value. outcome ≡ Ok value) }
     ensures not_missing { IsErrOf result Missing → ⊥ }
