@@ -22,6 +22,8 @@ import tempfile
 import time
 from pathlib import Path
 
+from guide import Cases
+
 ROOT = Path(__file__).resolve().parent.parent
 PROGRAM = str(Path(sys.argv[1] if len(sys.argv) > 1 else ROOT / "bin" / "roombox").resolve())
 ROOM = "mailto:r1@example.com"
@@ -33,17 +35,6 @@ NOBODY = 65_534
 SEED = 20_250_102
 MANY, KILLS = 10_000, 100
 MEMORY = Path("/dev/shm")
-
-
-class Cases:
-    def __init__(self):
-        self.count, self.failed = 0, 0
-
-    def holds(self, what, found, wanted):
-        self.count += 1
-        if found != wanted:
-            self.failed += 1
-            print(f"{what}: found {found!r}, wanted {wanted!r}")
 
 
 # ---- messages, answers and folders
