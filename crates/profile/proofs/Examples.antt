@@ -9,11 +9,12 @@ use Rattle.profile.specs.text.Lines.{line_param}
 use Rattle.profile.specs.checker.Calendars.{CalendarTextFault, in_lines, in_tree}
 use Rattle.profile.specs.text.Trees.{Tree, tree, none, more, vevents}
 use Rattle.profile.specs.text.Values.{unescaped}
-use Rattle.profile.specs.events.EventComponents.{Method, Request, Add, Cancel, may_lack_start, EventComponent, Participation, Accepted, Declined, NeedsAction, answer_named, answer_of, is_by_server, summary_of}
+use Rattle.profile.specs.events.EventComponents.{Method, Store, Request, Add, Cancel, Reply, may_lack_start, EventComponent, Participation, Accepted, Declined, NeedsAction, answer_named, answer_of, is_by_server, summary_of}
 use Rattle.profile.specs.events.Properties.{lines_named}
 use Rattle.profile.specs.rooms.Revisions.{Part, Whole, At, Set, Absent, Cancelled, same_meeting}
 use Rattle.profile.specs.events.Events.{Event, taken_by}
-use Rattle.profile.specs.rooms.Messages.{Accept, SinglesLimit, Message, no_content, list_lines, is_in_dates, cancels, is_addressed, parts_for, revision_beside, IsBody, object_lines, word}
+use Rattle.profile.specs.events.Messages.{Message, NamesMethod}
+use Rattle.profile.specs.rooms.Messages.{Accept, SinglesLimit, no_content, list_lines, is_in_dates, cancels, is_addressed, parts_for, revision_beside, IsBody, object_lines, word}
 use Rattle.profile.specs.checker.Instances.{Instance}
 use Rattle.profile.specs.rooms.Rooms.{PartAnswer, Book, Claim, confirmed_singles, confirmed_series, is_confirmed, is_hidden, wants_whole}
 use Rattle.profile.specs.checker.Certificates.{Claims, SpellsCertificate}
@@ -127,6 +128,12 @@ another_room_has_nothing = refl
 a_cancel_may_lack_its_start : may_lack_start (Some Cancel) ≡ true
 a_cancel_may_lack_its_start = refl
 
+so_may_a_reply : may_lack_start (Some Reply) ≡ true
+so_may_a_reply = refl
+
+a_store_may_not : may_lack_start (Some Store) ≡ false
+a_store_may_not = refl
+
 a_request_may_not : may_lack_start (Some Request) ≡ false
 a_request_may_not = refl
 
@@ -142,9 +149,13 @@ another_request_does_not = refl
 abbrev event_of_nobody : EventComponent
 event_of_nobody = record (event_with NeedsAction NeedsAction) { attendees = [] }
 
+-- a message of these events
+abbrev of_events : Method → List EventComponent → Message
+of_events method events = record { method = method; organiser = codes "m:ann"; uid = codes "a"; events = events }
+
 -- a message of a whole meeting alone
 abbrev of_one : Method → EventComponent → Message
-of_one method event = record { method = method; meeting = record { master = Some event; overrides = [] } }
+of_one method event = of_events method (event ∷ [])
 
 a_cancel_to_nobody_is_for_each_room : is_addressed (codes "r:2") (of_one Cancel event_of_nobody) ≡ true
 a_cancel_to_nobody_is_for_each_room = refl
@@ -155,6 +166,17 @@ a_request_to_nobody_is_for_none = refl
 a_cancel_to_another_is_not_for_it : is_addressed (codes "r:2") (of_one Cancel (event_with NeedsAction NeedsAction)) ≡ false
 a_cancel_to_another_is_not_for_it = refl
 
+-- what is for an organiser is for no room, also where it names one
+a_store_is_for_no_room : is_addressed (codes "r:1") (of_one Store (event_with NeedsAction NeedsAction)) ≡ false
+a_store_is_for_no_room = refl
+
+a_reply_is_for_no_room : parts_for (codes "r:1") (of_one Reply (event_with NeedsAction NeedsAction)) ≡ []
+a_reply_is_for_no_room = refl
+
+-- without METHOD it is a store
+no_method_is_a_store : NamesMethod (codes "VERSION:2.0" ∷ []) Store
+no_method_is_a_store = refl
+
 -- a meeting of nobody, and of it one instance, of an earlier revision, to which r:1 is asked
 abbrev whole : EventComponent
 whole = record event_of_nobody { sequence = 2; stamp = Some (pos 50) }
@@ -163,7 +185,7 @@ abbrev instance : EventComponent
 instance = record (event_with NeedsAction NeedsAction) { sequence = 1; stamp = Some (pos 60); recurrence = Some (pos 7) }
 
 abbrev of_both : Method → Message
-of_both method = record { method = method; meeting = record { master = Some whole; overrides = instance ∷ [] } }
+of_both method = of_events method (whole ∷ instance ∷ [])
 
 -- named in one instance alone, a room has a part for each
 a_room_of_one_instance_has_both : parts_for (codes "r:1") (of_both Request) ≡ whole ∷ instance ∷ []
@@ -177,7 +199,7 @@ a_cancel_of_another_instance : parts_for (codes "r:2") (of_both Cancel) ≡ whol
 a_cancel_of_another_instance = refl
 
 -- an ADD that names a room anywhere has a part for it for each of its instances, and each is that of its own start
-an_add_has_all_instances : parts_for (codes "r:1") (record { method = Add; meeting = record { master = None; overrides = event_of_nobody ∷ instance ∷ [] } }) ≡ event_of_nobody ∷ instance ∷ []
+an_add_has_all_instances : parts_for (codes "r:1") (of_events Add (event_of_nobody ∷ instance ∷ [])) ≡ event_of_nobody ∷ instance ∷ []
 an_add_has_all_instances = refl
 
 an_add_takes_its_start : taken_by (Some Add) (instance ∷ []) ≡ record instance { recurrence = Some (pos 100) } ∷ []

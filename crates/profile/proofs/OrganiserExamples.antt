@@ -2,9 +2,8 @@
 use Rattle.std.proofs.Common.{◌≡◌, ℕ, ℤ, pos, Bool, true, false, List, [], ◌∷◌, codes, Option, None, Some, refl, lit<}
 use Rattle.profile.specs.events.EventComponents.{EventComponent, Attendee, NeedsAction, Accepted, Declined, Participation}
 use Rattle.profile.specs.rooms.Revisions.{Whole, At}
-use Rattle.profile.specs.organisers.Objects
-use Rattle.profile.specs.organisers.Objects.{has_one_attendee, counted, NamesOperation}
-use Rattle.profile.specs.organisers.Organisers.{Stored, Heard, OrganiserBook, attendees_of, scheduled_in, without, is_attendee, is_called_off, sequence_after, answers_store, IsSeenOf}
+use Rattle.profile.specs.events.Messages.{has_one_attendee}
+use Rattle.profile.specs.organisers.Organisers.{Stored, Heard, OrganiserBook, attendees_of, scheduled_in, gone_from, is_attendee, is_called_off, sequence_after, answers_store, IsSeenOf}
 
 abbrev ann : List ℕ
 ann = codes "m:ann"
@@ -60,9 +59,16 @@ not_to_itself = refl
 the_first_line_counts : scheduled_in ann (event None 0 false (attendee r1 true ∷ attendee r2 false ∷ attendee r2 true ∷ []) ∷ []) ≡ r1 ∷ []
 the_first_line_counts = refl
 
--- r2 was sent messages by the last store and is left to a client by this one; r3 is gone
-who_is_gone : without (scheduled_in ann events) (scheduled_in ann (event None 0 false (attendee r1 true ∷ attendee r2 false ∷ []) ∷ [])) ≡ r2 ∷ r3 ∷ []
+-- r2 was sent messages by the last store and is left to a client by this one, which gets it no CANCEL; r3 is gone
+abbrev later : Bool → List EventComponent
+later cancelled = event None 0 cancelled (attendee r1 true ∷ attendee r2 false ∷ []) ∷ []
+
+who_is_gone : gone_from false ann events (later false) ≡ r3 ∷ []
 who_is_gone = refl
+
+-- where the meeting is called off, its CANCEL is for r2 too
+who_is_gone_with_it : gone_from true ann events (later true) ≡ r2 ∷ r3 ∷ []
+who_is_gone_with_it = refl
 
 r3_is_an_attendee : is_attendee r3 events ≡ true
 r3_is_an_attendee = refl
@@ -82,10 +88,6 @@ two_attendees = refl
 
 no_attendee : has_one_attendee (event None 0 false []) ≡ false
 no_attendee = refl
-
--- without METHOD it is a store
-no_method_is_a_store : NamesOperation (codes "VERSION:2.0" ∷ []) Objects.Store
-no_method_is_a_store = refl
 
 -- ---- SEQUENCE
 

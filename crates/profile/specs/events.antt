@@ -5,6 +5,7 @@ pub mod EventRules
 pub mod Occurrences
 pub mod EventComponents
 pub mod Events
+pub mod Messages
 pub mod Starts
 pub mod Confirmed
 pub mod Expanding

@@ -1,4 +1,3 @@
 -- what an organiser keeps, sends and receives
-pub mod Objects
 pub mod Organisers
 pub mod Sent

@@ -14,25 +14,35 @@ use Rattle.profile.specs.events.Occurrences.{SaysStatus, SaysOccurrences, Occurr
 
 -- ---- methods
 
--- what a message asks for: that an event take place, that instances be added to one, or that it be cancelled (RFC 5546 1.4)
+-- what an object asks for: without METHOD that its organiser store a meeting (RFC 4791 4.1); by METHOD that an event take place, that instances be
+-- added to one, that it be cancelled; that an attendee's answer be noted, or that a meeting be sent once more (RFC 5546 1.4)
 pub data Method : Type 0 where
+  Store : Method
   Request : Method
   Add : Method
   Cancel : Method
+  Reply : Method
+  Refresh : Method
 
 -- METHOD is ADD: each event is an instance of a meeting. None is an object whose METHOD is ignored
 abbrev pub adds_instances : Option Method → Bool
 adds_instances None = false
+adds_instances (Some Store) = false
 adds_instances (Some Request) = false
 adds_instances (Some Add) = true
 adds_instances (Some Cancel) = false
+adds_instances (Some Reply) = false
+adds_instances (Some Refresh) = false
 
--- what is cancelled need not say when it is (RFC 5546 3.2.5)
+-- who cancels, answers or asks for a meeting need not say when it is (RFC 5546 3.2.3, 3.2.5, 3.2.6)
 abbrev pub may_lack_start : Option Method → Bool
 may_lack_start None = false
+may_lack_start (Some Store) = false
 may_lack_start (Some Request) = false
 may_lack_start (Some Add) = false
 may_lack_start (Some Cancel) = true
+may_lack_start (Some Reply) = true
+may_lack_start (Some Refresh) = true
 
 -- METHOD occurs exactly once among the lines of a VCALENDAR, and names this word, caseless (RFC 5545 3.7.2)
 pub record NamesWord (own : List (List ℕ)) (word : List ℕ) : Type 0 where

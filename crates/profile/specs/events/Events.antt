@@ -7,7 +7,7 @@ use Rattle.profile.specs.faults.Faults.{is_between, is_object_fault, is_meeting_
 use Rattle.profile.specs.text.Lines.{logical_lines, text_has, reads_as_lines}
 use Rattle.profile.specs.text.Objects.{SpellsTree, IsObject, has_version, lines_have, count_inside, most_events}
 use Rattle.profile.specs.text.Trees.{Tree, tree_own, vevents}
-use Rattle.profile.specs.events.EventComponents.{Method, Request, Add, Cancel, EventComponent, SaysEventComponent, EventComponentFault, meeting_said}
+use Rattle.profile.specs.events.EventComponents.{Method, Store, Request, Add, Cancel, Reply, Refresh, EventComponent, SaysEventComponent, EventComponentFault, meeting_said}
 
 -- the event is for one instance of a meeting: it has a RECURRENCE-ID
 abbrev pub is_override : EventComponent → Bool
@@ -37,9 +37,12 @@ as_added event = record event { recurrence = Some event.times.start }
 -- the events of an object as its METHOD takes them; None where METHOD is ignored
 abbrev pub taken_by : Option Method → List EventComponent → List EventComponent
 taken_by None events = events
+taken_by (Some Store) events = events
 taken_by (Some Request) events = events
 taken_by (Some Add) events = map as_added events
 taken_by (Some Cancel) events = events
+taken_by (Some Reply) events = events
+taken_by (Some Refresh) events = events
 
 -- all are of one UID and one ORGANIZER
 abbrev pub AreOfOne : List EventComponent → Type 0

@@ -4,12 +4,12 @@ use Rattle.std.specs.List.{flat_map, list_any, list_all, find}
 use Rattle.std.specs.Str.{bytes_eq}
 use Rattle.std.specs.Ordering.{is_eq, is_le, nat_cmp, int_cmp, ordering_then}
 use Rattle.std.specs.declared.cmp.Ordering.{Ordering}
-use Rattle.profile.specs.events.EventComponents.{Participation, NeedsAction, Tentative, Accepted, Delegated, Declined, Attendee, EventComponent}
+use Rattle.profile.specs.events.EventComponents.{Store, Reply, Participation, NeedsAction, Tentative, Accepted, Delegated, Declined, Attendee, EventComponent}
 use Rattle.profile.specs.events.Events.{is_master}
 use Rattle.profile.specs.rooms.Revisions.{Slot, Revision, slot_cmp}
 use Rattle.profile.specs.rooms.Messages.{slot_of, own_revision, names_room}
 use Rattle.profile.specs.rooms.Kept.{each_once}
-use Rattle.profile.specs.organisers.Objects.{Store, Reply, OrganiserObject, counted, is_of_attendee}
+use Rattle.profile.specs.events.Messages.{Message, counted, is_of_attendee}
 use Rattle.profile.specs.organisers.Sent.{IsRequest, IsCancel, IsMeetingText}
 
 -- ---- what an organiser keeps
@@ -100,8 +100,15 @@ abbrev pub Sends : (List ℕ → Type 0) → List (List ℕ) → List Sent → T
 Sends IsSuch [] sent = sent ≡ []
 Sends IsSuch (first ∷ others) sent = (octets : List ℕ) × IsSuch octets × (sent ≡ record { to = first ∷ others; octets = octets } ∷ [])
 
--- what is made and sent of what was stored, where `gone` had been sent messages and no longer are. Of a meeting that is called off each gets
--- the one CANCEL; else those of the meeting get its REQUEST, and those that are gone a CANCEL without STATUS (RFC 6638 3.2.1)
+-- of the attendees whom the server sent messages by the last store, those who get a CANCEL of this one and no REQUEST. Of a meeting that is called
+-- off all others get it, also who is left to a client now; else who isn't named any more. One who is still named and left to a client now gets
+-- nothing: the client speaks to him, and that CANCEL would take back what the REQUEST, which shows him, brings to a room
+abbrev pub gone_from : Bool → List ℕ → List EventComponent → List EventComponent → List (List ℕ)
+gone_from true organiser before now = without (scheduled_in organiser before) (scheduled_in organiser now)
+gone_from false organiser before now = without (scheduled_in organiser before) (attendees_of now)
+
+-- what is made and sent of what was stored, where these are gone. Of a meeting that is called off each gets the one CANCEL; else those of the
+-- meeting get its REQUEST, and those that are gone a CANCEL without STATUS (RFC 6638 3.2.1)
 abbrev pub SendsStore : Bool → List ℕ → Stored → List (List ℕ) → List Sent → Type 0
 SendsStore true organiser stored gone sent =
     IsCancel organiser stored.uid stored.revision true (scheduled_in organiser stored.events ++ gone) stored.object
@@ -113,13 +120,13 @@ SendsStore false organiser stored gone sent =
     × Sends (IsCancel organiser stored.uid stored.revision false gone) gone cancels × (sent ≡ requests ++ cancels)
 
 -- an object is stored at a moment: the book has it before all others, and this is sent
-pub record IsStore (moment : ℤ) (said : OrganiserObject) (before : OrganiserBook) (sent : List Sent) (after : OrganiserBook) : Type 0 where
+pub record IsStore (moment : ℤ) (said : Message) (before : OrganiserBook) (sent : List Sent) (after : OrganiserBook) : Type 0 where
   pub stored : Stored
   pub of_meeting : stored.uid ≡ said.uid
   pub events : stored.events ≡ said.events
   pub revision : stored.revision ≡ record { sequence = sequence_after (last_store said.uid before) said.events; stamp = moment }
   pub sends : SendsStore (is_called_off said.events) said.organiser stored
-      (without (scheduled_in said.organiser (last_events (last_store said.uid before))) (scheduled_in said.organiser said.events)) sent
+      (gone_from (is_called_off said.events) said.organiser (last_events (last_store said.uid before)) said.events) sent
   pub told : stored.told ≡ filter (λ address. is_attendee address said.events) (flat_map (λ one. one.to) sent)
   pub kept : after ≡ record before { stores = stored ∷ before.stores }
 
@@ -135,7 +142,7 @@ abbrev pub heard_in : List EventComponent → List Heard
 heard_in events = flat_map (λ event. heard_of event event.attendees) events
 
 -- the book after a REPLY
-abbrev pub after_reply : OrganiserObject → OrganiserBook → OrganiserBook
+abbrev pub after_reply : Message → OrganiserBook → OrganiserBook
 after_reply said book = record book { replies = heard_in said.events ++ book.replies }
 
 -- of two answers at one moment the later one here counts; this profile's choice
@@ -209,14 +216,14 @@ IsShown organiser book uid (Some octets) =
 abbrev pub most_sequence : ℕ
 most_sequence = 2_147_483_647
 
-pub data StateFault (said : OrganiserObject) (book : OrganiserBook) : ℕ → Type 0 where
+pub data StateFault (said : Message) (book : OrganiserBook) : ℕ → Type 0 where
   -- an attendee speaks of a meeting that isn't known, or of a SEQUENCE that wasn't sent yet
-  unknown : is_of_attendee said.operation ≡ true → last_store said.uid book ≡ None → StateFault said book 71
-  ahead : said.operation ≡ Reply → (stored : Stored) → last_store said.uid book ≡ Some stored
+  unknown : is_of_attendee said.method ≡ true → last_store said.uid book ≡ None → StateFault said book 71
+  ahead : said.method ≡ Reply → (stored : Stored) → last_store said.uid book ≡ Some stored
       → list_any (λ event. nat_lt stored.revision.sequence event.sequence) said.events ≡ true → StateFault said book 71
   -- no greater SEQUENCE is left
-  spent : said.operation ≡ Store → most_sequence < sequence_after (last_store said.uid book) said.events → StateFault said book 72
+  spent : said.method ≡ Store → most_sequence < sequence_after (last_store said.uid book) said.events → StateFault said book 72
   -- one who isn't an attendee of the meeting speaks; in a REPLY the SEQUENCEs are looked at first
-  stranger : is_of_attendee said.operation ≡ true → (stored : Stored) → last_store said.uid book ≡ Some stored
-      → (said.operation ≡ Reply → list_any (λ event. nat_lt stored.revision.sequence event.sequence) said.events ≡ false)
+  stranger : is_of_attendee said.method ≡ true → (stored : Stored) → last_store said.uid book ≡ Some stored
+      → (said.method ≡ Reply → list_any (λ event. nat_lt stored.revision.sequence event.sequence) said.events ≡ false)
       → list_any (λ heard. not (is_attendee heard.attendee stored.events)) (heard_in said.events) ≡ true → StateFault said book 73

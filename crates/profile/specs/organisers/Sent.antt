@@ -8,7 +8,7 @@ use Rattle.profile.specs.text.Values.{WritesStamp, escaped}
 use Rattle.profile.specs.events.EventComponents.{Attendee, EventComponent}
 use Rattle.profile.specs.rooms.Revisions.{Slot, Revision}
 use Rattle.profile.specs.rooms.Messages.{Content, IsContent, TellsSlot, slot_of, opening_lines, object_lines}
-use Rattle.profile.specs.organisers.Objects.{counted}
+use Rattle.profile.specs.events.Messages.{counted}
 use Rattle.profile.specs.rooms.Kept.{each_once, zone_texts, IsNamed, renamed}
 
 -- ---- one VEVENT

@@ -1,15 +1,13 @@
--- Messages to rooms: their meeting, the parts that they have for a room, and replies (RFC 5546 1.4, 3.2): a REQUEST, an ADD or a CANCEL.
+-- Messages and rooms: the parts that a message has for a room, and replies (RFC 5546 1.4, 3.2). Only a REQUEST, an ADD or a CANCEL is for rooms.
 use Rattle.std.specs.Prelude.{◌≡◌, ◌↔◌, ℕ, ◌/◌, ◌%◌, ◌+◌, Bool, true, false, ◌&&◌, ◌||◌, ◌==◌, if◌then◌else◌, nat_lt, List, [], ◌∷◌, ◌++◌, length, filter, codes, decimal, Contains, AllPairs, Option, Some, None, option_map, unwrap_or, ℤ, pos, ◌<ℤ◌, not}
 use Rattle.std.specs.List.{flat_map, list_any, AllZip}
 use Rattle.std.specs.Int.Signed.{lt_z}
 use Rattle.std.specs.Str.{bytes_eq}
 use Rattle.std.specs.Char.{is_ascii_alphabetic, is_ascii_digit}
-use Rattle.profile.specs.text.Lines.{line_value, is_same_name, logical_lines, reads_as_lines, written}
-use Rattle.profile.specs.text.Objects.{IsObject}
-use Rattle.profile.specs.text.Trees.{Tree, tree_own}
+use Rattle.profile.specs.text.Lines.{written}
 use Rattle.profile.specs.text.Values.{SpellsDate, WritesStamp, WritesLocal, duration_text, escaped}
-use Rattle.profile.specs.events.EventComponents.{Method, Request, Add, Cancel, NamesWord, EventComponent}
-use Rattle.profile.specs.events.Properties.{first_second, SomeLine, OccursMoreThanOnce, BothOrNeither}
+use Rattle.profile.specs.events.EventComponents.{Method, Store, Request, Add, Cancel, Reply, Refresh, EventComponent}
+use Rattle.profile.specs.events.Properties.{first_second, BothOrNeither}
 use Rattle.profile.specs.events.ZonedTimes.{EventTimes, clock_of}
 use Rattle.profile.specs.series.Rules.{Rule, Until, UntilDay, UntilLocal, UntilInstant, text_in}
 use Rattle.profile.specs.series.RuleTexts.{rule_text}
@@ -19,65 +17,10 @@ use Rattle.profile.specs.written.WrittenZones.{WritesParts}
 use Rattle.profile.specs.checker.Instances.{Key, horizon}
 use Rattle.std.specs.declared.cmp.Ordering.TheVariants.{Less}
 use Rattle.std.specs.Ordering.{is_lt}
-use Rattle.profile.specs.events.Events.{Event, components_of, SaysEvent, EventFault}
-use Rattle.profile.specs.organisers.Objects.{OrganiserObjectFault}
+use Rattle.profile.specs.events.Messages.{Message, is_to_rooms, master_in}
 use Rattle.profile.specs.rooms.Revisions.{Part, Slot, Whole, At, Revision, Body, Set, Absent, Cancelled, revision_cmp, slot_cmp}
 
--- ---- what a message says
-
--- the word of METHOD for what a message asks for
-abbrev pub method_word : Method → List ℕ
-method_word Request = codes "REQUEST"
-method_word Add = codes "ADD"
-method_word Cancel = codes "CANCEL"
-
--- what a message asks for, and the meeting that its VEVENTs say by that METHOD
-pub record Message : Type 0 where
-  pub method : Method
-  pub meeting : Event
-
--- METHOD occurs exactly once among the lines of a VCALENDAR, and names this one
-abbrev pub NamesMethod : List (List ℕ) → Method → Type 0
-NamesMethod own method = NamesWord own (method_word method)
-
--- a VCALENDAR says this message (RFC 5546 3.2.2, 3.2.4, 3.2.5)
-pub record SaysMessage (object : Tree) (message : Message) : Type 0 where
-  pub method : NamesMethod (tree_own object) message.method
-  pub says : SaysEvent object (Some message.method) message.meeting
-
--- the octets are one VCALENDAR, within the limits of a message, and say this message
-pub record SpellsMessage (octets : List ℕ) (message : Message) : Type 0 where
-  pub lines : reads_as_lines true octets ≡ true
-  pub tree : Tree
-  pub object : IsObject true tree (logical_lines octets)
-  pub says : SaysMessage tree message
-
--- ---- what can be wrong with a message
-
--- the words of METHOD that are taken here (RFC 5546 1.4); that PUBLISH, COUNTER and DECLINECOUNTER aren't is this profile's choice
-abbrev pub is_method : List ℕ → Bool
-is_method word =
-    is_same_name word (codes "REQUEST") || is_same_name word (codes "ADD") || is_same_name word (codes "CANCEL")
-    || is_same_name word (codes "REPLY") || is_same_name word (codes "REFRESH")
-
--- the VCALENDAR's lines have the fault of this number
-pub data MethodFault (own : List (List ℕ)) : ℕ → Type 0 where
-  two_methods : OccursMoreThanOnce (codes "METHOD") own → MethodFault own 60
-  bad_method : SomeLine (codes "METHOD") (λ line. is_method (line_value line) ≡ false) own → MethodFault own 60
-
--- the lines of a VCALENDAR or of its VEVENTs have the fault of this number
-pub data MessageFault (object : Tree) : ℕ → Type 0 where
-  in_method : {n : ℕ} → MethodFault (tree_own object) n → MessageFault object n
-  in_meeting : {n : ℕ} → (method : Method) → NamesMethod (tree_own object) method → EventFault object (Some method) n → MessageFault object n
-  for_organiser : {n : ℕ} → OrganiserObjectFault object n → MessageFault object n
-
--- the octets are one VCALENDAR, within the limits of a message, and it has the fault of this number
-pub record MessageTextFault (octets : List ℕ) (n : ℕ) : Type 0 where
-  pub tree : Tree
-  pub object : IsObject true tree (logical_lines octets)
-  pub fault : MessageFault tree n
-
--- ---- its parts
+-- ---- the parts of a message
 
 -- DTSTART in UTC, or in a zone, whose name here is `Z` whatever it was
 abbrev pub StartsIn : Option Zone → EventTimes → List ℕ → Type 0
@@ -161,14 +104,20 @@ abbrev pub names_room : List ℕ → EventComponent → Bool
 names_room room event = list_any (λ a. bytes_eq a.address room) event.attendees
 
 abbrev pub is_cancel : Method → Bool
+is_cancel Store = false
 is_cancel Request = false
 is_cancel Add = false
 is_cancel Cancel = true
+is_cancel Reply = false
+is_cancel Refresh = false
 
 abbrev pub is_add : Method → Bool
+is_add Store = false
 is_add Request = false
 is_add Add = true
 is_add Cancel = false
+is_add Reply = false
+is_add Refresh = false
 
 -- the event of such a message isn't to take place: METHOD is CANCEL, or STATUS is CANCELLED (RFC 5546 3.2.5, RFC 5545 3.8.1.11)
 abbrev pub cancels : Method → EventComponent → Bool
@@ -178,18 +127,21 @@ cancels method event = is_cancel method || event.cancelled
 abbrev pub is_for : List ℕ → Method → EventComponent → Bool
 is_for room method event = names_room room event || (is_cancel method && (length event.attendees == 0))
 
--- the message is addressed to the room: one of its events is for it
+-- the message is addressed to the room: it is one to rooms, and one of its events is for this one
 abbrev pub is_addressed : List ℕ → Message → Bool
-is_addressed room message = list_any (is_for room message.method) (components_of message.meeting)
+is_addressed room message = is_to_rooms message.method && list_any (is_for room message.method) message.events
 
 -- the events that are parts for a room that the message is addressed to: of a CANCEL those that are for it, of another message each
 abbrev pub is_part_for : List ℕ → Method → EventComponent → Bool
+is_part_for room Store event = true
 is_part_for room Request event = true
 is_part_for room Add event = true
 is_part_for room Cancel event = is_for room Cancel event
+is_part_for room Reply event = true
+is_part_for room Refresh event = true
 
 abbrev pub parts_for : List ℕ → Message → List EventComponent
-parts_for room message = if is_addressed room message then filter (is_part_for room message.method) (components_of message.meeting) else []
+parts_for room message = if is_addressed room message then filter (is_part_for room message.method) message.events else []
 
 -- the instance that an event is for, else the whole meeting (RFC 5545 3.8.4.4)
 abbrev pub slot_named : Option ℤ → Slot
@@ -228,7 +180,7 @@ pub record IsPart (room : List ℕ) (message : Message) (event : EventComponent)
   pub organiser : event.organiser ≡ Some part.organiser
   pub uid : part.uid ≡ event.uid
   pub slot : part.slot ≡ slot_of event
-  pub revision : part.revision ≡ revision_beside message.meeting.master event
+  pub revision : part.revision ≡ revision_beside (master_in message.events) event
   pub body : IsBody room message.method event content part.body
 
 -- these are the events, by their slots: the whole first, and then by instant

@@ -7,12 +7,12 @@ use Rattle.std.specs.Str.{is_utf8, bytes_eq}
 use Rattle.profile.specs.text.Lines.{logical_lines, text_has}
 use Rattle.profile.specs.text.Objects.{SpellsTree, most_events, count_inside, has_version, lines_have, is_begun, after_object}
 use Rattle.profile.specs.text.Trees.{Tree, tree_own}
-use Rattle.profile.specs.events.EventComponents.{EventComponent}
+use Rattle.profile.specs.events.EventComponents.{Method, Store, Request, Add, Cancel, Reply, Refresh, EventComponent}
 use Rattle.profile.specs.events.Confirmed.{AreApart, AreOfRule}
-use Rattle.profile.specs.rooms.Messages.{Message, SpellsMessage, MessageTextFault, IsPart, AreBySlot, parts_for, is_add, Outcome}
+use Rattle.profile.specs.events.Messages.{Message, SpellsMessage, MessageTextFault, is_to_rooms}
+use Rattle.profile.specs.rooms.Messages.{IsPart, AreBySlot, parts_for, is_add, Outcome}
 use Rattle.profile.specs.rooms.Rooms.{Claim, Book, Delivery, IsStep, Runs, empty_book, is_set}
 use Rattle.profile.specs.rooms.Kept.{Replies, Refreshes}
-use Rattle.profile.specs.organisers.Objects.{Operation, Store, Reply, Refresh, OrganiserObject, SpellsOrganiserObject}
 use Rattle.profile.specs.organisers.Organisers.{Stored, OrganiserBook, Sent, IsStore, StateFault, after_reply, empty_organiser, last_store}
 use Rattle.profile.specs.text.Values.{SpellsStamp, IsAddress, lower_case}
 
@@ -205,20 +205,23 @@ pub record HostedOrganiser : Type 0 where
   pub book : OrganiserBook
 
 -- what an organiser answers, and what it keeps then: to a store what it sends, to a REPLY nothing, to a REFRESH what it made of the last store
-abbrev pub ServesOperation : Operation → ℤ → OrganiserObject → OrganiserBook → OrganiserBook → List ℕ → Type 0
-ServesOperation Store moment said before after octets =
+abbrev pub ServesMethod : Method → ℤ → Message → OrganiserBook → OrganiserBook → List ℕ → Type 0
+ServesMethod Store moment said before after octets =
     (sent : List Sent) × IsStore moment said before sent after × (octets ≡ flat_map (λ one. one.octets) sent)
-ServesOperation Reply moment said before after octets = (after ≡ after_reply said before) × (octets ≡ [])
-ServesOperation Refresh moment said before after octets =
+ServesMethod Reply moment said before after octets = (after ≡ after_reply said before) × (octets ≡ [])
+ServesMethod Refresh moment said before after octets =
     (stored : Stored) × (last_store said.uid before ≡ Some stored) × (after ≡ before) × (octets ≡ stored.object)
+ServesMethod Request moment said before after octets = ⊥
+ServesMethod Add moment said before after octets = ⊥
+ServesMethod Cancel moment said before after octets = ⊥
 
 -- an organiser takes what comes to it, which has no fault beside what it keeps
-pub record TakesObject (moment : ℤ) (said : OrganiserObject) (before after : OrganiserBook) (octets : List ℕ) : Type 0 where
+pub record TakesObject (moment : ℤ) (said : Message) (before after : OrganiserBook) (octets : List ℕ) : Type 0 where
   pub allowed : (n : ℕ) → StateFault said before n → ⊥
-  pub serves : ServesOperation said.operation moment said before after octets
+  pub serves : ServesMethod said.method moment said before after octets
 
 -- of these organisers the one whose address it names takes it
-pub record IsTaken (moment : ℤ) (said : OrganiserObject) (before after : List HostedOrganiser) (octets : List ℕ) : Type 0 where
+pub record IsTaken (moment : ℤ) (said : Message) (before after : List HostedOrganiser) (octets : List ℕ) : Type 0 where
   pub others_before : List HostedOrganiser
   pub others_behind : List HostedOrganiser
   pub host : HostedOrganiser
@@ -240,23 +243,17 @@ new_box hosts = record {
   organisers = map (λ organiser. record { address = organiser; book = empty_organiser }) hosts.organisers;
 }
 
--- what octets say: a message to rooms, or something to an organiser
-pub data Said : Type 0 where
-  ToRooms : Message → Said
-  ToOrganiser : OrganiserObject → Said
-
-abbrev pub Spells : List ℕ → Said → Type 0
-Spells octets (ToRooms message) = SpellsMessage octets message
-Spells octets (ToOrganiser said) = SpellsOrganiserObject octets said
-
 -- one step of a box: all its rooms take a message, or an organiser takes what comes to it, and this is answered
-abbrev pub Steps : ℤ → Said → Box → Box → List ℕ → Type 0
-Steps moment (ToRooms message) before after octets =
+abbrev pub StepsFor : Bool → ℤ → Message → Box → Box → List ℕ → Type 0
+StepsFor true moment message before after octets =
     AllTake moment message before.rooms after.rooms octets × (after.organisers ≡ before.organisers)
-Steps moment (ToOrganiser said) before after octets = IsTaken moment said before.organisers after.organisers octets × (after.rooms ≡ before.rooms)
+StepsFor false moment message before after octets = IsTaken moment message before.organisers after.organisers octets × (after.rooms ≡ before.rooms)
+
+abbrev pub Steps : ℤ → Message → Box → Box → List ℕ → Type 0
+Steps moment message before after octets = StepsFor (is_to_rooms message.method) moment message before after octets
 
 -- what can be wrong with what comes to an organiser, by the number of its refusal: the organiser isn't hosted, or as it keeps its meetings
-pub data HostFault (said : OrganiserObject) (hosted : List HostedOrganiser) : ℕ → Type 0 where
+pub data HostFault (said : Message) (hosted : List HostedOrganiser) : ℕ → Type 0 where
   not_hosted : list_any (λ host. bytes_eq host.address said.organiser) hosted ≡ false → HostFault said hosted 70
   in_state : {n : ℕ} → (host : HostedOrganiser) → Contains hosted host → host.address ≡ said.organiser → StateFault said host.book n
       → HostFault said hosted n
@@ -264,7 +261,8 @@ pub data HostFault (said : OrganiserObject) (hosted : List HostedOrganiser) : �
 -- a box that keeps this refuses the octets with this number
 abbrev pub IsRefusedWith : Box → ℕ → List ℕ → Type 0
 IsRefusedWith box n octets =
-    ObjectFault n octets ⊎ ((said : OrganiserObject) × SpellsOrganiserObject octets said × HostFault said box.organisers n)
+    ObjectFault n octets
+    ⊎ ((said : Message) × SpellsMessage octets said × (is_to_rooms said.method ≡ false) × HostFault said box.organisers n)
 
 -- the line for a refused object, by its place in the stream from 1
 abbrev pub refused_line : ℕ → ℕ → List ℕ
@@ -274,7 +272,7 @@ refused_line k n = codes "REFUSED;OBJECT=" ++ decimal k ++ codes ":" ++ decimal 
 -- many refusals that is
 abbrev pub Answers : ℤ → ℕ → List ℕ → Box → Box → List ℕ → ℕ → Type 0
 Answers moment k object before after octets refused =
-    ((said : Said) × Spells object said × Steps moment said before after octets × (refused ≡ 0))
+    ((said : Message) × SpellsMessage object said × Steps moment said before after octets × (refused ≡ 0))
     ⊎ ((n : ℕ) × IsRefusedWith before n object × (after ≡ before) × (octets ≡ refused_line k n) × (refused ≡ 1))
 
 -- step by step the answers to objects from number k on, one after another, and how many objects are refused
