@@ -20,19 +20,21 @@ use Rattle.cal_events.specs.declared.component.Attendee.{Attendee}
 use Rattle.cal_events.specs.declared.component.EventComponent.{EventComponent}
 use Rattle.cal_events.specs.declared.component.PartStat.{PartStat}
 use Rattle.cal_events.specs.declared.component.PartStat.TheVariants.{NeedsAction, Tentative, Accepted, Delegated, Declined}
-use Rattle.cal_events.specs.declared.component.Purpose.{Purpose}
-use Rattle.cal_events.specs.declared.component.Purpose.TheVariants.{Request, Add, Cancel, Meeting}
+use Rattle.cal_events.specs.declared.method.Method.{Method}
+use Rattle.cal_events.specs.declared.method.Method.TheVariants.{Store, Request, Add, Cancel, Reply, Refresh}
 
--- the method of a message that a VEVENT is read for; METHOD is ignored for a calendar
-abbrev pub method_read : Purpose → Option profile.Method
-method_read Request = Some profile.Request
-method_read Add = Some profile.Add
-method_read Cancel = Some profile.Cancel
-method_read Meeting = None
+-- what an object asks for
+abbrev pub method_said : Method → profile.Method
+method_said Store = profile.Store
+method_said Request = profile.Request
+method_said Add = profile.Add
+method_said Cancel = profile.Cancel
+method_said Reply = profile.Reply
+method_said Refresh = profile.Refresh
 
--- a message needs ORGANIZER and DTSTAMP, a calendar doesn't
-abbrev pub is_message : Purpose → Bool
-is_message purpose = is_some (method_read purpose)
+-- None is an object whose METHOD is ignored
+abbrev pub method_read : Option Method → Option profile.Method
+method_read method = option_map method_said method
 
 abbrev pub participation_of : PartStat → profile.Participation
 participation_of NeedsAction = profile.NeedsAction

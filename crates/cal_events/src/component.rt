@@ -4,7 +4,7 @@ ghost use Rattle.std.specs.Prelude.{ℕ, List, [], unwrap_or, ◌≡◌, pos, �
 ghost use Rattle.ical_lines.specs.Fault.{RefusesBy};
 ghost use Rattle.ical_values.specs.Octets.{address_octets};
 ghost use Rattle.profile.specs.text.Trees.{Tree};
-ghost use Rattle.profile.specs.events.EventComponents.{EventComponent as SaidComponent, Method, adds_instances, may_lack_start, answer_named, answer_of, SaysEventComponent, EventComponentFault};
+ghost use Rattle.profile.specs.events.EventComponents.{EventComponent as SaidComponent, Method, answer_named, answer_of, SaysEventComponent, EventComponentFault};
 ghost use Rattle.profile.specs.events.Properties.{length_seconds, TimeFault};
 ghost use Rattle.profile.specs.events.ZonedTimes.{clock_of};
 ghost use Rattle.cal_zones.specs.Kinds.{zone_of};
@@ -20,6 +20,7 @@ use crate::component_values::{
 };
 use crate::event_rule::SaidRule;
 use crate::event_times::{EventTimes, SaidTimes, seconds_of};
+use crate::method::{Method, adds_instances, may_lack_start};
 use crate::occurrences::{
     Listing, SaidInstant, SaidInstants, judge_recurrence, refuse_recurring_instance,
 };
@@ -34,44 +35,6 @@ use ical_values::sequence::one_sequence;
 use ical_values::stamp::one_stamp;
 use ical_values::{Address, Sequence, Stamp, Text};
 use std::alloc::Global;
-
-/// What a VEVENT is read for: this says which properties are required.
-#[derive(Clone, Copy, PartialEq, Eq)]
-pub enum Purpose {
-    /// A message for an event that is to take place: UID, DTSTAMP, DTSTART and ORGANIZER are required.
-    Request,
-    /// A message that adds instances to one: the same, and none of them recurs.
-    Add,
-    /// A message that cancels an event: the same, but DTSTART may be missing (RFC 5546 3.2.5).
-    Cancel,
-    /// A calendar, or an event with its instances: UID and DTSTART are required.
-    Meeting,
-}
-
-impl Purpose {
-    ghost use Rattle.cal_events.specs.Component.{is_message, method_read};
-
-    /// Whether it is a message, in which ORGANIZER and DTSTAMP are required.
-    pub(crate) fn is_message(self) -> bool
-        ensures { result ≡ is_message self }
-    {
-        matches!(self, Purpose::Request | Purpose::Add | Purpose::Cancel)
-    }
-
-    /// Whether each VEVENT is an instance that is added.
-    fn adds_instances(self) -> bool
-        ensures { result ≡ adds_instances (method_read self) }
-    {
-        matches!(self, Purpose::Add)
-    }
-
-    /// Whether DTSTART may be missing.
-    fn may_lack_start(self) -> bool
-        ensures { result ≡ may_lack_start (method_read self) }
-    {
-        matches!(self, Purpose::Cancel)
-    }
-}
 
 /// What an attendee answered (RFC 5545 3.2.12, for VEVENT).
 #[derive(Clone, Copy, PartialEq, Eq)]
@@ -144,7 +107,7 @@ pub struct EventComponent {
 impl EventComponent {
     ghost use Rattle.cal_events.specs.Component.{component_of, length_of, method_read, participation_of};
 
-    /// Reads the properties of a VEVENT, whose times may name these zones.
+    /// Reads the properties of a VEVENT of an object of this METHOD, or of one whose METHOD is ignored; its times may name these zones.
     /// Refused, in this order: of UID, ORGANIZER, DTSTAMP, SEQUENCE and STATUS 10 and 14 to 16 for a value, 61 and 63 for one that
     /// is missing or occurs twice; as by `SaidInstant::read_recurrence` for RECURRENCE-ID; as by `SaidTimes::read` for DTSTART,
     /// DTEND and DURATION; 61 and 30 to 33 for RRULE; as by `SaidInstants::read` for RDATE and EXDATE; 15 for an ATTENDEE; as by
@@ -154,19 +117,19 @@ impl EventComponent {
         alloc: Global,
         zones: &ZonesOfObject<'_, '_>,
         properties: &Properties<'_>,
-        purpose: Purpose,
+        method: Option<Method>,
     ) -> Result<EventComponent, Fault>
         requires zones { AreRead zones.now }
-        ensures says { IfOk result (λ event. SaysEventComponent (object_of zones.now) (method_read purpose) properties.now (component_of event)) }
-        ensures fault { IfErr result (RefusesBy (EventComponentFault (object_of zones.now) (method_read purpose) properties.now)) }
+        ensures says { IfOk result (λ event. SaysEventComponent (object_of zones.now) (method_read method) properties.now (component_of event)) }
+        ensures fault { IfErr result (RefusesBy (EventComponentFault (object_of zones.now) (method_read method) properties.now)) }
     {
         let uid = read_uid(alloc, properties)?;
-        let organiser = read_organiser(alloc, properties, purpose)?;
-        let stamp = read_stamp(properties, purpose)?;
+        let organiser = read_organiser(alloc, properties, method)?;
+        let stamp = read_stamp(properties, method)?;
         let sequence = read_sequence(properties)?;
         let cancelled = read_cancelled(properties)?;
         let said_recurrence = SaidInstant::read_recurrence(zones, properties)?;
-        let said = SaidTimes::read(zones, properties, purpose.may_lack_start())?;
+        let said = SaidTimes::read(zones, properties, may_lack_start(method))?;
         let said_rule = SaidRule::read(alloc, properties)?;
         let said_additions = SaidInstants::read(alloc, zones, properties, Listing::Additions)?;
         let said_exceptions = SaidInstants::read(alloc, zones, properties, Listing::Exceptions)?;
@@ -175,7 +138,7 @@ impl EventComponent {
         let times = said.judge()?;
         let recurrence = judge_recurrence(said_recurrence)?;
         let additions = said_additions.judge()?;
-        refuse_recurring_instance(properties, purpose.adds_instances())?;
+        refuse_recurring_instance(properties, adds_instances(method))?;
         let rule = said_rule.judge(&times, has(properties, "DTSTART"))?;
         Ok(EventComponent {
             uid,

@@ -1,5 +1,5 @@
 //! The values of a VEVENT's properties, each read by itself: UID, ORGANIZER, DTSTAMP, SEQUENCE, STATUS, SUMMARY and ATTENDEE.
-ghost use Rattle.std.specs.Prelude.{ℕ, List, ◌≡◌, Some, map, codes, option_map, true, IfOk, IfErr, IsTrue, Option};
+ghost use Rattle.std.specs.Prelude.{ℕ, List, ◌≡◌, Some, map, codes, option_map, is_some, true, IfOk, IfErr, IsTrue, Option};
 ghost use Rattle.std.specs.List.{AllZip};
 ghost use Rattle.ical_lines.specs.Fault.{RefusesOnly, RefusesBy};
 ghost use Rattle.ical_lines.specs.Text.{line_text};
@@ -9,9 +9,10 @@ ghost use Rattle.profile.specs.faults.Faults.{is_event_fault};
 ghost use Rattle.profile.specs.events.EventComponents.{Method, is_by_server, summary_of, SaysSequence, IsAttendee, EventComponentFault};
 ghost use Rattle.profile.specs.events.Occurrences.{SaysStatus};
 ghost use Rattle.profile.specs.events.Properties.{OccursMoreThanOnce, lines_named, Says, IsUidLine, IsAddressLine, IsStampLine, IsNoAddress};
-ghost use Rattle.cal_events.specs.Component.{is_message, method_read, attendee_of};
+ghost use Rattle.cal_events.specs.Component.{method_read, attendee_of};
 
-use crate::component::{Attendee, PartStat, Purpose};
+use crate::component::{Attendee, PartStat};
+use crate::method::Method;
 use crate::properties::{first_named, optional, required};
 use ical_lines::{Fault, Line, Refusal};
 use ical_tree::Properties;
@@ -30,30 +31,30 @@ pub(crate) fn read_uid(alloc: Global, properties: &Properties<'_>) -> Result<Tex
 pub(crate) fn read_organiser(
     alloc: Global,
     properties: &Properties<'_>,
-    purpose: Purpose,
+    method: Option<Method>,
 ) -> Result<Option<Address>, Fault>
-    ensures reads { IfOk result (λ found. Says (codes "ORGANIZER") (is_message purpose) IsAddressLine properties.now (option_map address_octets found)) }
+    ensures reads { IfOk result (λ found. Says (codes "ORGANIZER") (is_some (method_read method)) IsAddressLine properties.now (option_map address_octets found)) }
     ensures refuses { IfErr result (RefusesOnly is_event_fault) }
-    ensures fault { (object : Tree) → IfErr result (RefusesBy (EventComponentFault object (method_read purpose) properties.now)) }
+    ensures fault { (object : Tree) → IfErr result (RefusesBy (EventComponentFault object (method_read method) properties.now)) }
 {
     match optional(properties, "ORGANIZER")? {
         Some(line) => Ok(Some(Address::read(alloc, line.value())?)),
-        None if purpose.is_message() => Err(Fault::Refused(Refusal::NO_ORGANIZER)),
+        None if method.is_some() => Err(Fault::Refused(Refusal::NO_ORGANIZER)),
         None => Ok(None),
     }
 }
 
 pub(crate) fn read_stamp(
     properties: &Properties<'_>,
-    purpose: Purpose,
+    method: Option<Method>,
 ) -> Result<Option<Stamp>, Refusal>
-    ensures reads { IfOk result (λ found. Says (codes "DTSTAMP") (is_message purpose) IsStampLine properties.now found) }
+    ensures reads { IfOk result (λ found. Says (codes "DTSTAMP") (is_some (method_read method)) IsStampLine properties.now found) }
     ensures refuses { IfErr result (λ e. IsTrue (is_event_fault e.number)) }
-    ensures fault { (object : Tree) → IfErr result (λ e. EventComponentFault object (method_read purpose) properties.now e.number) }
+    ensures fault { (object : Tree) → IfErr result (λ e. EventComponentFault object (method_read method) properties.now e.number) }
 {
     match optional(properties, "DTSTAMP")? {
         Some(line) => Ok(Some(Stamp::read(line.value())?)),
-        None if purpose.is_message() => Err(Refusal::BAD_PROPERTY),
+        None if method.is_some() => Err(Refusal::BAD_PROPERTY),
         None => Ok(None),
     }
 }

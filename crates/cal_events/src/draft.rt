@@ -17,7 +17,7 @@ ghost use Rattle.cal_events.specs.Masters.{AreMasters, AreSeriesOf, AreRuled};
 ghost use Rattle.cal_events.specs.declared.calendar.PlacedSingle.{PlacedSingle};
 
 use crate::calendar::{Calendar, PlacedSingle};
-use crate::component::{EventComponent, PartStat, Purpose};
+use crate::component::{EventComponent, PartStat};
 use crate::entries::Entries;
 use crate::instance::InstanceKey;
 use crate::reading::read_event;
@@ -76,7 +76,7 @@ impl Draft {
         let mut draft = Draft::new(alloc);
         for component in object.children() {
             if component.is_named("VEVENT") {
-                let event = read_event(alloc, &zones, component, Purpose::Meeting)?;
+                let event = read_event(alloc, &zones, component, None)?;
                 draft.add(alloc, event, room)?;
             }
         }

@@ -17,7 +17,7 @@ ghost use Rattle.cal_events.specs.Places.{ArePlaces};
 ghost use Rattle.cal_events.specs.Overlapping.{HaveOneEnd, AreDated};
 ghost use Rattle.cal_events.specs.declared.component.EventComponent.{EventComponent};
 
-use crate::component::{EventComponent, Purpose, one_event};
+use crate::component::{EventComponent, one_event};
 use crate::instance::Instance;
 use crate::instances::{Instances, is_start};
 use crate::instants::Instants;
@@ -92,7 +92,7 @@ impl Event {
         ensures refuses { IfErr result (RefusesOnly is_meeting_fault) }
         ensures fault { IfErr result (RefusesBy (EventFault (tree_of object.now) None)) }
     {
-        let components = MeetingComponents::read(alloc, object, Purpose::Meeting)?;
+        let components = MeetingComponents::read(alloc, object)?;
         Ok(components.into_event(alloc)?)
     }
 

@@ -13,6 +13,7 @@ pub mod instance;
 mod instances;
 mod instants;
 mod meeting_components;
+mod method;
 mod occurrences;
 mod overlapping;
 mod own_instances;
@@ -31,13 +32,14 @@ mod zoned;
 mod zones;
 
 pub use calendar::{Calendar, Singles};
-pub use component::{Attendee, EventComponent, PartStat, Purpose, one_event};
+pub use component::{Attendee, EventComponent, PartStat, one_event};
 pub use event::{Event, one_instance, one_meeting};
 pub use event_rule::as_end;
 pub use event_times::{EventTimes, FIRST_SECOND};
 pub use instance::{HORIZON, Instance, InstanceKey, OwnedKey, Single};
 pub use instances::Instances;
-pub use meeting_components::MeetingComponents;
+pub use meeting_components::read_meeting;
+pub use method::Method;
 pub use reading::{
     calendar_series_are_said, one_calendar, one_calendar_text, series_and_singles_divide,
     singles_are_confirmed,

@@ -6,20 +6,22 @@ ghost use Rattle.std.specs.List.{list_all, AllZip};
 ghost use Rattle.ical_lines.specs.Fault.{RefusesOnly, RefusesBy};
 ghost use Rattle.ical_tree.specs.Tree.{tree_of};
 ghost use Rattle.profile.specs.events.EventComponents.{EventComponent as SaidComponent, SaysEventComponent};
-ghost use Rattle.profile.specs.events.Events.{as_added, components_of, is_same_meeting, is_master, is_override, taken_by, AreOfOne, InstancesDiffer, SaysEvent, EventFault};
+ghost use Rattle.profile.specs.events.Events.{as_added, is_same_meeting, is_master, is_override, taken_by, AreOfOne, InstancesDiffer, SaysEvent, EventFault};
 ghost use Rattle.cal_events.specs.Component.{component_of, method_read, vevents_of};
-ghost use Rattle.cal_events.specs.MeetingComponents.{instants_said, IsNotOne, SharesSlot};
+ghost use Rattle.cal_events.specs.OneMeeting.{is_components_fault};
+ghost use Rattle.cal_events.specs.MeetingComponents.{instants_said, AreOfObject, IsNotOne, SharesSlot};
 
-use crate::component::{EventComponent, Purpose};
+use crate::component::EventComponent;
 use crate::instants::Instants;
+use crate::method::{Method, adds_instances};
 use crate::reading::read_events;
 use ical_lines::{Fault, Refusal};
 use ical_tree::Component;
 use std::alloc::{AllocError, Global};
 
-/// The VEVENTs of one meeting.
+/// The VEVENTs of one meeting, divided.
 #[derive(Drop)]
-pub struct MeetingComponents {
+pub(crate) struct MeetingComponents {
     /// The one without RECURRENCE-ID, None where there is none.
     pub master: Option<EventComponent>,
     /// Those with one, each for another instance, in the order of the text.
@@ -31,46 +33,17 @@ pub struct MeetingComponents {
 impl MeetingComponents {
     ghost use Rattle.cal_events.specs.OneMeeting.{meeting_of, is_components_fault};
 
-    /// The VEVENTs of an object, read for a purpose. Those of an ADD are taken as the instances of their own starts.
-    /// Refused: as by `EventComponent::read` for one of them; 66 where there is none; 62 for two UIDs or two ORGANIZERs; 53 for two without
-    /// RECURRENCE-ID; 54 for two of the same instance.
-    pub fn read(
-        alloc: Global,
-        object: &Component,
-        purpose: Purpose,
-    ) -> Result<MeetingComponents, Fault>
-        ensures says { IfOk result (λ meeting. SaysEvent (tree_of object.now) (method_read purpose) (meeting_of meeting)) }
+    /// The VEVENTs of an object whose METHOD is ignored.
+    /// Refused: as by `read_meeting`.
+    pub(crate) fn read(alloc: Global, object: &Component) -> Result<MeetingComponents, Fault>
+        ensures says { IfOk result (λ meeting. SaysEvent (tree_of object.now) None (meeting_of meeting)) }
         ensures instants { IfOk result (λ meeting. map Some meeting.instants.items ≡ instants_said (map component_of meeting.overrides.items)) }
         ensures refuses { IfErr result (RefusesOnly is_components_fault) }
-        ensures fault { IfErr result (RefusesBy (EventFault (tree_of object.now) (method_read purpose))) }
+        ensures fault { IfErr result (RefusesBy (EventFault (tree_of object.now) None)) }
     {
-        let components = read_events(alloc, object, purpose)?;
-        judge_meeting(&components)?;
-        let taken = taken_for(alloc, purpose, components)?;
-        judge_slots(alloc, &taken)?;
-        let divided = MeetingComponents::of(alloc, taken)?;
+        let components = read_meeting(alloc, object, None)?;
+        let divided = MeetingComponents::of(alloc, components)?;
         Ok(divided)
-    }
-
-    /// The same in the order of the text, where none is added.
-    /// Refused: as by `read`.
-    pub fn read_in_order(
-        alloc: Global,
-        object: &Component,
-        purpose: Purpose,
-    ) -> Result<Vec<EventComponent>, Fault>
-        ensures says { IfOk result (λ events. AllZip (SaysEventComponent (tree_of object.now) (method_read purpose)) (vevents_of object.now) (map component_of events.items)) }
-        ensures some { IfOk result (λ events. 0 < length events.items) }
-        ensures one { IfOk result (λ events. AreOfOne (map component_of events.items)) }
-        ensures masters { IfOk result (λ events. length (filter is_master (map component_of events.items)) ≤ 1) }
-        ensures differ { IfOk result (λ events. InstancesDiffer (filter is_override (map component_of events.items))) }
-        ensures refuses { IfErr result (RefusesOnly is_components_fault) }
-        ensures fault { ((events : List SaidComponent) → taken_by (method_read purpose) events ≡ events) → IfErr result (RefusesBy (EventFault (tree_of object.now) (method_read purpose))) }
-    {
-        let components = read_events(alloc, object, purpose)?;
-        judge_meeting(&components)?;
-        judge_slots(alloc, &components)?;
-        Ok(components)
     }
 
     /// These, divided by RECURRENCE-ID, which one of them at most may lack. It fails only when out of memory.
@@ -98,37 +71,40 @@ impl MeetingComponents {
             instants,
         })
     }
+}
 
-    /// All of them, the master first. It fails only when out of memory.
-    pub fn into_events(self, alloc: Global) -> Result<Vec<EventComponent>, AllocError>
-        ensures { IfOk result (λ events. map component_of events.items ≡ components_of (meeting_of self)) }
-    {
-        let MeetingComponents {
-            master,
-            mut overrides,
-            ..
-        } = self;
-        let mut events = Vec::new(alloc);
-        if let Some(master) = master {
-            events.push(master)?;
-        }
-        events.append(&mut overrides)?;
-        Ok(events)
-    }
+/// The VEVENTs of an object, which are of one meeting, in the order of the text, as this METHOD takes them: those of an ADD as the instances of their
+/// own starts. None is an object whose METHOD is ignored. In time n log n.
+/// Refused: as by `EventComponent::read` for one of them; 66 where there is none; 62 for two UIDs or two ORGANIZERs; 53 for two without
+/// RECURRENCE-ID; 54 for two of the same instance.
+pub fn read_meeting(
+    alloc: Global,
+    object: &Component,
+    method: Option<Method>,
+) -> Result<Vec<EventComponent>, Fault>
+    ensures says { IfOk result (λ events. AreOfObject (tree_of object.now) (method_read method) (vevents_of object.now) (map component_of events.items)) }
+    ensures refuses { IfErr result (RefusesOnly is_components_fault) }
+    ensures fault { IfErr result (RefusesBy (EventFault (tree_of object.now) (method_read method))) }
+{
+    let components = read_events(alloc, object, method)?;
+    judge_meeting(&components)?;
+    let taken = taken_for(alloc, method, components)?;
+    judge_slots(alloc, &taken)?;
+    Ok(taken)
 }
 
 /// Components as the method of a message takes them. It fails only when out of memory.
 fn taken_for(
     alloc: Global,
-    purpose: Purpose,
+    method: Option<Method>,
     components: Vec<EventComponent>,
 ) -> Result<Vec<EventComponent>, AllocError>
-    ensures { IfOk result (λ taken. map component_of taken.items ≡ taken_by (method_read purpose) (map component_of components.items)) }
+    ensures { IfOk result (λ taken. map component_of taken.items ≡ taken_by (method_read method) (map component_of components.items)) }
 {
-    match purpose {
-        Purpose::Add => all_added(alloc, components),
-        Purpose::Request | Purpose::Cancel | Purpose::Meeting => Ok(components),
+    if adds_instances(method) {
+        return all_added(alloc, components);
     }
+    Ok(components)
 }
 
 /// Components as an ADD takes them. It fails only when out of memory.

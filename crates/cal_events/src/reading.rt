@@ -15,8 +15,9 @@ ghost use Rattle.cal_events.specs.Zones.{object_of, AreRead};
 ghost use Rattle.cal_events.specs.Component.{IsFaultAmong, method_read, component_of, vevents_of};
 
 use crate::calendar::Calendar;
-use crate::component::{EventComponent, Purpose, one_event};
+use crate::component::{EventComponent, one_event};
 use crate::draft::Draft;
+use crate::method::Method;
 use crate::zones::ZonesOfObject;
 use ical_lines::Fault;
 use ical_tree::{Component, Properties, one_tree};
@@ -106,39 +107,39 @@ pub fn calendar_series_are_said()
     one_event();
 }
 
-/// What a VEVENT says, whose times may name these zones. Its lines are parsed once, for all that is asked of them.
+/// What a VEVENT of an object of this METHOD says, or of one whose METHOD is ignored; its times may name these zones. Its lines are parsed once, for all that is asked of them.
 /// Refused: as by `EventComponent::read`.
 pub(crate) fn read_event(
     alloc: Global,
     zones: &ZonesOfObject<'_, '_>,
     component: &Component,
-    purpose: Purpose,
+    method: Option<Method>,
 ) -> Result<EventComponent, Fault>
     requires zones { AreRead zones.now }
-    ensures says { IfOk result (λ event. SaysEventComponent (object_of zones.now) (method_read purpose) (component_lines component.now) (component_of event)) }
+    ensures says { IfOk result (λ event. SaysEventComponent (object_of zones.now) (method_read method) (component_lines component.now) (component_of event)) }
     ensures refuses { IfErr result (RefusesOnly is_meeting_event_fault) }
-    ensures fault { IfErr result (RefusesBy (EventComponentFault (object_of zones.now) (method_read purpose) (component_lines component.now))) }
+    ensures fault { IfErr result (RefusesBy (EventComponentFault (object_of zones.now) (method_read method) (component_lines component.now))) }
 {
     let properties = Properties::of(alloc, component)?;
-    EventComponent::read(alloc, zones, &properties, purpose)
+    EventComponent::read(alloc, zones, &properties, method)
 }
 
-/// What the VEVENTs of an object say, in the order of the text.
+/// What the VEVENTs of an object of this METHOD say, or of one whose METHOD is ignored, in the order of the text.
 /// Refused: as by `EventComponent::read`.
 pub fn read_events(
     alloc: Global,
     object: &Component,
-    purpose: Purpose,
+    method: Option<Method>,
 ) -> Result<Vec<EventComponent>, Fault>
-    ensures says { IfOk result (λ events. AllZip (SaysEventComponent (tree_of object.now) (method_read purpose)) (vevents_of object.now) (map component_of events.items)) }
+    ensures says { IfOk result (λ events. AllZip (SaysEventComponent (tree_of object.now) (method_read method)) (vevents_of object.now) (map component_of events.items)) }
     ensures refuses { IfErr result (RefusesOnly is_meeting_event_fault) }
-    ensures fault { IfErr result (RefusesBy (IsFaultAmong (tree_of object.now) (method_read purpose) (vevents_of object.now))) }
+    ensures fault { IfErr result (RefusesBy (IsFaultAmong (tree_of object.now) (method_read method) (vevents_of object.now))) }
 {
     let zones = ZonesOfObject::of(alloc, object)?;
     let mut events = Vec::new(alloc);
     for component in object.children() {
         if component.is_named("VEVENT") {
-            events.push(read_event(alloc, &zones, component, purpose)?)?;
+            events.push(read_event(alloc, &zones, component, method)?)?;
         }
     }
     Ok(events)

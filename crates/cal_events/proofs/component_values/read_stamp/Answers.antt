@@ -13,13 +13,13 @@ use Rattle.cal_events.proofs.component_values.read_stamp.Goals as goal
 
 pub returns-in_err-line-clause-fault : goal.returns-in_err-line-clause-fault
 returns-in_err-line-clause-fault c object =
-    let P = EventComponentFault object (method_read c.args.purpose) c.args.properties.now in
+    let P = EventComponentFault object (method_read c.args.method) c.args.properties.now in
     refusal_exit _ P _ c.from_residual.ensures.1
     (subst P (sym c.in_err-line.ensures.refuses) (twice (codes "DTSTAMP") (2, omega arith, refl) c.in_err-line.ensures.twice))
 
 pub returns-in_err-read-in-Some-clause-fault : goal.returns-in_err-read-in-Some-clause-fault
 returns-in_err-read-in-Some-clause-fault c object =
-    let P = EventComponentFault object (method_read c.args.purpose) c.args.properties.now in
+    let P = EventComponentFault object (method_read c.args.method) c.args.properties.now in
     let once = c.in_ok-line.ensures.found ∙ ap (λ l. option_to_list (option_map line_text l)) c.in-Some.is in
     refusal_exit _ P _ c.from_residual-in_err-read-in-Some.ensures.1
     (subst P (sym c.in_err-read-in-Some.ensures.refuses)
@@ -28,4 +28,4 @@ returns-in_err-read-in-Some-clause-fault c object =
 
 pub returns-in-None-clause-fault : goal.returns-in-None-clause-fault
 returns-in-None-clause-fault c object =
-    no_stamp_given (sym c.if-is_message.ensures) (c.in_ok-line.ensures.found ∙ ap (λ l. option_to_list (option_map line_text l)) c.in-None.is)
+    no_stamp_given (sym c.if-is_some.ensures) (c.in_ok-line.ensures.found ∙ ap (λ l. option_to_list (option_map line_text l)) c.in-None.is)

@@ -10,6 +10,6 @@ use Rattle.cal_events.proofs.reading.read_event.Goals as goal
 pub returns-clause-refuses : goal.returns-clause-refuses
 returns-clause-refuses c =
     let object = object_of c.args.zones.now in
-    let m = method_read c.args.purpose in
+    let m = method_read c.args.method in
     let lines = c.in_ok-properties.properties in
     IfErr-weaker _ (RefusesBy (EventComponentFault object m lines)) (RefusesOnly is_meeting_event_fault) (refused_for object m lines) c.read.ensures.fault

@@ -21,7 +21,7 @@ returns-in_err-read_event-clause-fault c =
     let same = c.children-component-items.ensures in
     let within = subst (λ (l : List Component). i < length l) same c.loop-component-test.true in
     let here = subst (λ (l : List Component). x ≡ get_or l i x) same c.component-item.is in
-    let m = method_read c.args.purpose in
+    let m = method_read c.args.method in
     let P = IsFaultAmong (tree_of object) m (vevents_of object) in
     err_exit _ (RefusesBy P) _ c.from_residual-in_err-read_event.ensures.1
     (weaker_fault _ (EventComponentFault (tree_of object) m (component_lines x)) P
@@ -31,7 +31,7 @@ returns-in_err-read_event-clause-fault c =
 pub loop-component-preserved : goal.loop-component-preserved
 loop-component-preserved c =
     let object = tree_of c.args.object.now in
-    let m = method_read c.args.purpose in
+    let m = method_read c.args.method in
     let all = component_children c.args.object.now in
     let i = c.loop-component.component-index in
     let x = c.component-item.result in

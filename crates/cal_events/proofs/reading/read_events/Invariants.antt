@@ -9,4 +9,4 @@ use Rattle.cal_events.proofs.reading.read_events.Given as goal
 -- the VEVENTs so far say the events so far
 abbrev pub invariant-loop-component : goal.invariant-loop-component
 invariant-loop-component l =
-    AllZip (SaysEventComponent (tree_of l.object) (method_read l.purpose)) (events_in (take l.component-index (component_children l.object))) (map component_of l.events.items)
+    AllZip (SaysEventComponent (tree_of l.object) (method_read l.method)) (events_in (take l.component-index (component_children l.object))) (map component_of l.events.items)

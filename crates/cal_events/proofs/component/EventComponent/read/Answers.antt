@@ -19,33 +19,33 @@ use Rattle.cal_events.proofs.component.EventComponent.read.Goals as goal
 
 pub returns-in_err-uid-clause-fault : goal.returns-in_err-uid-clause-fault
 returns-in_err-uid-clause-fault c =
-    let m = method_read c.args.purpose in
+    let m = method_read c.args.method in
     let object = object_of c.args.zones.now in
     err_exit _ (RefusesBy (EventComponentFault object m c.args.properties.now)) _ c.from_residual.ensures.1 (c.in_err-uid.ensures.fault object m)
 
 pub returns-in_err-organiser-clause-fault : goal.returns-in_err-organiser-clause-fault
 returns-in_err-organiser-clause-fault c =
     let object = object_of c.args.zones.now in
-    err_exit _ (RefusesBy (EventComponentFault object (method_read c.args.purpose) c.args.properties.now)) _ c.from_residual-in_err-organiser.ensures.1
+    err_exit _ (RefusesBy (EventComponentFault object (method_read c.args.method) c.args.properties.now)) _ c.from_residual-in_err-organiser.ensures.1
     (c.in_err-organiser.ensures.fault object)
 
 pub returns-in_err-cancelled-clause-fault : goal.returns-in_err-cancelled-clause-fault
 returns-in_err-cancelled-clause-fault c =
-    let P = EventComponentFault (object_of c.args.zones.now) (method_read c.args.purpose) c.args.properties.now in
+    let P = EventComponentFault (object_of c.args.zones.now) (method_read c.args.method) c.args.properties.now in
     err_exit _ (RefusesBy P) _ c.from_residual-in_err-cancelled.ensures.1
     (subst P (sym c.in_err-cancelled.ensures.refuses) (twice (codes "STATUS") (4, omega arith, refl) c.in_err-cancelled.ensures.twice))
 
 pub returns-in_err-said_recurrence-clause-fault : goal.returns-in_err-said_recurrence-clause-fault
 returns-in_err-said_recurrence-clause-fault c =
     let object = object_of c.args.zones.now in
-    let m = method_read c.args.purpose in
+    let m = method_read c.args.method in
     err_exit _ (RefusesBy (EventComponentFault object m c.args.properties.now)) _ c.from_residual-in_err-said_recurrence.ensures.1
     (in_occurrences (c.in_err-said_recurrence.ensures.fault (adds_instances m)))
 
 pub returns-in_err-said_additions-clause-fault : goal.returns-in_err-said_additions-clause-fault
 returns-in_err-said_additions-clause-fault c =
     let object = object_of c.args.zones.now in
-    let m = method_read c.args.purpose in
+    let m = method_read c.args.method in
     let lines = c.args.properties.now in
     err_exit _ (RefusesBy (EventComponentFault object m lines)) _ c.from_residual-in_err-said_additions.ensures.1
     (weaker_fault _ (EntriesFault object (codes "RDATE") (entries_named (codes "RDATE") lines)) (EventComponentFault object m lines) (λ n h. in_occurrences (bad_additions h))
@@ -54,7 +54,7 @@ returns-in_err-said_additions-clause-fault c =
 pub returns-in_err-said_exceptions-clause-fault : goal.returns-in_err-said_exceptions-clause-fault
 returns-in_err-said_exceptions-clause-fault c =
     let object = object_of c.args.zones.now in
-    let m = method_read c.args.purpose in
+    let m = method_read c.args.method in
     let lines = c.args.properties.now in
     err_exit _ (RefusesBy (EventComponentFault object m lines)) _ c.from_residual-in_err-said_exceptions.ensures.1
     (weaker_fault _ (EntriesFault object (codes "EXDATE") (entries_named (codes "EXDATE") lines)) (EventComponentFault object m lines) (λ n h. in_occurrences (bad_exceptions h))
@@ -63,7 +63,7 @@ returns-in_err-said_exceptions-clause-fault c =
 pub returns-in_err-recurrence-clause-fault : goal.returns-in_err-recurrence-clause-fault
 returns-in_err-recurrence-clause-fault c =
     let object = object_of c.args.zones.now in
-    let m = method_read c.args.purpose in
+    let m = method_read c.args.method in
     let lines = c.args.properties.now in
     err_exit _ (RefusesBy (EventComponentFault object m lines)) _ c.from_residual-in_err-recurrence.ensures.1
     (in_occurrences (c.in_err-recurrence.ensures.fault object lines c.in_ok-said_recurrence.ensures.said (adds_instances m)))
@@ -71,14 +71,14 @@ returns-in_err-recurrence-clause-fault c =
 pub returns-in_err-additions-clause-fault : goal.returns-in_err-additions-clause-fault
 returns-in_err-additions-clause-fault c =
     let object = object_of c.args.zones.now in
-    let m = method_read c.args.purpose in
+    let m = method_read c.args.method in
     let lines = c.args.properties.now in
     err_exit _ (RefusesBy (EventComponentFault object m lines)) _ c.from_residual-in_err-additions.ensures.1
     (in_occurrences (c.in_err-additions.ensures.fault object lines c.in_ok-said_additions.ensures.listed (adds_instances m)))
 
 pub returns-in_err-refuse_recurring_instance-clause-fault : goal.returns-in_err-refuse_recurring_instance-clause-fault
 returns-in_err-refuse_recurring_instance-clause-fault c =
-    let m = method_read c.args.purpose in
+    let m = method_read c.args.method in
     let lines = c.args.properties.now in
     let P = EventComponentFault (object_of c.args.zones.now) m lines in
     err_exit _ (RefusesBy P) _ c.from_residual-in_err-refuse_recurring_instance.ensures.1
@@ -88,7 +88,7 @@ returns-in_err-refuse_recurring_instance-clause-fault c =
 pub returns-in_err-said-clause-fault : goal.returns-in_err-said-clause-fault
 returns-in_err-said-clause-fault c =
     let object = object_of c.args.zones.now in
-    let m = method_read c.args.purpose in
+    let m = method_read c.args.method in
     let lines = c.args.properties.now in
     err_exit _ (RefusesBy (EventComponentFault object m lines)) _ c.from_residual-in_err-said.ensures.1
     (in_times (subst (λ (b : Bool). EventTimesFault b object lines c.in_err-said.field-0.0.number) c.may_lack_start.ensures c.in_err-said.ensures.fault))
@@ -96,7 +96,7 @@ returns-in_err-said-clause-fault c =
 pub returns-in_err-said_rule-clause-fault : goal.returns-in_err-said_rule-clause-fault
 returns-in_err-said_rule-clause-fault c =
     let object = object_of c.args.zones.now in
-    let m = method_read c.args.purpose in
+    let m = method_read c.args.method in
     let lines = c.args.properties.now in
     err_exit _ (RefusesBy (EventComponentFault object m lines)) _ c.from_residual-in_err-said_rule.ensures.1
     (weaker_fault _ (EventRuleFault object lines) (EventComponentFault object m lines) (λ n h. in_rule h) (c.in_err-said_rule.ensures.fault object))
@@ -104,13 +104,13 @@ returns-in_err-said_rule-clause-fault c =
 pub returns-in_err-attendees-clause-fault : goal.returns-in_err-attendees-clause-fault
 returns-in_err-attendees-clause-fault c =
     let object = object_of c.args.zones.now in
-    let m = method_read c.args.purpose in
+    let m = method_read c.args.method in
     err_exit _ (RefusesBy (EventComponentFault object m c.args.properties.now)) _ c.from_residual-in_err-attendees.ensures.1 (c.in_err-attendees.ensures.fault object m)
 
 pub returns-in_err-times-clause-fault : goal.returns-in_err-times-clause-fault
 returns-in_err-times-clause-fault c =
     let object = object_of c.args.zones.now in
-    let m = method_read c.args.purpose in
+    let m = method_read c.args.method in
     let lines = c.args.properties.now in
     err_exit _ (RefusesBy (EventComponentFault object m lines)) _ c.from_residual-in_err-times.ensures.1
     (in_times (c.in_err-times.ensures.fault (may_lack_start m) object lines (subst (λ (b : Bool). AreSaidBy b object lines c.in_ok-said.said) c.may_lack_start.ensures c.in_ok-said.ensures.said)))
@@ -118,7 +118,7 @@ returns-in_err-times-clause-fault c =
 pub returns-in_err-rule-clause-fault : goal.returns-in_err-rule-clause-fault
 returns-in_err-rule-clause-fault c =
     let object = object_of c.args.zones.now in
-    let m = method_read c.args.purpose in
+    let m = method_read c.args.method in
     let lines = c.args.properties.now in
     err_exit _ (RefusesBy (EventComponentFault object m lines)) _ c.from_residual-in_err-rule.ensures.1
     (weaker_fault _ (EventRuleFault object lines) (EventComponentFault object m lines) (λ n h. in_rule h)
@@ -135,7 +135,7 @@ returns-clause-says c = record {
   times =
       let object = object_of c.args.zones.now in
       let lines = c.args.properties.now in
-      let may = may_lack_start (method_read c.args.purpose) in
+      let may = may_lack_start (method_read c.args.method) in
       c.in_ok-times.ensures.says may object lines (subst (λ (b : Bool). AreSaidBy b object lines c.in_ok-said.said) c.may_lack_start.ensures c.in_ok-said.ensures.said);
   rule = c.in_ok-rule.ensures.says c.args.properties.now c.in_ok-said_rule.ensures.said c.has.ensures;
   occurrences =
@@ -157,7 +157,7 @@ pub invariant_of-result : goal.invariant_of-result
 invariant_of-result c =
     let object = object_of c.args.zones.now in
     let lines = c.args.properties.now in
-    let may = may_lack_start (method_read c.args.purpose) in
+    let may = may_lack_start (method_read c.args.method) in
     let says = c.in_ok-times.ensures.says may object lines (subst (λ (b : Bool). AreSaidBy b object lines c.in_ok-said.said) c.may_lack_start.ensures c.in_ok-said.ensures.said) in
     let t = times_sound {may = may} object lines (times_of c.in_ok-times.times) says in
     let added = c.in_ok-additions.ensures.says object lines c.in_ok-said_additions.ensures.listed in
@@ -175,7 +175,7 @@ invariant_of-result c =
       summary = text_octets c.in_ok-summary.summary;
       attendees = map attendee_of c.in_ok-attendees.attendees.items;
     } in
-    let said : SaysEventComponent object (method_read c.args.purpose) lines event = record {
+    let said : SaysEventComponent object (method_read c.args.method) lines event = record {
       uid = c.in_ok-uid.ensures.reads;
       organiser = c.in_ok-organiser.ensures.reads;
       stamp = c.in_ok-stamp.ensures.reads;
@@ -196,5 +196,5 @@ invariant_of-result c =
     record {
       steady = t.0;
       named = t.1;
-      said = merely (record { object = object; method = method_read c.args.purpose; lines = lines; event = event; says = said; times_are = refl; rule_is = refl });
+      said = merely (record { object = object; method = method_read c.args.method; lines = lines; event = event; says = said; times_are = refl; rule_is = refl });
     }

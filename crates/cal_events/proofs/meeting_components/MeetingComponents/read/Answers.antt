@@ -18,7 +18,7 @@ use Rattle.cal_events.proofs.meeting_components.MeetingComponents.read.Goals as 
 pub returns-in_err-components-clause-fault : goal.returns-in_err-components-clause-fault
 returns-in_err-components-clause-fault c =
     let object = c.args.object.now in
-    let m = method_read c.args.purpose in
+    let m = method_read c.args.method in
     err_exit _ (RefusesBy (EventFault (tree_of object) m)) _ c.from_residual.ensures.1
     (weaker_fault _ (IsFaultAmong (tree_of object) m (vevents_of object)) (EventFault (tree_of object) m)
     (among_there (tree_of object) (vevents_of object) (vevents_tree object) m) c.in_err-components.ensures.fault)
@@ -26,7 +26,7 @@ returns-in_err-components-clause-fault c =
 pub returns-in_err-judge_meeting-clause-fault : goal.returns-in_err-judge_meeting-clause-fault
 returns-in_err-judge_meeting-clause-fault c =
     let object = c.args.object.now in
-    let m = method_read c.args.purpose in
+    let m = method_read c.args.method in
     let items = c.in_ok-components.components.items in
     err_exit _ (RefusesBy (EventFault (tree_of object) m)) _ c.from_residual-in_err-judge_meeting.ensures.1
     (not_one_there (tree_of object) (vevents_of object) (vevents_tree object) m (map component_of items) c.in_ok-components.ensures.says c.in_err-judge_meeting.field-0.0.number
@@ -35,7 +35,7 @@ returns-in_err-judge_meeting-clause-fault c =
 pub returns-in_err-judge_slots-clause-fault : goal.returns-in_err-judge_slots-clause-fault
 returns-in_err-judge_slots-clause-fault c =
     let object = c.args.object.now in
-    let m = method_read c.args.purpose in
+    let m = method_read c.args.method in
     let e = c.in_err-judge_slots.field-0.0 in
     err_exit _ (RefusesBy (EventFault (tree_of object) m)) _ c.from_residual-in_err-judge_slots.ensures.1
     (weaker_fault _ (SharesSlot (taken_by m (map component_of c.in_ok-components.components.items))) (EventFault (tree_of object) m)
@@ -53,7 +53,7 @@ returns-clause-says c =
     let object = c.args.object.now in
     let d = c.in_ok-divided.divided in
     let taken = c.in_ok-taken.ensures in
-    meeting_there (tree_of object) (vevents_of object) (vevents_tree object) (method_read c.args.purpose) (map component_of c.in_ok-components.components.items) c.in_ok-components.ensures.says (meeting_of d)
+    meeting_there (tree_of object) (vevents_of object) (vevents_tree object) (method_read c.args.method) (map component_of c.in_ok-components.components.items) c.in_ok-components.ensures.says (meeting_of d)
     (subst (λ (l : List EventComponent). 0 < length (map component_of l)) c.deref.ensures.value c.in_ok-judge_meeting.ensures.some)
     (subst (λ (l : List EventComponent). AreOfOne (map component_of l)) c.deref.ensures.value c.in_ok-judge_meeting.ensures.one)
     (subst (λ (l : List SaidComponent). filter is_master l ≡ option_to_list (option_map component_of d.master)) taken c.in_ok-divided.ensures.master)
