@@ -1,88 +1,93 @@
 -- What the components of a message that was read say.
-use Rattle.std.specs.Prelude.{◌≡◌, ◌≢◌, ℕ, ◌<◌, Bool, false, true, List, length, map, Contains, All, AllPairs, MatchOption, Option, Some, is_some, option_map}
+use Rattle.std.specs.Prelude.{◌≡◌, ◌≢◌, ℕ, ◌<◌, Bool, true, false, List, length, map, Contains, All, AllPairs, MatchOption, Option, Some, is_some, option_map}
 use Rattle.std.specs.List.{list_any, AllZip}
 use Rattle.std.specs.Str.{bytes_eq}
 use Rattle.profile.specs.events.EventComponents.{EventComponent as SaidComponent}
 use Rattle.profile.specs.events.Confirmed.{AreApart, has_series}
-use Rattle.cal_events.specs.OwnInstances.{own_instance_at}
-use Rattle.cal_events.specs.Series.{IsSeriesOf, series_said}
-use Rattle.itip_messages.specs.Body.{IsCanonical, IsReady}
-use Rattle.profile.specs.rooms.Messages as profile
-use Rattle.profile.specs.rooms.Messages.{SpellsMessage, cancels, raised_to, own_revision, AreBySlot}
-use Rattle.profile.specs.events.EventComponents as events
-use Rattle.profile.specs.events.Events.{Event, AreOfOne, components_of}
-use Rattle.profile.specs.text.Values.{IsClockSeconds}
+use Rattle.profile.specs.events.Messages as profile
+use Rattle.profile.specs.events.Messages.{AreOfMeeting, SpellsMessage, is_to_rooms, master_in}
+use Rattle.profile.specs.rooms.Messages.{AreBySlot, own_revision}
+use Rattle.profile.specs.rooms.Messages as rooms
 use Rattle.profile.specs.rooms.Revisions as revisions
+use Rattle.profile.specs.text.Values.{IsClockSeconds}
 use Rattle.ical_values.specs.Octets.{text_octets, address_octets}
 use Rattle.ical_values.specs.declared.address.Address.{Address}
 use Rattle.ical_values.specs.declared.text.Text.{Text}
 use Rattle.itip_order.specs.Parts.{slot_of, revision_of}
-use Rattle.itip_messages.specs.declared.room_message.MessageComponent.{MessageComponent}
+use Rattle.itip_order.specs.declared.part.Revision.{Revision}
+use Rattle.cal_events.specs.Component.{component_of, method_said}
+use Rattle.cal_events.specs.OwnInstances.{own_instance_at}
+use Rattle.cal_events.specs.Series.{IsSeriesOf, series_said}
 use Rattle.cal_events.specs.declared.component.EventComponent.{EventComponent}
-use Rattle.cal_events.specs.declared.component.Purpose.{Purpose}
-use Rattle.cal_events.specs.declared.component.Purpose.TheVariants as purposes
-use Rattle.cal_events.specs.Component.{component_of}
-use Rattle.itip_messages.specs.declared.room_message.Method.{Method}
-use Rattle.itip_messages.specs.declared.room_message.Method.TheVariants.{Request, Add, Cancel}
-
--- what a method represents
-abbrev pub method_said : Method → events.Method
-method_said Request = events.Request
-method_said Add = events.Add
-method_said Cancel = events.Cancel
-
--- what its VEVENTs are read for
-abbrev pub purpose_of : Method → Purpose
-purpose_of Request = purposes.Request
-purpose_of Add = purposes.Add
-purpose_of Cancel = purposes.Cancel
+use Rattle.cal_events.specs.declared.instance.Single.{Single}
+use Rattle.cal_events.specs.declared.method.Method.{Method}
+use Rattle.cal_events.specs.declared.series.Series.{Series}
+use Rattle.itip_messages.specs.Body.{IsCanonical, IsReady}
+use Rattle.itip_messages.specs.declared.message_component.MessageComponent.{MessageComponent}
 
 -- the slot of a VEVENT
 abbrev pub event_slot : EventComponent → revisions.Slot
-event_slot event = profile.slot_of (component_of event)
+event_slot event = rooms.slot_of (component_of event)
 
 -- the slot can be written as a stamp
 abbrev pub IsDated : revisions.Slot → Type 0
 IsDated revisions.Whole = Unit {0}
 IsDated (revisions.At t) = IsClockSeconds t
 
--- the component is what an event of such a message says, where the whole meeting in it has this revision
-pub record SaysComponent (method : events.Method) (whole : Option revisions.Revision) (event : SaidComponent) (component : MessageComponent) : Type 0 where
-  pub slot : slot_of component.slot ≡ profile.slot_of event
-  pub dated : IsDated (profile.slot_of event)
-  pub revision : revision_of component.revision ≡ raised_to whole (own_revision event)
+-- the component is what an event says, whatever the METHOD
+pub record SaysComponent (event : SaidComponent) (component : MessageComponent) : Type 0 where
+  pub slot : slot_of component.slot ≡ rooms.slot_of event
+  pub dated : IsDated (rooms.slot_of event)
+  pub revision : revision_of component.revision ≡ own_revision event
   pub ready : IsReady event
-  pub singles : AreApart event (map (own_instance_at event) component.singles.items)
-  pub series : MatchOption component.series (has_series event ≡ false) (λ series. IsSeriesOf event (series_said series))
-  pub cancelled : component.cancelled ≡ cancels method event
+  pub cancelled : component.cancelled ≡ event.cancelled
   pub canonical : IsCanonical component.canonical.items event
+  pub summary : text_octets component.summary ≡ event.summary
   pub attendees : component.attendees ≡ event.attendees
 
--- a message of this method, organiser and UID is that message: its components are the events by their slots
-pub record AreOfMessage (asking : Method) (by : Address) (named : Text) (components : List MessageComponent) (said : profile.Message) : Type 0 where
-  pub method : method_said asking ≡ said.method
-  pub organiser : (event : SaidComponent) → Contains (components_of said.meeting) event → event.organiser ≡ Some (address_octets by)
-  pub uid : (event : SaidComponent) → Contains (components_of said.meeting) event → text_octets named ≡ event.uid
+-- these are the instances of an event: those that no rule gives, and those that its rule gives, if it has one
+pub record AreInstancesOf (event : SaidComponent) (own : List Single) (given : Option Series) : Type 0 where
+  pub singles : AreApart event (map (own_instance_at event) own)
+  pub series : MatchOption given (has_series event ≡ false) (λ series. IsSeriesOf event (series_said series))
+
+-- and the component has those of that event
+abbrev pub HasInstances : SaidComponent → MessageComponent → Type 0
+HasInstances event component = AreInstancesOf event component.singles.items component.series
+
+-- the order of a message's components: of one to rooms by their slots, else that of the text
+abbrev pub AreInOrder : Bool → List SaidComponent → List SaidComponent → Type 0
+AreInOrder true events ordered = AreBySlot events ordered
+AreInOrder false events ordered = ordered ≡ events
+
+-- a message of this method, organiser and UID, with this revision of the whole meeting in it, is that message
+pub record AreOfMessage (asked : Method) (by : Address) (named : Text) (whole : Option Revision) (components : List MessageComponent) (said : profile.Message) : Type 0 where
+  pub method : method_said asked ≡ said.method
+  pub organiser : address_octets by ≡ said.organiser
+  pub uid : text_octets named ≡ said.uid
+  pub whole_is : option_map revision_of whole ≡ option_map own_revision (master_in said.events)
+  pub are : AreOfMeeting said.organiser said.uid said.events
+  pub organised : (event : SaidComponent) → Contains said.events event → event.organiser ≡ Some said.organiser
   pub events : List SaidComponent
-  pub by_slot : AreBySlot (components_of said.meeting) events
-  pub each : AllZip (SaysComponent said.method (option_map own_revision said.meeting.master)) events components
+  pub in_order : AreInOrder (is_to_rooms said.method) said.events events
+  pub each : AllZip SaysComponent events components
+  -- only rooms ask for instances
+  pub instances : is_to_rooms said.method ≡ true → AllZip HasInstances events components
 
 -- and octets spell that
-pub record AreLinesRead (asking : Method) (by : Address) (named : Text) (components : List MessageComponent) : Type 0 where
+pub record AreLinesRead (asked : Method) (by : Address) (named : Text) (whole : Option Revision) (components : List MessageComponent) : Type 0 where
   pub octets : List ℕ
   pub said : profile.Message
   pub spells : SpellsMessage octets said
-  pub are : AreOfMessage asking by named components said
+  pub are : AreOfMessage asked by named whole components said
 
--- the meeting is one that a message says
-pub record IsOfMessage (meeting : Event) : Type 0 where
-  pub some : 0 < length (components_of meeting)
-  pub one : AreOfOne (components_of meeting)
-  pub organised : All (λ event. is_some event.organiser ≡ true) (components_of meeting)
-  pub stamped : All (λ event. is_some event.stamp ≡ true) (components_of meeting)
-  pub dated : All (λ event. IsDated (profile.slot_of event)) (components_of meeting)
-  pub ready : All IsReady (components_of meeting)
-  pub differ : AllPairs ◌≢◌ (map profile.slot_of (components_of meeting))
+-- these are events that a message has
+pub record AreMessageEvents (events : List SaidComponent) : Type 0 where
+  pub some : 0 < length events
+  pub organised : All (λ event. is_some event.organiser ≡ true) events
+  pub stamped : All (λ event. is_some event.stamp ≡ true) events
+  pub dated : All (λ event. IsDated (rooms.slot_of event)) events
+  pub ready : All IsReady events
+  pub differ : AllPairs ◌≢◌ (map rooms.slot_of events)
 
 -- an ATTENDEE line of the component has the room's address
 abbrev pub component_names : List ℕ → MessageComponent → Bool

@@ -179,7 +179,7 @@ pub record SpellsReply (room : List ℕ) (book : Book) (claims : List Claim) (oc
   pub organiser : List ℕ
   pub uid : List ℕ
   pub events : List EventComponent
-  pub spells : SpellsOrganiserObject octets (record { operation = Reply; organiser = organiser; uid = uid; events = events })
+  pub spells : SpellsMessage octets (record { method = Reply; organiser = organiser; uid = uid; events = events })
   pub says : AllZip (SaysAnswerTo room book) claims events
   pub heard : AllZip (IsAnswerTo room book) claims (heard_in events)
 
@@ -187,8 +187,8 @@ pub record SpellsReply (room : List ℕ) (book : Book) (claims : List Claim) (oc
 pub record SpellsRefresh (room : List ℕ) (claims : List Claim) (moment : ℤ) (octets : List ℕ) : Type 0 where
   pub claim : Claim
   pub of_them : Contains claims claim
-  pub spells : SpellsOrganiserObject octets (record {
-    operation = Refresh;
+  pub spells : SpellsMessage octets (record {
+    method = Refresh;
     organiser = claim.part.organiser;
     uid = claim.part.uid;
     events = refresh_event room claim.part.organiser claim.part.uid moment ∷ [];

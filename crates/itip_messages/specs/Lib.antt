@@ -2,8 +2,6 @@ pub mod Attendees
 pub mod Reply
 pub mod Refresh
 pub mod Components
-pub mod RoomMessage
-pub mod OrganiserObject
 pub mod Message
 pub mod MeetingText
 pub mod Law

@@ -11,15 +11,15 @@ use Rattle.profile.specs.organisers.Sent.{IsMeetingText, IsRequest, IsCancel, Is
 use Rattle.ical_values.specs.Octets.{text_octets, address_octets}
 use Rattle.itip_order.specs.Parts.{revision_of}
 use Rattle.itip_messages.specs.BodyText.{content_in}
-use Rattle.itip_messages.specs.OrganiserObject.{SaysObjectComponent}
+use Rattle.itip_messages.specs.Components.{SaysComponent}
 use Rattle.itip_messages.specs.Zones.{with_zones}
-use Rattle.itip_messages.specs.declared.organiser_object.ObjectComponent.{ObjectComponent}
+use Rattle.itip_messages.specs.declared.message_component.MessageComponent.{MessageComponent}
 use Rattle.itip_messages.specs.declared.meeting_text.MeetingText.{MeetingText}
 use Rattle.itip_messages.specs.declared.cancel.Cancel.{Cancel}
 
 -- the components of a meeting represent these events
 abbrev pub AreWritten : MeetingText → List EventComponent → Type 0
-AreWritten meeting events = AllZip SaysObjectComponent events meeting.components.now
+AreWritten meeting events = AllZip SaysComponent events meeting.components.now
 
 -- one line was written, and it is such a one
 abbrev pub WritesLine : (List ℕ → Type 0) → List ℕ → List ℕ → Type 0
@@ -32,17 +32,17 @@ IsTextOf method IsLine meeting octets =
     → IsMeetingText method (address_octets meeting.organiser.now) (text_octets meeting.uid.now) (revision_of meeting.revision) IsLine said octets
 
 -- the zone that a component needs
-abbrev pub zone_in : ObjectComponent → List (List ℕ)
+abbrev pub zone_in : MessageComponent → List (List ℕ)
 zone_in component = option_to_list (content_in component.canonical.items).zone
 
 -- the lines are the VEVENT of a component of the meeting, whichever event it represents, where these are the zones
-abbrev pub IsWrittenComponent : (revisions.Slot → events.Attendee → List ℕ → Type 0) → MeetingText → List (List ℕ) → ObjectComponent → List (List ℕ) → Type 0
+abbrev pub IsWrittenComponent : (revisions.Slot → events.Attendee → List ℕ → Type 0) → MeetingText → List (List ℕ) → MessageComponent → List (List ℕ) → Type 0
 IsWrittenComponent IsLine meeting zones component lines =
-    (event : EventComponent) → SaysObjectComponent event component
+    (event : EventComponent) → SaysComponent event component
     → IsComponentText (address_octets meeting.organiser.now) (text_octets meeting.uid.now) (revision_of meeting.revision) zones IsLine (event, content_in component.canonical.items) lines
 
 -- the zone of a component is after the zones if it is new; and new is old and after it, written, its VEVENT
-pub record WritesComponent (IsLine : revisions.Slot → events.Attendee → List ℕ → Type 0) (meeting : MeetingText) (component : ObjectComponent)
+pub record WritesComponent (IsLine : revisions.Slot → events.Attendee → List ℕ → Type 0) (meeting : MeetingText) (component : MessageComponent)
     (zones_old zones_new : List (List ℕ)) (old new : List ℕ) : Type 0 where
   pub zones : zones_new ≡ with_zones zones_old (zone_in component)
   pub lines : List (List ℕ)
@@ -50,7 +50,7 @@ pub record WritesComponent (IsLine : revisions.Slot → events.Attendee → List
   pub is : new ≡ old ++ written lines
 
 -- the same for one component after another
-pub record WritesComponents (IsLine : revisions.Slot → events.Attendee → List ℕ → Type 0) (meeting : MeetingText) (components : List ObjectComponent)
+pub record WritesComponents (IsLine : revisions.Slot → events.Attendee → List ℕ → Type 0) (meeting : MeetingText) (components : List MessageComponent)
     (zones_old zones_new : List (List ℕ)) (old new : List ℕ) : Type 0 where
   pub zones : zones_new ≡ with_zones zones_old (flat_map zone_in components)
   pub texts : List (List (List ℕ))

@@ -1,51 +1,108 @@
--- What a message that was read says, and why one is refused.
-use Rattle.std.specs.Prelude.{◌≡◌, ◌⊎◌, ℕ, true, false, List, codes}
+-- What a message that was read represents, its parts, and why one is refused.
+use Rattle.std.specs.Prelude.{◌≡◌, ◌⊎◌, ℕ, ◌||◌, ◌&&◌, ◌==◌, Bool, true, false, List, [], length, map, option_map, filter, if◌then◌else◌, Option, None, Some}
+use Rattle.std.specs.List.{list_all, list_any}
 use Rattle.ical_lines.specs.Fault.{RefusesBy}
 use Rattle.ical_lines.specs.declared.fault.Fault.{Fault}
 use Rattle.ical_tree.specs.Reading.{IsRefusalOf}
 use Rattle.profile.specs.text.Lines.{is_same_name}
 use Rattle.profile.specs.text.Trees.{Tree}
-use Rattle.profile.specs.rooms.Messages as profile
-use Rattle.profile.specs.rooms.Messages.{SaysMessage, SpellsMessage, MessageTextFault, NamesMethod, is_method, method_word}
-use Rattle.profile.specs.organisers.Objects as objects
-use Rattle.profile.specs.organisers.Objects.{NamesOperation, SaysOrganiserObject, SpellsOrganiserObject}
-use Rattle.itip_messages.specs.RoomMessage.{RepresentsMessage, method_said}
-use Rattle.itip_messages.specs.OrganiserObject.{RepresentsObject, operation_said}
+use Rattle.profile.specs.events.EventComponents as events
+use Rattle.profile.specs.events.EventComponents.{EventComponent as SaidComponent}
+use Rattle.profile.specs.events.Messages as profile
+use Rattle.profile.specs.events.Messages.{SaysMessage, SpellsMessage, MessageTextFault, has_one_attendee, is_method, is_of_attendee, is_to_rooms, method_word}
+use Rattle.profile.specs.rooms.Messages.{is_cancel, raised_to}
+use Rattle.profile.specs.rooms.Revisions as revisions
+use Rattle.ical_values.specs.Octets.{text_octets, address_octets}
+use Rattle.itip_order.specs.Parts.{slot_of, revision_of}
+use Rattle.cal_events.specs.Component.{method_said}
+use Rattle.cal_events.specs.declared.method.Method.{Method}
+use Rattle.cal_events.specs.declared.method.Method.TheVariants.{Store, Request, Add, Cancel, Reply, Refresh}
 use Rattle.itip_messages.specs.declared.message.Message.{Message}
-use Rattle.itip_messages.specs.declared.message.Message.TheVariants.{ToRooms, ToOrganiser}
-use Rattle.itip_messages.specs.declared.message.Addressee.{Addressee}
-use Rattle.itip_messages.specs.declared.message.Addressee.TheVariants as kinds
+use Rattle.itip_messages.specs.declared.message_component.MessageComponent.{MessageComponent}
+pub use Rattle.itip_messages.specs.Components.{AreOfMessage, HasInstances, IsDated, SaysComponent, component_names, event_slot}
+
+-- ---- what it says
+
+-- it is that message
+abbrev pub RepresentsMessage : Message → profile.Message → Type 0
+RepresentsMessage message said = AreOfMessage message.method message.organiser message.uid message.whole message.components.items said
 
 -- the object says a message, and it is that
 abbrev pub IsMessageOf : Tree → Message → Type 0
-IsMessageOf object (ToRooms message) = (said : profile.Message) × SaysMessage object said × RepresentsMessage message said
-IsMessageOf object (ToOrganiser message) = (said : objects.OrganiserObject) × SaysOrganiserObject object said × RepresentsObject message said
+IsMessageOf object message = (said : profile.Message) × SaysMessage object said × RepresentsMessage message said
 
 -- the octets spell a message, and it is that
 abbrev pub IsSpelled : List ℕ → Message → Type 0
-IsSpelled octets (ToRooms message) = (said : profile.Message) × SpellsMessage octets said × RepresentsMessage message said
-IsSpelled octets (ToOrganiser message) = (said : objects.OrganiserObject) × SpellsOrganiserObject octets said × RepresentsObject message said
+IsSpelled octets message = (said : profile.Message) × SpellsMessage octets said × RepresentsMessage message said
+
+-- the object says a message of this method with these events
+abbrev pub SaysEvents : Tree → events.Method → List SaidComponent → Type 0
+SaysEvents object method events =
+    (organiser : List ℕ) × (uid : List ℕ) × SaysMessage object (record { method = method; organiser = organiser; uid = uid; events = events })
+
+-- ---- what is wrong with it
 
 -- out of memory, or a fault of the octets, of the object or of what it says
 abbrev pub ReadFault : List ℕ → Fault → Type 0
 ReadFault octets fault = IsRefusalOf true octets fault ⊎ RefusesBy (MessageTextFault octets) fault
 
--- METHOD among the properties of a VCALENDAR says that it is of this kind
-abbrev pub NamesKind : List (List ℕ) → Addressee → Type 0
-NamesKind own (kinds.ToRooms method) = NamesMethod own (method_said method)
-NamesKind own (kinds.ToOrganiser operation) = NamesOperation own (operation_said operation)
+-- the word of METHOD says this; no word says that a meeting is to be stored
+abbrev pub IsWord : Option (List ℕ) → List ℕ → Type 0
+IsWord None word = ⊥
+IsWord (Some name) word = is_same_name word name ≡ true
 
--- the word of METHOD says that an attendee asks for this; no word says that a meeting is to be stored
-abbrev pub IsOperationWord : objects.Operation → List ℕ → Type 0
-IsOperationWord objects.Store word = ⊥
-IsOperationWord objects.Reply word = is_same_name word (codes "REPLY") ≡ true
-IsOperationWord objects.Refresh word = is_same_name word (codes "REFRESH") ≡ true
-
--- the word of METHOD says that it is of this kind
-abbrev pub IsKindWord : List ℕ → Addressee → Type 0
-IsKindWord word (kinds.ToRooms method) = is_same_name word (method_word (method_said method)) ≡ true
-IsKindWord word (kinds.ToOrganiser operation) = IsOperationWord (operation_said operation) word
+abbrev pub IsMethodWord : List ℕ → Method → Type 0
+IsMethodWord word method = IsWord (method_word (method_said method)) word
 
 -- what is wrong with the word of a METHOD
 abbrev pub WordFault : List ℕ → ℕ → Type 0
 WordFault word n = (n ≡ 60) × (is_method word ≡ false)
+
+-- an attendee speaks, and one of the events doesn't have one attendee
+abbrev pub IsNotOneEach : events.Method → List SaidComponent → ℕ → Type 0
+IsNotOneEach method said n = (n ≡ 64) × (is_of_attendee method ≡ true) × (list_all has_one_attendee said ≡ false)
+
+-- ---- its parts for a room
+
+-- the message cancels, and the component has no ATTENDEE line
+abbrev pub cancels_for_all : Message → MessageComponent → Bool
+cancels_for_all message component = is_cancel (method_said message.method) && (length component.attendees == 0)
+
+-- the component addresses the message to a room
+abbrev pub is_component_for : List ℕ → Message → MessageComponent → Bool
+is_component_for room message component = component_names room component || cancels_for_all message component
+
+-- the message is one to rooms, and a component addresses it to this one
+abbrev pub is_message_for : List ℕ → Message → Bool
+is_message_for room message = is_to_rooms (method_said message.method) && list_any (is_component_for room message) message.components.items
+
+-- where it is addressed to the room, the component is a part for it: of a CANCEL one that addresses it, of another message each
+abbrev pub is_part_of : Method → Bool → Bool
+is_part_of Store addresses = true
+is_part_of Request addresses = true
+is_part_of Add addresses = true
+is_part_of Cancel addresses = addresses
+is_part_of Reply addresses = true
+is_part_of Refresh addresses = true
+
+abbrev pub has_part : List ℕ → Message → MessageComponent → Bool
+has_part room message component = is_part_of message.method (component_names room component || (length component.attendees == 0))
+
+-- the message cancels what the component says: by METHOD, or by STATUS
+abbrev pub cancels_component : Message → MessageComponent → Bool
+cancels_component message component = is_cancel (method_said message.method) || component.cancelled
+
+-- the part that a component is for a room
+abbrev pub part_for : List ℕ → Message → MessageComponent → revisions.Part
+part_for room message component = record {
+  organiser = address_octets message.organiser;
+  uid = text_octets message.uid;
+  slot = slot_of component.slot;
+  revision = raised_to (option_map revision_of message.whole) (revision_of component.revision);
+  body = if cancels_component message component then revisions.Cancelled else (if component_names room component then revisions.Set component.canonical.items else revisions.Absent);
+}
+
+-- the parts that its components are, where it is addressed to the room
+abbrev pub message_parts_for : List ℕ → Message → List revisions.Part
+message_parts_for room message =
+    if is_message_for room message then map (part_for room message) (filter (has_part room message) message.components.items) else []

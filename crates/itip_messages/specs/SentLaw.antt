@@ -6,9 +6,9 @@ use Rattle.profile.specs.series.Rules.{Rule, is_rule_day}
 use Rattle.profile.specs.text.Values.{IsUid}
 use Rattle.profile.specs.events.EventComponents.{Attendee, EventComponent, Participation, Request, Cancel, NeedsAction}
 use Rattle.profile.specs.events.Events.{Event, SpellsEvent, is_master, is_override}
-use Rattle.profile.specs.organisers.Objects.{counted}
+use Rattle.profile.specs.events.Messages.{counted, Message, SpellsMessage}
 use Rattle.profile.specs.organisers.Organisers.{IsSeenOf, OrganiserBook, Stored}
-use Rattle.profile.specs.rooms.Messages.{AreAscending, AreParts, Content, IsContent, Message, SpellsMessage, is_in_dates, slot_of}
+use Rattle.profile.specs.rooms.Messages.{AreAscending, AreParts, Content, IsContent, is_in_dates, slot_of}
 use Rattle.profile.specs.rooms.Revisions.{Part, Slot, Whole, Cancelled, Revision}
 use Rattle.itip_messages.specs.Law.{IsReadAddress, IsTextValue, no_times}
 
@@ -51,7 +51,8 @@ cancel_event organiser uid revision called_off to = record {
 
 -- the CANCEL of a whole meeting
 abbrev pub cancel_message : (organiser uid : List ℕ) → Revision → Bool → List (List ℕ) → Message
-cancel_message organiser uid revision called_off to = record { method = Cancel; meeting = record { master = Some (cancel_event organiser uid revision called_off to); overrides = [] } }
+cancel_message organiser uid revision called_off to =
+    record { method = Cancel; organiser = organiser; uid = uid; events = cancel_event organiser uid revision called_off to ∷ [] }
 
 -- what it says to a room: the whole meeting is cancelled
 abbrev pub cancel_part : (organiser uid : List ℕ) → Revision → Part
@@ -104,19 +105,19 @@ meeting_of events = record { master = first_of (filter is_master events); overri
 -- ---- a REQUEST
 
 -- that of a meeting with these events
-abbrev pub request_of : List EventComponent → Message
-request_of events = record { method = Request; meeting = meeting_of events }
+abbrev pub request_of : (organiser uid : List ℕ) → List EventComponent → Message
+request_of organiser uid events = record { method = Request; organiser = organiser; uid = uid; events = events }
 
 -- the event in this revision
 abbrev pub revised : Revision → EventComponent → EventComponent
 revised revision event = record event { sequence = revision.sequence; stamp = Some revision.stamp }
 
 -- the octets spell the REQUEST of such events, which says to each room what these events say in this revision
-pub record SpellsRequest (revision : Revision) (events : List EventComponent) (octets : List ℕ) : Type 0 where
+pub record SpellsRequest (organiser uid : List ℕ) (revision : Revision) (events : List EventComponent) (octets : List ℕ) : Type 0 where
   pub sent : List EventComponent
   pub each : AllZip (IsSentAs revision) events sent
-  pub spells : SpellsMessage octets (request_of sent)
-  pub parts : (room : List ℕ) (parts : List Part) → AreParts room (request_of sent) parts ↔ AreParts room (request_of (map (revised revision) events)) parts
+  pub spells : SpellsMessage octets (request_of organiser uid sent)
+  pub parts : (room : List ℕ) (parts : List Part) → AreParts room (request_of organiser uid sent) parts ↔ AreParts room (request_of organiser uid (map (revised revision) events)) parts
 
 -- ---- what is shown
 

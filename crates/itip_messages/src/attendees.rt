@@ -55,6 +55,14 @@ impl Attendees {
         Ok(Attendees { lines, sorted })
     }
 
+    /// A copy. It fails only when out of memory.
+    pub(crate) fn copy(&self, alloc: Global) -> Result<Attendees, AllocError>
+        ensures { IfOk result (λ copy. copy ≡ self.now) }
+    {
+        let lines = copied(alloc, &self.lines)?;
+        Attendees::of(alloc, lines)
+    }
+
     /// All lines, in the order of the text.
     pub fn lines(&self) -> &[Attendee]
         ensures { map attendee_of result.now ≡ self.now }
@@ -75,6 +83,21 @@ impl Attendees {
     {
         is_among(&self.sorted, address)
     }
+}
+
+/// Copies of these lines, in their order.
+fn copied(alloc: Global, lines: &[Attendee]) -> Result<Vec<Attendee>, AllocError>
+    ensures { IfOk result (λ copies. map attendee_of copies.items ≡ map attendee_of lines.now) }
+{
+    let mut copies = Vec::new(alloc);
+    for line in lines {
+        copies.push(Attendee {
+            address: line.address.clone()?,
+            status: line.status,
+            scheduled: line.scheduled,
+        })?;
+    }
+    Ok(copies)
 }
 
 /// Of these lines those that count.

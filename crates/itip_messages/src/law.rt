@@ -2,12 +2,13 @@
 ghost use Rattle.std.specs.Prelude.{◌≡◌, ◌<◌, ◌^◌, ◌∷◌, [], ℕ, ℤ, false, List, Contains, Some, codes};
 ghost use Rattle.std.specs.List.{flat_map};
 ghost use Rattle.profile.specs.rooms.Kept.{Refreshes, Replies};
-ghost use Rattle.profile.specs.rooms.Messages.{IsRefreshEvent, IsReplyEvent, Message, Outcome, SpellsMessage, is_add, object_lines};
+ghost use Rattle.profile.specs.events.Messages.{Message, SpellsMessage};
+ghost use Rattle.profile.specs.rooms.Messages.{IsRefreshEvent, IsReplyEvent, Outcome, is_add, object_lines};
 ghost use Rattle.profile.specs.rooms.Revisions.{Part};
 ghost use Rattle.profile.specs.rooms.Rooms.{Book, Claim, shown};
 ghost use Rattle.profile.specs.text.Values.{IsUid};
 ghost use Rattle.profile.specs.text.Lines.{is_too_long, written};
-ghost use Rattle.profile.specs.streams.Streams.{AreClaims, ObjectFault, Said, Spells};
+ghost use Rattle.profile.specs.streams.Streams.{AreClaims, ObjectFault};
 ghost use Rattle.itip_messages.specs.Law.{AreTextAnswers, IsTextAddress, IsTextValue, IsReadAddress, IsAnswer, IsVevent, ReadsAs, SaysAnswer, SaysRefresh, SpellsRefresh, SpellsReply};
 
 use cal_events::one_event;
@@ -16,8 +17,8 @@ use ical_tree::one_tree;
 /// Octets say at most one message, to rooms or to an organiser, and none where they have a fault. With the contract of `Message::read`: what
 /// is taken is the one message that the octets spell, and what is refused spells none (RFC 5545 3.4, RFC 5546 3.2.2 to 3.2.6, RFC 4791 4.1).
 pub fn one_message()
-    ensures one { (octets : List ℕ) (a b : Said) → Spells octets a → Spells octets b → a ≡ b }
-    ensures or_a_fault { (octets : List ℕ) (a : Said) (n : ℕ) → Spells octets a → ObjectFault n octets → ⊥ }
+    ensures one { (octets : List ℕ) (a b : Message) → SpellsMessage octets a → SpellsMessage octets b → a ≡ b }
+    ensures or_a_fault { (octets : List ℕ) (a : Message) (n : ℕ) → SpellsMessage octets a → ObjectFault n octets → ⊥ }
 {
     one_tree();
     one_event();

@@ -9,12 +9,12 @@ mod event_lines;
 pub mod law;
 mod meeting_text;
 pub mod message;
-pub mod organiser_object;
+pub mod message_component;
+mod message_events;
 mod own_lines;
 mod parts;
 mod refresh;
 pub mod reply;
-pub mod room_message;
 pub mod sent_law;
 pub mod writer;
 mod zones;
@@ -30,11 +30,10 @@ pub use law::{
 };
 pub use meeting_text::{AttendeeLines, MeetingText, write_meeting, write_request};
 pub use message::Message;
-pub use organiser_object::{ObjectComponent, Operation, OrganiserObject};
+pub use message_component::MessageComponent;
 pub use own_lines::component_lines;
 pub use refresh::{Refresh, write_refresh};
 pub use reply::{Conflict, ConflictKey, Decision, ReplyEvent, write_event, write_reply};
-pub use room_message::{MessageComponent, Method, RoomMessage};
 pub use sent_law::{
     cancels_read_back, requests_read_back, shown_reads_back, stored_texts_can_be_sent,
 };

@@ -4,7 +4,7 @@ ghost use Rattle.std.specs.Prelude.{◌≡◌, ◌++◌, ℕ, List, OnOk, OnErr,
 ghost use Rattle.std.specs.List.{AllZip};
 ghost use Rattle.profile.specs.events.EventComponents as events;
 ghost use Rattle.profile.specs.rooms.Revisions as revisions;
-ghost use Rattle.profile.specs.organisers.Objects.{counted};
+ghost use Rattle.profile.specs.events.Messages.{counted};
 ghost use Rattle.profile.specs.organisers.Sent.{IsAsked};
 ghost use Rattle.ical_values.specs.Written.{Appends};
 ghost use Rattle.cal_events.specs.Component.{attendee_of};
@@ -14,7 +14,7 @@ ghost use Rattle.itip_messages.specs.MeetingText.{IsRequestOf, IsTextOf, WritesC
 
 use crate::body_text::write_body;
 use crate::event_lines::{write_revision, write_slot, write_status};
-use crate::organiser_object::ObjectComponent;
+use crate::message_component::MessageComponent;
 use crate::writer::ObjectWriter;
 use crate::zones::Zones;
 use cal_events::Attendee;
@@ -31,7 +31,7 @@ pub struct MeetingText<'a> {
     /// SEQUENCE and DTSTAMP of each VEVENT, whatever its own are.
     pub revision: Revision,
     /// What its VEVENTs say, in their order.
-    pub components: &'a [ObjectComponent],
+    pub components: &'a [MessageComponent],
 }
 
 /// How the ATTENDEE lines of a meeting are written (RFC 5545 3.8.4.1).
@@ -136,7 +136,7 @@ fn write_component<A: AttendeeLines>(
     object: &mut ObjectWriter,
     zones: &mut Zones,
     meeting: &MeetingText<'_>,
-    component: &ObjectComponent,
+    component: &MessageComponent,
     lines: &A,
 ) -> Result<(), AllocError>
     ensures { OnOk result (WritesComponent (A.line lines.now) meeting.now component.now zones.old zones.new object.old object.new) }
@@ -157,7 +157,7 @@ fn write_component<A: AttendeeLines>(
 /// The lines of its attendees, of several of one address only the first.
 fn write_attendees<A: AttendeeLines>(
     object: &mut ObjectWriter,
-    component: &ObjectComponent,
+    component: &MessageComponent,
     lines: &A,
 ) -> Result<(), AllocError>
     ensures { OnOk result (WritesLines object.old object.new (AllZip (A.line lines.now (slot_of component.now.slot)) (counted component.now.attendees))) }

@@ -1,30 +1,46 @@
 //! A message, read: to rooms, or to an organiser (RFC 5546 1.4, 3.2; RFC 4791 4.1, RFC 6638 3.2). METHOD says which; an object without METHOD
 //! is a meeting that its organiser stores.
-ghost use Rattle.std.specs.Prelude.{◌≡◌, ℕ, List, true, codes, IsTrue, IfOk, IfErr};
+ghost use Rattle.std.specs.Prelude.{◌≡◌, ◌×◌, ◌<◌, ℕ, List, Contains, Some, map, length, option_map, IfOk, IfErr, IsSome};
+ghost use Rattle.std.specs.List.{AllZip};
+ghost use Rattle.std.specs.List.Sorted.{IsPermutation, IsSortedByKey};
 ghost use Rattle.ical_lines.specs.Fault.{RefusesOnly, RefusesBy};
-ghost use Rattle.ical_lines.specs.Text.{line_text};
 ghost use Rattle.ical_tree.specs.Tree.{tree_of};
+ghost use Rattle.ical_values.specs.Octets.{address_octets, text_octets};
 ghost use Rattle.profile.specs.faults.Faults.{is_message_fault};
-ghost use Rattle.profile.specs.text.Lines.{line_value};
-ghost use Rattle.profile.specs.rooms.Messages.{Message as SaidMessage, MethodFault, MessageFault, SaysMessage, SpellsMessage};
-ghost use Rattle.itip_messages.specs.Message.{IsKindWord, IsMessageOf, IsSpelled, NamesKind, ReadFault, WordFault};
+ghost use Rattle.profile.specs.events.Messages as profile;
+ghost use Rattle.profile.specs.events.Messages.{MessageFault, SaysMessage, SpellsMessage, is_to_rooms, master_in};
+ghost use Rattle.profile.specs.rooms.Messages.{own_revision};
+ghost use Rattle.profile.specs.rooms.Revisions.{slot_cmp};
+ghost use Rattle.cal_events.specs.Component.{component_of, method_said};
+ghost use Rattle.cal_events.specs.declared.component.EventComponent.{EventComponent};
+ghost use Rattle.itip_order.specs.Parts.{revision_of};
+ghost use Rattle.itip_messages.specs.Body.{IsReady};
+ghost use Rattle.itip_messages.specs.Components.{AreInOrder, AreLinesRead, HasInstances, IsDated, SaysComponent, event_slot};
 
-use crate::organiser_object::{Operation, OrganiserObject};
-use crate::room_message::{Method, RoomMessage};
-use ical_lines::{Fault, Limits, Line, Refusal, Unfolded};
-use ical_tree::{Component, Properties, read_object};
-use std::alloc::Global;
+use crate::message_component::{MessageComponent, own_revision, slot_in};
+use crate::message_events::read_events;
+use cal_events::{EventComponent, Method};
+use ical_lines::{Fault, Limits, Unfolded};
+use ical_tree::{Component, read_object};
+use ical_values::{Address, Text};
+use itip_order::Revision;
+use std::alloc::{AllocError, Global};
 
-/// A message for VEVENT.
+/// A message for VEVENT, as some octets spell it: all its components are of one meeting, the UID of one ORGANIZER.
 #[derive(Drop)]
-pub enum Message {
-    /// From an organiser to rooms: a REQUEST, an ADD or a CANCEL.
-    ToRooms(RoomMessage),
-    /// To an organiser: what it stores, or an attendee's REPLY or REFRESH.
-    ToOrganiser(OrganiserObject),
+pub struct Message {
+    method: Method,
+    organiser: Address,
+    uid: Text,
+    /// SEQUENCE and DTSTAMP of the component for the whole meeting, if there is one.
+    pub(crate) whole: Option<Revision>,
+    components: Vec<MessageComponent>,
+    pub ghost read: { ∥ AreLinesRead method organiser uid whole components.items ∥₁ },
 }
 
 impl Message {
+    ghost use Rattle.itip_messages.specs.Message.{IsMessageOf, IsSpelled, ReadFault, RepresentsMessage, SaysEvents};
+
     /// Reads a message.
     /// Refused: 1 to 6 and 20 to 25 for the object, 60 for a METHOD that isn't supported, or for two, 66 without a VEVENT, 10 to 16, 30 to 34, 40
     /// to 43, 50 to 52, 55, 56, 61, 63, 65 and 67 for a VEVENT, 62 for two meetings, 53 for two VEVENTs without RECURRENCE-ID, 54 for two of
@@ -42,67 +58,135 @@ impl Message {
     /// The message that an object is. Where it says one, some octets spell that.
     /// Refused: as by `read`, except for the object.
     fn of_object(alloc: Global, object: &Component) -> Result<Message, Fault>
-        requires spelled { (said : SaidMessage) → SaysMessage (tree_of object.now) said → (octets : List ℕ) × SpellsMessage octets said }
+        requires spelled { (said : profile.Message) → SaysMessage (tree_of object.now) said → (octets : List ℕ) × SpellsMessage octets said }
         ensures says { IfOk result (IsMessageOf (tree_of object.now)) }
         ensures refuses { IfErr result (RefusesOnly is_message_fault) }
         ensures fault { IfErr result (RefusesBy (MessageFault (tree_of object.now))) }
     {
-        let properties = Properties::of(alloc, object)?;
-        match Addressee::of(&properties)? {
-            Addressee::ToRooms(method) => Ok(Message::ToRooms(RoomMessage::read(
-                alloc, object, method,
-            )?)),
-            Addressee::ToOrganiser(operation) => Ok(Message::ToOrganiser(OrganiserObject::read(
-                alloc, object, operation,
-            )?)),
-        }
+        let (method, events) = read_events(alloc, object)?;
+        Ok(Message::of(alloc, object, method, events)?)
+    }
+
+    /// The message of that method that an object says with these events. In time n log n; it fails only when out of memory.
+    fn of(
+        alloc: Global,
+        object: &Component,
+        method: Method,
+        events: Vec<EventComponent>,
+    ) -> Result<Message, AllocError>
+        requires says { SaysEvents (tree_of object.now) (method_said method) (map component_of events.items) }
+        requires spelled { (said : profile.Message) → SaysMessage (tree_of object.now) said → (octets : List ℕ) × SpellsMessage octets said }
+        ensures { IfOk result (IsMessageOf (tree_of object.now)) }
+    {
+        let (organiser, uid) = name_of(&events)?;
+        let whole = whole_revision(&events);
+        let events = in_order(method, events);
+        let components = components_of(alloc, method, events)?;
+        Ok(Message {
+            method,
+            organiser,
+            uid,
+            whole,
+            components,
+        })
+    }
+
+    /// What it asks for: by METHOD, or without one that a meeting be stored (RFC 5546 1.4, RFC 4791 4.1).
+    pub fn method(&self) -> Method
+        ensures { result ≡ self.now.method }
+    {
+        self.method
+    }
+
+    /// The ORGANIZER's address.
+    pub fn organiser(&self) -> &Address
+        ensures { result.now ≡ self.now.organiser }
+    {
+        &self.organiser
+    }
+
+    /// The UID that all its VEVENTs have, its escapes read (RFC 5545 3.8.4.7).
+    pub fn uid(&self) -> &Text
+        ensures { result.now ≡ self.now.uid }
+    {
+        &self.uid
+    }
+
+    /// The VEVENTs: of a message to rooms by their slots, the whole meeting first and then its instances; else in the order of the text.
+    pub fn components(&self) -> &[MessageComponent]
+        ensures { result.now ≡ self.now.components.items }
+    {
+        self.components.as_slice()
     }
 }
 
-/// What METHOD says that a message is.
-#[derive(Clone, Copy)]
-pub(crate) enum Addressee {
-    ToRooms(Method),
-    ToOrganiser(Operation),
+/// VEVENTs in the order in which a message of this method has them.
+fn in_order(method: Method, events: Vec<EventComponent>) -> Vec<EventComponent>
+    ensures same { IsPermutation events.items result.items }
+    ensures rises { is_to_rooms (method_said method) ≡ true → IsSortedByKey event_slot slot_cmp result.items }
+    ensures kept { is_to_rooms (method_said method) ≡ false → result.items ≡ events.items }
+{
+    let mut events = events;
+    if method.is_to_rooms() {
+        sort_by_slot(&mut events);
+    }
+    events
 }
 
-impl Addressee {
-    /// By the properties of an object; without METHOD it is a store.
-    /// Refused: 60 for a word that names no supported method, or for two lines.
-    pub(crate) fn of(properties: &Properties<'_>) -> Result<Addressee, Refusal>
-        ensures named { IfOk result (NamesKind properties.now) }
-        ensures refuses { IfErr result (λ e. IsTrue (is_message_fault e.number)) }
-        ensures fault { IfErr result (λ e. MethodFault properties.now e.number) }
-    {
-        match properties.optional("METHOD", Refusal::BAD_METHOD)? {
-            Some(line) => Addressee::named(line),
-            None => Ok(Addressee::ToOrganiser(Operation::Store)),
-        }
-    }
+/// Puts VEVENTs in the order of their slots.
+fn sort_by_slot(events: &mut Vec<EventComponent>)
+    ensures same { IsPermutation events.old.items events.new.items }
+    ensures rises { IsSortedByKey event_slot slot_cmp events.new.items }
+{
+    events.sort_unstable_by(|a, b| slot_in(a).cmp(&slot_in(b)));
+}
 
-    /// By the word of METHOD.
-    /// Refused: 60 for one that isn't supported.
-    fn named(line: Line<'_>) -> Result<Addressee, Refusal>
-        ensures named { IfOk result (IsKindWord (line_value (line_text line.entry))) }
-        ensures refuses { IfErr result (λ e. IsTrue (is_message_fault e.number)) }
-        ensures fault { IfErr result (λ e. WordFault (line_value (line_text line.entry)) e.number) }
-    {
-        let word = line.value();
-        if word.eq_ignore_ascii_case("REQUEST") {
-            return Ok(Addressee::ToRooms(Method::Request));
+/// SEQUENCE and DTSTAMP of the VEVENT for the whole meeting, if it is among these.
+fn whole_revision(events: &[EventComponent]) -> Option<Revision>
+    requires { (event : EventComponent) → Contains events.now event → IsSome event.stamp }
+    ensures { option_map revision_of result ≡ option_map own_revision (master_in (map component_of events.now)) }
+{
+    for event in events {
+        if event.recurrence.is_none() {
+            return Some(own_revision(event));
         }
-        if word.eq_ignore_ascii_case("ADD") {
-            return Ok(Addressee::ToRooms(Method::Add));
-        }
-        if word.eq_ignore_ascii_case("CANCEL") {
-            return Ok(Addressee::ToRooms(Method::Cancel));
-        }
-        if word.eq_ignore_ascii_case("REPLY") {
-            return Ok(Addressee::ToOrganiser(Operation::Reply));
-        }
-        if word.eq_ignore_ascii_case("REFRESH") {
-            return Ok(Addressee::ToOrganiser(Operation::Refresh));
-        }
-        Err(Refusal::BAD_METHOD)
     }
+    None
+}
+
+/// The ORGANIZER and the UID of the first of some VEVENTs. It fails only when out of memory.
+fn name_of(events: &[EventComponent]) -> Result<(Address, Text), AllocError>
+    requires some { 0 < length events.now }
+    requires organised { (event : EventComponent) → Contains events.now event → IsSome event.organiser }
+    ensures { IfOk result (λ name. (event : EventComponent) × Contains events.now event
+        × ((component_of event).organiser ≡ Some (address_octets name.0)) × ((component_of event).uid ≡ text_octets name.1)) }
+{
+    let Some(first) = events.first() else {
+        unreachable!()
+    };
+    let Some(organiser) = &first.organiser else {
+        unreachable!()
+    };
+    let organiser = organiser.clone()?;
+    let uid = first.uid.clone()?;
+    Ok((organiser, uid))
+}
+
+/// What some VEVENTs of such a message say, in their order. It fails only when out of memory.
+fn components_of(
+    alloc: Global,
+    method: Method,
+    events: Vec<EventComponent>,
+) -> Result<Vec<MessageComponent>, AllocError>
+    requires stamped { (event : EventComponent) → Contains events.items event → IsSome event.stamp }
+    requires dated { (event : EventComponent) → Contains events.items event → IsDated (event_slot event) }
+    requires ready { (event : EventComponent) → Contains events.items event → IsReady (component_of event) }
+    ensures says { IfOk result (λ components. AllZip SaysComponent (map component_of events.items) components.items) }
+    ensures instances { IfOk result (λ components. is_to_rooms (method_said method) ≡ true → AllZip HasInstances (map component_of events.items) components.items) }
+{
+    let mut components = Vec::new(alloc);
+    for event in events {
+        components.push(MessageComponent::of(alloc, method, event)?)?;
+    }
+    Ok(components)
 }

@@ -1,25 +1,20 @@
 //! The own content lines of a VEVENT of a message, for those who ask (RFC 5545 3.1, 3.6.1): a message that was read keeps none of them.
 ghost use Rattle.std.specs.Prelude.{◌≡◌, ◌≢◌, ℕ, Some, length, map, option_map, position, slice_get, string_bytes, IfOk, IfErr, MatchOption};
 ghost use Rattle.std.specs.Ordering.{is_eq};
-ghost use Rattle.ical_lines.specs.Fault.{RefusesOnly, RefusesBy};
-ghost use Rattle.ical_tree.specs.Tree.{component_lines, tree_of};
+ghost use Rattle.ical_lines.specs.Fault.{RefusesOnly};
+ghost use Rattle.ical_tree.specs.Tree.{component_lines};
 ghost use Rattle.profile.specs.faults.Faults.{is_message_fault};
-ghost use Rattle.profile.specs.events.Events.{EventFault};
-ghost use Rattle.profile.specs.rooms.Messages.{MessageFault};
 ghost use Rattle.profile.specs.rooms.Revisions.{slot_cmp};
-ghost use Rattle.cal_events.specs.Component.{component_of, vevents_of};
+ghost use Rattle.cal_events.specs.Component.{vevents_of};
 ghost use Rattle.itip_order.specs.Parts.{slot_of};
-ghost use Rattle.itip_messages.specs.OwnLines.{AreForOrganiser, AreForRooms, AreTaken, FindsLines};
-ghost use Rattle.itip_messages.specs.Message.{ReadFault};
-ghost use Rattle.itip_messages.specs.OrganiserObject.{IsOrganiserFault, operation_said};
-ghost use Rattle.itip_messages.specs.RoomMessage.{event_slot, method_said};
+ghost use Rattle.itip_messages.specs.OwnLines.{FindsLines};
+ghost use Rattle.itip_messages.specs.Message.{ReadFault, event_slot};
 
-use crate::message::Addressee;
-use crate::organiser_object::{Operation, judge_attendees};
-use crate::room_message::{Method, slot_in};
-use cal_events::{EventComponent, MeetingComponents};
+use crate::message_component::slot_in;
+use crate::message_events::read_events;
+use cal_events::EventComponent;
 use ical_lines::{Fault, Limits, Unfolded};
-use ical_tree::{Component, Properties, read_object};
+use ical_tree::{Component, read_object};
 use itip_order::Slot;
 use std::alloc::{AllocError, Global};
 
@@ -37,57 +32,8 @@ pub fn component_lines(
 {
     let text = Unfolded::read(alloc, octets, Limits::Message)?;
     let object = read_object(alloc, &text, Limits::Message)?;
-    let events = taken_events(alloc, &object)?;
+    let (_, events) = read_events(alloc, &object)?;
     Ok(lines_of_slot(alloc, &object, &events, slot)?)
-}
-
-/// What the VEVENTs of an object say, in the order of the text, as its METHOD takes them.
-/// Refused: as by `Message::read`, except for the object.
-fn taken_events(alloc: Global, object: &Component) -> Result<Vec<EventComponent>, Fault>
-    ensures taken { IfOk result (λ events. AreTaken (tree_of object.now) (map component_of events.items)) }
-    ensures refuses { IfErr result (RefusesOnly is_message_fault) }
-    ensures fault { IfErr result (RefusesBy (MessageFault (tree_of object.now))) }
-{
-    let properties = Properties::of(alloc, object)?;
-    match Addressee::of(&properties)? {
-        Addressee::ToRooms(method) => events_for_rooms(alloc, object, method),
-        Addressee::ToOrganiser(operation) => events_for_organiser(alloc, object, operation),
-    }
-}
-
-/// The same for a message to rooms of that method.
-/// Refused: as by `RoomMessage::read`.
-fn events_for_rooms(
-    alloc: Global,
-    object: &Component,
-    method: Method,
-) -> Result<Vec<EventComponent>, Fault>
-    ensures says { IfOk result (λ events. AreForRooms (tree_of object.now) (method_said method) (map component_of events.items)) }
-    ensures refuses { IfErr result (RefusesOnly is_message_fault) }
-    ensures fault { IfErr result (RefusesBy (EventFault (tree_of object.now) (Some (method_said method)))) }
-{
-    if method.is_add() {
-        // none is a master: each is the instance of its own start
-        let meeting = MeetingComponents::read(alloc, object, method.purpose())?;
-        return Ok(meeting.into_events(alloc)?);
-    }
-    MeetingComponents::read_in_order(alloc, object, method.purpose())
-}
-
-/// The same for what comes to an organiser and asks for this.
-/// Refused: as by `OrganiserObject::read`.
-fn events_for_organiser(
-    alloc: Global,
-    object: &Component,
-    operation: Operation,
-) -> Result<Vec<EventComponent>, Fault>
-    ensures says { IfOk result (λ events. AreForOrganiser (tree_of object.now) (operation_said operation) (map component_of events.items)) }
-    ensures refuses { IfErr result (RefusesOnly is_message_fault) }
-    ensures fault { IfErr result (RefusesBy (IsOrganiserFault (tree_of object.now) (operation_said operation))) }
-{
-    let events = MeetingComponents::read_in_order(alloc, object, operation.purpose())?;
-    judge_attendees(operation, &events)?;
-    Ok(events)
 }
 
 /// The own lines of the VEVENT that is of a slot, where the VEVENTs say these events. It fails only when out of memory.

@@ -1,19 +1,21 @@
 //! The parts of a message for one room: a part for each VEVENT of a REQUEST or an ADD that names the room anywhere, and for each of a
 //! CANCEL that names it or nobody.
-ghost use Rattle.std.specs.Prelude.{◌≡◌, ◌++◌, map, filter, IfOk};
+ghost use Rattle.std.specs.Prelude.{◌≡◌, map, option_map, filter, IfOk};
 ghost use Rattle.std.specs.List.{list_any};
 ghost use Rattle.ical_values.specs.Octets.{address_octets};
-ghost use Rattle.itip_order.specs.Parts.{part_of, parts_of};
-ghost use Rattle.profile.specs.rooms.Messages as profile;
-ghost use Rattle.profile.specs.rooms.Messages.{AreParts};
-ghost use Rattle.itip_messages.specs.RoomMessage.{RepresentsMessage, component_names, has_part, is_component_for, part_for, message_parts_for};
+ghost use Rattle.itip_order.specs.Parts.{part_of, parts_of, revision_of};
+ghost use Rattle.profile.specs.events.Messages as profile;
+ghost use Rattle.profile.specs.rooms.Messages.{AreParts, later_of, raised_to};
+ghost use Rattle.itip_messages.specs.Message.{RepresentsMessage, cancels_component, has_part, is_component_for, is_message_for, message_parts_for, part_for};
 
-use crate::room_message::{MessageComponent, Method, RoomMessage};
+use crate::message::Message;
+use crate::message_component::MessageComponent;
+use cal_events::Method;
 use ical_values::Address;
-use itip_order::{Body, Part};
+use itip_order::{Body, Part, Revision};
 use std::alloc::{AllocError, Global};
 
-impl RoomMessage {
+impl Message {
     /// The parts that the message has for a room, the whole meeting first and then its instances; none where it isn't addressed to it.
     /// A component that is cancelled has a Cancelled body. Another one that doesn't name the room has an Absent body:
     /// for this room it isn't on.
@@ -49,8 +51,8 @@ impl RoomMessage {
         ensures { result ≡ has_part (address_octets room.now) self.now component.now }
     {
         match self.method() {
-            Method::Request | Method::Add => true,
             Method::Cancel => component.names(room) || component.names_nobody(),
+            _ => true,
         }
     }
 
@@ -58,7 +60,7 @@ impl RoomMessage {
     pub fn part(&self, component: &MessageComponent, room: &Address) -> Result<Part, AllocError>
         ensures { IfOk result (λ part. part_of part ≡ part_for (address_octets room.now) self.now component.now) }
     {
-        let body = if component.cancelled {
+        let body = if self.cancels(component) {
             Body::Cancelled
         } else if component.names(room) {
             Body::Set(component.canonical.clone()?)
@@ -69,13 +71,27 @@ impl RoomMessage {
             organiser: self.organiser().clone()?,
             uid: self.uid().clone()?,
             slot: component.slot,
-            revision: component.revision,
+            revision: raised(self.whole, component.revision),
             body,
         })
     }
 
-    /// Whether any of the components names the room as ATTENDEE; of a CANCEL also where one names nobody.
+    /// Whether the message cancels what a component says: by METHOD, or by STATUS.
+    fn cancels(&self, component: &MessageComponent) -> bool
+        ensures { result ≡ cancels_component self.now component.now }
+    {
+        self.method().is_cancel() || component.cancelled
+    }
+
+    /// Whether it is one to rooms, and any of the components names the room as ATTENDEE; of a CANCEL also where one names nobody.
     pub fn is_addressed_to(&self, room: &Address) -> bool
+        ensures { result ≡ is_message_for (address_octets room.now) self.now }
+    {
+        self.method().is_to_rooms() && self.names(room)
+    }
+
+    /// Whether any component addresses the message to a room.
+    fn names(&self, room: &Address) -> bool
         ensures { result ≡ list_any (is_component_for (address_octets room.now) self.now) self.now.components.items }
     {
         self.components()
@@ -89,4 +105,24 @@ impl RoomMessage {
     {
         component.names(room) || (self.method().is_cancel() && component.names_nobody())
     }
+}
+
+/// A revision, or that of the whole meeting, if that is later.
+fn raised(whole: Option<Revision>, own: Revision) -> Revision
+    ensures { revision_of result ≡ raised_to (option_map revision_of whole) (revision_of own) }
+{
+    match whole {
+        Some(whole) => later(own, whole),
+        None => own,
+    }
+}
+
+/// The later of two revisions.
+fn later(a: Revision, b: Revision) -> Revision
+    ensures { revision_of result ≡ later_of (revision_of a) (revision_of b) }
+{
+    if a.cmp(&b).is_lt() {
+        return b;
+    }
+    a
 }

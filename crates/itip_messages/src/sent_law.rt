@@ -1,20 +1,20 @@
 //! What an organiser writes reads back: the message that its octets spell, and what that says to each room.
 ghost use Rattle.std.specs.Prelude.{◌≡◌, ℕ, List, [], ◌∷◌, Contains, Bool, false, None, ◌<◌, ◌^◌};
-ghost use Rattle.profile.specs.events.EventComponents.{Attendee, EventComponent};
-ghost use Rattle.profile.specs.organisers.Objects.{OrganiserObject, SpellsOrganiserObject, Store};
+ghost use Rattle.profile.specs.events.EventComponents.{Attendee, EventComponent, Store};
+ghost use Rattle.profile.specs.events.Messages.{Message, SpellsMessage};
 ghost use Rattle.profile.specs.organisers.Sent.{IsCancel, IsMeetingText, IsRequest};
 ghost use Rattle.profile.specs.organisers.Organisers.{OrganiserBook, ShowsSeen, Stored};
-ghost use Rattle.profile.specs.rooms.Messages.{AreParts, SpellsMessage};
+ghost use Rattle.profile.specs.rooms.Messages.{AreParts};
 ghost use Rattle.profile.specs.rooms.Revisions.{Revision};
 ghost use Rattle.profile.specs.text.Lines.{is_too_long};
 ghost use Rattle.itip_messages.specs.SentLaw.{IsSentAddress, IsSentName, SpellsRequest, SpellsShown, cancel_message, cancel_part};
 
 /// What an organiser read of a store can be sent: its organiser and its UID, and the addresses of its attendees.
 pub fn stored_texts_can_be_sent()
-    ensures name { (stored : List ℕ) (said : OrganiserObject) (revision : Revision)
-        → SpellsOrganiserObject stored said → said.operation ≡ Store → revision.sequence < 2 ^ 31 → IsSentName said.organiser said.uid revision }
-    ensures attendees { (stored : List ℕ) (said : OrganiserObject) (event : EventComponent) (attendee : Attendee)
-        → SpellsOrganiserObject stored said → said.operation ≡ Store → Contains said.events event → Contains event.attendees attendee
+    ensures name { (stored : List ℕ) (said : Message) (revision : Revision)
+        → SpellsMessage stored said → said.method ≡ Store → revision.sequence < 2 ^ 31 → IsSentName said.organiser said.uid revision }
+    ensures attendees { (stored : List ℕ) (said : Message) (event : EventComponent) (attendee : Attendee)
+        → SpellsMessage stored said → said.method ≡ Store → Contains said.events event → Contains event.attendees attendee
         → IsSentAddress attendee.address }
 {}
 
@@ -41,10 +41,10 @@ pub fn cancels_read_back()
 /// events of the store have in that revision, with the same canonical octets. Required are a SEQUENCE that can be read, and octets within the limits
 /// of a message.
 pub fn requests_read_back()
-    ensures { (stored : List ℕ) (said : OrganiserObject) (revision : Revision) (octets : List ℕ)
-        → SpellsOrganiserObject stored said → said.operation ≡ Store
+    ensures { (stored : List ℕ) (said : Message) (revision : Revision) (octets : List ℕ)
+        → SpellsMessage stored said → said.method ≡ Store
         → revision.sequence < 2 ^ 31 → IsRequest said.organiser said.uid revision said.events octets → is_too_long octets ≡ false
-        → SpellsRequest revision said.events octets }
+        → SpellsRequest said.organiser said.uid revision said.events octets }
 {
     ical_lines::lines_read_back();
     cal_zones::zone_reads_back();
@@ -54,8 +54,8 @@ pub fn requests_read_back()
 /// VEVENTs are those of the store, in their order, and say the same in the revision that was sent; each attendee occurs once, with the answer
 /// that is seen of it. Required is what is required for a REQUEST.
 pub fn shown_reads_back()
-    ensures { (read : List ℕ) (said : OrganiserObject) (book : OrganiserBook) (stored : Stored) (octets : List ℕ)
-        → SpellsOrganiserObject read said → said.operation ≡ Store → stored.events ≡ said.events → stored.revision.sequence < 2 ^ 31
+    ensures { (read : List ℕ) (said : Message) (book : OrganiserBook) (stored : Stored) (octets : List ℕ)
+        → SpellsMessage read said → said.method ≡ Store → stored.events ≡ said.events → stored.revision.sequence < 2 ^ 31
         → IsMeetingText None said.organiser said.uid stored.revision (ShowsSeen book stored) stored.events octets
         → is_too_long octets ≡ false → SpellsShown book stored octets }
 {

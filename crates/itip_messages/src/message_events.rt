@@ -1,0 +1,111 @@
+//! What an object asks for, and the events of its VEVENTs: METHOD comes first, and says how they are read and judged.
+ghost use Rattle.std.specs.Prelude.{◌≡◌, true, map, codes, option_map, IfOk, IfErr, OnOk, IsTrue};
+ghost use Rattle.std.specs.List.{list_all};
+ghost use Rattle.std.specs.Str.{bytes_eq};
+ghost use Rattle.ical_lines.specs.Fault.{RefusesOnly, RefusesBy};
+ghost use Rattle.ical_lines.specs.Text.{line_text};
+ghost use Rattle.ical_tree.specs.Tree.{tree_of};
+ghost use Rattle.ical_values.specs.Octets.{address_octets};
+ghost use Rattle.profile.specs.faults.Faults.{is_message_fault};
+ghost use Rattle.profile.specs.text.Lines.{line_value};
+ghost use Rattle.profile.specs.text.Trees.{tree_own};
+ghost use Rattle.profile.specs.events.Messages.{MessageFault, MethodFault, NamesMethod, has_one_attendee, is_of_attendee};
+ghost use Rattle.cal_events.specs.Component.{component_of, method_said};
+ghost use Rattle.itip_messages.specs.Message.{IsMethodWord, IsNotOneEach, SaysEvents, WordFault};
+
+use cal_events::{Attendee, EventComponent, Method, read_meeting};
+use ical_lines::{Fault, Line, Refusal};
+use ical_tree::{Component, Properties};
+use std::alloc::Global;
+
+/// What an object asks for, and what its VEVENTs say, in the order of the text, as its METHOD takes them.
+/// Refused: as by `Message::read`, except for the object.
+pub(crate) fn read_events(
+    alloc: Global,
+    object: &Component,
+) -> Result<(Method, Vec<EventComponent>), Fault>
+    ensures says { IfOk result (λ read. SaysEvents (tree_of object.now) (method_said read.0) (map component_of read.1.items)) }
+    ensures refuses { IfErr result (RefusesOnly is_message_fault) }
+    ensures fault { IfErr result (RefusesBy (MessageFault (tree_of object.now))) }
+{
+    let properties = Properties::of(alloc, object)?;
+    let method = method_of(&properties)?;
+    let events = read_meeting(alloc, object, Some(method))?;
+    judge_attendees(method, &events)?;
+    Ok((method, events))
+}
+
+/// What METHOD says, by the properties of an object; without METHOD it is a store.
+/// Refused: 60 for a word that names no supported method, or for two lines.
+fn method_of(properties: &Properties<'_>) -> Result<Method, Refusal>
+    ensures named { IfOk result (λ method. NamesMethod properties.now (method_said method)) }
+    ensures refuses { IfErr result (λ e. IsTrue (is_message_fault e.number)) }
+    ensures fault { IfErr result (λ e. MethodFault properties.now e.number) }
+{
+    match properties.optional("METHOD", Refusal::BAD_METHOD)? {
+        Some(line) => method_named(line),
+        None => Ok(Method::Store),
+    }
+}
+
+/// By the word of METHOD.
+/// Refused: 60 for one that isn't supported.
+fn method_named(line: Line<'_>) -> Result<Method, Refusal>
+    ensures named { IfOk result (IsMethodWord (line_value (line_text line.entry))) }
+    ensures refuses { IfErr result (λ e. IsTrue (is_message_fault e.number)) }
+    ensures fault { IfErr result (λ e. WordFault (line_value (line_text line.entry)) e.number) }
+{
+    let word = line.value();
+    if word.eq_ignore_ascii_case("REQUEST") {
+        return Ok(Method::Request);
+    }
+    if word.eq_ignore_ascii_case("ADD") {
+        return Ok(Method::Add);
+    }
+    if word.eq_ignore_ascii_case("CANCEL") {
+        return Ok(Method::Cancel);
+    }
+    if word.eq_ignore_ascii_case("REPLY") {
+        return Ok(Method::Reply);
+    }
+    if word.eq_ignore_ascii_case("REFRESH") {
+        return Ok(Method::Refresh);
+    }
+    Err(Refusal::BAD_METHOD)
+}
+
+/// Refuses VEVENTs in which an attendee speaks, where one doesn't have one attendee.
+/// Refused: 64 for such a VEVENT.
+fn judge_attendees(method: Method, events: &[EventComponent]) -> Result<(), Refusal>
+    ensures each { OnOk result (is_of_attendee (method_said method) ≡ true → list_all has_one_attendee (map component_of events.now) ≡ true) }
+    ensures fault { IfErr result (λ e. IsNotOneEach (method_said method) (map component_of events.now) e.number) }
+{
+    if method.is_of_attendee() && !all_have_one(events) {
+        return Err(Refusal::NOT_ONE_ATTENDEE);
+    }
+    Ok(())
+}
+
+/// Whether each of some VEVENTs has one attendee.
+fn all_have_one(events: &[EventComponent]) -> bool
+    ensures { result ≡ list_all (λ event. has_one_attendee (component_of event)) events.now }
+{
+    events.iter().all(has_one_attendee)
+}
+
+/// Whether a VEVENT has one attendee; several lines of one address are one.
+fn has_one_attendee(event: &EventComponent) -> bool
+    ensures { result ≡ has_one_attendee (component_of event.now) }
+{
+    match event.attendees.split_first() {
+        Some((first, others)) => are_all(first, others),
+        None => false,
+    }
+}
+
+/// Whether all the others have the address of the first.
+fn are_all(first: &Attendee, others: &[Attendee]) -> bool
+    ensures { result ≡ list_all (λ other. bytes_eq (address_octets other.address) (address_octets first.now.address)) others.now }
+{
+    others.iter().all(|other| other.address == first.address)
+}
