@@ -8,7 +8,7 @@ use Rattle.profile.specs.rooms.Messages.{Content, TellsSlot}
 use Rattle.profile.specs.rooms.Kept.{renamed, IsNamed}
 use Rattle.profile.specs.text.Lines.{written}
 use Rattle.itip_messages.specs.Body.{zone_place}
-use Rattle.itip_messages.specs.RoomMessage.{IsDated}
+use Rattle.itip_messages.specs.Message.{IsDated}
 use Rattle.itip_messages.specs.Zones.{with_zones}
 
 -- ---- a body, read back

@@ -6,10 +6,10 @@ use Rattle.profile.specs.text.Lines.{is_control, logical_lines, reads_as_lines}
 use Rattle.profile.specs.text.Objects.{IsObject}
 use Rattle.profile.specs.text.Trees.{Tree, tree_own, vevents}
 use Rattle.profile.specs.text.Values.{IsAddress, lower_case}
-use Rattle.profile.specs.events.EventComponents.{EventComponent, IsAttendee, Participation, NeedsAction, Accepted, Declined}
+use Rattle.profile.specs.events.EventComponents.{EventComponent, IsAttendee, Participation, NeedsAction, Accepted, Declined, Reply, Refresh}
 use Rattle.profile.specs.events.Properties.{Says, IsUidLine, IsAddressLine, IsSequenceLine, IsStampLine, lines_named}
 use Rattle.profile.specs.events.ZonedTimes.{EventTimes}
-use Rattle.profile.specs.organisers.Objects.{Reply, Refresh, SpellsOrganiserObject}
+use Rattle.profile.specs.events.Messages.{SpellsMessage}
 use Rattle.profile.specs.organisers.Organisers.{Heard, heard_in}
 use Rattle.profile.specs.checker.Instances.{Key}
 use Rattle.profile.specs.rooms.Revisions.{Part, Slot, Whole, At}

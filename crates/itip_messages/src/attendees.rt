@@ -7,7 +7,7 @@ ghost use Rattle.std.specs.Cmp.Lexicographic.{slice_cmp};
 ghost use Rattle.std.specs.Str.{bytes_eq};
 ghost use Rattle.ical_values.specs.Octets.{address_octets};
 ghost use Rattle.cal_events.specs.Component.{attendee_of};
-ghost use Rattle.profile.specs.organisers.Objects.{counted};
+ghost use Rattle.profile.specs.events.Messages.{counted};
 ghost use Rattle.itip_messages.specs.Attendees.{line_said, octets_of};
 
 use cal_events::Attendee;

@@ -14,7 +14,7 @@ use Rattle.profile.specs.organisers.Organisers.{Heard, OrganiserBook, Stored, an
 use Rattle.organiser_books.specs.declared.meeting.StoredMeeting.{StoredMeeting}
 use Rattle.organiser_books.specs.Representation.{answer_in, same_text, AreSeen, LatestOf, RepresentsStored, RepresentsAt}
 use Rattle.itip_order.specs.Parts.{revision_of}
-use Rattle.itip_messages.specs.OrganiserObject.{SaysObjectComponent}
+use Rattle.itip_messages.specs.Message.{SaysComponent}
 use Rattle.organiser_books.specs.Attending.{is_told, lists_said, AreAttending}
 use Rattle.organiser_books.proofs.Latest.{latest_turned}
 use Rattle.organiser_books.proofs.Lines.{same_is}
@@ -144,7 +144,7 @@ module _ (book : OrganiserBook) (heard : List Heard) (uid : List ℕ) (of_it : (
       → ((h : Heard) → Contains heard h → h.revision.sequence ≤ stored.revision.sequence) → AreSeen n stored (book.replies ++ heard) → RepresentsStored m book stored → RepresentsStored n heard_too stored
   own_heard m n stored r c a o sent seen h = record {
     revision = ap revision_of r ∙ h.revision;
-    components = subst (λ l. AllZip SaysObjectComponent stored.events l.items) (sym c) h.components;
+    components = subst (λ l. AllZip SaysComponent stored.events l.items) (sym c) h.components;
     attending = subst (λ l. AreAttending (lists_said stored.events) l.entries) (sym a) h.attending;
     object = ap (λ l. l.items) o ∙ h.object;
     told = λ q. ap (λ l. is_told q l.entries) a ∙ h.told q;

@@ -1,7 +1,7 @@
 -- What was answered to a store, with one more answer.
 use Rattle.std.proofs.Common.{◌≡◌, ◌∙◌, ℕ, ◌<◌, Bool, true, false, ◌&&◌, not, is_some, cond, List, [], ◌∷◌, ◌++◌, map, length, get_or, Option, None, Some, refl, sym, ap, subst, inl, inr}
 use Rattle.std.specs.Prelude.{◌==◌, slice_get}
-use Rattle.std.specs.List.{filter, position, position_or_len}
+use Rattle.std.specs.List.{filter, position, position_or_len, list_any, Contains}
 use Rattle.std.specs.Map.{lookup}
 use Rattle.std.specs.Str.{bytes_eq}
 use Rattle.std.specs.Ordering.{is_eq}
@@ -19,14 +19,11 @@ use Rattle.cal_events.specs.Component.{attendee_of}
 use Rattle.organiser_books.specs.declared.answers.AttendeeAnswer.{AttendeeAnswer}
 use Rattle.organiser_books.specs.declared.answers.AnswerKey.{AnswerKey}
 use Rattle.organiser_books.specs.Answers.{answer_key_at, later_answer, same_answer_key}
-use Rattle.organiser_books.specs.Attending.{is_address}
-use Rattle.organiser_books.specs.Representation.{answer_at, IsHeardAnswer, LatestOf}
-use Rattle.std.specs.List.{list_any, Contains}
+use Rattle.organiser_books.specs.Attending.{is_address, attendance_of}
+use Rattle.organiser_books.specs.Representation.{answer_at, IsHeardAnswer, LatestOf, is_unknown}
 use Rattle.std.proofs.lemmas.List.Elements.{Contains-get_or}
 use Rattle.itip_order.proofs.Lists.{any_from}
 use Rattle.organiser_books.specs.declared.meeting.StoredMeeting.{StoredMeeting}
-use Rattle.organiser_books.specs.Attending.{attendance_of}
-use Rattle.organiser_books.specs.Representation.{is_unknown}
 use Rattle.organiser_books.proofs.Latest.{latest_more}
 use Rattle.organiser_books.proofs.Lines.{same_is, same_itself}
 use Rattle.organiser_books.proofs.Loops.{filter_no, filter_yes}

@@ -7,7 +7,7 @@ use Rattle.std.proofs.lemmas.List.Elements.{filter-append}
 use Rattle.std.proofs.lemmas.List.Folds.{list_any-append}
 use Rattle.std.proofs.lemmas.Slice.Eq.{bytes_eq-Decides}
 use Rattle.profile.specs.events.EventComponents.{Attendee}
-use Rattle.profile.specs.organisers.Objects.{counted}
+use Rattle.profile.specs.events.Messages.{counted}
 use Rattle.profile.specs.rooms.Kept.{each_once}
 use Rattle.organiser_books.specs.Attending.{addresses_in, names, schedules_line}
 use Rattle.organiser_books.proofs.Loops.{any_flat, any_map, any_push}

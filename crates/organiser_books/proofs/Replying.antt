@@ -14,12 +14,12 @@ use Rattle.ical_values.specs.declared.text.Text.{Text}
 use Rattle.profile.specs.events.EventComponents.{Attendee, EventComponent}
 use Rattle.profile.specs.rooms.Messages.{own_revision}
 use Rattle.profile.specs.rooms.Revisions.{Revision}
-use Rattle.profile.specs.organisers.Objects as objects
+use Rattle.profile.specs.events.Messages as objects
 use Rattle.profile.specs.organisers.Organisers as profile
 use Rattle.profile.specs.organisers.Organisers.{Heard, OrganiserBook, Stored, after_reply, heard_in, last_store}
 use Rattle.itip_order.specs.Parts.{revision_of}
-use Rattle.itip_messages.specs.OrganiserObject.{SaysObjectComponent, RepresentsObject}
-use Rattle.itip_messages.specs.declared.organiser_object.OrganiserObject.{OrganiserObject}
+use Rattle.itip_messages.specs.Message.{SaysComponent, RepresentsMessage}
+use Rattle.itip_messages.specs.declared.message.Message.{Message}
 use Rattle.organiser_books.specs.declared.meeting.StoredMeeting.{StoredMeeting}
 use Rattle.organiser_books.specs.Attending.{is_address, is_told, lists_said, AreAttending}
 use Rattle.organiser_books.specs.Calls.{MayTake}
@@ -53,7 +53,7 @@ of_event (e ∷ es) h c = elim (Contains-append_cases (profile.heard_of e e.atte
 
 -- ---- a REPLY that is taken
 
-module _ (address : List ℕ) (object : OrganiserObject) (said : objects.OrganiserObject) (is : RepresentsObject object said) (book : OrganiserBook) (meetings after : Text → Option StoredMeeting) (keeps : KeepsAll meetings book)
+module _ (address : List ℕ) (object : Message) (said : objects.OrganiserObject) (is : RepresentsMessage object said) (book : OrganiserBook) (meetings after : Text → Option StoredMeeting) (keeps : KeepsAll meetings book)
     (m n : StoredMeeting) (found : Some m ≡ meetings object.uid) (put : (q : Text) → after q ≡ cond (same_text object.uid q) (Some n) (meetings q))
     (revision : n.revision ≡ m.revision) (components : n.components ≡ m.components) (attending : n.attending ≡ m.attending) (octets : n.object ≡ m.object) where
   abbrev uid : List ℕ
@@ -83,7 +83,7 @@ module _ (address : List ℕ) (object : OrganiserObject) (said : objects.Organis
         | inr below ↦ omega (arith, same, below)
       ]
 
-  pub replied : said.operation ≡ objects.Reply → said.organiser ≡ address → is_ahead m object.components.items ≡ false → is_strange m object.components.items ≡ false
+  pub replied : said.method ≡ objects.Reply → said.organiser ≡ address → is_ahead m object.components.items ≡ false → is_strange m object.components.items ≡ false
       → ((s : Stored) (replies : List Heard) → revision_of m.revision ≡ s.revision → AreSeen m s replies → AreSeen n s (replies ++ flat_map (heard_said s.uid) object.components.items))
       → MayTake objects.Reply address said book × KeepsAll after (after_reply said book)
   replied kind organiser sent names seen =
@@ -110,7 +110,7 @@ keeps_same book uid meetings after m n found put r c a o e keeps q = by (same_te
     same None h = absurd h
     same (Some s) h = record {
       revision = ap revision_of r ∙ h.revision;
-      components = subst (λ l. AllZip SaysObjectComponent s.events l.items) (sym c) h.components;
+      components = subst (λ l. AllZip SaysComponent s.events l.items) (sym c) h.components;
       attending = subst (λ l. AreAttending (lists_said s.events) l.entries) (sym a) h.attending;
       object = ap (λ l. l.items) o ∙ h.object;
       told = λ x. ap (λ l. is_told x l.entries) a ∙ h.told x;

@@ -8,14 +8,14 @@ use Rattle.profile.specs.events.EventComponents.{Attendee, EventComponent}
 use Rattle.profile.specs.rooms.Revisions as Revisions
 use Rattle.profile.specs.rooms.Messages.{slot_named}
 use Rattle.profile.specs.rooms.Kept.{each_once}
-use Rattle.profile.specs.organisers.Objects.{AreOfMeeting}
+use Rattle.profile.specs.events.Messages.{AreOfMeeting}
 use Rattle.profile.specs.organisers.Organisers as profile
 use Rattle.profile.specs.organisers.Organisers.{Heard, attendees_of, heard_in, is_attendee, is_called_off, own_sequence, left_to_server, scheduled_in}
 use Rattle.itip_order.specs.declared.part.Slot.{Slot}
 use Rattle.itip_order.specs.declared.part.Slot.TheVariants.{Whole, At}
 use Rattle.itip_order.specs.Parts.{slot_of}
-use Rattle.itip_messages.specs.OrganiserObject.{SaysObjectComponent}
-use Rattle.itip_messages.specs.declared.organiser_object.ObjectComponent.{ObjectComponent}
+use Rattle.itip_messages.specs.Message.{SaysComponent}
+use Rattle.itip_messages.specs.declared.message_component.MessageComponent.{MessageComponent}
 use Rattle.organiser_books.specs.Attending.{addresses_in, attendance_of, lists_of, lists_said, names, scheduled_among, schedules_line, sent_among, Attends, AreAttending, Entries}
 use Rattle.organiser_books.specs.declared.attending.Attendance.{Attendance}
 use Rattle.organiser_books.specs.declared.meeting.StoredMeeting.{StoredMeeting}
@@ -53,18 +53,18 @@ known_is lists es q are = by (attendance_of q es) (are.each q)
 
 -- ---- components and their events
 
-pub lists_are : (events : List EventComponent) (components : List ObjectComponent) → AllZip SaysObjectComponent events components → lists_of components ≡ lists_said events
+pub lists_are : (events : List EventComponent) (components : List MessageComponent) → AllZip SaysComponent events components → lists_of components ≡ lists_said events
 lists_are [] [] z = refl
 lists_are [] (c ∷ cs) z = absurd z
 lists_are (e ∷ es) [] z = absurd z
 lists_are (e ∷ es) (c ∷ cs) z = λ i. z.0.attendees i ∷ lists_are es cs z.1 i
 
 -- one reply's answer
-one_heard : (uid : List ℕ) (e : EventComponent) (c : ObjectComponent) → SaysObjectComponent e c → e.uid ≡ uid → (lines : List Attendee) → heard_by uid c lines ≡ profile.heard_of e lines
+one_heard : (uid : List ℕ) (e : EventComponent) (c : MessageComponent) → SaysComponent e c → e.uid ≡ uid → (lines : List Attendee) → heard_by uid c lines ≡ profile.heard_of e lines
 one_heard uid e c says u [] = refl
 one_heard uid e c says u (a ∷ rest) = λ i. record { uid = sym u i; attendee = a.address; slot = says.slot i; revision = says.revision i; answer = a.participation } ∷ []
 
-pub heard_are : (uid : List ℕ) (events : List EventComponent) (components : List ObjectComponent) → AllZip SaysObjectComponent events components → ((e : EventComponent) → Contains events e → e.uid ≡ uid)
+pub heard_are : (uid : List ℕ) (events : List EventComponent) (components : List MessageComponent) → AllZip SaysComponent events components → ((e : EventComponent) → Contains events e → e.uid ≡ uid)
     → flat_map (heard_said uid) components ≡ heard_in events
 heard_are uid [] [] z own = refl
 heard_are uid [] (c ∷ cs) z own = absurd z
@@ -74,17 +74,17 @@ heard_are uid (e ∷ es) (c ∷ cs) z own =
     let rest = heard_are uid es cs z.1 (λ x k. own x (in_tail e es x k)) in
     λ i. one i ++ rest i
 
-sequence_is : (e : EventComponent) (c : ObjectComponent) → SaysObjectComponent e c → c.revision.sequence ≡ e.sequence
+sequence_is : (e : EventComponent) (c : MessageComponent) → SaysComponent e c → c.revision.sequence ≡ e.sequence
 sequence_is e c says = ap (λ (r : Revisions.Revision). r.sequence) says.revision
 
-pub ahead_are : (n : ℕ) (events : List EventComponent) (components : List ObjectComponent) → AllZip SaysObjectComponent events components
-    → list_any (λ (c : ObjectComponent). nat_lt n c.revision.sequence) components ≡ list_any (λ (e : EventComponent). nat_lt n e.sequence) events
+pub ahead_are : (n : ℕ) (events : List EventComponent) (components : List MessageComponent) → AllZip SaysComponent events components
+    → list_any (λ (c : MessageComponent). nat_lt n c.revision.sequence) components ≡ list_any (λ (e : EventComponent). nat_lt n e.sequence) events
 ahead_are n [] [] z = refl
 ahead_are n [] (c ∷ cs) z = absurd z
 ahead_are n (e ∷ es) [] z = absurd z
 ahead_are n (e ∷ es) (c ∷ cs) z = λ i. nat_lt n (sequence_is e c z.0 i) || ahead_are n es cs z.1 i
 
-pub own_are : (events : List EventComponent) (components : List ObjectComponent) → AllZip SaysObjectComponent events components → own_in components ≡ own_sequence events
+pub own_are : (events : List EventComponent) (components : List MessageComponent) → AllZip SaysComponent events components → own_in components ≡ own_sequence events
 own_are [] [] z = refl
 own_are [] (c ∷ cs) z = absurd z
 own_are (e ∷ es) [] z = absurd z
@@ -96,7 +96,7 @@ whole_is Whole (Some t) e = absurd (cc)
 whole_is (At a) None e = absurd (cc)
 whole_is (At a) (Some t) e = refl
 
-pub off_are : (events : List EventComponent) (components : List ObjectComponent) → AllZip SaysObjectComponent events components → calls_off components ≡ is_called_off events
+pub off_are : (events : List EventComponent) (components : List MessageComponent) → AllZip SaysComponent events components → calls_off components ≡ is_called_off events
 off_are [] [] z = refl
 off_are [] (c ∷ cs) z = absurd z
 off_are (e ∷ es) [] z = absurd z
@@ -105,7 +105,7 @@ off_are (e ∷ es) (c ∷ cs) z = λ i. (whole_is c.slot e.recurrence z.0.slot i
 -- ---- those who speak
 
 -- those of a component who aren't attendees
-one_stranger : (events : List EventComponent) (m : StoredMeeting) → AreAttending (lists_said events) m.attending.entries → (uid : List ℕ) (c : ObjectComponent) (lines : List Attendee)
+one_stranger : (events : List EventComponent) (m : StoredMeeting) → AreAttending (lists_said events) m.attending.entries → (uid : List ℕ) (c : MessageComponent) (lines : List Attendee)
     → is_unknown m lines ≡ list_any (λ (h : Heard). not (is_attendee h.attendee events)) (heard_by uid c lines)
 one_stranger events m are uid c [] = refl
 one_stranger events m are uid c (a ∷ rest) =
@@ -115,11 +115,11 @@ one_stranger events m are uid c (a ∷ rest) =
     or_false true = refl
     or_false false = refl
 
-pub strangers_are : (events : List EventComponent) (m : StoredMeeting) → AreAttending (lists_said events) m.attending.entries → (uid : List ℕ) (cs : List ObjectComponent)
-    → list_any (λ (c : ObjectComponent). is_unknown m c.attendees) cs ≡ list_any (λ (h : Heard). not (is_attendee h.attendee events)) (flat_map (heard_said uid) cs)
+pub strangers_are : (events : List EventComponent) (m : StoredMeeting) → AreAttending (lists_said events) m.attending.entries → (uid : List ℕ) (cs : List MessageComponent)
+    → list_any (λ (c : MessageComponent). is_unknown m c.attendees) cs ≡ list_any (λ (h : Heard). not (is_attendee h.attendee events)) (flat_map (heard_said uid) cs)
 strangers_are events m are uid cs = each cs ∙ sym (any_flat (λ (h : Heard). not (is_attendee h.attendee events)) (heard_said uid) cs)
   where
-    each : (xs : List ObjectComponent) → list_any (λ (c : ObjectComponent). is_unknown m c.attendees) xs ≡ list_any (λ c. list_any (λ (h : Heard). not (is_attendee h.attendee events)) (heard_said uid c)) xs
+    each : (xs : List MessageComponent) → list_any (λ (c : MessageComponent). is_unknown m c.attendees) xs ≡ list_any (λ c. list_any (λ (h : Heard). not (is_attendee h.attendee events)) (heard_said uid c)) xs
     each [] = refl
     each (x ∷ xs) = λ i. one_stranger events m are uid x x.attendees i || each xs i
 

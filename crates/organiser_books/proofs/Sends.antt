@@ -2,7 +2,7 @@
 use Rattle.std.proofs.Common.{◌≡◌, ◌∙◌, ℕ, max, List, [], ◌∷◌, ◌++◌, length, refl, ap, arith}
 use Rattle.std.specs.List.{AllZip}
 use Rattle.profile.specs.organisers.Organisers.{Sends}
-use Rattle.itip_messages.specs.declared.organiser_object.ObjectComponent.{ObjectComponent}
+use Rattle.itip_messages.specs.declared.message_component.MessageComponent.{MessageComponent}
 use Rattle.organiser_books.specs.Storing.{own_in, sent_to}
 
 pub sends : (IsSuch : List ℕ → Type 0) (to : List (List ℕ)) (octets : List ℕ) → IsSuch octets → Sends IsSuch to (sent_to to octets)
@@ -22,6 +22,6 @@ copied (x ∷ xs) (y ∷ ys) z = λ i. z.0 i ∷ copied xs ys z.1 i
 
 -- ---- the greatest of numbers
 
-pub own_push : (xs : List ObjectComponent) (x : ObjectComponent) → own_in (xs ++ x ∷ []) ≡ max (own_in xs) x.revision.sequence
+pub own_push : (xs : List MessageComponent) (x : MessageComponent) → own_in (xs ++ x ∷ []) ≡ max (own_in xs) x.revision.sequence
 own_push [] x = omega arith
 own_push (y ∷ ys) x = ap (max y.revision.sequence) (own_push ys x) ∙ omega arith

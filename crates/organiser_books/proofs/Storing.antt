@@ -10,14 +10,14 @@ use Rattle.ical_values.specs.Octets.{address_octets, text_octets}
 use Rattle.ical_values.specs.declared.text.Text.{Text}
 use Rattle.profile.specs.events.EventComponents.{Attendee, EventComponent}
 use Rattle.profile.specs.rooms.Revisions.{Revision, Slot}
-use Rattle.profile.specs.organisers.Objects as objects
-use Rattle.profile.specs.organisers.Objects.{is_of_attendee}
+use Rattle.profile.specs.events.Messages as objects
+use Rattle.profile.specs.events.Messages.{is_of_attendee}
 use Rattle.profile.specs.organisers.Organisers.{Heard, OrganiserBook, Sent, Sends, Stored, StateFault, SendsStore, IsStore, answers_store, is_attendee, is_called_off, last_events, last_store, most_sequence, scheduled_in, sequence_after, without}
 use Rattle.profile.specs.organisers.Organisers.StateFault.{unknown, ahead, spent, stranger}
 use Rattle.itip_order.specs.Parts.{revision_of}
-use Rattle.itip_messages.specs.OrganiserObject.{SaysObjectComponent, RepresentsObject}
-use Rattle.itip_messages.specs.declared.organiser_object.ObjectComponent.{ObjectComponent}
-use Rattle.itip_messages.specs.declared.organiser_object.OrganiserObject.{OrganiserObject}
+use Rattle.itip_messages.specs.Message.{SaysComponent, RepresentsMessage}
+use Rattle.itip_messages.specs.declared.message_component.MessageComponent.{MessageComponent}
+use Rattle.itip_messages.specs.declared.message.Message.{Message}
 use Rattle.organiser_books.specs.declared.answers.AttendeeAnswer.{AttendeeAnswer}
 use Rattle.organiser_books.specs.declared.answers.AnswerKey.{AnswerKey}
 use Rattle.organiser_books.specs.declared.meeting.StoredMeeting.{StoredMeeting}
@@ -32,7 +32,7 @@ use Rattle.organiser_books.proofs.Picking.{among_passing}
 
 -- ---- beside what was there
 
-module _ (book : OrganiserBook) (uid : List ℕ) (events : List EventComponent) (components : List ObjectComponent) (each : AllZip SaysObjectComponent events components) where
+module _ (book : OrganiserBook) (uid : List ℕ) (events : List EventComponent) (components : List MessageComponent) (each : AllZip SaysComponent events components) where
   sequence_same : (o : Option StoredMeeting) (r : Option Stored) → RepresentsAt book uid o r → sequence_then o components ≡ sequence_after r events
   sequence_same None None h = own_are events components each
   sequence_same None (Some s) h = absurd h
@@ -84,7 +84,7 @@ store_reply e = absurd (cc)
 
 -- ---- a store
 
-module _ (address : List ℕ) (object : OrganiserObject) (said : objects.OrganiserObject) (is : RepresentsObject object said) (book : OrganiserBook) (meetings : Text → Option StoredMeeting) (keeps : KeepsAll meetings book) where
+module _ (address : List ℕ) (object : Message) (said : objects.OrganiserObject) (is : RepresentsMessage object said) (book : OrganiserBook) (meetings : Text → Option StoredMeeting) (keeps : KeepsAll meetings book) where
   abbrev last : Option Stored
   last = last_store said.uid book
 
@@ -95,7 +95,7 @@ module _ (address : List ℕ) (object : OrganiserObject) (said : objects.Organis
   sequence_is = sequence_same book said.uid said.events object.components.items is.each (meetings object.uid) last represents
 
   -- where no greater SEQUENCE is left
-  pub spent_fault : said.operation ≡ objects.Store → said.organiser ≡ address → most_sequence < sequence_then (meetings object.uid) object.components.items → CallFault objects.Store address said book 72
+  pub spent_fault : said.method ≡ objects.Store → said.organiser ≡ address → most_sequence < sequence_then (meetings object.uid) object.components.items → CallFault objects.Store address said book 72
   spent_fault kind own most = in_state kind own (spent kind (subst (λ n. most_sequence < n) sequence_is most))
 
   module _ (moment : ℤ) (meeting : StoredMeeting) (sequence : meeting.revision.sequence ≡ sequence_then (meetings object.uid) object.components.items) (stamp : meeting.revision.stamp ≡ moment) (sent : List Sent) where
@@ -128,7 +128,7 @@ module _ (address : List ℕ) (object : OrganiserObject) (said : objects.Organis
         → ((address : List ℕ) → is_told address meeting.attending.entries ≡ list_any (bytes_eq address) told) → RepresentsStored meeting next stored
     meeting_represented components attending none was_told = record {
       revision = revision_is;
-      components = subst (AllZip SaysObjectComponent said.events) (sym components) is.each;
+      components = subst (AllZip SaysComponent said.events) (sym components) is.each;
       attending = subst (λ l. AreAttending l meeting.attending.entries) (lists_are said.events object.components.items is.each) attending;
       object = refl;
       told = was_told;
@@ -146,7 +146,7 @@ module _ (address : List ℕ) (object : OrganiserObject) (said : objects.Organis
     last_is = last_attends book said.uid said.events object.components.items is.each (meetings object.uid) last represents
 
     -- what is sent
-    is_sent : ((events : List EventComponent) (before : List (List Attendee)) → AllZip SaysObjectComponent events object.components.items → LastAttends before (meetings object.uid)
+    is_sent : ((events : List EventComponent) (before : List (List Attendee)) → AllZip SaysComponent events object.components.items → LastAttends before (meetings object.uid)
         → SendsObject said.organiser object meeting.revision events before meeting.object.items sent)
         → SendsStore (is_called_off said.events) said.organiser stored gone sent
     is_sent sends =
@@ -172,16 +172,16 @@ module _ (address : List ℕ) (object : OrganiserObject) (said : objects.Organis
         ∙ ap (λ (l : List (List ℕ)). is_attendee q said.events && list_any (bytes_eq q) l) (sym (store_to (is_called_off said.events) said.organiser stored gone sent s))
         ∙ sym (among_passing (λ address. is_attendee address said.events) q (receivers sent))
 
-    no_fault : said.operation ≡ objects.Store → meeting.revision.sequence ≤ most_sequence → (n : ℕ) → StateFault said book n → ⊥
+    no_fault : said.method ≡ objects.Store → meeting.revision.sequence ≤ most_sequence → (n : ℕ) → StateFault said book n → ⊥
     no_fault kind fits n (unknown speaks none) = true≢false (sym speaks ∙ ap is_of_attendee kind)
     no_fault kind fits n (ahead reply s e before) = store_reply (sym kind ∙ reply)
     no_fault kind fits n (spent store most) = let same = sequence ∙ sequence_is in absurd (omega (arith, most, fits, same))
     no_fault kind fits n (stranger speaks s e none strange) = true≢false (sym speaks ∙ ap is_of_attendee kind)
 
     pub is_stored : (after : Text → Option StoredMeeting) → ((q : Text) → after q ≡ cond (same_text object.uid q) (Some meeting) (meetings q))
-        → said.operation ≡ objects.Store → said.organiser ≡ address → meeting.revision.sequence ≤ most_sequence
+        → said.method ≡ objects.Store → said.organiser ≡ address → meeting.revision.sequence ≤ most_sequence
         → meeting.components.items ≡ object.components.items → AreAttending (lists_of object.components.items) meeting.attending.entries → meeting.answers.entries ≡ []
-        → ((events : List EventComponent) (before : List (List Attendee)) → AllZip SaysObjectComponent events object.components.items → LastAttends before (meetings object.uid)
+        → ((events : List EventComponent) (before : List (List Attendee)) → AllZip SaysComponent events object.components.items → LastAttends before (meetings object.uid)
         → SendsObject address object meeting.revision events before meeting.object.items sent)
         → ((before : List (List Attendee)) → LastAttends before (meetings object.uid) → (q : List ℕ) → is_told q meeting.attending.entries ≡ is_told_by address before (lists_of object.components.items) q)
         → MayTake objects.Store address said book × ((x : OrganiserBook) × IsStore moment said book sent x × KeepsAll after x)

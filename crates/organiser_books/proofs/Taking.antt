@@ -6,15 +6,16 @@ use Rattle.std.proofs.lemmas.Bool.{true≢false, both_ways}
 use Rattle.ical_values.specs.Octets.{text_octets}
 use Rattle.profile.specs.events.EventComponents.{Attendee, EventComponent, Participation}
 use Rattle.profile.specs.rooms.Revisions.{Revision, Slot}
-use Rattle.profile.specs.organisers.Objects as objects
-use Rattle.profile.specs.organisers.Objects.{is_of_attendee}
+use Rattle.profile.specs.events.Messages as objects
+use Rattle.profile.specs.events.Messages.{is_of_attendee}
 use Rattle.profile.specs.organisers.Organisers.{Heard, OrganiserBook, Stored, StateFault, heard_in, is_attendee, last_store, sent_status, participation_word, IsSeen, ShowsSeen}
 use Rattle.profile.specs.organisers.Organisers.StateFault.{unknown, ahead, spent, stranger}
 use Rattle.profile.specs.organisers.Sent.{IsComponentText, IsMeetingText}
-use Rattle.itip_messages.specs.OrganiserObject.{operation_said, RepresentsObject}
-use Rattle.itip_messages.specs.declared.organiser_object.Operation.{Operation}
-use Rattle.itip_messages.specs.declared.organiser_object.Operation.TheVariants.{Store, Reply, Refresh}
-use Rattle.itip_messages.specs.declared.organiser_object.OrganiserObject.{OrganiserObject}
+use Rattle.cal_events.specs.Component.{method_said}
+use Rattle.itip_messages.specs.Message.{RepresentsMessage}
+use Rattle.cal_events.specs.declared.method.Method.{Method}
+use Rattle.cal_events.specs.declared.method.Method.TheVariants.{Store, Reply, Refresh}
+use Rattle.itip_messages.specs.declared.message.Message.{Message}
 use Rattle.itip_messages.specs.contracts.organiser_object.OperationPartialEq.TheImpl as operations
 use Rattle.organiser_books.specs.declared.meeting.StoredMeeting.{StoredMeeting}
 use Rattle.organiser_books.specs.Attending.{attendance_of, lists_said}
@@ -29,7 +30,7 @@ use Rattle.organiser_books.proofs.Said.{ahead_are, attendee_is, heard_are, known
 -- ---- what is asked
 
 -- two operations that differ are distinguished
-pub operations_differ : (a b : Operation) → operations.eq-value.it a b ≡ false → operation_said a ≡ operation_said b → ⊥
+pub operations_differ : (a b : Operation) → operations.eq-value.it a b ≡ false → method_said a ≡ method_said b → ⊥
 operations_differ Store Store n e = true≢false n
 operations_differ Store Reply n e = absurd (cc)
 operations_differ Store Refresh n e = absurd (cc)
@@ -51,7 +52,7 @@ store_reply e = absurd (cc)
 
 -- ---- objects
 
-module _ (address : List ℕ) (object : OrganiserObject) (said : objects.OrganiserObject) (is : RepresentsObject object said) (book : OrganiserBook) where
+module _ (address : List ℕ) (object : Message) (said : objects.OrganiserObject) (is : RepresentsMessage object said) (book : OrganiserBook) where
   abbrev uid : List ℕ
   uid = text_octets object.uid
 
@@ -59,7 +60,7 @@ module _ (address : List ℕ) (object : OrganiserObject) (said : objects.Organis
   last_is = ap (λ u. last_store u book) (sym is.uid)
 
   -- of a meeting that isn't known
-  pub unknown_fault : (op : objects.Operation) → said.operation ≡ op → said.organiser ≡ address → is_of_attendee op ≡ true → RepresentsAt book uid None (last_store uid book) → CallFault op address said book 71
+  pub unknown_fault : (op : objects.Operation) → said.method ≡ op → said.organiser ≡ address → is_of_attendee op ≡ true → RepresentsAt book uid None (last_store uid book) → CallFault op address said book 71
   unknown_fault op kind own speaks found = in_state kind own (unknown (ap is_of_attendee kind ∙ speaks) (last_is ∙ represented_unknown book uid (last_store uid book) found))
 
   pub heard_is : flat_map (heard_said said.uid) object.components.items ≡ heard_in said.events
@@ -79,22 +80,22 @@ module _ (address : List ℕ) (object : OrganiserObject) (said : objects.Organis
     strange_is = strangers_are known.0.events m known.2.attending said.uid object.components.items ∙ ap (list_any (λ (h : Heard). not (is_attendee h.attendee known.0.events))) heard_is
 
     -- nothing is ahead, or it isn't looked at
-    pub strange_fault : (op : objects.Operation) → said.operation ≡ op → said.organiser ≡ address → is_of_attendee op ≡ true → (op ≡ objects.Reply → is_ahead m object.components.items ≡ false) → is_strange m object.components.items ≡ true
+    pub strange_fault : (op : objects.Operation) → said.method ≡ op → said.organiser ≡ address → is_of_attendee op ≡ true → (op ≡ objects.Reply → is_ahead m object.components.items ≡ false) → is_strange m object.components.items ≡ true
         → CallFault op address said book 73
     strange_fault op kind own speaks sent strange =
         in_state kind own (stranger (ap is_of_attendee kind ∙ speaks) known.0 (last_is ∙ known.1) (λ reply. sym ahead_is ∙ sent (sym kind ∙ reply)) (sym strange_is ∙ strange))
 
-    pub ahead_fault : said.operation ≡ objects.Reply → said.organiser ≡ address → is_ahead m object.components.items ≡ true → CallFault objects.Reply address said book 71
+    pub ahead_fault : said.method ≡ objects.Reply → said.organiser ≡ address → is_ahead m object.components.items ≡ true → CallFault objects.Reply address said book 71
     ahead_fault kind own before = in_state kind own (ahead kind known.0 (last_is ∙ known.1) (sym ahead_is ∙ before))
 
-    pub reply_fault : (n : ℕ) → said.operation ≡ objects.Reply → said.organiser ≡ address → IsReplyFault m object.components.items n → CallFault objects.Reply address said book n
+    pub reply_fault : (n : ℕ) → said.method ≡ objects.Reply → said.organiser ≡ address → IsReplyFault m object.components.items n → CallFault objects.Reply address said book n
     reply_fault n kind own fault = elim fault [
       | inl f ↦ subst (CallFault objects.Reply address said book) (sym f.0) (ahead_fault kind own f.1)
       | inr f ↦ subst (CallFault objects.Reply address said book) (sym f.0) (strange_fault objects.Reply kind own refl (λ _. f.1) f.2)
     ]
 
     -- nothing is wrong with what an attendee says
-    module _ (op : objects.Operation) (kind : said.operation ≡ op) (speaks : is_of_attendee op ≡ true) (sent : op ≡ objects.Reply → is_ahead m object.components.items ≡ false)
+    module _ (op : objects.Operation) (kind : said.method ≡ op) (speaks : is_of_attendee op ≡ true) (sent : op ≡ objects.Reply → is_ahead m object.components.items ≡ false)
         (names : is_strange m object.components.items ≡ false) where
       no_fault : (n : ℕ) → StateFault said book n → ⊥
       no_fault n (unknown a none) = some_none known.0 (sym (last_is ∙ known.1) ∙ none)

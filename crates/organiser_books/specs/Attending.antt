@@ -6,13 +6,13 @@ use Rattle.std.specs.Str.{bytes_eq}
 use Rattle.ical_values.specs.Octets.{address_octets}
 use Rattle.ical_values.specs.declared.address.Address.{Address}
 use Rattle.profile.specs.events.EventComponents.{Attendee, EventComponent}
-use Rattle.profile.specs.organisers.Objects.{counted}
+use Rattle.profile.specs.events.Messages.{counted}
 use Rattle.profile.specs.rooms.Kept.{each_once}
-use Rattle.itip_messages.specs.declared.organiser_object.ObjectComponent.{ObjectComponent}
+use Rattle.itip_messages.specs.declared.message_component.MessageComponent.{MessageComponent}
 use Rattle.organiser_books.specs.declared.attending.Attendance.{Attendance}
 
 -- the ATTENDEE lines of each component
-abbrev pub lists_of : List ObjectComponent → List (List Attendee)
+abbrev pub lists_of : List MessageComponent → List (List Attendee)
 lists_of components = map (λ component. component.attendees) components
 
 abbrev pub lists_said : List EventComponent → List (List Attendee)

@@ -12,8 +12,8 @@ use Rattle.profile.specs.events.EventComponents.{Attendee, Participation, NeedsA
 use Rattle.profile.specs.organisers.Organisers.{OrganiserBook, Stored, Heard, last_store, answers_store, heard_cmp}
 use Rattle.cal_events.specs.Component.{participation_of}
 use Rattle.itip_order.specs.Parts.{revision_of, slot_of}
-use Rattle.itip_messages.specs.OrganiserObject.{SaysObjectComponent}
-use Rattle.itip_messages.specs.declared.organiser_object.ObjectComponent.{ObjectComponent}
+use Rattle.itip_messages.specs.Message.{SaysComponent}
+use Rattle.itip_messages.specs.declared.message_component.MessageComponent.{MessageComponent}
 use Rattle.organiser_books.specs.declared.answers.AttendeeAnswer.{AttendeeAnswer}
 use Rattle.organiser_books.specs.declared.answers.AnswerKey.{AnswerKey}
 use Rattle.organiser_books.specs.declared.meeting.StoredMeeting.{StoredMeeting}
@@ -67,12 +67,12 @@ answered (Some answer) = participation_of answer.status
 
 -- ---- what a component of a REPLY says
 
-abbrev pub heard_by : List ℕ → ObjectComponent → List Attendee → List Heard
+abbrev pub heard_by : List ℕ → MessageComponent → List Attendee → List Heard
 heard_by uid component [] = []
 heard_by uid component (attendee ∷ others) =
     record { uid = uid; attendee = attendee.address; slot = slot_of component.slot; revision = revision_of component.revision; answer = attendee.participation } ∷ []
 
-abbrev pub heard_said : List ℕ → ObjectComponent → List Heard
+abbrev pub heard_said : List ℕ → MessageComponent → List Heard
 heard_said uid component = heard_by uid component component.attendees
 
 -- who speaks in it isn't an attendee of the meeting
@@ -81,15 +81,15 @@ is_unknown meeting [] = false
 is_unknown meeting (attendee ∷ others) = not (is_some (attendance_of attendee.address meeting.attending.entries))
 
 -- one of these components answers a SEQUENCE that wasn't sent yet
-abbrev pub is_ahead : StoredMeeting → List ObjectComponent → Bool
+abbrev pub is_ahead : StoredMeeting → List MessageComponent → Bool
 is_ahead meeting components = list_any (λ component. nat_lt meeting.revision.sequence component.revision.sequence) components
 
 -- one who isn't an attendee speaks in one of them
-abbrev pub is_strange : StoredMeeting → List ObjectComponent → Bool
+abbrev pub is_strange : StoredMeeting → List MessageComponent → Bool
 is_strange meeting components = list_any (λ component. is_unknown meeting component.attendees) components
 
 -- what can be wrong with the components of a REPLY: the SEQUENCEs are looked at first
-abbrev pub IsReplyFault : StoredMeeting → List ObjectComponent → ℕ → Type 0
+abbrev pub IsReplyFault : StoredMeeting → List MessageComponent → ℕ → Type 0
 IsReplyFault meeting components n =
     ((n ≡ 71) × (is_ahead meeting components ≡ true)) ⊎ ((n ≡ 73) × (is_ahead meeting components ≡ false) × (is_strange meeting components ≡ true))
 
@@ -98,7 +98,7 @@ IsReplyFault meeting components n =
 -- the meeting is the last store, and has what was answered to it. No answer was taken that is to a later SEQUENCE
 pub record RepresentsStored (meeting : StoredMeeting) (book : OrganiserBook) (stored : Stored) : Type 0 where
   pub revision : revision_of meeting.revision ≡ stored.revision
-  pub components : AllZip SaysObjectComponent stored.events meeting.components.items
+  pub components : AllZip SaysComponent stored.events meeting.components.items
   pub attending : AreAttending (lists_said stored.events) meeting.attending.entries
   pub object : meeting.object.items ≡ stored.object
   pub told : (address : List ℕ) → is_told address meeting.attending.entries ≡ list_any (bytes_eq address) stored.told

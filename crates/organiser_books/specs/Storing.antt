@@ -10,19 +10,19 @@ use Rattle.itip_order.specs.Parts.{revision_of}
 use Rattle.itip_order.specs.declared.part.Slot.{Slot}
 use Rattle.itip_order.specs.declared.part.Slot.TheVariants.{Whole, At}
 use Rattle.itip_messages.specs.declared.meeting_text.MeetingText.{MeetingText}
-use Rattle.itip_messages.specs.declared.organiser_object.ObjectComponent.{ObjectComponent}
+use Rattle.itip_messages.specs.declared.message_component.MessageComponent.{MessageComponent}
 use Rattle.itip_order.specs.declared.part.Revision.{Revision}
-use Rattle.itip_messages.specs.declared.organiser_object.OrganiserObject.{OrganiserObject}
+use Rattle.itip_messages.specs.declared.message.Message.{Message}
 use Rattle.organiser_books.specs.declared.meeting.StoredMeeting.{StoredMeeting}
 use Rattle.organiser_books.specs.Attending.{lists_of, names, sent_among, AreAttending}
 
 -- the greatest SEQUENCE of these components
-abbrev pub own_in : List ObjectComponent → ℕ
+abbrev pub own_in : List MessageComponent → ℕ
 own_in [] = 0
 own_in (component ∷ components) = max component.revision.sequence (own_in components)
 
 -- the SEQUENCE of what is sent after a last store
-abbrev pub sequence_then : Option StoredMeeting → List ObjectComponent → ℕ
+abbrev pub sequence_then : Option StoredMeeting → List MessageComponent → ℕ
 sequence_then None components = own_in components
 sequence_then (Some last) components = max (own_in components) (last.revision.sequence + 1)
 
@@ -31,10 +31,10 @@ abbrev pub is_whole_slot : Slot → Bool
 is_whole_slot Whole = true
 is_whole_slot (At instant) = false
 
-abbrev pub cancels_whole : ObjectComponent → Bool
+abbrev pub cancels_whole : MessageComponent → Bool
 cancels_whole component = is_whole_slot component.slot && component.cancelled
 
-abbrev pub calls_off : List ObjectComponent → Bool
+abbrev pub calls_off : List MessageComponent → Bool
 calls_off components = list_any cancels_whole components
 
 -- the store of a meeting that is written, with what was made of it
@@ -68,7 +68,7 @@ is_told_by organiser before lists address =
     && (list_any (bytes_eq address) (sent_among organiser lists) || list_any (bytes_eq address) (without (sent_among organiser before) (sent_among organiser lists)))
 
 -- what is made of these events by an object that is stored with this revision
-abbrev pub SendsObject : List ℕ → OrganiserObject → Revision → List EventComponent → List (List Attendee) → List ℕ → List Sent → Type 0
+abbrev pub SendsObject : List ℕ → Message → Revision → List EventComponent → List (List Attendee) → List ℕ → List Sent → Type 0
 SendsObject organiser object revision events before octets sent =
     SendsTo (calls_off object.components.items) (address_octets object.organiser)
     (record { uid = text_octets object.uid; events = events; revision = revision_of revision; object = octets; told = [] })

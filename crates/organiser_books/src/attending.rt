@@ -10,7 +10,7 @@ ghost use Rattle.organiser_books.specs.Attending.{lists_of, is_no_organiser, is_
 use cal_events::Attendee;
 use ical_values::Address;
 use indexmap::IndexMap;
-use itip_messages::ObjectComponent;
+use itip_messages::MessageComponent;
 use std::alloc::{AllocError, Global};
 
 /// The attendees of a meeting.
@@ -30,7 +30,7 @@ pub(crate) struct Attendance {
 /// The attendees of these components, each line looked at once.
 pub(crate) fn attending(
     alloc: Global,
-    components: &[ObjectComponent],
+    components: &[MessageComponent],
 ) -> Result<Attending, AllocError>
     ensures attending { IfOk result (λ attending. AreAttending (lists_of components.now) attending.entries) }
     ensures untold { IfOk result (λ attending. AreUntold attending.entries) }

@@ -16,7 +16,7 @@ use crate::attending::{Attending, is_told};
 use cal_events::PartStat;
 use ical_lines::{Fault, Refusal};
 use ical_values::Address;
-use itip_messages::ObjectComponent;
+use itip_messages::MessageComponent;
 use itip_order::{Revision, Slot};
 use std::alloc::AllocError;
 
@@ -26,7 +26,7 @@ pub(crate) struct StoredMeeting {
     /// SEQUENCE and DTSTAMP of what was sent.
     pub revision: Revision,
     /// Its VEVENTs in the order of the text.
-    pub components: Vec<ObjectComponent>,
+    pub components: Vec<MessageComponent>,
     pub attending: Attending,
     /// The octets that were made of it: its REQUEST, or its CANCEL where it was called off.
     pub object: Vec<u8>,
@@ -63,14 +63,14 @@ impl StoredMeeting {
     }
 
     /// Whether one of the components answers a SEQUENCE that wasn't sent yet.
-    fn is_ahead(&self, components: &[ObjectComponent]) -> bool
+    fn is_ahead(&self, components: &[MessageComponent]) -> bool
         ensures { result ≡ is_ahead self.now components.now }
     {
         components.iter().any(|component| component.revision().sequence > self.revision.sequence)
     }
 
     /// Whether one who isn't an attendee speaks in one of the components.
-    pub fn is_strange(&self, components: &[ObjectComponent]) -> bool
+    pub fn is_strange(&self, components: &[MessageComponent]) -> bool
         ensures { result ≡ is_strange self.now components.now }
     {
         components
@@ -79,7 +79,7 @@ impl StoredMeeting {
     }
 
     /// Whether one who isn't an attendee speaks in the component.
-    fn is_unknown(&self, component: &ObjectComponent) -> bool
+    fn is_unknown(&self, component: &MessageComponent) -> bool
         ensures { result ≡ is_unknown self.now component.now.attendees }
     {
         match component.attendees().lines().first() {
@@ -90,7 +90,7 @@ impl StoredMeeting {
 
     /// Takes the components of a REPLY, all of them or none. Refused: 71 for a SEQUENCE that wasn't sent yet, 73 for one who isn't an
     /// attendee.
-    pub fn take_reply(&mut self, components: &[ObjectComponent]) -> Result<(), Fault>
+    pub fn take_reply(&mut self, components: &[MessageComponent]) -> Result<(), Fault>
         ensures revision { self.new.revision ≡ self.old.revision }
         ensures components { self.new.components ≡ self.old.components }
         ensures attending { self.new.attending ≡ self.old.attending }
@@ -113,7 +113,7 @@ impl StoredMeeting {
     }
 
     /// Takes what these components answer, all of it or, where memory is refused, nothing.
-    fn hear_all(&mut self, components: &[ObjectComponent]) -> Result<(), AllocError>
+    fn hear_all(&mut self, components: &[MessageComponent]) -> Result<(), AllocError>
         ensures revision { self.new.revision ≡ self.old.revision }
         ensures components { self.new.components ≡ self.old.components }
         ensures attending { self.new.attending ≡ self.old.attending }
@@ -131,7 +131,7 @@ impl StoredMeeting {
     }
 
     /// Takes what a component answers. An answer to an older store says nothing of the last. There is room for one more.
-    fn hear(&mut self, component: &ObjectComponent)
+    fn hear(&mut self, component: &MessageComponent)
         requires { 0 < spare self.old.answers }
         ensures revision { self.new.revision ≡ self.old.revision }
         ensures components { self.new.components ≡ self.old.components }

@@ -6,11 +6,11 @@ ghost use Rattle.indexmap.specs.IndexMap.{get};
 ghost use Rattle.ical_lines.specs.Fault.{RefusesOnly, RefusesBy};
 ghost use Rattle.ical_values.specs.Octets.{address_octets, text_octets};
 ghost use Rattle.profile.specs.events.EventComponents.{Attendee, EventComponent};
-ghost use Rattle.profile.specs.organisers.Objects as profile;
+ghost use Rattle.profile.specs.events.Messages as profile;
 ghost use Rattle.profile.specs.organisers.Organisers.{OrganiserBook, empty_organiser, after_reply, without, IsSeen, IsShown, IsStore};
-ghost use Rattle.cal_events.specs.Component.{participation_of};
+ghost use Rattle.cal_events.specs.Component.{participation_of, method_said};
 ghost use Rattle.itip_order.specs.Parts.{slot_of};
-ghost use Rattle.itip_messages.specs.OrganiserObject.{operation_said, SaysObjectComponent, RepresentsObject};
+ghost use Rattle.itip_messages.specs.Message.{SaysComponent, RepresentsMessage};
 ghost use Rattle.organiser_books.specs.Representation.{Keeps, address_of, same_text};
 ghost use Rattle.organiser_books.specs.Attending.{is_told, lists_of, sent_among, AreAttending};
 ghost use Rattle.organiser_books.specs.Storing.{LastAttends, SendsObject, is_told_by};
@@ -26,7 +26,7 @@ use cal_events::PartStat;
 use ical_lines::{Fault, Refusal};
 use ical_values::{Address, Stamp, Text};
 use indexmap::IndexMap;
-use itip_messages::{MeetingText, Operation, OrganiserObject, write_meeting};
+use itip_messages::{MeetingText, Operation, Message, write_meeting};
 use itip_order::{Revision, Slot};
 use std::alloc::{AllocError, Global};
 
@@ -74,13 +74,13 @@ impl Organiser {
     /// the server no longer sends messages a CANCEL. What they answered to the last store counts no longer (RFC 6638 3.2.1, 3.2.8).
     /// Refused, and then nothing has changed: 60 for an object that isn't a store, 70 for one of another organiser, 72 where no greater
     /// SEQUENCE is left.
-    pub fn store(&mut self, object: OrganiserObject, now: Stamp) -> Result<Vec<Outgoing>, Fault>
+    pub fn store(&mut self, object: Message, now: Stamp) -> Result<Vec<Outgoing>, Fault>
         // From each book that it keeps it makes a step of the organiser machine.
-        ensures steps { IfOk result (λ sent. (said : profile.OrganiserObject) → RepresentsObject object said → (book : OrganiserBook) → Keeps self.old book
+        ensures steps { IfOk result (λ sent. (said : profile.OrganiserObject) → RepresentsMessage object said → (book : OrganiserBook) → Keeps self.old book
             → MayTake profile.Store (address_of self.old) said book
             × ((after : OrganiserBook) × IsStore now said book (map sent_of sent.items) after × Keeps self.new after)) }
         ensures refuses { IfErr result (RefusesOnly is_call_fault) }
-        ensures fault { IfErr result (RefusesBy (λ n. (said : profile.OrganiserObject) → RepresentsObject object said → (book : OrganiserBook) → Keeps self.old book
+        ensures fault { IfErr result (RefusesBy (λ n. (said : profile.OrganiserObject) → RepresentsMessage object said → (book : OrganiserBook) → Keeps self.old book
             → CallFault profile.Store (address_of self.old) said book n)) }
         ensures address { address_of self.new ≡ address_of self.old }
         ensures err { OnErr result ((book : OrganiserBook) → Keeps self.old book → Keeps self.new book) }
@@ -114,11 +114,11 @@ impl Organiser {
     /// Takes an attendee's REPLY (RFC 5546 3.2.3). One to an older store says nothing of the last.
     /// Refused, and then nothing has changed: 60 for an object that isn't a REPLY, 70 for one to another organiser, 71 for a meeting that isn't
     /// known or a SEQUENCE that wasn't sent yet, 73 for one who isn't an attendee of the last store.
-    pub fn take_reply(&mut self, object: &OrganiserObject) -> Result<(), Fault>
-        ensures steps { IfOk result (λ _. (said : profile.OrganiserObject) → RepresentsObject object.now said → (book : OrganiserBook) → Keeps self.old book
+    pub fn take_reply(&mut self, object: &Message) -> Result<(), Fault>
+        ensures steps { IfOk result (λ _. (said : profile.OrganiserObject) → RepresentsMessage object.now said → (book : OrganiserBook) → Keeps self.old book
             → MayTake profile.Reply (address_of self.old) said book × Keeps self.new (after_reply said book)) }
         ensures refuses { IfErr result (RefusesOnly is_call_fault) }
-        ensures fault { IfErr result (RefusesBy (λ n. (said : profile.OrganiserObject) → RepresentsObject object.now said → (book : OrganiserBook) → Keeps self.old book
+        ensures fault { IfErr result (RefusesBy (λ n. (said : profile.OrganiserObject) → RepresentsMessage object.now said → (book : OrganiserBook) → Keeps self.old book
             → CallFault profile.Reply (address_of self.old) said book n)) }
         ensures address { address_of self.new ≡ address_of self.old }
         ensures err { OnErr result ((book : OrganiserBook) → Keeps self.old book → Keeps self.new book) }
@@ -134,11 +134,11 @@ impl Organiser {
     /// Answers an attendee's REFRESH (RFC 5546 3.2.6): with the octets that were made of the last store, also where they were sent to nobody.
     /// Refused: 60 for an object that isn't a REFRESH, 70 for one to another organiser, 71 for a meeting that isn't known, 73 for one who isn't
     /// an attendee of the last store.
-    pub fn take_refresh(&self, object: &OrganiserObject) -> Result<Vec<u8>, Fault>
-        ensures steps { IfOk result (λ octets. (said : profile.OrganiserObject) → RepresentsObject object.now said → (book : OrganiserBook) → Keeps self.now book
+    pub fn take_refresh(&self, object: &Message) -> Result<Vec<u8>, Fault>
+        ensures steps { IfOk result (λ octets. (said : profile.OrganiserObject) → RepresentsMessage object.now said → (book : OrganiserBook) → Keeps self.now book
             → MayTake profile.Refresh (address_of self.now) said book × AnswersRefresh said book octets.items) }
         ensures refuses { IfErr result (RefusesOnly is_call_fault) }
-        ensures fault { IfErr result (RefusesBy (λ n. (said : profile.OrganiserObject) → RepresentsObject object.now said → (book : OrganiserBook) → Keeps self.now book
+        ensures fault { IfErr result (RefusesBy (λ n. (said : profile.OrganiserObject) → RepresentsMessage object.now said → (book : OrganiserBook) → Keeps self.now book
             → CallFault profile.Refresh (address_of self.now) said book n)) }
     {
         self.expect(object, Operation::Refresh)?;
@@ -186,12 +186,12 @@ impl Organiser {
     }
 
     /// Refused: 60 for an object that asks for something else, 70 for one of another organiser.
-    fn expect(&self, object: &OrganiserObject, operation: Operation) -> Result<(), Fault>
-        ensures kind { OnOk result (operation_said object.now.operation ≡ operation_said operation) }
+    fn expect(&self, object: &Message, operation: Operation) -> Result<(), Fault>
+        ensures kind { OnOk result (method_said object.now.operation ≡ method_said operation) }
         ensures own { OnOk result (address_octets object.now.organiser ≡ address_of self.now) }
         ensures refuses { IfErr result (RefusesOnly is_call_fault) }
-        ensures fault { IfErr result (RefusesBy (λ n. (said : profile.OrganiserObject) → RepresentsObject object.now said → (book : OrganiserBook)
-            → CallFault (operation_said operation) (address_of self.now) said book n)) }
+        ensures fault { IfErr result (RefusesBy (λ n. (said : profile.OrganiserObject) → RepresentsMessage object.now said → (book : OrganiserBook)
+            → CallFault (method_said operation) (address_of self.now) said book n)) }
     {
         if object.operation() != operation {
             return Err(Fault::Refused(Refusal::BAD_METHOD));
@@ -203,11 +203,11 @@ impl Organiser {
     }
 
     /// What is made of an object that is stored with this revision.
-    fn made(&self, object: &OrganiserObject, revision: &Revision) -> Result<Composed, AllocError>
+    fn made(&self, object: &Message, revision: &Revision) -> Result<Composed, AllocError>
         ensures attending { IfOk result (λ made. AreAttending (lists_of object.now.components.items) made.attending.entries) }
         ensures told { IfOk result (λ made. (before : List (List Attendee)) → LastAttends before (get same_text self.now.meetings object.now.uid)
             → (address : List ℕ) → is_told address made.attending.entries ≡ is_told_by (address_of self.now) before (lists_of object.now.components.items) address) }
-        ensures sends { IfOk result (λ made. (events : List EventComponent) (before : List (List Attendee)) → AllZip SaysObjectComponent events object.now.components.items
+        ensures sends { IfOk result (λ made. (events : List EventComponent) (before : List (List Attendee)) → AllZip SaysComponent events object.now.components.items
             → LastAttends before (get same_text self.now.meetings object.now.uid)
             → SendsObject (address_of self.now) object.now revision.now events before made.object.items (map sent_of made.sent.items)) }
     {

@@ -13,7 +13,7 @@ ghost use Rattle.organiser_books.specs.Storing.{calls_off, cancels_whole, sent_t
 
 use crate::outgoing::Outgoing;
 use ical_values::Address;
-use itip_messages::{Cancel, MeetingText, ObjectComponent, write_cancel, write_request};
+use itip_messages::{Cancel, MeetingText, MessageComponent, write_cancel, write_request};
 use itip_order::Slot;
 use std::alloc::{AllocError, Global};
 
@@ -100,13 +100,13 @@ fn take_out(
 }
 
 /// Whether the whole meeting is cancelled.
-fn calls_off(components: &[ObjectComponent]) -> bool
+fn calls_off(components: &[MessageComponent]) -> bool
     ensures { result ≡ calls_off components.now }
 {
     components.iter().any(|component| cancels_whole(component))
 }
 
-fn cancels_whole(component: &ObjectComponent) -> bool
+fn cancels_whole(component: &MessageComponent) -> bool
     ensures { result ≡ cancels_whole component.now }
 {
     matches!(component.slot(), Slot::Whole) && component.is_cancelled()

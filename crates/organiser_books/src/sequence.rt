@@ -6,12 +6,12 @@ ghost use Rattle.organiser_books.specs.Storing.{own_in, sequence_then};
 
 use crate::meeting::StoredMeeting;
 use ical_values::Sequence;
-use itip_messages::ObjectComponent;
+use itip_messages::MessageComponent;
 
 /// The components' own SEQUENCE at first, later greater than that of the last store (RFC 5546 2.1.4); None where none is left.
 pub(crate) fn sequence_after(
     last: Option<&StoredMeeting>,
-    components: &[ObjectComponent],
+    components: &[MessageComponent],
 ) -> Option<Sequence>
     ensures is { IfSome result (λ sequence. sequence ≡ sequence_then (option_copied last.entry) components.now) }
     ensures fits { IfSome result (λ sequence. sequence ≤ most_sequence) }
@@ -26,7 +26,7 @@ pub(crate) fn sequence_after(
 }
 
 /// The greatest SEQUENCE of these components, as a number.
-fn own_sequence(components: &[ObjectComponent]) -> u32
+fn own_sequence(components: &[MessageComponent]) -> u32
     ensures { result ≡ own_in components.now }
 {
     let mut greatest: u32 = 0;

@@ -1,8 +1,8 @@
 -- What the components of a message ask of a room.
 use Rattle.std.specs.Prelude.{◌≡◌, ℕ, List, [], Contains, ◌↔◌, Option, None, Some, if◌then◌else◌}
-use Rattle.itip_messages.specs.declared.room_message.RoomMessage.{RoomMessage}
-use Rattle.itip_messages.specs.declared.room_message.MessageComponent.{MessageComponent}
-use Rattle.itip_messages.specs.RoomMessage.{part_for}
+use Rattle.itip_messages.specs.declared.message.Message.{Message}
+use Rattle.itip_messages.specs.declared.message_component.MessageComponent.{MessageComponent}
+use Rattle.itip_messages.specs.Message.{part_for}
 use Rattle.itip_order.specs.Parts.{part_of}
 use Rattle.itip_order.specs.declared.part.Part.{Part}
 use Rattle.profile.specs.rooms.Messages as profile
@@ -41,7 +41,7 @@ pub record IsAsking (part : Part) (component : MessageComponent) (claim : Claim)
   pub series : IsSameSeries (if is_set (part_of part) then series_asked (part_of part) component else None) claim.series
 
 -- the claim that a component is for a room
-pub record IsClaimIn (room : List ℕ) (message : RoomMessage) (component : MessageComponent) (claim : Claim) : Type 0 where
+pub record IsClaimIn (room : List ℕ) (message : Message) (component : MessageComponent) (claim : Claim) : Type 0 where
   pub part_is : part_of claim.part ≡ part_for room message component
   pub singles : claim.singles.items ≡ (if is_set (part_for room message component) then component.singles.items else [])
   pub series : IsSameSeries (if is_set (part_for room message component) then series_asked (part_for room message component) component else None) claim.series

@@ -3,7 +3,7 @@
 ghost use Rattle.std.specs.Prelude.{◌≡◌, ◌<◌, ◌^◌, [], ◌∷◌, filter, true, IfOk, Option, if◌then◌else◌};
 ghost use Rattle.std.specs.List.{AllZip, list_any};
 ghost use Rattle.ical_values.specs.Octets.{address_octets};
-ghost use Rattle.itip_messages.specs.RoomMessage.{RepresentsMessage, has_part};
+ghost use Rattle.itip_messages.specs.Message.{RepresentsMessage, has_part};
 ghost use Rattle.itip_order.specs.Parts.{part_of};
 ghost use Rattle.room_books.specs.Claim.{is_of_whole};
 ghost use Rattle.profile.specs.rooms.Messages as profile;
@@ -13,14 +13,14 @@ ghost use Rattle.room_books.specs.Claims.{series_asked, AreClaimed, IsAsking, Is
 use crate::claim::{Claim, takes_place};
 use cal_events::Series;
 use ical_values::Address;
-use itip_messages::{MessageComponent, RoomMessage};
+use itip_messages::{MessageComponent, Message};
 use itip_order::{Part, Slot};
 use std::alloc::{AllocError, Global};
 
 /// The claims that a message has for a room, the whole meeting first and then its instances; none where it isn't addressed to it.
 pub fn claims_of(
     alloc: Global,
-    message: &RoomMessage,
+    message: &Message,
     room: &Address,
 ) -> Result<Vec<Claim>, AllocError>
     ensures { IfOk result (λ claims. (said : profile.Message) → RepresentsMessage message.now said → AreClaimed (address_octets room.now) said claims.items) }
@@ -36,7 +36,7 @@ pub fn claims_of(
 #[inline(never)]
 fn all_claims(
     alloc: Global,
-    message: &RoomMessage,
+    message: &Message,
     room: &Address,
 ) -> Result<Vec<Claim>, AllocError>
     ensures { IfOk result (λ claims. AllZip (IsClaimIn (address_octets room.now) message.now) (filter (has_part (address_octets room.now) message.now) message.now.components.items) claims.items) }
@@ -53,7 +53,7 @@ fn all_claims(
 /// The claim that a component is for a room.
 fn claim_in(
     alloc: Global,
-    message: &RoomMessage,
+    message: &Message,
     component: &MessageComponent,
     room: &Address,
 ) -> Result<Claim, AllocError>

@@ -33,7 +33,7 @@ pub struct Meeting {
 }
 
 impl Changes {
-    ghost use Rattle.room_books.specs.Taking.{answers_then};
+    ghost use Rattle.room_books.specs.Taking.{answers_then, IsMade};
 
     /// The answers of these slots, in order, go; and these come, in any order.
     pub fn of(alloc: Global, lost: Vec<Slot>, new: Vec<PartAnswer>) -> Result<Changes, AllocError>
@@ -49,7 +49,6 @@ impl Changes {
 
 impl Meeting {
     ghost use Rattle.itip_order.specs.Registers.{together};
-    ghost use Rattle.room_books.specs.Taking.{answers_then, IsMade};
 
     /// One of which nothing was taken before.
     pub fn new(held: Held, changes: Changes) -> Meeting

@@ -4,8 +4,7 @@ ghost use Rattle.std.specs.Prelude.{◌≡◌, ◌↔◌, ℕ, ℤ, List, length
 ghost use Rattle.profile.specs.checker.Instances.{Instance, IsClear};
 ghost use Rattle.profile.specs.events.Confirmed.{Confirmed, IsOneOf};
 ghost use Rattle.profile.specs.rooms.Messages.{Outcome};
-ghost use Rattle.profile.specs.rooms.Rooms.{PartAnswer, Book, Claim, Delivery, IsStep, Runs, empty_book, kind_of, IsWithinLimits};
-ghost use Rattle.profile.specs.rooms.Rooms.{Confirms, confirmed_series, confirmed_singles};
+ghost use Rattle.profile.specs.rooms.Rooms.{PartAnswer, Book, Claim, Delivery, IsStep, Runs, empty_book, kind_of, IsWithinLimits, Confirms, confirmed_series, confirmed_singles};
 ghost use Rattle.profile.specs.streams.Streams.{IsDelivered, IsReached, AllAnswers, Box, Hosted, Config, new_box};
 ghost use Rattle.profile.specs.rooms.Kept.{IsKeptCalendar, IsKeptCertificate};
 ghost use Rattle.profile.specs.checker.Calendars.{CertificateHolds, SpellsCalendar};

@@ -7,11 +7,11 @@ ghost use Rattle.std.specs.List.{IsDistinct};
 ghost use Rattle.std.specs.Map.{lookup};
 ghost use Rattle.indexmap.specs.IndexMap.{keys, insert_index, IsUnchanged};
 ghost use Rattle.ical_values.specs.Octets.{address_octets};
-ghost use Rattle.itip_order.specs.Parts.{part_of};
+ghost use Rattle.itip_order.specs.Parts.{part_of, slot_of};
 ghost use Rattle.itip_order.specs.Registers.{RepresentsHistory};
 ghost use Rattle.profile.specs.rooms.Revisions as revisions;
 ghost use Rattle.profile.specs.checker.Instances.{IsClear};
-ghost use Rattle.itip_messages.specs.RoomMessage.{RepresentsMessage};
+ghost use Rattle.itip_messages.specs.Message.{RepresentsMessage};
 ghost use Rattle.profile.specs.rooms.Messages as profile;
 ghost use Rattle.profile.specs.streams.Streams.{AreClaims, IsDelivered, IsReached};
 ghost use Rattle.profile.specs.Headline.{AcceptedWhereClear, DeclineNamesClash, KeptTextsPass};
@@ -20,19 +20,15 @@ ghost use Rattle.profile.specs.rooms.Rooms as rooms;
 ghost use Rattle.profile.specs.rooms.Rooms.{Book, empty_book};
 ghost use Rattle.profile.specs.rooms.Kept.{IsKeptCalendar, IsKeptCertificate, Refreshes, Replies};
 ghost use Rattle.room_books.specs.Gone.{AreSeparate, IsParted, Shifts};
-ghost use Rattle.room_books.specs.Meeting.{same_key, all_confirmed, all_singles, instance_list, confirmed_at, singles_by, others, AreAllApart, IsKeyOf};
-ghost use Rattle.room_books.specs.Meeting.{all_recurring, all_series, beside, in_room, other_recurring, recurring_at, series_at, series_by, AreFewer, AreRecurring, IsClearIn, MayJoin};
+ghost use Rattle.room_books.specs.Meeting.{same_key, all_confirmed, all_singles, instance_list, confirmed_at, singles_by, others, AreAllApart, IsKeyOf, all_recurring, all_series, beside, in_room, other_recurring, recurring_at, series_at, series_by, AreFewer, AreRecurring, IsClearIn, MayJoin};
 ghost use Rattle.room_books.specs.Recurring.{recurring_said, AreAllOf, AreClearBeside, AreNewClear};
 ghost use Rattle.cal_events.specs.declared.instance.Single.{Single};
 ghost use Rattle.room_books.specs.Texts.{KeepsReached, SpellsConfirmed};
 ghost use Rattle.room_books.specs.Timeline.{IsTimelineOf};
-ghost use Rattle.room_books.specs.Taking.{answers_by, answers_then, claims_said, held_after, kept_then, kind_view, octets_in, parts_said, refresh_octets};
-ghost use Rattle.room_books.specs.Taking.{reply_octets};
+ghost use Rattle.room_books.specs.Taking.{answers_by, answers_then, claims_said, held_after, kept_then, kind_view, octets_in, parts_said, refresh_octets, reply_octets, HasHistory, IsMade, IsDecision, IsWholeDecision, IsAnswered, IsKindOf, MayJoinAll};
 ghost use Rattle.room_books.specs.Slots.{AreAnswersBySlot};
 ghost use Rattle.std.specs.List.Sorted.{IsSortedByKey};
-ghost use Rattle.itip_order.specs.Parts.{slot_of};
 ghost use Rattle.profile.specs.rooms.Revisions.{slot_cmp};
-ghost use Rattle.room_books.specs.Taking.{HasHistory, IsMade, IsDecision, IsWholeDecision, IsAnswered, IsKindOf, MayJoinAll};
 ghost use Rattle.room_books.specs.Room.{HaveReached, Represents, StepsWith, AreFitting, IsMeetingAfter, IsOwn, Meets, IsPutIn, IsRenewed};
 
 use crate::answer::{Answer, Kind, LimitKind};
@@ -58,7 +54,7 @@ use clash_cert::Clash;
 use ical_lines::Fault;
 use ical_values::{Address, Stamp};
 use indexmap::IndexMap;
-use itip_messages::RoomMessage;
+use itip_messages::Message;
 use itip_order::{Held, Part, Slot, Together};
 use std::alloc::{AllocError, Global};
 
@@ -153,7 +149,7 @@ impl Room {
     /// Takes a message at a moment, and answers it: with a reply where one of its parts is to take place and is in the view; and with a
     /// refresh where an ADD brought something new of a meeting of which nothing of the whole was ever taken (RFC 5546 3.2.6).
     /// Where memory is refused nothing has changed.
-    pub fn take(&mut self, message: &RoomMessage, now: Stamp) -> Result<Answer, AllocError>
+    pub fn take(&mut self, message: &Message, now: Stamp) -> Result<Answer, AllocError>
         // From each book that the room represents, it is accepted exactly where something is asked and the room stays clear and within its limits.
         ensures accepted { IfOk result (λ answer. (said : profile.Message) → RepresentsMessage message.now said → (book : Book) → Represents self.old.meetings.entries book
             → (claims : List rooms.Claim) × AreClaims (address_octets self.old.address) said claims × AcceptedWhereClear book claims now (kind_view answer.kind)) }

@@ -7,8 +7,7 @@ ghost use Rattle.itip_order.specs.Parts.{slot_of};
 ghost use Rattle.room_books.specs.declared.meeting.PartAnswer.{PartAnswer};
 ghost use Rattle.room_books.specs.Taking.{answers_then, parts_said};
 ghost use Rattle.room_books.specs.Slots as touching;
-ghost use Rattle.room_books.specs.Slots.{AllTouch};
-ghost use Rattle.room_books.specs.Slots.{AreAnswersBySlot, givens, is_at, is_below, is_up_to, taken_at, IsSplitAt};
+ghost use Rattle.room_books.specs.Slots.{AllTouch, AreAnswersBySlot, givens, is_at, is_below, is_up_to, taken_at, IsSplitAt};
 
 use crate::claim::Claim;
 use crate::kept::Changes;

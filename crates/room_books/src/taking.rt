@@ -13,14 +13,12 @@ ghost use Rattle.room_books.specs.Slots as touching;
 ghost use Rattle.itip_order.specs.Registers.{RepresentsHistory};
 ghost use Rattle.room_books.specs.Meeting.{outcome_of, all_singles, all_series, series_by, singles_by, AreFewer};
 ghost use Rattle.std.specs.Option.{option_to_list};
-ghost use Rattle.room_books.specs.Slots.{AreAnswersBySlot, givens};
+ghost use Rattle.room_books.specs.Slots.{AreAnswersBySlot, givens, IsUntouched};
 ghost use Rattle.room_books.specs.Gone.{IsPartOf, IsParted, IsSplit, Sheds};
-ghost use Rattle.room_books.specs.Slots.{IsUntouched};
 ghost use Rattle.room_books.specs.declared.meeting.PartAnswer.{PartAnswer};
 ghost use Rattle.room_books.specs.Room.{KeepsAll, KeepsSome};
 ghost use Rattle.profile.specs.checker.Instances.{Instance};
-ghost use Rattle.room_books.specs.Taking.{LeavesAll, HasHistory, held_after, AreAsked, part_instance, left_in, KeepsWhatIsLeft, IsAccepted, IsDecided, IsKindOf};
-ghost use Rattle.room_books.specs.Taking.{IsLeftAlone, IsAnswerAfter, kept_then, kind_view, parts_said, series_still, singles_of_left};
+ghost use Rattle.room_books.specs.Taking.{LeavesAll, HasHistory, held_after, AreAsked, part_instance, left_in, KeepsWhatIsLeft, IsAccepted, IsDecided, IsKindOf, IsLeftAlone, IsAnswerAfter, kept_then, kind_view, parts_said, series_still, singles_of_left};
 
 use crate::answer::Kind;
 use crate::claim::Claim;

@@ -3,8 +3,7 @@
 ghost use Rattle.std.specs.Prelude.{◌≡◌, ◌<◌, ◌≤◌, ◌+◌, ◌↔◌, true, IsTrue, ◌++◌, [], List, OnOk, length, Contains};
 ghost use Rattle.std.specs.List.{find, take_while};
 ghost use Rattle.cal_events.specs.declared.instance.Single.{Single};
-ghost use Rattle.room_books.specs.Timeline.{AreBusy, HoldsInstants, IsPlaceAfter, AreTaken, IsSharedIn, IsFreeAmong, AreAt, IsChanged};
-ghost use Rattle.room_books.specs.Timeline.{ShiftsTimeline, IsTakenOut, IsPut, IsTimelineOf, is_leaving, stays, starts_before, busy_in, has_busy};
+ghost use Rattle.room_books.specs.Timeline.{AreBusy, HoldsInstants, IsPlaceAfter, AreTaken, IsSharedIn, IsFreeAmong, AreAt, IsChanged, ShiftsTimeline, IsTakenOut, IsPut, IsTimelineOf, is_leaving, stays, starts_before, busy_in, has_busy};
 ghost use Rattle.room_books.specs.Gone.{AreSeparate};
 ghost use Rattle.room_books.specs.Meeting.{Recurs};
 ghost use Rattle.std.specs.Vec.{vec_len, vec_capacity};

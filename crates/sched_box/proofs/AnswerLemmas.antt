@@ -4,8 +4,8 @@ use Rattle.std.specs.Option.{option_to_list}
 use Rattle.std.specs.List.{flat_map}
 use Rattle.std.proofs.lemmas.List.{append_assoc, append-nil, get_or-map, map-append, take-append-drop, take_more, take_more_set, drop_more, drop_all, drop-set-lt}
 use Rattle.ical_values.specs.Octets.{address_octets}
-use Rattle.itip_messages.specs.RoomMessage.{RepresentsMessage}
-use Rattle.itip_messages.specs.declared.room_message.RoomMessage.{RoomMessage}
+use Rattle.itip_messages.specs.Message.{RepresentsMessage}
+use Rattle.itip_messages.specs.declared.message.Message.{Message}
 use Rattle.profile.specs.rooms.Messages as profile
 use Rattle.profile.specs.rooms.Rooms as machine
 use Rattle.profile.specs.rooms.Rooms.{Book, Claim, IsStep}
@@ -25,7 +25,7 @@ sent_is None (Some y) = sym (append-nil y)
 sent_is (Some x) None = refl
 sent_is (Some x) (Some y) = ap (λ z. x ++ z) (sym (append-nil y))
 
-pub room_takes : (moment : ℤ) (message : RoomMessage) (old new : Room) (kind : machine.Kind) (reply refresh : Option (List ℕ))
+pub room_takes : (moment : ℤ) (message : Message) (old new : Room) (kind : machine.Kind) (reply refresh : Option (List ℕ))
     → ((said : profile.Message) → RepresentsMessage message said → (book : Book) → Represents old.meetings.entries book
     → (claims : List Claim) × AreClaims (address_octets old.address) said claims × StepsWith (address_octets old.address) new.meetings.entries book claims moment kind reply (profile.is_add said.method) refresh)
     → new.address ≡ old.address → RoomTakes moment message old new (sent_octets reply ++ sent_octets refresh)
@@ -53,7 +53,7 @@ room_takes moment message old new kind reply refresh steps same said represented
 
 -- ---- all rooms
 
-pub rooms_push : (moment : ℤ) (message : RoomMessage) (olds news : List Room) (old new : Room) (octets first : List ℕ) → RoomsTake moment message olds news octets
+pub rooms_push : (moment : ℤ) (message : Message) (olds news : List Room) (old new : Room) (octets first : List ℕ) → RoomsTake moment message olds news octets
     → new.address ≡ old.address → RoomTakes moment message old new first → RoomsTake moment message (olds ++ old ∷ []) (news ++ new ∷ []) (octets ++ first)
 rooms_push moment message [] [] old new octets first r same t = (first, [], ap (λ z. z ++ first) r ∙ sym (append-nil first), same, t, refl)
 rooms_push moment message [] (n ∷ ns) old new octets first r same t = absurd r
@@ -61,14 +61,14 @@ rooms_push moment message (o ∷ os) [] old new octets first r same t = absurd r
 rooms_push moment message (o ∷ os) (n ∷ ns) old new octets first (one, rest, is, here, takes, others) same t =
     (one, rest ++ first, ap (λ z. z ++ first) is ∙ append_assoc one rest first, here, takes, rooms_push moment message os ns old new rest first others same t)
 
-pub same_addresses : (moment : ℤ) (message : RoomMessage) (olds news : List Room) (octets : List ℕ) → RoomsTake moment message olds news octets → room_addresses news ≡ room_addresses olds
+pub same_addresses : (moment : ℤ) (message : Message) (olds news : List Room) (octets : List ℕ) → RoomsTake moment message olds news octets → room_addresses news ≡ room_addresses olds
 same_addresses moment message [] [] octets r = refl
 same_addresses moment message [] (n ∷ ns) octets r = absurd r
 same_addresses moment message (o ∷ os) [] octets r = absurd r
 same_addresses moment message (o ∷ os) (n ∷ ns) octets (one, rest, is, here, takes, others) =
     ap (λ a. address_octets a ∷ room_addresses ns) here ∙ ap (λ z. address_octets o.address ∷ z) (same_addresses moment message os ns rest others)
 
-pub all_take : (moment : ℤ) (message : RoomMessage) (said : profile.Message) → RepresentsMessage message said → (olds news : List Room) (octets : List ℕ) → RoomsTake moment message olds news octets
+pub all_take : (moment : ℤ) (message : Message) (said : profile.Message) → RepresentsMessage message said → (olds news : List Room) (octets : List ℕ) → RoomsTake moment message olds news octets
     → (before : List Hosted) → AreHosted olds before → (after : List Hosted) × AreHosted news after × AllTake moment said before after octets
 all_take moment message said represented [] [] octets r [] h = ([], tt, r)
 all_take moment message said represented [] [] octets r (b ∷ bs) h = absurd h
@@ -83,14 +83,14 @@ all_take moment message said represented (o ∷ os) (n ∷ ns) octets (one, rest
 -- ---- the loop over the rooms
 
 -- the first rooms have taken the message
-pub record TakenSofar (moment : ℤ) (message : RoomMessage) (olds news : List Room) (i : ℕ) (before after : List ℕ) : Type 0 where
+pub record TakenSofar (moment : ℤ) (message : Message) (olds news : List Room) (i : ℕ) (before after : List ℕ) : Type 0 where
   pub octets : List ℕ
   pub is : after ≡ before ++ octets
   pub takes : RoomsTake moment message (take i olds) (take i news) octets
   pub rest : drop i news ≡ drop i olds
   pub long : length news ≡ length olds
 
-pub taken_none : (moment : ℤ) (message : RoomMessage) (rooms : List Room) (octets : List ℕ) → TakenSofar moment message rooms rooms 0 octets octets
+pub taken_none : (moment : ℤ) (message : Message) (rooms : List Room) (octets : List ℕ) → TakenSofar moment message rooms rooms 0 octets octets
 taken_none moment message rooms octets = record { octets = []; is = sym (append-nil octets); takes = refl; rest = refl; long = refl }
 
 -- apart, as nothing else is needed for them
@@ -100,7 +100,7 @@ within_olds i m n l e = omega arith
 before_next : (i : ℕ) → i < i + 1
 before_next i = omega arith
 
-pub taken_more : (moment : ℤ) (message : RoomMessage) (olds news : List Room) (i : ℕ) (before mid after : List ℕ) (d new : Room) (first : List ℕ)
+pub taken_more : (moment : ℤ) (message : Message) (olds news : List Room) (i : ℕ) (before mid after : List ℕ) (d new : Room) (first : List ℕ)
     → TakenSofar moment message olds news i before mid → i < length news → new.address ≡ (get_or news i d).address
     → RoomTakes moment message (get_or news i d) new first → after ≡ mid ++ first → TakenSofar moment message olds (set news i new) (i + 1) before after
 taken_more moment message olds news i before mid after d new first so l same takes is =
@@ -121,7 +121,7 @@ taken_more moment message olds news i before mid after d new first so l same tak
       long = length-set news i new ∙ so.long;
     }
 
-pub taken_all : (moment : ℤ) (message : RoomMessage) (olds news : List Room) (i : ℕ) (before after : List ℕ) → TakenSofar moment message olds news i before after
+pub taken_all : (moment : ℤ) (message : Message) (olds news : List Room) (i : ℕ) (before after : List ℕ) → TakenSofar moment message olds news i before after
     → length news ≤ i → (more : List ℕ) × (after ≡ before ++ more) × RoomsTake moment message olds news more
 taken_all moment message olds news i before after so end =
     let long = so.long in
@@ -129,7 +129,7 @@ taken_all moment message olds news i before after so end =
     (so.octets, so.is, subst (λ a. P a news) (take_all i olds (omega arith)) (subst (P (take i olds)) (take_all i news end) so.takes))
 
 -- the rooms keep their addresses, whoever has taken it
-pub addresses_sofar : (moment : ℤ) (message : RoomMessage) (olds news : List Room) (i : ℕ) (before after : List ℕ) → TakenSofar moment message olds news i before after → room_addresses news ≡ room_addresses olds
+pub addresses_sofar : (moment : ℤ) (message : Message) (olds news : List Room) (i : ℕ) (before after : List ℕ) → TakenSofar moment message olds news i before after → room_addresses news ≡ room_addresses olds
 addresses_sofar moment message olds news i before after so =
     let f : Room → List ℕ = λ room. address_octets room.address in
     ap room_addresses (sym (take-append-drop i news)) ∙ map-append f (take i news) (drop i news)
@@ -138,14 +138,14 @@ addresses_sofar moment message olds news i before after so =
     ∙ sym (map-append f (take i olds) (drop i olds)) ∙ ap room_addresses (take-append-drop i olds)
 
 -- the room that comes next is as it was
-next_as_was : (moment : ℤ) (message : RoomMessage) (olds news : List Room) (i : ℕ) (before after : List ℕ) (d : Room) → TakenSofar moment message olds news i before after → i < length news → get_or news i d ≡ get_or olds i d
+next_as_was : (moment : ℤ) (message : Message) (olds news : List Room) (i : ℕ) (before after : List ℕ) (d : Room) → TakenSofar moment message olds news i before after → i < length news → get_or news i d ≡ get_or olds i d
 next_as_was moment message olds news i before after d so l =
     let l' : i < length olds = within_olds i (length olds) (length news) l so.long in
     let both : get_or news i d ∷ drop (i + 1) news ≡ get_or olds i d ∷ drop (i + 1) olds = sym (drop_more news i d l) ∙ so.rest ∙ drop_more olds i d l' in
     cc
 
 -- a room that the message isn't for is passed over
-pub taken_left : (moment : ℤ) (message : RoomMessage) (olds news : List Room) (i : ℕ) (before mid : List ℕ) (d : Room) → TakenSofar moment message olds news i before mid → i < length news
+pub taken_left : (moment : ℤ) (message : Message) (olds news : List Room) (i : ℕ) (before mid : List ℕ) (d : Room) → TakenSofar moment message olds news i before mid → i < length news
     → asks message (get_or (room_addresses olds) i []) ≡ false → TakenSofar moment message olds (set news i (get_or news i d)) (i + 1) before mid
 taken_left moment message olds news i before mid d so l none =
     let l' : i < length olds = within_olds i (length olds) (length news) l so.long in

@@ -11,12 +11,12 @@ use Rattle.std.proofs.lemmas.Slice.Eq.{bytes_eq-Decides}
 use Rattle.ical_values.specs.declared.address.Address.{Address}
 use Rattle.ical_values.specs.Octets.{address_octets}
 use Rattle.cal_events.specs.declared.component.Attendee.{Attendee}
-use Rattle.cal_events.specs.Component.{attendee_of}
-use Rattle.itip_messages.specs.RoomMessage.{is_component_for, component_names, cancels_for_all, method_said}
-use Rattle.itip_messages.specs.declared.room_message.RoomMessage.{RoomMessage}
-use Rattle.itip_messages.specs.declared.room_message.Method.{Method}
-use Rattle.itip_messages.specs.declared.room_message.Method.TheVariants.{Request, Add, Cancel}
-use Rattle.itip_messages.specs.declared.room_message.MessageComponent.{MessageComponent}
+use Rattle.cal_events.specs.Component.{attendee_of, method_said}
+use Rattle.itip_messages.specs.Message.{is_component_for, component_names, cancels_for_all}
+use Rattle.itip_messages.specs.declared.message.Message.{Message}
+use Rattle.cal_events.specs.declared.method.Method.{Method}
+use Rattle.cal_events.specs.declared.method.Method.TheVariants.{Request, Add, Cancel}
+use Rattle.itip_messages.specs.declared.message_component.MessageComponent.{MessageComponent}
 use Rattle.itip_messages.proofs.shared_lemmas.MessageLemmas.{addressed, no_events}
 use Rattle.profile.specs.rooms.Messages.{Accept, is_addressed, is_cancel}
 use Rattle.profile.specs.streams.Streams.{AreClaims}
@@ -147,11 +147,11 @@ names_said [] room = refl
 names_said (x ∷ xs) room = ap (λ b. bytes_eq (address_octets x.address) room || b) (names_said xs room)
 
 -- what the VEVENTs so far ask
-abbrev pub asks_sofar : RoomMessage → List MessageComponent → List ℕ → Bool
+abbrev pub asks_sofar : Message → List MessageComponent → List ℕ → Bool
 asks_sofar message components room = list_any (is_component_for room message) components
 
 -- the flags after this many VEVENTs
-pub record AsksSofar (message : RoomMessage) (addresses : List (List ℕ)) (i : ℕ) (flags : List Bool) : Type 0 where
+pub record AsksSofar (message : Message) (addresses : List (List ℕ)) (i : ℕ) (flags : List Bool) : Type 0 where
   pub long : length flags ≡ length addresses
   pub out : LeavesOut (asks_sofar message (take i message.components.items)) addresses flags
 
@@ -160,7 +160,7 @@ abbrev pub Marking : List (List ℕ) → List Attendee → List Bool → List Bo
 Marking addresses lines old new = (test : List ℕ → Bool) → LeavesOut test addresses old → LeavesOut (λ room. test room || names lines room) addresses new
 
 -- one more VEVENT, which isn't for all
-pub asks_more : (message : RoomMessage) (addresses : List (List ℕ)) (i : ℕ) (x : MessageComponent) (lines : List Attendee) (old new : List Bool)
+pub asks_more : (message : Message) (addresses : List (List ℕ)) (i : ℕ) (x : MessageComponent) (lines : List Attendee) (old new : List Bool)
     → i < length message.components.items → x ≡ get_or message.components.items i x → map attendee_of lines ≡ x.attendees → cancels_for_all message x ≡ false → length new ≡ length old
     → Marking addresses lines old new → AsksSofar message addresses i old → AsksSofar message addresses (i + 1) new
 asks_more message addresses i x lines old new within is are not_all same marks so = record { long = same ∙ so.long; out = more }
@@ -180,7 +180,7 @@ on_all (suc n) zero = refl
 on_all (suc n) (suc place) = on_all n place
 
 -- one more, which is for all: all flags are on
-pub asks_all : (message : RoomMessage) (addresses : List (List ℕ)) (i n : ℕ) (lines : List Attendee) (old new : List Bool) → old ≡ replicate n true → length new ≡ length addresses
+pub asks_all : (message : Message) (addresses : List (List ℕ)) (i n : ℕ) (lines : List Attendee) (old new : List Bool) → old ≡ replicate n true → length new ≡ length addresses
     → Marking addresses lines old new → AsksSofar message addresses (i + 1) new
 asks_all message addresses i n lines old new on long marks = record {
   long = long;
@@ -202,7 +202,7 @@ off_at (f ∷ fs) (suc place) within off = off_at fs place (omega arith) off
 -- ---- a room that the message isn't for
 
 -- it takes no parts, and answers nothing
-pub left_out : (moment : ℤ) (message : RoomMessage) (room : Room) → asks message (address_octets room.address) ≡ false → RoomTakes moment message room room []
+pub left_out : (moment : ℤ) (message : Message) (room : Room) → asks message (address_octets room.address) ≡ false → RoomTakes moment message room room []
 left_out moment message room none said represented before has =
     let a = address_octets room.address in
     let off : is_addressed a said ≡ false = sym (addressed a message said represented) ∙ none in (

@@ -5,8 +5,7 @@ use Rattle.ical_lines.specs.declared.fault.Fault.{Fault}
 use Rattle.ical_lines.specs.declared.fault.Fault.TheVariants.{Refused, Memory}
 use Rattle.itip_messages.specs.Message.{IsSpelled}
 use Rattle.itip_messages.specs.declared.message.Message.TheVariants as read
-use Rattle.itip_messages.specs.declared.organiser_object.OrganiserObject.{OrganiserObject}
-use Rattle.itip_messages.specs.declared.room_message.RoomMessage.{RoomMessage}
+use Rattle.itip_messages.specs.declared.message.Message.{Message}
 use Rattle.profile.specs.streams.Streams.{ObjectFault, ToRooms, ToOrganiser, refused_line}
 use Rattle.sched_box.specs.Answering.{AreHosted, RoomsTake}
 use Rattle.sched_box.specs.Books.{AnswersKept, KeepAll, RefusesKept, TakesKept}
@@ -17,7 +16,7 @@ use Rattle.sched_box.proofs.AnswerLemmas.{all_take}
 
 -- ---- what is taken
 
-pub rooms_taken : (moment : ℤ) (kept : List ℕ) (message : RoomMessage) (old new : Books) (octets : List ℕ)
+pub rooms_taken : (moment : ℤ) (kept : List ℕ) (message : Message) (old new : Books) (octets : List ℕ)
     → ((object : List ℕ) → kept ≡ kept_of object → IsSpelled object (read.ToRooms message)) → RoomsTake moment message old.rooms.rooms.items new.rooms.rooms.items octets
     → new.organisers ≡ old.organisers → TakesKept moment kept old new octets
 rooms_taken moment kept message old new octets spelled takes same object is before have =
@@ -28,7 +27,7 @@ rooms_taken moment kept message old new octets spelled takes same object is befo
       (ToRooms said, spells, (all, refl)),
     )
 
-pub organiser_taken : (moment : ℤ) (kept : List ℕ) (message : OrganiserObject) (old new : Books) (octets : List ℕ)
+pub organiser_taken : (moment : ℤ) (kept : List ℕ) (message : Message) (old new : Books) (octets : List ℕ)
     → ((object : List ℕ) → kept ≡ kept_of object → IsSpelled object (read.ToOrganiser message)) → OrganisersTake moment message old.organisers.organisers.items new.organisers.organisers.items octets
     → new.rooms ≡ old.rooms → TakesKept moment kept old new octets
 organiser_taken moment kept message old new octets spelled takes same object is before have =
@@ -47,7 +46,7 @@ unread kept books Memory h = tt
 unread kept books (Refused r) h = λ object is before have. inl (h object is)
 
 -- one that the organisers refuse
-pub unhosted : (kept : List ℕ) (message : OrganiserObject) (books : Books) (f : Fault) → ((object : List ℕ) → kept ≡ kept_of object → IsSpelled object (read.ToOrganiser message))
+pub unhosted : (kept : List ℕ) (message : Message) (books : Books) (f : Fault) → ((object : List ℕ) → kept ≡ kept_of object → IsSpelled object (read.ToOrganiser message))
     → RefusesBy (OrganisersRefuse message books.organisers.organisers.items) f → RefusesBy (RefusesKept kept books) f
 unhosted kept message books Memory spelled h = tt
 unhosted kept message books (Refused r) spelled h = λ object is before have.

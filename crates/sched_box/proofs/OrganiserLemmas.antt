@@ -12,53 +12,54 @@ use Rattle.ical_lines.specs.declared.fault.Fault.TheVariants.{Refused, Memory}
 use Rattle.ical_values.specs.Octets.{address_octets}
 use Rattle.ical_values.specs.Refused.{IfRefused}
 use Rattle.ical_values.specs.declared.address.Address.{Address}
-use Rattle.itip_messages.specs.OrganiserObject.{RepresentsObject, operation_said}
-use Rattle.itip_messages.specs.declared.organiser_object.OrganiserObject.{OrganiserObject}
+use Rattle.itip_messages.specs.Message.{RepresentsMessage}
+use Rattle.cal_events.specs.Component.{method_said}
+use Rattle.itip_messages.specs.declared.message.Message.{Message}
 use Rattle.organiser_books.specs.Calls.{AnswersRefresh, CallFault, MayTake, other_kind, other_organiser, in_state as call_in_state, sent_of}
 use Rattle.organiser_books.specs.Representation.{Keeps, address_of}
 use Rattle.organiser_books.specs.declared.organiser.Organiser.{Organiser}
 use Rattle.organiser_books.specs.declared.outgoing.Outgoing.{Outgoing}
-use Rattle.profile.specs.organisers.Objects as profile
-use Rattle.profile.specs.organisers.Objects.{Operation}
+use Rattle.profile.specs.events.Messages as profile
+use Rattle.profile.specs.events.EventComponents.{Method}
 use Rattle.profile.specs.organisers.Organisers.{OrganiserBook, Sent, IsStore, StateFault, after_reply, empty_organiser}
-use Rattle.profile.specs.streams.Streams.{HostedOrganiser, IsTaken, ServesOperation, TakesObject, not_hosted, in_state}
+use Rattle.profile.specs.streams.Streams.{HostedOrganiser, IsTaken, TakesObject, not_hosted, in_state, ServesMethod}
 use Rattle.sched_box.proofs.HostLemmas.{MadeSofar}
 use Rattle.sched_box.specs.Organising.{AreKeptBy, IsKeptBy, KeepBooks, KeepsBook, OrganiserRefuses, OrganiserTakes, OrganisersRefuse, OrganisersTake, organiser_addresses}
 
 -- ---- one organiser, by the call for what is asked
 
 -- what is taken by that call
-served : (operation : Operation) (moment : ℤ) (address : List ℕ) (said : profile.OrganiserObject) (book after : OrganiserBook) (octets : List ℕ) → said.operation ≡ operation
-    → MayTake operation address said book → ServesOperation operation moment said book after octets → TakesObject moment said book after octets
+served : (operation : Operation) (moment : ℤ) (address : List ℕ) (said : profile.OrganiserObject) (book after : OrganiserBook) (octets : List ℕ) → said.method ≡ operation
+    → MayTake operation address said book → ServesMethod operation moment said book after octets → TakesObject moment said book after octets
 served operation moment address said book after octets kind may serves = record {
   allowed = may.allowed;
-  serves = subst (λ o. ServesOperation o moment said book after octets) (sym kind) serves;
+  serves = subst (λ o. ServesMethod o moment said book after octets) (sym kind) serves;
 }
 
 -- what is refused by it
-call_fault : (operation : Operation) (address : List ℕ) (said : profile.OrganiserObject) (book : OrganiserBook) (n : ℕ) → said.operation ≡ operation → said.organiser ≡ address
+call_fault : (operation : Operation) (address : List ℕ) (said : profile.OrganiserObject) (book : OrganiserBook) (n : ℕ) → said.method ≡ operation → said.organiser ≡ address
     → CallFault operation address said book n → StateFault said book n
 call_fault operation address said book n kind to (other_kind no') = absurd (no' kind)
 call_fault operation address said book n kind to (other_organiser same no') = absurd (no' to)
 call_fault operation address said book n kind to (call_in_state is own fault) = fault
 
-pub refused_by : (operation : Operation) (object : OrganiserObject) (organiser : Organiser) (f : Fault) → operation_said object.operation ≡ operation
-    → RefusesBy (λ n. (said : profile.OrganiserObject) → RepresentsObject object said → (book : OrganiserBook) → Keeps organiser book → CallFault operation (address_of organiser) said book n) f
+pub refused_by : (operation : Operation) (object : Message) (organiser : Organiser) (f : Fault) → method_said object.operation ≡ operation
+    → RefusesBy (λ n. (said : profile.OrganiserObject) → RepresentsMessage object said → (book : OrganiserBook) → Keeps organiser book → CallFault operation (address_of organiser) said book n) f
     → RefusesBy (OrganiserRefuses object organiser) f
 refused_by operation object organiser Memory kind h = tt
 refused_by operation object organiser (Refused r) kind h =
     λ said represented to book keeps. call_fault operation (address_of organiser) said book r.number (sym represented.operation ∙ kind) to (h said represented book keeps)
 
-pub store_takes : (moment : ℤ) (object : OrganiserObject) (old new : Organiser) (sent : List Outgoing) → operation_said object.operation ≡ profile.Store
-    → ((said : profile.OrganiserObject) → RepresentsObject object said → (book : OrganiserBook) → Keeps old book
+pub store_takes : (moment : ℤ) (object : Message) (old new : Organiser) (sent : List Outgoing) → method_said object.operation ≡ profile.Store
+    → ((said : profile.OrganiserObject) → RepresentsMessage object said → (book : OrganiserBook) → Keeps old book
     → MayTake profile.Store (address_of old) said book × ((after : OrganiserBook) × IsStore moment said book (map sent_of sent) after × Keeps new after))
     → OrganiserTakes moment object old new (flat_map (λ one. one.octets.items) sent)
 store_takes moment object old new sent kind steps said represented to book keeps =
     let (may, (after, store, has)) = steps said represented book keeps in
     (after, has, served profile.Store moment (address_of old) said book after _ (sym represented.operation ∙ kind) may (map sent_of sent, store, sym (flat_map-map (λ (one : Sent). one.octets) sent_of sent)))
 
-pub reply_takes : (moment : ℤ) (object : OrganiserObject) (old new : Organiser) → operation_said object.operation ≡ profile.Reply
-    → ((said : profile.OrganiserObject) → RepresentsObject object said → (book : OrganiserBook) → Keeps old book
+pub reply_takes : (moment : ℤ) (object : Message) (old new : Organiser) → method_said object.operation ≡ profile.Reply
+    → ((said : profile.OrganiserObject) → RepresentsMessage object said → (book : OrganiserBook) → Keeps old book
     → MayTake profile.Reply (address_of old) said book × Keeps new (after_reply said book))
     → OrganiserTakes moment object old new []
 reply_takes moment object old new kind steps said represented to book keeps =
@@ -66,8 +67,8 @@ reply_takes moment object old new kind steps said represented to book keeps =
     (after_reply said book, has, served profile.Reply moment (address_of old) said book (after_reply said book) [] (sym represented.operation ∙ kind) may (refl, refl))
 
 -- nothing is appended for it
-pub reply_answers : {A E : Type 0} (r : Result A E) (moment : ℤ) (object : OrganiserObject) (old new : Organiser) (answers : List ℕ) → operation_said object.operation ≡ profile.Reply
-    → IfOk r (λ _. (said : profile.OrganiserObject) → RepresentsObject object said → (book : OrganiserBook) → Keeps old book
+pub reply_answers : {A E : Type 0} (r : Result A E) (moment : ℤ) (object : Message) (old new : Organiser) (answers : List ℕ) → method_said object.operation ≡ profile.Reply
+    → IfOk r (λ _. (said : profile.OrganiserObject) → RepresentsMessage object said → (book : OrganiserBook) → Keeps old book
     → MayTake profile.Reply (address_of old) said book × Keeps new (after_reply said book))
     → OnOk r ((more : List ℕ) × (answers ≡ answers ++ more) × OrganiserTakes moment object old new more)
 reply_answers (Ok u) moment object old new answers kind steps = ([], sym (append-nil answers), reply_takes moment object old new kind steps)
@@ -79,8 +80,8 @@ reply_keeps (Ok u) old new answers keeps = tt
 reply_keeps (Err Memory) old new answers keeps = tt
 reply_keeps (Err (Refused x)) old new answers keeps = (keeps, refl)
 
-pub refresh_takes : (moment : ℤ) (object : OrganiserObject) (organiser : Organiser) (octets : List ℕ) → operation_said object.operation ≡ profile.Refresh
-    → ((said : profile.OrganiserObject) → RepresentsObject object said → (book : OrganiserBook) → Keeps organiser book
+pub refresh_takes : (moment : ℤ) (object : Message) (organiser : Organiser) (octets : List ℕ) → method_said object.operation ≡ profile.Refresh
+    → ((said : profile.OrganiserObject) → RepresentsMessage object said → (book : OrganiserBook) → Keeps organiser book
     → MayTake profile.Refresh (address_of organiser) said book × AnswersRefresh said book octets)
     → OrganiserTakes moment object organiser organiser octets
 refresh_takes moment object organiser octets kind steps said represented to book keeps =
@@ -130,14 +131,14 @@ take_in moment said (o ∷ os) (suc place) d new octets within to same takes (b 
     )
 
 -- the object names the organiser in this place
-abbrev pub IsNamed : OrganiserObject → List Organiser → ℕ → Type 0
+abbrev pub IsNamed : Message → List Organiser → ℕ → Type 0
 IsNamed object olds place = get_or (organiser_addresses olds) place [] ≡ address_octets object.organiser
 
-named : (object : OrganiserObject) (said : profile.OrganiserObject) (olds : List Organiser) (place : ℕ) (d : Organiser) → place < length olds → IsNamed object olds place → RepresentsObject object said
+named : (object : Message) (said : profile.OrganiserObject) (olds : List Organiser) (place : ℕ) (d : Organiser) → place < length olds → IsNamed object olds place → RepresentsMessage object said
     → said.organiser ≡ address_of (get_or olds place d)
 named object said olds place d within is represented = sym (named_at olds place d said.organiser within (is ∙ represented.organiser))
 
-pub taken_at : (moment : ℤ) (object : OrganiserObject) (olds : List Organiser) (place : ℕ) (d new : Organiser) (octets : List ℕ) → place < length olds → IsNamed object olds place
+pub taken_at : (moment : ℤ) (object : Message) (olds : List Organiser) (place : ℕ) (d new : Organiser) (octets : List ℕ) → place < length olds → IsNamed object olds place
     → address_of new ≡ address_of (get_or olds place d) → OrganiserTakes moment object (get_or olds place d) new octets → OrganisersTake moment object olds (set olds place new) octets
 taken_at moment object olds place d new octets within is same takes said represented before have =
     let to = named object said olds place d within is represented in
@@ -153,7 +154,7 @@ fault_in said n (o ∷ os) (suc place) d within to fault (b ∷ bs) have =
     let (host, (k, l, is), address, represented) = fault_in said n os place d (omega arith) to fault bs have.1 in
     (host, (suc k, omega arith, is), address, represented)
 
-pub refused_at : (object : OrganiserObject) (olds : List Organiser) (place : ℕ) (d : Organiser) (f : Fault) → place < length olds → IsNamed object olds place
+pub refused_at : (object : Message) (olds : List Organiser) (place : ℕ) (d : Organiser) (f : Fault) → place < length olds → IsNamed object olds place
     → RefusesBy (OrganiserRefuses object (get_or olds place d)) f → RefusesBy (OrganisersRefuse object olds) f
 refused_at object olds place d Memory within is h = tt
 refused_at object olds place d (Refused r) within is h = λ said represented before have.
@@ -188,7 +189,7 @@ none_named said a (o ∷ os) (b ∷ bs) to none have =
     let other : bytes_eq b.address said.organiser ≡ false = untrue _ (λ here. true≢false (sym ((bytes_eq-Decides a (address_of o)).1 (to ∙ sym ((bytes_eq-Decides b.address said.organiser).0 here) ∙ have.0.at)) ∙ both.0)) in
     ap (λ t. t || list_any (λ host. bytes_eq host.address said.organiser) bs) other ∙ none_named said a os bs to both.1 have.1
 
-pub refused_unhosted : (object : OrganiserObject) (olds : List Organiser) → list_any (bytes_eq (address_octets object.organiser)) (organiser_addresses olds) ≡ false → OrganisersRefuse object olds 70
+pub refused_unhosted : (object : Message) (olds : List Organiser) → list_any (bytes_eq (address_octets object.organiser)) (organiser_addresses olds) ≡ false → OrganisersRefuse object olds 70
 refused_unhosted object olds none said represented before have = not_hosted (none_named said (address_octets object.organiser) olds before represented.organiser none have)
 
 -- ---- empty organisers

@@ -1,8 +1,7 @@
 -- The settings so far, against the settings of the whole text.
-use Rattle.std.proofs.Common.{◌≡◌, ◌≢◌, ℕ, zero, suc, ◌<◌, ◌≤◌, Bool, true, false, List, [], ◌∷◌, ◌++◌, length, get_or, map, refl, sym, ap, subst, ◌∙◌, arith, codes, inl, inr, ◌⊎◌, ℤ, ◌+◌, Option, Some, None, Result, Ok, Err, OnOk, OnErr, IfErr, Contains, AllPairs, length-append}
-use Rattle.std.proofs.Common.{◌==◌, true≢false}
+use Rattle.std.proofs.Common.{◌≡◌, ◌≢◌, ℕ, zero, suc, ◌<◌, ◌≤◌, Bool, true, false, List, [], ◌∷◌, ◌++◌, length, get_or, map, refl, sym, ap, subst, ◌∙◌, arith, codes, inl, inr, ◌⊎◌, ℤ, ◌+◌, Option, Some, None, Result, Ok, Err, OnOk, OnErr, IfErr, Contains, AllPairs, length-append, ◌==◌, true≢false}
 use Rattle.std.specs.Option.{option_to_list}
-use Rattle.std.proofs.lemmas.List.{append_assoc, append-nil, get_or_append_left}
+use Rattle.std.proofs.lemmas.List.{append_assoc, append-nil, get_or_append_left, length-map}
 use Rattle.std.proofs.Math.Seq.{get_or-append_seam}
 use Rattle.std.proofs.lemmas.List.Quantifiers.{all_pairs_push}
 use Rattle.profile.specs.text.Values.{SpellsStamp, IsAddress, lower_case}
@@ -11,7 +10,6 @@ use Rattle.ical_values.specs.declared.address.Address.{Address}
 use Rattle.profile.specs.streams.Streams.{Setting, Now, Room, Organiser, IsSetting, SaysSettings, by_end, by_lf, by_crlf, last, with_lf, with_crlf, moments, rooms, organisers, most_rooms, most_organisers, Config, AreHosts, IsPreamble, IsConfiguration}
 use Rattle.std.specs.Str.{IsUtf8}
 use Rattle.std.proofs.lemmas.Str.{IsUtf8-from_is_utf8, is_utf8-from_IsUtf8}
-use Rattle.std.proofs.lemmas.List.{length-map}
 use Rattle.ical_lines.specs.declared.fault.Fault.{Fault}
 use Rattle.ical_lines.specs.declared.fault.Fault.TheVariants.{Refused, Memory}
 use Rattle.ical_values.specs.Refused.{IfRefused}

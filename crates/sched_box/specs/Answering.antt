@@ -2,8 +2,8 @@
 use Rattle.std.specs.Prelude.{◌≡◌, ℕ, ℤ, List, [], ◌∷◌, ◌++◌, map, Option, Some, None}
 use Rattle.std.specs.List.{AllZip}
 use Rattle.ical_values.specs.Octets.{address_octets}
-use Rattle.itip_messages.specs.RoomMessage.{RepresentsMessage}
-use Rattle.itip_messages.specs.declared.room_message.RoomMessage.{RoomMessage}
+use Rattle.itip_messages.specs.Message.{RepresentsMessage}
+use Rattle.itip_messages.specs.declared.message.Message.{Message}
 use Rattle.profile.specs.rooms.Messages as profile
 use Rattle.profile.specs.streams.Streams.{Hosted, Takes}
 use Rattle.room_books.specs.Room.{Represents}
@@ -23,13 +23,13 @@ abbrev pub AreHosted : List Room → List Hosted → Type 0
 AreHosted rooms box = AllZip IsHosted rooms box
 
 -- a room takes the message and answers these octets, from whatever it represents
-abbrev pub RoomTakes : ℤ → RoomMessage → Room → Room → List ℕ → Type 0
+abbrev pub RoomTakes : ℤ → Message → Room → Room → List ℕ → Type 0
 RoomTakes moment message old new octets =
     (said : profile.Message) → RepresentsMessage message said → (before : Hosted) → IsHosted old before
     → (after : Hosted) × IsHosted new after × Takes moment said before after octets
 
 -- each room takes it in turn; their answers follow one another
-abbrev pub RoomsTake : ℤ → RoomMessage → List Room → List Room → List ℕ → Type 0
+abbrev pub RoomsTake : ℤ → Message → List Room → List Room → List ℕ → Type 0
 RoomsTake moment message [] [] octets = octets ≡ []
 RoomsTake moment message (old ∷ olds) (new ∷ news) octets =
     (first : List ℕ) × (rest : List ℕ) × (octets ≡ first ++ rest) × (new.address ≡ old.address)

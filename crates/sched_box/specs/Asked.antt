@@ -4,8 +4,8 @@ use Rattle.std.specs.List.{list_any}
 use Rattle.std.specs.Str.{bytes_eq}
 use Rattle.cal_events.specs.declared.component.Attendee.{Attendee}
 use Rattle.ical_values.specs.Octets.{address_octets}
-use Rattle.itip_messages.specs.RoomMessage.{is_component_for}
-use Rattle.itip_messages.specs.declared.room_message.RoomMessage.{RoomMessage}
+use Rattle.itip_messages.specs.Message.{is_component_for}
+use Rattle.itip_messages.specs.declared.message.Message.{Message}
 use Rattle.sched_box.specs.declared.directory.Directory.{Directory}
 
 -- the addresses of the hosts, in their order
@@ -21,5 +21,5 @@ abbrev pub names : List Attendee → List ℕ → Bool
 names attendees room = list_any (λ attendee. bytes_eq (address_octets attendee.address) room) attendees
 
 -- the message is for the room
-abbrev pub asks : RoomMessage → List ℕ → Bool
+abbrev pub asks : Message → List ℕ → Bool
 asks message room = list_any (is_component_for room message) message.components.items

@@ -1,6 +1,7 @@
 -- What a box answers to one object.
 use Rattle.std.specs.Prelude.{◌≡◌, ℕ, ℤ, List}
-use Rattle.profile.specs.streams.Streams.{Box, Said, Spells, Steps, Answers, IsRefusedWith}
+use Rattle.profile.specs.streams.Streams.{Box, Steps, Answers, IsRefusedWith}
+use Rattle.profile.specs.events.Messages.{Message, SpellsMessage}
 use Rattle.sched_box.specs.Answering.{AreHosted, room_addresses}
 use Rattle.sched_box.specs.Objects.{kept_of}
 use Rattle.sched_box.specs.Organising.{AreKeptBy}

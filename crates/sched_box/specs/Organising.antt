@@ -1,11 +1,11 @@
 -- What the organisers of a box answer to what comes to them.
 use Rattle.std.specs.Prelude.{◌≡◌, ℕ, ℤ, List, map}
 use Rattle.std.specs.List.{AllZip}
-use Rattle.itip_messages.specs.OrganiserObject.{RepresentsObject}
-use Rattle.itip_messages.specs.declared.organiser_object.OrganiserObject.{OrganiserObject}
+use Rattle.itip_messages.specs.Message.{RepresentsMessage}
+use Rattle.itip_messages.specs.declared.message.Message.{Message}
 use Rattle.organiser_books.specs.Representation.{Keeps, address_of}
 use Rattle.organiser_books.specs.declared.organiser.Organiser.{Organiser}
-use Rattle.profile.specs.organisers.Objects as profile
+use Rattle.profile.specs.events.Messages as profile
 use Rattle.profile.specs.organisers.Organisers.{OrganiserBook, StateFault}
 use Rattle.profile.specs.streams.Streams.{HostedOrganiser, HostFault, IsTaken, TakesObject}
 
@@ -25,15 +25,15 @@ AreKeptBy organisers hosted = AllZip IsKeptBy organisers hosted
 -- ---- one organiser, to whom the object is
 
 -- it takes the object and answers these octets, from whatever it keeps
-abbrev pub OrganiserTakes : ℤ → OrganiserObject → Organiser → Organiser → List ℕ → Type 0
+abbrev pub OrganiserTakes : ℤ → Message → Organiser → Organiser → List ℕ → Type 0
 OrganiserTakes moment object old new octets =
-    (said : profile.OrganiserObject) → RepresentsObject object said → said.organiser ≡ address_of old → (book : OrganiserBook) → Keeps old book
+    (said : profile.OrganiserObject) → RepresentsMessage object said → said.organiser ≡ address_of old → (book : OrganiserBook) → Keeps old book
     → (after : OrganiserBook) × Keeps new after × TakesObject moment said book after octets
 
 -- it refuses the object with this number
-abbrev pub OrganiserRefuses : OrganiserObject → Organiser → ℕ → Type 0
+abbrev pub OrganiserRefuses : Message → Organiser → ℕ → Type 0
 OrganiserRefuses object organiser n =
-    (said : profile.OrganiserObject) → RepresentsObject object said → said.organiser ≡ address_of organiser → (book : OrganiserBook)
+    (said : profile.OrganiserObject) → RepresentsMessage object said → said.organiser ≡ address_of organiser → (book : OrganiserBook)
     → Keeps organiser book → StateFault said book n
 
 -- what the first keeps, the second does
@@ -43,15 +43,15 @@ KeepsBook old new = (book : OrganiserBook) → Keeps old book → Keeps new book
 -- ---- all of them
 
 -- the one that the object names takes it
-abbrev pub OrganisersTake : ℤ → OrganiserObject → List Organiser → List Organiser → List ℕ → Type 0
+abbrev pub OrganisersTake : ℤ → Message → List Organiser → List Organiser → List ℕ → Type 0
 OrganisersTake moment object olds news octets =
-    (said : profile.OrganiserObject) → RepresentsObject object said → (before : List HostedOrganiser) → AreKeptBy olds before
+    (said : profile.OrganiserObject) → RepresentsMessage object said → (before : List HostedOrganiser) → AreKeptBy olds before
     → (after : List HostedOrganiser) × AreKeptBy news after × IsTaken moment said before after octets
 
 -- it isn't among them, or refuses the object with this number
-abbrev pub OrganisersRefuse : OrganiserObject → List Organiser → ℕ → Type 0
+abbrev pub OrganisersRefuse : Message → List Organiser → ℕ → Type 0
 OrganisersRefuse object organisers n =
-    (said : profile.OrganiserObject) → RepresentsObject object said → (before : List HostedOrganiser) → AreKeptBy organisers before
+    (said : profile.OrganiserObject) → RepresentsMessage object said → (before : List HostedOrganiser) → AreKeptBy organisers before
     → HostFault said before n
 
 abbrev pub KeepBooks : List Organiser → List Organiser → Type 0

@@ -7,7 +7,7 @@ ghost use Rattle.ical_values.specs.Octets.{address_octets};
 use cal_events::Attendee;
 use ical_values::Address;
 use indexmap::IndexSet;
-use itip_messages::{Method, RoomMessage};
+use itip_messages::{Method, Message};
 use std::alloc::{AllocError, Global};
 
 /// The addresses of the hosts of one kind, rooms or organisers, in their order.
@@ -50,7 +50,7 @@ impl Directory {
     pub(crate) fn asked_by(
         &self,
         alloc: Global,
-        message: &RoomMessage,
+        message: &Message,
     ) -> Result<Vec<bool>, AllocError>
         ensures long { IfOk result (λ asked. length asked.items ≡ length (directory_addresses self.now)) }
         ensures out { IfOk result (λ asked. LeavesOut (asks message.now) (directory_addresses self.now) asked.items) }

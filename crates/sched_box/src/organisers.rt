@@ -16,7 +16,7 @@ use crate::config::Config;
 use crate::directory::Directory;
 use ical_lines::{Fault, Refusal};
 use ical_values::{Address, Stamp};
-use itip_messages::{Operation, OrganiserObject};
+use itip_messages::{Operation, Message};
 use organiser_books::{Organiser, Outgoing};
 use std::alloc::{AllocError, Global};
 
@@ -45,7 +45,7 @@ impl Organisers {
     /// Refused, and then nothing has changed: 70 where the box doesn't host it, and as by the organiser.
     pub(crate) fn take(
         &mut self,
-        object: OrganiserObject,
+        object: Message,
         now: Stamp,
         answers: &mut Vec<u8>,
     ) -> Result<(), Fault>
@@ -88,7 +88,7 @@ fn organiser_of(alloc: Global, address: &Address) -> Result<Organiser, AllocErro
 fn take_at(
     organisers: &mut Vec<Organiser>,
     place: usize,
-    object: OrganiserObject,
+    object: Message,
     now: Stamp,
     answers: &mut Vec<u8>,
 ) -> Result<(), Fault>
@@ -107,7 +107,7 @@ fn take_at(
 /// Hands an object to an organiser, and appends what it sends or answers.
 fn take_object(
     organiser: &mut Organiser,
-    object: OrganiserObject,
+    object: Message,
     now: Stamp,
     answers: &mut Vec<u8>,
 ) -> Result<(), Fault>

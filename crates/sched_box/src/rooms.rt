@@ -13,7 +13,7 @@ ghost use Rattle.sched_box.specs.Config.{config_hosts, config_rooms};
 use crate::config::Config;
 use crate::directory::Directory;
 use ical_values::{Address, Stamp};
-use itip_messages::RoomMessage;
+use itip_messages::Message;
 use room_books::Room;
 use std::alloc::{AllocError, Global};
 
@@ -49,7 +49,7 @@ impl Rooms {
     pub(crate) fn take(
         &mut self,
         alloc: Global,
-        message: &RoomMessage,
+        message: &Message,
         now: Stamp,
         answers: &mut Vec<u8>,
     ) -> Result<(), AllocError>
@@ -109,7 +109,7 @@ fn is_at(room: &Room, address: &Address) -> bool
 fn take_all(
     rooms: &mut Vec<Room>,
     asked: &[bool],
-    message: &RoomMessage,
+    message: &Message,
     now: Stamp,
     answers: &mut Vec<u8>,
 ) -> Result<(), AllocError>
@@ -130,7 +130,7 @@ fn take_all(
 /// Hands a message to a room, and appends its reply and then its refresh.
 fn take_one(
     room: &mut Room,
-    message: &RoomMessage,
+    message: &Message,
     now: Stamp,
     answers: &mut Vec<u8>,
 ) -> Result<(), AllocError>

@@ -1,7 +1,6 @@
 -- What a content line has to do with a fault, by the number of its refusal.
-use Rattle.std.specs.Prelude.{◌≡◌, ◌≢◌, ◌⊎◌, ◌==◌, ◌||◌, ℕ, ℤ, Bool, true, false, IsTrue, List, codes, is_some, MatchOption, if◌then◌else◌}
+use Rattle.std.specs.Prelude.{◌≡◌, ◌≢◌, ◌⊎◌, ◌==◌, ◌||◌, ℕ, ℤ, Bool, true, false, IsTrue, List, codes, is_some, MatchOption, if◌then◌else◌, Contains}
 use Rattle.std.specs.List.{slice_split}
-use Rattle.std.specs.Prelude.{Contains}
 use Rattle.profile.specs.events.Properties.{time_kind, DateTime, IsLocalText}
 use Rattle.profile.specs.events.ZonedTimes.{ZonedTextFault}
 use Rattle.profile.specs.faults.Faults.{is_uid_fault, is_address_fault}

@@ -2,12 +2,10 @@
 use Rattle.std.specs.Prelude.{◌≡◌, ◌⊎◌, ℕ, true, List, [], ◌∷◌, ◌++◌, codes, decimal, Option}
 use Rattle.std.specs.Io.{StartsWith}
 use Rattle.std.specs.Io.KnownBytes.{Appends}
-use Rattle.profile.specs.events.EventComponents.{Method, Request, Add, Cancel}
-use Rattle.profile.specs.organisers.Objects.{Operation, Store, Reply, Refresh, OrganiserObject, SpellsOrganiserObject}
-use Rattle.profile.specs.rooms.Messages.{Message, SpellsMessage, MessageTextFault}
+use Rattle.profile.specs.events.EventComponents.{Method, Request, Add, Cancel, Store, Reply, Refresh}
+use Rattle.profile.specs.events.Messages.{Message, SpellsMessage, MessageTextFault}
 use Rattle.ical_tree.specs.Reading.{ObjectHas}
-use Rattle.itip_messages.specs.RoomMessage.{method_said}
-use Rattle.itip_messages.specs.OrganiserObject.{operation_said}
+use Rattle.cal_events.specs.Component.{method_said}
 use Rattle.itip_messages.specs.declared.message.Message as itip
 use Rattle.itip_messages.specs.declared.message.Message.TheVariants.{ToRooms, ToOrganiser}
 use Rattle.sched_cli.specs.Explained.{meaning_of}
@@ -30,13 +28,13 @@ operation_line Refresh = codes "not refused: a REFRESH\n"
 -- that of what was read
 abbrev pub message_line : itip.Message → List ℕ
 message_line (ToRooms message) = method_line (method_said message.method)
-message_line (ToOrganiser object) = operation_line (operation_said object.operation)
+message_line (ToOrganiser object) = operation_line (method_said object.operation)
 
 -- the octets spell a message to rooms, or an object for an organiser, and this is its line
 abbrev pub IsTakenLine : List ℕ → List ℕ → Type 0
 IsTakenLine octets line =
     ((message : Message) × SpellsMessage octets message × (line ≡ method_line message.method))
-    ⊎ ((object : OrganiserObject) × SpellsOrganiserObject octets object × (line ≡ operation_line object.operation))
+    ⊎ ((object : Message) × SpellsMessage octets object × (line ≡ operation_line object.operation))
 
 -- that line was written
 abbrev pub SaysTaken : List ℕ → Option (List ℕ) → Option (List ℕ) → Type 0

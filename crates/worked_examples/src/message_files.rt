@@ -4,7 +4,7 @@ use crate::parts::{body_text, slot_text};
 use example_cases::NoAnswer;
 use example_cases::answers::{append, yes_or_no};
 use ical_values::Address;
-use itip_messages::{Message, Method, Operation, OrganiserObject, RoomMessage, component_lines};
+use itip_messages::{Message, Method, Operation, Message, Message, component_lines};
 use itip_order::{Part, Slot};
 use std::alloc::Global;
 
@@ -19,7 +19,7 @@ pub fn message(alloc: Global, octets: &[u8]) -> Result<String, NoAnswer> {
 
 /// What is asked, the organiser and the UID, and of each component, in the order of the text, its slot, SEQUENCE and SUMMARY and how many
 /// ATTENDEE lines it has.
-fn organiser_object(alloc: Global, object: &OrganiserObject) -> Result<String, NoAnswer> {
+fn organiser_object(alloc: Global, object: &Message) -> Result<String, NoAnswer> {
     let operation = match object.operation() {
         Operation::Store => "store",
         Operation::Reply => "reply",
@@ -40,14 +40,14 @@ fn organiser_object(alloc: Global, object: &OrganiserObject) -> Result<String, N
 }
 
 /// What octets say to rooms; no answer where they say something to an organiser.
-fn to_rooms(alloc: Global, octets: &[u8]) -> Result<RoomMessage, NoAnswer> {
+fn to_rooms(alloc: Global, octets: &[u8]) -> Result<Message, NoAnswer> {
     match Message::read(alloc, octets)? {
         Message::ToRooms(message) => Ok(message),
         Message::ToOrganiser(_) => Err(NoAnswer::Unreadable),
     }
 }
 
-fn room_message(alloc: Global, message: &RoomMessage) -> Result<String, NoAnswer> {
+fn room_message(alloc: Global, message: &Message) -> Result<String, NoAnswer> {
     let method = match message.method() {
         Method::Request => "request",
         Method::Add => "add",

@@ -14,7 +14,7 @@ use example_cases::words::{count, first_word};
 use example_cases::{Case, NoAnswer};
 use ical_lines::{Fault, cut};
 use ical_values::{Address, Stamp, Text};
-use itip_messages::{Message, Operation, OrganiserObject};
+use itip_messages::{Message, Operation, Message};
 use itip_order::Slot;
 use organiser_books::{Organiser, Outgoing};
 use sched_box::serve_stream;
@@ -101,7 +101,7 @@ fn take(alloc: Global, organiser: &mut Organiser, octets: &[u8]) -> Result<(), F
     }
 }
 
-fn sent(organiser: &mut Organiser, object: OrganiserObject) -> Result<Vec<Outgoing>, Fault> {
+fn sent(organiser: &mut Organiser, object: Message) -> Result<Vec<Outgoing>, Fault> {
     let now = Stamp::read(NOW)?;
     organiser.store(object, now)
 }

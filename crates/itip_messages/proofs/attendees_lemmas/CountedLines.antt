@@ -14,7 +14,7 @@ use Rattle.cal_events.specs.declared.component.Attendee.{Attendee as Line}
 use Rattle.cal_events.specs.Component.{attendee_of}
 use Rattle.profile.specs.events.EventComponents.{Attendee}
 use Rattle.itip_messages.specs.Attendees.{line_said}
-use Rattle.profile.specs.organisers.Objects.{counted}
+use Rattle.profile.specs.events.Messages.{counted}
 use Rattle.itip_messages.proofs.zones_lemmas.ZoneSets.{either_way}
 
 -- one of the lines has this address

@@ -2,7 +2,8 @@
 use Rattle.std.proofs.Common.{◌≡◌, ℕ, pos, true, false, List, [], ◌∷◌, Some, None, refl, codes}
 use Rattle.profile.specs.events.EventComponents.{EventComponent, NeedsAction}
 use Rattle.profile.specs.events.Events.{is_same_meeting}
-use Rattle.profile.specs.rooms.Messages.{word, object_lines, is_method, names_room}
+use Rattle.profile.specs.rooms.Messages.{word, object_lines, names_room}
+use Rattle.profile.specs.events.Messages.{is_method}
 
 -- ---- words of a status
 

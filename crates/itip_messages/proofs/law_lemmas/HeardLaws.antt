@@ -11,16 +11,15 @@ use Rattle.std.proofs.lemmas.List.{length-map, same_from_push}
 use Rattle.std.proofs.lemmas.List.Filters.{length-filter_both}
 use Rattle.std.proofs.lemmas.List.Kept.{AllPairs-filter}
 use Rattle.std.proofs.lemmas.List.Sums.{length-filter}
-use Rattle.profile.specs.text.Lines.{is_too_long, written}
+use Rattle.profile.specs.text.Lines.{is_too_long, written, is_same_name}
 use Rattle.profile.specs.text.Objects.{most_events}
 use Rattle.profile.specs.text.Trees.{tree_inside, tree_name, tree_own, vevents}
-use Rattle.profile.specs.text.Lines.{is_same_name}
-use Rattle.profile.specs.events.EventComponents.{EventComponent, Method, Request, Add, Cancel, SaysEventComponent, meeting_said}
+use Rattle.profile.specs.events.EventComponents.{EventComponent, Method, Request, Add, Cancel, SaysEventComponent, meeting_said, Reply, Refresh}
 use Rattle.profile.specs.events.Events.{as_added, components_of, is_master, is_override, taken_by}
-use Rattle.profile.specs.organisers.Objects.{NamesOperation, Reply, Refresh}
+use Rattle.profile.specs.events.Messages.{NamesMethod, Message, SpellsMessage}
 use Rattle.profile.specs.organisers.Organisers.{heard_in}
 use Rattle.profile.specs.rooms.Kept.{Refreshes, Replies, ShowsAnswer}
-use Rattle.profile.specs.rooms.Messages.{Content, IsBody, Message, SpellsMessage, is_add, is_addressed, is_for, is_part_for, names_room, object_lines, parts_for, slot_named, slot_of}
+use Rattle.profile.specs.rooms.Messages.{Content, IsBody, is_add, is_addressed, is_for, is_part_for, names_room, object_lines, parts_for, slot_named, slot_of}
 use Rattle.profile.specs.rooms.Revisions.{Body, Part, Slot, Whole, At, Set, Absent, Cancelled, in_view, slot_cmp}
 use Rattle.profile.specs.rooms.Rooms.{Book, Claim, is_set, is_set_body, shown}
 use Rattle.profile.specs.streams.Streams.{AreClaims, IsClaim}
@@ -244,10 +243,10 @@ first_there (x ∷ xs) h = (x, in_head x xs)
 some_there : {X : Type 0} (xs : List X) (x : X) → Contains xs x → 0 < length xs
 some_there xs x c = omega (arith, c.1)
 
-reply_named : NamesOperation (calendar_own (Some (codes "REPLY"))) Reply
+reply_named : NamesMethod (calendar_own (Some (codes "REPLY"))) Reply
 reply_named = record { line = codes "METHOD:REPLY"; once = refl; named = refl }
 
-refresh_named : NamesOperation (calendar_own (Some (codes "REFRESH"))) Refresh
+refresh_named : NamesMethod (calendar_own (Some (codes "REFRESH"))) Refresh
 refresh_named = record { line = codes "METHOD:REFRESH"; once = refl; named = refl }
 
 pub replies_heard : LinesBack → ReadsLines → (read : List ℕ) (message : Message) (room : List ℕ) (book : Book) (claims : List Claim) (octets : List ℕ) → SpellsMessage read message → AreClaims room message claims → AreTextAnswers book

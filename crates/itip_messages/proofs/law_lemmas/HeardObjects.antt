@@ -12,7 +12,8 @@ use Rattle.profile.specs.text.Objects.{IsObject, is_property}
 use Rattle.profile.specs.text.Trees.{Tree, vevents}
 use Rattle.profile.specs.events.EventComponents.{EventComponent, Method, SaysEventComponent, Cancel, meeting_said}
 use Rattle.profile.specs.events.Events.{InstancesDiffer, is_master, is_override}
-use Rattle.profile.specs.organisers.Objects.{Operation, NamesOperation, SpellsOrganiserObject, has_one_attendee, read_as}
+use Rattle.profile.specs.organisers.Objects.{read_as}
+use Rattle.profile.specs.events.Messages.{NamesMethod, SpellsMessage, has_one_attendee}
 use Rattle.profile.specs.rooms.Messages.{object_lines, slot_of, slot_named}
 use Rattle.profile.specs.rooms.Revisions.{slot_cmp}
 use Rattle.itip_messages.specs.Law.{IsVevent}
@@ -111,10 +112,10 @@ overrides_differ events p =
 
 -- ---- the octets
 
-pub object_heard : LinesBack → ReadsLines → (word : List ℕ) (operation : Operation) → IsMethod (Some word) → NamesOperation (calendar_own (Some word)) operation → read_as operation ≡ Cancel
+pub object_heard : LinesBack → ReadsLines → (word : List ℕ) (operation : Operation) → IsMethod (Some word) → NamesMethod (calendar_own (Some word)) operation → read_as operation ≡ Cancel
     → (organiser uid : List ℕ) (texts : List Lines) (events : List EventComponent) (octets : List ℕ) → AllZip (Heard organiser uid) texts events → 0 < length events → length events ≤ 200 → AllPairs IsBefore events
     → octets ≡ written (object_lines (Some word) (flat_map (λ lines. lines) texts)) → is_too_long octets ≡ false
-    → SpellsOrganiserObject octets (record { operation = operation; organiser = organiser; uid = uid; events = events })
+    → SpellsMessage octets (record { operation = operation; organiser = organiser; uid = uid; events = events })
 object_heard back reads word operation fine named like organiser uid texts events octets z some few order is short =
     let method = Some word in
     let all = all_heard organiser uid texts events z in

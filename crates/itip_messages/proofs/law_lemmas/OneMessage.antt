@@ -12,13 +12,14 @@ use Rattle.ical_tree.proofs.OneLine.{at_one}
 use Rattle.profile.specs.text.Lines.{logical_lines, reads_as_lines, line_value, is_same_name}
 use Rattle.profile.specs.text.Objects.{IsObject}
 use Rattle.profile.specs.text.Trees.{Tree, tree_own, vevents}
-use Rattle.profile.specs.events.EventComponents.{Method, Request, Add, Cancel, NamesWord, EventComponent, SaysEventComponent, meeting_said}
+use Rattle.profile.specs.events.EventComponents.{Method, Request, Add, Cancel, NamesWord, EventComponent, SaysEventComponent, meeting_said, Store, Reply, Refresh}
 use Rattle.profile.specs.events.Properties.{IsMissing}
 use Rattle.profile.specs.events.Events.{SaysEvent, EventFault, taken_by, is_master, is_override}
-use Rattle.profile.specs.organisers.Objects.{Operation, Store, Reply, Refresh, NamesOperation, read_as, has_one_attendee, OrganiserObject, SaysOrganiserObject, in_meeting, not_one}
+use Rattle.profile.specs.organisers.Objects.{read_as, in_meeting}
+use Rattle.profile.specs.events.Messages.{NamesMethod, has_one_attendee, Message, SaysMessage, not_one, method_word, MethodFault, two_methods, bad_method, MessageFault, in_method, is_method, SpellsMessage}
 use Rattle.profile.specs.rooms.Messages as messages
-use Rattle.profile.specs.rooms.Messages.{Message, method_word, NamesMethod, SaysMessage, MethodFault, two_methods, bad_method, MessageFault, in_method, for_organiser, is_method}
-use Rattle.profile.specs.streams.Streams.{Said, ToRooms, ToOrganiser, Spells, ObjectFault}
+use Rattle.profile.specs.rooms.Messages.{for_organiser}
+use Rattle.profile.specs.streams.Streams.{ToRooms, ToOrganiser, ObjectFault}
 use Rattle.cal_events.proofs.reading_lemmas.OneCalendar.{OneEvent, NoFault}
 use Rattle.cal_events.proofs.reading_lemmas.OneText.{OneTree, PairsUp}
 use Rattle.cal_events.proofs.shared_lemmas.ObjectFaults.{has_version_only, has_few_events}
@@ -64,7 +65,7 @@ same_method own Cancel Request s t = absurd (differs own (codes "CANCEL") (codes
 same_method own Cancel Add s t = absurd (differs own (codes "CANCEL") (codes "ADD") refl s t)
 same_method own Cancel Cancel s t = refl
 
-same_operation : (own : Lines) (a b : Operation) → NamesOperation own a → NamesOperation own b → a ≡ b
+same_operation : (own : Lines) (a b : Operation) → NamesMethod own a → NamesMethod own b → a ≡ b
 same_operation own Store Store s t = refl
 same_operation own Store Reply s t = absurd (missing own (codes "REPLY") s t)
 same_operation own Store Refresh s t = absurd (missing own (codes "REFRESH") s t)
@@ -76,7 +77,7 @@ same_operation own Refresh Reply s t = absurd (differs own (codes "REFRESH") (co
 same_operation own Refresh Refresh s t = refl
 
 -- what is for rooms isn't for an organiser
-apart : (own : Lines) (a : Method) (b : Operation) → NamesMethod own a → NamesOperation own b → ⊥
+apart : (own : Lines) (a : Method) (b : Operation) → NamesMethod own a → NamesMethod own b → ⊥
 apart own Request Store s t = missing own (codes "REQUEST") t s
 apart own Request Reply s t = differs own (codes "REQUEST") (codes "REPLY") refl s t
 apart own Request Refresh s t = differs own (codes "REQUEST") (codes "REFRESH") refl s t
@@ -104,7 +105,7 @@ none_there : (own : Lines) (n : ℕ) → IsMissing (codes "METHOD") own → Meth
 none_there own n s (two_methods h) = let k = ap length s in absurd (omega (arith, h, k))
 none_there own n s (bad_method (line, (k, w, same), h)) = let l = ap length s in absurd (omega (arith, w, l))
 
-no_operation_fault : (own : Lines) (a : Operation) (n : ℕ) → NamesOperation own a → MethodFault own n → ⊥
+no_operation_fault : (own : Lines) (a : Operation) (n : ℕ) → NamesMethod own a → MethodFault own n → ⊥
 no_operation_fault own Store n = none_there own n
 no_operation_fault own Reply n = is_taken (codes "REPLY") (λ x e. rw e refl) own n
 no_operation_fault own Refresh n = is_taken (codes "REFRESH") (λ x e. rw e refl) own n
@@ -134,7 +135,7 @@ only (e ∷ []) h = (Some e, refl)
 only (e ∷ f ∷ rest) h = absurd (omega (arith, h))
 
 -- it says a meeting too
-module _ (object : Tree) (a : OrganiserObject) (s : SaysOrganiserObject object a) where
+module _ (object : Tree) (a : Message) (s : SaysMessage object a) where
   none : taken_by (Some (read_as a.operation)) a.events ≡ a.events
   none = none_added a.operation a.events
 
@@ -153,12 +154,12 @@ module _ (object : Tree) (a : OrganiserObject) (s : SaysOrganiserObject object a
   }
 
 -- the first event has the names
-names_of : (a : OrganiserObject) (events : List EventComponent) → a.events ≡ events → 0 < length events → ((e : EventComponent) → Contains a.events e → meeting_said e ≡ (a.organiser, a.uid))
+names_of : (a : Message) (events : List EventComponent) → a.events ≡ events → 0 < length events → ((e : EventComponent) → Contains a.events e → meeting_said e ≡ (a.organiser, a.uid))
     → (e : EventComponent) × Contains events e × (meeting_said e ≡ (a.organiser, a.uid))
 names_of a [] is h of = absurd (omega (arith, h))
 names_of a (e ∷ rest) is h of = (e, (0, omega arith, refl), of e (subst (λ (l : List EventComponent). Contains l e) (sym is) (0, omega arith, refl)))
 
-one_object : OneEvent → (object : Tree) (a b : OrganiserObject) → SaysOrganiserObject object a → SaysOrganiserObject object b → a ≡ b
+one_object : OneEvent → (object : Tree) (a b : Message) → SaysMessage object a → SaysMessage object b → a ≡ b
 one_object one object a b s t =
     let operation = same_operation (tree_own object) a.operation b.operation s.operation t.operation in
     let says = subst (λ (o : Operation). AllZip (SaysEventComponent object (Some (read_as o))) (vevents object) a.events) operation s.says in
@@ -169,7 +170,7 @@ one_object one object a b s t =
     let uid : a.uid ≡ b.uid = ap (λ p. p.1) names in
     λ i. record { operation = operation i; organiser = organiser i; uid = uid i; events = events i }
 
-no_object_fault : OneEvent → NoFault → (object : Tree) (a : OrganiserObject) (n : ℕ) → SaysOrganiserObject object a → MessageFault object n → ⊥
+no_object_fault : OneEvent → NoFault → (object : Tree) (a : Message) (n : ℕ) → SaysMessage object a → MessageFault object n → ⊥
 no_object_fault one sound object a n s (in_method h) = no_operation_fault (tree_own object) a.operation n s.operation h
 no_object_fault one sound object a n s (messages.in_meeting method named h) = apart (tree_own object) method a.operation named s.operation
 no_object_fault one sound object a n s (for_organiser (in_meeting operation named h)) =
@@ -196,10 +197,10 @@ one_spelled tree one octets (ToRooms a) (ToOrganiser b) s t =
     absurd (apart (tree_own t.tree) a.method b.operation (subst (λ (x : Tree). NamesMethod (tree_own x) a.method) same s.says.method) t.says.operation)
 one_spelled tree one octets (ToOrganiser a) (ToRooms b) s t =
     let same = one_tree tree octets s.tree t.tree s.object t.object in
-    absurd (apart (tree_own t.tree) b.method a.operation t.says.method (subst (λ (x : Tree). NamesOperation (tree_own x) a.operation) same s.says.operation))
+    absurd (apart (tree_own t.tree) b.method a.operation t.says.method (subst (λ (x : Tree). NamesMethod (tree_own x) a.operation) same s.says.operation))
 one_spelled tree one octets (ToOrganiser a) (ToOrganiser b) s t =
     let same = one_tree tree octets s.tree t.tree s.object t.object in
-    ap ToOrganiser (one_object one t.tree a b (subst (λ (x : Tree). SaysOrganiserObject x a) same s.says) t.says)
+    ap ToOrganiser (one_object one t.tree a b (subst (λ (x : Tree). SaysMessage x a) same s.says) t.says)
 
 -- octets that are an object without a fault of a message have no fault
 none_in_text : OneTree → PairsUp → (octets : List ℕ) (t : Tree) (n : ℕ) → reads_as_lines true octets ≡ true → IsObject true t (logical_lines octets)

@@ -19,7 +19,8 @@ use Rattle.profile.specs.series.ZoneTexts.{SaysZone}
 use Rattle.std.proofs.lemmas.Option.{same_Some}
 use Rattle.profile.specs.events.Properties.{Says, BothOrNeither, OccursAtMostOnce, IsAddressLine, IsUidLine, IsSequenceLine, is_of, lines_named}
 use Rattle.profile.specs.rooms.Messages as messages
-use Rattle.profile.specs.rooms.Messages.{Content, SpellsMessage, IsPart, cancels, own_revision, raised_to, names_room}
+use Rattle.profile.specs.rooms.Messages.{Content, IsPart, cancels, own_revision, raised_to, names_room}
+use Rattle.profile.specs.events.Messages.{SpellsMessage}
 use Rattle.profile.specs.rooms.Revisions.{Part, Revision, revision_cmp}
 use Rattle.itip_order.proofs.Lists.{in_head, filter_at, any_at}
 use Rattle.ical_lines.proofs.CleanLines.{IsClean}

@@ -10,7 +10,7 @@ use Rattle.ical_tree.specs.Tree.{IsObjectOf, tree_of}
 use Rattle.ical_tree.proofs.TreeOfLemmas.{object_tree}
 use Rattle.ical_tree.specs.declared.component.Component.{Component}
 use Rattle.profile.specs.text.Lines.{logical_lines, reads_as_lines}
-use Rattle.profile.specs.rooms.Messages.{MessageFault}
+use Rattle.profile.specs.events.Messages.{MessageFault}
 use Rattle.itip_messages.specs.declared.message.Message.{Message}
 use Rattle.itip_messages.specs.declared.message.Message.TheVariants.{ToRooms, ToOrganiser}
 use Rattle.itip_messages.specs.Message.{IsMessageOf, IsSpelled, ReadFault}

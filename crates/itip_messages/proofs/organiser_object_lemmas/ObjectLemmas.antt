@@ -1,5 +1,5 @@
 -- What comes to an organiser: what is known of its VEVENTs, and which fault they have.
--- Cited by OrganiserObject::read, has_one_attendee, judge_attendees.
+-- Cited by Message::read, has_one_attendee, judge_attendees.
 use Rattle.std.proofs.Common.{◌≡◌, ◌∙◌, ℕ, ◌<◌, ◌≤◌, Bool, true, List, [], ◌∷◌, length, map, filter, refl, sym, ap, subst, Option, Some, IsSome, is_some, unwrap_or, arith}
 use Rattle.std.specs.Prelude.{Contains}
 use Rattle.std.specs.List.{AllZip, list_all}
@@ -15,22 +15,23 @@ use Rattle.profile.specs.text.Trees.{Tree, vevents}
 use Rattle.profile.specs.events.EventComponents as events
 use Rattle.profile.specs.events.EventComponents.{EventComponent as SaidComponent, SaysEventComponent, meeting_said}
 use Rattle.profile.specs.events.Events.{AreOfOne, InstancesDiffer, EventFault, taken_by, is_master, is_override}
-use Rattle.profile.specs.organisers.Objects as profile
-use Rattle.profile.specs.organisers.Objects.{AreOfMeeting, are_of_one, has_one_attendee, read_as, OrganiserObjectFault, in_meeting, not_one}
+use Rattle.profile.specs.events.Messages as profile
+use Rattle.profile.specs.organisers.Objects.{read_as, in_meeting}
+use Rattle.profile.specs.events.Messages.{AreOfMeeting, are_of_one, has_one_attendee, MessageFault, not_one}
 use Rattle.ical_tree.specs.Tree.{tree_of}
 use Rattle.ical_tree.specs.declared.component.Component.{Component}
-use Rattle.cal_events.specs.Component.{attendee_of, component_of, method_read, vevents_of}
+use Rattle.cal_events.specs.Component.{attendee_of, component_of, method_read, vevents_of, method_said}
 use Rattle.cal_events.proofs.shared_lemmas.TreeLemmas.{vevents_tree}
 use Rattle.cal_events.specs.declared.component.Attendee.{Attendee}
 use Rattle.cal_events.specs.declared.component.EventComponent.{EventComponent}
 use Rattle.cal_events.specs.declared.component.Purpose.{Purpose}
 use Rattle.cal_events.proofs.shared_lemmas.InOneOrder.{in_mapped}
 use Rattle.itip_messages.specs.Body.{IsReady}
-use Rattle.itip_messages.specs.RoomMessage.{IsDated, event_slot}
+use Rattle.itip_messages.specs.Message.{IsDated, event_slot, IsNotOneEach}
 use Rattle.profile.specs.rooms.Messages.{slot_of}
-use Rattle.itip_messages.specs.OrganiserObject.{IsNotOneEach, IsOrganiserFault, operation_said, operation_purpose}
-use Rattle.itip_messages.specs.declared.organiser_object.Operation.{Operation}
-use Rattle.itip_messages.specs.declared.organiser_object.Operation.TheVariants.{Store, Reply, Refresh}
+use Rattle.itip_messages.specs.OrganiserObject.{IsOrganiserFault, operation_purpose}
+use Rattle.cal_events.specs.declared.method.Method.{Method}
+use Rattle.cal_events.specs.declared.method.Method.TheVariants.{Store, Reply, Refresh}
 use Rattle.itip_messages.proofs.room_message_lemmas.BySlot.{organised, stamped, dated, ready}
 use Rattle.itip_messages.proofs.shared_lemmas.MessageLemmas.{some_itself, some_of_map}
 
@@ -46,7 +47,7 @@ first_and_others all first others is =
 
 -- ---- what VEVENTs are read for
 
-read_for : (operation : Operation) → method_read (operation_purpose operation) ≡ Some (read_as (operation_said operation))
+read_for : (operation : Operation) → method_read (operation_purpose operation) ≡ Some (read_as (method_said operation))
 read_for Store = refl
 read_for Reply = refl
 read_for Refresh = refl
@@ -58,20 +59,20 @@ none_added profile.Refresh events = refl
 
 -- for what is asked
 module _ (operation : Operation) (purpose : Purpose) (e : purpose ≡ operation_purpose operation) where
-  method_is : method_read purpose ≡ Some (read_as (operation_said operation))
+  method_is : method_read purpose ≡ Some (read_as (method_said operation))
   method_is = ap method_read e ∙ read_for operation
 
   pub as_they_are : (es : List SaidComponent) → taken_by (method_read purpose) es ≡ es
-  as_they_are es = subst (λ (m : Option events.Method). taken_by m es ≡ es) (sym method_is) (none_added (operation_said operation) es)
+  as_they_are es = subst (λ (m : Option events.Method). taken_by m es ≡ es) (sym method_is) (none_added (method_said operation) es)
 
   -- what is wrong between them
-  pub meeting_wrong : (object : Tree) (f : Fault) → RefusesBy (EventFault object (method_read purpose)) f → RefusesBy (IsOrganiserFault object (operation_said operation)) f
+  pub meeting_wrong : (object : Tree) (f : Fault) → RefusesBy (EventFault object (method_read purpose)) f → RefusesBy (IsOrganiserFault object (method_said operation)) f
   meeting_wrong object Memory h = tt
-  meeting_wrong object (Refused r) h = λ named. in_meeting (operation_said operation) named (subst (λ (m : Option events.Method). EventFault object m r.number) method_is h)
+  meeting_wrong object (Refused r) h = λ named. in_meeting (method_said operation) named (subst (λ (m : Option events.Method). EventFault object m r.number) method_is h)
 
   module _ (object : Component) (all : List EventComponent) (says : AllZip (SaysEventComponent (tree_of object) (method_read purpose)) (vevents_of object) (map component_of all)) where
     -- its tree says them
-    pub said_by_tree : AllZip (SaysEventComponent (tree_of object) (Some (read_as (operation_said operation)))) (vevents (tree_of object)) (map component_of all)
+    pub said_by_tree : AllZip (SaysEventComponent (tree_of object) (Some (read_as (method_said operation)))) (vevents (tree_of object)) (map component_of all)
     said_by_tree =
         subst (λ (m : Option events.Method). AllZip (SaysEventComponent (tree_of object) m) (vevents (tree_of object)) (map component_of all)) method_is
         (subst (λ (l : List (List (List ℕ))). AllZip (SaysEventComponent (tree_of object) (method_read purpose)) l (map component_of all)) (sym (vevents_tree object)) says)
@@ -94,8 +95,8 @@ module _ (operation : Operation) (purpose : Purpose) (e : purpose ≡ operation_
         (All-contains (λ (x : SaidComponent). is_some x.organiser ≡ true) (map component_of all) (component_of event) (organised (tree_of object) _ (vevents (tree_of object)) (map component_of all) said_by_tree) (in_mapped component_of all event c))
 
     -- where one doesn't have one attendee
-    pub attendee_wrong : (n : ℕ) → IsNotOneEach (operation_said operation) (map component_of all) n → IsOrganiserFault (tree_of object) (operation_said operation) n
-    attendee_wrong n h = λ named. subst (OrganiserObjectFault (tree_of object)) (sym h.0) (not_one (operation_said operation) named h.1 (map component_of all) said_by_tree h.2)
+    pub attendee_wrong : (n : ℕ) → IsNotOneEach (method_said operation) (map component_of all) n → IsOrganiserFault (tree_of object) (method_said operation) n
+    attendee_wrong n h = λ named. subst (OrganiserObjectFault (tree_of object)) (sym h.0) (not_one (method_said operation) named h.1 (map component_of all) said_by_tree h.2)
 
 -- ---- what is said
 

@@ -25,19 +25,20 @@ use Rattle.profile.specs.text.Lines.{logical_lines, reads_as_lines}
 use Rattle.profile.specs.text.Trees.{Tree, tree_own, vevents}
 use Rattle.profile.specs.events.EventComponents.{Method, Request, Add, Cancel, EventComponent as SaidComponent, SaysEventComponent}
 use Rattle.profile.specs.events.Events.{Event, AreOfOne, InstancesDiffer, SaysEvent, as_added, components_of, is_master, is_override, taken_by}
-use Rattle.profile.specs.organisers.Objects.{NamesOperation, Operation, has_one_attendee, is_of_attendee, read_as}
-use Rattle.profile.specs.rooms.Messages.{MessageFault, NamesMethod, is_add, slot_of}
+use Rattle.profile.specs.organisers.Objects.{read_as}
+use Rattle.profile.specs.events.Messages.{NamesMethod, has_one_attendee, is_of_attendee, MessageFault}
+use Rattle.profile.specs.rooms.Messages.{is_add, slot_of}
 use Rattle.profile.specs.rooms.Revisions.{Slot, slot_cmp}
-use Rattle.cal_events.specs.Component.{component_of, method_read, vevents_of}
+use Rattle.cal_events.specs.Component.{component_of, method_read, vevents_of, method_said}
 use Rattle.cal_events.specs.declared.component.Purpose.{Purpose}
 use Rattle.cal_events.specs.declared.component.EventComponent.{EventComponent}
 use Rattle.cal_events.proofs.shared_lemmas.TreeLemmas.{vevents_tree}
 use Rattle.cal_events.proofs.shared_lemmas.Zips.{zip_length}
 use Rattle.itip_order.proofs.Order.{slot_same, slot_total}
-use Rattle.itip_messages.specs.Message.{ReadFault}
+use Rattle.itip_messages.specs.Message.{ReadFault, event_slot}
 use Rattle.itip_messages.specs.OwnLines.{AreForOrganiser, AreForRooms, AreTaken, FindsLines, IsFound, slot_read}
-use Rattle.itip_messages.specs.RoomMessage.{event_slot, method_said, purpose_of}
-use Rattle.itip_messages.specs.declared.room_message.Method.{Method as Asking}
+use Rattle.itip_messages.specs.RoomMessage.{purpose_of}
+use Rattle.cal_events.specs.declared.method.Method.{Method as Asking}
 use Rattle.itip_messages.specs.declared.room_message.Method.TheVariants as asks
 use Rattle.itip_messages.proofs.organiser_object_lemmas.ObjectLemmas.{none_added}
 
@@ -152,7 +153,7 @@ rooms_taken object method taken named a = record {
   are = a.are;
 }
 
-pub organiser_taken : (object : Tree) (operation : Operation) (taken : List SaidComponent) → NamesOperation (tree_own object) operation → AreForOrganiser object operation taken → AreTaken object taken
+pub organiser_taken : (object : Tree) (operation : Operation) (taken : List SaidComponent) → NamesMethod (tree_own object) operation → AreForOrganiser object operation taken → AreTaken object taken
 organiser_taken object operation taken named a =
     let s = a named in
     record {

@@ -1,5 +1,5 @@
 -- The events of a message's meeting: what is known of each, and their order by slots.
--- Cited by RoomMessage::of, RoomMessage::read.
+-- Cited by Message::of, Message::read.
 use Rattle.std.proofs.Common.{◌≡◌, ◌≢◌, ◌∙◌, ℕ, zero, suc, ◌<◌, ◌+◌, Bool, true, false, not, ◌⊎◌, List, [], ◌∷◌, ◌++◌, length, map, filter, get_or, refl, sym, ap, subst, arith, inl, inr, length-append, ℤ, Option, Some, None, is_some, Ordering}
 use Rattle.std.specs.Prelude.{Contains, All, AllPairs}
 use Rattle.std.specs.Option.{option_to_list}
@@ -15,10 +15,9 @@ use Rattle.std.proofs.lemmas.List.Filters.{length-filter_both}
 use Rattle.std.proofs.lemmas.List.Kept.{AllPairs-filter}
 use Rattle.std.proofs.lemmas.List.Sorted.{IsPermutation-map, IsPermutation-sym, Contains-permutation, ranks_by, sorted_far}
 use Rattle.profile.specs.text.Trees.{Tree, vevents}
-use Rattle.profile.specs.events.EventComponents.{Method, Request, Add, Cancel, EventComponent as SaidComponent, SaysEventComponent}
+use Rattle.profile.specs.events.EventComponents.{Method, Request, Add, Cancel, EventComponent as SaidComponent, SaysEventComponent, meeting_said}
 use Rattle.profile.specs.events.Properties.{BothOrNeither}
 use Rattle.profile.specs.events.Occurrences.{ListedTime, IsInside}
-use Rattle.profile.specs.events.EventComponents.{meeting_said}
 use Rattle.profile.specs.events.Events.{Event, as_added, taken_by, components_of, is_master, is_override, AreOfOne, InstancesDiffer, SaysEvent}
 use Rattle.profile.specs.rooms.Messages.{AreBySlot, slot_of, slot_named}
 use Rattle.profile.specs.rooms.Revisions.{Slot, Whole, At, slot_cmp}
@@ -33,7 +32,8 @@ use Rattle.cal_events.specs.MeetingComponents.{IsInEventDates}
 use Rattle.cal_events.proofs.shared_lemmas.OneInstance.{event_sound}
 use Rattle.itip_messages.specs.Body.{IsReady}
 use Rattle.itip_messages.proofs.shared_lemmas.RuleBack.{rule_told}
-use Rattle.itip_messages.specs.RoomMessage.{IsDated, IsOfMessage, event_slot}
+use Rattle.itip_messages.specs.RoomMessage.{IsOfMessage}
+use Rattle.itip_messages.specs.Message.{IsDated, event_slot}
 
 abbrev Lines : Type 0
 Lines = List (List ℕ)

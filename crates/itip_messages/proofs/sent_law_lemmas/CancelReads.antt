@@ -16,7 +16,8 @@ use Rattle.profile.specs.events.EventComponents.{EventComponent, IsAttendee, Say
 use Rattle.profile.specs.events.EventRules.{GivesBeside}
 use Rattle.profile.specs.events.Occurrences.{SaysStatus, IsInside, Lists, entries_of}
 use Rattle.profile.specs.events.Properties.{is_of, lines_named}
-use Rattle.profile.specs.rooms.Messages.{AreBySlot, AreParts, SpellsMessage, is_for, later_of, no_content, object_lines, parts_for}
+use Rattle.profile.specs.rooms.Messages.{AreBySlot, AreParts, is_for, later_of, no_content, object_lines, parts_for}
+use Rattle.profile.specs.events.Messages.{SpellsMessage}
 use Rattle.profile.specs.rooms.Revisions.{Revision, revision_cmp}
 use Rattle.profile.specs.organisers.Sent.{IsCancel, status_lines}
 use Rattle.ical_lines.proofs.CleanLines.{clean_shown, shown_decimal, fixed}

@@ -6,9 +6,9 @@ use Rattle.std.specs.List.{AllZip}
 use Rattle.std.proofs.lemmas.Bool.{and_from}
 use Rattle.profile.specs.text.Lines.{is_content, is_too_long}
 use Rattle.ical_lines.proofs.CleanLines.{IsClean, fixed, valued}
-use Rattle.profile.specs.events.EventComponents.{Attendee, EventComponent, NamesWord}
+use Rattle.profile.specs.events.EventComponents.{Attendee, EventComponent, NamesWord, Store}
 use Rattle.profile.specs.events.Events.{components_of}
-use Rattle.profile.specs.organisers.Objects.{counted, OrganiserObject, SpellsOrganiserObject, Store}
+use Rattle.profile.specs.events.Messages.{counted, Message, SpellsMessage}
 use Rattle.profile.specs.organisers.Sent.{IsAsked, IsRequest}
 use Rattle.profile.specs.rooms.Messages.{Content, IsContent, slot_of}
 use Rattle.profile.specs.rooms.Revisions.{Revision, Slot}
@@ -110,7 +110,7 @@ module _ (revision : Revision) where
   apart_by : (R : EventComponent → EventComponent → Type 0) → ((a b : EventComponent) → R a b → a.recurrence ≡ b.recurrence) → (organiser uid : List ℕ) (events others : List EventComponent) → AreStored organiser uid events → AllZip R events others → AreApart (components_of (meeting_of others))
   apart_by R slots organiser uid events others f z = apart others (masters_few R slots events others z f.masters) (overrides_differ R slots events others z f.differ)
 
-pub request_reads : LinesBack → ReadsLines → ZoneBack → (stored : List ℕ) (said : OrganiserObject) (revision : Revision) (octets : List ℕ) → SpellsOrganiserObject stored said → said.operation ≡ Store → revision.sequence < 2 ^ 31
+pub request_reads : LinesBack → ReadsLines → ZoneBack → (stored : List ℕ) (said : Message) (revision : Revision) (octets : List ℕ) → SpellsMessage stored said → said.method ≡ Store → revision.sequence < 2 ^ 31
     → IsRequest said.organiser said.uid revision said.events octets → is_too_long octets ≡ false → SpellsRequest revision said.events octets
 request_reads back reads zone_back stored said revision octets s store small r short =
     let f = stored_events stored said s store in

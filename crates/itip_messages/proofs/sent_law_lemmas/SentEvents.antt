@@ -5,7 +5,7 @@ use Rattle.std.specs.Prelude.{Contains}
 use Rattle.std.specs.List.{AllZip}
 use Rattle.std.specs.Str.{bytes_eq}
 use Rattle.profile.specs.events.EventComponents.{Attendee, EventComponent, Request, SaysEventComponent}
-use Rattle.profile.specs.organisers.Objects.{counted}
+use Rattle.profile.specs.events.Messages.{counted}
 use Rattle.profile.specs.organisers.Sent.{Component, IsComponentOf, IsComponentText, status_lines}
 use Rattle.profile.specs.rooms.Messages.{Content, IsContent, TellsSlot, slot_named, slot_of}
 use Rattle.profile.specs.rooms.Revisions.{Revision, Slot}

@@ -8,7 +8,7 @@ use Rattle.std.specs.Str.{bytes_eq}
 use Rattle.std.proofs.lemmas.Slice.Eq.{bytes_eq-Decides}
 use Rattle.profile.specs.events.EventComponents.{Attendee, EventComponent, Request}
 use Rattle.profile.specs.events.Events.{components_of, is_master}
-use Rattle.profile.specs.organisers.Objects.{counted}
+use Rattle.profile.specs.events.Messages.{counted}
 use Rattle.profile.specs.rooms.Messages.{AreBySlot, AreParts, Content, IsBody, IsContent, IsPart, is_for, is_part_for, names_room, own_revision, parts_for, raised_to, slot_named, slot_of}
 use Rattle.profile.specs.rooms.Revisions.{Absent, Body, Cancelled, Part, Set, Slot, slot_cmp}
 use Rattle.cal_events.proofs.shared_lemmas.InOneOrder.{mapped_pairs, pairs_mapped}

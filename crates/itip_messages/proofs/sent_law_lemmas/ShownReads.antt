@@ -6,9 +6,9 @@ use Rattle.std.specs.Str.{bytes_eq}
 use Rattle.profile.specs.text.Lines.{is_content, is_too_long}
 use Rattle.profile.specs.text.Objects.{is_property}
 use Rattle.profile.specs.text.Trees.{Tree}
-use Rattle.profile.specs.events.EventComponents.{Accepted, Attendee, Declined, Delegated, EventComponent, IsAttendee, NeedsAction, Participation, Request, SaysEventComponent, Tentative}
+use Rattle.profile.specs.events.EventComponents.{Accepted, Attendee, Declined, Delegated, EventComponent, IsAttendee, NeedsAction, Participation, Request, SaysEventComponent, Tentative, Store}
 use Rattle.profile.specs.events.Properties.{is_of}
-use Rattle.profile.specs.organisers.Objects.{OrganiserObject, SpellsOrganiserObject, Store}
+use Rattle.profile.specs.events.Messages.{Message, SpellsMessage}
 use Rattle.profile.specs.organisers.Organisers.{OrganiserBook, ShowsSeen, Stored, participation_word, sent_status}
 use Rattle.profile.specs.organisers.Sent.{IsMeetingText}
 use Rattle.ical_lines.proofs.CleanLines.{IsClean, valued}
@@ -117,7 +117,7 @@ as_events object [] (e ∷ events) z = absurd z
 as_events object (v ∷ vs) [] z = absurd z
 as_events object (v ∷ vs) (e ∷ events) z = (as_event object v e z.0, as_events object vs events z.1)
 
-pub shown_reads : LinesBack → ReadsLines → ZoneBack → (read : List ℕ) (said : OrganiserObject) (book : OrganiserBook) (stored : Stored) (octets : List ℕ) → SpellsOrganiserObject read said → said.operation ≡ Store → stored.events ≡ said.events
+pub shown_reads : LinesBack → ReadsLines → ZoneBack → (read : List ℕ) (said : Message) (book : OrganiserBook) (stored : Stored) (octets : List ℕ) → SpellsMessage read said → said.method ≡ Store → stored.events ≡ said.events
     → stored.revision.sequence < 2 ^ 31 → IsMeetingText None said.organiser said.uid stored.revision (ShowsSeen book stored) stored.events octets → is_too_long octets ≡ false → SpellsShown book stored octets
 shown_reads back reads zone_back read said book stored octets s store same small t short =
     let f = subst (λ (events : List EventComponent). AreStored said.organiser said.uid events) (sym same) (stored_events read said s store) in

@@ -15,11 +15,12 @@ use Rattle.profile.specs.rooms.Revisions.{Revision}
 use Rattle.profile.specs.text.Values.{IsUid}
 use Rattle.profile.specs.series.Zones.{IsOneMeaning, Zone}
 use Rattle.profile.specs.series.ZoneTexts.{SaysZone}
-use Rattle.profile.specs.events.EventComponents.{Attendee, EventComponent, IsAttendee, Request, SaysEventComponent, first_text, meeting_said}
+use Rattle.profile.specs.events.EventComponents.{Attendee, EventComponent, IsAttendee, Request, SaysEventComponent, first_text, meeting_said, Method, Store}
 use Rattle.profile.specs.events.Events.{InstancesDiffer, is_master, is_override}
 use Rattle.profile.specs.events.Properties.{BothOrNeither, IsAddressLine, IsUidLine, Says, OccursAtMostOnce, is_of, lines_named}
 use Rattle.profile.specs.events.ZonedTimes.{EventTimes, SaysTimes, SaysZoneOf, SpellsZoned, clock_of, zone_named}
-use Rattle.profile.specs.organisers.Objects.{Operation, OrganiserObject, SpellsOrganiserObject, Store, read_as}
+use Rattle.profile.specs.organisers.Objects.{read_as}
+use Rattle.profile.specs.events.Messages.{Message, SpellsMessage}
 use Rattle.cal_events.specs.MeetingComponents.{IsInEventDates}
 use Rattle.cal_events.proofs.shared_lemmas.OneInstance.{event_sound}
 use Rattle.cal_events.proofs.shared_lemmas.Zips.{zip_length}
@@ -156,7 +157,7 @@ at_most a b h = omega (arith, nat_le_from a b h)
     nat_le_from : (a b : ℕ) → nat_lt a b ≡ false → b ≤ a
     nat_le_from a b h = grind (arith, nat_tests)
 
-pub stored_events : (octets : List ℕ) (said : OrganiserObject) → SpellsOrganiserObject octets said → said.operation ≡ Store → AreStored said.organiser said.uid said.events
+pub stored_events : (octets : List ℕ) (said : Message) → SpellsMessage octets said → said.method ≡ Store → AreStored said.organiser said.uid said.events
 stored_events octets said s store =
     let whole = s.tree in
     let says : AllZip (SaysEventComponent whole (Some Request)) (vevents whole) said.events = subst (λ (o : Operation). AllZip (SaysEventComponent whole (Some (read_as o))) (vevents whole) said.events) store s.says.says in
@@ -176,7 +177,7 @@ stored_events octets said s store =
 
 -- ---- what is sent of it
 
-pub stored_name : (octets : List ℕ) (said : OrganiserObject) (revision : Revision) → SpellsOrganiserObject octets said → said.operation ≡ Store → revision.sequence < 2 ^ 31 → IsSentName said.organiser said.uid revision
+pub stored_name : (octets : List ℕ) (said : Message) (revision : Revision) → SpellsMessage octets said → said.method ≡ Store → revision.sequence < 2 ^ 31 → IsSentName said.organiser said.uid revision
 stored_name octets said revision s store small =
     let f = stored_events octets said s store in
     let one = first_of said.events f.some in
@@ -187,5 +188,5 @@ stored_name octets said revision s store small =
     first_of [] h = absurd (omega (arith, h))
     first_of (e ∷ events) h = (e, in_head e events)
 
-pub stored_attendee : (octets : List ℕ) (said : OrganiserObject) (event : EventComponent) (attendee : Attendee) → SpellsOrganiserObject octets said → said.operation ≡ Store → Contains said.events event → Contains event.attendees attendee → IsSentAddress attendee.address
+pub stored_attendee : (octets : List ℕ) (said : Message) (event : EventComponent) (attendee : Attendee) → SpellsMessage octets said → said.method ≡ Store → Contains said.events event → Contains event.attendees attendee → IsSentAddress attendee.address
 stored_attendee octets said event attendee s store c k = ((stored_events octets said s store).each event c).attendees attendee k

@@ -14,14 +14,13 @@ use Rattle.profile.specs.events.EventComponents.{Attendee, EventComponent}
 use Rattle.profile.specs.rooms.Revisions.{Slot, At}
 use Rattle.profile.specs.rooms.Messages.{Content, IsContent, TellsSlot, opening_lines}
 use Rattle.profile.specs.rooms.Kept.{each_once, zone_texts}
-use Rattle.profile.specs.organisers.Objects.{counted}
+use Rattle.profile.specs.events.Messages.{counted}
 use Rattle.profile.specs.organisers.Sent.{Component, IsComponentOf, IsComponentText, TellsRevision, status_lines, zones_of}
 use Rattle.itip_messages.specs.declared.meeting_text.MeetingText.{MeetingText}
-use Rattle.itip_messages.specs.declared.organiser_object.ObjectComponent.{ObjectComponent}
+use Rattle.itip_messages.specs.declared.message_component.MessageComponent.{MessageComponent}
 use Rattle.itip_messages.specs.BodyText.{WritesBody, WritesSlot, content_in}
 use Rattle.itip_messages.specs.MeetingText.{IsTextOf, IsWrittenComponent, WritesComponent, WritesComponents, WritesLine, zone_in}
-use Rattle.itip_messages.specs.RoomMessage.{IsDated}
-use Rattle.itip_messages.specs.OrganiserObject.{SaysObjectComponent}
+use Rattle.itip_messages.specs.Message.{IsDated, SaysComponent}
 use Rattle.itip_messages.specs.Reply.{IsWrittenStampLine, WritesLines}
 use Rattle.itip_messages.specs.Zones.{is_new, with_zones}
 use Rattle.itip_messages.proofs.shared_lemmas.BodyContents.{body_of}
@@ -55,12 +54,12 @@ attendee_more IsLine done attendee old now new before (line, is, one) =
 
 module _ (IsLine : Slot → Attendee → List ℕ → Type 0) (meeting : MeetingText) where
   -- the lines of a component's VEVENT
-  abbrev event_lines : ObjectComponent → List (List ℕ) → List (List ℕ) → List (List ℕ) → List (List ℕ) → List (List ℕ)
+  abbrev event_lines : MessageComponent → List (List ℕ) → List (List ℕ) → List (List ℕ) → List (List ℕ) → List (List ℕ)
   event_lines component slot dated body attendees =
       (codes "BEGIN:VEVENT" ∷ (codes "UID:" ++ escaped (text_octets meeting.uid.now)) ∷ slot) ++ dated ++ body ++ status_lines component.cancelled
       ++ ((codes "SUMMARY:" ++ escaped (text_octets component.summary)) ∷ (codes "ORGANIZER:" ++ address_octets meeting.organiser.now) ∷ attendees) ++ codes "END:VEVENT" ∷ []
 
-  module _ (component : ObjectComponent) (zones_old zones_new : List (List ℕ)) (o0 o1 o2 o3 o4 o5 o6 o7 o8 o9 o10 : List ℕ)
+  module _ (component : MessageComponent) (zones_old zones_new : List (List ℕ)) (o0 o1 o2 o3 o4 o5 o6 o7 o8 o9 o10 : List ℕ)
       (slot : WritesSlot (slot_of component.slot) o2 o3) (dated : WritesLines o3 o4 (TellsRevision (revision_of meeting.revision)))
       (body : WritesBody component.canonical.items zones_old zones_new o4 o5)
       (attendees : WritesLines o8 o9 (AllZip (IsLine (slot_of component.slot)) (counted component.attendees))) where
@@ -118,12 +117,12 @@ module _ (IsLine : Slot → Attendee → List ℕ → Type 0) (meeting : Meeting
 -- ---- all VEVENTs
 
 -- a VEVENT and its event
-paired : List EventComponent → List ObjectComponent → List Component
+paired : List EventComponent → List MessageComponent → List Component
 paired [] cs = []
 paired (event ∷ events) [] = []
 paired (event ∷ events) (component ∷ cs) = (event, content_in component.canonical.items) ∷ paired events cs
 
-are_paired : (events : List EventComponent) (cs : List ObjectComponent) → AllZip SaysObjectComponent events cs → AllZip IsComponentOf events (paired events cs)
+are_paired : (events : List EventComponent) (cs : List MessageComponent) → AllZip SaysComponent events cs → AllZip IsComponentOf events (paired events cs)
 unfolding paired
 are_paired [] [] z = tt
 are_paired [] (c ∷ cs) z = absurd z
@@ -133,7 +132,7 @@ are_paired (e ∷ es) (c ∷ cs) z =
     let read : content_in c.canonical.items ≡ said.content = ap content_in said.is ∙ (body_of said.content e said.when).read in
     ((refl, subst (λ (x : Content). IsContent x e) (sym read) said.when), are_paired es cs z.1)
 
-zones_paired : (events : List EventComponent) (cs : List ObjectComponent) → AllZip SaysObjectComponent events cs → flat_map (λ component. option_to_list component.1.zone) (paired events cs) ≡ flat_map zone_in cs
+zones_paired : (events : List EventComponent) (cs : List MessageComponent) → AllZip SaysComponent events cs → flat_map (λ component. option_to_list component.1.zone) (paired events cs) ≡ flat_map zone_in cs
 unfolding paired
 zones_paired [] [] z = refl
 zones_paired [] (c ∷ cs) z = absurd z
@@ -145,7 +144,7 @@ module _ (IsLine : Slot → Attendee → List ℕ → Type 0) (meeting : Meeting
   IsText zones = IsComponentText (address_octets meeting.organiser.now) (text_octets meeting.uid.now) (revision_of meeting.revision) zones IsLine
 
   -- zones that come later change no name
-  still : (zones more : List (List ℕ)) (component : ObjectComponent) (lines : List (List ℕ)) → IsWrittenComponent IsLine meeting zones component lines → IsWrittenComponent IsLine meeting (zones ++ more) component lines
+  still : (zones more : List (List ℕ)) (component : MessageComponent) (lines : List (List ℕ)) → IsWrittenComponent IsLine meeting zones component lines → IsWrittenComponent IsLine meeting (zones ++ more) component lines
   still zones more component lines w event says =
       let h = w event says in
       record {
@@ -160,7 +159,7 @@ module _ (IsLine : Slot → Attendee → List ℕ → Type 0) (meeting : Meeting
         is = h.is;
       }
 
-  all_still : (zones more : List (List ℕ)) (cs : List ObjectComponent) (texts : List (List (List ℕ))) → AllZip (IsWrittenComponent IsLine meeting zones) cs texts → AllZip (IsWrittenComponent IsLine meeting (zones ++ more)) cs texts
+  all_still : (zones more : List (List ℕ)) (cs : List MessageComponent) (texts : List (List (List ℕ))) → AllZip (IsWrittenComponent IsLine meeting zones) cs texts → AllZip (IsWrittenComponent IsLine meeting (zones ++ more)) cs texts
   all_still zones more [] [] z = z
   all_still zones more [] (x ∷ xs) z = absurd z
   all_still zones more (c ∷ cs) [] z = absurd z
@@ -170,7 +169,7 @@ module _ (IsLine : Slot → Attendee → List ℕ → Type 0) (meeting : Meeting
   none_written zones old = record { zones = refl; texts = []; each = tt; is = no_lines old }
 
   -- one more component
-  pub components_more : (done : List ObjectComponent) (component : ObjectComponent) (zones_old zones_now zones_new : List (List ℕ)) (old now new : List ℕ)
+  pub components_more : (done : List MessageComponent) (component : MessageComponent) (zones_old zones_now zones_new : List (List ℕ)) (old now new : List ℕ)
       → WritesComponents IsLine meeting done zones_old zones_now old now → WritesComponent IsLine meeting component zones_now zones_new now new → WritesComponents IsLine meeting (done ++ component ∷ []) zones_old zones_new old new
   components_more done component zones_old zones_now zones_new old now new a b =
       let uses = zone_in component in
@@ -185,7 +184,7 @@ module _ (IsLine : Slot → Attendee → List ℕ → Type 0) (meeting : Meeting
         is = push_lines old now new (flat_map (λ l. l) a.texts) b.lines a.is b.is ∙ ap (λ l. old ++ written l) (sym (flat_push (λ l. l) a.texts b.lines));
       }
 
-  texts_paired : (zones : List (List ℕ)) (events : List EventComponent) (cs : List ObjectComponent) (texts : List (List (List ℕ))) → AllZip SaysObjectComponent events cs → AllZip (IsWrittenComponent IsLine meeting zones) cs texts
+  texts_paired : (zones : List (List ℕ)) (events : List EventComponent) (cs : List MessageComponent) (texts : List (List (List ℕ))) → AllZip SaysComponent events cs → AllZip (IsWrittenComponent IsLine meeting zones) cs texts
       → AllZip (IsText zones) (paired events cs) texts
   unfolding paired
   texts_paired zones [] [] texts z w = w

@@ -1,5 +1,5 @@
 -- What the lines of a message say, and what is wrong with them.
--- Cited by Addressee::of of message, Message::of_object of message, components_of of organiser_object, RoomMessage::of of room_message, RoomMessage::parts of room_message, RoomMessage::read of room_message and 1 more.
+-- Cited by Addressee::of of message, Message::of_object of message, components_of of organiser_object, Message::of of room_message, Message::parts of room_message, Message::read of room_message and 1 more.
 use Rattle.std.proofs.Common.{◌≡◌, ◌∙◌, ℕ, zero, suc, ◌<◌, ◌+◌, Bool, true, false, not, ◌&&◌, ◌||◌, cond, eqb, ap₂, filter, take, List, [], ◌∷◌, ◌++◌, length, map, get_or, refl, sym, ap, subst, arith, Option, Some, None, IsSome, is_some, option_map, unwrap_or, ℤ, append_assoc}
 use Rattle.ical_lines.specs.Fault.{RefusesBy}
 use Rattle.std.specs.Prelude.{◌↔◌, MatchOption, Result, Ok, Err, IfErr, Contains, codes}
@@ -15,19 +15,18 @@ use Rattle.ical_lines.specs.declared.fault.Refusal.{Refusal}
 use Rattle.profile.specs.text.Lines.{line_value}
 use Rattle.profile.specs.text.Trees.{Tree, tree_own}
 use Rattle.profile.specs.events.EventComponents as events
-use Rattle.profile.specs.events.EventComponents.{EventComponent as SaidComponent}
+use Rattle.profile.specs.events.EventComponents.{EventComponent as SaidComponent, Method}
 use Rattle.profile.specs.events.Confirmed.{has_series}
 use Rattle.profile.specs.events.Events.{Event, components_of, SaysEvent, EventFault}
 use Rattle.profile.specs.rooms.Messages as profile
-use Rattle.profile.specs.rooms.Messages.{NamesMethod, MethodFault, bad_method, MessageFault, in_meeting, for_organiser, is_method}
-use Rattle.profile.specs.organisers.Objects.{Operation, NamesOperation}
-use Rattle.profile.specs.rooms.Messages.{AreParts, AreBySlot, Content, no_content, IsPart, IsBody, IsContent, names_room, is_addressed, is_part_for, parts_for, own_revision, cancels, is_cancel, canonical}
+use Rattle.profile.specs.rooms.Messages.{for_organiser, AreParts, AreBySlot, Content, no_content, IsPart, IsBody, IsContent, names_room, is_addressed, is_part_for, parts_for, own_revision, cancels, is_cancel, canonical}
+use Rattle.profile.specs.events.Messages.{NamesMethod, MethodFault, bad_method, MessageFault, in_meeting, is_method}
 use Rattle.profile.specs.rooms.Revisions as revisions
 use Rattle.profile.specs.events.Properties.{OccursAtMostOnce}
 use Rattle.cal_events.specs.declared.component.EventComponent.{EventComponent}
 use Rattle.cal_events.specs.declared.component.Purpose.{Purpose}
 use Rattle.cal_events.specs.declared.meeting_components.MeetingComponents.{MeetingComponents}
-use Rattle.cal_events.specs.Component.{component_of, method_read}
+use Rattle.cal_events.specs.Component.{component_of, method_read, method_said}
 use Rattle.cal_events.specs.OneMeeting.{meeting_of}
 use Rattle.cal_events.specs.Series.{IsSeriesOf, series_said}
 use Rattle.cal_events.specs.declared.series.Series.{Series}
@@ -35,14 +34,14 @@ use Rattle.cal_events.proofs.shared_lemmas.EventLemmas.{some_line, push_zip}
 use Rattle.cal_events.proofs.shared_lemmas.InOneOrder.{in_mapped, of_filtered}
 use Rattle.itip_order.specs.Parts.{slot_of}
 use Rattle.itip_order.proofs.Lists.{any_at, any_from}
-use Rattle.itip_messages.specs.declared.room_message.RoomMessage.{RoomMessage}
-use Rattle.itip_messages.specs.declared.room_message.MessageComponent.{MessageComponent}
-use Rattle.itip_messages.specs.declared.room_message.Method.{Method}
-use Rattle.itip_messages.specs.declared.room_message.Method.TheVariants.{Request, Add, Cancel}
+use Rattle.itip_messages.specs.declared.message.Message.{Message}
+use Rattle.itip_messages.specs.declared.message_component.MessageComponent.{MessageComponent}
+use Rattle.cal_events.specs.declared.method.Method.{Method}
+use Rattle.cal_events.specs.declared.method.Method.TheVariants.{Request, Add, Cancel}
 use Rattle.itip_messages.specs.Body.{IsReady}
-use Rattle.itip_messages.specs.RoomMessage.{method_said, purpose_of, IsDated, IsOfMessage, SaysComponent, event_slot, RepresentsMessage, component_names, is_component_for, is_part_of, has_part, part_for}
+use Rattle.itip_messages.specs.RoomMessage.{purpose_of, IsOfMessage}
+use Rattle.itip_messages.specs.Message.{IsDated, SaysComponent, event_slot, RepresentsMessage, component_names, is_component_for, is_part_of, has_part, part_for, WordFault}
 use Rattle.itip_messages.specs.OrganiserObject.{IsOrganiserFault}
-use Rattle.itip_messages.specs.Message.{WordFault}
 use Rattle.itip_messages.proofs.room_message_lemmas.BySlot.{kept_by_slot}
 
 abbrev Lines : Type 0
@@ -74,7 +73,7 @@ pub meeting_refuses : (object : Tree) (method : events.Method) (f : Fault) → N
 meeting_refuses object method Memory named s = tt
 meeting_refuses object method (Refused r) named s = in_meeting method named s
 
-pub object_refuses : (object : Tree) (operation : Operation) (f : Fault) → NamesOperation (tree_own object) operation → RefusesBy (IsOrganiserFault object operation) f → RefusesBy (MessageFault object) f
+pub object_refuses : (object : Tree) (operation : Operation) (f : Fault) → NamesMethod (tree_own object) operation → RefusesBy (IsOrganiserFault object operation) f → RefusesBy (MessageFault object) f
 object_refuses object operation Memory named s = tt
 object_refuses object operation (Refused r) named s = for_organiser (s named)
 
@@ -153,7 +152,7 @@ module _ (meeting : Event) (m : IsOfMessage meeting) (a e : SaidComponent) (c : 
 names_said : (room : List ℕ) (method : events.Method) (whole : Option revisions.Revision) (event : SaidComponent) (component : MessageComponent) → SaysComponent method whole event component → component_names room component ≡ names_room room event
 names_said room method whole event component s = ap (list_any (λ a. bytes_eq a.address room)) s.attendees
 
-module _ (room : List ℕ) (message : RoomMessage) (said : profile.Message) (same : method_said message.method ≡ said.method) (whole : Option revisions.Revision) where
+module _ (room : List ℕ) (message : Message) (said : profile.Message) (same : method_said message.method ≡ said.method) (whole : Option revisions.Revision) where
   abbrev Says : SaidComponent → MessageComponent → Type 0
   Says = SaysComponent said.method whole
 
@@ -201,7 +200,7 @@ body_said room method event content octets true n h k when is = (h, refl)
 body_said room method event content octets false true h k when is = (h, k, when, is)
 body_said room method event content octets false false h k when is = (h, k, refl)
 
-module _ (room : List ℕ) (message : RoomMessage) (said : profile.Message) (s : RepresentsMessage message said) where
+module _ (room : List ℕ) (message : Message) (said : profile.Message) (s : RepresentsMessage message said) where
   abbrev whole_of : Option revisions.Revision
   whole_of = option_map own_revision said.meeting.master
 
@@ -300,7 +299,7 @@ series_of_whole method whole event component s series is =
 
 -- ---- the loop over the components
 
-pub part_more : (room : List ℕ) (message : RoomMessage) (items : List MessageComponent) (i : ℕ) (x : MessageComponent) (old new : List revisions.Part) → i < length items → x ≡ get_or items i x
+pub part_more : (room : List ℕ) (message : Message) (items : List MessageComponent) (i : ℕ) (x : MessageComponent) (old new : List revisions.Part) → i < length items → x ≡ get_or items i x
     → has_part room message x ≡ true → old ≡ map (part_for room message) (filter (has_part room message) (take i items)) → new ≡ old ++ part_for room message x ∷ []
     → new ≡ map (part_for room message) (filter (has_part room message) (take (i + 1) items))
 part_more room message items i x old new w e h are is =
@@ -309,7 +308,7 @@ part_more room message items i x old new w e h are is =
     let one : filter p (take (i + 1) items) ≡ filter p (take i items) ++ x ∷ [] = filter_more p items i x w ∙ ap (λ y. filter p (take i items) ++ cond (p y) (y ∷ []) []) (sym e) ∙ ap (λ b. filter p (take i items) ++ cond b (x ∷ []) []) h in
     is ∙ ap (λ l. l ++ f x ∷ []) are ∙ sym (ap (map f) one ∙ map-append f (filter p (take i items)) (x ∷ []))
 
-pub part_less : (room : List ℕ) (message : RoomMessage) (items : List MessageComponent) (i : ℕ) (x : MessageComponent) (old : List revisions.Part) → i < length items → x ≡ get_or items i x
+pub part_less : (room : List ℕ) (message : Message) (items : List MessageComponent) (i : ℕ) (x : MessageComponent) (old : List revisions.Part) → i < length items → x ≡ get_or items i x
     → has_part room message x ≡ false → old ≡ map (part_for room message) (filter (has_part room message) (take i items)) → old ≡ map (part_for room message) (filter (has_part room message) (take (i + 1) items))
 part_less room message items i x old w e h are =
     let p = has_part room message in

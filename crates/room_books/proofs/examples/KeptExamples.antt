@@ -26,7 +26,8 @@ use Rattle.profile.specs.events.Events.{Event}
 use Rattle.profile.specs.events.Starts.{ComesBefore, EndsAt, IsInstance, IsRuleStart, key_at}
 use Rattle.profile.specs.events.Confirmed.{AreApart, AreOfRule, IsOfSeries, alone}
 use Rattle.profile.specs.rooms.Messages as messages
-use Rattle.profile.specs.rooms.Messages.{Content, SpellsMessage, IsContent, IsPart, WritesTimes, Accept, no_content, opening_lines}
+use Rattle.profile.specs.rooms.Messages.{Content, IsContent, IsPart, WritesTimes, Accept, no_content, opening_lines}
+use Rattle.profile.specs.events.Messages.{SpellsMessage}
 use Rattle.profile.specs.rooms.Revisions.{Part, Whole, At, Cancelled, Set, is_whole, slot_cmp}
 use Rattle.profile.specs.rooms.Rooms.{PartAnswer, Book, Claim, Confirms, Delivery, IsShownInSeries, Recurring, Runs, empty_book, confirmed_series, is_hidden, answered}
 use Rattle.profile.specs.streams.Streams.{IsDelivered}

@@ -22,7 +22,8 @@ use Rattle.std.proofs.lemmas.Option.{same_Some}
 use Rattle.profile.specs.events.Confirmed.{is_kept}
 use Rattle.profile.specs.events.Properties.{Says, BothOrNeither, OccursAtMostOnce, IsAddressLine, IsUidLine, IsSequenceLine, is_of, lines_named}
 use Rattle.profile.specs.rooms.Messages as messages
-use Rattle.profile.specs.rooms.Messages.{Content, SpellsMessage, IsPart, IsBody, IsContent, TellsSlot, cancels, own_revision, raised_to, slot_named, names_room}
+use Rattle.profile.specs.rooms.Messages.{Content, IsPart, IsBody, IsContent, TellsSlot, cancels, own_revision, raised_to, slot_named, names_room}
+use Rattle.profile.specs.events.Messages.{SpellsMessage}
 use Rattle.profile.specs.rooms.Revisions.{Part, Slot, Whole, At, Revision, Body, Set, Absent, Cancelled, revision_cmp}
 use Rattle.profile.specs.rooms.Rooms.{Claim, is_set, is_set_body}
 use Rattle.profile.specs.rooms.Kept.{IsEventOf, IsKeptEvent, HidesSlot, Shown}
@@ -45,7 +46,7 @@ use Rattle.cal_events.proofs.shared_lemmas.OneInstance.{event_sound}
 use Rattle.itip_messages.proofs.shared_lemmas.OwnLines.{SpellSlot, slot_lines, own_front, when_lines}
 use Rattle.room_books.proofs.laws_lemmas.KeptOwn.{SpellPart, own_back, own_lines, zoned_event, zoned_own, zoned_says}
 use Rattle.itip_messages.proofs.shared_lemmas.OwnWhen.{EventFacts, IsCleanSlot, duration_clean, duration_of, event_facts, when_of, written_rule}
-use Rattle.itip_messages.proofs.shared_lemmas.ZonedStarts.{local_written}
+use Rattle.itip_messages.proofs.shared_lemmas.ZonedStarts.{local_written, IsSaid, name_means, name_plain}
 use Rattle.room_books.proofs.laws_lemmas.KeptEvents.{hidden_own, hidden_event, hidden_says, kept_confirmed}
 use Rattle.room_books.proofs.laws_lemmas.KeptInstances.{kept_asks}
 use Rattle.room_books.proofs.laws_lemmas.KeptLines.{hidden_content, hidden_properties}
@@ -53,7 +54,6 @@ use Rattle.itip_messages.proofs.shared_lemmas.ObjectTree.{Lines, vevent_lines}
 use Rattle.itip_messages.proofs.shared_lemmas.ZonedObjects.{IsZonedTree}
 use Rattle.room_books.proofs.shared_lemmas.Loops.{zip_from}
 use Rattle.itip_messages.proofs.shared_lemmas.EventLines.{clean_value, vevent_among}
-use Rattle.itip_messages.proofs.shared_lemmas.ZonedStarts.{IsSaid, name_means, name_plain}
 
 -- octets ask the room for the part, with this content: it is that of one of the events that they say
 pub record IsAsked (room : List ℕ) (content : Content) (part : Part) : Type 0 where

@@ -9,7 +9,8 @@ use Rattle.std.proofs.lemmas.Cmp.{tied_itself}
 use Rattle.std.proofs.lemmas.List.Elements.{Contains-append_cases}
 use Rattle.profile.specs.events.EventComponents.{EventComponent}
 use Rattle.profile.specs.events.Events.{components_of}
-use Rattle.profile.specs.rooms.Messages.{Content, Message, Outcome, SpellsMessage, is_addressed, is_part_for, slot_of}
+use Rattle.profile.specs.rooms.Messages.{Content, Outcome, is_addressed, is_part_for, slot_of}
+use Rattle.profile.specs.events.Messages.{Message, SpellsMessage}
 use Rattle.profile.specs.rooms.Revisions.{Part, Slot, in_view, slot_cmp}
 use Rattle.profile.specs.rooms.Rooms.{Claim, PartAnswer, Book, empty_book, is_set, parts_of, asked, answered, IsStep, Delivery, Runs}
 use Rattle.profile.specs.streams.Streams.{IsDelivered, IsClaim, AreClaims}

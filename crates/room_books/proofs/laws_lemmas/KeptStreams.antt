@@ -2,8 +2,8 @@
 -- Cited by served_texts_pass.
 use Rattle.std.proofs.Common.{◌+◌, ℕ, ℤ, map, List, [], ◌∷◌, inl, inr, sym, subst}
 use Rattle.std.specs.List.{Contains}
-use Rattle.profile.specs.rooms.Messages.{Message, SpellsMessage}
-use Rattle.profile.specs.streams.Streams.{Box, Hosted, Config, Said, ToRooms, ToOrganiser, Spells, Steps, Takes, AllTake, Answers, AllAnswers, new_box}
+use Rattle.profile.specs.events.Messages.{Message, SpellsMessage}
+use Rattle.profile.specs.streams.Streams.{Box, Hosted, Config, ToRooms, ToOrganiser, Steps, Takes, AllTake, Answers, AllAnswers, new_box}
 use Rattle.profile.specs.rooms.Rooms.{empty_book}
 use Rattle.itip_order.proofs.Lists.{in_cons, none_in_nil}
 use Rattle.room_books.proofs.laws_lemmas.KeptRuns.{KeepsAll, keeps_none, keeps_step, all_asked}

@@ -1,7 +1,7 @@
 -- The room after the claims of a message represents the book after the step, and its reply shows what that book has.
 -- Cited by Room::take_claims.
 use Rattle.std.proofs.Common.{◌≡◌, ◌≢◌, ℕ, ℤ, ◌<◌, Bool, true, false, not, ◌&&◌, cond, List, [], ◌∷◌, ◌++◌, inl, inr, Option, None, Some, refl, sym, ap, ◌∙◌, subst, length, append-nil, append_assoc, arith}
-use Rattle.std.specs.Prelude.{◌==◌, IsTrue}
+use Rattle.std.specs.Prelude.{◌==◌, IsTrue, option_map}
 use Rattle.std.specs.List.{AllZip, Contains, filter}
 use Rattle.std.specs.Map.{keys_of, lookup}
 use Rattle.std.proofs.lemmas.Bool.{both_ways, cases_Bool, false_from_ne_true}
@@ -16,7 +16,6 @@ use Rattle.room_books.specs.Taking.{HasHistory}
 use Rattle.room_books.proofs.room_lemmas.Afters.{has_history}
 use Rattle.room_books.specs.declared.meeting.MeetingKey.{MeetingKey}
 use Rattle.room_books.specs.declared.kept.Meeting.{Meeting}
-use Rattle.std.specs.Prelude.{option_map}
 use Rattle.std.specs.Option.{option_to_list}
 use Rattle.profile.specs.events.EventComponents.{EventComponent}
 use Rattle.cal_events.specs.Series.{series_said}

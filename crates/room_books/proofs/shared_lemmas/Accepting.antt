@@ -1,19 +1,17 @@
 -- What became of a message says whether the room would be clear with it, and names a clash where it wouldn't.
 -- Cited by accepted_where_clear of laws, Room::take of room.
 use Rattle.std.proofs.Common.{◌≡◌, ◌∙◌, ℕ, ℤ, Bool, true, false, List, [], ◌∷◌, ◌++◌, refl, sym, ap, subst, arith, length}
-use Rattle.std.specs.Prelude.{◌↔◌, IsTrue, if◌then◌else◌, nat_lt}
+use Rattle.std.specs.Prelude.{◌↔◌, IsTrue, if◌then◌else◌, nat_lt, Option}
 use Rattle.std.specs.List.{list_any}
 use Rattle.std.proofs.lemmas.Bool.{false≢true, lt-ltb, ltb-true}
 use Rattle.profile.specs.Headline.{AcceptedWhereClear, DeclineNamesClash, count_asked, would_be}
 use Rattle.profile.specs.checker.Instances.{IsClear}
 use Rattle.profile.specs.rooms.Messages.{Outcome, Accept, Busy, SeriesLimit, SinglesLimit}
 use Rattle.profile.specs.rooms.Revisions.{Part}
-use Rattle.profile.specs.rooms.Rooms.{Book, Claim, Confirms, Decides, IsStep, IsWithinLimits, Kind, NamesClash, asked, if_accepted, is_fresh, is_same, kind_of, kind_of_outcome, parts_of}
-use Rattle.profile.specs.rooms.Rooms.{Accepted, Declined, Limit, Cancelled, Repeated, Stale, NotAddressed}
+use Rattle.profile.specs.rooms.Rooms.{Book, Claim, Confirms, Decides, IsStep, IsWithinLimits, Kind, NamesClash, asked, if_accepted, is_fresh, is_same, kind_of, kind_of_outcome, parts_of, Accepted, Declined, Limit, Cancelled, Repeated, Stale, NotAddressed}
 use Rattle.room_books.specs.Room.{StepsWith}
 use Rattle.room_books.specs.declared.kept.Meeting.{Meeting}
 use Rattle.room_books.specs.declared.meeting.MeetingKey.{MeetingKey}
-use Rattle.std.specs.Prelude.{Option}
 
 -- what became of a message of which no part is asked
 abbrev unasked : Bool → Bool → Kind

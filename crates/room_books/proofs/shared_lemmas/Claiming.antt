@@ -12,9 +12,9 @@ use Rattle.std.proofs.lemmas.Int.{ints}
 use Rattle.std.proofs.lemmas.Option.{slice_get_within, unwrap_or-slice_get}
 use Rattle.ical_values.specs.Octets.{address_octets, text_octets}
 use Rattle.cal_events.proofs.shared_lemmas.InOneOrder.{head_pairs, tail_pairs}
-use Rattle.itip_messages.specs.declared.room_message.RoomMessage.{RoomMessage}
-use Rattle.itip_messages.specs.declared.room_message.MessageComponent.{MessageComponent}
-use Rattle.itip_messages.specs.RoomMessage.{RepresentsMessage, SaysComponent, IsDated, is_component_for, has_part, part_for}
+use Rattle.itip_messages.specs.declared.message.Message.{Message}
+use Rattle.itip_messages.specs.declared.message_component.MessageComponent.{MessageComponent}
+use Rattle.itip_messages.specs.Message.{RepresentsMessage, SaysComponent, IsDated, is_component_for, has_part, part_for}
 use Rattle.itip_messages.proofs.shared_lemmas.MessageLemmas.{addressed, body_is, part_said, kept_said, kept_components, kept_among, no_events}
 use Rattle.itip_order.specs.Parts.{part_of}
 use Rattle.itip_order.proofs.Lists.{in_cons, in_head, in_tail, none_in_nil}
@@ -152,7 +152,7 @@ module _ (event : EventComponent) (timely : IsTimely event) (dated : IsDated (pr
 
 -- ---- the claim of one component
 
-module _ (room : List ℕ) (message : RoomMessage) (given : profile.Message) (s : RepresentsMessage message given) (event : EventComponent) (component : MessageComponent) (among : Contains (components_of given.meeting) event)
+module _ (room : List ℕ) (message : Message) (given : profile.Message) (s : RepresentsMessage message given) (event : EventComponent) (component : MessageComponent) (among : Contains (components_of given.meeting) event)
     (says : SaysComponent given.method (option_map own_revision given.meeting.master) event component) (claim : Claim) (x : IsClaimIn room message component claim) where
   abbrev part : Part
   part = part_for room message component
@@ -288,7 +288,7 @@ module _ (room : List ℕ) (message : RoomMessage) (given : profile.Message) (s 
 
 -- ---- all claims
 
-module _ (room : List ℕ) (message : RoomMessage) (given : profile.Message) (s : RepresentsMessage message given) where
+module _ (room : List ℕ) (message : Message) (given : profile.Message) (s : RepresentsMessage message given) where
   abbrev Says : EventComponent → MessageComponent → Type 0
   Says = SaysComponent given.method (option_map own_revision given.meeting.master)
 

@@ -1,6 +1,6 @@
 -- What a look-up in the view says of a hidden instance.
 -- Cited by is_start_hidden.
-use Rattle.std.proofs.Common.{◌≡◌, ℤ, Bool, true, false, ◌&&◌, Option, None, Some, sym, ap, subst, IsTrue}
+use Rattle.std.proofs.Common.{◌≡◌, ℤ, Bool, true, false, ◌&&◌, Option, None, Some, sym, ap, subst, IsTrue, List}
 use Rattle.std.specs.Prelude.{IfSome, IfNone, is_some}
 use denote.Ref.{Bor}
 use Rattle.std.specs.Ordering.{is_eq}
@@ -14,7 +14,6 @@ use Rattle.itip_order.proofs.Lasting.{view_taken}
 use Rattle.profile.specs.checker.Instances.{Instance}
 use Rattle.profile.specs.rooms.Revisions.{Part, Slot, Whole, At, slot_cmp, in_view, same_place}
 use Rattle.profile.specs.rooms.Rooms.{is_hidden}
-use Rattle.std.proofs.Common.{List}
 
 module _ (held history : List Part) (s : RepresentsHistory held history) (p : Part) (booked : Instance) (slot : ℤ) (e : booked.key.slot ≡ slot) where
   abbrev hides : Part → ℤ → Part → Bool

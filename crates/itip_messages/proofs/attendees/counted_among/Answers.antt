@@ -2,7 +2,7 @@
 use Rattle.std.proofs.Common.{◌∙◌, List, map, sym, ap, subst, arith, take_all, refl}
 use Rattle.cal_events.specs.Component.{attendee_of}
 use Rattle.profile.specs.events.EventComponents.{Attendee}
-use Rattle.profile.specs.organisers.Objects.{counted}
+use Rattle.profile.specs.events.Messages.{counted}
 use Rattle.itip_messages.proofs.attendees_lemmas.CountedLines.{AreCounted, line_counts, line_known, lines_more, none_counted}
 use Rattle.itip_messages.proofs.attendees.counted_among.Goals as goal
 use Rattle.itip_messages.proofs.attendees.counted_among.Goals.{then-is_new+in_ok-push, else-is_new}

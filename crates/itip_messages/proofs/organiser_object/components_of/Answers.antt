@@ -1,4 +1,4 @@
-use Rattle.itip_messages.specs.OrganiserObject.{SaysObjectComponent}
+use Rattle.itip_messages.specs.Message.{SaysComponent}
 use Rattle.itip_messages.proofs.shared_lemmas.MessageLemmas.{next_there, said_more}
 use Rattle.itip_messages.proofs.organiser_object.components_of.Goals as goal
 
@@ -14,5 +14,5 @@ of-requires c =
 
 pub loop-event-preserved : goal.loop-event-preserved
 loop-event-preserved c =
-    said_more SaysObjectComponent c.args.events.items c.loop-event.yielded _ c.next.new.self.rest.items c.in-Some.event c.loop-event.components.items c.push.new.self.items
+    said_more SaysComponent c.args.events.items c.loop-event.yielded _ c.next.new.self.rest.items c.in-Some.event c.loop-event.components.items c.push.new.self.items
     c.in_ok-of.field-0 c.loop-event.invariant.0 c.in-Some.ensures.steps.0 c.loop-event.invariant.1 c.in_ok-of.ensures c.in_ok-push.ensures.items

@@ -5,7 +5,7 @@ use Rattle.ical_tree.proofs.RefusalLemmas.{text_refuses, tree_refuses}
 use Rattle.cal_events.specs.Component.{vevents_of}
 use Rattle.cal_events.specs.declared.component.EventComponent.{EventComponent}
 use Rattle.itip_order.specs.Parts.{slot_of}
-use Rattle.itip_messages.specs.RoomMessage.{event_slot}
+use Rattle.itip_messages.specs.Message.{event_slot}
 use Rattle.itip_messages.proofs.own_lines_lemmas.LinesBySlot.{lines_found, object_refused, octets_refused, one_for_each}
 use Rattle.itip_messages.proofs.own_lines.component_lines.Goals as goal
 

@@ -2,7 +2,7 @@ use Rattle.std.proofs.Common.{subst, sym}
 use Rattle.ical_tree.specs.Tree.{tree_of}
 use Rattle.cal_events.specs.OneMeeting.{meeting_of}
 use Rattle.itip_messages.specs.OwnLines.{AreForRooms}
-use Rattle.itip_messages.specs.RoomMessage.{method_said}
+use Rattle.cal_events.specs.Component.{method_said}
 use Rattle.itip_messages.proofs.own_lines_lemmas.LinesBySlot.{added, ordered}
 use Rattle.itip_messages.proofs.shared_lemmas.MessageLemmas.{in_message}
 use Rattle.itip_messages.proofs.own_lines.events_for_rooms.Goals as goal

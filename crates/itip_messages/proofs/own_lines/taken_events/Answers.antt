@@ -5,12 +5,11 @@ use Rattle.ical_tree.specs.Tree.{tree_of}
 use Rattle.ical_tree.proofs.TreeOfLemmas.{tree_of-own}
 use Rattle.ical_values.proofs.Exits.{err_exit}
 use Rattle.profile.specs.events.Events.{EventFault}
-use Rattle.profile.specs.rooms.Messages.{MethodFault, MessageFault, in_method}
-use Rattle.cal_events.specs.Component.{component_of}
+use Rattle.profile.specs.events.Messages.{MethodFault, MessageFault, in_method}
+use Rattle.cal_events.specs.Component.{component_of, method_said}
 use Rattle.itip_messages.specs.Message.{NamesKind}
-use Rattle.itip_messages.specs.OrganiserObject.{IsOrganiserFault, operation_said}
+use Rattle.itip_messages.specs.OrganiserObject.{IsOrganiserFault}
 use Rattle.itip_messages.specs.OwnLines.{AreForOrganiser, AreForRooms, AreTaken}
-use Rattle.itip_messages.specs.RoomMessage.{method_said}
 use Rattle.itip_messages.proofs.own_lines_lemmas.LinesBySlot.{organiser_taken, rooms_taken}
 use Rattle.itip_messages.proofs.shared_lemmas.MessageLemmas.{meeting_refuses, object_refuses}
 use Rattle.itip_messages.proofs.own_lines.taken_events.Goals as goal
@@ -40,7 +39,7 @@ returns-in-ToRooms-clause-fault c =
 pub returns-clause-taken : goal.returns-clause-taken
 returns-clause-taken c =
     let object = tree_of c.args.object.now in
-    let operation = operation_said c.in-ToOrganiser.operation in
+    let operation = method_said c.in-ToOrganiser.operation in
     let named = subst (λ (ls : List (List ℕ)). NamesKind ls c.in_ok-method.field-0) (c.in_ok-properties.ensures ∙ sym (tree_of-own c.args.object.now)) c.in_ok-method.ensures.named in
     IfOk-weaker c.events_for_organiser.result (λ events. AreForOrganiser object operation (map component_of events.items)) (λ events. AreTaken object (map component_of events.items))
     (λ events are. organiser_taken object operation _ (rw c.in-ToOrganiser.is at named) are) c.events_for_organiser.ensures.says
@@ -48,7 +47,7 @@ returns-clause-taken c =
 pub returns-clause-fault : goal.returns-clause-fault
 returns-clause-fault c =
     let object = tree_of c.args.object.now in
-    let operation = operation_said c.in-ToOrganiser.operation in
+    let operation = method_said c.in-ToOrganiser.operation in
     let named = subst (λ (ls : List (List ℕ)). NamesKind ls c.in_ok-method.field-0) (c.in_ok-properties.ensures ∙ sym (tree_of-own c.args.object.now)) c.in_ok-method.ensures.named in
     IfErr-weaker c.events_for_organiser.result (RefusesBy (IsOrganiserFault object operation)) (RefusesBy (MessageFault object))
     (λ fault. object_refuses object operation fault (rw c.in-ToOrganiser.is at named)) c.events_for_organiser.ensures.fault

@@ -1,6 +1,7 @@
 use Rattle.std.proofs.Common.{option_map}
 use Rattle.itip_order.specs.Parts.{revision_of}
-use Rattle.itip_messages.specs.RoomMessage.{SaysComponent, method_said}
+use Rattle.itip_messages.specs.Message.{SaysComponent}
+use Rattle.cal_events.specs.Component.{method_said}
 use Rattle.itip_messages.proofs.shared_lemmas.MessageLemmas.{next_there, said_more}
 use Rattle.itip_messages.proofs.room_message.components_of.Goals as goal
 

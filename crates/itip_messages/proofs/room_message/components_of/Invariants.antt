@@ -1,8 +1,8 @@
 use Rattle.std.proofs.Common.{◌≡◌, ◌++◌, map, option_map}
 use Rattle.std.specs.List.{AllZip}
-use Rattle.cal_events.specs.Component.{component_of}
+use Rattle.cal_events.specs.Component.{component_of, method_said}
 use Rattle.itip_order.specs.Parts.{revision_of}
-use Rattle.itip_messages.specs.RoomMessage.{SaysComponent, method_said}
+use Rattle.itip_messages.specs.Message.{SaysComponent}
 use Rattle.itip_messages.proofs.room_message.components_of.Given as goal
 
 -- those so far are said

@@ -4,7 +4,7 @@ use Rattle.std.proofs.lemmas.Fn.{always_returns_same}
 use Rattle.std.proofs.lemmas.List.Sorted.{ranks_by}
 use Rattle.itip_order.proofs.Order.{slot_total}
 use Rattle.profile.specs.rooms.Revisions.{slot_cmp}
-use Rattle.itip_messages.specs.RoomMessage.{event_slot}
+use Rattle.itip_messages.specs.Message.{event_slot}
 use Rattle.itip_messages.proofs.room_message.sort_by_slot.Goals as goal
 
 pub returns-clause-rises : goal.returns-clause-rises

@@ -1,7 +1,7 @@
 use Rattle.std.proofs.Common.{◌∙◌, ◌+◌, List, take, arith, sym, ap, subst}
 use Rattle.std.specs.List.{AllZip, filter}
 use Rattle.ical_values.specs.Octets.{address_octets}
-use Rattle.itip_messages.specs.RoomMessage.{has_part}
+use Rattle.itip_messages.specs.Message.{has_part}
 use Rattle.room_books.specs.declared.claim.Claim.{Claim}
 use Rattle.room_books.specs.Claims.{IsClaimIn}
 use Rattle.room_books.proofs.shared_lemmas.Claiming.{zip_some, zip_skip}

@@ -1,6 +1,6 @@
 use Rattle.std.proofs.Common.{take}
 use Rattle.std.specs.List.{AllZip, filter}
-use Rattle.itip_messages.specs.RoomMessage.{has_part}
+use Rattle.itip_messages.specs.Message.{has_part}
 use Rattle.ical_values.specs.Octets.{address_octets}
 use Rattle.room_books.specs.Claims.{IsClaimIn}
 use Rattle.room_books.proofs.claims.all_claims.Given as goal

@@ -2,7 +2,7 @@ use Rattle.std.proofs.Common.{◌≡◌, ◌∙◌, sym, subst, true, arith}
 use Rattle.std.specs.List.{AllZip, filter, list_any}
 use Rattle.std.proofs.lemmas.Grind.{common_steps}
 use Rattle.ical_values.specs.Octets.{address_octets}
-use Rattle.itip_messages.specs.RoomMessage.{RepresentsMessage, is_component_for, has_part}
+use Rattle.itip_messages.specs.Message.{RepresentsMessage, is_component_for, has_part}
 use Rattle.profile.specs.rooms.Messages as profile
 use Rattle.room_books.specs.Claims.{AreClaimed, IsClaimIn}
 use Rattle.itip_messages.proofs.shared_lemmas.MessageLemmas.{addressed}

@@ -1,10 +1,9 @@
-use Rattle.std.proofs.Common.{◌≡◌, false, List, sym, subst, arith}
+use Rattle.std.proofs.Common.{◌≡◌, false, List, sym, subst, arith, Option}
 use Rattle.std.proofs.lemmas.List.{take_all}
 use Rattle.itip_order.specs.declared.part.Slot.{Slot as OwnSlot}
 use Rattle.itip_order.specs.declared.part.Slot.TheVariants as own
 use Rattle.itip_order.specs.Parts.{part_of}
 use Rattle.cal_events.specs.declared.series.Series.{Series}
-use Rattle.std.proofs.Common.{Option}
 use Rattle.room_books.specs.Taking.{is_hidden_by, IsSeriesLeft}
 use Rattle.room_books.proofs.series_lemmas.HiddenStarts.{none_before, none_hidden, series_whole}
 use Rattle.room_books.proofs.series.hides_start.Goals as goal

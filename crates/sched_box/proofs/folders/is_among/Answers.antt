@@ -1,6 +1,5 @@
-use Rattle.std.proofs.Common.{rules, ◌∙◌, sym}
+use Rattle.std.proofs.Common.{rules, ◌∙◌, sym, string_bytes}
 use Rattle.std.proofs.lemmas.Fn.{always_returns_same}
-use Rattle.std.proofs.Common.{string_bytes}
 use Rattle.profile.specs.rooms.Revisions.{octets_cmp}
 use Rattle.sched_box.proofs.NameOrder.{found}
 use Rattle.sched_box.proofs.folders.is_among.Goals as goal

@@ -1,6 +1,6 @@
 use Rattle.std.proofs.Common.{ap, sym, subst}
 use Rattle.ical_lines.specs.Text.{line_text}
-use Rattle.profile.specs.rooms.Messages.{MethodFault, two_methods}
+use Rattle.profile.specs.events.Messages.{MethodFault, two_methods}
 use Rattle.ical_values.proofs.Exits.{refusal_exit}
 use Rattle.itip_messages.proofs.shared_lemmas.MessageLemmas.{word_refuses}
 use Rattle.itip_messages.proofs.message.Addressee.of.Goals as goal

@@ -3,9 +3,8 @@ use Rattle.ical_lines.specs.Fault.{RefusesBy}
 use Rattle.ical_tree.specs.Tree.{tree_of}
 use Rattle.ical_tree.proofs.TreeOfLemmas.{tree_of-own}
 use Rattle.ical_values.proofs.Exits.{err_exit}
-use Rattle.profile.specs.rooms.Messages.{MethodFault, MessageFault, in_method}
-use Rattle.itip_messages.specs.RoomMessage.{method_said}
-use Rattle.itip_messages.specs.OrganiserObject.{operation_said}
+use Rattle.profile.specs.events.Messages.{MethodFault, MessageFault, in_method}
+use Rattle.cal_events.specs.Component.{method_said}
 use Rattle.itip_messages.specs.Message.{NamesKind}
 use Rattle.itip_messages.proofs.shared_lemmas.MessageLemmas.{meeting_refuses, object_refuses}
 use Rattle.itip_messages.proofs.message.Message.of_object.Goals as goal
@@ -34,4 +33,4 @@ returns-in_err-read-in-ToOrganiser-clause-fault c =
     let object = c.args.object.now in
     let named = subst (λ (ls : List (List ℕ)). NamesKind ls c.in_ok-method.field-0) (c.in_ok-properties.ensures ∙ sym (tree_of-own object)) c.in_ok-method.ensures.named in
     err_exit _ (RefusesBy (MessageFault (tree_of object))) _ c.from_residual-in_err-read-in-ToOrganiser.ensures.1
-    (object_refuses (tree_of object) (operation_said c.in-ToOrganiser.operation) _ (rw c.in-ToOrganiser.is at named) c.in_err-read-in-ToOrganiser.ensures.fault)
+    (object_refuses (tree_of object) (method_said c.in-ToOrganiser.operation) _ (rw c.in-ToOrganiser.is at named) c.in_err-read-in-ToOrganiser.ensures.fault)

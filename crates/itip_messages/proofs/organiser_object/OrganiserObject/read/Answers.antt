@@ -5,22 +5,23 @@ use Rattle.ical_lines.specs.Fault.{RefusesBy}
 use Rattle.ical_tree.specs.Tree.{tree_of}
 use Rattle.ical_values.specs.Octets.{address_octets, text_octets}
 use Rattle.ical_values.proofs.Exits.{err_exit}
-use Rattle.profile.specs.organisers.Objects.{AreOfMeeting, has_one_attendee, is_of_attendee}
-use Rattle.cal_events.specs.Component.{component_of}
+use Rattle.profile.specs.events.Messages.{AreOfMeeting, has_one_attendee, is_of_attendee}
+use Rattle.cal_events.specs.Component.{component_of, method_said}
 use Rattle.cal_events.specs.declared.component.EventComponent.{EventComponent}
-use Rattle.itip_messages.specs.OrganiserObject.{IsNotOneEach, IsOrganiserFault, operation_said}
+use Rattle.itip_messages.specs.OrganiserObject.{IsOrganiserFault}
+use Rattle.itip_messages.specs.Message.{IsNotOneEach}
 use Rattle.itip_messages.proofs.organiser_object_lemmas.ObjectLemmas.{as_they_are, said_by_tree, stamp_given, slot_dated, event_is_ready, organiser_given, meeting_wrong, attendee_wrong, of_meeting}
 use Rattle.itip_messages.proofs.organiser_object.OrganiserObject.read.Goals as goal
 
 pub returns-in_err-events-clause-fault : goal.returns-in_err-events-clause-fault
 returns-in_err-events-clause-fault c =
     let object = tree_of c.args.object.now in
-    err_exit _ (RefusesBy (IsOrganiserFault object (operation_said c.args.operation))) _ c.from_residual.ensures.1
+    err_exit _ (RefusesBy (IsOrganiserFault object (method_said c.args.operation))) _ c.from_residual.ensures.1
     (meeting_wrong c.args.operation _ c.purpose.ensures object _ (c.in_err-events.ensures.fault (as_they_are c.args.operation _ c.purpose.ensures)))
 
 pub returns-in_err-judge_attendees-clause-fault : goal.returns-in_err-judge_attendees-clause-fault
 returns-in_err-judge_attendees-clause-fault c =
-    let operation = operation_said c.args.operation in
+    let operation = method_said c.args.operation in
     let number = c.in_err-judge_attendees.field-0.0.number in
     let wrong = subst (λ (l : List EventComponent). IsNotOneEach operation (map component_of l) number) c.deref.ensures.value c.in_err-judge_attendees.ensures.fault in
     err_exit _ (RefusesBy (IsOrganiserFault (tree_of c.args.object.now) operation)) _ c.from_residual-in_err-judge_attendees.ensures.1
@@ -42,7 +43,7 @@ components_of-requires-clause-ready c = event_is_ready c.args.operation _ c.purp
 
 pub returns-clause-says : goal.returns-clause-says
 returns-clause-says c =
-    let operation = operation_said c.args.operation in
+    let operation = method_said c.args.operation in
     let items = c.in_ok-events.events.items in
     let events = c.in_ok-events.ensures in
     let name = c.in_ok-organiser.ensures in

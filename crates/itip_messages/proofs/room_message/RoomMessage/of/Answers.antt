@@ -4,10 +4,10 @@ use Rattle.std.specs.List.{AllZip}
 use Rattle.std.specs.List.Sorted.{IsPermutation}
 use Rattle.std.proofs.lemmas.List.Sorted.{IsPermutation-sym, Contains-permutation, length_permutation}
 use Rattle.cal_events.specs.declared.component.EventComponent.{EventComponent}
-use Rattle.cal_events.specs.Component.{component_of}
+use Rattle.cal_events.specs.Component.{component_of, method_said}
 use Rattle.cal_events.specs.OneMeeting.{meeting_of}
 use Rattle.profile.specs.rooms.Revisions as revisions
-use Rattle.itip_messages.specs.RoomMessage.{SaysComponent, method_said}
+use Rattle.itip_messages.specs.Message.{SaysComponent}
 use Rattle.itip_messages.proofs.room_message_lemmas.BySlot.{sorted_by_slot}
 use Rattle.itip_messages.proofs.shared_lemmas.MessageLemmas.{master_stamp, stamp_given, slot_dated, event_is_ready, organiser_given, some_event, one_organiser, one_uid, there}
 use Rattle.itip_messages.proofs.room_message.RoomMessage.of.Goals as goal

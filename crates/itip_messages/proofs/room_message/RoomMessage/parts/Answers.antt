@@ -1,9 +1,10 @@
 use Rattle.std.proofs.Common.{◌≡◌, ap, map, filter}
 use Rattle.std.proofs.lemmas.Result.{IfOk-weaker}
 use Rattle.ical_values.specs.Octets.{address_octets}
-use Rattle.profile.specs.rooms.Messages.{Message, AreParts}
+use Rattle.profile.specs.rooms.Messages.{AreParts}
+use Rattle.profile.specs.events.Messages.{Message}
 use Rattle.itip_order.specs.Parts.{parts_of}
-use Rattle.itip_messages.specs.RoomMessage.{RepresentsMessage, has_part, part_for}
+use Rattle.itip_messages.specs.Message.{RepresentsMessage, has_part, part_for}
 use Rattle.itip_messages.proofs.shared_lemmas.MessageLemmas.{no_parts, all_parts}
 use Rattle.itip_messages.proofs.room_message.RoomMessage.parts.Goals as goal
 

@@ -1,6 +1,6 @@
 use Rattle.ical_tree.specs.Tree.{tree_of}
 use Rattle.cal_events.specs.OneMeeting.{meeting_of}
-use Rattle.itip_messages.specs.RoomMessage.{method_said}
+use Rattle.cal_events.specs.Component.{method_said}
 use Rattle.itip_messages.proofs.room_message_lemmas.BySlot.{of_message}
 use Rattle.itip_messages.proofs.shared_lemmas.MessageLemmas.{in_message}
 use Rattle.itip_messages.proofs.room_message.RoomMessage.read.Goals as goal

@@ -2,7 +2,7 @@ use Rattle.std.proofs.Common.{◌≡◌, ◌∙◌, ◌++◌, false, List, take,
 use Rattle.std.specs.List.{flat_map}
 use Rattle.std.proofs.lemmas.List.{take_all}
 use Rattle.itip_order.specs.Parts.{revision_of}
-use Rattle.itip_messages.specs.declared.organiser_object.ObjectComponent.{ObjectComponent}
+use Rattle.itip_messages.specs.declared.message_component.MessageComponent.{MessageComponent}
 use Rattle.profile.specs.organisers.Organisers.{Heard}
 use Rattle.organiser_books.specs.Representation.{heard_said, is_unknown, AreSeen}
 use Rattle.organiser_books.proofs.Hearing.{none_passes, unknown_same}
@@ -26,7 +26,7 @@ loop-component-preserved c =
           let done = flat_map (heard_said stored.uid) (take place components) in
           let stranger : is_unknown c.loop-component.self component.attendees ≡ false =
           unknown_same c.loop-component.self c.args.self.now i.2 component.attendees
-          ∙ none_passes (λ (x : ObjectComponent). is_unknown c.args.self.now x.attendees) components place component known inside c.component-item.is in
+          ∙ none_passes (λ (x : MessageComponent). is_unknown c.args.self.now x.attendees) components place component known inside c.component-item.is in
           subst (λ (l : List Heard). AreSeen c.hear.new.self stored l)
           (append_assoc replies done (heard_said stored.uid component)
           ∙ ap (λ (l : List Heard). replies ++ l) (sym (ap (flat_map (heard_said stored.uid)) (one_more components place component inside c.component-item.is) ∙ flat_push (heard_said stored.uid) (take place components) component)))
@@ -37,5 +37,5 @@ loop-component-preserved c =
 pub returns-clause-seen : goal.returns-clause-seen
 returns-clause-seen c = λ stored replies revision seen known.
     let components = c.args.components.now in
-    subst (λ (l : List ObjectComponent). AreSeen c.loop-component.self stored (replies ++ flat_map (heard_said stored.uid) l)) (take_all c.loop-component.component-index components (omega arith))
+    subst (λ (l : List MessageComponent). AreSeen c.loop-component.self stored (replies ++ flat_map (heard_said stored.uid) l)) (take_all c.loop-component.component-index components (omega arith))
     (c.loop-component.invariant.4 stored replies revision seen known)

@@ -2,7 +2,7 @@ use Rattle.std.proofs.Common.{rules, false, ◌≡◌, ◌∙◌, sym, subst, tr
 use Rattle.std.specs.Str.{bytes_eq}
 use Rattle.std.proofs.lemmas.Bool.{both_ways, not-true}
 use Rattle.ical_values.specs.Octets.{address_octets}
-use Rattle.itip_messages.specs.OrganiserObject.{operation_said}
+use Rattle.cal_events.specs.Component.{method_said}
 use Rattle.itip_messages.specs.contracts.organiser_object.OperationPartialEq.TheImpl as operations
 use Rattle.organiser_books.specs.Calls.CallFault.{other_kind, other_organiser}
 use Rattle.organiser_books.proofs.Lines.{same_itself}
@@ -15,5 +15,5 @@ returns-then-ne-clause-fault c = λ said is book.
 
 pub returns-then-ne-2-clause-fault : goal.returns-then-ne-2-clause-fault
 returns-then-ne-2-clause-fault c = λ said is book.
-    let kind : operation_said c.args.object.now.operation ≡ operation_said c.args.operation = search rules in
+    let kind : method_said c.args.object.now.operation ≡ method_said c.args.operation = search rules in
     other_organiser (sym is.operation ∙ kind) (λ same. both_ways _ (subst (λ a. bytes_eq (address_octets a) (address_octets c.args.self.now.address) ≡ false) c.organiser.ensures (not-true _ (sym c.ne-2.ensures ∙ c.if-ne-2.true))) (subst (λ a. bytes_eq (address_octets c.args.object.now.organiser) a ≡ true) (is.organiser ∙ same) (same_itself (address_octets c.args.object.now.organiser))))

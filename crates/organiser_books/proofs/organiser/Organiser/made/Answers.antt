@@ -9,7 +9,7 @@ use Rattle.indexmap.specs.IndexMap.{get}
 use Rattle.ical_values.specs.declared.text.Text.{Text}
 use Rattle.organiser_books.specs.Representation.{same_text}
 use Rattle.organiser_books.specs.Storing.{LastAttends}
-use Rattle.itip_messages.specs.declared.organiser_object.ObjectComponent.{ObjectComponent}
+use Rattle.itip_messages.specs.declared.message_component.MessageComponent.{MessageComponent}
 use Rattle.organiser_books.specs.Attending.{lists_of, names, AreAttending, AreSentTo}
 use Rattle.organiser_books.proofs.Telling.{told_are, told_then}
 use Rattle.organiser_books.proofs.organiser.Organiser.made.Goals as goal
@@ -20,7 +20,7 @@ returns-clause-told c = λ before last q.
     let first = c.in_ok-attending.attending.entries in
     let next = c.tell.new.attending.entries in
     let after = c.tell-2.new.attending.entries in
-    let are : AreAttending lists first = subst (λ (l : List ObjectComponent). AreAttending (lists_of l) first) c.components.ensures c.in_ok-attending.ensures.attending in
+    let are : AreAttending lists first = subst (λ (l : List MessageComponent). AreAttending (lists_of l) first) c.components.ensures c.in_ok-attending.ensures.attending in
     let to = map address_octets c.in_ok-to.to.items in
     let gone = map address_octets c.in_ok-gone.gone.items in
     let these : AreSentTo to first next = subst (λ (l : List Address). AreSentTo (map address_octets l) first next) c.deref.ensures.value c.tell.ensures in

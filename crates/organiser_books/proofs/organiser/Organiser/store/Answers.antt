@@ -3,7 +3,7 @@ use Rattle.indexmap.specs.IndexMap.{get}
 use Rattle.ical_values.specs.Octets.{address_octets}
 use Rattle.ical_values.specs.declared.text.Text.{Text}
 use Rattle.profile.specs.organisers.Organisers.{most_sequence}
-use Rattle.itip_messages.specs.declared.organiser_object.ObjectComponent.{ObjectComponent}
+use Rattle.itip_messages.specs.declared.message_component.MessageComponent.{MessageComponent}
 use Rattle.itip_order.specs.declared.part.Revision.{Revision}
 use Rattle.organiser_books.specs.declared.meeting.StoredMeeting.{StoredMeeting}
 use Rattle.organiser_books.specs.Calls.{sent_of}
@@ -30,5 +30,5 @@ returns-clause-steps c = λ said is book keeps.
     let r = is_stored (address_octets c.args.self.now.address) object said is book meetings keeps.each c.args.now meeting (c.in-Some.ensures.is ∙ same) refl (map sent_of made.sent.items)
     (get same_text c.insert.new.self) (λ q. c.in_ok-insert.ensures.updates.0 q ∙ ap (λ (u : Text). cond (same_text u q) (Some meeting) (meetings q)) c.into_meeting-uid.ensures.uid)
     (sym is.operation ∙ c.in_ok-expect.ensures.kind) (sym is.organiser ∙ c.in_ok-expect.ensures.own) c.in-Some.ensures.fits
-    (ap (λ (v : Vec ObjectComponent Global). v.items) c.into_meeting-uid.ensures.components) c.in_ok-attending.ensures.attending c.new.ensures.empty c.in_ok-attending.ensures.sends c.in_ok-attending.ensures.told in
+    (ap (λ (v : Vec MessageComponent Global). v.items) c.into_meeting-uid.ensures.components) c.in_ok-attending.ensures.attending c.new.ensures.empty c.in_ok-attending.ensures.sends c.in_ok-attending.ensures.told in
     (r.0, (r.1.0, r.1.1, record { each = r.1.2 }))

@@ -1,7 +1,7 @@
 use Rattle.std.proofs.Common.{◌≡◌, ◌∙◌, refl, Option, None, Some, ap, sym, subst}
 use Rattle.indexmap.specs.IndexMap.{get}
 use Rattle.ical_values.specs.Octets.{address_octets, text_octets}
-use Rattle.profile.specs.organisers.Objects as objects
+use Rattle.profile.specs.events.Messages as objects
 use Rattle.profile.specs.organisers.Organisers.{last_store}
 use Rattle.organiser_books.specs.declared.meeting.StoredMeeting.{StoredMeeting}
 use Rattle.organiser_books.specs.Representation.{is_strange, same_text, RepresentsAt}

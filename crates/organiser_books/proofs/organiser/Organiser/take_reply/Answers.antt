@@ -4,10 +4,10 @@ use Rattle.ical_values.proofs.Exits.{any_err}
 use Rattle.indexmap.specs.IndexMap.{get}
 use Rattle.ical_values.specs.Octets.{address_octets, text_octets}
 use Rattle.ical_values.specs.declared.text.Text.{Text}
-use Rattle.profile.specs.organisers.Objects as objects
+use Rattle.profile.specs.events.Messages as objects
 use Rattle.profile.specs.organisers.Organisers.{OrganiserBook, last_store}
-use Rattle.itip_messages.specs.OrganiserObject.{RepresentsObject}
-use Rattle.itip_messages.specs.declared.organiser_object.ObjectComponent.{ObjectComponent}
+use Rattle.itip_messages.specs.Message.{RepresentsMessage}
+use Rattle.itip_messages.specs.declared.message_component.MessageComponent.{MessageComponent}
 use Rattle.organiser_books.specs.declared.meeting.StoredMeeting.{StoredMeeting}
 use Rattle.organiser_books.specs.declared.organiser.Organiser.{Organiser}
 use Rattle.organiser_books.specs.Calls.{CallFault}
@@ -29,11 +29,11 @@ returns-in_err-take_reply-clause-fault c =
     let uid = text_octets object.uid in
     let m = c.in-Some.meeting.now in
     let address = address_octets c.args.self.now.address in
-    fault_exit _ (λ n. (said : objects.OrganiserObject) → RepresentsObject object said → (book : OrganiserBook) → Keeps c.args.self.now book → CallFault objects.Reply address said book n)
+    fault_exit _ (λ n. (said : objects.OrganiserObject) → RepresentsMessage object said → (book : OrganiserBook) → Keeps c.args.self.now book → CallFault objects.Reply address said book n)
     (IsReplyFault m c.components.result.now) _
     (λ n fault said is book keeps.
     let found : RepresentsAt book uid (Some m) (last_store uid book) = subst (λ (o : Option StoredMeeting). RepresentsAt book uid o (last_store uid book)) (sym (c.in-Some.ensures.value ∙ ap (get same_text c.args.self.now.meetings) c.uid.ensures)) (keeps.each object.uid) in
-    reply_fault address object said is book m found n (sym is.operation ∙ c.in_ok-expect.ensures.kind) (sym is.organiser ∙ c.in_ok-expect.ensures.own) (subst (λ (l : List ObjectComponent). IsReplyFault m l n) c.components.ensures fault))
+    reply_fault address object said is book m found n (sym is.operation ∙ c.in_ok-expect.ensures.kind) (sym is.organiser ∙ c.in_ok-expect.ensures.own) (subst (λ (l : List MessageComponent). IsReplyFault m l n) c.components.ensures fault))
     c.from_residual-in_err-take_reply.ensures.1 c.in_err-take_reply.ensures.refuses
 
 pub returns-in_err-take_reply-clause-err : goal.returns-in_err-take_reply-clause-err
@@ -61,5 +61,5 @@ returns-clause-steps c = λ said is book keeps.
     c.take_reply.ensures.revision c.take_reply.ensures.components c.take_reply.ensures.attending c.take_reply.ensures.object
     (sym is.operation ∙ c.in_ok-expect.ensures.kind) (sym is.organiser ∙ c.in_ok-expect.ensures.own)
     (ap (is_ahead m) (sym c.components.ensures) ∙ c.in_ok-take_reply.ensures.sent) (ap (is_strange m) (sym c.components.ensures) ∙ c.in_ok-take_reply.ensures.known)
-    (λ s replies rev seen. subst (λ (l : List ObjectComponent). AreSeen n s (replies ++ flat_map (heard_said s.uid) l)) c.components.ensures (c.in_ok-take_reply.ensures.seen s replies rev seen)) in
+    (λ s replies rev seen. subst (λ (l : List MessageComponent). AreSeen n s (replies ++ flat_map (heard_said s.uid) l)) c.components.ensures (c.in_ok-take_reply.ensures.seen s replies rev seen)) in
     (r.0, record { each = r.1 })

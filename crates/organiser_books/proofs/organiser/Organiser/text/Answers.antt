@@ -5,8 +5,8 @@ use Rattle.profile.specs.rooms.Revisions.{Revision}
 use Rattle.profile.specs.organisers.Organisers.{ShowsSeen, last_store}
 use Rattle.profile.specs.organisers.Sent.{IsMeetingText}
 use Rattle.itip_order.specs.Parts.{revision_of}
-use Rattle.itip_messages.specs.OrganiserObject.{SaysObjectComponent}
-use Rattle.itip_messages.specs.declared.organiser_object.ObjectComponent.{ObjectComponent}
+use Rattle.itip_messages.specs.Message.{SaysComponent}
+use Rattle.itip_messages.specs.declared.message_component.MessageComponent.{MessageComponent}
 use Rattle.organiser_books.specs.declared.meeting.StoredMeeting.{StoredMeeting}
 use Rattle.organiser_books.specs.Shown.{ShowsAnswered}
 use Rattle.organiser_books.specs.Representation.{RepresentsAt}
@@ -23,7 +23,7 @@ returns c = λ book keeps.
     let known = represented_known book uid m (last_store uid book) found in
     let stored = known.0 in
     let w = c.in_ok-write_meeting.ensures.ok in
-    let written = w.1 stored.events (subst (λ (l : List ObjectComponent). AllZip SaysObjectComponent stored.events l) (sym c.deref.ensures.value) known.2.components) in
+    let written = w.1 stored.events (subst (λ (l : List MessageComponent). AllZip SaysComponent stored.events l) (sym c.deref.ensures.value) known.2.components) in
     let lifted = text_lift None organiser uid (revision_of m.revision) (ShowsAnswered m) (ShowsSeen book stored) (shows_seen m book stored known.2) stored.events w.0 written in
     let octets : c.write_meeting.new.out.items ≡ w.0 = w.2 ∙ ap (λ (l : List ℕ). l ++ w.0) c.new-octets.ensures.items in (
       stored,

@@ -8,8 +8,8 @@ use Rattle.room_books.specs.declared.claim.Claim.{Claim}
 use Rattle.room_books.specs.Claims.{AreClaimed}
 use Rattle.room_books.specs.Taking.{claims_said, kind_view, reply_octets, refresh_octets}
 use Rattle.room_books.specs.Room.{StepsWith}
-use Rattle.itip_messages.specs.RoomMessage.{method_said}
-use Rattle.itip_messages.specs.declared.room_message.Method.{Method}
+use Rattle.cal_events.specs.Component.{method_said}
+use Rattle.cal_events.specs.declared.method.Method.{Method}
 use Rattle.profile.specs.rooms.Messages.{is_add}
 use Rattle.room_books.proofs.shared_lemmas.Accepting.{steps_accept, steps_decline}
 use Rattle.room_books.proofs.shared_lemmas.Claiming.{first_in, none_first}

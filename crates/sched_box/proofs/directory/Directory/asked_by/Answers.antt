@@ -2,9 +2,10 @@ use Rattle.std.proofs.Common.{◌≡◌, ◌∙◌, ◌<◌, ◌≤◌, ◌&&◌
 use Rattle.std.specs.Vec.{vec_len}
 use Rattle.std.proofs.Math.Bool.{and-false}
 use Rattle.std.proofs.lemmas.Bool.{true≢false}
-use Rattle.itip_messages.specs.RoomMessage.{cancels_for_all, method_said}
+use Rattle.itip_messages.specs.Message.{cancels_for_all}
+use Rattle.cal_events.specs.Component.{method_said}
 use Rattle.profile.specs.rooms.Messages.{is_cancel}
-use Rattle.itip_messages.specs.declared.room_message.MessageComponent.{MessageComponent}
+use Rattle.itip_messages.specs.declared.message_component.MessageComponent.{MessageComponent}
 use Rattle.sched_box.specs.Asked.{LeavesOut, directory_addresses}
 use Rattle.sched_box.proofs.AskedLemmas.{AsksSofar, asks_sofar, asks_more, asks_all, not_cancel}
 use Rattle.sched_box.proofs.directory.Directory.asked_by.Goals as goal
