@@ -1,5 +1,5 @@
 -- The attendees of a meeting, as an organiser has them in memory. Components count here only as their ATTENDEE lines.
-use Rattle.std.specs.Prelude.{◌≡◌, ℕ, ◌≤◌, ◌==◌, Bool, true, false, not, ◌||◌, ◌&&◌, if◌then◌else◌, List, ◌++◌, map, filter, Option, None, Some, option_map}
+use Rattle.std.specs.Prelude.{◌≡◌, ℕ, ◌≤◌, ◌==◌, Bool, true, false, not, ◌||◌, ◌&&◌, if◌then◌else◌, List, ◌++◌, map, filter, Option, None, Some, is_some, option_map}
 use Rattle.std.specs.List.{flat_map, list_any}
 use Rattle.std.specs.Map.{lookup, keys_of}
 use Rattle.std.specs.Str.{bytes_eq}
@@ -7,6 +7,7 @@ use Rattle.ical_values.specs.Octets.{address_octets}
 use Rattle.ical_values.specs.declared.address.Address.{Address}
 use Rattle.profile.specs.events.EventComponents.{Attendee, EventComponent}
 use Rattle.profile.specs.events.Messages.{counted}
+use Rattle.profile.specs.organisers.Organisers.{without}
 use Rattle.profile.specs.rooms.Kept.{each_once}
 use Rattle.itip_messages.specs.declared.message_component.MessageComponent.{MessageComponent}
 use Rattle.organiser_books.specs.declared.attending.Attendance.{Attendance}
@@ -36,6 +37,12 @@ scheduled_among lists = filter (λ address. list_any (schedules_line address) li
 -- and without the organiser
 abbrev pub sent_among : List ℕ → List (List Attendee) → List (List ℕ)
 sent_among organiser lists = filter (λ address. not (bytes_eq address organiser)) (scheduled_among lists)
+
+-- of those that the server sent messages by the first components, those who get a CANCEL and no REQUEST of the second: where these call the meeting
+-- off whom it doesn't send messages by them, else whom they don't name
+abbrev pub gone_among : Bool → List ℕ → List (List Attendee) → List (List Attendee) → List (List ℕ)
+gone_among true organiser before lists = without (sent_among organiser before) (sent_among organiser lists)
+gone_among false organiser before lists = without (sent_among organiser before) (each_once (flat_map addresses_in lists))
 
 -- ---- in memory
 
@@ -119,8 +126,13 @@ is_no_organiser organiser address = not (bytes_eq (address_octets address) organ
 abbrev pub sent_in : List ℕ → Entries → List (List ℕ)
 sent_in organiser entries = map (λ entry. address_octets entry.0) (filter (λ entry. entry.1.scheduled && is_no_organiser organiser entry.0) entries)
 
--- those of the first whom the server no longer sends messages by the second
-abbrev pub gone_in : List ℕ → Entries → Entries → List (List ℕ)
-gone_in organiser last now =
+-- a store reaches the address, as is known in memory: where it calls the meeting off by a message of the server, else by naming it
+abbrev pub is_reached : Bool → List ℕ → Entries → Bool
+is_reached true address entries = is_sent address entries
+is_reached false address entries = is_some (attendance_of address entries)
+
+-- those of the first whom the server sent messages, and whom the second doesn't reach
+abbrev pub gone_in : Bool → List ℕ → Entries → Entries → List (List ℕ)
+gone_in called_off organiser last now =
     map (λ entry. address_octets entry.0)
-    (filter (λ entry. is_no_organiser organiser entry.0 && (entry.1.scheduled && not (is_sent (address_octets entry.0) now))) last)
+    (filter (λ entry. (entry.1.scheduled && is_no_organiser organiser entry.0) && not (is_reached called_off (address_octets entry.0) now)) last)

@@ -11,17 +11,17 @@ use Rattle.organiser_books.specs.declared.outgoing.Outgoing.{Outgoing}
 abbrev pub sent_of : Outgoing → Sent
 sent_of outgoing = record { to = map address_octets outgoing.to.items; octets = outgoing.octets.items }
 
--- an organiser of this address, which keeps this book, takes the object by the call for this operation
-pub record MayTake (operation : Operation) (address : List ℕ) (said : Message) (book : OrganiserBook) : Type 0 where
-  pub kind : said.method ≡ operation
+-- an organiser of this address, which keeps this book, takes the object by the call for this METHOD
+pub record MayTake (method : Method) (address : List ℕ) (said : Message) (book : OrganiserBook) : Type 0 where
+  pub kind : said.method ≡ method
   pub organiser : said.organiser ≡ address
   pub allowed : (n : ℕ) → StateFault said book n → ⊥
 
 -- and refuses it by that call: it is of another kind, or to another organiser, or it has a fault beside what is kept
-pub data CallFault (operation : Operation) (address : List ℕ) (said : Message) (book : OrganiserBook) : ℕ → Type 0 where
-  other_kind : said.method ≢ operation → CallFault operation address said book 60
-  other_organiser : said.method ≡ operation → said.organiser ≢ address → CallFault operation address said book 70
-  in_state : {n : ℕ} → said.method ≡ operation → said.organiser ≡ address → StateFault said book n → CallFault operation address said book n
+pub data CallFault (method : Method) (address : List ℕ) (said : Message) (book : OrganiserBook) : ℕ → Type 0 where
+  other_kind : said.method ≢ method → CallFault method address said book 60
+  other_organiser : said.method ≡ method → said.organiser ≢ address → CallFault method address said book 70
+  in_state : {n : ℕ} → said.method ≡ method → said.organiser ≡ address → StateFault said book n → CallFault method address said book n
 
 -- their numbers
 abbrev pub is_call_fault : ℕ → Bool

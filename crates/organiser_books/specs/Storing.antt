@@ -4,7 +4,7 @@ use Rattle.std.specs.List.{list_any}
 use Rattle.std.specs.Str.{bytes_eq}
 use Rattle.ical_values.specs.Octets.{address_octets, text_octets}
 use Rattle.profile.specs.events.EventComponents.{Attendee, EventComponent}
-use Rattle.profile.specs.organisers.Organisers.{Sent, Sends, Stored, without}
+use Rattle.profile.specs.organisers.Organisers.{Sent, Sends, Stored}
 use Rattle.profile.specs.organisers.Sent.{IsCancel, IsRequest}
 use Rattle.itip_order.specs.Parts.{revision_of}
 use Rattle.itip_order.specs.declared.part.Slot.{Slot}
@@ -14,7 +14,7 @@ use Rattle.itip_messages.specs.declared.message_component.MessageComponent.{Mess
 use Rattle.itip_order.specs.declared.part.Revision.{Revision}
 use Rattle.itip_messages.specs.declared.message.Message.{Message}
 use Rattle.organiser_books.specs.declared.meeting.StoredMeeting.{StoredMeeting}
-use Rattle.organiser_books.specs.Attending.{lists_of, names, sent_among, AreAttending}
+use Rattle.organiser_books.specs.Attending.{gone_among, lists_of, names, sent_among, AreAttending}
 
 -- the greatest SEQUENCE of these components
 abbrev pub own_in : List MessageComponent → ℕ
@@ -62,14 +62,15 @@ LastAttends lists None = lists ≡ []
 LastAttends lists (Some last) = AreAttending lists last.attending.entries
 
 -- the address is one of the attendees, and it was sent messages or no longer is
-abbrev pub is_told_by : List ℕ → List (List Attendee) → List (List Attendee) → List ℕ → Bool
-is_told_by organiser before lists address =
+abbrev pub is_told_by : Bool → List ℕ → List (List Attendee) → List (List Attendee) → List ℕ → Bool
+is_told_by called_off organiser before lists address =
     list_any (names address) lists
-    && (list_any (bytes_eq address) (sent_among organiser lists) || list_any (bytes_eq address) (without (sent_among organiser before) (sent_among organiser lists)))
+    && (list_any (bytes_eq address) (sent_among organiser lists) || list_any (bytes_eq address) (gone_among called_off organiser before lists))
 
 -- what is made of these events by an object that is stored with this revision
 abbrev pub SendsObject : List ℕ → Message → Revision → List EventComponent → List (List Attendee) → List ℕ → List Sent → Type 0
 SendsObject organiser object revision events before octets sent =
     SendsTo (calls_off object.components.items) (address_octets object.organiser)
     (record { uid = text_octets object.uid; events = events; revision = revision_of revision; object = octets; told = [] })
-    (sent_among organiser (lists_of object.components.items)) (without (sent_among organiser before) (sent_among organiser (lists_of object.components.items))) sent
+    (sent_among organiser (lists_of object.components.items))
+    (gone_among (calls_off object.components.items) organiser before (lists_of object.components.items)) sent

@@ -3,9 +3,8 @@
 ghost use Rattle.std.specs.Prelude.{◌≡◌, ◌&&◌, not, ◌++◌, ◌∷◌, [], ℕ, List, map, IfOk, OnOk};
 ghost use Rattle.ical_values.specs.Octets.{address_octets};
 ghost use Rattle.profile.specs.events.EventComponents as events;
-ghost use Rattle.profile.specs.organisers.Organisers.{without};
 ghost use Rattle.cal_events.specs.Component.{attendee_of};
-ghost use Rattle.organiser_books.specs.Attending.{lists_of, is_no_organiser, is_sent, is_told, sent_among, AreAttending, AreNoted, AreSentTo, AreUntold};
+ghost use Rattle.organiser_books.specs.Attending.{gone_among, lists_of, is_no_organiser, is_reached, is_sent, is_told, sent_among, AreAttending, AreNoted, AreSentTo, AreUntold};
 
 use cal_events::Attendee;
 use ical_values::Address;
@@ -146,19 +145,20 @@ pub(crate) fn sent(
     Ok(sent)
 }
 
-/// Those whom the server of this organiser sent messages, and no longer does.
+/// Of the attendees of the last store those whom the server of this organiser sent messages, and whom this one doesn't reach any more.
 pub(crate) fn gone(
     alloc: Global,
     organiser: &Address,
     last: &Attending,
     now: &Attending,
+    called_off: bool,
 ) -> Result<Vec<Address>, AllocError>
     ensures { IfOk result (λ gone. (before lists : List (List events.Attendee)) → AreAttending before last.now.entries → AreAttending lists now.now.entries
-        → map address_octets gone.items ≡ without (sent_among (address_octets organiser.now) before) (sent_among (address_octets organiser.now) lists)) }
+        → map address_octets gone.items ≡ gone_among called_off (address_octets organiser.now) before lists) }
 {
     let mut gone = Vec::new(alloc);
     for (address, attendance) in last {
-        if is_gone(organiser, address, attendance, now) {
+        if is_sent_to(organiser, address, attendance) && !is_reached(now, address, called_off) {
             gone.push(address.clone()?)?;
         }
     }
@@ -172,9 +172,13 @@ fn is_sent_to(organiser: &Address, address: &Address, attendance: &Attendance) -
     attendance.scheduled && address != organiser
 }
 
-/// Whether it sent messages to this attendee of the last store, and no longer does.
-fn is_gone(organiser: &Address, address: &Address, attendance: &Attendance, now: &Attending) -> bool
-    ensures { result ≡ (is_no_organiser (address_octets organiser.now) address.now && (attendance.now.scheduled && not (is_sent (address_octets address.now) now.now.entries))) }
+/// Whether a store reaches this address: where it calls the meeting off, whom the server sends messages; else whom a component names. One who is
+/// still named and left to a client gets no CANCEL, for the client speaks to him.
+fn is_reached(now: &Attending, address: &Address, called_off: bool) -> bool
+    ensures { result ≡ is_reached called_off (address_octets address.now) now.now.entries }
 {
-    address != organiser && (attendance.scheduled && !is_sent(now, address))
+    if called_off {
+        return is_sent(now, address);
+    }
+    now.contains_key(address)
 }

@@ -5,28 +5,29 @@ ghost use Rattle.std.specs.List.{AllZip};
 ghost use Rattle.indexmap.specs.IndexMap.{get};
 ghost use Rattle.ical_lines.specs.Fault.{RefusesOnly, RefusesBy};
 ghost use Rattle.ical_values.specs.Octets.{address_octets, text_octets};
+ghost use Rattle.profile.specs.events.EventComponents as events;
 ghost use Rattle.profile.specs.events.EventComponents.{Attendee, EventComponent};
 ghost use Rattle.profile.specs.events.Messages as profile;
-ghost use Rattle.profile.specs.organisers.Organisers.{OrganiserBook, empty_organiser, after_reply, without, IsSeen, IsShown, IsStore};
+ghost use Rattle.profile.specs.organisers.Organisers.{OrganiserBook, empty_organiser, after_reply, IsSeen, IsShown, IsStore};
 ghost use Rattle.cal_events.specs.Component.{participation_of, method_said};
 ghost use Rattle.itip_order.specs.Parts.{slot_of};
 ghost use Rattle.itip_messages.specs.Message.{SaysComponent, RepresentsMessage};
 ghost use Rattle.organiser_books.specs.Representation.{Keeps, address_of, same_text};
-ghost use Rattle.organiser_books.specs.Attending.{is_told, lists_of, sent_among, AreAttending};
-ghost use Rattle.organiser_books.specs.Storing.{LastAttends, SendsObject, is_told_by};
+ghost use Rattle.organiser_books.specs.Attending.{gone_among, is_told, lists_of, AreAttending};
+ghost use Rattle.organiser_books.specs.Storing.{LastAttends, SendsObject, calls_off, is_told_by};
 ghost use Rattle.organiser_books.specs.Calls.{AnswersRefresh, CallFault, MayTake, is_call_fault, sent_of};
 
 use crate::attending::{Attending, attending, gone, sent, tell};
 use crate::meeting::StoredMeeting;
 use crate::outgoing::Outgoing;
-use crate::sending::{Sending, send};
+use crate::sending::{Sending, calls_off, send};
 use crate::sequence::sequence_after;
 use crate::shown::Shown;
-use cal_events::PartStat;
+use cal_events::{Method, PartStat};
 use ical_lines::{Fault, Refusal};
 use ical_values::{Address, Stamp, Text};
 use indexmap::IndexMap;
-use itip_messages::{MeetingText, Operation, Message, write_meeting};
+use itip_messages::{MeetingText, Message, MessageComponent, write_meeting};
 use itip_order::{Revision, Slot};
 use std::alloc::{AllocError, Global};
 
@@ -70,22 +71,22 @@ impl Organiser {
         &self.address
     }
 
-    /// Stores a meeting at a moment: its attendees are sent a REQUEST, or a CANCEL where it is cancelled, and those of the last store whom
-    /// the server no longer sends messages a CANCEL. What they answered to the last store counts no longer (RFC 6638 3.2.1, 3.2.8).
+    /// Stores a meeting at a moment: its attendees are sent a REQUEST, and those of the last store whom no VEVENT names any more a CANCEL; where it
+    /// is cancelled all of both are sent a CANCEL, also those whom the server no longer sends messages. What they answered to the last store counts no longer (RFC 6638 3.2.1, 3.2.8).
     /// Refused, and then nothing has changed: 60 for an object that isn't a store, 70 for one of another organiser, 72 where no greater
     /// SEQUENCE is left.
-    pub fn store(&mut self, object: Message, now: Stamp) -> Result<Vec<Outgoing>, Fault>
+    pub fn store(&mut self, object: &Message, now: Stamp) -> Result<Vec<Outgoing>, Fault>
         // From each book that it keeps it makes a step of the organiser machine.
-        ensures steps { IfOk result (λ sent. (said : profile.OrganiserObject) → RepresentsMessage object said → (book : OrganiserBook) → Keeps self.old book
-            → MayTake profile.Store (address_of self.old) said book
+        ensures steps { IfOk result (λ sent. (said : profile.Message) → RepresentsMessage object.now said → (book : OrganiserBook) → Keeps self.old book
+            → MayTake events.Store (address_of self.old) said book
             × ((after : OrganiserBook) × IsStore now said book (map sent_of sent.items) after × Keeps self.new after)) }
         ensures refuses { IfErr result (RefusesOnly is_call_fault) }
-        ensures fault { IfErr result (RefusesBy (λ n. (said : profile.OrganiserObject) → RepresentsMessage object said → (book : OrganiserBook) → Keeps self.old book
-            → CallFault profile.Store (address_of self.old) said book n)) }
+        ensures fault { IfErr result (RefusesBy (λ n. (said : profile.Message) → RepresentsMessage object.now said → (book : OrganiserBook) → Keeps self.old book
+            → CallFault events.Store (address_of self.old) said book n)) }
         ensures address { address_of self.new ≡ address_of self.old }
         ensures err { OnErr result ((book : OrganiserBook) → Keeps self.old book → Keeps self.new book) }
     {
-        self.expect(&object, Operation::Store)?;
+        self.expect(object, Method::Store)?;
         let Some(sequence) = sequence_after(self.meetings.get(object.uid()), object.components())
         else {
             return Err(Fault::Refused(Refusal::SEQUENCE_SPENT));
@@ -98,8 +99,9 @@ impl Organiser {
             attending,
             object: octets,
             sent,
-        } = self.made(&object, &revision)?;
-        let (uid, components) = object.into_meeting();
+        } = self.made(object, &revision)?;
+        let uid = object.uid().clone()?;
+        let components = copies_of(self.alloc, object.components())?;
         let meeting = StoredMeeting {
             revision,
             components,
@@ -115,15 +117,15 @@ impl Organiser {
     /// Refused, and then nothing has changed: 60 for an object that isn't a REPLY, 70 for one to another organiser, 71 for a meeting that isn't
     /// known or a SEQUENCE that wasn't sent yet, 73 for one who isn't an attendee of the last store.
     pub fn take_reply(&mut self, object: &Message) -> Result<(), Fault>
-        ensures steps { IfOk result (λ _. (said : profile.OrganiserObject) → RepresentsMessage object.now said → (book : OrganiserBook) → Keeps self.old book
-            → MayTake profile.Reply (address_of self.old) said book × Keeps self.new (after_reply said book)) }
+        ensures steps { IfOk result (λ _. (said : profile.Message) → RepresentsMessage object.now said → (book : OrganiserBook) → Keeps self.old book
+            → MayTake events.Reply (address_of self.old) said book × Keeps self.new (after_reply said book)) }
         ensures refuses { IfErr result (RefusesOnly is_call_fault) }
-        ensures fault { IfErr result (RefusesBy (λ n. (said : profile.OrganiserObject) → RepresentsMessage object.now said → (book : OrganiserBook) → Keeps self.old book
-            → CallFault profile.Reply (address_of self.old) said book n)) }
+        ensures fault { IfErr result (RefusesBy (λ n. (said : profile.Message) → RepresentsMessage object.now said → (book : OrganiserBook) → Keeps self.old book
+            → CallFault events.Reply (address_of self.old) said book n)) }
         ensures address { address_of self.new ≡ address_of self.old }
         ensures err { OnErr result ((book : OrganiserBook) → Keeps self.old book → Keeps self.new book) }
     {
-        self.expect(object, Operation::Reply)?;
+        self.expect(object, Method::Reply)?;
         let Some(meeting) = self.meetings.get_mut(object.uid()) else {
             return Err(Fault::Refused(Refusal::NOT_SENT));
         };
@@ -135,13 +137,13 @@ impl Organiser {
     /// Refused: 60 for an object that isn't a REFRESH, 70 for one to another organiser, 71 for a meeting that isn't known, 73 for one who isn't
     /// an attendee of the last store.
     pub fn take_refresh(&self, object: &Message) -> Result<Vec<u8>, Fault>
-        ensures steps { IfOk result (λ octets. (said : profile.OrganiserObject) → RepresentsMessage object.now said → (book : OrganiserBook) → Keeps self.now book
-            → MayTake profile.Refresh (address_of self.now) said book × AnswersRefresh said book octets.items) }
+        ensures steps { IfOk result (λ octets. (said : profile.Message) → RepresentsMessage object.now said → (book : OrganiserBook) → Keeps self.now book
+            → MayTake events.Refresh (address_of self.now) said book × AnswersRefresh said book octets.items) }
         ensures refuses { IfErr result (RefusesOnly is_call_fault) }
-        ensures fault { IfErr result (RefusesBy (λ n. (said : profile.OrganiserObject) → RepresentsMessage object.now said → (book : OrganiserBook) → Keeps self.now book
-            → CallFault profile.Refresh (address_of self.now) said book n)) }
+        ensures fault { IfErr result (RefusesBy (λ n. (said : profile.Message) → RepresentsMessage object.now said → (book : OrganiserBook) → Keeps self.now book
+            → CallFault events.Refresh (address_of self.now) said book n)) }
     {
-        self.expect(object, Operation::Refresh)?;
+        self.expect(object, Method::Refresh)?;
         let Some(meeting) = self.meetings.get(object.uid()) else {
             return Err(Fault::Refused(Refusal::NOT_SENT));
         };
@@ -186,14 +188,14 @@ impl Organiser {
     }
 
     /// Refused: 60 for an object that asks for something else, 70 for one of another organiser.
-    fn expect(&self, object: &Message, operation: Operation) -> Result<(), Fault>
-        ensures kind { OnOk result (method_said object.now.operation ≡ method_said operation) }
+    fn expect(&self, object: &Message, method: Method) -> Result<(), Fault>
+        ensures kind { OnOk result (method_said object.now.method ≡ method_said method) }
         ensures own { OnOk result (address_octets object.now.organiser ≡ address_of self.now) }
         ensures refuses { IfErr result (RefusesOnly is_call_fault) }
-        ensures fault { IfErr result (RefusesBy (λ n. (said : profile.OrganiserObject) → RepresentsMessage object.now said → (book : OrganiserBook)
-            → CallFault (method_said operation) (address_of self.now) said book n)) }
+        ensures fault { IfErr result (RefusesBy (λ n. (said : profile.Message) → RepresentsMessage object.now said → (book : OrganiserBook)
+            → CallFault (method_said method) (address_of self.now) said book n)) }
     {
-        if object.operation() != operation {
+        if object.method() != method {
             return Err(Fault::Refused(Refusal::BAD_METHOD));
         }
         if *object.organiser() != self.address {
@@ -206,14 +208,15 @@ impl Organiser {
     fn made(&self, object: &Message, revision: &Revision) -> Result<Composed, AllocError>
         ensures attending { IfOk result (λ made. AreAttending (lists_of object.now.components.items) made.attending.entries) }
         ensures told { IfOk result (λ made. (before : List (List Attendee)) → LastAttends before (get same_text self.now.meetings object.now.uid)
-            → (address : List ℕ) → is_told address made.attending.entries ≡ is_told_by (address_of self.now) before (lists_of object.now.components.items) address) }
+            → (address : List ℕ) → is_told address made.attending.entries ≡ is_told_by (calls_off object.now.components.items) (address_of self.now) before (lists_of object.now.components.items) address) }
         ensures sends { IfOk result (λ made. (events : List EventComponent) (before : List (List Attendee)) → AllZip SaysComponent events object.now.components.items
             → LastAttends before (get same_text self.now.meetings object.now.uid)
             → SendsObject (address_of self.now) object.now revision.now events before made.object.items (map sent_of made.sent.items)) }
     {
         let mut attending = attending(self.alloc, object.components())?;
         let to = sent(self.alloc, &self.address, &attending)?;
-        let gone = self.gone(object.uid(), &attending)?;
+        let called_off = calls_off(object.components());
+        let gone = self.gone(object.uid(), &attending, called_off)?;
         tell(&mut attending, &to);
         tell(&mut attending, &gone);
         let text = MeetingText {
@@ -222,7 +225,7 @@ impl Organiser {
             revision: *revision,
             components: object.components(),
         };
-        let Sending { object, sent } = send(self.alloc, &text, to, gone)?;
+        let Sending { object, sent } = send(self.alloc, &text, called_off, to, gone)?;
         Ok(Composed {
             attending,
             object,
@@ -230,14 +233,33 @@ impl Organiser {
         })
     }
 
-    /// Those whom the server sent messages by the last store of this UID, and no longer does.
-    fn gone(&self, uid: &Text, now: &Attending) -> Result<Vec<Address>, AllocError>
+    /// Of those whom the server sent messages by the last store of this UID those who get a CANCEL of this one and no REQUEST.
+    fn gone(
+        &self,
+        uid: &Text,
+        now: &Attending,
+        called_off: bool,
+    ) -> Result<Vec<Address>, AllocError>
         ensures { IfOk result (λ gone. (before lists : List (List Attendee)) → LastAttends before (get same_text self.now.meetings uid.now) → AreAttending lists now.now.entries
-            → map address_octets gone.items ≡ without (sent_among (address_of self.now) before) (sent_among (address_of self.now) lists)) }
+            → map address_octets gone.items ≡ gone_among called_off (address_of self.now) before lists) }
     {
         let Some(last) = self.meetings.get(uid) else {
             return Ok(Vec::new(self.alloc));
         };
-        gone(self.alloc, &self.address, &last.attending, now)
+        gone(self.alloc, &self.address, &last.attending, now, called_off)
     }
+}
+
+/// Copies of what these components say, in their order. It fails only when out of memory.
+fn copies_of(
+    alloc: Global,
+    components: &[MessageComponent],
+) -> Result<Vec<MessageComponent>, AllocError>
+    ensures { IfOk result (λ copies. (said : List EventComponent) → AllZip SaysComponent said components.now → AllZip SaysComponent said copies.items) }
+{
+    let mut copies = Vec::new(alloc);
+    for component in components {
+        copies.push(component.without_instances(alloc)?)?;
+    }
+    Ok(copies)
 }

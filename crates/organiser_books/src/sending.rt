@@ -25,18 +25,19 @@ pub(crate) struct Sending {
     pub sent: Vec<Outgoing>,
 }
 
-/// What is made of a meeting, and sent to those whom the server sends messages, and to those whom it no longer does.
+/// What is made of a meeting, which is called off or isn't, and sent to those whom the server sends messages, and to those who are gone.
 pub(crate) fn send(
     alloc: Global,
     meeting: &MeetingText<'_>,
+    called_off: bool,
     to: Vec<Address>,
     gone: Vec<Address>,
 ) -> Result<Sending, AllocError>
     ensures { IfOk result (λ sending. (events : List EventComponent) → AreWritten meeting.now events
-        → SendsTo (calls_off meeting.now.components.now) (address_octets meeting.now.organiser.now) (stored_of meeting.now events sending.object.items)
+        → SendsTo called_off (address_octets meeting.now.organiser.now) (stored_of meeting.now events sending.object.items)
         (map address_octets to.items) (map address_octets gone.items) (map sent_of sending.sent.items)) }
 {
-    if calls_off(meeting.components) {
+    if called_off {
         return call_off(alloc, meeting, to, gone);
     }
     request(alloc, meeting, to, gone)
@@ -100,7 +101,7 @@ fn take_out(
 }
 
 /// Whether the whole meeting is cancelled.
-fn calls_off(components: &[MessageComponent]) -> bool
+pub(crate) fn calls_off(components: &[MessageComponent]) -> bool
     ensures { result ≡ calls_off components.now }
 {
     components.iter().any(|component| cancels_whole(component))

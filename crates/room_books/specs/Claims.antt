@@ -5,7 +5,7 @@ use Rattle.itip_messages.specs.declared.message_component.MessageComponent.{Mess
 use Rattle.itip_messages.specs.Message.{part_for}
 use Rattle.itip_order.specs.Parts.{part_of}
 use Rattle.itip_order.specs.declared.part.Part.{Part}
-use Rattle.profile.specs.rooms.Messages as profile
+use Rattle.profile.specs.events.Messages as profile
 use Rattle.profile.specs.rooms.Revisions.{Part as Said, Slot, Whole, At}
 use Rattle.profile.specs.rooms.Rooms.{is_set}
 use Rattle.profile.specs.streams.Streams.{AreClaims}

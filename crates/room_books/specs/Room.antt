@@ -19,7 +19,7 @@ use Rattle.profile.specs.rooms.Messages.{Outcome}
 use Rattle.profile.specs.rooms.Rooms.{Claim, PartAnswer as SaidAnswer, Book, Confirms, Kind, Recurring, is_set, parts_of, asked, answered, singles_confirmed, series_confirmed, IsShownInSeries, IsStep, IsWithinLimits, kind_of}
 use Rattle.profile.specs.rooms.Kept.{Replies, Refreshes, first_parts}
 use Rattle.profile.specs.streams.Streams.{IsReached}
-use Rattle.itip_messages.specs.RoomMessage as messages
+use Rattle.itip_messages.specs.Message as messages
 use Rattle.room_books.specs.declared.meeting.MeetingKey.{MeetingKey}
 use Rattle.room_books.specs.declared.kept.Meeting.{Meeting}
 use Rattle.room_books.specs.declared.kept.Changes.{Changes}

@@ -6,23 +6,19 @@ ghost use Rattle.ical_values.specs.Octets.{address_octets};
 ghost use Rattle.itip_messages.specs.Message.{RepresentsMessage, has_part};
 ghost use Rattle.itip_order.specs.Parts.{part_of};
 ghost use Rattle.room_books.specs.Claim.{is_of_whole};
-ghost use Rattle.profile.specs.rooms.Messages as profile;
+ghost use Rattle.profile.specs.events.Messages as profile;
 ghost use Rattle.profile.specs.rooms.Rooms.{is_set};
 ghost use Rattle.room_books.specs.Claims.{series_asked, AreClaimed, IsAsking, IsClaimIn, IsSameSeries};
 
 use crate::claim::{Claim, takes_place};
 use cal_events::Series;
 use ical_values::Address;
-use itip_messages::{MessageComponent, Message};
+use itip_messages::{Message, MessageComponent};
 use itip_order::{Part, Slot};
 use std::alloc::{AllocError, Global};
 
 /// The claims that a message has for a room, the whole meeting first and then its instances; none where it isn't addressed to it.
-pub fn claims_of(
-    alloc: Global,
-    message: &Message,
-    room: &Address,
-) -> Result<Vec<Claim>, AllocError>
+pub fn claims_of(alloc: Global, message: &Message, room: &Address) -> Result<Vec<Claim>, AllocError>
     ensures { IfOk result (λ claims. (said : profile.Message) → RepresentsMessage message.now said → AreClaimed (address_octets room.now) said claims.items) }
 {
     if !message.is_addressed_to(room) {
@@ -34,11 +30,7 @@ pub fn claims_of(
 /// A claim for each component that is a part for the room.
 // Apart from `claims_of`, which most rooms leave at its first line.
 #[inline(never)]
-fn all_claims(
-    alloc: Global,
-    message: &Message,
-    room: &Address,
-) -> Result<Vec<Claim>, AllocError>
+fn all_claims(alloc: Global, message: &Message, room: &Address) -> Result<Vec<Claim>, AllocError>
     ensures { IfOk result (λ claims. AllZip (IsClaimIn (address_octets room.now) message.now) (filter (has_part (address_octets room.now) message.now) message.now.components.items) claims.items) }
 {
     let mut claims = Vec::new(alloc);
@@ -70,7 +62,7 @@ fn claim_for(alloc: Global, part: Part, component: &MessageComponent) -> Result<
     let mut singles = Vec::new(alloc);
     let mut series = None;
     if takes_place(&part) {
-        singles.extend_from_slice(&component.singles)?;
+        singles.extend_from_slice(component.singles())?;
         series = series_for(alloc, &part, component)?;
     }
     Ok(Claim {
@@ -92,7 +84,7 @@ fn series_for(
     let Slot::Whole = part.slot else {
         return Ok(None);
     };
-    match &component.series {
+    match component.series() {
         Some(series) => Ok(Some(series.without(alloc, &[])?)),
         None => Ok(None),
     }

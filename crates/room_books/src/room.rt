@@ -12,7 +12,8 @@ ghost use Rattle.itip_order.specs.Registers.{RepresentsHistory};
 ghost use Rattle.profile.specs.rooms.Revisions as revisions;
 ghost use Rattle.profile.specs.checker.Instances.{IsClear};
 ghost use Rattle.itip_messages.specs.Message.{RepresentsMessage};
-ghost use Rattle.profile.specs.rooms.Messages as profile;
+ghost use Rattle.profile.specs.events.Messages as profile;
+ghost use Rattle.profile.specs.rooms.Messages.{is_add};
 ghost use Rattle.profile.specs.streams.Streams.{AreClaims, IsDelivered, IsReached};
 ghost use Rattle.profile.specs.Headline.{AcceptedWhereClear, DeclineNamesClash, KeptTextsPass};
 ghost use Rattle.profile.specs.checker.Calendars.{CertificateHolds};
@@ -147,7 +148,8 @@ impl Room {
     }
 
     /// Takes a message at a moment, and answers it: with a reply where one of its parts is to take place and is in the view; and with a
-    /// refresh where an ADD brought something new of a meeting of which nothing of the whole was ever taken (RFC 5546 3.2.6).
+    /// refresh where an ADD brought something new of a meeting of which nothing of the whole was ever taken (RFC 5546 3.2.6). One that is for an
+    /// organiser isn't addressed to a room, and changes nothing.
     /// Where memory is refused nothing has changed.
     pub fn take(&mut self, message: &Message, now: Stamp) -> Result<Answer, AllocError>
         // From each book that the room represents, it is accepted exactly where something is asked and the room stays clear and within its limits.
@@ -159,7 +161,7 @@ impl Room {
         // From each book that the room represents, it makes a step of the room machine, with the claims of the message.
         ensures steps { IfOk result (λ answer. (said : profile.Message) → RepresentsMessage message.now said → (book : Book) → Represents self.old.meetings.entries book
             → (claims : List rooms.Claim) × AreClaims (address_octets self.old.address) said claims
-            × StepsWith (address_octets self.old.address) self.new.meetings.entries book claims now (kind_view answer.kind) (reply_octets answer) (profile.is_add said.method) (refresh_octets answer)) }
+            × StepsWith (address_octets self.old.address) self.new.meetings.entries book claims now (kind_view answer.kind) (reply_octets answer) (is_add said.method) (refresh_octets answer)) }
         ensures address { self.new.address ≡ self.old.address }
         ensures err { OnErr result (IsUnchanged self.old.meetings self.new.meetings) }
     {

@@ -91,13 +91,12 @@ impl Books {
         ensures keeps { IfErr result (IfRefused (KeepAll self.old self.new × (answers.new.items ≡ answers.old.items))) }
         ensures addresses { hosted_rooms self.new ≡ hosted_rooms self.old }
     {
-        match read_kept(self.alloc, octets)? {
-            Message::ToRooms(message) => {
-                self.rooms.take(self.alloc, &message, now, answers)?;
-                Ok(())
-            }
-            Message::ToOrganiser(object) => self.organisers.take(object, now, answers),
+        let message = read_kept(self.alloc, octets)?;
+        if message.method().is_to_rooms() {
+            self.rooms.take(self.alloc, &message, now, answers)?;
+            return Ok(());
         }
+        self.organisers.take(&message, now, answers)
     }
 }
 

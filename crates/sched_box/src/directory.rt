@@ -7,7 +7,7 @@ ghost use Rattle.ical_values.specs.Octets.{address_octets};
 use cal_events::Attendee;
 use ical_values::Address;
 use indexmap::IndexSet;
-use itip_messages::{Method, Message};
+use itip_messages::Message;
 use std::alloc::{AllocError, Global};
 
 /// The addresses of the hosts of one kind, rooms or organisers, in their order.
@@ -47,21 +47,17 @@ impl Directory {
 
     /// For each room, whether a message may be for it: one of its VEVENTs names it, or is one of a CANCEL and names nobody.
     /// In time that grows with the rooms and the attendees.
-    pub(crate) fn asked_by(
-        &self,
-        alloc: Global,
-        message: &Message,
-    ) -> Result<Vec<bool>, AllocError>
+    pub(crate) fn asked_by(&self, alloc: Global, message: &Message) -> Result<Vec<bool>, AllocError>
         ensures long { IfOk result (λ asked. length asked.items ≡ length (directory_addresses self.now)) }
         ensures out { IfOk result (λ asked. LeavesOut (asks message.now) (directory_addresses self.now) asked.items) }
     {
-        let cancels = matches!(message.method(), Method::Cancel);
+        let cancels = message.method().is_cancel();
         let mut asked = vec![in alloc; false; self.addresses.len()]?;
         for component in message.components() {
             if cancels && component.names_nobody() {
                 asked.fill(true);
             }
-            self.mark(component.attendees.lines(), &mut asked);
+            self.mark(component.attendees().lines(), &mut asked);
         }
         Ok(asked)
     }

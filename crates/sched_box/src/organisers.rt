@@ -1,11 +1,13 @@
 //! The organisers of a box: what comes to one goes to the one whose address it names.
 
-ghost use Rattle.std.specs.Prelude.{◌≡◌, ◌<◌, ◌++◌, ℕ, List, [], length, get_or, IfOk, IfErr, OnOk};
+ghost use Rattle.std.specs.Prelude.{◌≡◌, ◌<◌, ◌++◌, ℕ, List, [], false, length, get_or, IfOk, IfErr, OnOk};
 ghost use Rattle.std.specs.List.{flat_map};
 ghost use Rattle.ical_lines.specs.Fault.{RefusesBy};
 ghost use Rattle.ical_values.specs.Octets.{address_octets};
 ghost use Rattle.ical_values.specs.Refused.{IfRefused};
+ghost use Rattle.profile.specs.events.Messages.{is_to_rooms};
 ghost use Rattle.profile.specs.organisers.Organisers.{empty_organiser};
+ghost use Rattle.cal_events.specs.Component.{method_said};
 ghost use Rattle.profile.specs.streams.Streams.{new_box};
 ghost use Rattle.organiser_books.specs.Representation.{Keeps, address_of};
 ghost use Rattle.sched_box.specs.Asked.{directory_addresses};
@@ -14,9 +16,10 @@ ghost use Rattle.sched_box.specs.Organising.{AreKeptBy, KeepBooks, KeepsBook, Or
 
 use crate::config::Config;
 use crate::directory::Directory;
+use cal_events::Method;
 use ical_lines::{Fault, Refusal};
 use ical_values::{Address, Stamp};
-use itip_messages::{Operation, Message};
+use itip_messages::Message;
 use organiser_books::{Organiser, Outgoing};
 use std::alloc::{AllocError, Global};
 
@@ -45,13 +48,14 @@ impl Organisers {
     /// Refused, and then nothing has changed: 70 where the box doesn't host it, and as by the organiser.
     pub(crate) fn take(
         &mut self,
-        object: Message,
+        object: &Message,
         now: Stamp,
         answers: &mut Vec<u8>,
     ) -> Result<(), Fault>
+        requires for_organiser { is_to_rooms (method_said object.now.method) ≡ false }
         ensures takes { OnOk result ((more : List ℕ) × (answers.new.items ≡ answers.old.items ++ more)
-            × OrganisersTake now object self.old.organisers.items self.new.organisers.items more) }
-        ensures fault { IfErr result (RefusesBy (OrganisersRefuse object self.old.organisers.items)) }
+            × OrganisersTake now object.now self.old.organisers.items self.new.organisers.items more) }
+        ensures fault { IfErr result (RefusesBy (OrganisersRefuse object.now self.old.organisers.items)) }
         ensures keeps { IfErr result (IfRefused (KeepBooks self.old.organisers.items self.new.organisers.items
             × (answers.new.items ≡ answers.old.items))) }
     {
@@ -88,15 +92,16 @@ fn organiser_of(alloc: Global, address: &Address) -> Result<Organiser, AllocErro
 fn take_at(
     organisers: &mut Vec<Organiser>,
     place: usize,
-    object: Message,
+    object: &Message,
     now: Stamp,
     answers: &mut Vec<u8>,
 ) -> Result<(), Fault>
+    requires for_organiser { is_to_rooms (method_said object.now.method) ≡ false }
     requires within { place < length organisers.old.items }
-    requires named { get_or (organiser_addresses organisers.old.items) place [] ≡ address_octets object.organiser }
+    requires named { get_or (organiser_addresses organisers.old.items) place [] ≡ address_octets object.now.organiser }
     ensures takes { OnOk result ((more : List ℕ) × (answers.new.items ≡ answers.old.items ++ more)
-        × OrganisersTake now object organisers.old.items organisers.new.items more) }
-    ensures fault { IfErr result (RefusesBy (OrganisersRefuse object organisers.old.items)) }
+        × OrganisersTake now object.now organisers.old.items organisers.new.items more) }
+    ensures fault { IfErr result (RefusesBy (OrganisersRefuse object.now organisers.old.items)) }
     ensures keeps { IfErr result (IfRefused (KeepBooks organisers.old.items organisers.new.items
         × (answers.new.items ≡ answers.old.items))) }
     ensures addresses { organiser_addresses organisers.new.items ≡ organiser_addresses organisers.old.items }
@@ -107,28 +112,31 @@ fn take_at(
 /// Hands an object to an organiser, and appends what it sends or answers.
 fn take_object(
     organiser: &mut Organiser,
-    object: Message,
+    object: &Message,
     now: Stamp,
     answers: &mut Vec<u8>,
 ) -> Result<(), Fault>
+    requires { is_to_rooms (method_said object.now.method) ≡ false }
     ensures takes { OnOk result ((more : List ℕ) × (answers.new.items ≡ answers.old.items ++ more)
-        × OrganiserTakes now object organiser.old organiser.new more) }
-    ensures fault { IfErr result (RefusesBy (OrganiserRefuses object organiser.old)) }
+        × OrganiserTakes now object.now organiser.old organiser.new more) }
+    ensures fault { IfErr result (RefusesBy (OrganiserRefuses object.now organiser.old)) }
     ensures keeps { IfErr result (IfRefused (KeepsBook organiser.old organiser.new × (answers.new.items ≡ answers.old.items))) }
     ensures address { address_of organiser.new ≡ address_of organiser.old }
 {
-    match object.operation() {
-        Operation::Store => {
+    match object.method() {
+        Method::Store => {
             let sent = organiser.store(object, now)?;
             append_sent(&sent, answers)?;
             Ok(())
         }
-        Operation::Reply => organiser.take_reply(&object),
-        Operation::Refresh => {
-            let octets = organiser.take_refresh(&object)?;
+        Method::Reply => organiser.take_reply(object),
+        Method::Refresh => {
+            let octets = organiser.take_refresh(object)?;
             answers.extend_from_slice(octets.as_slice())?;
             Ok(())
         }
+        // a message to rooms isn't handed to an organiser
+        Method::Request | Method::Add | Method::Cancel => unreachable!(),
     }
 }
 

@@ -7,34 +7,27 @@ use Rattle.profile.specs.events.Messages.{Message, SpellsMessage, MessageTextFau
 use Rattle.ical_tree.specs.Reading.{ObjectHas}
 use Rattle.cal_events.specs.Component.{method_said}
 use Rattle.itip_messages.specs.declared.message.Message as itip
-use Rattle.itip_messages.specs.declared.message.Message.TheVariants.{ToRooms, ToOrganiser}
 use Rattle.sched_cli.specs.Explained.{meaning_of}
 use Rattle.sched_cli.specs.Searching.{IsBlamedPlace}
 
 -- ---- an object that isn't refused
 
--- the line of a message to rooms, by its METHOD
+-- the line of a message, by its METHOD
 abbrev pub method_line : Method → List ℕ
+method_line Store = codes "not refused: a store\n"
 method_line Request = codes "not refused: a REQUEST\n"
 method_line Add = codes "not refused: an ADD\n"
 method_line Cancel = codes "not refused: a CANCEL\n"
-
--- and of an object for an organiser, by what it asks for
-abbrev pub operation_line : Operation → List ℕ
-operation_line Store = codes "not refused: a store\n"
-operation_line Reply = codes "not refused: a REPLY\n"
-operation_line Refresh = codes "not refused: a REFRESH\n"
+method_line Reply = codes "not refused: a REPLY\n"
+method_line Refresh = codes "not refused: a REFRESH\n"
 
 -- that of what was read
 abbrev pub message_line : itip.Message → List ℕ
-message_line (ToRooms message) = method_line (method_said message.method)
-message_line (ToOrganiser object) = operation_line (method_said object.operation)
+message_line message = method_line (method_said message.method)
 
--- the octets spell a message to rooms, or an object for an organiser, and this is its line
+-- the octets spell a message, and this is its line
 abbrev pub IsTakenLine : List ℕ → List ℕ → Type 0
-IsTakenLine octets line =
-    ((message : Message) × SpellsMessage octets message × (line ≡ method_line message.method))
-    ⊎ ((object : Message) × SpellsMessage octets object × (line ≡ operation_line object.operation))
+IsTakenLine octets line = (message : Message) × SpellsMessage octets message × (line ≡ method_line message.method)
 
 -- that line was written
 abbrev pub SaysTaken : List ℕ → Option (List ℕ) → Option (List ℕ) → Type 0

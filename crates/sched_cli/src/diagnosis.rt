@@ -9,8 +9,9 @@ ghost use Rattle.sched_cli.specs.Explained.{is_explained};
 use crate::explain::explanation;
 use crate::place::place_of;
 use crate::status::{DONE, NO, report_memory, report_write};
+use cal_events::Method;
 use ical_lines::Fault;
-use itip_messages::{Message, Method, Operation};
+use itip_messages::Message;
 use itoa::Buffer;
 use sched_box::Output;
 use std::alloc::{AllocError, Global};
@@ -67,17 +68,13 @@ fn write_status<W: Output, E: Output>(
 fn taken_line(message: &Message) -> &'static str
     ensures { result.now ≡ message_line message.now }
 {
-    match message {
-        Message::ToRooms(message) => match message.method() {
-            Method::Request => "not refused: a REQUEST\n",
-            Method::Add => "not refused: an ADD\n",
-            Method::Cancel => "not refused: a CANCEL\n",
-        },
-        Message::ToOrganiser(object) => match object.operation() {
-            Operation::Store => "not refused: a store\n",
-            Operation::Reply => "not refused: a REPLY\n",
-            Operation::Refresh => "not refused: a REFRESH\n",
-        },
+    match message.method() {
+        Method::Store => "not refused: a store\n",
+        Method::Request => "not refused: a REQUEST\n",
+        Method::Add => "not refused: an ADD\n",
+        Method::Cancel => "not refused: a CANCEL\n",
+        Method::Reply => "not refused: a REPLY\n",
+        Method::Refresh => "not refused: a REFRESH\n",
     }
 }
 

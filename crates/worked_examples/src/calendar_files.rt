@@ -3,9 +3,7 @@
 use crate::calendars::{made, made_text};
 use crate::certificates::verdict_text;
 use crate::counting::Counting;
-use cal_events::{
-    Calendar, EventComponent, Instances, MeetingComponents, PartStat, Purpose, Series,
-};
+use cal_events::{Calendar, EventComponent, Instances, Method, PartStat, Series, read_meeting};
 use clash_cert::{Certificate, extend};
 use clash_check::{Drawing, Drawn, check, judge};
 use example_cases::NoAnswer;
@@ -86,17 +84,16 @@ fn add_next(
 fn events_of(
     alloc: Global,
     octets: &[u8],
-    purpose: Purpose,
+    method: Option<Method>,
 ) -> Result<Vec<EventComponent>, NoAnswer> {
     let text = Unfolded::read(alloc, octets, Limits::Open)?;
     let object = read_object(alloc, &text, Limits::Open)?;
-    let meeting = MeetingComponents::read(alloc, &object, purpose)?;
-    Ok(meeting.into_events(alloc)?)
+    Ok(read_meeting(alloc, &object, method)?)
 }
 
 pub fn answered(alloc: Global, octets: &[u8], room: &Address) -> Result<String, NoAnswer> {
     let mut list = String::new(alloc);
-    for event in &events_of(alloc, octets, Purpose::Request)? {
+    for event in &events_of(alloc, octets, Some(Method::Request))? {
         let word = status_word(event.status_of(room));
         let item = format!(in alloc; "ends {} {word}", event.end())?;
         append(&mut list, ", ", item.as_str())?;
@@ -115,7 +112,7 @@ fn status_word(status: Option<PartStat>) -> &'static str {
 
 pub fn times(alloc: Global, octets: &[u8]) -> Result<String, NoAnswer> {
     let mut list = String::new(alloc);
-    for event in &events_of(alloc, octets, Purpose::Meeting)? {
+    for event in &events_of(alloc, octets, None)? {
         let times = event.times;
         let item = format!(in alloc; "from {} for {}", times.instant.instant(), times.seconds())?;
         append(&mut list, ", ", item.as_str())?;
@@ -125,7 +122,7 @@ pub fn times(alloc: Global, octets: &[u8]) -> Result<String, NoAnswer> {
 
 pub fn ends(alloc: Global, octets: &[u8]) -> Result<String, NoAnswer> {
     let mut list = String::new(alloc);
-    for event in &events_of(alloc, octets, Purpose::Meeting)? {
+    for event in &events_of(alloc, octets, None)? {
         let item = event.end().to_string(alloc)?;
         append(&mut list, ", ", item.as_str())?;
     }

@@ -1,81 +1,77 @@
 //! What is answered about an object as a message.
 
 use crate::parts::{body_text, slot_text};
+use cal_events::Method;
 use example_cases::NoAnswer;
 use example_cases::answers::{append, yes_or_no};
 use ical_values::Address;
-use itip_messages::{Message, Method, Operation, Message, Message, component_lines};
+use itip_messages::{Message, MessageComponent, component_lines};
 use itip_order::{Part, Slot};
 use std::alloc::Global;
 
-/// Of a message to rooms the method, the organiser and the UID, and the start and the end of each instance that a component asks for; of what
-/// comes to an organiser as `organiser_object` says.
+/// The method, the organiser and the UID; then of a message to rooms the start and the end of each instance that a component asks for, and of
+/// one to an organiser the slot of each component, its SEQUENCE and SUMMARY and how many ATTENDEE lines it has.
 pub fn message(alloc: Global, octets: &[u8]) -> Result<String, NoAnswer> {
-    match Message::read(alloc, octets)? {
-        Message::ToRooms(message) => room_message(alloc, &message),
-        Message::ToOrganiser(object) => organiser_object(alloc, &object),
-    }
-}
-
-/// What is asked, the organiser and the UID, and of each component, in the order of the text, its slot, SEQUENCE and SUMMARY and how many
-/// ATTENDEE lines it has.
-fn organiser_object(alloc: Global, object: &Message) -> Result<String, NoAnswer> {
-    let operation = match object.operation() {
-        Operation::Store => "store",
-        Operation::Reply => "reply",
-        Operation::Refresh => "refresh",
-    };
-    let organiser = object.organiser().as_str();
-    let uid = object.uid().as_str();
-    let mut list = format!(in alloc; "{operation}, {organiser}, {uid}")?;
-    for component in object.components() {
-        let slot = slot_text(alloc, component.slot())?;
-        let sequence = component.revision().sequence.number();
-        let summary = component.summary().as_str();
-        let attendees = component.attendees().lines().len();
-        let item = format!(in alloc; "{slot} {sequence} {summary:?} {attendees}")?;
-        append(&mut list, ", ", item.as_str())?;
-    }
-    Ok(list)
-}
-
-/// What octets say to rooms; no answer where they say something to an organiser.
-fn to_rooms(alloc: Global, octets: &[u8]) -> Result<Message, NoAnswer> {
-    match Message::read(alloc, octets)? {
-        Message::ToRooms(message) => Ok(message),
-        Message::ToOrganiser(_) => Err(NoAnswer::Unreadable),
-    }
-}
-
-fn room_message(alloc: Global, message: &Message) -> Result<String, NoAnswer> {
-    let method = match message.method() {
-        Method::Request => "request",
-        Method::Add => "add",
-        Method::Cancel => "cancel",
-    };
+    let message = Message::read(alloc, octets)?;
+    let method = method_word(message.method());
     let organiser = message.organiser().as_str();
     let uid = message.uid().as_str();
     let mut list = format!(in alloc; "{method}, {organiser}, {uid}")?;
     for component in message.components() {
-        for single in &component.singles {
-            let item = format!(in alloc; "{} to {}", single.span.start, single.span.end)?;
-            append(&mut list, ", ", item.as_str())?;
+        if message.method().is_to_rooms() {
+            append_singles(alloc, &mut list, component)?;
+        } else {
+            append_component(alloc, &mut list, component)?;
         }
     }
     Ok(list)
 }
 
+fn method_word(method: Method) -> &'static str {
+    match method {
+        Method::Store => "store",
+        Method::Request => "request",
+        Method::Add => "add",
+        Method::Cancel => "cancel",
+        Method::Reply => "reply",
+        Method::Refresh => "refresh",
+    }
+}
+
+fn append_singles(
+    alloc: Global,
+    list: &mut String,
+    component: &MessageComponent,
+) -> Result<(), NoAnswer> {
+    for single in component.singles() {
+        let item = format!(in alloc; "{} to {}", single.span.start, single.span.end)?;
+        append(list, ", ", item.as_str())?;
+    }
+    Ok(())
+}
+
+fn append_component(
+    alloc: Global,
+    list: &mut String,
+    component: &MessageComponent,
+) -> Result<(), NoAnswer> {
+    let slot = slot_text(alloc, component.slot())?;
+    let sequence = component.revision().sequence.number();
+    let summary = component.summary().as_str();
+    let attendees = component.attendees().lines().len();
+    let item = format!(in alloc; "{slot} {sequence} {summary:?} {attendees}")?;
+    append(list, ", ", item.as_str())?;
+    Ok(())
+}
+
 pub fn components(alloc: Global, octets: &[u8]) -> Result<String, NoAnswer> {
-    let count = match Message::read(alloc, octets)? {
-        Message::ToRooms(message) => message.components().len(),
-        Message::ToOrganiser(object) => object.components().len(),
-    };
-    Ok(count.to_string(alloc)?)
+    let message = Message::read(alloc, octets)?;
+    Ok(message.components().len().to_string(alloc)?)
 }
 
 /// How many parts there are for a room, and each without its meeting.
 pub fn parts(alloc: Global, octets: &[u8], room: &Address) -> Result<String, NoAnswer> {
-    let message = to_rooms(alloc, octets)?;
+    let message = Message::read(alloc, octets)?;
     let parts = message.parts(alloc, room)?;
     let mut list = parts.len().to_string(alloc)?;
     for part in parts.iter() {
@@ -93,7 +89,7 @@ fn part_text(alloc: Global, part: &Part) -> Result<String, NoAnswer> {
 }
 
 pub fn addressed(alloc: Global, octets: &[u8], room: &Address) -> Result<String, NoAnswer> {
-    let message = to_rooms(alloc, octets)?;
+    let message = Message::read(alloc, octets)?;
     Ok(String::from_str(alloc, yes_or_no(message.is_addressed_to(room)))?)
 }
 

@@ -7,14 +7,14 @@
 
 use crate::files::read_all;
 use crate::names::ANN;
-use cal_events::PartStat;
+use cal_events::{Method, PartStat};
 use example_cases::answers::{Answers, none};
 use example_cases::spelled::{escaped, octets_of};
 use example_cases::words::{count, first_word};
 use example_cases::{Case, NoAnswer};
 use ical_lines::{Fault, cut};
 use ical_values::{Address, Stamp, Text};
-use itip_messages::{Message, Operation, Message};
+use itip_messages::Message;
 use itip_order::Slot;
 use organiser_books::{Organiser, Outgoing};
 use sched_box::serve_stream;
@@ -85,23 +85,22 @@ fn take_all(alloc: Global, organiser: &mut Organiser, octets: &[u8]) -> Result<(
 }
 
 fn take(alloc: Global, organiser: &mut Organiser, octets: &[u8]) -> Result<(), Fault> {
-    let Message::ToOrganiser(object) = Message::read(alloc, octets)? else {
-        return Ok(());
-    };
-    match object.operation() {
-        Operation::Store => {
-            sent(organiser, object)?;
+    let message = Message::read(alloc, octets)?;
+    match message.method() {
+        Method::Store => {
+            sent(organiser, &message)?;
             Ok(())
         }
-        Operation::Reply => organiser.take_reply(&object),
-        Operation::Refresh => {
-            organiser.take_refresh(&object)?;
+        Method::Reply => organiser.take_reply(&message),
+        Method::Refresh => {
+            organiser.take_refresh(&message)?;
             Ok(())
         }
+        Method::Request | Method::Add | Method::Cancel => Ok(()),
     }
 }
 
-fn sent(organiser: &mut Organiser, object: Message) -> Result<Vec<Outgoing>, Fault> {
+fn sent(organiser: &mut Organiser, object: &Message) -> Result<Vec<Outgoing>, Fault> {
     let now = Stamp::read(NOW)?;
     organiser.store(object, now)
 }
@@ -111,10 +110,8 @@ pub fn large_answer(alloc: Global, case: Case<'_>) -> Result<String, NoAnswer> {
     let (events, attendees) = first_word(case.input());
     let store = large_store(alloc, count(events)?, count(attendees)?)?;
     let mut organiser = ann(alloc)?;
-    let Message::ToOrganiser(object) = Message::read(alloc, store.as_slice())? else {
-        return Err(NoAnswer::Unreadable);
-    };
-    let outgoing = sent(&mut organiser, object)?;
+    let object = Message::read(alloc, store.as_slice())?;
+    let outgoing = sent(&mut organiser, &object)?;
     let mut stream = Vec::from_slice(
         alloc,
         b"now 20250102T000000Z\nroom mailto:r1@example.com\n\n",
