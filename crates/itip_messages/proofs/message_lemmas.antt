@@ -1,3 +1,4 @@
 pub mod BySlot
 pub mod TreeLemmas
 pub mod MadeMessage
+pub mod WholeRevision

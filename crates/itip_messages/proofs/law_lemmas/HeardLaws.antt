@@ -2,7 +2,7 @@
 -- Cited by refreshes_are_heard, replies_are_heard.
 use Rattle.std.proofs.Common.{◌≡◌, ◌∙◌, ℕ, ℤ, ◌<◌, ◌≤◌, Bool, true, false, not, ◌&&◌, ◌||◌, cond, List, [], ◌∷◌, ◌++◌, length, map, filter, codes, Option, None, Some, refl, sym, ap, subst, arith, append-nil}
 use Rattle.std.specs.Prelude.{AllPairs, Contains, ◌==◌, IsTrue, count_by, nat_lt, unwrap_or}
-use Rattle.std.specs.List.{AllZip}
+use Rattle.std.specs.List.{AllZip, list_any}
 use Rattle.std.specs.declared.cmp.Ordering.TheVariants.{Less, Equal}
 use Rattle.std.proofs.lemmas.Bool.{and_parts, false≢true}
 use Rattle.std.proofs.lemmas.Bool.Decides.{nat_tests}
@@ -64,7 +64,7 @@ module _ (read : List ℕ) (message : Message) (spells : SpellsMessage read mess
     given = message;
     spells = spells;
     event = event;
-    to_rooms = (and_parts (is_to_rooms message.method) _ (of_list (is_addressed room message) (is_part_for room message.method) message.events event c).1).0;
+    to_rooms = (and_parts (is_to_rooms message.method) (list_any (is_for room message.method) message.events) (of_list (is_addressed room message) (is_part_for room message.method) message.events event c).1).0;
     among = (of_list (is_addressed room message) (is_part_for room message.method) message.events event c).0;
     is_part = is.part;
   }
@@ -276,7 +276,7 @@ refreshes_heard back reads read message room before after claims moment octets s
     let part = claim.part in
     let f = of_claim read message spells room claims h claim r.of_them in
     let addressed = (of_list (is_addressed room message) (is_part_for room message.method) message.events f.0 f.1).1 in
-    let one = any_at (is_for room message.method) message.events (and_parts (is_to_rooms message.method) _ addressed).1 in
+    let one = any_at (is_for room message.method) message.events (and_parts (is_to_rooms message.method) (list_any (is_for room message.method) message.events) addressed).1 in
     let home = named_room room (message_of read message spells one.0 one.1) (added_names room message adds one.0 one.2) in
     let k = of_meeting read message spells room claims h claim r.of_them in
     let n = k.texts in

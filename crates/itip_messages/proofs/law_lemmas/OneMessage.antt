@@ -139,7 +139,7 @@ only (e ∷ f ∷ rest) h = absurd (omega (arith, h))
 
 -- its VEVENTs are those of a meeting
 module _ (object : Tree) (a : Message) (s : SaysMessage object a) where
-  taken : List EventComponent
+  abbrev taken : List EventComponent
   taken = taken_by (Some a.method) s.events
 
   master : (one : Option EventComponent) × (filter is_master a.events ≡ option_to_list one)

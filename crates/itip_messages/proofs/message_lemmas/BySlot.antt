@@ -139,30 +139,24 @@ slots_differ : (es : List SaidComponent) → length (filter is_master es) ≤ 1 
 slots_differ [] few differ = λ i j d l w. absurd (omega (arith, l, w))
 slots_differ (e ∷ es) few differ = by (is_override e) refl few differ (λ f d. slots_differ es f d)
   where
-    masters : List SaidComponent
-    masters = filter is_master es
-
-    overrides : List SaidComponent
-    overrides = filter is_override es
-
-    by : (b : Bool) → is_override e ≡ b → length (cond (not b) (e ∷ masters) masters) ≤ 1 → InstancesDiffer (cond b (e ∷ overrides) overrides)
-        → (length masters ≤ 1 → InstancesDiffer overrides → AllPairs ◌≢◌ (map slot_of es)) → AllPairs ◌≢◌ (slot_of e ∷ map slot_of es)
+    by : (b : Bool) → is_override e ≡ b → length (cond (not b) (e ∷ (filter is_master es)) (filter is_master es)) ≤ 1 → InstancesDiffer (cond b (e ∷ (filter is_override es)) (filter is_override es))
+        → (length (filter is_master es) ≤ 1 → InstancesDiffer (filter is_override es) → AllPairs ◌≢◌ (map slot_of es)) → AllPairs ◌≢◌ (slot_of e ∷ map slot_of es)
     by true is few differ rest =
         cons_pairs ◌≢◌ (slot_of e) (map slot_of es)
         (λ s c same.
         let found = of_mapped slot_of es s c in
         let x = found.0 in
         let at : e.recurrence ≡ x.recurrence = same_instant e.recurrence x.recurrence (same ∙ sym found.2) in
-        let there : Contains overrides x = in_filtered is_override es x found.1 (sym (ap (λ (o : Option ℤ). is_some o) at) ∙ is) in
-        head_pairs (λ (a b : SaidComponent). a.recurrence ≢ b.recurrence) e x overrides (mapped_pairs ◌≢◌ (λ (y : SaidComponent). y.recurrence) (e ∷ overrides) differ) there at)
-        (rest few (tail_pairs ◌≢◌ e.recurrence (map (λ (y : SaidComponent). y.recurrence) overrides) differ))
+        let there : Contains (filter is_override es) x = in_filtered is_override es x found.1 (sym (ap (λ (o : Option ℤ). is_some o) at) ∙ is) in
+        head_pairs (λ (a b : SaidComponent). a.recurrence ≢ b.recurrence) e x (filter is_override es) (mapped_pairs ◌≢◌ (λ (y : SaidComponent). y.recurrence) (e ∷ (filter is_override es)) differ) there at)
+        (rest few (tail_pairs ◌≢◌ e.recurrence (map (λ (y : SaidComponent). y.recurrence) (filter is_override es)) differ))
     by false is few differ rest =
         cons_pairs ◌≢◌ (slot_of e) (map slot_of es)
         (λ s c same.
         let found = of_mapped slot_of es s c in
         let x = found.0 in
         let at : e.recurrence ≡ x.recurrence = same_instant e.recurrence x.recurrence (same ∙ sym found.2) in
-        let there : Contains masters x = in_filtered is_master es x found.1 (ap not (sym (ap (λ (o : Option ℤ). is_some o) at) ∙ is)) in
+        let there : Contains (filter is_master es) x = in_filtered is_master es x found.1 (ap not (sym (ap (λ (o : Option ℤ). is_some o) at) ∙ is)) in
         absurd (omega (arith, few, there.1)))
         (rest (omega (arith, few)) differ)
 

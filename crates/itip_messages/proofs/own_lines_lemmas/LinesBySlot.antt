@@ -121,7 +121,7 @@ at_both {A} R f (x' ∷ xs) (y ∷ ys) zero x s z a b = (y, subst (λ (w : A). R
 at_both R f (x' ∷ xs) (y ∷ ys) (suc k) x s z a b = at_both R f xs ys k x s z.1 a b
 
 module _ (object : Component) (method : Method) (items : List EventComponent) (t : SaysEvents (tree_of object) method (map component_of items)) (slot : Slot) where
-  said : SaysMessage (tree_of object) (record { method = method; organiser = t.0; uid = t.1; events = map component_of items })
+  abbrev said : SaysMessage (tree_of object) (record { method = method; organiser = t.0; uid = t.1; events = map component_of items })
   said = t.2
 
   slots : map event_slot items ≡ map (slot_read method) said.events
