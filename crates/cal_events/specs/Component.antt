@@ -1,5 +1,5 @@
 -- What the types of a VEVENT that was read represent.
-use Rattle.std.specs.Prelude.{ℕ, Bool, List, length, map, filter, option_map, Option, None, Some, is_some, codes, Contains, ◌≡◌, ◌<◌, ℤ, pos, ◌<ℤ◌}
+use Rattle.std.specs.Prelude.{ℕ, Bool, List, length, map, filter, option_map, Option, codes, Contains, ◌≡◌, ◌<◌, ℤ, pos, ◌<ℤ◌}
 use Rattle.ical_values.specs.Octets.{address_octets, text_octets}
 use Rattle.ical_values.specs.declared.duration.Duration.{Duration}
 use Rattle.profile.specs.events.EventComponents as profile

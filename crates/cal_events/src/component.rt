@@ -4,7 +4,7 @@ ghost use Rattle.std.specs.Prelude.{ℕ, List, [], unwrap_or, ◌≡◌, pos, �
 ghost use Rattle.ical_lines.specs.Fault.{RefusesBy};
 ghost use Rattle.ical_values.specs.Octets.{address_octets};
 ghost use Rattle.profile.specs.text.Trees.{Tree};
-ghost use Rattle.profile.specs.events.EventComponents.{EventComponent as SaidComponent, Method, answer_named, answer_of, SaysEventComponent, EventComponentFault};
+ghost use Rattle.profile.specs.events.EventComponents.{EventComponent as SaidComponent, Method as SaidMethod, answer_named, answer_of, SaysEventComponent, EventComponentFault};
 ghost use Rattle.profile.specs.events.Properties.{length_seconds, TimeFault};
 ghost use Rattle.profile.specs.events.ZonedTimes.{clock_of};
 ghost use Rattle.cal_zones.specs.Kinds.{zone_of};
@@ -194,9 +194,9 @@ impl EventComponent {
 /// The lines of a VEVENT of an object say at most one event, and none where they have a fault. A start or an end
 /// without TZID has at most one fault.
 pub fn one_event()
-    ensures one { (object : Tree) (method : Option Method) (lines : List (List ℕ)) (a b : SaidComponent)
+    ensures one { (object : Tree) (method : Option SaidMethod) (lines : List (List ℕ)) (a b : SaidComponent)
         → SaysEventComponent object method lines a → SaysEventComponent object method lines b → a ≡ b }
-    ensures or_a_fault { (object : Tree) (method : Option Method) (lines : List (List ℕ)) (a : SaidComponent) (n : ℕ)
+    ensures or_a_fault { (object : Tree) (method : Option SaidMethod) (lines : List (List ℕ)) (a : SaidComponent) (n : ℕ)
         → SaysEventComponent object method lines a → EventComponentFault object method lines n → ⊥ }
     ensures one_number { (line : List ℕ) (m n : ℕ) → TimeFault line m → TimeFault line n → m ≡ n }
 {

@@ -6,7 +6,7 @@ ghost use Rattle.ical_lines.specs.Text.{line_text};
 ghost use Rattle.ical_values.specs.Octets.{address_octets, text_octets};
 ghost use Rattle.profile.specs.text.Trees.{Tree};
 ghost use Rattle.profile.specs.faults.Faults.{is_event_fault};
-ghost use Rattle.profile.specs.events.EventComponents.{Method, is_by_server, summary_of, SaysSequence, IsAttendee, EventComponentFault};
+ghost use Rattle.profile.specs.events.EventComponents.{Method as SaidMethod, is_by_server, summary_of, SaysSequence, IsAttendee, EventComponentFault};
 ghost use Rattle.profile.specs.events.Occurrences.{SaysStatus};
 ghost use Rattle.profile.specs.events.Properties.{OccursMoreThanOnce, lines_named, Says, IsUidLine, IsAddressLine, IsStampLine, IsNoAddress};
 ghost use Rattle.cal_events.specs.Component.{method_read, attendee_of};
@@ -22,7 +22,7 @@ use std::alloc::{AllocError, Global};
 pub(crate) fn read_uid(alloc: Global, properties: &Properties<'_>) -> Result<Text, Fault>
     ensures reads { IfOk result (λ uid. Says (codes "UID") true IsUidLine properties.now (Some (text_octets uid))) }
     ensures refuses { IfErr result (RefusesOnly is_event_fault) }
-    ensures fault { (object : Tree) (method : Option Method) → IfErr result (RefusesBy (EventComponentFault object method properties.now)) }
+    ensures fault { (object : Tree) (method : Option SaidMethod) → IfErr result (RefusesBy (EventComponentFault object method properties.now)) }
 {
     let line = required(properties, "UID")?;
     Text::read_uid(alloc, line.value())
@@ -62,7 +62,7 @@ pub(crate) fn read_stamp(
 pub(crate) fn read_sequence(properties: &Properties<'_>) -> Result<Sequence, Refusal>
     ensures reads { IfOk result (SaysSequence properties.now) }
     ensures refuses { IfErr result (λ e. IsTrue (is_event_fault e.number)) }
-    ensures fault { (object : Tree) (method : Option Method) → IfErr result (λ e. EventComponentFault object method properties.now e.number) }
+    ensures fault { (object : Tree) (method : Option SaidMethod) → IfErr result (λ e. EventComponentFault object method properties.now e.number) }
 {
     match optional(properties, "SEQUENCE")? {
         Some(line) => Sequence::read(line.value()),
@@ -99,7 +99,7 @@ pub(crate) fn read_attendees(
 ) -> Result<Vec<Attendee>, Fault>
     ensures reads { IfOk result (λ v. AllZip IsAttendee (lines_named (codes "ATTENDEE") properties.now) (map attendee_of v.items)) }
     ensures refuses { IfErr result (RefusesOnly is_event_fault) }
-    ensures fault { (object : Tree) (method : Option Method) → IfErr result (RefusesBy (EventComponentFault object method properties.now)) }
+    ensures fault { (object : Tree) (method : Option SaidMethod) → IfErr result (RefusesBy (EventComponentFault object method properties.now)) }
 {
     let mut attendees = Vec::new(alloc);
     for line in properties.lines() {

@@ -1,11 +1,10 @@
 //! The VEVENTs of one meeting (RFC 5545 3.8.4.4, RFC 5546 3.2): of one UID and one ORGANIZER, and each of another slot of it.
 
-ghost use Rattle.std.specs.Prelude.{◌≡◌, ◌<◌, ◌≤◌, Some, List, length, map, filter, option_map, IfOk, IfErr, OnOk};
+ghost use Rattle.std.specs.Prelude.{◌≡◌, ◌<◌, ◌≤◌, Some, length, map, filter, option_map, IfOk, IfErr, OnOk};
 ghost use Rattle.std.specs.Option.{option_to_list};
-ghost use Rattle.std.specs.List.{list_all, AllZip};
+ghost use Rattle.std.specs.List.{list_all};
 ghost use Rattle.ical_lines.specs.Fault.{RefusesOnly, RefusesBy};
 ghost use Rattle.ical_tree.specs.Tree.{tree_of};
-ghost use Rattle.profile.specs.events.EventComponents.{EventComponent as SaidComponent, SaysEventComponent};
 ghost use Rattle.profile.specs.events.Events.{as_added, is_same_meeting, is_master, is_override, taken_by, AreOfOne, InstancesDiffer, SaysEvent, EventFault};
 ghost use Rattle.cal_events.specs.Component.{component_of, method_read, vevents_of};
 ghost use Rattle.cal_events.specs.OneMeeting.{is_components_fault};

@@ -1,6 +1,6 @@
 -- The event with its instances that an object says, or the fault that it has.
--- Cited by Event::read of event, MeetingComponents::of of meeting_components, MeetingComponents::read of meeting_components, MeetingComponents::read_in_order of meeting_components, judge_meeting of meeting_components.
-use Rattle.std.proofs.Common.{◌≡◌, ◌∙◌, ℕ, zero, suc, ◌<◌, Bool, true, false, ◌&&◌, cond, List, [], ◌∷◌, ◌++◌, length, map, filter, append-nil, sym, ap, subst, refl, inl, inr, arith, ℤ, ◌||◌}
+-- Cited by Event::read of event, MeetingComponents::of of meeting_components, MeetingComponents::read of meeting_components, judge_meeting of meeting_components, read_meeting of meeting_components.
+use Rattle.std.proofs.Common.{◌≡◌, ◌∙◌, ℕ, zero, suc, ◌<◌, ◌≤◌, Bool, true, false, ◌&&◌, cond, List, [], ◌∷◌, ◌++◌, length, map, filter, append-nil, sym, ap, subst, refl, inl, inr, arith, ℤ, ◌||◌}
 use Rattle.std.specs.Option.{option_to_list}
 use Rattle.std.specs.Prelude.{Option, Some, None, Contains, unwrap_or, Result, Ok, Err, IfOk, IfErr}
 use Rattle.std.specs.List.{AllZip, list_all}
@@ -8,7 +8,7 @@ use Rattle.std.proofs.lemmas.List.Folds.{list_all-map}
 use Rattle.std.specs.Str.{bytes_eq}
 use Rattle.std.specs.Result.{IsErrAnd}
 use Rattle.std.proofs.lemmas.Bool.{true≢false, and_parts}
-use Rattle.std.proofs.lemmas.List.{map-append}
+use Rattle.std.proofs.lemmas.List.{length-map, map-append}
 use Rattle.std.proofs.lemmas.List.Elements.{filter-append}
 use Rattle.std.proofs.lemmas.Slice.Eq.{bytes_eq-Decides}
 use Rattle.ical_lines.specs.Fault.{RefusesBy, RefusesOnly}
@@ -22,13 +22,14 @@ use Rattle.ical_tree.proofs.TreeOfLemmas.{object_tree}
 use Rattle.ical_values.proofs.Exits.{err_exit}
 use Rattle.profile.specs.text.Lines.{logical_lines, reads_as_lines}
 use Rattle.profile.specs.text.Trees.{Tree, vevents}
-use Rattle.profile.specs.events.EventComponents.{EventComponent as SaidComponent, SaysEventComponent, meeting_said, Method}
-use Rattle.profile.specs.events.Events.{Event, taken_by, is_same_meeting, is_master, is_override, is_meeting_fault, AreOfOne, InstancesDiffer, SaysEvent, SpellsEvent, EventFault, in_event, two_masters, two_overrides, no_event, two_meetings, EventTextFault, in_lines, in_tree, no_version, many_events, in_vevents}
+use Rattle.profile.specs.events.EventComponents.{EventComponent as SaidComponent, SaysEventComponent, meeting_said, Method, Store, Request, Add, Cancel, Reply, Refresh}
+use Rattle.profile.specs.events.Events.{Event, as_added, taken_by, is_same_meeting, is_master, is_override, is_meeting_fault, AreOfOne, InstancesDiffer, SaysEvent, SpellsEvent, EventFault, in_event, two_masters, two_overrides, no_event, two_meetings, EventTextFault, in_lines, in_tree, no_version, many_events, in_vevents}
 use Rattle.cal_events.specs.Component.{component_of, IsFaultAmong}
 use Rattle.cal_events.specs.declared.component.EventComponent.{EventComponent}
-use Rattle.cal_events.specs.MeetingComponents.{instants_said, IsNotOne, SharesSlot}
+use Rattle.cal_events.specs.MeetingComponents.{instants_said, AreOfObject, IsNotOne, SharesSlot}
 use Rattle.cal_events.specs.Event.{said_meeting}
 use Rattle.cal_events.specs.declared.event.Event as declared
+use Rattle.cal_events.proofs.shared_lemmas.InOneOrder.{of_mapped}
 use Rattle.cal_events.proofs.shared_lemmas.ObjectFaults.{no_object}
 
 -- ---- one meeting
@@ -79,6 +80,44 @@ pub components_one : (cs : List EventComponent) (first : EventComponent) (others
 components_one cs first others e h =
     subst (λ (l : List EventComponent). AreOfOne (map component_of l)) (sym e)
     (are_of_one (component_of first) (map component_of others) (list_all-map (is_same_meeting (component_of first)) component_of others ∙ sym h))
+
+-- ---- components as METHOD takes them
+
+added_one : (events : List SaidComponent) → AreOfOne events → AreOfOne (map as_added events)
+added_one events one a b in_a in_b =
+    let x = of_mapped as_added events a in_a in
+    let y = of_mapped as_added events b in_b in
+    sym (ap meeting_said x.2) ∙ one x.0 y.0 x.1 y.1 ∙ ap meeting_said y.2
+
+taken_one : (m : Option Method) (events : List SaidComponent) → AreOfOne events → AreOfOne (taken_by m events)
+taken_one None events one = one
+taken_one (Some Store) events one = one
+taken_one (Some Request) events one = one
+taken_one (Some Add) events one = added_one events one
+taken_one (Some Cancel) events one = one
+taken_one (Some Reply) events one = one
+taken_one (Some Refresh) events one = one
+
+as_many_taken : (m : Option Method) (events : List SaidComponent) → length (taken_by m events) ≡ length events
+as_many_taken None events = refl
+as_many_taken (Some Store) events = refl
+as_many_taken (Some Request) events = refl
+as_many_taken (Some Add) events = length-map events as_added
+as_many_taken (Some Cancel) events = refl
+as_many_taken (Some Reply) events = refl
+as_many_taken (Some Refresh) events = refl
+
+pub object_there : (object : Tree) (m : Option Method) (vs : List (List (List ℕ))) (said taken : List SaidComponent) → AllZip (SaysEventComponent object m) vs said → taken ≡ taken_by m said
+    → 0 < length said → AreOfOne said → length (filter is_master taken) ≤ 1 → InstancesDiffer (filter is_override taken) → AreOfObject object m vs taken
+object_there object m vs said taken says is some one masters differ = record {
+  said = said;
+  says = says;
+  taken = is;
+  some = subst (λ (n : ℕ). 0 < n) (sym (ap length is ∙ as_many_taken m said)) some;
+  one = subst AreOfOne (sym is) (taken_one m said one);
+  masters = masters;
+  differ = differ;
+}
 
 -- ---- components divided
 

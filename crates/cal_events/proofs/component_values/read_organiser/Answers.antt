@@ -9,6 +9,7 @@ use Rattle.profile.specs.events.Properties.{IsNoAddress}
 use Rattle.profile.specs.events.EventComponents.{twice, bad_organiser, no_organiser}
 use Rattle.cal_events.specs.Component.{method_read}
 use Rattle.cal_events.proofs.shared_lemmas.EventLemmas.{by_number, some_line}
+use Rattle.cal_events.proofs.shared_lemmas.MethodLemmas.{there_as_said}
 use Rattle.ical_values.proofs.Exits.{err_exit}
 use Rattle.cal_events.proofs.component_values.read_organiser.Goals as goal
 
@@ -29,4 +30,4 @@ returns-in_err-read-in-Some-clause-fault c object =
 
 pub returns-in-None-clause-fault : goal.returns-in-None-clause-fault
 returns-in-None-clause-fault c object =
-    no_organiser (sym c.if-is_some.ensures) (c.in_ok-line.ensures.found ∙ ap (λ l. option_to_list (option_map line_text l)) c.in-None.is)
+    no_organiser (there_as_said c.args.method (sym c.if-is_some.ensures)) (c.in_ok-line.ensures.found ∙ ap (λ l. option_to_list (option_map line_text l)) c.in-None.is)

@@ -9,6 +9,7 @@ use Rattle.profile.specs.events.EventComponents.{twice, bad_stamp, no_stamp_give
 use Rattle.cal_events.specs.Component.{method_read}
 use Rattle.cal_events.proofs.shared_lemmas.EventLemmas.{some_line}
 use Rattle.ical_values.proofs.Exits.{refusal_exit}
+use Rattle.cal_events.proofs.shared_lemmas.MethodLemmas.{there_as_said}
 use Rattle.cal_events.proofs.component_values.read_stamp.Goals as goal
 
 pub returns-in_err-line-clause-fault : goal.returns-in_err-line-clause-fault
@@ -28,4 +29,4 @@ returns-in_err-read-in-Some-clause-fault c object =
 
 pub returns-in-None-clause-fault : goal.returns-in-None-clause-fault
 returns-in-None-clause-fault c object =
-    no_stamp_given (sym c.if-is_some.ensures) (c.in_ok-line.ensures.found ∙ ap (λ l. option_to_list (option_map line_text l)) c.in-None.is)
+    no_stamp_given (there_as_said c.args.method (sym c.if-is_some.ensures)) (c.in_ok-line.ensures.found ∙ ap (λ l. option_to_list (option_map line_text l)) c.in-None.is)
