@@ -176,11 +176,11 @@ small_raised (Some w) own m f = small_later (is_lt (revision_cmp own (own_revisi
 -- the event for the whole meeting is one of them
 master_among : (events : List EventComponent) (w : EventComponent) → master_in events ≡ Some w → Contains events w
 master_among [] w e = absurd (cc)
-master_among (x ∷ events) w e = by (is_master x) e
+master_among (x ∷ events) w e = by (is_master x) e (λ f. master_among events w f)
   where
-    by : (b : Bool) → (if b then Some x else master_in events) ≡ Some w → Contains (x ∷ events) w
-    by true e = subst (λ (y : EventComponent). Contains (x ∷ events) y) (same_Some x w e) (in_head x events)
-    by false e = in_tail x events w (master_among events w e)
+    by : (b : Bool) → (if b then Some x else master_in events) ≡ Some w → (master_in events ≡ Some w → Contains events w) → Contains (x ∷ events) w
+    by true e rest = subst (λ (y : EventComponent). Contains (x ∷ events) y) (same_Some x w e) (in_head x events)
+    by false e rest = in_tail x events w (rest e)
 
 pub named : (room : List ℕ) (content : Content) (part : Part) → IsAsked room content part → Named part
 named room content part a =

@@ -38,13 +38,13 @@ whole_alike : (xs ys : List EventComponent) → AllZip IsAlike xs ys → option_
 whole_alike [] [] z = refl
 whole_alike [] (y ∷ ys) z = absurd z
 whole_alike (x ∷ xs) [] z = absurd z
-whole_alike (x ∷ xs) (y ∷ ys) z = by (is_master x) (is_master y) (ap (λ (o : Option ℤ). not (is_some o)) z.0.recurrence)
+whole_alike (x ∷ xs) (y ∷ ys) z = by (is_master x) (is_master y) (ap (λ (o : Option ℤ). not (is_some o)) z.0.recurrence) (whole_alike xs ys z.1)
   where
-    by : (a b : Bool) → a ≡ b → option_map own_revision (cond a (Some x) (master_in xs)) ≡ option_map own_revision (cond b (Some y) (master_in ys))
-    by true true e = ap Some z.0.revision
-    by false false e = whole_alike xs ys z.1
-    by true false e = cc
-    by false true e = cc
+    by : (a b : Bool) → a ≡ b → option_map own_revision (master_in xs) ≡ option_map own_revision (master_in ys) → option_map own_revision (cond a (Some x) (master_in xs)) ≡ option_map own_revision (cond b (Some y) (master_in ys))
+    by true true e rest = ap Some z.0.revision
+    by false false e rest = rest
+    by true false e rest = cc
+    by false true e rest = cc
 
 module _ (room organiser uid : List ℕ) (xs ys : List EventComponent) (z : AllZip IsAlike xs ys) where
   abbrev IsPartOf : List EventComponent → EventComponent → Part → Type 0

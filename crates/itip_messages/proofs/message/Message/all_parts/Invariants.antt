@@ -2,7 +2,7 @@ use Rattle.std.proofs.Common.{◌≡◌, map, filter, take}
 use Rattle.ical_values.specs.Octets.{address_octets}
 use Rattle.itip_order.specs.Parts.{parts_of}
 use Rattle.itip_messages.specs.Message.{has_part, part_for}
-use Rattle.itip_messages.proofs.parts.Message.all_parts.Given as goal
+use Rattle.itip_messages.proofs.message.Message.all_parts.Given as goal
 
 abbrev pub invariant-loop-component : goal.invariant-loop-component
 invariant-loop-component l =

@@ -6,7 +6,7 @@ use Rattle.profile.specs.events.Messages.{Message}
 use Rattle.itip_order.specs.Parts.{parts_of}
 use Rattle.itip_messages.specs.Message.{RepresentsMessage, has_part, part_for}
 use Rattle.itip_messages.proofs.shared_lemmas.MessageLemmas.{no_parts, all_parts}
-use Rattle.itip_messages.proofs.parts.Message.parts.Goals as goal
+use Rattle.itip_messages.proofs.message.Message.parts.Goals as goal
 
 pub returns-then-not-is_addressed_to-clause-message : goal.returns-then-not-is_addressed_to-clause-message
 returns-then-not-is_addressed_to-clause-message c = λ said s.
