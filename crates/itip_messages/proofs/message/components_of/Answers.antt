@@ -19,5 +19,5 @@ loop-event-preserved c =
       says.0,
       says.1,
       λ to. (said_more HasInstances c.args.events.items c.loop-event.yielded _ c.next.new.self.rest.items c.in-Some.event c.loop-event.components.items c.push.new.self.items
-      c.in_ok-of.field-0 c.loop-event.invariant.0 c.in-Some.ensures.steps.0 (c.loop-event.invariant.2 to) (c.in_ok-of.ensures.instances to) c.in_ok-push.ensures.items).1,
+          c.in_ok-of.field-0 c.loop-event.invariant.0 c.in-Some.ensures.steps.0 (c.loop-event.invariant.2 to) (c.in_ok-of.ensures.instances to) c.in_ok-push.ensures.items).1,
     )
