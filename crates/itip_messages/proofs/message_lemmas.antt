@@ -1,4 +1,3 @@
 pub mod BySlot
 pub mod TreeLemmas
 pub mod MadeMessage
-pub mod WholeRevision

@@ -1,6 +1,6 @@
 -- What a room answers to a message, and what it asks for then, is heard as it was written.
 -- Cited by refreshes_are_heard, replies_are_heard.
-use Rattle.std.proofs.Common.{◌≡◌, ◌∙◌, ℕ, ℤ, ◌<◌, ◌≤◌, Bool, true, false, not, ◌&&◌, ◌||◌, cond, List, [], ◌∷◌, ◌++◌, length, map, filter, codes, Option, None, Some, refl, sym, ap, subst, arith, append-nil}
+use Rattle.std.proofs.Common.{◌≡◌, ◌∙◌, ℕ, ℤ, ◌<◌, ◌≤◌, Bool, true, false, not, ◌&&◌, ◌||◌, cond, List, [], ◌∷◌, length, map, filter, codes, Option, None, Some, refl, sym, ap, subst, arith, append-nil}
 use Rattle.std.specs.Prelude.{AllPairs, Contains, ◌==◌, IsTrue, count_by, nat_lt, unwrap_or}
 use Rattle.std.specs.List.{AllZip, list_any}
 use Rattle.std.specs.declared.cmp.Ordering.TheVariants.{Less, Equal}

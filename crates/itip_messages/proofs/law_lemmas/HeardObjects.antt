@@ -9,7 +9,7 @@ use Rattle.std.proofs.lemmas.Cmp.{tied_itself}
 use Rattle.std.proofs.lemmas.List.Kept.{AllPairs-filter}
 use Rattle.profile.specs.text.Lines.{is_content, is_too_long, logical_lines, reads_as_lines, written}
 use Rattle.profile.specs.text.Objects.{IsObject, is_property}
-use Rattle.profile.specs.text.Trees.{Tree, vevents}
+use Rattle.profile.specs.text.Trees.{Tree}
 use Rattle.profile.specs.events.EventComponents.{EventComponent, Method, SaysEventComponent, meeting_said}
 use Rattle.profile.specs.events.Events.{InstancesDiffer, is_master, is_override}
 use Rattle.profile.specs.events.Messages.{NamesMethod, SpellsMessage, has_one_attendee, is_of_attendee}

@@ -1,7 +1,6 @@
 -- What is read of the VEVENTs of an object by its METHOD: the message that they say, and which fault they have.
 -- Cited by has_one_attendee, judge_attendees, method_of, read_events.
-use Rattle.std.proofs.Common.{◌≡◌, ℕ, Bool, true, false, List, [], ◌∷◌, map, sym, ap, subst, refl, Option, Some, unwrap_or, arith, ◌∙◌}
-use Rattle.std.specs.Prelude.{Contains}
+use Rattle.std.proofs.Common.{◌≡◌, ℕ, Bool, true, List, [], ◌∷◌, map, sym, ap, subst, refl, Some, unwrap_or, arith, ◌∙◌}
 use Rattle.std.specs.List.{AllZip, list_all}
 use Rattle.std.specs.Str.{bytes_eq}
 use Rattle.std.proofs.lemmas.Bool.{false≢true}
@@ -10,7 +9,7 @@ use Rattle.ical_lines.specs.Fault.{RefusesBy}
 use Rattle.ical_lines.specs.declared.fault.Fault.{Fault}
 use Rattle.ical_lines.specs.declared.fault.Fault.TheVariants.{Refused, Memory}
 use Rattle.ical_values.specs.Octets.{address_octets}
-use Rattle.profile.specs.text.Trees.{Tree, tree_own, vevents}
+use Rattle.profile.specs.text.Trees.{tree_own, vevents}
 use Rattle.profile.specs.events.EventComponents.{EventComponent as SaidComponent, SaysEventComponent, Method, Store, Request, Add, Cancel, Reply, Refresh}
 use Rattle.profile.specs.events.Events.{EventFault, taken_by}
 use Rattle.profile.specs.events.Messages.{NamesMethod, MessageFault, in_meeting, not_one, are_of_one, has_one_attendee, is_of_attendee}

@@ -1,6 +1,6 @@
 -- The events of a message: what is known of each, and their order by slots.
 -- Cited by Message::of.
-use Rattle.std.proofs.Common.{◌≡◌, ◌≢◌, ◌∙◌, ℕ, zero, suc, ◌<◌, ◌≤◌, Bool, true, false, not, cond, List, [], ◌∷◌, length, map, filter, get_or, refl, sym, ap, subst, arith, ℤ, Option, Some, None, is_some, Ordering}
+use Rattle.std.proofs.Common.{◌≡◌, ◌≢◌, ◌∙◌, ℕ, zero, suc, ◌≤◌, Bool, true, false, not, cond, List, [], ◌∷◌, length, map, filter, get_or, refl, sym, ap, subst, arith, ℤ, Option, Some, None, is_some, Ordering}
 use Rattle.std.specs.Prelude.{Contains, All, AllPairs, unwrap_or}
 use Rattle.std.specs.List.{AllZip}
 use Rattle.std.specs.List.Sorted.{IsPermutation, IsSortedByKey}

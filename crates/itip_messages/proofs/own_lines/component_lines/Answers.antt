@@ -2,7 +2,7 @@ use Rattle.std.proofs.Common.{◌≡◌, ◌≢◌, ◌∙◌, ℕ, List, Some, 
 use Rattle.std.specs.Prelude.{MatchOption, slice_get, string_bytes}
 use Rattle.ical_tree.specs.Tree.{IsObjectOf}
 use Rattle.ical_tree.proofs.RefusalLemmas.{text_refuses, tree_refuses}
-use Rattle.cal_events.specs.Component.{method_said, vevents_of}
+use Rattle.cal_events.specs.Component.{vevents_of}
 use Rattle.cal_events.specs.declared.component.EventComponent.{EventComponent}
 use Rattle.itip_order.specs.Parts.{slot_of}
 use Rattle.itip_messages.specs.Message.{event_slot}

@@ -1,1 +1,0 @@
-use Rattle.itip_messages.proofs.message.whole_revision.Goals as goal
