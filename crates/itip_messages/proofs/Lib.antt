@@ -5,9 +5,8 @@ pub mod cancel_lemmas
 pub mod examples
 pub mod law_lemmas
 pub mod message_lemmas
-pub mod organiser_object_lemmas
+pub mod message_events_lemmas
 pub mod own_lines_lemmas
-pub mod room_message_lemmas
 pub mod sent_law_lemmas
 pub mod shared_lemmas
 pub mod zones_lemmas

@@ -1,1 +1,3 @@
+pub mod BySlot
 pub mod TreeLemmas
+pub mod MadeMessage

@@ -1,5 +1,5 @@
 //! What one VEVENT of a message says (RFC 5545 3.6.1, RFC 5546 3.2).
-ghost use Rattle.std.specs.Prelude.{◌≡◌, ◌==◌, option_map, length, map, Contains, IfOk, IsSome};
+ghost use Rattle.std.specs.Prelude.{◌≡◌, ◌==◌, true, option_map, length, map, Contains, IfOk, IsSome};
 ghost use Rattle.std.specs.List.{AllZip};
 ghost use Rattle.ical_values.specs.Octets.{address_octets};
 ghost use Rattle.profile.specs.events.EventComponents as events;

@@ -7,7 +7,7 @@ use Rattle.std.proofs.lemmas.Bool.{false≢true}
 use Rattle.std.proofs.Math.Bool.{and-false}
 use Rattle.profile.specs.text.Trees.{Tree}
 use Rattle.profile.specs.text.Values.{IsUid, SpellsStamp, escaped}
-use Rattle.profile.specs.events.EventComponents.{SaysEventComponent, Cancel, first_text}
+use Rattle.profile.specs.events.EventComponents.{SaysEventComponent, Reply, Refresh, first_text}
 use Rattle.profile.specs.events.EventRules.{GivesBeside}
 use Rattle.profile.specs.events.Occurrences.{IsInside, IsRecurrenceLine, Lists, entries_of}
 use Rattle.profile.specs.events.Properties.{Says, is_of, lines_named}
@@ -114,7 +114,7 @@ alone lines l =
     ap (λ x. (false || list_any (is_of (codes "RECURRENCE-ID")) lines) && x) none ∙ and-false (false || list_any (is_of (codes "RECURRENCE-ID")) lines)
 
 event_says : (room : List ℕ) (part : Part) (moment : ℤ) (outcome : Outcome) (own : Lines) (object : Tree) → SaysAnswer room part moment outcome own → Silent own
-    → Says (codes "RECURRENCE-ID") false (IsRecurrenceLine object) own (instant_of_slot part.slot) → SaysEventComponent object (Some Cancel) own (answer_event room part moment outcome)
+    → Says (codes "RECURRENCE-ID") false (IsRecurrenceLine object) own (instant_of_slot part.slot) → SaysEventComponent object (Some Reply) own (answer_event room part moment outcome)
 event_says room part moment outcome own object a l is = record {
   uid = a.uid;
   organiser = a.organiser;
@@ -154,7 +154,7 @@ event_says room part moment outcome own object a l is = record {
 
 pub answer_says : (room : List ℕ) (part : Part) (moment : ℤ) (outcome : Outcome) (slot status : Lines) (stamp : List ℕ) → TellsSlot part.slot slot → TellsOutcome outcome status → IsInstance part.slot
     → SaysAnswer room part moment outcome (answer_own room part outcome slot status stamp)
-    → (object : Tree) → SaysEventComponent object (Some Cancel) (answer_own room part outcome slot status stamp) (answer_event room part moment outcome)
+    → (object : Tree) → SaysEventComponent object (Some Reply) (answer_own room part outcome slot status stamp) (answer_event room part moment outcome)
 answer_says room part moment outcome slot status stamp s o d a object =
     let r = room_silent outcome room status o in
     let l = own_silent room part outcome slot status stamp (slot_silent part.slot slot s) r.rest in
@@ -167,7 +167,7 @@ abbrev pub refresh_own : (room organiser uid stamp : List ℕ) → Lines
 refresh_own room organiser uid stamp = (codes "UID:" ++ escaped uid) ∷ (codes "DTSTAMP:" ++ stamp) ∷ (codes "ORGANIZER:" ++ organiser) ∷ (codes "ATTENDEE:" ++ room) ∷ []
 
 pub refresh_says : (room organiser uid stamp : List ℕ) (moment : ℤ) → IsReadAddress room → IsReadAddress organiser → IsUid uid → SpellsStamp stamp moment
-    → (object : Tree) → SaysEventComponent object (Some Cancel) (refresh_own room organiser uid stamp) (refresh_event room organiser uid moment)
+    → (object : Tree) → SaysEventComponent object (Some Refresh) (refresh_own room organiser uid stamp) (refresh_event room organiser uid moment)
 refresh_says room organiser uid stamp moment home of_it is_uid at object = record {
   uid = record { line = Some (codes "UID:" ++ escaped uid); once = refl; present = λ _. refl; is = (sym (read_back uid), is_uid) };
   organiser = record { line = Some (codes "ORGANIZER:" ++ organiser); once = refl; present = λ _. refl; is = (of_it.address, sym of_it.lower) };

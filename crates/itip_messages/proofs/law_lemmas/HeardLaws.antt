@@ -1,22 +1,20 @@
 -- What a room answers to a message, and what it asks for then, is heard as it was written.
 -- Cited by refreshes_are_heard, replies_are_heard.
-use Rattle.std.proofs.Common.{◌≡◌, ◌∙◌, ℕ, ℤ, ◌<◌, ◌≤◌, Bool, true, false, not, ◌&&◌, ◌||◌, cond, List, [], ◌∷◌, ◌++◌, length, map, filter, codes, Option, None, Some, refl, sym, ap, subst, arith, append-nil, length-append}
+use Rattle.std.proofs.Common.{◌≡◌, ◌∙◌, ℕ, ℤ, ◌<◌, ◌≤◌, Bool, true, false, not, ◌&&◌, ◌||◌, cond, List, [], ◌∷◌, length, map, filter, codes, Option, None, Some, refl, sym, ap, subst, arith, append-nil}
 use Rattle.std.specs.Prelude.{AllPairs, Contains, ◌==◌, IsTrue, count_by, nat_lt, unwrap_or}
-use Rattle.std.specs.List.{AllZip}
+use Rattle.std.specs.List.{AllZip, list_any}
 use Rattle.std.specs.declared.cmp.Ordering.TheVariants.{Less, Equal}
 use Rattle.std.proofs.lemmas.Bool.{and_parts, false≢true}
 use Rattle.std.proofs.lemmas.Bool.Decides.{nat_tests}
 use Rattle.std.proofs.lemmas.Cmp.{tied_itself}
 use Rattle.std.proofs.lemmas.List.{length-map, same_from_push}
-use Rattle.std.proofs.lemmas.List.Filters.{length-filter_both}
 use Rattle.std.proofs.lemmas.List.Kept.{AllPairs-filter}
 use Rattle.std.proofs.lemmas.List.Sums.{length-filter}
 use Rattle.profile.specs.text.Lines.{is_too_long, written, is_same_name}
 use Rattle.profile.specs.text.Objects.{most_events}
 use Rattle.profile.specs.text.Trees.{tree_inside, tree_name, tree_own, vevents}
-use Rattle.profile.specs.events.EventComponents.{EventComponent, Method, Request, Add, Cancel, SaysEventComponent, meeting_said, Reply, Refresh}
-use Rattle.profile.specs.events.Events.{as_added, components_of, is_master, is_override, taken_by}
-use Rattle.profile.specs.events.Messages.{NamesMethod, Message, SpellsMessage}
+use Rattle.profile.specs.events.EventComponents.{EventComponent, Method, Store, Request, Add, Cancel, Reply, Refresh, SaysEventComponent, meeting_said}
+use Rattle.profile.specs.events.Messages.{NamesMethod, Message, SpellsMessage, is_to_rooms}
 use Rattle.profile.specs.organisers.Organisers.{heard_in}
 use Rattle.profile.specs.rooms.Kept.{Refreshes, Replies, ShowsAnswer}
 use Rattle.profile.specs.rooms.Messages.{Content, IsBody, is_add, is_addressed, is_for, is_part_for, names_room, object_lines, parts_for, slot_named, slot_of}
@@ -32,7 +30,7 @@ use Rattle.itip_order.proofs.Order.{slot_total}
 use Rattle.ical_values.proofs.Readings.{stamp_written}
 use Rattle.itip_messages.specs.Law.{AreTextAnswers, IsAnswerTo, IsReadAddress, IsVevent, SaysAnswerTo, SpellsRefresh, SpellsReply, answer_event, instant_of_slot, participation_answered, refresh_event}
 use Rattle.itip_messages.proofs.law_lemmas.AnswerReads.{answer_reads, tail_of}
-use Rattle.itip_messages.proofs.room_message_lemmas.BySlot.{of_message}
+use Rattle.itip_messages.proofs.own_lines_lemmas.LinesBySlot.{as_many}
 use Rattle.itip_messages.proofs.shared_lemmas.ContentLines.{LinesBack, ReadsLines, reply_method, refresh_method}
 use Rattle.itip_messages.proofs.law_lemmas.HeardEvents.{IsInstance, answer_own, answer_says, refresh_own, refresh_says}
 use Rattle.itip_messages.proofs.law_lemmas.HeardObjects.{Heard, IsBefore, object_heard}
@@ -66,17 +64,17 @@ module _ (read : List ℕ) (message : Message) (spells : SpellsMessage read mess
     given = message;
     spells = spells;
     event = event;
-    among = (of_list (is_addressed room message) (is_part_for room message.method) (components_of message.meeting) event c).0;
+    to_rooms = (and_parts (is_to_rooms message.method) (list_any (is_for room message.method) message.events) (of_list (is_addressed room message) (is_part_for room message.method) message.events event c).1).0;
+    among = (of_list (is_addressed room message) (is_part_for room message.method) message.events event c).0;
     is_part = is.part;
   }
 
-  known : (first : EventComponent) → Contains (components_of message.meeting) first → (event : EventComponent) (claim : Claim) → Contains (parts_for room message) event → IsClaim room message event claim
-      → Known (meeting_said first).0 (meeting_said first).1 claim.part
-  known first f event claim c is =
+  known : (event : EventComponent) (claim : Claim) → Contains (parts_for room message) event → IsClaim room message event claim → Known message.organiser message.uid claim.part
+  known event claim c is =
       let a = asked event claim c is in
       let m = message_of read message spells event a.among in
-      let one = (of_message spells.tree message.method message.meeting spells.says.says).one event first a.among f in
       let meeting : meeting_said event ≡ (claim.part.organiser, event.uid) = ap (λ (o : Option (List ℕ)). (unwrap_or o [], event.uid)) is.part.organiser in
+      let one = spells.says.are.of_it event a.among in
       record {
         texts = named room claim.content claim.part a;
         instance = subst IsInstance (sym is.part.slot) (instance_named event.recurrence m.says.dated);
@@ -87,20 +85,9 @@ module _ (read : List ℕ) (message : Message) (spells : SpellsMessage read mess
   of_claim : (claims : List Claim) → AreClaims room message claims → (claim : Claim) → Contains claims claim → (event : EventComponent) × Contains (parts_for room message) event × IsClaim room message event claim
   of_claim claims h claim c = let found = zip_back (IsClaim room message) h.events claims claim h.each c in (found.0, (h.are.exact found.0).0 found.1, found.2)
 
-  -- all are of the meeting of one of them
-  record OfMeeting (claims : List Claim) : Type 0 where
-    organiser : List ℕ
-    uid : List ℕ
-    each : (claim : Claim) → Contains claims claim → Known organiser uid claim.part
-
-  of_meeting : (claims : List Claim) → AreClaims room message claims → (first : Claim) → Contains claims first → OfMeeting claims
-  of_meeting claims h first c =
-      let f = of_claim claims h first c in
-      record {
-        organiser = (meeting_said f.0).0;
-        uid = (meeting_said f.0).1;
-        each = λ claim k. let g = of_claim claims h claim k in known f.0 (asked f.0 first f.1 f.2).among g.0 claim g.1 g.2;
-      }
+  -- all are of its meeting
+  of_meeting : (claims : List Claim) → AreClaims room message claims → (claim : Claim) → Contains claims claim → Known message.organiser message.uid claim.part
+  of_meeting claims h claim c = let f = of_claim claims h claim c in known f.0 claim f.1 f.2
 
   -- ---- they are by their slots, and no more than a message may have
 
@@ -122,31 +109,22 @@ module _ (read : List ℕ) (message : Message) (spells : SpellsMessage read mess
   not_less : (event : EventComponent) → IsBefore event event → ⊥
   not_less event l = let e = tied_itself slot_total (slot_of event) in let x : Less ≡ Equal = sym l ∙ e in cc
 
-  taken_long : (method : Method) (events : List EventComponent) → length (taken_by (Some method) events) ≡ length events
-  taken_long Request events = refl
-  taken_long Add events = length-map events as_added
-  taken_long Cancel events = refl
-
-  few_said : length (components_of message.meeting) ≤ 200
+  few_said : length message.events ≤ 200
   few_said =
-      let s = spells.says.says in
-      let all = taken_by (Some message.method) s.events in
-      let same : filter is_master all ++ filter is_override all ≡ components_of message.meeting = (λ i. s.master i ++ s.overrides i) in
-      let both = length-filter_both is_override is_master (λ e. refl) all in
-      let sum = length-append (filter is_master all) (filter is_override all) in
+      let s = spells.says in
       let inside = filter (λ part. is_same_name (tree_name part) (codes "VEVENT")) (tree_inside spells.tree) in
       let count : length s.events ≡ count_by (λ part. is_same_name (tree_name part) (codes "VEVENT")) (tree_inside spells.tree) =
       sym (zip_length (SaysEventComponent spells.tree (Some message.method)) (vevents spells.tree) s.events s.says) ∙ length-map inside tree_own ∙ length-filter (λ part. is_same_name (tree_name part) (codes "VEVENT")) (tree_inside spells.tree) in
       let most = at_most most_events _ spells.object.events in
-      omega (arith, ap length same, both, sum, count, most, taken_long message.method s.events)
+      omega (arith, ap length s.taken, count, most, as_many message.method s.events)
     where
       at_most : (a b : ℕ) → nat_lt a b ≡ false → b ≤ a
       at_most a b h = grind (arith, nat_tests)
 
   few_claims : (claims : List Claim) → AreClaims room message claims → length claims ≤ 200
   few_claims claims h =
-      let here = no_longer IsBefore not_less (components_of message.meeting) h.events h.are.order
-      (λ e c. (of_list (is_addressed room message) (is_part_for room message.method) (components_of message.meeting) e ((h.are.exact e).0 c)).0) in
+      let here = no_longer IsBefore not_less message.events h.events h.are.order
+      (λ e c. (of_list (is_addressed room message) (is_part_for room message.method) message.events e ((h.are.exact e).0 c)).0) in
       omega (arith, few_said, here, zip_length (IsClaim room message) h.events claims h.each)
 
   -- ---- the room is one that the message names
@@ -174,7 +152,7 @@ slot_back Whole = refl
 slot_back (At t) = refl
 
 module _ (room organiser uid : List ℕ) (home : IsRoom room) (book : Book) (names : AreTextAnswers book) where
-  one_heard : (claim : Claim) (lines : Lines) → Known organiser uid claim.part → (s : ShowsAnswer room book claim lines) → Heard organiser uid lines (answer_event room claim.part s.answer.moment s.answer.outcome)
+  one_heard : (claim : Claim) (lines : Lines) → Known organiser uid claim.part → (s : ShowsAnswer room book claim lines) → Heard Reply organiser uid lines (answer_event room claim.part s.answer.moment s.answer.outcome)
   one_heard claim lines k s =
       let e = s.shows in
       let part = claim.part in
@@ -196,7 +174,7 @@ module _ (room organiser uid : List ℕ) (home : IsRoom room) (book : Book) (nam
         are = r.are;
         good = r.good;
         says = λ object.
-            subst (λ (own : Lines). SaysEventComponent object (Some Cancel) own (answer_event room part s.answer.moment outcome)) same
+            subst (λ (own : Lines). SaysEventComponent object (Some Reply) own (answer_event room part s.answer.moment outcome)) same
             (answer_says room part s.answer.moment outcome e.slot e.status e.stamp e.tells_slot e.tells_outcome k.instance said object);
         meeting = λ i. (k.of_organiser i, k.of_uid i);
         one = refl;
@@ -204,7 +182,7 @@ module _ (room organiser uid : List ℕ) (home : IsRoom room) (book : Book) (nam
 
   record Answers (claims : List Claim) (texts : List Lines) : Type 0 where
     events : List EventComponent
-    heard : AllZip (Heard organiser uid) texts events
+    heard : AllZip (Heard Reply organiser uid) texts events
     says : AllZip (SaysAnswerTo room book) claims events
     hears : AllZip (IsAnswerTo room book) claims (heard_in events)
     slots : map slot_of events ≡ map (λ (claim : Claim). claim.part.slot) claims
@@ -257,8 +235,7 @@ replies_heard back reads read message room book claims octets spells h names (so
     let first = first_there these some in
     let from = of_filtered passes claims first.0 first.1 in
     let home = set_room read message spells room claims h first.0 from.0 (and_parts (is_set first.0.part) (in_view book.taken first.0.part) from.1).0 in
-    let m = of_meeting read message spells room claims h first.0 from.0 in
-    let a = answers room m.organiser m.uid home book names these r.events (λ c k. m.each c (of_filtered passes claims c k).0) r.each in
+    let a = answers room message.organiser message.uid home book names these r.events (λ c k. of_meeting read message spells room claims h c (of_filtered passes claims c k).0) r.each in
     let count : length these ≡ length a.events = zip_length (SaysAnswerTo room book) these a.events a.says in
     let few : length a.events ≤ 200 = omega (arith, few_claims read message spells room claims h, filter_no_longer passes claims, count) in
     let order : AllPairs IsBefore a.events =
@@ -267,10 +244,10 @@ replies_heard back reads read message room book claims octets spells h names (so
     (pairs_mapped (λ (x y : Slot). slot_cmp x y ≡ Less) (λ (c : Claim). c.part.slot) these
     (AllPairs-filter (λ (x y : Claim). slot_cmp x.part.slot y.part.slot ≡ Less) passes claims (in_order read message spells room claims h)))) in
     record {
-      organiser = m.organiser;
-      uid = m.uid;
+      organiser = message.organiser;
+      uid = message.uid;
       events = a.events;
-      spells = object_heard back reads (codes "REPLY") Reply reply_method reply_named refl m.organiser m.uid r.events a.events octets a.heard (omega (arith, count, some_there these first.0 first.1)) few order r.is short;
+      spells = object_heard back reads (codes "REPLY") Reply reply_method reply_named refl message.organiser message.uid r.events a.events octets a.heard (omega (arith, count, some_there these first.0 first.1)) few order r.is short;
       says = a.says;
       heard = a.hears;
     }
@@ -284,8 +261,11 @@ added_names room message adds event is = go message.method adds is
     other false n = n
 
     go : (method : Method) → is_add method ≡ true → is_for room method event ≡ true → names_room room event ≡ true
+    go Store h n = absurd (false≢true h)
     go Request h n = absurd (false≢true h)
     go Cancel h n = absurd (false≢true h)
+    go Reply h n = absurd (false≢true h)
+    go Refresh h n = absurd (false≢true h)
     go Add h n = other (names_room room event) n
 
 pub refreshes_heard : LinesBack → ReadsLines → (read : List ℕ) (message : Message) (room : List ℕ) (before after : List Part) (claims : List Claim) (moment : ℤ) (octets : List ℕ) → SpellsMessage read message → AreClaims room message claims
@@ -295,11 +275,10 @@ refreshes_heard back reads read message room before after claims moment octets s
     let claim = r.claim in
     let part = claim.part in
     let f = of_claim read message spells room claims h claim r.of_them in
-    let addressed = (of_list (is_addressed room message) (is_part_for room message.method) (components_of message.meeting) f.0 f.1).1 in
-    let one = any_at (is_for room message.method) (components_of message.meeting) addressed in
+    let addressed = (of_list (is_addressed room message) (is_part_for room message.method) message.events f.0 f.1).1 in
+    let one = any_at (is_for room message.method) message.events (and_parts (is_to_rooms message.method) (list_any (is_for room message.method) message.events) addressed).1 in
     let home = named_room room (message_of read message spells one.0 one.1) (added_names room message adds one.0 one.2) in
-    let m = of_meeting read message spells room claims h claim r.of_them in
-    let k = m.each claim r.of_them in
+    let k = of_meeting read message spells room claims h claim r.of_them in
     let n = k.texts in
     let e = r.shows in
     let o = event_read room part.organiser part.uid moment r.lines home.text n.organiser n.uid e in
@@ -307,11 +286,11 @@ refreshes_heard back reads read message room before after claims moment octets s
     let vevent : IsVevent mine r.lines = e.is in
     let same : mine ≡ o.own = (same_from_push mine o.own (codes "END:VEVENT") (codes "END:VEVENT") (tail_of (codes "BEGIN:VEVENT") (codes "BEGIN:VEVENT") _ _ (sym vevent ∙ o.are))).0 in
     let event = refresh_event room part.organiser part.uid moment in
-    let heard : Heard part.organiser part.uid r.lines event = record {
+    let heard : Heard Refresh part.organiser part.uid r.lines event = record {
       own = o.own;
       are = o.are;
       good = o.good;
-      says = λ object. subst (λ (own : Lines). SaysEventComponent object (Some Cancel) own event) same (refresh_says room part.organiser part.uid e.stamp moment (home_of room home) (organiser_of part n) n.is_uid (stamp_written e.stamp moment e.tells_moment) object);
+      says = λ object. subst (λ (own : Lines). SaysEventComponent object (Some Refresh) own event) same (refresh_says room part.organiser part.uid e.stamp moment (home_of room home) (organiser_of part n) n.is_uid (stamp_written e.stamp moment e.tells_moment) object);
       meeting = refl;
       one = refl;
     } in

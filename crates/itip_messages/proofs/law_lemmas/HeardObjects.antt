@@ -1,4 +1,4 @@
--- A reply, and a refresh, that was written spells an object for an organiser, whose VEVENTs say these events.
+-- A reply, and a refresh, that was written spells a message to an organiser, whose VEVENTs say these events.
 -- Behind refreshes_are_heard, replies_are_heard.
 use Rattle.std.proofs.Common.{◌≡◌, ◌≢◌, ◌∙◌, ℕ, ℤ, ◌<◌, ◌≤◌, Bool, true, false, not, cond, List, [], ◌∷◌, ◌++◌, length, filter, get_or, Option, None, Some, is_some, inl, inr, refl, sym, ap, ap₂, subst, arith}
 use Rattle.std.specs.Prelude.{AllPairs, Contains}
@@ -9,11 +9,10 @@ use Rattle.std.proofs.lemmas.Cmp.{tied_itself}
 use Rattle.std.proofs.lemmas.List.Kept.{AllPairs-filter}
 use Rattle.profile.specs.text.Lines.{is_content, is_too_long, logical_lines, reads_as_lines, written}
 use Rattle.profile.specs.text.Objects.{IsObject, is_property}
-use Rattle.profile.specs.text.Trees.{Tree, vevents}
-use Rattle.profile.specs.events.EventComponents.{EventComponent, Method, SaysEventComponent, Cancel, meeting_said}
+use Rattle.profile.specs.text.Trees.{Tree}
+use Rattle.profile.specs.events.EventComponents.{EventComponent, Method, SaysEventComponent, meeting_said}
 use Rattle.profile.specs.events.Events.{InstancesDiffer, is_master, is_override}
-use Rattle.profile.specs.organisers.Objects.{read_as}
-use Rattle.profile.specs.events.Messages.{NamesMethod, SpellsMessage, has_one_attendee}
+use Rattle.profile.specs.events.Messages.{NamesMethod, SpellsMessage, has_one_attendee, is_of_attendee}
 use Rattle.profile.specs.rooms.Messages.{object_lines, slot_of, slot_named}
 use Rattle.profile.specs.rooms.Revisions.{slot_cmp}
 use Rattle.itip_messages.specs.Law.{IsVevent}
@@ -21,6 +20,7 @@ use Rattle.cal_events.proofs.shared_lemmas.InOneOrder.{head_pairs, pairs_mapped}
 use Rattle.cal_events.proofs.shared_lemmas.Zips.{zip_length}
 use Rattle.itip_order.proofs.Lists.{in_cons, in_head, in_tail, none_in_nil}
 use Rattle.itip_order.proofs.Order.{slot_total}
+use Rattle.itip_messages.proofs.message_events_lemmas.EventsRead.{as_they_are}
 use Rattle.itip_messages.proofs.shared_lemmas.ContentLines.{IsMethod, LinesBack, ReadsLines, object_content}
 use Rattle.itip_messages.proofs.shared_lemmas.ObjectTree.{Lines, calendar_own, calendar_tree, calendar_vevents, object_spelled, vevent_lines}
 use Rattle.itip_messages.proofs.shared_lemmas.ReplyLines.{AreOwn}
@@ -30,30 +30,30 @@ use Rattle.itip_messages.proofs.shared_lemmas.ZonedObjects.{bounded_object}
 -- ---- the VEVENTs
 
 -- the lines are a VEVENT of this meeting that says the event, with one attendee
-pub record Heard (organiser uid : List ℕ) (lines : Lines) (event : EventComponent) : Type 0 where
+pub record Heard (method : Method) (organiser uid : List ℕ) (lines : Lines) (event : EventComponent) : Type 0 where
   pub own : Lines
   pub are : IsVevent own lines
   pub good : AreOwn own
-  pub says : (object : Tree) → SaysEventComponent object (Some Cancel) own event
+  pub says : (object : Tree) → SaysEventComponent object (Some method) own event
   pub meeting : meeting_said event ≡ (organiser, uid)
   pub one : has_one_attendee event ≡ true
 
-record AllHeard (organiser uid : List ℕ) (texts : List Lines) (events : List EventComponent) : Type 0 where
+record AllHeard (method : Method) (organiser uid : List ℕ) (texts : List Lines) (events : List EventComponent) : Type 0 where
   owns : List Lines
   are : flat_map (λ lines. lines) texts ≡ flat_map vevent_lines owns
   properties : list_all (list_all is_property) owns ≡ true
   content : list_all (list_all is_content) owns ≡ true
-  says : (object : Tree) → AllZip (SaysEventComponent object (Some Cancel)) owns events
+  says : (object : Tree) → AllZip (SaysEventComponent object (Some method)) owns events
   meeting : (event : EventComponent) → Contains events event → meeting_said event ≡ (organiser, uid)
   one : list_all has_one_attendee events ≡ true
 
-all_heard : (organiser uid : List ℕ) (texts : List Lines) (events : List EventComponent) → AllZip (Heard organiser uid) texts events → AllHeard organiser uid texts events
-all_heard organiser uid [] [] z = record { owns = []; are = refl; properties = refl; content = refl; says = λ object. tt; meeting = λ e c. absurd (none_in_nil e c); one = refl }
-all_heard organiser uid [] (e ∷ events) z = absurd z
-all_heard organiser uid (lines ∷ texts) [] z = absurd z
-all_heard organiser uid (lines ∷ texts) (e ∷ events) z =
+all_heard : (method : Method) (organiser uid : List ℕ) (texts : List Lines) (events : List EventComponent) → AllZip (Heard method organiser uid) texts events → AllHeard method organiser uid texts events
+all_heard method organiser uid [] [] z = record { owns = []; are = refl; properties = refl; content = refl; says = λ object. tt; meeting = λ e c. absurd (none_in_nil e c); one = refl }
+all_heard method organiser uid [] (e ∷ events) z = absurd z
+all_heard method organiser uid (lines ∷ texts) [] z = absurd z
+all_heard method organiser uid (lines ∷ texts) (e ∷ events) z =
     let one = z.0 in
-    let rest = all_heard organiser uid texts events z.1 in
+    let rest = all_heard method organiser uid texts events z.1 in
     record {
       owns = one.own ∷ rest.owns;
       are = ap₂ (λ x y. x ++ y) one.are rest.are;
@@ -112,28 +112,31 @@ overrides_differ events p =
 
 -- ---- the octets
 
-pub object_heard : LinesBack → ReadsLines → (word : List ℕ) (operation : Operation) → IsMethod (Some word) → NamesMethod (calendar_own (Some word)) operation → read_as operation ≡ Cancel
-    → (organiser uid : List ℕ) (texts : List Lines) (events : List EventComponent) (octets : List ℕ) → AllZip (Heard organiser uid) texts events → 0 < length events → length events ≤ 200 → AllPairs IsBefore events
+-- those of what an attendee says are taken as they are
+pub object_heard : LinesBack → ReadsLines → (word : List ℕ) (method : Method) → IsMethod (Some word) → NamesMethod (calendar_own (Some word)) method → is_of_attendee method ≡ true
+    → (organiser uid : List ℕ) (texts : List Lines) (events : List EventComponent) (octets : List ℕ) → AllZip (Heard method organiser uid) texts events → 0 < length events → length events ≤ 200 → AllPairs IsBefore events
     → octets ≡ written (object_lines (Some word) (flat_map (λ lines. lines) texts)) → is_too_long octets ≡ false
-    → SpellsMessage octets (record { operation = operation; organiser = organiser; uid = uid; events = events })
-object_heard back reads word operation fine named like organiser uid texts events octets z some few order is short =
-    let method = Some word in
-    let all = all_heard organiser uid texts events z in
-    let lines = object_lines method (flat_map vevent_lines all.owns) in
-    let content = object_content method all.owns fine all.content in
-    let whole : octets ≡ written lines = is ∙ ap (λ l. written (object_lines method l)) all.are in
+    → SpellsMessage octets (record { method = method; organiser = organiser; uid = uid; events = events })
+object_heard back reads word method fine named speaks organiser uid texts events octets z some few order is short =
+    let own = Some word in
+    let all = all_heard method organiser uid texts events z in
+    let lines = object_lines own (flat_map vevent_lines all.owns) in
+    let content = object_content own all.owns fine all.content in
+    let whole : octets ≡ written lines = is ∙ ap (λ l. written (object_lines own l)) all.are in
     let logical : logical_lines octets ≡ lines = ap logical_lines whole ∙ back lines content in
-    let tree = calendar_tree method all.owns in
+    let tree = calendar_tree own all.owns in
     let said = all.says tree in
-    let count : length all.owns ≡ length events = zip_length (SaysEventComponent tree (Some Cancel)) all.owns events said in
-    let object = bounded_object tree lines all.owns (object_spelled method all.owns all.properties) (calendar_vevents method all.owns) (omega (arith, count, few)) in
+    let count : length all.owns ≡ length events = zip_length (SaysEventComponent tree (Some method)) all.owns events said in
+    let object = bounded_object tree lines all.owns (object_spelled own all.owns all.properties) (calendar_vevents own all.owns) (omega (arith, count, few)) in
     record {
       lines = bounded_reads octets (ap (reads_as_lines false) whole ∙ reads lines content) short;
       tree = tree;
       object = subst (IsObject true tree) (sym logical) object;
       says = record {
-        operation = named;
-        says = subst (λ (m : Method). AllZip (SaysEventComponent tree (Some m)) (vevents tree) events) (sym like) (subst (λ (vs : List Lines). AllZip (SaysEventComponent tree (Some Cancel)) vs events) (sym (calendar_vevents method all.owns)) said);
+        method = named;
+        events = events;
+        says = subst (λ (vs : List Lines). AllZip (SaysEventComponent tree (Some method)) vs events) (sym (calendar_vevents own all.owns)) said;
+        taken = sym (as_they_are method speaks events);
         are = record {
           some = some;
           of_it = all.meeting;

@@ -1,37 +1,36 @@
 -- What is known of the texts of a part of a message: they are those of content lines, as they are read.
 -- Behind refreshes_are_heard, replies_are_heard.
-use Rattle.std.proofs.Common.{◌≡◌, ◌∙◌, ℕ, ℤ, ◌<◌, ◌^◌, Bool, true, false, List, [], ◌++◌, codes, Option, Some, None, inl, inr, refl, sym, subst, arith}
+use Rattle.std.proofs.Common.{◌≡◌, ◌∙◌, ℕ, ℤ, ◌<◌, ◌^◌, Bool, true, false, List, [], ◌∷◌, codes, Option, Some, None, inl, inr, refl, sym, subst, arith}
 use Rattle.std.specs.Prelude.{if◌then◌else◌, option_map}
-use Rattle.std.specs.Option.{option_to_list}
 use Rattle.std.specs.Ordering.{is_lt}
-use Rattle.std.proofs.lemmas.List.Elements.{All-contains, Contains-append_cases}
+use Rattle.std.proofs.lemmas.List.Elements.{All-contains}
 use Rattle.std.specs.List.{AllZip, Contains}
 use Rattle.std.specs.Str.{bytes_eq}
 use Rattle.std.proofs.lemmas.Slice.Eq.{bytes_eq-Decides}
 use Rattle.profile.specs.text.Lines.{line_value, line_param, logical_lines}
 use Rattle.profile.specs.text.Trees.{Tree, vevents}
 use Rattle.profile.specs.text.Values.{IsAddress, IsUid, lower_case}
-use Rattle.profile.specs.events.EventComponents.{Method, Request, Add, Cancel, EventComponent, SaysEventComponent, SaysSequence, IsAttendee, adds_instances}
-use Rattle.profile.specs.events.Events.{Event, as_added, taken_by, components_of, is_master, is_override, SaysEvent}
+use Rattle.profile.specs.events.EventComponents.{Method, Store, Request, Add, Cancel, Reply, Refresh, EventComponent, SaysEventComponent, SaysSequence, IsAttendee, adds_instances}
+use Rattle.profile.specs.events.Events.{as_added, taken_by, is_master}
 use Rattle.profile.specs.events.ZonedTimes.{SaysTimes, SpellsZoned, SaysZoneOf, EventTimes, zone_named}
 use Rattle.profile.specs.series.Zones.{Zone}
 use Rattle.profile.specs.series.ZoneTexts.{SaysZone}
 use Rattle.std.proofs.lemmas.Option.{same_Some}
 use Rattle.profile.specs.events.Properties.{Says, BothOrNeither, OccursAtMostOnce, IsAddressLine, IsUidLine, IsSequenceLine, is_of, lines_named}
-use Rattle.profile.specs.rooms.Messages as messages
+use Rattle.profile.specs.events.Messages as events
 use Rattle.profile.specs.rooms.Messages.{Content, IsPart, cancels, own_revision, raised_to, names_room}
-use Rattle.profile.specs.events.Messages.{SpellsMessage}
+use Rattle.profile.specs.events.Messages.{SpellsMessage, is_to_rooms, master_in}
 use Rattle.profile.specs.rooms.Revisions.{Part, Revision, revision_cmp}
-use Rattle.itip_order.proofs.Lists.{in_head, filter_at, any_at}
+use Rattle.itip_order.proofs.Lists.{in_head, in_tail, filter_at, any_at}
 use Rattle.ical_lines.proofs.CleanLines.{IsClean}
 use Rattle.ical_values.proofs.Addresses.{lower_twice}
 use Rattle.cal_events.specs.MeetingComponents.{IsInEventDates}
-use Rattle.cal_events.proofs.shared_lemmas.InOneOrder.{of_filtered, of_mapped}
+use Rattle.cal_events.proofs.shared_lemmas.InOneOrder.{of_mapped}
 use Rattle.cal_events.proofs.shared_lemmas.OneInstance.{event_sound}
 use Rattle.cal_events.proofs.shared_lemmas.SeriesLemmas.{zip_back}
 use Rattle.itip_messages.specs.Body.{IsReady}
 use Rattle.itip_messages.specs.Law.{IsTextAddress, IsTextValue}
-use Rattle.itip_messages.proofs.room_message_lemmas.BySlot.{of_message}
+use Rattle.itip_messages.proofs.message_lemmas.BySlot.{of_message}
 use Rattle.itip_messages.proofs.shared_lemmas.CleanText.{text_address}
 use Rattle.itip_messages.proofs.shared_lemmas.CleanUids.{text_value}
 use Rattle.itip_messages.proofs.shared_lemmas.EventLines.{clean_value, vevent_among}
@@ -39,13 +38,14 @@ use Rattle.itip_messages.proofs.shared_lemmas.ObjectTree.{Lines}
 use Rattle.itip_messages.proofs.shared_lemmas.OwnWhen.{EventFacts, event_facts}
 use Rattle.itip_messages.proofs.shared_lemmas.ZonedStarts.{IsSaid}
 
--- octets ask the room for the part, with this content: it is that of one of the events that they say
+-- octets ask the room for the part, with this content: they spell a message to rooms, and it is that of one of its events
 pub record IsAsked (room : List ℕ) (content : Content) (part : Part) : Type 0 where
   pub octets : List ℕ
-  pub given : messages.Message
+  pub given : events.Message
   pub spells : SpellsMessage octets given
   pub event : EventComponent
-  pub among : Contains (components_of given.meeting) event
+  pub to_rooms : is_to_rooms given.method ≡ true
+  pub among : Contains given.events event
   pub is_part : IsPart room given event content part
 
 -- ---- what the lines of the message say
@@ -71,13 +71,6 @@ small_sequence : (lines : Lines) (n : ℕ) → SaysSequence lines n → n < 2 ^ 
 small_sequence lines n (None, s, e) = omega (arith, e)
 small_sequence lines n (Some m, s, e) = let g = given (codes "SEQUENCE") false IsSequenceLine lines m s in omega (arith, e, g.is.3)
 
--- an event of a meeting that an object says is one of the object's, as its method takes them
-said_among : (object : Tree) (m : Option Method) (meeting : Event) (s : SaysEvent object m meeting) (e : EventComponent) → Contains (components_of meeting) e → Contains (taken_by m s.events) e
-said_among object m meeting s e c = elim (Contains-append_cases (option_to_list meeting.master) meeting.overrides e c) [
-  | inl master ↦ (of_filtered is_master (taken_by m s.events) e (subst (λ (l : List EventComponent). Contains l e) (sym s.master) master)).0
-  | inr other ↦ (of_filtered is_override (taken_by m s.events) e (subst (λ (l : List EventComponent). Contains l e) (sym s.overrides) other)).0
-]
-
 -- what the lines of a VEVENT of a message say of an event, however its method takes it
 pub record SaysTaken (object : Tree) (method : Method) (lines : Lines) (event : EventComponent) : Type 0 where
   pub organiser : Says (codes "ORGANIZER") true IsAddressLine lines event.organiser
@@ -86,7 +79,7 @@ pub record SaysTaken (object : Tree) (method : Method) (lines : Lines) (event : 
   pub attendees : AllZip IsAttendee (lines_named (codes "ATTENDEE") lines) event.attendees
   -- the zone of its start is one that some VTIMEZONE says
   pub zone : IsSaid event.times.zone
-  pub facts : cancels method event ≡ false → EventFacts event (adds_instances (Some method))
+  pub facts : is_to_rooms method ≡ true → cancels method event ≡ false → EventFacts event (adds_instances (Some method))
   -- the instance that it is of is in the dates that an event may name
   pub dated : (t : ℤ) → event.recurrence ≡ Some t → IsInEventDates t
 
@@ -126,7 +119,7 @@ when_added object lines event s = record {
   sequence = s.sequence;
   attendees = s.attendees;
   zone = zone_said _ object lines event.times s.times;
-  facts = λ h. facts_added event (event_facts object Add lines event s h);
+  facts = λ to h. facts_added event (event_facts object Add lines event s to h);
   dated = λ t is. subst IsInEventDates (same_Some event.times.start t is) (event_sound object lines event s).starts;
 }
 
@@ -134,8 +127,11 @@ abbrev SaidIn : Tree → Method → List Lines → EventComponent → Type 0
 SaidIn object method vs event = (lines : Lines) × Contains vs lines × SaysTaken object method lines event
 
 taken_said : (object : Tree) (method : Method) (vs : List Lines) (events : List EventComponent) (e : EventComponent) → AllZip (SaysEventComponent object (Some method)) vs events → Contains (taken_by (Some method) events) e → SaidIn object method vs e
+taken_said object Store vs events e z c = let found = zip_back (SaysEventComponent object (Some Store)) vs events e z c in (found.0, found.1, as_said object Store found.0 e found.2)
 taken_said object Request vs events e z c = let found = zip_back (SaysEventComponent object (Some Request)) vs events e z c in (found.0, found.1, as_said object Request found.0 e found.2)
 taken_said object Cancel vs events e z c = let found = zip_back (SaysEventComponent object (Some Cancel)) vs events e z c in (found.0, found.1, as_said object Cancel found.0 e found.2)
+taken_said object Reply vs events e z c = let found = zip_back (SaysEventComponent object (Some Reply)) vs events e z c in (found.0, found.1, as_said object Reply found.0 e found.2)
+taken_said object Refresh vs events e z c = let found = zip_back (SaysEventComponent object (Some Refresh)) vs events e z c in (found.0, found.1, as_said object Refresh found.0 e found.2)
 taken_said object Add vs events e z c =
     let x = of_mapped as_added events e c in
     let found = zip_back (SaysEventComponent object (Some Add)) vs events x.0 z x.1 in
@@ -149,16 +145,16 @@ pub record Message (method : Method) (event : EventComponent) : Type 0 where
   pub clean : (line : List ℕ) → Contains lines line → IsClean (line_value line)
   pub ready : IsReady event
 
-pub message_of : (octets : List ℕ) (given : messages.Message) (spells : SpellsMessage octets given) (event : EventComponent) → Contains (components_of given.meeting) event → Message given.method event
+pub message_of : (octets : List ℕ) (given : events.Message) (spells : SpellsMessage octets given) (event : EventComponent) → Contains given.events event → Message given.method event
 message_of octets given spells event c =
-    let s = spells.says.says in
-    let found = taken_said spells.tree given.method (vevents spells.tree) s.events event s.says (said_among spells.tree (Some given.method) given.meeting s event c) in
+    let s = spells.says in
+    let found = taken_said spells.tree given.method (vevents spells.tree) s.events event s.says (subst (λ (l : List EventComponent). Contains l event) s.taken c) in
     record {
       object = spells.tree;
       lines = found.0;
       says = found.2;
       clean = λ line l. clean_value true octets line spells.lines (vevent_among true spells.tree (logical_lines octets) found.0 spells.object found.1 line l);
-      ready = All-contains IsReady (components_of given.meeting) event (of_message spells.tree given.method given.meeting s).ready c;
+      ready = All-contains IsReady given.events event (of_message spells.tree given s).ready c;
     }
 
 -- what is known of the organiser, the UID and the number of a part
@@ -177,6 +173,15 @@ small_raised : (o : Option EventComponent) (own : Revision) → own.sequence < 2
 small_raised None own m f = m
 small_raised (Some w) own m f = small_later (is_lt (revision_cmp own (own_revision w))) own (own_revision w) m (f w refl)
 
+-- the event for the whole meeting is one of them
+master_among : (events : List EventComponent) (w : EventComponent) → master_in events ≡ Some w → Contains events w
+master_among [] w e = absurd (cc)
+master_among (x ∷ events) w e = by (is_master x) e (λ f. master_among events w f)
+  where
+    by : (b : Bool) → (if b then Some x else master_in events) ≡ Some w → (master_in events ≡ Some w → Contains events w) → Contains (x ∷ events) w
+    by true e rest = subst (λ (y : EventComponent). Contains (x ∷ events) y) (same_Some x w e) (in_head x events)
+    by false e rest = in_tail x events w (rest e)
+
 pub named : (room : List ℕ) (content : Content) (part : Part) → IsAsked room content part → Named part
 named room content part a =
     let m = message_of a.octets a.given a.spells a.event a.among in
@@ -189,11 +194,10 @@ named room content part a =
       uid = subst IsTextValue (sym (a.is_part.uid ∙ u.is.0)) (text_value (line_value u.line) (m.clean u.line u.present));
       is_uid = subst IsUid (sym a.is_part.uid) u.is.1;
       small = subst (λ (r : Revision). r.sequence < 2 ^ 31) (sym a.is_part.revision)
-          (small_raised a.given.meeting.master (own_revision a.event) (small_of a.event a.among)
-          (λ w is. small_of w (subst (λ (o : Option EventComponent). Contains (option_to_list o ++ a.given.meeting.overrides) w) (sym is) (in_head w a.given.meeting.overrides))));
+          (small_raised (master_in a.given.events) (own_revision a.event) (small_of a.event a.among) (λ w is. small_of w (master_among a.given.events w is)));
     }
   where
-    small_of : (w : EventComponent) → Contains (components_of a.given.meeting) w → w.sequence < 2 ^ 31
+    small_of : (w : EventComponent) → Contains a.given.events w → w.sequence < 2 ^ 31
     small_of w c = let m = message_of a.octets a.given a.spells w c in small_sequence m.lines w.sequence m.says.sequence
 
 -- what is known of the room's address: an attendee of the message has it

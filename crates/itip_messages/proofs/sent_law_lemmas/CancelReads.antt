@@ -227,15 +227,16 @@ cancel_spells back reads organiser uid revision called_off to octets n f c short
       object = subst (IsObject true whole_tree) (sym logical) (record { spelled = object.spelled; calendar = object.calendar; version = object.version; events = refl });
       says = record {
         method = record { line = codes "METHOD:CANCEL"; once = refl; named = refl };
-        says = record {
-          events = event ∷ [];
-          says = (own_says organiser uid revision to dated.stamp n f spelled whole_tree called_off, tt);
+        events = event ∷ [];
+        says = (own_says organiser uid revision to dated.stamp n f spelled whole_tree called_off, tt);
+        taken = refl;
+        are = record {
           some = omega arith;
-          one = λ a b p q. ap meeting_said (only_one event a p) ∙ sym (ap meeting_said (only_one event b q));
-          master = refl;
-          overrides = refl;
+          of_it = λ a p. ap meeting_said (only_one event a p);
+          masters = omega arith;
           differ = λ i j d l w. absurd (omega (arith, l, w));
         };
+        one_each = λ speaks. absurd (false≢true speaks);
       };
     }
 

@@ -3,16 +3,15 @@
 use Rattle.std.proofs.Common.{◌≡◌, refl, sym, subst, arith, lt-ltb, ℕ, pos, ◌<◌, ◌^◌, true, false, List, [], ◌∷◌, ◌++◌, length, map, codes, Option, Some}
 use Rattle.std.specs.Prelude.{unwrap_or}
 use Rattle.std.specs.List.{AllZip}
-use Rattle.std.proofs.lemmas.Bool.{and_from}
+use Rattle.std.proofs.lemmas.Bool.{and_from, false≢true}
 use Rattle.profile.specs.text.Lines.{is_content, is_too_long}
 use Rattle.ical_lines.proofs.CleanLines.{IsClean, fixed, valued}
 use Rattle.profile.specs.events.EventComponents.{Attendee, EventComponent, NamesWord, Store}
-use Rattle.profile.specs.events.Events.{components_of}
 use Rattle.profile.specs.events.Messages.{counted, Message, SpellsMessage}
 use Rattle.profile.specs.organisers.Sent.{IsAsked, IsRequest}
 use Rattle.profile.specs.rooms.Messages.{Content, IsContent, slot_of}
 use Rattle.profile.specs.rooms.Revisions.{Revision, Slot}
-use Rattle.itip_messages.specs.SentLaw.{HasNoAnswer, IsSentAddress, IsSentAs, SpellsRequest, attendee_at, meeting_of, revised}
+use Rattle.itip_messages.specs.SentLaw.{HasNoAnswer, IsSentAddress, IsSentAs, SpellsRequest, attendee_at, revised}
 use Rattle.itip_messages.proofs.shared_lemmas.ContentLines.{IsMethod, LinesBack, ReadsLines}
 use Rattle.itip_messages.proofs.sent_law_lemmas.SentMeetings.{AreApart, apart, masters_few, overrides_differ}
 use Rattle.itip_messages.proofs.sent_law_lemmas.SentParts.{IsAlike, names_same, same_parts}
@@ -107,11 +106,11 @@ module _ (revision : Revision) where
   all_revised [] = tt
   all_revised (e ∷ events) = (refl, all_revised events)
 
-  apart_by : (R : EventComponent → EventComponent → Type 0) → ((a b : EventComponent) → R a b → a.recurrence ≡ b.recurrence) → (organiser uid : List ℕ) (events others : List EventComponent) → AreStored organiser uid events → AllZip R events others → AreApart (components_of (meeting_of others))
+  apart_by : (R : EventComponent → EventComponent → Type 0) → ((a b : EventComponent) → R a b → a.recurrence ≡ b.recurrence) → (organiser uid : List ℕ) (events others : List EventComponent) → AreStored organiser uid events → AllZip R events others → AreApart others
   apart_by R slots organiser uid events others f z = apart others (masters_few R slots events others z f.masters) (overrides_differ R slots events others z f.differ)
 
 pub request_reads : LinesBack → ReadsLines → ZoneBack → (stored : List ℕ) (said : Message) (revision : Revision) (octets : List ℕ) → SpellsMessage stored said → said.method ≡ Store → revision.sequence < 2 ^ 31
-    → IsRequest said.organiser said.uid revision said.events octets → is_too_long octets ≡ false → SpellsRequest revision said.events octets
+    → IsRequest said.organiser said.uid revision said.events octets → is_too_long octets ≡ false → SpellsRequest said.organiser said.uid revision said.events octets
 request_reads back reads zone_back stored said revision octets s store small r short =
     let f = stored_events stored said s store in
     let b = written_back back reads zone_back request_word request_method IsAsked HasNoAnswer asked_reads said.organiser said.uid revision said.events octets f small r short in
@@ -128,11 +127,15 @@ request_reads back reads zone_back stored said revision octets s store small r s
         object = b.object;
         says = record {
           method = subst (λ (own : List (List ℕ)). NamesWord own (codes "REQUEST")) (sym b.own) request_named;
-          says = record { events = sent; says = b.says; some = b.some; one = b.one; master = b.master; overrides = refl; differ = b.differ };
+          events = sent;
+          says = b.says;
+          taken = refl;
+          are = record { some = b.some; of_it = b.of_it; masters = b.masters; differ = b.differ };
+          one_each = λ speaks. absurd (false≢true speaks);
         };
       };
       parts = λ room parts. (
-        same_parts room sent again (all_alike revision said.events sent b.each) again_apart parts,
-        same_parts room again sent (alike_all revision said.events sent b.each) sent_apart parts,
+        same_parts room said.organiser said.uid sent again (all_alike revision said.events sent b.each) again_apart parts,
+        same_parts room said.organiser said.uid again sent (alike_all revision said.events sent b.each) sent_apart parts,
       );
     }

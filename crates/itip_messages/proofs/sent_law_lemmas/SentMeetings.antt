@@ -1,16 +1,16 @@
 -- The meeting of events that are said again: its master and its overrides are those that were, each once.
 -- Behind requests_read_back, shown_reads_back.
-use Rattle.std.proofs.Common.{◌≡◌, ◌≢◌, ◌∙◌, refl, sym, ap, subst, inl, inr, ℤ, ◌≤◌, Bool, true, false, not, cond, List, [], ◌∷◌, ◌++◌, length, map, filter, Option, None, Some, is_some, arith}
+use Rattle.std.proofs.Common.{◌≡◌, ◌≢◌, ◌∙◌, refl, sym, ap, subst, inl, inr, ℤ, ◌≤◌, Bool, true, false, not, cond, List, [], ◌∷◌, length, map, filter, Option, is_some, arith}
 use Rattle.std.specs.Prelude.{AllPairs, Contains}
 use Rattle.std.specs.Option.{option_to_list}
 use Rattle.std.specs.List.{AllZip}
-use Rattle.std.proofs.lemmas.List.Elements.{Contains-append_cases}
+use Rattle.std.proofs.lemmas.Bool.{false≢true}
 use Rattle.profile.specs.events.EventComponents.{EventComponent}
-use Rattle.profile.specs.events.Events.{InstancesDiffer, components_of, is_master, is_override}
-use Rattle.cal_events.proofs.shared_lemmas.InOneOrder.{head_pairs, mapped_pairs, of_filtered, tail_pairs}
+use Rattle.profile.specs.events.Events.{InstancesDiffer, is_master, is_override}
+use Rattle.cal_events.proofs.shared_lemmas.InOneOrder.{head_pairs, in_filtered, mapped_pairs, tail_pairs}
 use Rattle.cal_events.proofs.shared_lemmas.Zips.{zip_length}
-use Rattle.itip_order.proofs.Lists.{in_cons, in_head, none_in_nil}
-use Rattle.itip_messages.specs.SentLaw.{first_of, meeting_of}
+use Rattle.itip_order.proofs.Lists.{in_cons, none_in_nil}
+use Rattle.itip_messages.specs.SentLaw.{first_of}
 
 -- ---- of one instance each
 
@@ -43,33 +43,20 @@ apart_where (e ∷ events) differ a b c d same =
       ]
     ]
 
-first_in : (events : List EventComponent) (e : EventComponent) → Contains (option_to_list (first_of events)) e → Contains events e
-first_in [] e c = absurd (none_in_nil e c)
-first_in (x ∷ events) e c = elim (in_cons x [] e c) [
-  | inl here ↦ subst (λ (y : EventComponent). Contains (x ∷ events) y) here (in_head x events)
-  | inr there ↦ absurd (none_in_nil e there)
-]
-
--- the master isn't an override
-not_both : (r : Option ℤ) → not (is_some r) ≡ true → is_some r ≡ true → ⊥
-not_both None h k = cc
-not_both (Some t) h k = cc
-
 -- the events of a meeting
-pub apart : (events : List EventComponent) → length (filter is_master events) ≤ 1 → InstancesDiffer (filter is_override events) → AreApart (components_of (meeting_of events))
-apart events few differ a b c d same =
-    let split = λ (x : EventComponent) (k : Contains (components_of (meeting_of events)) x). Contains-append_cases (option_to_list (first_of (filter is_master events))) (filter is_override events) x k in
-    let master = λ (x : EventComponent) (k : Contains (option_to_list (first_of (filter is_master events))) x). first_in (filter is_master events) x k in
-    elim (split a c) [
-      | inl here ↦ elim (split b d) [
-        | inl also ↦ one_of_few (filter is_master events) few a b (master a here) (master b also)
-        | inr later ↦ absurd (not_both b.recurrence (ap (λ r. not (is_some r)) (sym same) ∙ (of_filtered is_master events a (master a here)).1) (of_filtered is_override events b later).1)
-      ]
-      | inr there ↦ elim (split b d) [
-        | inl also ↦ absurd (not_both a.recurrence (ap (λ r. not (is_some r)) same ∙ (of_filtered is_master events b (master b also)).1) (of_filtered is_override events a there).1)
-        | inr later ↦ apart_where (filter is_override events) (mapped_pairs ◌≢◌ (λ (e : EventComponent). e.recurrence) (filter is_override events) differ) a b there later same
-      ]
-    ]
+pub apart : (events : List EventComponent) → length (filter is_master events) ≤ 1 → InstancesDiffer (filter is_override events) → AreApart events
+apart events few differ a b c d same = by (is_override a) refl (is_override b) refl
+  where
+    master : (x : EventComponent) → Contains events x → is_override x ≡ false → Contains (filter is_master events) x
+    master x k e = in_filtered is_master events x k (ap not e)
+
+    by : (m : Bool) → is_override a ≡ m → (n : Bool) → is_override b ≡ n → a ≡ b
+    by false e false f = one_of_few (filter is_master events) few a b (master a c e) (master b d f)
+    by false e true f = absurd (false≢true (sym e ∙ ap (λ (r : Option ℤ). is_some r) same ∙ f))
+    by true e false f = absurd (false≢true (sym f ∙ ap (λ (r : Option ℤ). is_some r) (sym same) ∙ e))
+    by true e true f =
+        apart_where (filter is_override events) (mapped_pairs ◌≢◌ (λ (e : EventComponent). e.recurrence) (filter is_override events) differ) a b
+        (in_filtered is_override events a c e) (in_filtered is_override events b d f) same
 
 -- ---- events that are said again, place by place
 
@@ -109,24 +96,6 @@ module _ (R : EventComponent → EventComponent → Type 0) (slots : (a b : Even
 
   pub overrides_differ : (xs ys : List EventComponent) → AllZip R xs ys → InstancesDiffer (filter is_override xs) → InstancesDiffer (filter is_override ys)
   overrides_differ xs ys z differ = subst (AllPairs ◌≢◌) (zip_slots (filter is_override xs) (filter is_override ys) (overrides_zip xs ys z)) differ
-
-  -- the events of the meetings too
-  first_zip : (xs ys : List EventComponent) → AllZip R xs ys → AllZip R (option_to_list (first_of xs)) (option_to_list (first_of ys))
-  first_zip [] [] z = tt
-  first_zip [] (y ∷ ys) z = absurd z
-  first_zip (x ∷ xs) [] z = absurd z
-  first_zip (x ∷ xs) (y ∷ ys) z = (z.0, tt)
-
-  both_zip : (xs ys zs ws : List EventComponent) → AllZip R xs ys → AllZip R zs ws → AllZip R (xs ++ zs) (ys ++ ws)
-  both_zip [] [] zs ws z w = w
-  both_zip [] (y ∷ ys) zs ws z w = absurd z
-  both_zip (x ∷ xs) [] zs ws z w = absurd z
-  both_zip (x ∷ xs) (y ∷ ys) zs ws z w = (z.0, both_zip xs ys zs ws z.1 w)
-
-  pub meetings_zip : (xs ys : List EventComponent) → AllZip R xs ys → AllZip R (components_of (meeting_of xs)) (components_of (meeting_of ys))
-  meetings_zip xs ys z =
-      both_zip (option_to_list (first_of (filter is_master xs))) (option_to_list (first_of (filter is_master ys))) (filter is_override xs) (filter is_override ys)
-      (first_zip (filter is_master xs) (filter is_master ys) (masters_zip xs ys z)) (overrides_zip xs ys z)
 
 -- a master is the only one
 pub first_alone : (events : List EventComponent) → length events ≤ 1 → events ≡ option_to_list (first_of events)

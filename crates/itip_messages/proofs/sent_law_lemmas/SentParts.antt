@@ -1,21 +1,21 @@
 -- Events that are said again make the same parts for each room.
 -- Behind requests_read_back.
-use Rattle.std.proofs.Common.{◌≡◌, ◌∙◌, refl, sym, ap, ap₂, subst, inl, inr, ℕ, Bool, true, false, not, ◌&&◌, ◌||◌, cond, List, [], ◌∷◌, length, map, filter, Some}
+use Rattle.std.proofs.Common.{◌≡◌, ◌∙◌, refl, sym, ap, ap₂, subst, inl, inr, ℕ, Bool, true, false, not, ◌&&◌, ◌||◌, cond, List, [], ◌∷◌, length, map, filter, Option, Some, is_some, ℤ}
 use Rattle.std.specs.Prelude.{◌==◌, AllPairs, Contains, option_map}
 use Rattle.std.specs.declared.cmp.Ordering.TheVariants.{Less}
 use Rattle.std.specs.List.{list_any, AllZip}
 use Rattle.std.specs.Str.{bytes_eq}
 use Rattle.std.proofs.lemmas.Slice.Eq.{bytes_eq-Decides}
 use Rattle.profile.specs.events.EventComponents.{Attendee, EventComponent, Request}
-use Rattle.profile.specs.events.Events.{components_of, is_master}
-use Rattle.profile.specs.events.Messages.{counted}
+use Rattle.profile.specs.events.Events.{is_master}
+use Rattle.profile.specs.events.Messages.{counted, master_in}
 use Rattle.profile.specs.rooms.Messages.{AreBySlot, AreParts, Content, IsBody, IsContent, IsPart, is_for, is_part_for, names_room, own_revision, parts_for, raised_to, slot_named, slot_of}
 use Rattle.profile.specs.rooms.Revisions.{Absent, Body, Cancelled, Part, Set, Slot, slot_cmp}
 use Rattle.cal_events.proofs.shared_lemmas.InOneOrder.{mapped_pairs, pairs_mapped}
 use Rattle.cal_events.proofs.shared_lemmas.SeriesLemmas.{zip_back, zip_with}
 use Rattle.itip_order.proofs.Lists.{in_cons, in_head, in_tail, none_in_nil}
-use Rattle.itip_messages.specs.SentLaw.{attendee_at, first_of, meeting_of, request_of}
-use Rattle.itip_messages.proofs.sent_law_lemmas.SentMeetings.{AreApart, masters_zip, meetings_zip}
+use Rattle.itip_messages.specs.SentLaw.{attendee_at, request_of}
+use Rattle.itip_messages.proofs.sent_law_lemmas.SentMeetings.{AreApart}
 
 -- what two events have alike that make the same parts
 pub record IsAlike (a b : EventComponent) : Type 0 where
@@ -27,9 +27,6 @@ pub record IsAlike (a b : EventComponent) : Type 0 where
   pub names : (room : List ℕ) → names_room room a ≡ names_room room b
   pub content : (content : Content) → IsContent content a → IsContent content b
 
-alike_slot : (a b : EventComponent) → IsAlike a b → a.recurrence ≡ b.recurrence
-alike_slot a b h = h.recurrence
-
 -- ---- one part
 
 body_alike : (room : List ℕ) (a b : EventComponent) → IsAlike a b → (content : Content) (body : Body) → IsBody room Request a content body → IsBody room Request b content body
@@ -37,15 +34,21 @@ body_alike room a b h content (Set octets) (stays, names, when, is) = (ap (λ x.
 body_alike room a b h content Absent (stays, names, is) = (ap (λ x. false || x) (sym h.cancelled) ∙ stays, sym (h.names room) ∙ names, is)
 body_alike room a b h content Cancelled (gone, is) = (ap (λ x. false || x) (sym h.cancelled) ∙ gone, is)
 
-whole_alike : (xs ys : List EventComponent) → AllZip IsAlike xs ys → option_map own_revision (first_of xs) ≡ option_map own_revision (first_of ys)
+whole_alike : (xs ys : List EventComponent) → AllZip IsAlike xs ys → option_map own_revision (master_in xs) ≡ option_map own_revision (master_in ys)
 whole_alike [] [] z = refl
 whole_alike [] (y ∷ ys) z = absurd z
 whole_alike (x ∷ xs) [] z = absurd z
-whole_alike (x ∷ xs) (y ∷ ys) z = ap Some z.0.revision
+whole_alike (x ∷ xs) (y ∷ ys) z = by (is_master x) (is_master y) (ap (λ (o : Option ℤ). not (is_some o)) z.0.recurrence) (whole_alike xs ys z.1)
+  where
+    by : (a b : Bool) → a ≡ b → option_map own_revision (master_in xs) ≡ option_map own_revision (master_in ys) → option_map own_revision (cond a (Some x) (master_in xs)) ≡ option_map own_revision (cond b (Some y) (master_in ys))
+    by true true e rest = ap Some z.0.revision
+    by false false e rest = rest
+    by true false e rest = cc
+    by false true e rest = cc
 
-module _ (room : List ℕ) (xs ys : List EventComponent) (z : AllZip IsAlike xs ys) where
+module _ (room organiser uid : List ℕ) (xs ys : List EventComponent) (z : AllZip IsAlike xs ys) where
   abbrev IsPartOf : List EventComponent → EventComponent → Part → Type 0
-  IsPartOf events event part = (content : Content) × IsPart room (request_of events) event content part
+  IsPartOf events event part = (content : Content) × IsPart room (request_of organiser uid events) event content part
 
   part_alike : (a b : EventComponent) (part : Part) → IsAlike a b → IsPartOf xs a part → IsPartOf ys b part
   part_alike a b part h (content, p) = (
@@ -54,18 +57,12 @@ module _ (room : List ℕ) (xs ys : List EventComponent) (z : AllZip IsAlike xs 
       organiser = sym h.organiser ∙ p.organiser;
       uid = p.uid ∙ h.uid;
       slot = p.slot ∙ ap slot_named h.recurrence;
-      revision = p.revision ∙ ap₂ raised_to (whole_alike (filter is_master xs) (filter is_master ys) (masters_zip IsAlike alike_slot xs ys z)) h.revision;
+      revision = p.revision ∙ ap₂ raised_to (whole_alike xs ys z) h.revision;
       body = body_alike room a b h content part.body p.body;
     },
   )
 
   -- ---- the events that are parts
-
-  abbrev from : List EventComponent
-  from = components_of (meeting_of xs)
-
-  abbrev to : List EventComponent
-  to = components_of (meeting_of ys)
 
   all_pass : (events : List EventComponent) → filter (is_part_for room Request) events ≡ events
   all_pass [] = refl
@@ -77,19 +74,18 @@ module _ (room : List ℕ) (xs ys : List EventComponent) (z : AllZip IsAlike xs 
   any_alike (a ∷ as_said) [] w = absurd w
   any_alike (a ∷ as_said) (b ∷ again) w = λ i. (w.0.names room i || (false && length a.attendees == 0)) || any_alike as_said again w.1 i
 
-  parts_are : (events : List EventComponent) → parts_for room (request_of events) ≡ cond (list_any (is_for room Request) (components_of (meeting_of events))) (components_of (meeting_of events)) []
-  parts_are events = ap (λ l. cond (list_any (is_for room Request) (components_of (meeting_of events))) l []) (all_pass (components_of (meeting_of events)))
+  parts_are : (events : List EventComponent) → parts_for room (request_of organiser uid events) ≡ cond (list_any (is_for room Request) events) events []
+  parts_are events = ap (λ l. cond (list_any (is_for room Request) events) l []) (all_pass events)
 
-  parts_zip : AllZip IsAlike (parts_for room (request_of xs)) (parts_for room (request_of ys))
+  parts_zip : AllZip IsAlike (parts_for room (request_of organiser uid xs)) (parts_for room (request_of organiser uid ys))
   parts_zip =
-      let all = meetings_zip IsAlike alike_slot xs ys z in
-      let by : (a b : Bool) → a ≡ b → AllZip IsAlike (cond a from []) (cond b to []) = λ a b e. subst (λ c. AllZip IsAlike (cond a from []) (cond c to [])) e (same a all) in
-      subst (λ (l : List EventComponent). AllZip IsAlike l (parts_for room (request_of ys))) (sym (parts_are xs))
-      (subst (λ (l : List EventComponent). AllZip IsAlike (cond (list_any (is_for room Request) from) from []) l) (sym (parts_are ys)) (by _ _ (any_alike from to all)))
+      let by : (a b : Bool) → a ≡ b → AllZip IsAlike (cond a xs []) (cond b ys []) = λ a b e. subst (λ c. AllZip IsAlike (cond a xs []) (cond c ys [])) e (same a) in
+      subst (λ (l : List EventComponent). AllZip IsAlike l (parts_for room (request_of organiser uid ys))) (sym (parts_are xs))
+      (subst (λ (l : List EventComponent). AllZip IsAlike (cond (list_any (is_for room Request) xs) xs []) l) (sym (parts_are ys)) (by _ _ (any_alike xs ys z)))
     where
-      same : (a : Bool) → AllZip IsAlike from to → AllZip IsAlike (cond a from []) (cond a to [])
-      same true all = all
-      same false all = tt
+      same : (a : Bool) → AllZip IsAlike (cond a xs []) (cond a ys [])
+      same true = z
+      same false = tt
 
 -- ---- by their slots
 
@@ -148,17 +144,19 @@ some_apart : (b : Bool) (events : List EventComponent) → AreApart events → A
 some_apart true events h = h
 some_apart false events h = λ x y c d e. absurd (none_in_nil x c)
 
-pub same_parts : (room : List ℕ) (xs ys : List EventComponent) → AllZip IsAlike xs ys → AreApart (components_of (meeting_of ys)) → (parts : List Part) → AreParts room (request_of xs) parts → AreParts room (request_of ys) parts
-same_parts room xs ys z differ parts p =
-    let zipped = parts_zip room xs ys z in
-    let differ_there : AreApart (parts_for room (request_of ys)) = subst AreApart (sym (parts_are room xs ys z ys)) (some_apart (list_any (is_for room Request) (components_of (meeting_of ys))) (components_of (meeting_of ys)) differ) in
-    let a = again_of (parts_for room (request_of xs)) (parts_for room (request_of ys)) zipped p.events (λ x c. (p.are.exact x).0 c) in
+pub same_parts : (room organiser uid : List ℕ) (xs ys : List EventComponent) → AllZip IsAlike xs ys → AreApart ys → (parts : List Part) → AreParts room (request_of organiser uid xs) parts → AreParts room (request_of organiser uid ys) parts
+same_parts room organiser uid xs ys z differ parts p =
+    let before = parts_for room (request_of organiser uid xs) in
+    let behind = parts_for room (request_of organiser uid ys) in
+    let zipped = parts_zip room organiser uid xs ys z in
+    let differ_there : AreApart behind = subst AreApart (sym (parts_are room organiser uid xs ys z ys)) (some_apart (list_any (is_for room Request) ys) ys differ) in
+    let a = again_of before behind zipped p.events (λ x c. (p.are.exact x).0 c) in
     record {
       events = a.again;
-      are = again_by_slot (parts_for room (request_of xs)) (parts_for room (request_of ys)) p.events zipped differ_there p.are a;
+      are = again_by_slot before behind p.events zipped differ_there p.are a;
       each =
-          each_again (λ event part. (content : Content) × IsPart room (request_of xs) event content part) (λ event part. (content : Content) × IsPart room (request_of ys) event content part)
-          (part_alike room xs ys z) p.events a.again parts a.alike p.each;
+          each_again (λ event part. (content : Content) × IsPart room (request_of organiser uid xs) event content part) (λ event part. (content : Content) × IsPart room (request_of organiser uid ys) event content part)
+          (part_alike room organiser uid xs ys z) p.events a.again parts a.alike p.each;
     }
 
 -- ---- who is named

@@ -1,6 +1,6 @@
 -- What an organiser shows of a meeting reads back as an event with its instances, with the answers that are seen.
 -- Cited by shown_reads_back.
-use Rattle.std.proofs.Common.{◌≡◌, refl, sym, subst, arith, lt-ltb, ℕ, ◌<◌, ◌^◌, Bool, true, false, List, [], ◌∷◌, ◌++◌, length, codes, None, Some}
+use Rattle.std.proofs.Common.{◌≡◌, ◌∙◌, refl, sym, subst, arith, lt-ltb, ℕ, ◌<◌, ◌^◌, Bool, true, false, List, [], ◌∷◌, ◌++◌, length, codes, None, Some}
 use Rattle.std.specs.List.{AllZip, list_any}
 use Rattle.std.specs.Str.{bytes_eq}
 use Rattle.profile.specs.text.Lines.{is_content, is_too_long}
@@ -18,6 +18,7 @@ use Rattle.itip_messages.proofs.shared_lemmas.ContentLines.{LinesBack, ReadsLine
 use Rattle.itip_messages.proofs.shared_lemmas.ObjectTree.{Lines}
 use Rattle.itip_messages.proofs.shared_lemmas.OwnLines.{as_event}
 use Rattle.itip_messages.proofs.sent_law_lemmas.SentEvents.{ReadsLine}
+use Rattle.itip_messages.proofs.sent_law_lemmas.SentMeetings.{first_alone}
 use Rattle.itip_messages.proofs.sent_law_lemmas.SentBehind.{IsAttendeeText}
 use Rattle.itip_messages.proofs.shared_lemmas.SentTexts.{text_of}
 use Rattle.itip_messages.proofs.sent_law_lemmas.StoredEvents.{AreStored, stored_events}
@@ -129,6 +130,6 @@ shown_reads back reads zone_back read said book stored octets s store same small
         lines = b.lines;
         tree = b.whole;
         object = b.object;
-        says = record { events = b.saids; says = as_events b.whole _ b.saids b.says; some = b.some; one = b.one; master = b.master; overrides = refl; differ = b.differ };
+        says = record { events = b.saids; says = as_events b.whole _ b.saids b.says; some = b.some; one = λ x y p q. b.of_it x p ∙ sym (b.of_it y q); master = first_alone _ b.masters; overrides = refl; differ = b.differ };
       };
     }

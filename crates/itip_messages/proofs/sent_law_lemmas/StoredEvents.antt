@@ -15,11 +15,10 @@ use Rattle.profile.specs.rooms.Revisions.{Revision}
 use Rattle.profile.specs.text.Values.{IsUid}
 use Rattle.profile.specs.series.Zones.{IsOneMeaning, Zone}
 use Rattle.profile.specs.series.ZoneTexts.{SaysZone}
-use Rattle.profile.specs.events.EventComponents.{Attendee, EventComponent, IsAttendee, Request, SaysEventComponent, first_text, meeting_said, Method, Store}
-use Rattle.profile.specs.events.Events.{InstancesDiffer, is_master, is_override}
+use Rattle.profile.specs.events.EventComponents.{Attendee, EventComponent, IsAttendee, SaysEventComponent, first_text, meeting_said, Method, Store}
+use Rattle.profile.specs.events.Events.{InstancesDiffer, is_master, is_override, taken_by}
 use Rattle.profile.specs.events.Properties.{BothOrNeither, IsAddressLine, IsUidLine, Says, OccursAtMostOnce, is_of, lines_named}
 use Rattle.profile.specs.events.ZonedTimes.{EventTimes, SaysTimes, SaysZoneOf, SpellsZoned, clock_of, zone_named}
-use Rattle.profile.specs.organisers.Objects.{read_as}
 use Rattle.profile.specs.events.Messages.{Message, SpellsMessage}
 use Rattle.cal_events.specs.MeetingComponents.{IsInEventDates}
 use Rattle.cal_events.proofs.shared_lemmas.OneInstance.{event_sound}
@@ -120,7 +119,7 @@ attendees_there (line ∷ named) (b ∷ more) z f a c = elim (in_cons b more a c
   | inr there ↦ attendees_there named more z.1 (λ l k. f l (in_tail line named l k)) a there
 ]
 
-stored_one : (object : Tree) (lines : Lines) (event : EventComponent) (organiser uid : List ℕ) → AreCleanIn lines → SaysEventComponent object (Some Request) lines event → meeting_said event ≡ (organiser, uid) → IsStored organiser uid event
+stored_one : (object : Tree) (lines : Lines) (event : EventComponent) (organiser uid : List ℕ) → AreCleanIn lines → SaysEventComponent object (Some Store) lines event → meeting_said event ≡ (organiser, uid) → IsStored organiser uid event
 stored_one object lines event organiser uid clean s meeting =
     let o = organiser_there lines clean event.organiser s.organiser organiser (ap (λ (m : List ℕ × List ℕ). m.0) meeting) in
     let same : event.uid ≡ uid = ap (λ (m : List ℕ × List ℕ). m.1) meeting in
@@ -142,7 +141,7 @@ stored_one object lines event organiser uid clean s meeting =
 
 -- ---- all of them
 
-stored_from : (object : Tree) (vs : List Lines) (events : List EventComponent) (organiser uid : List ℕ) → ((lines : Lines) → Contains vs lines → AreCleanIn lines) → AllZip (SaysEventComponent object (Some Request)) vs events
+stored_from : (object : Tree) (vs : List Lines) (events : List EventComponent) (organiser uid : List ℕ) → ((lines : Lines) → Contains vs lines → AreCleanIn lines) → AllZip (SaysEventComponent object (Some Store)) vs events
     → ((event : EventComponent) → Contains events event → meeting_said event ≡ (organiser, uid)) → (event : EventComponent) → Contains events event → IsStored organiser uid event
 stored_from object vs [] organiser uid clean z f event c = absurd (none_in_nil event c)
 stored_from object [] (e ∷ events) organiser uid clean z f event c = absurd z
@@ -160,10 +159,12 @@ at_most a b h = omega (arith, nat_le_from a b h)
 pub stored_events : (octets : List ℕ) (said : Message) → SpellsMessage octets said → said.method ≡ Store → AreStored said.organiser said.uid said.events
 stored_events octets said s store =
     let whole = s.tree in
-    let says : AllZip (SaysEventComponent whole (Some Request)) (vevents whole) said.events = subst (λ (o : Operation). AllZip (SaysEventComponent whole (Some (read_as o))) (vevents whole) said.events) store s.says.says in
+    let as_told : AllZip (SaysEventComponent whole (Some Store)) (vevents whole) s.says.events = subst (λ (m : Method). AllZip (SaysEventComponent whole (Some m)) (vevents whole) s.says.events) store s.says.says in
+    let taken : said.events ≡ s.says.events = subst (λ (m : Method). said.events ≡ taken_by (Some m) s.says.events) store s.says.taken in
+    let says = subst (AllZip (SaysEventComponent whole (Some Store)) (vevents whole)) (sym taken) as_told in
     let inside = filter (λ part. is_same_name (tree_name part) (codes "VEVENT")) (tree_inside whole) in
     let count : length said.events ≡ count_by (λ part. is_same_name (tree_name part) (codes "VEVENT")) (tree_inside whole) =
-    sym (zip_length (SaysEventComponent whole (Some Request)) (vevents whole) said.events says) ∙ length-map inside tree_own ∙ length-filter (λ part. is_same_name (tree_name part) (codes "VEVENT")) (tree_inside whole) in
+    sym (zip_length (SaysEventComponent whole (Some Store)) (vevents whole) said.events says) ∙ length-map inside tree_own ∙ length-filter (λ part. is_same_name (tree_name part) (codes "VEVENT")) (tree_inside whole) in
     record {
       each =
           stored_from whole (vevents whole) said.events said.organiser said.uid

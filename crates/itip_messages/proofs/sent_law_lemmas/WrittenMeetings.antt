@@ -2,25 +2,24 @@
 -- Behind requests_read_back, shown_reads_back.
 use Rattle.std.proofs.Common.{◌≡◌, ◌∙◌, refl, sym, ap, ap₂, subst, inl, inr, ℕ, ◌<◌, ◌≤◌, ◌^◌, true, false, List, [], ◌∷◌, ◌++◌, length, filter, codes, Option, Some, arith}
 use Rattle.std.specs.Prelude.{Contains, unwrap_or}
-use Rattle.std.specs.Option.{option_to_list}
 use Rattle.std.specs.List.{list_all, flat_map, AllZip}
 use Rattle.std.proofs.lemmas.Bool.{and_from}
 use Rattle.profile.specs.text.Lines.{is_content, is_too_long, logical_lines, reads_as_lines, written}
 use Rattle.profile.specs.text.Objects.{IsObject, is_property}
 use Rattle.profile.specs.text.Trees.{Tree, tree_own, vevents}
 use Rattle.profile.specs.events.EventComponents.{Attendee, EventComponent, Request, SaysEventComponent, meeting_said}
-use Rattle.profile.specs.events.Events.{AreOfOne, InstancesDiffer, is_master, is_override}
+use Rattle.profile.specs.events.Events.{InstancesDiffer, is_master, is_override}
 use Rattle.profile.specs.organisers.Sent.{Component, IsComponentOf, IsComponentText, IsMeetingText, zones_of}
 use Rattle.profile.specs.rooms.Kept.{zone_texts}
 use Rattle.profile.specs.rooms.Messages.{opening_lines}
 use Rattle.profile.specs.rooms.Revisions.{Revision, Slot}
 use Rattle.cal_events.proofs.shared_lemmas.Zips.{zip_length}
 use Rattle.itip_order.proofs.Lists.{in_cons, in_head, in_tail, none_in_nil}
-use Rattle.itip_messages.specs.SentLaw.{IsSaidAgain, meeting_of}
+use Rattle.itip_messages.specs.SentLaw.{IsSaidAgain}
 use Rattle.itip_messages.proofs.shared_lemmas.ContentLines.{IsMethod, LinesBack, ReadsLines}
 use Rattle.itip_messages.proofs.shared_lemmas.ObjectTree.{Lines, calendar_own, vevent_lines}
 use Rattle.itip_messages.proofs.sent_law_lemmas.SentEvents.{ReadsLine, one_back}
-use Rattle.itip_messages.proofs.sent_law_lemmas.SentMeetings.{first_alone, masters_few, overrides_differ}
+use Rattle.itip_messages.proofs.sent_law_lemmas.SentMeetings.{masters_few, overrides_differ}
 use Rattle.itip_messages.proofs.shared_lemmas.SentTexts.{bounded_reads}
 use Rattle.itip_messages.proofs.sent_law_lemmas.SentZones.{sent_zones}
 use Rattle.itip_messages.proofs.sent_law_lemmas.StoredEvents.{AreStored, IsStored}
@@ -75,7 +74,7 @@ of_meeting IsSuch organiser uid revision (e ∷ events) (s ∷ saids) f z said c
 -- ---- the octets
 
 -- they are one object with this METHOD, or with none, and its VEVENTs are those of one meeting
-pub record WrittenBack (word : Option (List ℕ)) (IsSuch : Slot → Attendee → Attendee → Type 0) (revision : Revision) (events : List EventComponent) (octets : List ℕ) : Type 0 where
+pub record WrittenBack (word : Option (List ℕ)) (IsSuch : Slot → Attendee → Attendee → Type 0) (organiser uid : List ℕ) (revision : Revision) (events : List EventComponent) (octets : List ℕ) : Type 0 where
   pub saids : List EventComponent
   pub each : AllZip (IsSaidAgain IsSuch revision) events saids
   pub lines : reads_as_lines true octets ≡ true
@@ -84,13 +83,13 @@ pub record WrittenBack (word : Option (List ℕ)) (IsSuch : Slot → Attendee �
   pub own : tree_own whole ≡ calendar_own word
   pub says : AllZip (SaysEventComponent whole (Some Request)) (vevents whole) saids
   pub some : 0 < length saids
-  pub one : AreOfOne saids
-  pub master : filter is_master saids ≡ option_to_list (meeting_of saids).master
+  pub of_it : (said : EventComponent) → Contains saids said → meeting_said said ≡ (organiser, uid)
+  pub masters : length (filter is_master saids) ≤ 1
   pub differ : InstancesDiffer (filter is_override saids)
 
 pub written_back : LinesBack → ReadsLines → ZoneBack → (word : Option (List ℕ)) → IsMethod word → (IsLine : Slot → Attendee → List ℕ → Type 0) (IsSuch : Slot → Attendee → Attendee → Type 0) → ReadsLine IsLine IsSuch
     → (organiser uid : List ℕ) (revision : Revision) (events : List EventComponent) (octets : List ℕ) → AreStored organiser uid events → revision.sequence < 2 ^ 31
-    → IsMeetingText word organiser uid revision IsLine events octets → is_too_long octets ≡ false → WrittenBack word IsSuch revision events octets
+    → IsMeetingText word organiser uid revision IsLine events octets → is_too_long octets ≡ false → WrittenBack word IsSuch organiser uid revision events octets
 written_back back reads zone_back word method IsLine IsSuch reads_line organiser uid revision events octets f small m short =
     let zones = zones_of m.components in
     let b = all_back word IsLine IsSuch reads_line organiser uid revision small zones events m.components m.texts f.each m.are m.each in
@@ -105,7 +104,6 @@ written_back back reads zone_back word method IsLine IsSuch reads_line organiser
     let count : length b.owns ≡ length b.saids = zip_length (SaysEventComponent k.whole (Some Request)) b.owns b.saids says in
     let same : length events ≡ length b.saids = zip_length (IsSaidAgain IsSuch revision) events b.saids b.each in
     let object = bounded_object k.whole k.lines b.owns k.object k.events (few_there (length b.owns) (length b.saids) (length events) count same f.few) in
-    let of_it = of_meeting IsSuch organiser uid revision events b.saids f.each b.each in
     record {
       saids = b.saids;
       each = b.each;
@@ -115,8 +113,8 @@ written_back back reads zone_back word method IsLine IsSuch reads_line organiser
       own = k.own;
       says = subst (λ (vs : List Lines). AllZip (SaysEventComponent k.whole (Some Request)) vs b.saids) (sym k.events) says;
       some = omega (arith, f.some, same);
-      one = λ x y p q. of_it x p ∙ sym (of_it y q);
-      master = first_alone _ (masters_few (IsSaidAgain IsSuch revision) slots events b.saids b.each f.masters);
+      of_it = of_meeting IsSuch organiser uid revision events b.saids f.each b.each;
+      masters = masters_few (IsSaidAgain IsSuch revision) slots events b.saids b.each f.masters;
       differ = overrides_differ (IsSaidAgain IsSuch revision) slots events b.saids b.each f.differ;
     }
   where

@@ -10,7 +10,8 @@ use Rattle.profile.specs.text.Lines.{is_content, line_param, line_value}
 use Rattle.profile.specs.text.Objects.{is_property}
 use Rattle.profile.specs.text.Trees.{Tree}
 use Rattle.profile.specs.text.Values.{WritesStamp, duration_text}
-use Rattle.profile.specs.events.EventComponents.{EventComponent, Method, Request, Add, Cancel, SaysEventComponent, adds_instances, may_lack_start}
+use Rattle.profile.specs.events.EventComponents.{EventComponent, Method, Store, Request, Add, Cancel, Reply, Refresh, SaysEventComponent, adds_instances, may_lack_start}
+use Rattle.profile.specs.events.Messages.{is_to_rooms}
 use Rattle.profile.specs.events.Occurrences.{ListedTime, IsInside, SaysOccurrences, entries_of, IsRecurrenceLine, entries_named, most_entries}
 use Rattle.profile.specs.events.Properties.{Says, BothOrNeither, is_of, lines_named, length_seconds, longest}
 use Rattle.profile.specs.events.ZonedTimes.{EventTimes, SaysEventTimes, SaysTimes, SpellsZoned, IsInDates, is_in_zone, clock_of}
@@ -165,21 +166,25 @@ said_facts added object lines event t r o =
       recurs = ruled lines event.times event.rule r;
     }
 
-start_needed : (method : Method) (event : EventComponent) → cancels method event ≡ false → may_lack_start (Some method) ≡ false
-start_needed Request event h = refl
-start_needed Add event h = refl
-start_needed Cancel event h = absurd (true≢false h)
+start_needed : (method : Method) (event : EventComponent) → is_to_rooms method ≡ true → cancels method event ≡ false → may_lack_start (Some method) ≡ false
+start_needed Store event to h = absurd (true≢false (sym to))
+start_needed Request event to h = refl
+start_needed Add event to h = refl
+start_needed Cancel event to h = absurd (true≢false h)
+start_needed Reply event to h = absurd (true≢false (sym to))
+start_needed Refresh event to h = absurd (true≢false (sym to))
 
--- one of a message, that isn't cancelled
-pub event_facts : (object : Tree) (method : Method) (lines : Lines) (event : EventComponent) → SaysEventComponent object (Some method) lines event → cancels method event ≡ false → EventFacts event (adds_instances (Some method))
-event_facts object method lines event s h = go s.times
+-- one of a message to rooms, that isn't cancelled
+pub event_facts : (object : Tree) (method : Method) (lines : Lines) (event : EventComponent) → SaysEventComponent object (Some method) lines event → is_to_rooms method ≡ true → cancels method event ≡ false
+    → EventFacts event (adds_instances (Some method))
+event_facts object method lines event s to h = go s.times
   where
     go : SaysTimes (may_lack_start (Some method)) object lines event.times → EventFacts event (adds_instances (Some method))
     go (inl t) = said_facts (adds_instances (Some method)) object lines event t s.rule s.occurrences
-    go (inr lacks) = absurd (true≢false (sym lacks.0 ∙ start_needed method event h))
+    go (inr lacks) = absurd (true≢false (sym lacks.0 ∙ start_needed method event to h))
 
 -- and one of a store, where DTSTART is required
-pub stored_facts : (object : Tree) (lines : Lines) (event : EventComponent) → SaysEventComponent object (Some Request) lines event → EventFacts event false
+pub stored_facts : (object : Tree) (lines : Lines) (event : EventComponent) → SaysEventComponent object (Some Store) lines event → EventFacts event false
 stored_facts object lines event s = go s.times
   where
     go : SaysTimes false object lines event.times → EventFacts event false

@@ -1,5 +1,5 @@
 -- What the RRULE of a content says: the days of the rule that it was written of, with the same end.
--- Behind one_message of law, refreshes_are_heard of law, replies_are_heard of law, Addressee::of of message, Message::of_object of message, Message::read of organiser_object and 10 more.
+-- Behind one_message of law, refreshes_are_heard of law, replies_are_heard of law, Message::of of message and others.
 use Rattle.std.proofs.Common.{◌≡◌, ◌∙◌, refl, sym, ap, subst, ℕ, suc, ◌<◌, ◌≤◌, ℤ, ◌≤ℤ◌, arith, true≢false, Bool, true, false, cond, List, [], ◌∷◌, ◌++◌, codes, Option, None, Some, pos, ◌-ℤ◌}
 use Rattle.std.specs.Prelude.{◌↔◌}
 use Rattle.std.specs.List.{list_all}

@@ -1,5 +1,5 @@
 -- A rule that is written, read and written again has the same text.
--- Behind one_message of law, refreshes_are_heard of law, replies_are_heard of law, Addressee::of of message, Message::of_object of message, Message::read of organiser_object and 10 more.
+-- Behind one_message of law, refreshes_are_heard of law, replies_are_heard of law, Message::of of message and others.
 use Rattle.std.proofs.Common.{◌≡◌, ◌∙◌, refl, sym, ap, ℕ, zero, suc, ◌-◌, arith, Bool, true, false, cond, List, [], ◌∷◌, ◌++◌, map, codes, decimal, Option, ℤ}
 use Rattle.std.specs.Prelude.{◌==◌, nat_eq, filter, Contains, if◌then◌else◌}
 use Rattle.std.specs.Fmt.{signed_decimal}

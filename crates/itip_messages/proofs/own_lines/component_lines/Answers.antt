@@ -6,7 +6,8 @@ use Rattle.cal_events.specs.Component.{vevents_of}
 use Rattle.cal_events.specs.declared.component.EventComponent.{EventComponent}
 use Rattle.itip_order.specs.Parts.{slot_of}
 use Rattle.itip_messages.specs.Message.{event_slot}
-use Rattle.itip_messages.proofs.own_lines_lemmas.LinesBySlot.{lines_found, object_refused, octets_refused, one_for_each}
+use Rattle.itip_messages.proofs.message_lemmas.TreeLemmas.{object_refused, octets_refused}
+use Rattle.itip_messages.proofs.own_lines_lemmas.LinesBySlot.{lines_found, one_for_each}
 use Rattle.itip_messages.proofs.own_lines.component_lines.Goals as goal
 
 pub returns-in_err-text-clause-fault : goal.returns-in_err-text-clause-fault
@@ -24,7 +25,7 @@ returns-in_err-events-clause-fault c =
 
 pub lines_of_slot-requires : goal.lines_of_slot-requires
 lines_of_slot-requires c =
-    ap (λ (l : List EventComponent). length l) c.deref.ensures.value ∙ one_for_each c.in_ok-object.object c.in_ok-events.events.items c.in_ok-events.ensures.taken
+    ap (λ (l : List EventComponent). length l) c.deref.ensures.value ∙ one_for_each c.in_ok-object.object _ c.in_ok-events.events.items c.in_ok-events.ensures.says
 
 pub returns-clause-finds : goal.returns-clause-finds
 returns-clause-finds c =
@@ -32,7 +33,7 @@ returns-clause-finds c =
     let is = subst (λ (ls : List (List ℕ)). IsObjectOf true object ls) c.in_ok-text.ensures.lines c.in_ok-object.ensures.spelled in
     let slot = slot_of c.args.slot in
     let found = c.in_ok-lines_of_slot.field-0 in
-    lines_found object c.in_ok-events.events.items c.in_ok-events.ensures.taken slot (λ lines. map string_bytes lines.items) found c.args.octets.now c.in_ok-text.ensures.reads is
+    lines_found object _ c.in_ok-events.events.items c.in_ok-events.ensures.says slot (λ lines. map string_bytes lines.items) found c.args.octets.now c.in_ok-text.ensures.reads is
     (subst (λ (l : List EventComponent). MatchOption found ((place : ℕ) → slice_get (map event_slot l) place ≢ Some slot)
     (λ lines. (place : ℕ) × (slice_get (map event_slot l) place ≡ Some slot) × (slice_get (vevents_of object) place ≡ Some (map string_bytes lines.items))))
     c.deref.ensures.value c.in_ok-lines_of_slot.ensures)

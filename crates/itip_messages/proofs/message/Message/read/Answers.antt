@@ -3,16 +3,16 @@ use Rattle.ical_tree.specs.Tree.{IsObjectOf, tree_of}
 use Rattle.ical_tree.proofs.TreeOfLemmas.{object_tree}
 use Rattle.profile.specs.text.Lines.{logical_lines}
 use Rattle.ical_tree.proofs.RefusalLemmas.{text_refuses, tree_refuses}
-use Rattle.itip_messages.proofs.message_lemmas.TreeLemmas.{message_spelled, faults_there, object_refused}
+use Rattle.itip_messages.proofs.message_lemmas.TreeLemmas.{message_spelled, faults_there, octets_refused}
 use Rattle.itip_messages.proofs.message.Message.read.Goals as goal
 
 pub returns-in_err-text-clause-fault : goal.returns-in_err-text-clause-fault
 returns-in_err-text-clause-fault c =
-    object_refused c.from_residual.result c.args.bytes.now c.in_err-text.field-0.0 c.from_residual.ensures.1 (text_refuses true c.args.bytes.now _ c.in_err-text.ensures.fault)
+    octets_refused c.from_residual.result c.args.bytes.now c.in_err-text.field-0.0 c.from_residual.ensures.1 (text_refuses true c.args.bytes.now _ c.in_err-text.ensures.fault)
 
 pub returns-in_err-object-clause-fault : goal.returns-in_err-object-clause-fault
 returns-in_err-object-clause-fault c =
-    object_refused c.from_residual-in_err-object.result c.args.bytes.now c.in_err-object.field-0.0 c.from_residual-in_err-object.ensures.1 (tree_refuses true c.args.bytes.now _ _ c.in_ok-text.ensures.lines c.in_err-object.ensures.fault)
+    octets_refused c.from_residual-in_err-object.result c.args.bytes.now c.in_err-object.field-0.0 c.from_residual-in_err-object.ensures.1 (tree_refuses true c.args.bytes.now _ _ c.in_ok-text.ensures.lines c.in_err-object.ensures.fault)
 
 pub of_object-requires : goal.of_object-requires
 of_object-requires c =
