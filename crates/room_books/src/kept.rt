@@ -33,7 +33,7 @@ pub struct Meeting {
 }
 
 impl Changes {
-    ghost use Rattle.room_books.specs.Taking.{answers_then, IsMade};
+    ghost use Rattle.room_books.specs.Taking.{answers_then};
 
     /// The answers of these slots, in order, go; and these come, in any order.
     pub fn of(alloc: Global, lost: Vec<Slot>, new: Vec<PartAnswer>) -> Result<Changes, AllocError>
@@ -49,6 +49,7 @@ impl Changes {
 
 impl Meeting {
     ghost use Rattle.itip_order.specs.Registers.{together};
+    ghost use Rattle.room_books.specs.Taking.{answers_then, IsMade};
 
     /// One of which nothing was taken before.
     pub fn new(held: Held, changes: Changes) -> Meeting

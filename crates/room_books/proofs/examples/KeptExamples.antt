@@ -27,7 +27,7 @@ use Rattle.profile.specs.events.Starts.{ComesBefore, EndsAt, IsInstance, IsRuleS
 use Rattle.profile.specs.events.Confirmed.{AreApart, AreOfRule, IsOfSeries, alone}
 use Rattle.profile.specs.rooms.Messages as messages
 use Rattle.profile.specs.rooms.Messages.{Content, IsContent, IsPart, WritesTimes, Accept, no_content, opening_lines}
-use Rattle.profile.specs.events.Messages.{SpellsMessage}
+use Rattle.profile.specs.events.Messages.{Message, SpellsMessage}
 use Rattle.profile.specs.rooms.Revisions.{Part, Whole, At, Cancelled, Set, is_whole, slot_cmp}
 use Rattle.profile.specs.rooms.Rooms.{PartAnswer, Book, Claim, Confirms, Delivery, IsShownInSeries, Recurring, Runs, empty_book, confirmed_series, is_hidden, answered}
 use Rattle.profile.specs.streams.Streams.{IsDelivered}
@@ -232,8 +232,8 @@ object = record {
   events = refl;
 }
 
-abbrev message : messages.Message
-message = record { method = Request; meeting = record { master = Some event; overrides = [] } }
+abbrev message : Message
+message = record { method = Request; organiser = codes "mailto:ann@example.com"; uid = codes "a"; events = event ∷ [] }
 
 spells : SpellsMessage octets message
 spells = record {
@@ -242,15 +242,16 @@ spells = record {
   object = subst (λ (l : Lines). IsObject true (object_tree (codes "REQUEST") own_lines) l) (sym are_lines) object;
   says = record {
     method = record { line = codes "METHOD:REQUEST"; once = refl; named = refl };
-    says = record {
-      events = event ∷ [];
-      says = (says (object_tree (codes "REQUEST") own_lines), tt);
+    events = event ∷ [];
+    says = (says (object_tree (codes "REQUEST") own_lines), tt);
+    taken = refl;
+    are = record {
       some = omega arith;
-      one = λ a b first second. ap meeting_said (only event a first ∙ sym (only event b second));
-      master = refl;
-      overrides = refl;
+      of_it = λ other c. ap meeting_said (only event other c);
+      masters = let most : 1 ≤ 1 = omega arith in most;
       differ = pairs_from ◌≢◌ [] tt;
     };
+    one_each = λ speaks. absurd (false≢true speaks);
   };
 }
 
@@ -502,8 +503,8 @@ gone_object = record {
   events = refl;
 }
 
-abbrev cancel : messages.Message
-cancel = record { method = Cancel; meeting = record { master = None; overrides = gone ∷ [] } }
+abbrev cancel : Message
+cancel = record { method = Cancel; organiser = codes "mailto:ann@example.com"; uid = codes "a"; events = gone ∷ [] }
 
 spells_cancel : SpellsMessage gone_octets cancel
 spells_cancel = record {
@@ -512,15 +513,16 @@ spells_cancel = record {
   object = subst (λ (l : Lines). IsObject true (object_tree (codes "CANCEL") gone_lines) l) (sym are_gone_lines) gone_object;
   says = record {
     method = record { line = codes "METHOD:CANCEL"; once = refl; named = refl };
-    says = record {
-      events = gone ∷ [];
-      says = (says_gone (object_tree (codes "CANCEL") gone_lines), tt);
+    events = gone ∷ [];
+    says = (says_gone (object_tree (codes "CANCEL") gone_lines), tt);
+    taken = refl;
+    are = record {
       some = omega arith;
-      one = λ a b first second. ap meeting_said (only gone a first ∙ sym (only gone b second));
-      master = refl;
-      overrides = refl;
+      of_it = λ other c. ap meeting_said (only gone other c);
+      masters = let most : 0 ≤ 1 = omega arith in most;
       differ = pairs_from ◌≢◌ (Some (pos 1_741_683_600) ∷ []) (λ other nowhere. absurd (none_in_nil other nowhere), tt);
     };
+    one_each = λ speaks. absurd (false≢true speaks);
   };
 }
 

@@ -30,7 +30,8 @@ use Rattle.room_books.specs.Slots.{Reordered}
 use Rattle.room_books.specs.Room.{Pairwise}
 use Rattle.room_books.specs.Texts.{SpellsConfirmed}
 use Rattle.room_books.proofs.shared_lemmas.AcceptedSlots.{slot_same}
-use Rattle.room_books.proofs.laws_lemmas.KeptAnswers.{IsAskedFor, shows_back, hides_back, set_body, set_zone, asked_room, IsRoom}
+use Rattle.room_books.proofs.laws_lemmas.KeptAnswers.{IsAskedFor, shows_back, hides_back, set_body, set_zone}
+use Rattle.itip_messages.proofs.law_lemmas.PartTexts.{IsRoom, asked_room}
 use Rattle.room_books.proofs.laws_lemmas.KeptEntries.{SamePlace, EntriesDiffer, place_there, place_from, meeting_from, claims_confirmed, claims_kept, claims_same, entries_differ, entry_placed, of_claims}
 use Rattle.room_books.proofs.laws_lemmas.KeptInstances.{IsHiding, none_left, series_left, singles_left}
 use Rattle.room_books.proofs.laws_lemmas.KeptMeetings.{meeting_trans}

@@ -3,14 +3,13 @@
 use Rattle.std.proofs.Common.{◌≡◌, ◌≢◌, ◌∙◌, ℕ, ℤ, Bool, true, false, filter, List, [], ◌∷◌, refl, sym, ap, subst, inl, inr}
 use Rattle.std.specs.Prelude.{AllPairs, if◌then◌else◌}
 use Rattle.std.specs.declared.cmp.Ordering.TheVariants.{Less, Equal}
-use Rattle.std.specs.List.{Contains, AllZip}
-use Rattle.std.proofs.lemmas.Bool.{both_ways}
+use Rattle.std.specs.List.{Contains, AllZip, list_any}
+use Rattle.std.proofs.lemmas.Bool.{and_parts, both_ways}
 use Rattle.std.proofs.lemmas.Cmp.{tied_itself}
 use Rattle.std.proofs.lemmas.List.Elements.{Contains-append_cases}
 use Rattle.profile.specs.events.EventComponents.{EventComponent}
-use Rattle.profile.specs.events.Events.{components_of}
-use Rattle.profile.specs.rooms.Messages.{Content, Outcome, is_addressed, is_part_for, slot_of}
-use Rattle.profile.specs.events.Messages.{Message, SpellsMessage}
+use Rattle.profile.specs.rooms.Messages.{Content, Outcome, is_addressed, is_for, is_part_for, slot_of}
+use Rattle.profile.specs.events.Messages.{Message, SpellsMessage, is_to_rooms}
 use Rattle.profile.specs.rooms.Revisions.{Part, Slot, in_view, slot_cmp}
 use Rattle.profile.specs.rooms.Rooms.{Claim, PartAnswer, Book, empty_book, is_set, parts_of, asked, answered, IsStep, Delivery, Runs}
 use Rattle.profile.specs.streams.Streams.{IsDelivered, IsClaim, AreClaims}
@@ -19,7 +18,8 @@ use Rattle.itip_order.proofs.Lists.{in_cons, in_head, in_tail, none_in_nil}
 use Rattle.itip_order.proofs.Order.{slot_total}
 use Rattle.room_books.proofs.shared_lemmas.Views.{view_back}
 use Rattle.room_books.proofs.laws_lemmas.Runs.{IsSound, step_sound, new_answer, runs_good}
-use Rattle.room_books.proofs.laws_lemmas.KeptAnswers.{IsAsked, IsAskedFor}
+use Rattle.itip_messages.proofs.law_lemmas.PartTexts.{IsAsked}
+use Rattle.room_books.proofs.laws_lemmas.KeptAnswers.{IsAskedFor}
 use Rattle.room_books.proofs.shared_lemmas.SlotsApart.{OtherPart, new_once}
 use Rattle.room_books.specs.Room.{Pairwise}
 use Rattle.room_books.proofs.shared_lemmas.Pairs.{pairs_append, map_at}
@@ -32,14 +32,18 @@ pub record AllAsked (room : List ℕ) (claims : List Claim) : Type 0 where
   pub differ : Pairwise (λ a b. a.part ≢ b.part) claims
 
 module _ (room octets : List ℕ) (given : Message) (s : SpellsMessage octets given) where
-  asked_for : (event : EventComponent) (claim : Claim) → Contains (components_of given.meeting) event → IsClaim room given event claim → IsAskedFor room claim
+  -- an event of a message to rooms
+  abbrev IsAmong : EventComponent → Type 0
+  IsAmong event = (is_to_rooms given.method ≡ true) × Contains given.events event
+
+  asked_for : (event : EventComponent) (claim : Claim) → IsAmong event → IsClaim room given event claim → IsAskedFor room claim
   asked_for event claim c is = record {
-    asked = record { octets = octets; given = given; spells = s; event = event; among = c; is_part = is.part };
+    asked = record { octets = octets; given = given; spells = s; to_rooms = c.0; event = event; among = c.1; is_part = is.part };
     books = is.asks;
   }
 
   abbrev Here : List EventComponent → Type 0
-  Here events = (e : EventComponent) → Contains events e → Contains (components_of given.meeting) e
+  Here events = (e : EventComponent) → Contains events e → IsAmong e
 
   each_asked : (events : List EventComponent) (claims : List Claim) → Here events → AllZip (IsClaim room given) events claims → (c : Claim) → Contains claims c → IsAskedFor room c
   each_asked [] [] f z c k = absurd (none_in_nil c k)
@@ -77,13 +81,14 @@ module _ (room octets : List ℕ) (given : Message) (s : SpellsMessage octets gi
 
   pub all_asked : (claims : List Claim) → AreClaims room given claims → AllAsked room claims
   all_asked claims h = record {
-    each = each_asked h.events claims (λ e c. among (is_addressed room given) e ((h.are.exact e).0 c)) h.each;
+    each = each_asked h.events claims (λ e c. among (is_addressed room given) refl e ((h.are.exact e).0 c)) h.each;
     differ = parts_differ h.events claims h.each h.are.order;
   }
     where
-      among : (b : Bool) (e : EventComponent) → Contains (if b then filter (is_part_for room given.method) (components_of given.meeting) else []) e → Contains (components_of given.meeting) e
-      among true e c = (of_filtered (is_part_for room given.method) (components_of given.meeting) e c).0
-      among false e c = absurd (none_in_nil e c)
+      among : (b : Bool) → is_addressed room given ≡ b → (e : EventComponent) → Contains (if b then filter (is_part_for room given.method) given.events else []) e → IsAmong e
+      among true addressed e c =
+          ((and_parts (is_to_rooms given.method) (list_any (is_for room given.method) given.events) addressed).0, (of_filtered (is_part_for room given.method) given.events e c).0)
+      among false addressed e c = absurd (none_in_nil e c)
 
 pub delivered_asked : (room : List ℕ) (d : Delivery) → IsDelivered room d → AllAsked room d.claims
 delivered_asked room d h = all_asked room h.octets h.message h.spells d.claims h.are

@@ -1,9 +1,9 @@
 -- Over a stream: each room's book is one that octets asked for, step by step.
 -- Cited by served_texts_pass.
-use Rattle.std.proofs.Common.{◌+◌, ℕ, ℤ, map, List, [], ◌∷◌, inl, inr, sym, subst}
+use Rattle.std.proofs.Common.{◌+◌, ℕ, ℤ, Bool, true, false, map, List, [], ◌∷◌, inl, inr, sym, subst}
 use Rattle.std.specs.List.{Contains}
-use Rattle.profile.specs.events.Messages.{Message, SpellsMessage}
-use Rattle.profile.specs.streams.Streams.{Box, Hosted, Config, ToRooms, ToOrganiser, Steps, Takes, AllTake, Answers, AllAnswers, new_box}
+use Rattle.profile.specs.events.Messages.{Message, SpellsMessage, is_to_rooms}
+use Rattle.profile.specs.streams.Streams.{Box, Hosted, Config, StepsFor, Takes, AllTake, Answers, AllAnswers, new_box}
 use Rattle.profile.specs.rooms.Rooms.{empty_book}
 use Rattle.itip_order.proofs.Lists.{in_cons, none_in_nil}
 use Rattle.room_books.proofs.laws_lemmas.KeptRuns.{KeepsAll, keeps_none, keeps_step, all_asked}
@@ -26,14 +26,14 @@ all_take_keep moment message object octets (before ∷ befores) [] s t k = absur
 all_take_keep moment message object octets (before ∷ befores) (after ∷ afters) s t k =
     (take_keeps moment message object t.0 before after s t.3 k.0, all_take_keep moment message object t.1 befores afters s t.4 k.1)
 
-step_keeps : (moment : ℤ) (said : Said) (object octets : List ℕ) (before after : Box) → Spells object said → Steps moment said before after octets → AllKeep before.rooms → AllKeep after.rooms
-step_keeps moment (ToRooms message) object octets before after s t k = all_take_keep moment message object octets before.rooms after.rooms s t.0 k
-step_keeps moment (ToOrganiser said) object octets before after s t k = subst AllKeep (sym t.1) k
+step_keeps : (to_rooms : Bool) (moment : ℤ) (message : Message) (object octets : List ℕ) (before after : Box) → SpellsMessage object message → StepsFor to_rooms moment message before after octets → AllKeep before.rooms → AllKeep after.rooms
+step_keeps true moment message object octets before after s t k = all_take_keep moment message object octets before.rooms after.rooms s t.0 k
+step_keeps false moment message object octets before after s t k = subst AllKeep (sym t.1) k
 
 answers_keep : (moment : ℤ) (n : ℕ) (object octets : List ℕ) (before after : Box) (refused : ℕ) → Answers moment n object before after octets refused → AllKeep before.rooms → AllKeep after.rooms
 answers_keep moment n object octets before after refused a k =
     elim a [
-      | inl taken ↦ step_keeps moment taken.0 object octets before after taken.1 taken.2 k
+      | inl taken ↦ step_keeps (is_to_rooms taken.0.method) moment taken.0 object octets before after taken.1 taken.2 k
       | inr fault ↦ subst (λ (box : Box). AllKeep box.rooms) (sym fault.2) k
     ]
 

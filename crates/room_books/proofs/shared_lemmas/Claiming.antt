@@ -4,7 +4,7 @@ use Rattle.std.proofs.Common.{arith, ◌⊎◌, ◌<ℤ◌, ◌≡◌, ◌≢◌
 use Rattle.std.specs.Prelude.{slice_get, if◌then◌else◌, ◌&&◌, not, is_some, unwrap_or, option_map, All, AllPairs, IfSome, MatchOption}
 use Rattle.std.proofs.lemmas.Bool.{and_parts, both_ways}
 use Rattle.std.specs.declared.cmp.Ordering.TheVariants.{Less, Equal}
-use Rattle.std.specs.List.{AllZip, Contains, filter, list_any}
+use Rattle.std.specs.List.{AllZip, Contains, filter}
 use Rattle.std.proofs.lemmas.Cmp.{tied_itself}
 use Rattle.std.proofs.lemmas.List.{append-nil}
 use Rattle.std.proofs.lemmas.List.Elements.{All-contains, All-tail, filter_more}
@@ -14,8 +14,8 @@ use Rattle.ical_values.specs.Octets.{address_octets, text_octets}
 use Rattle.cal_events.proofs.shared_lemmas.InOneOrder.{head_pairs, tail_pairs}
 use Rattle.itip_messages.specs.declared.message.Message.{Message}
 use Rattle.itip_messages.specs.declared.message_component.MessageComponent.{MessageComponent}
-use Rattle.itip_messages.specs.Message.{RepresentsMessage, SaysComponent, IsDated, is_component_for, has_part, part_for}
-use Rattle.itip_messages.proofs.shared_lemmas.MessageLemmas.{addressed, body_is, part_said, kept_said, kept_components, kept_among, no_events}
+use Rattle.itip_messages.specs.Message.{RepresentsMessage, HasInstances, SaysComponent, IsDated, is_message_for, has_part, part_for}
+use Rattle.itip_messages.proofs.shared_lemmas.MessageLemmas.{addressed, body_is, part_said, kept_said, kept_components, kept_instances, kept_among, no_events}
 use Rattle.itip_order.specs.Parts.{part_of}
 use Rattle.itip_order.proofs.Lists.{in_cons, in_head, in_tail, none_in_nil}
 use Rattle.itip_order.proofs.Order.{slot_total}
@@ -28,9 +28,10 @@ use Rattle.cal_events.specs.declared.series.Series.{Series}
 use Rattle.cal_events.specs.OwnInstances.{own_instance_at, IsTimely}
 use Rattle.cal_events.proofs.shared_lemmas.OwnSingles.{master_alone, of_both, one_by_key, override_alone}
 use Rattle.itip_messages.proofs.body_lemmas.BodyLemmas.{clock_named}
-use Rattle.profile.specs.events.Events.{Event as Recurs, components_of, is_master}
+use Rattle.profile.specs.events.Events.{Event as Recurs, is_master}
+use Rattle.profile.specs.events.Messages as messages
 use Rattle.profile.specs.rooms.Messages as profile
-use Rattle.profile.specs.rooms.Messages.{Content, IsPart, canonical, no_content, cancels, is_addressed, is_part_for, names_room, own_revision}
+use Rattle.profile.specs.rooms.Messages.{Content, IsPart, canonical, no_content, cancels, is_addressed, is_part_for, names_room}
 use Rattle.profile.specs.rooms.Revisions.{Part, Slot, Body, Whole, At, Set, Absent, Cancelled, slot_cmp}
 use Rattle.profile.specs.rooms.Rooms as rooms
 use Rattle.profile.specs.rooms.Rooms.{is_set}
@@ -86,6 +87,13 @@ zip_skip {X} {Y} R p items all i x ys same h e fails z =
     let none : filter p (take (i + 1) items) ≡ filter p (take i items) = filter_more p items i x h ∙ ap (λ w. filter p (take i items) ++ cond (p w) (w ∷ []) []) (sym e) ∙ ap (λ b. filter p (take i items) ++ cond b (x ∷ []) []) fails ∙ append-nil (filter p (take i items)) in
     subst (λ (l : List X). AllZip R (filter p (take (i + 1) l)) ys) same
     (subst (λ (l : List X). AllZip R l ys) (sym none) (subst (λ (l : List X). AllZip R (filter p (take i l)) ys) (sym same) z))
+
+-- both relations hold place by place
+zip_both : {X Y : Type 0} (P Q : X → Y → Type 0) (xs : List X) (ys : List Y) → AllZip P xs ys → AllZip Q xs ys → AllZip (λ x y. P x y × Q x y) xs ys
+zip_both P Q [] [] p q = tt
+zip_both P Q [] (y ∷ ys) p q = absurd p
+zip_both P Q (x ∷ xs) [] p q = absurd p
+zip_both P Q (x ∷ xs) (y ∷ ys) p q = ((p.0, q.0), zip_both P Q xs ys p.1 q.1)
 
 -- ---- the instances of an event by itself
 
@@ -152,10 +160,19 @@ module _ (event : EventComponent) (timely : IsTimely event) (dated : IsDated (pr
 
 -- ---- the claim of one component
 
-module _ (room : List ℕ) (message : Message) (given : profile.Message) (s : RepresentsMessage message given) (event : EventComponent) (component : MessageComponent) (among : Contains (components_of given.meeting) event)
-    (says : SaysComponent given.method (option_map own_revision given.meeting.master) event component) (claim : Claim) (x : IsClaimIn room message component claim) where
+module _ (room : List ℕ) (message : Message) (given : messages.Message) (s : RepresentsMessage message given) (event : EventComponent) (component : MessageComponent) (among : Contains given.events event)
+    (is : SaysComponent event component × HasInstances event component) (claim : Claim) (x : IsClaimIn room message component claim) where
+  abbrev says : SaysComponent event component
+  says = is.0
+
   abbrev part : Part
   part = part_for room message component
+
+  organiser_is : event.organiser ≡ Some (address_octets message.organiser)
+  organiser_is = s.organised event among ∙ ap Some (sym s.organiser)
+
+  uid_is : text_octets message.uid ≡ event.uid
+  uid_is = s.uid ∙ sym (ap (λ (named : List ℕ × List ℕ). named.1) (s.are.of_it event among))
 
   abbrev content : Content
   content = says.canonical.content
@@ -189,8 +206,8 @@ module _ (room : List ℕ) (message : Message) (given : profile.Message) (s : Re
 
   booked_is : (single : Single) → part_instance part single ≡ own_instance_at event single
   booked_is single =
-      let organiser : address_octets message.organiser ≡ unwrap_or event.organiser [] = ap (λ o. unwrap_or o []) (sym (s.organiser event among)) in
-      λ i. record { key = record { organiser = organiser i; uid = s.uid event among i; slot = single.slot }; start = single.span.start; end = single.span.end }
+      let organiser : address_octets message.organiser ≡ unwrap_or event.organiser [] = ap (λ o. unwrap_or o []) (sym organiser_is) in
+      λ i. record { key = record { organiser = organiser i; uid = uid_is i; slot = single.slot }; start = single.span.start; end = single.span.end }
 
   all_booked : (singles : List Single) → map (part_instance part) singles ≡ map (own_instance_at event) singles
   all_booked [] = refl
@@ -198,11 +215,11 @@ module _ (room : List ℕ) (message : Message) (given : profile.Message) (s : Re
 
   -- they are all that the event has by itself, apart from its series
   are_all : AreApart event (map (part_instance part) component.singles.items)
-  are_all = subst (AreApart event) (sym (all_booked component.singles.items)) says.singles
+  are_all = subst (AreApart event) (sym (all_booked component.singles.items)) is.1.singles
 
   -- the event has the series of the component, which has one only where its part is of the whole
   has_it : (o : Slot) → profile.slot_of event ≡ o → MatchOption (series_wanted o component.series) (has_series event ≡ false) (λ series. IsSeriesOf event (series_said series))
-  has_it Whole e = says.series
+  has_it Whole e = is.1.series
   has_it (At t) e = none event.recurrence refl e
     where
       none : (r : Option ℤ) → event.recurrence ≡ r → profile.slot_named r ≡ At t → has_series event ≡ false
@@ -234,8 +251,8 @@ module _ (room : List ℕ) (message : Message) (given : profile.Message) (s : Re
   fits_with singles own apart recurs = record {
     content = refl;
     text = texts off named part.body body_there;
-    organiser = λ y c. ap (λ (k : Key). k.organiser) (own y c).key ∙ ap (λ o. unwrap_or o []) (s.organiser event among);
-    uid = λ y c. ap (λ (k : Key). k.uid) (own y c).key ∙ sym (s.uid event among);
+    organiser = λ y c. ap (λ (k : Key). k.organiser) (own y c).key ∙ ap (λ o. unwrap_or o []) organiser_is;
+    uid = λ y c. ap (λ (k : Key). k.uid) (own y c).key ∙ sym uid_is;
     slot = λ y c. subst (λ (o : Slot). IsOfSlot o y.key.slot) (sym says.slot) (own y c).slot;
     differ = apart;
     starts = λ y c. (own y c).start;
@@ -253,8 +270,8 @@ module _ (room : List ℕ) (message : Message) (given : profile.Message) (s : Re
       let master : is_master event ≡ true = (and_parts (is_master event) (is_some event.rule) r.0).0 in
       record {
         whole = says.slot ∙ whole event.recurrence refl master;
-        organiser = λ b h. ap (λ (k : Key). k.organiser) (own b h).key ∙ ap (λ o. unwrap_or o []) (s.organiser event among);
-        uid = λ b h. ap (λ (k : Key). k.uid) (own b h).key ∙ sym (s.uid event among);
+        organiser = λ b h. ap (λ (k : Key). k.organiser) (own b h).key ∙ ap (λ o. unwrap_or o []) organiser_is;
+        uid = λ b h. ap (λ (k : Key). k.uid) (own b h).key ∙ sym uid_is;
         slot = λ b h. own_start event timely says.dated b master (here b h).0;
         starts = λ b h. (own b h).start;
         apart = λ a b c h same.
@@ -288,12 +305,12 @@ module _ (room : List ℕ) (message : Message) (given : profile.Message) (s : Re
 
 -- ---- all claims
 
-module _ (room : List ℕ) (message : Message) (given : profile.Message) (s : RepresentsMessage message given) where
+module _ (room : List ℕ) (message : Message) (given : messages.Message) (s : RepresentsMessage message given) where
   abbrev Says : EventComponent → MessageComponent → Type 0
-  Says = SaysComponent given.method (option_map own_revision given.meeting.master)
+  Says event component = SaysComponent event component × HasInstances event component
 
   abbrev Here : List EventComponent → Type 0
-  Here events = (e : EventComponent) → Contains events e → Contains (components_of given.meeting) e
+  Here events = (e : EventComponent) → Contains events e → Contains given.events e
 
   rest_here : (e : EventComponent) (es : List EventComponent) → Here (e ∷ es) → Here es
   rest_here e es f x c = f x (in_tail e es x c)
@@ -309,7 +326,7 @@ module _ (room : List ℕ) (message : Message) (given : profile.Message) (s : Re
       (is_claim room message given s e d (f e (in_head e es)) y.0 c z.0, claims_zip es ds cs (rest_here e es f) y.1 z.1)
 
   -- of each claim
-  each_claim : (P : rooms.Claim → Type 0) → ((e : EventComponent) (d : MessageComponent) (c : Claim) → Contains (components_of given.meeting) e → Says e d → IsClaimIn room message d c → P (claim_said c))
+  each_claim : (P : rooms.Claim → Type 0) → ((e : EventComponent) (d : MessageComponent) (c : Claim) → Contains given.events e → Says e d → IsClaimIn room message d c → P (claim_said c))
       → (events : List EventComponent) (components : List MessageComponent) (claims : List Claim) → Here events → AllZip Says events components → AllZip (IsClaimIn room message) components claims
       → (x : rooms.Claim) → Contains (claims_said claims) x → P x
   each_claim P h [] [] [] f y z x k = absurd (none_in_nil x k)
@@ -355,12 +372,12 @@ module _ (room : List ℕ) (message : Message) (given : profile.Message) (s : Re
         | inr there ↦ let found = later es ds cs (rest_here e es f) y.1 z.1 x there in (found.0, in_tail e es found.0 found.1, found.2)
       ]
 
-  pub all_claimed : (claims : List Claim) → AllZip (IsClaimIn room message) (filter (has_part room message) message.components.items) claims → list_any (is_component_for room message) message.components.items ≡ true → AreClaimed room given claims
+  pub all_claimed : (claims : List Claim) → AllZip (IsClaimIn room message) (filter (has_part room message) message.components.items) claims → is_message_for room message ≡ true → AreClaimed room given claims
   all_claimed claims z has =
       let for_it : is_addressed room given ≡ true = sym (addressed room message given s) ∙ has in
       let events = filter (is_part_for room given.method) s.events in
       let components = filter (has_part room message) message.components.items in
-      let says = kept_components room message given s in
+      let says = zip_both SaysComponent HasInstances events components (kept_components room message given s) (kept_instances room message given s for_it) in
       let there = kept_among room message given s in
       let by_slot = kept_said room message given s for_it in
       let named : (x : rooms.Claim) → Contains (claims_said claims) x → (x.part.organiser ≡ address_octets message.organiser) × (x.part.uid ≡ text_octets message.uid) =

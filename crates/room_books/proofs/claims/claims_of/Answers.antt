@@ -1,9 +1,9 @@
 use Rattle.std.proofs.Common.{◌≡◌, ◌∙◌, sym, subst, true, arith}
-use Rattle.std.specs.List.{AllZip, filter, list_any}
+use Rattle.std.specs.List.{AllZip, filter}
 use Rattle.std.proofs.lemmas.Grind.{common_steps}
 use Rattle.ical_values.specs.Octets.{address_octets}
-use Rattle.itip_messages.specs.Message.{RepresentsMessage, is_component_for, has_part}
-use Rattle.profile.specs.rooms.Messages as profile
+use Rattle.itip_messages.specs.Message.{RepresentsMessage, is_message_for, has_part}
+use Rattle.profile.specs.events.Messages as profile
 use Rattle.room_books.specs.Claims.{AreClaimed, IsClaimIn}
 use Rattle.itip_messages.proofs.shared_lemmas.MessageLemmas.{addressed}
 use Rattle.room_books.proofs.shared_lemmas.Claiming.{if_ok, all_claimed, none_claimed}
@@ -13,7 +13,7 @@ pub returns : goal.returns
 returns c =
     let room = address_octets c.args.room.now in
     let message = c.args.message.now in
-    let has : list_any (is_component_for room message) message.components.items ≡ true = grind (arith, common_steps) in
+    let has : is_message_for room message ≡ true = grind (arith, common_steps) in
     if_ok c.all_claims.result (λ claims. AllZip (IsClaimIn room message) (filter (has_part room message) message.components.items) claims.items) (λ claims. (said : profile.Message) → RepresentsMessage message said → AreClaimed room said claims.items)
     (λ claims z said s. all_claimed room message said s claims.items z has) c.all_claims.ensures
 
