@@ -31,7 +31,7 @@ use Rattle.organiser_books.proofs.Said.{ahead_are, attendee_is, heard_are, in_te
 -- ---- what is asked
 
 -- two methods that differ are distinguished
-method_of : events.Method → Method
+abbrev method_of : events.Method → Method
 method_of events.Store = Store
 method_of events.Request = Request
 method_of events.Add = Add
