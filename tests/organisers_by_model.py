@@ -122,10 +122,12 @@ class Stored:
             for address, by_server in event.attendees():
                 flags[address] |= by_server
         self.named, self.sent_to = set(flags), [it for it in flags if flags[it] and it != organiser]
-        gone = [it for it in gone if it not in self.sent_to]
+        called_off = any(it.cancelled and not it.instance for it in events)
+        # one who is still named and left to a client now gets no CANCEL beside the REQUEST that shows it
+        gone = [it for it in gone if it not in (self.sent_to if called_off else self.named)]
         self.told = self.sent_to + gone
         self.seen = {}
-        if any(it.cancelled and not it.instance for it in events):
+        if called_off:
             self.object = self.cancel(self.told, True)
             self.sent = [self.object] if self.told else []
         else:

@@ -11,6 +11,7 @@ use Rattle.ical_lines.specs.declared.fault.Fault.{Fault}
 use Rattle.ical_lines.specs.declared.fault.Fault.TheVariants.{Memory, Refused}
 use Rattle.ical_values.specs.Octets.{text_octets}
 use Rattle.ical_values.specs.declared.text.Text.{Text}
+use Rattle.profile.specs.events.EventComponents as events
 use Rattle.profile.specs.events.EventComponents.{Attendee, EventComponent}
 use Rattle.profile.specs.rooms.Messages.{own_revision}
 use Rattle.profile.specs.rooms.Revisions.{Revision}
@@ -53,8 +54,8 @@ of_event (e ∷ es) h c = elim (Contains-append_cases (profile.heard_of e e.atte
 
 -- ---- a REPLY that is taken
 
-module _ (address : List ℕ) (object : Message) (said : objects.OrganiserObject) (is : RepresentsMessage object said) (book : OrganiserBook) (meetings after : Text → Option StoredMeeting) (keeps : KeepsAll meetings book)
-    (m n : StoredMeeting) (found : Some m ≡ meetings object.uid) (put : (q : Text) → after q ≡ cond (same_text object.uid q) (Some n) (meetings q))
+module _ (address : List ℕ) (object : Message) (said : objects.Message) (is : RepresentsMessage object said) (kind : said.method ≡ events.Reply) (own : said.organiser ≡ address) (book : OrganiserBook)
+    (meetings after : Text → Option StoredMeeting) (keeps : KeepsAll meetings book) (m n : StoredMeeting) (found : Some m ≡ meetings object.uid) (put : (q : Text) → after q ≡ cond (same_text object.uid q) (Some n) (meetings q))
     (revision : n.revision ≡ m.revision) (components : n.components ≡ m.components) (attending : n.attending ≡ m.attending) (octets : n.object ≡ m.object) where
   abbrev uid : List ℕ
   uid = text_octets object.uid
@@ -79,17 +80,17 @@ module _ (address : List ℕ) (object : Message) (said : objects.OrganiserObject
       let e = of_event said.events h c in
       let same : h.revision.sequence ≡ e.0.sequence = ap (λ (r : Revision). r.sequence) e.3 in
       elim (cases_lt stored.revision.sequence e.0.sequence) [
-        | inl above ↦ absurd (both_ways _ (sym (ahead_is address object said is book m represents) ∙ none) (any_from (λ (x : EventComponent). nat_lt stored.revision.sequence x.sequence) said.events e.0 e.1 (lt-ltb _ _ above)))
+        | inl above ↦ absurd (both_ways _ (sym (ahead_is address object said is events.Reply kind refl own book m represents) ∙ none) (any_from (λ (x : EventComponent). nat_lt stored.revision.sequence x.sequence) said.events e.0 e.1 (lt-ltb _ _ above)))
         | inr below ↦ omega (arith, same, below)
       ]
 
-  pub replied : said.method ≡ objects.Reply → said.organiser ≡ address → is_ahead m object.components.items ≡ false → is_strange m object.components.items ≡ false
+  pub replied : is_ahead m object.components.items ≡ false → is_strange m object.components.items ≡ false
       → ((s : Stored) (replies : List Heard) → revision_of m.revision ≡ s.revision → AreSeen m s replies → AreSeen n s (replies ++ flat_map (heard_said s.uid) object.components.items))
-      → MayTake objects.Reply address said book × KeepsAll after (after_reply said book)
-  replied kind organiser sent names seen =
+      → MayTake events.Reply address said book × KeepsAll after (after_reply said book)
+  replied sent names seen =
       let heard : flat_map (heard_said stored.uid) object.components.items ≡ heard_in said.events =
-      ap (λ u. flat_map (heard_said u) object.components.items) (stored_own said.uid book.stores stored last) ∙ heard_is address object said is book in (
-        may_take address object said is book m represents objects.Reply kind refl (λ e. sent) names organiser,
+      ap (λ u. flat_map (heard_said u) object.components.items) (stored_own said.uid book.stores stored last) ∙ heard_is address object said is events.Reply kind refl own book in (
+        may_take address object said is events.Reply kind refl own book m represents (λ e. sent) names,
         keeps_heard book (heard_in said.events) said.uid heard_own meetings after object.uid (sym is.uid) n put stored last
             (own_heard book (heard_in said.events) said.uid heard_own m n stored revision components attending octets (heard_sent sent)
             (subst (λ l. AreSeen n stored (book.replies ++ l)) heard (seen stored book.replies known.2.revision known.2.seen)) known.2)

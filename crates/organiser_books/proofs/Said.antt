@@ -1,5 +1,5 @@
 -- What was read of an object says what its events do.
-use Rattle.std.proofs.Common.{◌≡◌, ◌∙◌, ℕ, max, ℤ, Bool, true, false, not, is_some, ◌&&◌, ◌||◌, cond, List, [], ◌∷◌, ◌++◌, Option, None, Some, refl, sym, ap}
+use Rattle.std.proofs.Common.{◌≡◌, ◌∙◌, ℕ, max, ℤ, Bool, true, false, not, is_some, ◌&&◌, ◌||◌, cond, List, [], ◌∷◌, ◌++◌, Option, None, Some, refl, sym, ap, subst}
 use Rattle.std.specs.Prelude.{nat_lt}
 use Rattle.std.specs.List.{AllZip, flat_map, filter, list_any, Contains}
 use Rattle.std.specs.Str.{bytes_eq}
@@ -8,15 +8,18 @@ use Rattle.profile.specs.events.EventComponents.{Attendee, EventComponent}
 use Rattle.profile.specs.rooms.Revisions as Revisions
 use Rattle.profile.specs.rooms.Messages.{slot_named}
 use Rattle.profile.specs.rooms.Kept.{each_once}
-use Rattle.profile.specs.events.Messages.{AreOfMeeting}
+use Rattle.profile.specs.events.Messages as objects
+use Rattle.profile.specs.events.Messages.{AreOfMeeting, is_to_rooms}
 use Rattle.profile.specs.organisers.Organisers as profile
-use Rattle.profile.specs.organisers.Organisers.{Heard, attendees_of, heard_in, is_attendee, is_called_off, own_sequence, left_to_server, scheduled_in}
+use Rattle.profile.specs.organisers.Organisers.{Heard, attendees_of, gone_from, heard_in, is_attendee, is_called_off, own_sequence, left_to_server, scheduled_in, without}
 use Rattle.itip_order.specs.declared.part.Slot.{Slot}
 use Rattle.itip_order.specs.declared.part.Slot.TheVariants.{Whole, At}
 use Rattle.itip_order.specs.Parts.{slot_of}
-use Rattle.itip_messages.specs.Message.{SaysComponent}
+use Rattle.itip_messages.specs.Components.{AreInOrder}
+use Rattle.itip_messages.specs.Message.{RepresentsMessage, SaysComponent}
+use Rattle.itip_messages.specs.declared.message.Message.{Message}
 use Rattle.itip_messages.specs.declared.message_component.MessageComponent.{MessageComponent}
-use Rattle.organiser_books.specs.Attending.{addresses_in, attendance_of, lists_of, lists_said, names, scheduled_among, schedules_line, sent_among, Attends, AreAttending, Entries}
+use Rattle.organiser_books.specs.Attending.{addresses_in, attendance_of, gone_among, lists_of, lists_said, names, scheduled_among, schedules_line, sent_among, Attends, AreAttending, Entries}
 use Rattle.organiser_books.specs.declared.attending.Attendance.{Attendance}
 use Rattle.organiser_books.specs.declared.meeting.StoredMeeting.{StoredMeeting}
 use Rattle.organiser_books.specs.Representation.{heard_by, heard_said, is_unknown}
@@ -40,6 +43,11 @@ left_are events =
 pub scheduled_are : (organiser : List ℕ) (events : List EventComponent) → scheduled_in organiser events ≡ sent_among organiser (lists_said events)
 scheduled_are organiser events = ap (filter (λ address. not (bytes_eq address organiser))) (left_are events)
 
+-- those who are gone, by the events and by their lines
+pub gone_are : (called_off : Bool) (organiser : List ℕ) (before now : List EventComponent) → gone_among called_off organiser (lists_said before) (lists_said now) ≡ gone_from called_off organiser before now
+gone_are true organiser before now = λ i. without (sym (scheduled_are organiser before) i) (sym (scheduled_are organiser now) i)
+gone_are false organiser before now = λ i. without (sym (scheduled_are organiser before) i) (sym (attendees_are now) i)
+
 pub attendee_is : (q : List ℕ) (events : List EventComponent) → is_attendee q events ≡ list_any (names q) (lists_said events)
 attendee_is q events = sym (any_map (names q) (λ (e : EventComponent). e.attendees) events)
 
@@ -58,6 +66,11 @@ lists_are [] [] z = refl
 lists_are [] (c ∷ cs) z = absurd z
 lists_are (e ∷ es) [] z = absurd z
 lists_are (e ∷ es) (c ∷ cs) z = λ i. z.0.attendees i ∷ lists_are es cs z.1 i
+
+-- the components of a message to an organiser are in the order of the text
+pub in_text : (object : Message) (said : objects.Message) → RepresentsMessage object said → is_to_rooms said.method ≡ false → AllZip SaysComponent said.events object.components.items
+in_text object said is apart =
+    subst (λ es. AllZip SaysComponent es object.components.items) (subst (λ b. AreInOrder b said.events is.events) apart is.in_order) is.each
 
 -- one reply's answer
 one_heard : (uid : List ℕ) (e : EventComponent) (c : MessageComponent) → SaysComponent e c → e.uid ≡ uid → (lines : List Attendee) → heard_by uid c lines ≡ profile.heard_of e lines

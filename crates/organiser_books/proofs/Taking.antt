@@ -6,17 +6,18 @@ use Rattle.std.proofs.lemmas.Bool.{true≢false, both_ways}
 use Rattle.ical_values.specs.Octets.{text_octets}
 use Rattle.profile.specs.events.EventComponents.{Attendee, EventComponent, Participation}
 use Rattle.profile.specs.rooms.Revisions.{Revision, Slot}
+use Rattle.profile.specs.events.EventComponents as events
 use Rattle.profile.specs.events.Messages as objects
-use Rattle.profile.specs.events.Messages.{is_of_attendee}
+use Rattle.profile.specs.events.Messages.{is_of_attendee, is_to_rooms}
 use Rattle.profile.specs.organisers.Organisers.{Heard, OrganiserBook, Stored, StateFault, heard_in, is_attendee, last_store, sent_status, participation_word, IsSeen, ShowsSeen}
 use Rattle.profile.specs.organisers.Organisers.StateFault.{unknown, ahead, spent, stranger}
 use Rattle.profile.specs.organisers.Sent.{IsComponentText, IsMeetingText}
 use Rattle.cal_events.specs.Component.{method_said}
-use Rattle.itip_messages.specs.Message.{RepresentsMessage}
+use Rattle.itip_messages.specs.Message.{RepresentsMessage, SaysComponent}
 use Rattle.cal_events.specs.declared.method.Method.{Method}
-use Rattle.cal_events.specs.declared.method.Method.TheVariants.{Store, Reply, Refresh}
+use Rattle.cal_events.specs.declared.method.Method.TheVariants.{Store, Request, Add, Cancel, Reply, Refresh}
+use Rattle.cal_events.specs.contracts.method.MethodPartialEq.TheImpl as methods
 use Rattle.itip_messages.specs.declared.message.Message.{Message}
-use Rattle.itip_messages.specs.contracts.organiser_object.OperationPartialEq.TheImpl as operations
 use Rattle.organiser_books.specs.declared.meeting.StoredMeeting.{StoredMeeting}
 use Rattle.organiser_books.specs.Attending.{attendance_of, lists_said}
 use Rattle.organiser_books.specs.Calls.{CallFault, MayTake}
@@ -25,21 +26,37 @@ use Rattle.organiser_books.specs.Shown.{ShowsAnswered}
 use Rattle.organiser_books.specs.Representation.{answer_in, answered, heard_said, is_ahead, is_strange, IsReplyFault, RepresentsStored, RepresentsAt}
 use Rattle.organiser_books.proofs.Books.{represented_known, represented_unknown}
 use Rattle.organiser_books.proofs.Latest.{latest_is}
-use Rattle.organiser_books.proofs.Said.{ahead_are, attendee_is, heard_are, known_is, strangers_are, uids_are}
+use Rattle.organiser_books.proofs.Said.{ahead_are, attendee_is, heard_are, in_text, known_is, strangers_are, uids_are}
 
 -- ---- what is asked
 
--- two operations that differ are distinguished
-pub operations_differ : (a b : Operation) → operations.eq-value.it a b ≡ false → method_said a ≡ method_said b → ⊥
-operations_differ Store Store n e = true≢false n
-operations_differ Store Reply n e = absurd (cc)
-operations_differ Store Refresh n e = absurd (cc)
-operations_differ Reply Store n e = absurd (cc)
-operations_differ Reply Reply n e = true≢false n
-operations_differ Reply Refresh n e = absurd (cc)
-operations_differ Refresh Store n e = absurd (cc)
-operations_differ Refresh Reply n e = absurd (cc)
-operations_differ Refresh Refresh n e = true≢false n
+-- two methods that differ are distinguished
+abbrev method_of : events.Method → Method
+method_of events.Store = Store
+method_of events.Request = Request
+method_of events.Add = Add
+method_of events.Cancel = Cancel
+method_of events.Reply = Reply
+method_of events.Refresh = Refresh
+
+method_back : (m : Method) → method_of (method_said m) ≡ m
+method_back Store = refl
+method_back Request = refl
+method_back Add = refl
+method_back Cancel = refl
+method_back Reply = refl
+method_back Refresh = refl
+
+method_itself : (m : Method) → methods.eq-value.it m m ≡ true
+method_itself Store = refl
+method_itself Request = refl
+method_itself Add = refl
+method_itself Cancel = refl
+method_itself Reply = refl
+method_itself Refresh = refl
+
+pub methods_differ : (a b : Method) → methods.eq-value.it a b ≡ false → method_said a ≡ method_said b → ⊥
+methods_differ a b n e = both_ways _ n (subst (λ m. methods.eq-value.it a m ≡ true) (sym (method_back a) ∙ ap method_of e ∙ method_back b) (method_itself a))
 
 some_is : {X : Type 0} (a b : X) → Some a ≡ Some b → a ≡ b
 some_is a b e = cc
@@ -47,12 +64,22 @@ some_is a b e = cc
 some_none : {X : Type 0} (a : X) → Some a ≡ None → ⊥
 some_none a e = absurd (cc)
 
-store_reply : objects.Store ≡ objects.Reply → ⊥
-store_reply e = absurd (cc)
-
 -- ---- objects
 
-module _ (address : List ℕ) (object : Message) (said : objects.OrganiserObject) (is : RepresentsMessage object said) (book : OrganiserBook) where
+-- an attendee doesn't speak to rooms
+not_to_rooms : (op : events.Method) → is_of_attendee op ≡ true → is_to_rooms op ≡ false
+not_to_rooms events.Store e = refl
+not_to_rooms events.Request e = sym e
+not_to_rooms events.Add e = sym e
+not_to_rooms events.Cancel e = sym e
+not_to_rooms events.Reply e = refl
+not_to_rooms events.Refresh e = refl
+
+module _ (address : List ℕ) (object : Message) (said : objects.Message) (is : RepresentsMessage object said) (op : events.Method) (kind : said.method ≡ op) (speaks : is_of_attendee op ≡ true)
+    (own : said.organiser ≡ address) (book : OrganiserBook) where
+  each : AllZip SaysComponent said.events object.components.items
+  each = in_text object said is (ap is_to_rooms kind ∙ not_to_rooms op speaks)
+
   abbrev uid : List ℕ
   uid = text_octets object.uid
 
@@ -60,11 +87,11 @@ module _ (address : List ℕ) (object : Message) (said : objects.OrganiserObject
   last_is = ap (λ u. last_store u book) (sym is.uid)
 
   -- of a meeting that isn't known
-  pub unknown_fault : (op : objects.Operation) → said.method ≡ op → said.organiser ≡ address → is_of_attendee op ≡ true → RepresentsAt book uid None (last_store uid book) → CallFault op address said book 71
-  unknown_fault op kind own speaks found = in_state kind own (unknown (ap is_of_attendee kind ∙ speaks) (last_is ∙ represented_unknown book uid (last_store uid book) found))
+  pub unknown_fault : RepresentsAt book uid None (last_store uid book) → CallFault op address said book 71
+  unknown_fault found = in_state kind own (unknown (ap is_of_attendee kind ∙ speaks) (last_is ∙ represented_unknown book uid (last_store uid book) found))
 
   pub heard_is : flat_map (heard_said said.uid) object.components.items ≡ heard_in said.events
-  heard_is = heard_are said.uid said.events object.components.items is.each (uids_are said.organiser said.uid said.events is.are)
+  heard_is = heard_are said.uid said.events object.components.items each (uids_are said.organiser said.uid said.events is.are)
 
   module _ (m : StoredMeeting) (found : RepresentsAt book uid (Some m) (last_store uid book)) where
     abbrev known : (stored : Stored) × (last_store uid book ≡ Some stored) × RepresentsStored m book stored
@@ -74,29 +101,28 @@ module _ (address : List ℕ) (object : Message) (said : objects.OrganiserObject
     sequence_is = ap (λ (r : Revision). r.sequence) known.2.revision
 
     pub ahead_is : is_ahead m object.components.items ≡ list_any (λ (e : EventComponent). nat_lt known.0.revision.sequence e.sequence) said.events
-    ahead_is = ahead_are m.revision.sequence said.events object.components.items is.each ∙ ap (λ n. list_any (λ (e : EventComponent). nat_lt n e.sequence) said.events) sequence_is
+    ahead_is = ahead_are m.revision.sequence said.events object.components.items each ∙ ap (λ n. list_any (λ (e : EventComponent). nat_lt n e.sequence) said.events) sequence_is
 
     strange_is : is_strange m object.components.items ≡ list_any (λ (h : Heard). not (is_attendee h.attendee known.0.events)) (heard_in said.events)
     strange_is = strangers_are known.0.events m known.2.attending said.uid object.components.items ∙ ap (list_any (λ (h : Heard). not (is_attendee h.attendee known.0.events))) heard_is
 
     -- nothing is ahead, or it isn't looked at
-    pub strange_fault : (op : objects.Operation) → said.method ≡ op → said.organiser ≡ address → is_of_attendee op ≡ true → (op ≡ objects.Reply → is_ahead m object.components.items ≡ false) → is_strange m object.components.items ≡ true
+    pub strange_fault : (op ≡ events.Reply → is_ahead m object.components.items ≡ false) → is_strange m object.components.items ≡ true
         → CallFault op address said book 73
-    strange_fault op kind own speaks sent strange =
+    strange_fault sent strange =
         in_state kind own (stranger (ap is_of_attendee kind ∙ speaks) known.0 (last_is ∙ known.1) (λ reply. sym ahead_is ∙ sent (sym kind ∙ reply)) (sym strange_is ∙ strange))
 
-    pub ahead_fault : said.method ≡ objects.Reply → said.organiser ≡ address → is_ahead m object.components.items ≡ true → CallFault objects.Reply address said book 71
-    ahead_fault kind own before = in_state kind own (ahead kind known.0 (last_is ∙ known.1) (sym ahead_is ∙ before))
+    pub ahead_fault : op ≡ events.Reply → is_ahead m object.components.items ≡ true → CallFault op address said book 71
+    ahead_fault reply before = in_state kind own (ahead (kind ∙ reply) known.0 (last_is ∙ known.1) (sym ahead_is ∙ before))
 
-    pub reply_fault : (n : ℕ) → said.method ≡ objects.Reply → said.organiser ≡ address → IsReplyFault m object.components.items n → CallFault objects.Reply address said book n
-    reply_fault n kind own fault = elim fault [
-      | inl f ↦ subst (CallFault objects.Reply address said book) (sym f.0) (ahead_fault kind own f.1)
-      | inr f ↦ subst (CallFault objects.Reply address said book) (sym f.0) (strange_fault objects.Reply kind own refl (λ _. f.1) f.2)
+    pub reply_fault : (n : ℕ) → op ≡ events.Reply → IsReplyFault m object.components.items n → CallFault op address said book n
+    reply_fault n reply fault = elim fault [
+      | inl f ↦ subst (CallFault op address said book) (sym f.0) (ahead_fault reply f.1)
+      | inr f ↦ subst (CallFault op address said book) (sym f.0) (strange_fault (λ _. f.1) f.2)
     ]
 
     -- nothing is wrong with what an attendee says
-    module _ (op : objects.Operation) (kind : said.method ≡ op) (speaks : is_of_attendee op ≡ true) (sent : op ≡ objects.Reply → is_ahead m object.components.items ≡ false)
-        (names : is_strange m object.components.items ≡ false) where
+    module _ (sent : op ≡ events.Reply → is_ahead m object.components.items ≡ false) (names : is_strange m object.components.items ≡ false) where
       no_fault : (n : ℕ) → StateFault said book n → ⊥
       no_fault n (unknown a none) = some_none known.0 (sym (last_is ∙ known.1) ∙ none)
       no_fault n (ahead reply stored last before) =
@@ -107,8 +133,8 @@ module _ (address : List ℕ) (object : Message) (said : objects.OrganiserObject
           let same = some_is stored known.0 (sym last ∙ last_is ∙ known.1) in
           both_ways _ (sym strange_is ∙ names) (subst (λ (s : Stored). list_any (λ (h : Heard). not (is_attendee h.attendee s.events)) (heard_in said.events) ≡ true) same strange)
 
-      pub may_take : said.organiser ≡ address → MayTake op address said book
-      may_take organiser = record { kind = kind; organiser = organiser; allowed = no_fault }
+      pub may_take : MayTake op address said book
+      may_take = record { kind = kind; organiser = own; allowed = no_fault }
 
 -- ---- what is seen
 

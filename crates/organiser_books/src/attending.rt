@@ -158,7 +158,7 @@ pub(crate) fn gone(
 {
     let mut gone = Vec::new(alloc);
     for (address, attendance) in last {
-        if is_sent_to(organiser, address, attendance) && !is_reached(now, address, called_off) {
+        if is_gone(organiser, address, attendance, now, called_off) {
             gone.push(address.clone()?)?;
         }
     }
@@ -170,6 +170,20 @@ fn is_sent_to(organiser: &Address, address: &Address, attendance: &Attendance) -
     ensures { result ≡ (attendance.now.scheduled && is_no_organiser (address_octets organiser.now) address.now) }
 {
     attendance.scheduled && address != organiser
+}
+
+/// Whether the server sent messages to this attendee of the last store, and a store that has these attendees doesn't reach it.
+fn is_gone(
+    organiser: &Address,
+    address: &Address,
+    attendance: &Attendance,
+    now: &Attending,
+    called_off: bool,
+) -> bool
+    ensures { result ≡ ((attendance.now.scheduled && is_no_organiser (address_octets organiser.now) address.now)
+        && not (is_reached called_off (address_octets address.now) now.now.entries)) }
+{
+    is_sent_to(organiser, address, attendance) && !is_reached(now, address, called_off)
 }
 
 /// Whether a store reaches this address: where it calls the meeting off, whom the server sends messages; else whom a component names. One who is

@@ -71,8 +71,9 @@ impl Organiser {
         &self.address
     }
 
-    /// Stores a meeting at a moment: its attendees are sent a REQUEST, and those of the last store whom no VEVENT names any more a CANCEL; where it
-    /// is cancelled all of both are sent a CANCEL, also those whom the server no longer sends messages. What they answered to the last store counts no longer (RFC 6638 3.2.1, 3.2.8).
+    /// Stores a meeting at a moment: its attendees are sent a REQUEST, and those of the last store whom no VEVENT names any more a CANCEL.
+    /// Where it is cancelled all of both are sent a CANCEL, also those whom the server no longer sends messages. What they answered to the
+    /// last store counts no longer (RFC 6638 3.2.1, 3.2.8).
     /// Refused, and then nothing has changed: 60 for an object that isn't a store, 70 for one of another organiser, 72 where no greater
     /// SEQUENCE is left.
     pub fn store(&mut self, object: &Message, now: Stamp) -> Result<Vec<Outgoing>, Fault>

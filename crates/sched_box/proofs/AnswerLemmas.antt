@@ -6,7 +6,8 @@ use Rattle.std.proofs.lemmas.List.{append_assoc, append-nil, get_or-map, map-app
 use Rattle.ical_values.specs.Octets.{address_octets}
 use Rattle.itip_messages.specs.Message.{RepresentsMessage}
 use Rattle.itip_messages.specs.declared.message.Message.{Message}
-use Rattle.profile.specs.rooms.Messages as profile
+use Rattle.profile.specs.events.Messages as profile
+use Rattle.profile.specs.rooms.Messages.{is_add}
 use Rattle.profile.specs.rooms.Rooms as machine
 use Rattle.profile.specs.rooms.Rooms.{Book, Claim, IsStep}
 use Rattle.profile.specs.rooms.Kept.{Replies, Refreshes}
@@ -27,14 +28,14 @@ sent_is (Some x) (Some y) = ap (λ z. x ++ z) (sym (append-nil y))
 
 pub room_takes : (moment : ℤ) (message : Message) (old new : Room) (kind : machine.Kind) (reply refresh : Option (List ℕ))
     → ((said : profile.Message) → RepresentsMessage message said → (book : Book) → Represents old.meetings.entries book
-    → (claims : List Claim) × AreClaims (address_octets old.address) said claims × StepsWith (address_octets old.address) new.meetings.entries book claims moment kind reply (profile.is_add said.method) refresh)
+    → (claims : List Claim) × AreClaims (address_octets old.address) said claims × StepsWith (address_octets old.address) new.meetings.entries book claims moment kind reply (is_add said.method) refresh)
     → new.address ≡ old.address → RoomTakes moment message old new (sent_octets reply ++ sent_octets refresh)
 room_takes moment message old new kind reply refresh steps same said represented before has =
     let room = address_octets old.address in
     let (claims, are, with') = steps said represented before.book has.represents in
     let P : List ℕ → Type 0 = λ a. AreClaims a said claims in
     let Q : List ℕ → Type 0 = λ a. Replies a with'.steps.after claims reply in
-    let R : List ℕ → Type 0 = λ a. Refreshes a (profile.is_add said.method) before.book.taken with'.steps.after.taken claims moment refresh in (
+    let R : List ℕ → Type 0 = λ a. Refreshes a (is_add said.method) before.book.taken with'.steps.after.taken claims moment refresh in (
       record { address = before.address; book = with'.steps.after },
       record { at = has.at ∙ ap address_octets (sym same); represents = with'.steps.represents },
       record {

@@ -1,5 +1,5 @@
 -- The rooms that a message isn't for: they are those whose flags stay off, and take nothing.
-use Rattle.std.proofs.Common.{◌≡◌, ◌≢◌, inl, inr, ℕ, zero, suc, ◌+◌, ◌<◌, ℤ, Bool, true, false, ◌||◌, cond, List, [], ◌∷◌, ◌++◌, length, take, get_or, set, replicate, map, Option, Some, None, IfSome, IfNone, is_some, refl, sym, ap, subst, ◌∙◌, arith, AllPairs, true≢false}
+use Rattle.std.proofs.Common.{◌≡◌, ◌≢◌, inl, inr, ℕ, zero, suc, ◌+◌, ◌<◌, ℤ, Bool, true, false, ◌&&◌, ◌||◌, cond, List, [], ◌∷◌, ◌++◌, length, take, get_or, set, replicate, map, Option, Some, None, IfSome, IfNone, is_some, refl, sym, ap, subst, ◌∙◌, arith, AllPairs, true≢false}
 use Rattle.std.specs.List.{list_any, position}
 use Rattle.std.specs.Str.{bytes_eq}
 use Rattle.std.proofs.Math.Bool.{and-false}
@@ -14,11 +14,10 @@ use Rattle.cal_events.specs.declared.component.Attendee.{Attendee}
 use Rattle.cal_events.specs.Component.{attendee_of, method_said}
 use Rattle.itip_messages.specs.Message.{is_component_for, component_names, cancels_for_all}
 use Rattle.itip_messages.specs.declared.message.Message.{Message}
-use Rattle.cal_events.specs.declared.method.Method.{Method}
-use Rattle.cal_events.specs.declared.method.Method.TheVariants.{Request, Add, Cancel}
 use Rattle.itip_messages.specs.declared.message_component.MessageComponent.{MessageComponent}
 use Rattle.itip_messages.proofs.shared_lemmas.MessageLemmas.{addressed, no_events}
-use Rattle.profile.specs.rooms.Messages.{Accept, is_addressed, is_cancel}
+use Rattle.profile.specs.events.Messages.{is_to_rooms}
+use Rattle.profile.specs.rooms.Messages.{Accept, is_addressed}
 use Rattle.profile.specs.streams.Streams.{AreClaims}
 use Rattle.room_books.specs.declared.room.Room.{Room}
 use Rattle.sched_box.specs.Answering.{RoomTakes}
@@ -187,12 +186,6 @@ asks_all message addresses i n lines old new on long marks = record {
   out = λ place off. absurd (true≢false (marks (λ _. true) (λ p o. absurd (true≢false (sym (ap (λ flags. get_or flags p true) on ∙ on_all n p) ∙ o))) place off));
 }
 
--- a message that doesn't cancel is for none that it doesn't name
-pub not_cancel : (method : Method) → (method ≡ Cancel → ⊥) → is_cancel (method_said method) ≡ false
-not_cancel Request never = refl
-not_cancel Add never = refl
-not_cancel Cancel never = absurd (never refl)
-
 -- where the flag is off, whatever is used for those past the end
 pub off_at : (flags : List Bool) (place : ℕ) → place < length flags → get_or flags place false ≡ false → get_or flags place true ≡ false
 off_at [] place within off = absurd (omega arith)
@@ -205,7 +198,7 @@ off_at (f ∷ fs) (suc place) within off = off_at fs place (omega arith) off
 pub left_out : (moment : ℤ) (message : Message) (room : Room) → asks message (address_octets room.address) ≡ false → RoomTakes moment message room room []
 left_out moment message room none said represented before has =
     let a = address_octets room.address in
-    let off : is_addressed a said ≡ false = sym (addressed a message said represented) ∙ none in (
+    let off : is_addressed a said ≡ false = sym (addressed a message said represented) ∙ ap (λ b. is_to_rooms (method_said message.method) && b) none ∙ and-false _ in (
       before,
       has,
       record {

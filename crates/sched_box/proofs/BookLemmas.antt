@@ -1,12 +1,14 @@
 -- What a box answers to one object, from what its rooms or its organisers do.
-use Rattle.std.proofs.Common.{◌≡◌, ℕ, ℤ, List, inl, inr, refl, sym, subst}
+use Rattle.std.proofs.Common.{◌≡◌, ◌∙◌, ℕ, ℤ, Bool, true, false, List, ap, inl, inr, refl, sym, subst}
 use Rattle.ical_lines.specs.Fault.{RefusesBy}
 use Rattle.ical_lines.specs.declared.fault.Fault.{Fault}
 use Rattle.ical_lines.specs.declared.fault.Fault.TheVariants.{Refused, Memory}
-use Rattle.itip_messages.specs.Message.{IsSpelled}
-use Rattle.itip_messages.specs.declared.message.Message.TheVariants as read
+use Rattle.cal_events.specs.Component.{method_said}
+use Rattle.itip_messages.specs.Message.{IsSpelled, RepresentsMessage}
 use Rattle.itip_messages.specs.declared.message.Message.{Message}
-use Rattle.profile.specs.streams.Streams.{ObjectFault, ToRooms, ToOrganiser, refused_line}
+use Rattle.profile.specs.events.Messages as profile
+use Rattle.profile.specs.events.Messages.{is_to_rooms}
+use Rattle.profile.specs.streams.Streams.{ObjectFault, StepsFor, refused_line}
 use Rattle.sched_box.specs.Answering.{AreHosted, RoomsTake}
 use Rattle.sched_box.specs.Books.{AnswersKept, KeepAll, RefusesKept, TakesKept}
 use Rattle.sched_box.specs.Objects.{kept_of}
@@ -16,26 +18,38 @@ use Rattle.sched_box.proofs.AnswerLemmas.{all_take}
 
 -- ---- what is taken
 
+-- to whom a message goes is said by what was read of it
+goes_to : (message : Message) (said : profile.Message) (b : Bool) → RepresentsMessage message said → is_to_rooms (method_said message.method) ≡ b → is_to_rooms said.method ≡ b
+goes_to message said b represented to = sym (ap is_to_rooms represented.method) ∙ to
+
 pub rooms_taken : (moment : ℤ) (kept : List ℕ) (message : Message) (old new : Books) (octets : List ℕ)
-    → ((object : List ℕ) → kept ≡ kept_of object → IsSpelled object (read.ToRooms message)) → RoomsTake moment message old.rooms.rooms.items new.rooms.rooms.items octets
+    → ((object : List ℕ) → kept ≡ kept_of object → IsSpelled object message) → is_to_rooms (method_said message.method) ≡ true → RoomsTake moment message old.rooms.rooms.items new.rooms.rooms.items octets
     → new.organisers ≡ old.organisers → TakesKept moment kept old new octets
-rooms_taken moment kept message old new octets spelled takes same object is before have =
+rooms_taken moment kept message old new octets spelled to takes same object is before have =
     let (said, spells, represented) = spelled object is in
     let (after, hosted, all) = all_take moment message said represented old.rooms.rooms.items new.rooms.rooms.items octets takes before.rooms have.rooms in (
       record { rooms = after; organisers = before.organisers },
       record { rooms = hosted; organisers = subst (λ o. AreKeptBy o.organisers.items before.organisers) (sym same) have.organisers },
-      (ToRooms said, spells, (all, refl)),
+      (
+        said,
+        spells,
+        subst (λ b. StepsFor b moment said before (record { rooms = after; organisers = before.organisers }) octets) (sym (goes_to message said true represented to)) (all, refl),
+      ),
     )
 
 pub organiser_taken : (moment : ℤ) (kept : List ℕ) (message : Message) (old new : Books) (octets : List ℕ)
-    → ((object : List ℕ) → kept ≡ kept_of object → IsSpelled object (read.ToOrganiser message)) → OrganisersTake moment message old.organisers.organisers.items new.organisers.organisers.items octets
+    → ((object : List ℕ) → kept ≡ kept_of object → IsSpelled object message) → is_to_rooms (method_said message.method) ≡ false → OrganisersTake moment message old.organisers.organisers.items new.organisers.organisers.items octets
     → new.rooms ≡ old.rooms → TakesKept moment kept old new octets
-organiser_taken moment kept message old new octets spelled takes same object is before have =
+organiser_taken moment kept message old new octets spelled to takes same object is before have =
     let (said, spells, represented) = spelled object is in
     let (after, hosted, taken) = takes said represented before.organisers have.organisers in (
       record { rooms = before.rooms; organisers = after },
       record { rooms = subst (λ r. AreHosted r.rooms.items before.rooms) (sym same) have.rooms; organisers = hosted },
-      (ToOrganiser said, spells, (taken, refl)),
+      (
+        said,
+        spells,
+        subst (λ b. StepsFor b moment said before (record { rooms = before.rooms; organisers = after }) octets) (sym (goes_to message said false represented to)) (taken, refl),
+      ),
     )
 
 -- ---- what is refused
@@ -46,12 +60,12 @@ unread kept books Memory h = tt
 unread kept books (Refused r) h = λ object is before have. inl (h object is)
 
 -- one that the organisers refuse
-pub unhosted : (kept : List ℕ) (message : Message) (books : Books) (f : Fault) → ((object : List ℕ) → kept ≡ kept_of object → IsSpelled object (read.ToOrganiser message))
+pub unhosted : (kept : List ℕ) (message : Message) (books : Books) (f : Fault) → ((object : List ℕ) → kept ≡ kept_of object → IsSpelled object message) → is_to_rooms (method_said message.method) ≡ false
     → RefusesBy (OrganisersRefuse message books.organisers.organisers.items) f → RefusesBy (RefusesKept kept books) f
-unhosted kept message books Memory spelled h = tt
-unhosted kept message books (Refused r) spelled h = λ object is before have.
+unhosted kept message books Memory spelled to h = tt
+unhosted kept message books (Refused r) spelled to h = λ object is before have.
     let (said, spells, represented) = spelled object is in
-    inr (said, spells, h said represented before.organisers have.organisers)
+    inr (said, spells, goes_to message said false represented to, h said represented before.organisers have.organisers)
 
 -- their books are as before, and so is the box
 pub kept_on : (old new : Books) → KeepBooks old.organisers.organisers.items new.organisers.organisers.items → new.rooms ≡ old.rooms → KeepAll old new

@@ -20,6 +20,7 @@ use Rattle.organiser_books.specs.Representation.{Keeps, address_of}
 use Rattle.organiser_books.specs.declared.organiser.Organiser.{Organiser}
 use Rattle.organiser_books.specs.declared.outgoing.Outgoing.{Outgoing}
 use Rattle.profile.specs.events.Messages as profile
+use Rattle.profile.specs.events.EventComponents as events
 use Rattle.profile.specs.events.EventComponents.{Method}
 use Rattle.profile.specs.organisers.Organisers.{OrganiserBook, Sent, IsStore, StateFault, after_reply, empty_organiser}
 use Rattle.profile.specs.streams.Streams.{HostedOrganiser, IsTaken, TakesObject, not_hosted, in_state, ServesMethod}
@@ -29,47 +30,47 @@ use Rattle.sched_box.specs.Organising.{AreKeptBy, IsKeptBy, KeepBooks, KeepsBook
 -- ---- one organiser, by the call for what is asked
 
 -- what is taken by that call
-served : (operation : Operation) (moment : ℤ) (address : List ℕ) (said : profile.OrganiserObject) (book after : OrganiserBook) (octets : List ℕ) → said.method ≡ operation
-    → MayTake operation address said book → ServesMethod operation moment said book after octets → TakesObject moment said book after octets
-served operation moment address said book after octets kind may serves = record {
+served : (method : Method) (moment : ℤ) (address : List ℕ) (said : profile.Message) (book after : OrganiserBook) (octets : List ℕ) → said.method ≡ method
+    → MayTake method address said book → ServesMethod method moment said book after octets → TakesObject moment said book after octets
+served method moment address said book after octets kind may serves = record {
   allowed = may.allowed;
   serves = subst (λ o. ServesMethod o moment said book after octets) (sym kind) serves;
 }
 
 -- what is refused by it
-call_fault : (operation : Operation) (address : List ℕ) (said : profile.OrganiserObject) (book : OrganiserBook) (n : ℕ) → said.method ≡ operation → said.organiser ≡ address
-    → CallFault operation address said book n → StateFault said book n
-call_fault operation address said book n kind to (other_kind no') = absurd (no' kind)
-call_fault operation address said book n kind to (other_organiser same no') = absurd (no' to)
-call_fault operation address said book n kind to (call_in_state is own fault) = fault
+call_fault : (method : Method) (address : List ℕ) (said : profile.Message) (book : OrganiserBook) (n : ℕ) → said.method ≡ method → said.organiser ≡ address
+    → CallFault method address said book n → StateFault said book n
+call_fault method address said book n kind to (other_kind no') = absurd (no' kind)
+call_fault method address said book n kind to (other_organiser same no') = absurd (no' to)
+call_fault method address said book n kind to (call_in_state is own fault) = fault
 
-pub refused_by : (operation : Operation) (object : Message) (organiser : Organiser) (f : Fault) → method_said object.operation ≡ operation
-    → RefusesBy (λ n. (said : profile.OrganiserObject) → RepresentsMessage object said → (book : OrganiserBook) → Keeps organiser book → CallFault operation (address_of organiser) said book n) f
+pub refused_by : (method : Method) (object : Message) (organiser : Organiser) (f : Fault) → method_said object.method ≡ method
+    → RefusesBy (λ n. (said : profile.Message) → RepresentsMessage object said → (book : OrganiserBook) → Keeps organiser book → CallFault method (address_of organiser) said book n) f
     → RefusesBy (OrganiserRefuses object organiser) f
-refused_by operation object organiser Memory kind h = tt
-refused_by operation object organiser (Refused r) kind h =
-    λ said represented to book keeps. call_fault operation (address_of organiser) said book r.number (sym represented.operation ∙ kind) to (h said represented book keeps)
+refused_by method object organiser Memory kind h = tt
+refused_by method object organiser (Refused r) kind h =
+    λ said represented to book keeps. call_fault method (address_of organiser) said book r.number (sym represented.method ∙ kind) to (h said represented book keeps)
 
-pub store_takes : (moment : ℤ) (object : Message) (old new : Organiser) (sent : List Outgoing) → method_said object.operation ≡ profile.Store
-    → ((said : profile.OrganiserObject) → RepresentsMessage object said → (book : OrganiserBook) → Keeps old book
-    → MayTake profile.Store (address_of old) said book × ((after : OrganiserBook) × IsStore moment said book (map sent_of sent) after × Keeps new after))
+pub store_takes : (moment : ℤ) (object : Message) (old new : Organiser) (sent : List Outgoing) → method_said object.method ≡ events.Store
+    → ((said : profile.Message) → RepresentsMessage object said → (book : OrganiserBook) → Keeps old book
+    → MayTake events.Store (address_of old) said book × ((after : OrganiserBook) × IsStore moment said book (map sent_of sent) after × Keeps new after))
     → OrganiserTakes moment object old new (flat_map (λ one. one.octets.items) sent)
 store_takes moment object old new sent kind steps said represented to book keeps =
     let (may, (after, store, has)) = steps said represented book keeps in
-    (after, has, served profile.Store moment (address_of old) said book after _ (sym represented.operation ∙ kind) may (map sent_of sent, store, sym (flat_map-map (λ (one : Sent). one.octets) sent_of sent)))
+    (after, has, served events.Store moment (address_of old) said book after _ (sym represented.method ∙ kind) may (map sent_of sent, store, sym (flat_map-map (λ (one : Sent). one.octets) sent_of sent)))
 
-pub reply_takes : (moment : ℤ) (object : Message) (old new : Organiser) → method_said object.operation ≡ profile.Reply
-    → ((said : profile.OrganiserObject) → RepresentsMessage object said → (book : OrganiserBook) → Keeps old book
-    → MayTake profile.Reply (address_of old) said book × Keeps new (after_reply said book))
+pub reply_takes : (moment : ℤ) (object : Message) (old new : Organiser) → method_said object.method ≡ events.Reply
+    → ((said : profile.Message) → RepresentsMessage object said → (book : OrganiserBook) → Keeps old book
+    → MayTake events.Reply (address_of old) said book × Keeps new (after_reply said book))
     → OrganiserTakes moment object old new []
 reply_takes moment object old new kind steps said represented to book keeps =
     let (may, has) = steps said represented book keeps in
-    (after_reply said book, has, served profile.Reply moment (address_of old) said book (after_reply said book) [] (sym represented.operation ∙ kind) may (refl, refl))
+    (after_reply said book, has, served events.Reply moment (address_of old) said book (after_reply said book) [] (sym represented.method ∙ kind) may (refl, refl))
 
 -- nothing is appended for it
-pub reply_answers : {A E : Type 0} (r : Result A E) (moment : ℤ) (object : Message) (old new : Organiser) (answers : List ℕ) → method_said object.operation ≡ profile.Reply
-    → IfOk r (λ _. (said : profile.OrganiserObject) → RepresentsMessage object said → (book : OrganiserBook) → Keeps old book
-    → MayTake profile.Reply (address_of old) said book × Keeps new (after_reply said book))
+pub reply_answers : {A E : Type 0} (r : Result A E) (moment : ℤ) (object : Message) (old new : Organiser) (answers : List ℕ) → method_said object.method ≡ events.Reply
+    → IfOk r (λ _. (said : profile.Message) → RepresentsMessage object said → (book : OrganiserBook) → Keeps old book
+    → MayTake events.Reply (address_of old) said book × Keeps new (after_reply said book))
     → OnOk r ((more : List ℕ) × (answers ≡ answers ++ more) × OrganiserTakes moment object old new more)
 reply_answers (Ok u) moment object old new answers kind steps = ([], sym (append-nil answers), reply_takes moment object old new kind steps)
 reply_answers (Err f) moment object old new answers kind steps = tt
@@ -80,13 +81,13 @@ reply_keeps (Ok u) old new answers keeps = tt
 reply_keeps (Err Memory) old new answers keeps = tt
 reply_keeps (Err (Refused x)) old new answers keeps = (keeps, refl)
 
-pub refresh_takes : (moment : ℤ) (object : Message) (organiser : Organiser) (octets : List ℕ) → method_said object.operation ≡ profile.Refresh
-    → ((said : profile.OrganiserObject) → RepresentsMessage object said → (book : OrganiserBook) → Keeps organiser book
-    → MayTake profile.Refresh (address_of organiser) said book × AnswersRefresh said book octets)
+pub refresh_takes : (moment : ℤ) (object : Message) (organiser : Organiser) (octets : List ℕ) → method_said object.method ≡ events.Refresh
+    → ((said : profile.Message) → RepresentsMessage object said → (book : OrganiserBook) → Keeps organiser book
+    → MayTake events.Refresh (address_of organiser) said book × AnswersRefresh said book octets)
     → OrganiserTakes moment object organiser organiser octets
 refresh_takes moment object organiser octets kind steps said represented to book keeps =
     let (may, (stored, last, is)) = steps said represented book keeps in
-    (book, keeps, served profile.Refresh moment (address_of organiser) said book book octets (sym represented.operation ∙ kind) may (stored, last, refl, is))
+    (book, keeps, served events.Refresh moment (address_of organiser) said book book octets (sym represented.method ∙ kind) may (stored, last, refl, is))
 
 -- ---- the one in its place
 
@@ -102,7 +103,7 @@ named_at [] place d a within is = absurd (omega arith)
 named_at (o ∷ os) zero d a within is = is
 named_at (o ∷ os) (suc place) d a within is = named_at os place d a (omega arith) is
 
-take_in : (moment : ℤ) (said : profile.OrganiserObject) (olds : List Organiser) (place : ℕ) (d new : Organiser) (octets : List ℕ) → place < length olds
+take_in : (moment : ℤ) (said : profile.Message) (olds : List Organiser) (place : ℕ) (d new : Organiser) (octets : List ℕ) → place < length olds
     → said.organiser ≡ address_of (get_or olds place d) → address_of new ≡ address_of (get_or olds place d)
     → ((book : OrganiserBook) → Keeps (get_or olds place d) book → (after : OrganiserBook) × Keeps new after × TakesObject moment said book after octets)
     → (before : List HostedOrganiser) → AreKeptBy olds before → (after : List HostedOrganiser) × AreKeptBy (set olds place new) after × IsTaken moment said before after octets
@@ -134,7 +135,7 @@ take_in moment said (o ∷ os) (suc place) d new octets within to same takes (b 
 abbrev pub IsNamed : Message → List Organiser → ℕ → Type 0
 IsNamed object olds place = get_or (organiser_addresses olds) place [] ≡ address_octets object.organiser
 
-named : (object : Message) (said : profile.OrganiserObject) (olds : List Organiser) (place : ℕ) (d : Organiser) → place < length olds → IsNamed object olds place → RepresentsMessage object said
+named : (object : Message) (said : profile.Message) (olds : List Organiser) (place : ℕ) (d : Organiser) → place < length olds → IsNamed object olds place → RepresentsMessage object said
     → said.organiser ≡ address_of (get_or olds place d)
 named object said olds place d within is represented = sym (named_at olds place d said.organiser within (is ∙ represented.organiser))
 
@@ -144,7 +145,7 @@ taken_at moment object olds place d new octets within is same takes said represe
     let to = named object said olds place d within is represented in
     take_in moment said olds place d new octets within to same (takes said represented to) before have
 
-fault_in : (said : profile.OrganiserObject) (n : ℕ) (olds : List Organiser) (place : ℕ) (d : Organiser) → place < length olds → said.organiser ≡ address_of (get_or olds place d)
+fault_in : (said : profile.Message) (n : ℕ) (olds : List Organiser) (place : ℕ) (d : Organiser) → place < length olds → said.organiser ≡ address_of (get_or olds place d)
     → ((book : OrganiserBook) → Keeps (get_or olds place d) book → StateFault said book n) → (before : List HostedOrganiser) → AreKeptBy olds before
     → (host : HostedOrganiser) × Contains before host × (host.address ≡ said.organiser) × StateFault said host.book n
 fault_in said n [] place d within to fault before have = absurd (omega arith)
@@ -179,7 +180,7 @@ untrue : (b : Bool) → (b ≡ true → ⊥) → b ≡ false
 untrue true never = absurd (never refl)
 untrue false never = refl
 
-none_named : (said : profile.OrganiserObject) (a : List ℕ) (olds : List Organiser) (before : List HostedOrganiser) → a ≡ said.organiser → list_any (bytes_eq a) (organiser_addresses olds) ≡ false
+none_named : (said : profile.Message) (a : List ℕ) (olds : List Organiser) (before : List HostedOrganiser) → a ≡ said.organiser → list_any (bytes_eq a) (organiser_addresses olds) ≡ false
     → AreKeptBy olds before → list_any (λ host. bytes_eq host.address said.organiser) before ≡ false
 none_named said a [] [] to none have = refl
 none_named said a [] (b ∷ bs) to none have = absurd have

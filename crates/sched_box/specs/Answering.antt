@@ -4,7 +4,7 @@ use Rattle.std.specs.List.{AllZip}
 use Rattle.ical_values.specs.Octets.{address_octets}
 use Rattle.itip_messages.specs.Message.{RepresentsMessage}
 use Rattle.itip_messages.specs.declared.message.Message.{Message}
-use Rattle.profile.specs.rooms.Messages as profile
+use Rattle.profile.specs.events.Messages as profile
 use Rattle.profile.specs.streams.Streams.{Hosted, Takes}
 use Rattle.room_books.specs.Room.{Represents}
 use Rattle.room_books.specs.declared.room.Room.{Room}

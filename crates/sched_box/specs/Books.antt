@@ -24,7 +24,7 @@ KeepAll old new = (box : Box) → AreBooksOf old box → AreBooksOf new box
 abbrev pub TakesKept : ℤ → List ℕ → Books → Books → List ℕ → Type 0
 TakesKept moment kept old new octets =
     (object : List ℕ) → kept ≡ kept_of object → (before : Box) → AreBooksOf old before
-    → (after : Box) × AreBooksOf new after × ((said : Said) × Spells object said × Steps moment said before after octets)
+    → (after : Box) × AreBooksOf new after × ((said : Message) × SpellsMessage object said × Steps moment said before after octets)
 
 -- it is refused with this number
 abbrev pub RefusesKept : List ℕ → Books → ℕ → Type 0

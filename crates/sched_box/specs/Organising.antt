@@ -27,13 +27,13 @@ AreKeptBy organisers hosted = AllZip IsKeptBy organisers hosted
 -- it takes the object and answers these octets, from whatever it keeps
 abbrev pub OrganiserTakes : ℤ → Message → Organiser → Organiser → List ℕ → Type 0
 OrganiserTakes moment object old new octets =
-    (said : profile.OrganiserObject) → RepresentsMessage object said → said.organiser ≡ address_of old → (book : OrganiserBook) → Keeps old book
+    (said : profile.Message) → RepresentsMessage object said → said.organiser ≡ address_of old → (book : OrganiserBook) → Keeps old book
     → (after : OrganiserBook) × Keeps new after × TakesObject moment said book after octets
 
 -- it refuses the object with this number
 abbrev pub OrganiserRefuses : Message → Organiser → ℕ → Type 0
 OrganiserRefuses object organiser n =
-    (said : profile.OrganiserObject) → RepresentsMessage object said → said.organiser ≡ address_of organiser → (book : OrganiserBook)
+    (said : profile.Message) → RepresentsMessage object said → said.organiser ≡ address_of organiser → (book : OrganiserBook)
     → Keeps organiser book → StateFault said book n
 
 -- what the first keeps, the second does
@@ -45,13 +45,13 @@ KeepsBook old new = (book : OrganiserBook) → Keeps old book → Keeps new book
 -- the one that the object names takes it
 abbrev pub OrganisersTake : ℤ → Message → List Organiser → List Organiser → List ℕ → Type 0
 OrganisersTake moment object olds news octets =
-    (said : profile.OrganiserObject) → RepresentsMessage object said → (before : List HostedOrganiser) → AreKeptBy olds before
+    (said : profile.Message) → RepresentsMessage object said → (before : List HostedOrganiser) → AreKeptBy olds before
     → (after : List HostedOrganiser) × AreKeptBy news after × IsTaken moment said before after octets
 
 -- it isn't among them, or refuses the object with this number
 abbrev pub OrganisersRefuse : Message → List Organiser → ℕ → Type 0
 OrganisersRefuse object organisers n =
-    (said : profile.OrganiserObject) → RepresentsMessage object said → (before : List HostedOrganiser) → AreKeptBy organisers before
+    (said : profile.Message) → RepresentsMessage object said → (before : List HostedOrganiser) → AreKeptBy organisers before
     → HostFault said before n
 
 abbrev pub KeepBooks : List Organiser → List Organiser → Type 0

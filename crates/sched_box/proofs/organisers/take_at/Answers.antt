@@ -17,8 +17,8 @@ returns-clause-takes c =
     let (more, is, takes) = t in (
       more,
       is,
-      taken_at c.args.now c.args.object c.args.organisers.now.items c.args.place d new more c.requires.within c.requires.named
-          (c.take_object.ensures.address ∙ ap address_of c.index_mut.ensures.value) (subst (λ (o : Organiser). OrganiserTakes c.args.now c.args.object o new more) c.index_mut.ensures.value takes),
+      taken_at c.args.now c.args.object.now c.args.organisers.now.items c.args.place d new more c.requires.within c.requires.named
+          (c.take_object.ensures.address ∙ ap address_of c.index_mut.ensures.value) (subst (λ (o : Organiser). OrganiserTakes c.args.now c.args.object.now o new more) c.index_mut.ensures.value takes),
     ))
     c.take_object.ensures.takes
 
@@ -26,7 +26,7 @@ pub returns-clause-fault : goal.returns-clause-fault
 returns-clause-fault c =
     let d = c.index_mut.result.now in
     IfErr-weaker c.take_object.result _ _
-    (λ f h. refused_at c.args.object c.args.organisers.now.items c.args.place d f c.requires.within c.requires.named (subst (λ (o : Organiser). RefusesBy (OrganiserRefuses c.args.object o) f) c.index_mut.ensures.value h))
+    (λ f h. refused_at c.args.object.now c.args.organisers.now.items c.args.place d f c.requires.within c.requires.named (subst (λ (o : Organiser). RefusesBy (OrganiserRefuses c.args.object.now o) f) c.index_mut.ensures.value h))
     c.take_object.ensures.fault
 
 pub returns-clause-keeps : goal.returns-clause-keeps

@@ -10,9 +10,9 @@ returns-in_err-message-clause-fault c =
     let p = err_from_is_err_and c.from_residual.result c.from_residual.ensures.1 in
     rw (p.1, p.2) (unread c.args.octets.now c.args.self.now c.in_err-message.field-0.0 c.in_err-message.ensures.fault)
 
-pub returns-in_ok-take-in-ToRooms-clause-takes : goal.returns-in_ok-take-in-ToRooms-clause-takes
-returns-in_ok-take-in-ToRooms-clause-takes c =
-    let (more, is, takes) = c.in_ok-take-in-ToRooms.ensures.takes in
+pub returns-in_ok-take-clause-takes : goal.returns-in_ok-take-clause-takes
+returns-in_ok-take-clause-takes c =
+    let (more, is, takes) = c.in_ok-take.ensures.takes in
     let spelled = λ (object : List ℕ) (kept : c.args.octets.now ≡ kept_of object). subst (IsSpelled object) c.in-ToRooms.is (c.in_ok-message.ensures.spells object kept) in
     (more, is, rooms_taken c.args.now c.args.octets.now c.in-ToRooms.message c.args.self.now _ more spelled takes refl)
 

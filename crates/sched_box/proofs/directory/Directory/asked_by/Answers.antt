@@ -1,15 +1,14 @@
 use Rattle.std.proofs.Common.{◌≡◌, ◌∙◌, ◌<◌, ◌≤◌, ◌&&◌, ◌==◌, List, false, sym, ap, subst, length, get_or, take_all, rules}
 use Rattle.std.specs.Vec.{vec_len}
 use Rattle.std.proofs.Math.Bool.{and-false}
-use Rattle.std.proofs.lemmas.Bool.{true≢false}
 use Rattle.itip_messages.specs.Message.{cancels_for_all}
 use Rattle.cal_events.specs.Component.{method_said}
 use Rattle.profile.specs.rooms.Messages.{is_cancel}
 use Rattle.itip_messages.specs.declared.message_component.MessageComponent.{MessageComponent}
 use Rattle.sched_box.specs.Asked.{LeavesOut, directory_addresses}
-use Rattle.sched_box.proofs.AskedLemmas.{AsksSofar, asks_sofar, asks_more, asks_all, not_cancel}
+use Rattle.sched_box.proofs.AskedLemmas.{AsksSofar, asks_sofar, asks_more, asks_all}
 use Rattle.sched_box.proofs.directory.Directory.asked_by.Goals as goal
-use Rattle.sched_box.proofs.directory.Directory.asked_by.Goals.{in-Cancel, in_default, then-cancels+then-names_nobody, else-cancels, else-cancels-via-then-cancels+else-names_nobody, else-cancels-via-else-cancels}
+use Rattle.sched_box.proofs.directory.Directory.asked_by.Goals.{then-cancels+then-names_nobody, else-cancels, else-cancels-via-then-cancels+else-names_nobody, else-cancels-via-else-cancels}
 
 pub loop-component-preserved : goal.loop-component-preserved
 loop-component-preserved c =
@@ -29,16 +28,13 @@ loop-component-preserved c =
           asks_all message addresses i (vec_len c.loop-component.asked) c.lines.result.now c.if-cancels.asked.items new filled
           (c.mark.ensures.long ∙ ap (λ v. length v.items) w.asked-is ∙ long ∙ c.loop-component.invariant.long) c.mark.ensures.marks
       | else-cancels w ↦
-          let more = λ (none : cancels_for_all message x ≡ false). asks_more message addresses i x c.lines.result.now c.if-cancels.asked.items new within is c.lines.ensures none c.mark.ensures.long c.mark.ensures.marks
+          let more = λ (none : cancels_for_all message x ≡ false). asks_more message addresses i x c.lines.result.now c.if-cancels.asked.items new within is (c.lines.ensures ∙ c.attendees.ensures) none c.mark.ensures.long c.mark.ensures.marks
           (subst (λ flags. AsksSofar message addresses i flags) (ap (λ v. v.items) (sym w.asked-is)) c.loop-component.invariant) in
           elim w.else-cancels.branch [
             | else-cancels-via-then-cancels+else-names_nobody v ↦
                 more (ap (λ b. is_cancel (method_said message.method) && b) (sym v.names_nobody.ensures ∙ v.if-names_nobody.false) ∙ and-false (is_cancel (method_said message.method)))
             | else-cancels-via-else-cancels v ↦
-                let none : is_cancel (method_said message.method) ≡ false = elim c.match-matches.branch [
-                  | in-Cancel u ↦ absurd (true≢false (sym u.matches-is ∙ v.if-cancels.false))
-                  | in_default u ↦ not_cancel message.method (λ e. u.in_default.not-Cancel (c.method.ensures ∙ e))
-                ] in
+                let none : is_cancel (method_said message.method) ≡ false = ap (λ m. is_cancel (method_said m)) (sym c.method.ensures) ∙ sym c.is_cancel.ensures ∙ v.if-cancels.false in
                 more (ap (λ b. b && (length x.attendees == 0)) none)
           ]
     ]
