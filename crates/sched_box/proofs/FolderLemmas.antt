@@ -8,7 +8,7 @@ use Rattle.std.proofs.lemmas.Slice.Eq.{bytes_eq-Decides}
 use Rattle.std.specs.Option.{is_none, option_or, unwrap_or}
 use Rattle.std.specs.Result.{is_ok}
 use Rattle.std.specs.Str.{bytes_eq}
-use Rattle.sched_devices.specs.Folder.{IsKept, IsPublished, IsUnpublished}
+use Rattle.sched_devices.specs.Folder.{IsKept}
 use Rattle.sched_devices.specs.declared.folder.FolderFault.{FolderFault}
 use Rattle.sched_devices.specs.declared.folder.FolderFault.TheVariants as folder
 use Rattle.profile.specs.streams.Folders.{AnswersFile, AnswersFiles, AreMessageFiles, AreNames, AreNamesSynced, AreSame, Elapses, File, Image, IsBeginning, LosesNamesAlone, MayBePublished, MessageFile, StopsBetweenFiles, Temporary, count_missing, octets_of, with_files}
@@ -158,18 +158,7 @@ last_differs start answers file equal =
 pub never_failed : {T E : Type 0} (x : T) (e : E) → Ok x ≡ Err e → ⊥
 never_failed x e same = true≢false (ap is_ok same)
 
-abbrev fault_or : {S : Type 0} → FolderFault → Result S FolderFault → FolderFault
-fault_or f (Ok x) = f
-fault_or f (Err e) = e
-
--- a fault of a folder that isn't told as Device wasn't one
-pub not_told : {S T : Type 0} (f : FolderFault) (q : Result S FolderFault) (r : Result T BoxFault) (e : BoxFault) → q ≡ Err f → r ≡ Err e → e ≡ box_fault f → (r ≡ Err Device → ⊥) → q ≡ Err folder.Device → ⊥
-not_told f q r e was is from never failed = never (is ∙ ap Err (from ∙ ap box_fault (ap (fault_or f) (sym was ∙ failed))))
-
--- ---- a folder of which nothing has changed, or a file was published in it
-
-pub kept_first : {F : Type 0} (is_known : F → Bool) (image : F → Image) (temporary : F → Temporary) (may_leave : F → Image → Type 0) (a : F) → IsKept is_known image temporary may_leave a a
-kept_first is_known image temporary may_leave a = record { known = refl; same = refl; temporary_is = refl; stop = λ left may. may }
+-- ---- a folder of which nothing has changed
 
 pub kept_on : {F : Type 0} (is_known : F → Bool) (image : F → Image) (temporary : F → Temporary) (may_leave : F → Image → Type 0) (a b c : F)
     → IsKept is_known image temporary may_leave a b → IsKept is_known image temporary may_leave b c → IsKept is_known image temporary may_leave a c
@@ -179,47 +168,6 @@ kept_on is_known image temporary may_leave a b c one two = record {
   temporary_is = two.temporary_is ∙ one.temporary_is;
   stop = λ left may. one.stop left (two.stop left may);
 }
-
--- a stop still takes names away and changes no file that it leaves
-pub loses_kept : (held new : Image) (before after : Image → Type 0) → LosesNamesAlone held before → AreSame new held → ((left : Image) → after left → before left) → LosesNamesAlone new after
-loses_kept held new before after loses same stop left may name = elim (loses left (stop left may) name) [ inl none ↦ inl none | inr is ↦ inr (is ∙ sym (same name)) ]
-
-loses_published : (held new : Image) (before after : Image → Type 0) (t : Temporary) (name : List ℕ) → LosesNamesAlone held before → t.is_synced ≡ true → MayBePublished t name before after
-    → IsPublished held new name t → LosesNamesAlone new after
-loses_published held new before after t name loses synced stop p left may n = at (stop left may)
-  where
-    file : File
-    file = record { name = name; octets = t.octets }
-
-    some : (o m : Option (List ℕ)) (l w : Option (List ℕ)) → w ≡ option_or o m → (l ≡ None) ⊎ (l ≡ o) → (l ≡ None) ⊎ (l ≡ w)
-    some o m l w is (inl none) = inl none
-    some None m l w is (inr same) = inl same
-    some (Some x) m l w is (inr same) = inr (same ∙ sym is)
-
-    -- what is under this name now, and nothing else was there before
-    named : (b : Bool) (o e l w : Option (List ℕ)) → (b ≡ true → o ≡ None) → w ≡ option_or o (if b then Some t.octets else None) → l ≡ option_or e (if b then Some t.octets else None)
-        → (e ≡ None) ⊎ (e ≡ o) → (l ≡ None) ⊎ (l ≡ w)
-    named true None None l w free is left_is so = inr (left_is ∙ sym is)
-    named true None (Some x) l w free is left_is so = absurd (elim so [ inl none ↦ cc | inr none ↦ cc ])
-    named true (Some x) e l w free is left_is so = absurd (let none = free refl in cc)
-    named false o None l w free is left_is so = inl left_is
-    named false None (Some x) l w free is left_is so = absurd (elim so [ inl none ↦ cc | inr none ↦ cc ])
-    named false (Some y) (Some x) l w free is left_is so = elim so [ inl none ↦ absurd (cc) | inr same ↦ inr (left_is ∙ same ∙ sym is) ]
-
-    at : ((earlier : Image) × before earlier × (AreSame left earlier ⊎ ((octets : List ℕ) × (t.is_synced ≡ true → octets ≡ t.octets)
-        × AreSame left (with_files earlier (record { name = name; octets = octets } ∷ []))))) → (left n ≡ None) ⊎ (left n ≡ new n)
-    at (earlier, was, inl same) =
-        some (held n) (octets_of n (file ∷ [])) (left n) (new n) (p.added n) (elim (loses earlier was n) [ inl none ↦ inl (same n ∙ none) | inr is ↦ inr (same n ∙ is) ])
-    at (earlier, was, inr (octets, are, gained)) =
-        let P : List ℕ → Type 0 = λ o. AreSame left (with_files earlier (record { name = name; octets = o } ∷ [])) in
-        let free : bytes_eq name n ≡ true → held n ≡ None = λ e. ap held (sym ((bytes_eq-Decides name n).0 e)) ∙ p.free in
-        named (bytes_eq name n) (held n) (earlier n) (left n) (new n) free (p.added n) (subst P (are synced) gained n) (loses earlier was n)
-
--- whether the call gave the temporary its name or not
-pub loses_whole : (held new : Image) (before after : Image → Type 0) (t : Temporary) (name : List ℕ) → LosesNamesAlone held before → t.is_synced ≡ true → MayBePublished t name before after
-    → IsUnpublished held new before after ⊎ IsPublished held new name t → LosesNamesAlone new after
-loses_whole held new before after t name loses synced stop (inl u) = loses_kept held new before after loses u.same u.stop
-loses_whole held new before after t name loses synced stop (inr p) = loses_published held new before after t name loses synced stop p
 
 -- ---- time
 

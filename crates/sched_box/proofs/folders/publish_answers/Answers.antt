@@ -1,4 +1,4 @@
-use Rattle.sched_box.proofs.FolderLemmas.{goes_published, loses_whole}
+use Rattle.sched_box.proofs.FolderLemmas.{goes_published}
 use Rattle.sched_box.proofs.folders.publish_answers.Goals as goal
 
 pub returns-in_err-publish-clause-time : goal.returns-in_err-publish-clause-time
