@@ -1,18 +1,20 @@
 -- What an outbox holds and may lose, while the answers to one file after another are published in it.
-use Rattle.std.proofs.Common.{◌≡◌, ◌≢◌, ◌∙◌, inl, inr, ℕ, suc, ◌+◌, ◌<◌, Bool, true, false, if◌then◌else◌, List, [], ◌∷◌, ◌++◌, length, get_or, take, drop, map, Contains, Option, Some, None, IsNone, Result, Ok, Err, refl, sym, ap, subst, arith}
+use Rattle.std.proofs.Common.{◌≡◌, ◌≢◌, ◌⊎◌, ◌∙◌, inl, inr, ℕ, suc, ◌+◌, ◌-◌, ◌<◌, ◌≤◌, Bool, true, false, if◌then◌else◌, List, [], ◌∷◌, ◌++◌, length, get_or, take, drop, map, Contains, Option, Some, None, IsNone, Result, Ok, Err, refl, sym, ap, subst, arith, true≢false}
 use Rattle.std.proofs.Math.Seq.{take-append_seam, take-length}
 use Rattle.std.proofs.lemmas.Bool.{cases_lt}
 use Rattle.std.proofs.lemmas.List.{get_or-take, length-append, length-take, map-append, append-nil, take-append-le, take-append-drop, take_all}
-use Rattle.std.proofs.lemmas.List.Elements.{Contains-push_cases, at_from_Contains}
+use Rattle.std.proofs.lemmas.List.Elements.{Contains-append_left, Contains-push_cases, at_from_Contains}
 use Rattle.std.proofs.lemmas.Slice.Eq.{bytes_eq-Decides}
-use Rattle.std.specs.Option.{is_none, option_or}
+use Rattle.std.specs.Option.{is_none, option_or, unwrap_or}
+use Rattle.std.specs.Result.{is_ok}
 use Rattle.std.specs.Str.{bytes_eq}
+use Rattle.sched_devices.specs.Folder.{IsKept}
 use Rattle.sched_devices.specs.declared.folder.FolderFault.{FolderFault}
 use Rattle.sched_devices.specs.declared.folder.FolderFault.TheVariants as folder
-use Rattle.profile.specs.streams.Folders.{AnswersFile, AnswersFiles, AreMessageFiles, AreNames, AreNamesSynced, AreSame, Elapses, File, Image, IsBeginning, LosesNamesAlone, MessageFile, StopsBetweenFiles, count_missing, octets_of, with_files}
+use Rattle.profile.specs.streams.Folders.{AnswersFile, AnswersFiles, AreMessageFiles, AreNames, AreNamesSynced, AreSame, Elapses, File, Image, IsBeginning, LosesNamesAlone, MayBePublished, MessageFile, StopsBetweenFiles, Temporary, count_missing, octets_of, with_files}
 use Rattle.profile.specs.streams.Streams.{Box, Config as SaidConfig, new_box}
 use Rattle.sched_box.specs.Books.{AreBooksOf}
-use Rattle.sched_box.specs.Boxes.{IsBreak, IsNoDifference, Outbox, Runs}
+use Rattle.sched_box.specs.Boxes.{AreEqual, IsBreak, IsNoDifference, NoneDiffers, Outbox, Runs}
 use Rattle.sched_box.specs.Running.{AnswersMessage, AnswersSofar, AreApart, Course, GoesOn, HasAnswered, HasEnded, IsGained, IsWhole, LeavesHeld, MayGain, RunsOver, Settles, Stands, answers_name, box_fault, file_of}
 use Rattle.sched_box.specs.declared.books.Books.{Books}
 use Rattle.sched_box.specs.declared.file_names.MessageName.{MessageName}
@@ -129,6 +131,44 @@ leaves_gained now new file before after leaves g left may name = let (gain, none
     at (earlier, old, inl unchanged) none = same (left name) (now name) (new name) (octets_of name (file ∷ [])) (unchanged name ∙ leaves earlier old name) (g.added name) none
     at (earlier, old, inr gained) none = gained name ∙ with_same earlier now (file ∷ []) (leaves earlier old) name ∙ sym (g.added name)
 
+-- ---- answers that the outbox held already
+
+same_octets : (a b : List ℕ) → Some a ≡ Some b → a ≡ b
+same_octets a b e = ap (λ o. unwrap_or o []) e
+
+-- what the outbox held under their names are the answers, as it holds them now
+all_equal : (start now : Image) (answers : List File) → AreSame now (with_files start answers) → ((answer : File) → Contains answers answer → now answer.name ≡ Some answer.octets) → AreEqual start answers
+all_equal start now answers held equal answer among octets was =
+    same_octets octets answer.octets (sym (held answer.name ∙ ap (λ o. option_or o (octets_of answer.name answers)) was) ∙ equal answer among)
+
+-- the first of them too
+first_equal : (start : Image) (answers : List File) (count : ℕ) → AreEqual start answers → AreEqual start (take count answers)
+first_equal start answers count equal answer among =
+    let P : List File → Type 0 = λ l. Contains l answer in
+    equal answer (subst P (take-append-drop count answers) (Contains-append_left (take count answers) (drop count answers) answer among))
+
+-- whatever the last one is
+last_differs : (start : Image) (answers : List File) (file : File) → AreEqual start answers → NoneDiffers start (answers ++ file ∷ [])
+last_differs start answers file equal =
+    let few : length (answers ++ file ∷ []) - 1 ≡ length answers = omega (arith, length-append answers (file ∷ [])) in
+    subst (AreEqual start) (sym (ap (λ n. take n (answers ++ file ∷ [])) few ∙ take-append_seam answers (file ∷ []))) equal
+
+-- ---- what isn't said to have failed
+
+pub never_failed : {T E : Type 0} (x : T) (e : E) → Ok x ≡ Err e → ⊥
+never_failed x e same = true≢false (ap is_ok same)
+
+-- ---- a folder of which nothing has changed
+
+pub kept_on : {F : Type 0} (is_known : F → Bool) (image : F → Image) (temporary : F → Temporary) (may_leave : F → Image → Type 0) (a b c : F)
+    → IsKept is_known image temporary may_leave a b → IsKept is_known image temporary may_leave b c → IsKept is_known image temporary may_leave a c
+kept_on is_known image temporary may_leave a b c one two = record {
+  known = two.known ∙ one.known;
+  same = two.same ∙ one.same;
+  temporary_is = two.temporary_is ∙ one.temporary_is;
+  stop = λ left may. one.stop left (two.stop left may);
+}
+
 -- ---- time
 
 pub goes_none : (m : ℕ) (past : ℕ → Image → Type 0) (May : Image → Type 0) → GoesOn m m past past May
@@ -158,6 +198,32 @@ goes_on a b c past mid since May Might Both one two into onto =
           ];
       keeps = λ moment left s before. two.keeps moment left (omega arith) (one.keeps moment left s before);
     }
+
+-- a call that takes time: a stop during it leaves what it may leave then
+goes_elapsed : (b c : ℕ) (mid since : ℕ → Image → Type 0) (may_leave : Image → Type 0) → Elapses b c mid since may_leave → ((moment : ℕ) (left : Image) → moment ≤ c → may_leave left → since moment left)
+    → GoesOn b c mid since may_leave
+goes_elapsed b c mid since may_leave call counts =
+    let later = call.later in
+    record {
+      later = call.later;
+      between = λ first synced left f s after. elim (call.nothing_else first left (omega arith) after) [ inl past ↦ inl past | inr may ↦ inr (counts synced left (omega arith) may) ];
+      leaves = λ synced left s after. call.nothing_else synced left s after;
+      keeps = call.keeps;
+    }
+
+-- the temporary was written and synced, and then it was given a name, or the call failed
+pub goes_published : (a b c : ℕ) (past mid since : ℕ → Image → Type 0) (ml0 ml1 ml2 : Image → Type 0) (t : Temporary) (name octets : List ℕ) → GoesOn a b past mid ml0 → ((left : Image) → ml1 left → ml0 left)
+    → t.is_synced ≡ true → t.octets ≡ octets → MayBePublished t name ml1 ml2 → Elapses b c mid since ml2 → ((moment : ℕ) (left : Image) → moment ≤ c → ml2 left → since moment left)
+    → GoesOn a c past since (MayGain (record { name = name; octets = octets }) ml0)
+goes_published a b c past mid since ml0 ml1 ml2 t name octets one fewer synced is stop call counts =
+    goes_on a b c past mid since ml0 ml2 (MayGain (record { name = name; octets = octets }) ml0) one (goes_elapsed b c mid since ml2 call counts) (λ left may. (left, may, inl (λ n. refl))) (λ left may. at left (stop left may))
+  where
+    at : (left : Image) → ((earlier : Image) × ml1 earlier × (AreSame left earlier ⊎ ((o : List ℕ) × (t.is_synced ≡ true → o ≡ t.octets)
+        × AreSame left (with_files earlier (record { name = name; octets = o } ∷ []))))) → MayGain (record { name = name; octets = octets }) ml0 left
+    at left (earlier, was, inl same) = (earlier, fewer earlier was, inl same)
+    at left (earlier, was, inr (o, are, gained)) =
+        let P : List ℕ → Type 0 = λ z. AreSame left (with_files earlier (record { name = name; octets = z } ∷ [])) in
+        (earlier, fewer earlier was, inr (subst P (are synced ∙ is) gained))
 
 -- ---- so far
 
@@ -283,13 +349,16 @@ module _ (course : Course) (names : List MessageName) (name : MessageName) (news
   whole_left (inl same) = begins_more course.start new so.answers (answers_file name octets) (whole_beginning course.start new so.answers (λ n. same n ∙ so.held n))
   whole_left (inr gained) = whole_beginning course.start new (so.answers ++ answers_file name octets ∷ []) (gained_held course.start now new so.answers (answers_file name octets) so.held gained)
 
+  none_before : NoneDiffers course.start (so.answers ++ answers_file name octets ∷ [])
+  none_before = last_differs course.start so.answers (answers_file name octets) (all_equal course.start now so.answers so.held so.equal)
+
   pub settled_last : (fault : BoxFault) → (course.known ≡ true → AnswersMessage course.inbox name news newer octets) → (all : List MessageName) (count : ℕ) → take count all ≡ names ++ name ∷ []
       → Settles (answers_file name octets) now new before after (Err fault) → HasEnded course all new last exact past since fault
-  settled_last Device one all count front s = broken_more Device one all count front (whole_left s) tt
-  settled_last Memory one all count front s = broken_more Memory one all count front (whole_left s) tt
+  settled_last Device one all count front s = broken_more Device one all count front (whole_left s) none_before
+  settled_last Memory one all count front s = broken_more Memory one all count front (whole_left s) none_before
   settled_last (Differs n) one all count front s =
       broken_more (Differs n) one all count front (whole_left (inl (λ m. ap (λ (i : Image). i m) s.same)))
-      (record { earlier = so.answers; answer = answers_file name octets; octets = s.octets; is = refl; named = s.named; held = ap course.start (sym s.named) ∙ sym first_image ∙ s.held; other = s.other })
+      (record { earlier = so.answers; answer = answers_file name octets; octets = s.octets; is = refl; named = s.named; held = ap course.start (sym s.named) ∙ sym first_image ∙ s.held; other = s.other }, none_before)
 
 -- the run ends before the next message is answered
 pub ended_between : (course : Course) (all : List MessageName) (count : ℕ) (names : List MessageName) (news : Books) (now : Image) (last : ℕ) (exact : Type 0) (past since : ℕ → Image → Type 0) (may_leave : Image → Type 0) (report : BoxReport) (fault : BoxFault)
@@ -306,9 +375,12 @@ ended_between course all count names news now last exact past since may_leave re
       (box, subst P (sym front) all_answered);
 }
   where
+    equal : NoneDiffers course.start so.answers
+    equal = first_equal course.start so.answers _ (all_equal course.start now so.answers so.held so.equal)
+
     at : (f : BoxFault) → IsNoDifference f → IsBreak course.start so.answers f
-    at Device h = tt
-    at Memory h = tt
+    at Device h = equal
+    at Memory h = equal
     at (Differs n) h = absurd h
 
 pub run_ended : (course : Course) (names : List MessageName) (news : Books) (now : Image) (last : ℕ) (exact : Type 0) (past since : ℕ → Image → Type 0) (may_leave : Image → Type 0) (r : Result BoxReport BoxFault) (e fault : BoxFault)

@@ -15,8 +15,8 @@ use Rattle.sched_box.specs.Answering.{AreHosted, IsHosted, room_addresses}
 use Rattle.sched_box.specs.Books.{AnswersKept, AreBooksOf, hosted_rooms}
 use Rattle.sched_box.specs.declared.books.Books.{Books}
 use Rattle.sched_devices.specs.Input.{IsFilledWithin}
-use Rattle.sched_box.specs.Objects.{kept_of, LendsNext, TakesNextObject, ReadsObject, StopsReading}
-use Rattle.sched_box.specs.Serving.{AnswersWhole, Ends, Gives, GivesPart, GivesRead, IsWithin, IsWithinBound, ServesAll, ServesSome, HasRead, ServesUntil, Serves, BooksServe, ServesStream, KeepsTexts, StopsKeeping}
+use Rattle.sched_box.specs.Objects.{kept_of, IsStop, LendsNext, TakesNextObject, ReadsObject, StopsReading}
+use Rattle.sched_box.specs.Serving.{AnswersWhole, Ends, Gives, GivesPart, GivesRead, IsWithin, IsWithinBound, ServesAll, ServesSome, HasRead, ServesUntil, Serves, BooksServe, ServesStream, KeepsTexts, StopsKeeping, StopsWithin}
 use Rattle.std.specs.Str.{bytes_eq}
 use Rattle.std.proofs.lemmas.Slice.Eq.{bytes_eq-Decides}
 use Rattle.std.proofs.lemmas.Bool.{cases_lt}
@@ -325,6 +325,39 @@ pub forgotten_at : (most : ℕ) (moment : ℤ) (olds news : Books) (a b c output
 forgotten_at most moment olds news a b c output written before after report fault so reads is start have =
     let P : ServeFault → Type 0 = ServesUntil most moment start (record { input = a; left = c; output = output; written = written }) in
     subst P (sym is) (forgotten most moment olds news a b c output written written before after report so reads (Keeps-refl written) start have)
+
+-- an object was taken, and memory was refused then: fewer octets were read than may be
+pub bound_forgotten : (most : ℕ) (a b c : Option (List ℕ)) (before after : Objects) (found : Bool) (fault : ServeFault) → HasLeft most a b before.left → ReadsObject b c before after found → fault ≡ Memory
+    → StopsWithin most a c fault
+bound_forgotten most a b c before after found fault read (taken, t, left, more) is =
+    subst (StopsWithin most a c) (sym is) (read_less most a c after.left (read_on most a b c taken before.left after.left read t.consumed left) more)
+
+-- or its answers weren't written whole
+pub bound_unsent : (most : ℕ) (a b c written now : Option (List ℕ)) (failed : Bool) (octets : List ℕ) (before after : Objects) (found : Bool) (fault : ServeFault) → HasLeft most a b before.left
+    → ReadsObject b c before after found → StopsSending written now failed octets fault → StopsWithin most a c fault
+bound_unsent most a b c written now failed octets before after found fault read (taken, t, left, more) sends = at fault sends
+  where
+    within : IsWithin most a c
+    within = read_less most a c after.left (read_on most a b c taken before.left after.left read t.consumed left) more
+
+    at : (f : ServeFault) → StopsSending written now failed octets f → StopsWithin most a c f
+    at Read h = absurd h
+    at Memory h = within
+    at Write h = within
+    at TooLong h = absurd h
+
+-- it ended before the next object did
+pub bound_stopped : (most : ℕ) (a b c : Option (List ℕ)) (before after : Objects) (fault : ServeFault) → HasLeft most a b before.left → StopsReading b c before after fault → StopsWithin most a c fault
+bound_stopped most a b c before after fault read s = at fault s.stop
+  where
+    left : HasLeft most a c after.left
+    left = read_on most a b c s.taken before.left after.left read s.consumed s.left
+
+    at : (f : ServeFault) → IsStop f after.left → StopsWithin most a c f
+    at Read stop = read_less most a c after.left left stop
+    at Memory stop = read_less most a c after.left left stop
+    at TooLong stop = all_read most a c after.left left stop
+    at Write stop = absurd stop
 
 -- the answers to an object from the box so far
 next_answers : (moment : ℤ) (news newer : Books) (number : ℕ) (kept more taken : List ℕ) (one : ℕ) (n : ℕ) → number ≡ n + 1

@@ -1,5 +1,5 @@
 -- What comes of a run of the box over folders that are known.
-use Rattle.std.specs.Prelude.{◌≡◌, ◌<◌, ◌⊎◌, ℕ, List, [], Result, Ok, Err, length, string_bytes}
+use Rattle.std.specs.Prelude.{◌≡◌, ◌<◌, ◌⊎◌, ◌-◌, ℕ, List, [], Some, Result, Ok, Err, Contains, length, take, string_bytes}
 use Rattle.profile.specs.streams.Folders.{AnswersInbox, AreSame, File, Image, IsAnswered, IsBeginning, IsDifferent, StopsBetweenFiles, count_missing}
 use Rattle.profile.specs.streams.Streams.{Config}
 use Rattle.sched_box.specs.declared.folders.BoxFault.{BoxFault}
@@ -25,15 +25,23 @@ IsNoDifference Device = Unit {0}
 IsNoDifference Memory = Unit {0}
 IsNoDifference (Differs name) = ⊥
 
--- it did, and only then, where it says so
+-- where the outbox held something under the name of an answer, it was that answer
+abbrev pub AreEqual : Image → List File → Type 0
+AreEqual start answers = (answer : File) → Contains answers answer → (octets : List ℕ) → start answer.name ≡ Some octets → octets ≡ answer.octets
+
+-- of all but the last: so none was published behind an answer that differs
+abbrev pub NoneDiffers : Image → List File → Type 0
+NoneDiffers start answers = AreEqual start (take (length answers - 1) answers)
+
+-- it did, and only then, where it says so: at the first of the answers that differs
 abbrev pub IsBreak : Image → List File → BoxFault → Type 0
-IsBreak start answers Device = Unit {0}
-IsBreak start answers Memory = Unit {0}
-IsBreak start answers (Differs name) = IsDifferent start answers (string_bytes name)
+IsBreak start answers Device = NoneDiffers start answers
+IsBreak start answers Memory = NoneDiffers start answers
+IsBreak start answers (Differs name) = IsDifferent start answers (string_bytes name) × NoneDiffers start answers
 
 -- What a run leaves: at its end each file of the inbox is answered, and no stop takes an answer away; where it ends before, nothing was published
--- and a stop leaves what it might have left at first, or a beginning of the answers to the first files was. Whenever the machine stopped, it left
--- whole files.
+-- and a stop leaves what it might have left at first, or a beginning of the answers to the first files was, none of them behind an answer that
+-- differs. Whenever the machine stopped, it left whole files.
 abbrev pub Runs : Image → Config → Outbox → (Image → Type 0) → (Image → Type 0) → (ℕ → Image → Type 0) → Result BoxReport BoxFault → Type 0
 Runs inbox hosts outbox may_leave may_leave_now left_since (Ok report) =
     (answers : List File) × AnswersInbox inbox hosts answers []

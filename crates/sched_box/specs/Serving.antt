@@ -55,6 +55,13 @@ IsWithinBound input left = IsWithin 1_073_741_824 input left
 abbrev pub HasRead : ℕ → Option (List ℕ) → Option (List ℕ) → Type 0
 HasRead n input left = IfSome input (λ octets. IfSome left (λ rest. length octets ≡ length rest + n))
 
+-- how a stream ends before its input does: it is too long exactly where this many octets were read
+abbrev pub StopsWithin : ℕ → Option (List ℕ) → Option (List ℕ) → ServeFault → Type 0
+StopsWithin most input left Read = IsWithin most input left
+StopsWithin most input left Memory = IsWithin most input left
+StopsWithin most input left TooLong = HasRead most input left
+StopsWithin most input left Write = IsWithin most input left
+
 -- all objects were taken, of fewer octets than this, and the answers to them written
 pub record ServesAll (most : ℕ) (moment : ℤ) (before after : Box) (ends : Ends) (report : ServeReport) : Type 0 where
   pub objects : List (List ℕ)

@@ -1,6 +1,6 @@
 //! A box of folders: messages come as files of an inbox, and each of them is answered by a file of an outbox.
 
-ghost use Rattle.std.specs.Prelude.{◌≡◌, ◌⊎◌, ◌↔◌, ◌≤◌, ℕ, List, true, false, map, None, Some, IsNone, Contains, IfOk, IfErr, OnOk, OnErr, IsErrOf, IsTrue, string_bytes};
+ghost use Rattle.std.specs.Prelude.{◌≡◌, ◌⊎◌, ◌↔◌, ◌≤◌, ℕ, List, true, false, map, length, None, Some, IsNone, Contains, IfOk, IfErr, OnOk, OnErr, IsErrOf, IsTrue, string_bytes};
 ghost use Rattle.profile.specs.streams.Folders.{AreMessageFiles, AreNames, AreNamesSynced, Elapses, Image, IsMessageFile, LosesNamesAlone};
 ghost use Rattle.sched_devices.specs.Folder.{HasCause, IsKept};
 ghost use Rattle.sched_devices.specs.declared.folder.FolderFault.TheVariants as folder;
@@ -11,6 +11,7 @@ ghost use Rattle.sched_box.specs.declared.folders.BoxFault.TheVariants.{Device, 
 
 use crate::books::Books;
 use crate::config::Config;
+use crate::fault::ServeFault;
 use crate::file_names::MessageName;
 use crate::objects::MOST_OCTETS;
 use crate::serving::serve_objects;
@@ -156,10 +157,10 @@ fn answers_of<I: Folder>(
     requires { I.is_known inbox.old ≡ true → IsMessageFile (I.image inbox.old) (file_of (I.image inbox.old) file.now) }
     ensures answers { IfOk result (λ answers. I.is_known inbox.old ≡ true → AnswersMessage (I.image inbox.old) file.now books.old books.new answers.items) }
     ensures no_difference { IfErr result IsNoDifference }
-    ensures known { I.is_known inbox.new ≡ I.is_known inbox.old }
-    ensures same { I.image inbox.new ≡ I.image inbox.old }
+    ensures kept { IsKept I.is_known I.image I.temporary I.may_leave inbox.old inbox.new }
     ensures later { I.failed inbox.old ≤ I.failed inbox.new }
     ensures cause { IsErrOf result Device → HasRisen (I.failed inbox.old) (I.failed inbox.new) }
+    ensures told { (IsErrOf result Device → ⊥) → I.failed inbox.new ≡ I.failed inbox.old }
 {
     let octets = inbox.read(alloc, file.name())?;
     answers_to(alloc, books, &octets, file.moment())
@@ -172,6 +173,7 @@ fn answers_to(
     octets: &[u8],
     moment: Stamp,
 ) -> Result<Vec<u8>, BoxFault>
+    requires { length octets.now ≤ 1_073_741_824 }
     ensures answers { IfOk result (λ answers. AnswersOctets moment octets.now books.old books.new answers.items) }
     ensures memory { IfErr result (λ fault. fault ≡ Memory) }
 {
@@ -186,8 +188,9 @@ fn answers_to(
         MOST_OF_FILE,
     ) {
         Ok(_) => Ok(answers),
-        // Octets in memory don't fail, and a file has fewer than may be read: what is wanting is memory.
-        Err(_) => Err(BoxFault::Memory),
+        Err(ServeFault::Memory) => Err(BoxFault::Memory),
+        // Octets in memory don't fail, and a file has fewer than may be read.
+        Err(ServeFault::Read | ServeFault::Write | ServeFault::TooLong) => unreachable!(),
     }
 }
 
@@ -206,9 +209,11 @@ fn settle<O: Folder>(
     ensures settles { O.is_known outbox.old ≡ true → Settles (record { name = answers_name file.now; octets = answers.now }) (O.image outbox.old) (O.image outbox.new) (O.may_leave outbox.old) (O.may_leave outbox.new) result }
     ensures time { O.is_known outbox.old ≡ true → GoesOn (O.moment outbox.old) (O.moment outbox.new) (O.left_since outbox.old) (O.left_since outbox.new)
         (MayGain (record { name = answers_name file.now; octets = answers.now }) (O.may_leave outbox.old)) }
+    ensures goes_on { O.is_known outbox.old ≡ true → LosesNamesAlone (O.image outbox.old) (O.may_leave outbox.old) → LosesNamesAlone (O.image outbox.new) (O.may_leave outbox.new) }
     ensures known { O.is_known outbox.new ≡ O.is_known outbox.old }
     ensures later { O.failed outbox.old ≤ O.failed outbox.new }
     ensures cause { IsErrOf result Device → HasRisen (O.failed outbox.old) (O.failed outbox.new) }
+    ensures told { (IsErrOf result Device → ⊥) → O.failed outbox.new ≡ O.failed outbox.old }
 {
     let name = file.answer_name(alloc)?;
     if !is_among(theirs, name.as_str()) {
@@ -254,6 +259,7 @@ fn write_synced<O: Folder>(outbox: &mut O, octets: &[u8]) -> Result<(), FolderFa
     ensures not_existing { IsErrOf result folder.Exists → ⊥ }
     ensures later { O.failed outbox.old ≤ O.failed outbox.new }
     ensures cause { IsErrOf result folder.Device → HasRisen (O.failed outbox.old) (O.failed outbox.new) }
+    ensures told { (IsErrOf result folder.Device → ⊥) → O.failed outbox.new ≡ O.failed outbox.old }
 {
     outbox.write_temp(octets)?;
     outbox.sync_temp()
@@ -267,10 +273,12 @@ fn publish_answers<O: Folder>(outbox: &mut O, name: &str, answers: &[u8]) -> Res
     ensures known { O.is_known outbox.new ≡ O.is_known outbox.old }
     ensures time { O.is_known outbox.old ≡ true → GoesOn (O.moment outbox.old) (O.moment outbox.new) (O.left_since outbox.old) (O.left_since outbox.new)
         (MayGain (record { name = name.now; octets = answers.now }) (O.may_leave outbox.old)) }
+    ensures goes_on { O.is_known outbox.old ≡ true → LosesNamesAlone (O.image outbox.old) (O.may_leave outbox.old) → LosesNamesAlone (O.image outbox.new) (O.may_leave outbox.new) }
     ensures not_missing { IsErrOf result folder.Missing → ⊥ }
     ensures not_existing { IsErrOf result folder.Exists → ⊥ }
     ensures later { O.failed outbox.old ≤ O.failed outbox.new }
     ensures cause { IsErrOf result folder.Device → HasRisen (O.failed outbox.old) (O.failed outbox.new) }
+    ensures told { (IsErrOf result folder.Device → ⊥) → O.failed outbox.new ≡ O.failed outbox.old }
 {
     write_synced(outbox, answers)?;
     outbox.publish(name)?;
@@ -292,9 +300,11 @@ fn answer_all<I: Folder, O: Folder>(
     requires names { O.is_known outbox.old ≡ true → AreNames (O.image outbox.old) (map string_bytes theirs.now) }
     ensures runs { O.is_known outbox.old ≡ true → RunsOver (record { known = I.is_known inbox.old; inbox = I.image inbox.old; books = books.old; start = O.image outbox.old; first = O.moment outbox.old })
         files.now books.new (O.image outbox.new) (O.moment outbox.new) (LeavesHeld (O.image outbox.old) (O.may_leave outbox.old)) (O.left_since outbox.old) (O.left_since outbox.new) (O.may_leave outbox.new) result }
-    ensures same { I.image inbox.new ≡ I.image inbox.old }
+    ensures goes_on { O.is_known outbox.old ≡ true → LosesNamesAlone (O.image outbox.old) (O.may_leave outbox.old) → LosesNamesAlone (O.image outbox.new) (O.may_leave outbox.new) }
+    ensures kept { IsKept I.is_known I.image I.temporary I.may_leave inbox.old inbox.new }
     ensures later { (I.failed inbox.old ≤ I.failed inbox.new) × (O.failed outbox.old ≤ O.failed outbox.new) }
     ensures cause { IsErrOf result Device → HasRisen (I.failed inbox.old) (I.failed inbox.new) ⊎ HasRisen (O.failed outbox.old) (O.failed outbox.new) }
+    ensures told { (IsErrOf result Device → ⊥) → (I.failed inbox.new ≡ I.failed inbox.old) × (O.failed outbox.new ≡ O.failed outbox.old) }
 {
     let mut report = BoxReport {
         files: 0,
@@ -328,8 +338,8 @@ impl BoxReport {
 /// Answers each file of the inbox, in the byte order of their names, by a file of the same stem in the outbox. Files of other names are left alone. All
 /// books are kept over all files, from empty ones. An answer that is there is compared, and left as it is; one that isn't is written, synced and
 /// published, and the folder synced, before the next file is read. So a stop at any moment leaves whole files, the answers to the first of the files,
-/// and a later run goes on from there. `Device` comes only where a folder has failed. `Differs` comes at the first answer that differs from what the
-/// outbox holds under its name: nothing is published after it.
+/// and a later run goes on from there, whether the machine stopped or a call failed. `Device` comes only where a folder has failed, and wherever one has.
+/// `Differs` comes at the first answer that differs from what the outbox holds under its name: nothing is published after it. The inbox stays as it is.
 pub fn run_box<I: Folder, O: Folder>(
     alloc: Global,
     inbox: &mut I,
@@ -337,7 +347,9 @@ pub fn run_box<I: Folder, O: Folder>(
     config: &Config,
 ) -> Result<BoxReport, BoxFault>
     ensures cause { IsErrOf result Device → HasRisen (I.failed inbox.old) (I.failed inbox.new) ⊎ HasRisen (O.failed outbox.old) (O.failed outbox.new) }
-    ensures kept { I.image inbox.new ≡ I.image inbox.old }
+    ensures told { (IsErrOf result Device → ⊥) → (I.failed inbox.new ≡ I.failed inbox.old) × (O.failed outbox.new ≡ O.failed outbox.old) }
+    ensures kept { IsKept I.is_known I.image I.temporary I.may_leave inbox.old inbox.new }
+    ensures goes_on { O.is_known outbox.old ≡ true → LosesNamesAlone (O.image outbox.old) (O.may_leave outbox.old) → LosesNamesAlone (O.image outbox.new) (O.may_leave outbox.new) }
     ensures runs { I.is_known inbox.old ≡ true → O.is_known outbox.old ≡ true → LosesNamesAlone (O.image outbox.old) (O.may_leave outbox.old)
         → Runs (I.image inbox.old) (config_hosts config.now) (record { start = O.image outbox.old; now = O.image outbox.new; first = O.moment outbox.old; last = O.moment outbox.new })
         (O.may_leave outbox.old) (O.may_leave outbox.new) (O.left_since outbox.new) result }

@@ -11,7 +11,7 @@ ghost use Rattle.sched_box.specs.Config.{config_hosts, config_rooms};
 ghost use Rattle.sched_box.specs.Faults.{IfRefusedStream, IsRefusal, KeepsButRead, KeepsButWrite, RefusesPreamble, StopsFor, StreamKeepsButRead, StreamKeepsButWrite, StreamStopsFor};
 ghost use Rattle.sched_devices.specs.Input.{IsFilledWithin};
 ghost use Rattle.sched_box.specs.Sending.{StopsSending};
-ghost use Rattle.sched_box.specs.Serving.{AnswersWhole, BooksServe, KeepsTexts, Serves, ServesStream, StopsKeeping};
+ghost use Rattle.sched_box.specs.Serving.{AnswersWhole, BooksServe, KeepsTexts, Serves, ServesStream, StopsKeeping, StopsWithin};
 
 use crate::books::Books;
 use crate::config::Config;
@@ -143,6 +143,7 @@ pub(crate) fn serve_objects<R: Input, W: Output>(
     ensures sent { OnOk result (W.has_failed writer.new ≡ W.has_failed writer.old) }
     ensures unsent { IfErr result (KeepsButWrite (W.has_failed writer.old) (W.has_failed writer.new)) }
     ensures fills { IsFilledWithin 2 (R.fills reader.old) (R.fills reader.new) (R.remaining reader.old) (R.remaining reader.new) }
+    ensures bound { IfErr result (StopsWithin most (R.remaining reader.old) (R.remaining reader.new)) }
     ensures serves { (before : Box) → AreBooksOf books.old before → BooksServe most now before books.new
         (record { input = R.remaining reader.old; left = R.remaining reader.new; output = W.contents writer.old; written = W.contents writer.new }) result }
 {

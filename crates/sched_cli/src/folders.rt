@@ -2,6 +2,7 @@
 
 ghost use Rattle.std.specs.Prelude.{◌≡◌, ◌⊎◌, true};
 ghost use Rattle.profile.specs.streams.Folders.{LosesNamesAlone};
+ghost use Rattle.sched_devices.specs.Folder.{IsKept};
 ghost use Rattle.sched_box.specs.Boxes.{HasRisen, Runs};
 ghost use Rattle.sched_cli.specs.Running.{RunsNone, RunsWith};
 
@@ -20,7 +21,8 @@ pub fn run_folders<I: Folder, O: Folder, E: Output>(
 ) -> u8
     ensures status { (result ≡ 0) ⊎ (result ≡ 3) ⊎ (result ≡ 4) ⊎ (result ≡ 5) }
     ensures device { result ≡ 4 → HasRisen (I.failed inbox.old) (I.failed inbox.new) ⊎ HasRisen (O.failed outbox.old) (O.failed outbox.new) }
-    ensures kept { I.image inbox.new ≡ I.image inbox.old }
+    ensures told { (result ≡ 4 → ⊥) → (I.failed inbox.new ≡ I.failed inbox.old) × (O.failed outbox.new ≡ O.failed outbox.old) }
+    ensures kept { IsKept I.is_known I.image I.temporary I.may_leave inbox.old inbox.new }
     ensures runs { (RunsNone result config.now (E.contents errors.old) (E.contents errors.new) (E.may_lose errors.new) × (inbox.new ≡ inbox.old) × (outbox.new ≡ outbox.old))
         ⊎ RunsWith result config.now
         (λ hosts ended. I.is_known inbox.old ≡ true → O.is_known outbox.old ≡ true → LosesNamesAlone (O.image outbox.old) (O.may_leave outbox.old)

@@ -9,12 +9,19 @@ pub record IsKept {F : Type 0} (is_known : F → Bool) (image : F → Image) (te
   pub temporary_is : temporary new ≡ temporary old
   pub stop : (left : Image) → may_leave new left → may_leave old left
 
+-- nothing was published, and a stop leaves nothing else than before
+pub record IsUnpublished (old new : Image) (before after : Image → Type 0) : Type 0 where
+  pub same : AreSame new old
+  pub stop : (left : Image) → after left → before left
+
 -- the temporary has this name now, under which nothing stood
 pub record IsPublished (old new : Image) (name : List ℕ) (temporary : Temporary) : Type 0 where
   pub free : old name ≡ None
   pub added : AreSame new (with_files old (record { name = name; octets = temporary.octets } ∷ []))
 
--- The count of failures doesn't fall, and a call that fails has raised it, or it stays the greatest u64.
+-- The count of failures doesn't fall. A call that says that the folder failed has raised it, or it stays the greatest u64; a call that
+-- doesn't say so leaves it as it was.
 pub record HasCause (before now : ℕ) (failed : Type 0) : Type 0 where
   pub later : before ≤ now
   pub cause : failed → (before < now) ⊎ ((before ≡ 18_446_744_073_709_551_615) × (now ≡ before))
+  pub told : (failed → ⊥) → now ≡ before

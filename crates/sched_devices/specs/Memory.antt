@@ -1,5 +1,5 @@
 -- What a folder in memory holds, what a stop may leave of it, and what it has held before.
-use Rattle.std.specs.Prelude.{◌≡◌, ◌≢◌, ◌⊎◌, ◌||◌, not, ℕ, Bool, true, false, if◌then◌else◌, List, [], ◌∷◌, length, drop, map, filter, find, Option, None, Some, option_map, AllPairs, Vec}
+use Rattle.std.specs.Prelude.{◌≡◌, ◌≢◌, ◌⊎◌, ◌||◌, not, refl, ℕ, Bool, true, false, if◌then◌else◌, List, [], ◌∷◌, length, drop, map, filter, find, Option, None, Some, option_map, AllPairs, Vec}
 use Rattle.std.specs.Str.{bytes_eq}
 use Rattle.std.specs.declared.alloc.Global.{Global}
 use mathlib.Core.Logic.{inl, inr}
@@ -46,6 +46,14 @@ MayLeaveFile (Some file) (Some octets) = file.is_synced ≡ true → octets ≡ 
 
 abbrev pub MayLeave : List HeldFile → Image → Type 0
 MayLeave files left = (name : List ℕ) → MayLeaveFile (file_named name files) (left name)
+
+may_stay_file : (file : Option HeldFile) → MayLeaveFile file (option_map (λ f. f.octets) file)
+may_stay_file None = refl
+may_stay_file (Some file) = λ synced. refl
+
+-- all that it holds
+pub held_may_stay : (files : List HeldFile) → MayLeave files (image_of files)
+held_may_stay files name = may_stay_file (file_named name files)
 
 -- once the folder is synced
 abbrev pub with_name_synced : HeldFile → HeldFile

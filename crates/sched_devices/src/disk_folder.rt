@@ -1,6 +1,7 @@
 //! A folder of the file system.
 
 ghost use Rattle.std.specs.Prelude.{◌≡◌, ◌<◌, ◌≤◌, ℕ, ◌++◌, List, [], Bool, true, false, Option, length, is_some, IfSome, OnSome, IfOk, IsErrOf, Ok};
+ghost use Rattle.std.proofs.lemmas.Bool.{false≢true};
 ghost use Rattle.std.specs.Io.KnownBytes.{Consumes, IsAtEnd};
 ghost use Rattle.sched_devices.specs.Folder.{HasCause};
 ghost use Rattle.sched_devices.specs.declared.folder.FolderFault.TheVariants.{Device, Missing, Exists};
@@ -175,6 +176,8 @@ impl<R: Files + AllocGlobal + Clone + Drop> Folder for DiskFolder<'_, R> {
     fn failures(&self) -> u64 {
         self.failures
     }
+
+    ghost counts_held = { λ folder known. absurd (false≢true known) };
 
     ghost counts_now = { λ folder moment left earlier leaves. absurd leaves };
 

@@ -1,8 +1,8 @@
 //! A folder: what it holds under its names, what a stop of the machine may leave of it, and how often it has failed.
 
 ghost use Rattle.std.specs.Prelude.{◌≡◌, ◌≤◌, ◌⊎◌, ℕ, List, Bool, true, false, None, Option, Some, map, length, IfOk, OnOk, OnErr, IsErrOf, IsNone, string_bytes};
-ghost use Rattle.profile.specs.streams.Folders.{AreNames, AreNamesSynced, AreSame, Elapses, Image, MayBePublished, Temporary, with_files};
-ghost use Rattle.sched_devices.specs.Folder.{HasCause, IsKept, IsPublished};
+ghost use Rattle.profile.specs.streams.Folders.{AreNames, AreNamesSynced, Elapses, Image, MayBePublished, Temporary, with_files};
+ghost use Rattle.sched_devices.specs.Folder.{HasCause, IsKept, IsPublished, IsUnpublished};
 ghost use Rattle.sched_devices.specs.declared.folder.FolderFault.TheVariants.{Device, Missing, Exists, Memory};
 
 use std::alloc::{AllocError, AllocFailed, Global};
@@ -119,7 +119,8 @@ pub trait Folder {
         ensures published { OnOk result (Self.is_known self.old ≡ true → IsPublished (Self.image self.old) (Self.image self.new) name.now (Self.temporary self.old)) }
         ensures taken { OnOk result ((Self.temporary self.new).is_there ≡ false) }
         ensures whole { OnErr result (Self.is_known self.old ≡ true
-            → AreSame (Self.image self.new) (Self.image self.old) ⊎ IsPublished (Self.image self.old) (Self.image self.new) name.now (Self.temporary self.old)) }
+            → IsUnpublished (Self.image self.old) (Self.image self.new) (Self.may_leave self.old) (Self.may_leave self.new)
+            ⊎ IsPublished (Self.image self.old) (Self.image self.new) name.now (Self.temporary self.old)) }
         ensures known { Self.is_known self.new ≡ Self.is_known self.old }
         ensures stop { MayBePublished (Self.temporary self.old) name.now (Self.may_leave self.old) (Self.may_leave self.new) }
         ensures time { Elapses (Self.moment self.old) (Self.moment self.new) (Self.left_since self.old) (Self.left_since self.new) (Self.may_leave self.new) }
@@ -140,6 +141,9 @@ pub trait Folder {
     /// How often it has failed, up to the greatest u64.
     fn failures(&self) -> u64
         ensures { result ≡ Self.failed self.now };
+
+    // Where it is known, what it holds now is one of the things that a stop may leave: no stop has to come, and none has to take anything away.
+    ghost counts_held: { (folder : Self) → Self.is_known folder ≡ true → Self.may_leave folder (Self.image folder) };
 
     // This moment is one of those since an earlier one.
     ghost counts_now: { (folder : Self) (moment : ℕ) (left : Image) → moment ≤ Self.moment folder → Self.may_leave folder left → Self.left_since folder moment left };

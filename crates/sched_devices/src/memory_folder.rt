@@ -4,7 +4,7 @@
 ghost use Rattle.std.specs.Prelude.{◌≡◌, ◌∷◌, [], ℕ, List, true, false, None, Some, length, option_map, IfOk, OnOk, OnErr};
 ghost use Rattle.std.specs.Option.{option_or};
 ghost use Rattle.profile.specs.streams.Folders.{AreSame, Elapses, Image, with_files};
-ghost use Rattle.sched_devices.specs.Memory.{AreApart, HeldFile, LeftSince, MayLeave, file_named, image_of, left_under, no_temporary, only_left};
+ghost use Rattle.sched_devices.specs.Memory.{AreApart, HeldFile, LeftSince, MayLeave, file_named, held_may_stay, image_of, left_under, no_temporary, only_left};
 ghost use Rattle.std.proofs.Common.{inl};
 
 use crate::call_log::{Call, CallLog};
@@ -176,6 +176,8 @@ impl Folder for MemoryFolder {
     ghost temporary = { λ folder. folder.temporary };
 
     ghost failed = { λ folder. folder.log.failures };
+
+    ghost counts_held = { λ folder known. held_may_stay folder.files.items };
 
     ghost counts_now = { λ folder moment left not_later now. inl now };
 

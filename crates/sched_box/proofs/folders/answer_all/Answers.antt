@@ -7,16 +7,16 @@ use Rattle.profile.specs.streams.Folders.{Image, IsMessageFile}
 use Rattle.sched_box.specs.Running.{AnswersMessage, HasAnswered, LeavesHeld, answers_name, file_of}
 use Rattle.sched_box.specs.declared.file_names.MessageName.{MessageName}
 use Rattle.cal_events.proofs.shared_lemmas.InOneOrder.{in_mapped}
-use Rattle.sched_box.proofs.FolderLemmas.{ended_between, free_where_not, held_where_listed, none_is, not_named, run_ended, settled_last, settled_more}
+use Rattle.sched_box.proofs.FolderLemmas.{ended_between, free_where_not, held_where_listed, kept_on, never_failed, none_is, not_named, run_ended, settled_last, settled_more}
 use Rattle.sched_box.proofs.folders.answer_all.Goals as goal
 
 pub answers_of-requires : goal.answers_of-requires
 answers_of-requires g c = λ known.
     let name = c.file-item.result in
-    let same = c.loop-file.invariant.inbox_same in
+    let same = c.loop-file.invariant.inbox_kept.same in
     let among : Contains c.args.files.now name = (c.loop-file.file-index, omega arith, sym c.file-item.is) in
     let P : Image → Type 0 = λ image. IsMessageFile image (file_of image name) in
-    let are = c.requires.messages (sym c.loop-file.invariant.inbox_known ∙ known) in
+    let are = c.requires.messages (sym c.loop-file.invariant.inbox_kept.known ∙ known) in
     subst P (sym same) (are.each _ (in_mapped (file_of (g.I.Folder.image c.args.inbox.now)) c.args.files.now name among))
 
 pub returns-in_err-answers-clause-runs : goal.returns-in_err-answers-clause-runs
@@ -55,7 +55,7 @@ returns-in_err-is_new-clause-runs g c = λ known.
     let i = c.loop-file.file-index in
     let so = inv.so known in
     let known' = inv.outbox_known ∙ known in
-    let one = answered _ _ _ _ name c.loop-file.books c.answers_of.new.books _ c.deref.result.now inv.inbox_known inv.inbox_same c.deref.ensures.value c.in_ok-answers.ensures.answers in
+    let one = answered _ _ _ _ name c.loop-file.books c.answers_of.new.books _ c.deref.result.now inv.inbox_kept.known inv.inbox_kept.same c.deref.ensures.value c.in_ok-answers.ensures.answers in
     let apart = not_named files i name c.requires.apart (omega arith) c.file-item.is so.answers so.named in
     let front : take (i + 1) files ≡ take i files ++ name ∷ [] = take_more files i name (omega arith) ∙ ap (λ x. take i files ++ x ∷ []) (sym c.file-item.is) in
     run_ended _ _ _ _ _ _ _ _ _ _ _ c.in_err-is_new.field-0.0 p.1 p.2
@@ -69,17 +69,17 @@ loop-file-preserved g c =
     let i = c.loop-file.file-index in
     let front : take (i + 1) files ≡ take i files ++ name ∷ [] = take_more files i name (omega arith) ∙ ap (λ x. take i files ++ x ∷ []) (sym c.file-item.is) in
     record {
-      inbox_known = c.in_ok-answers.ensures.known ∙ inv.inbox_known;
-      inbox_same = c.in_ok-answers.ensures.same ∙ inv.inbox_same;
-      inbox_later = omega (arith, c.in_ok-answers.ensures.later, inv.inbox_later);
+      inbox_kept = kept_on g.I.Folder.is_known g.I.Folder.image g.I.Folder.temporary g.I.Folder.may_leave _ _ _ inv.inbox_kept c.in_ok-answers.ensures.kept;
+      inbox_told = c.in_ok-answers.ensures.told (never_failed _ _) ∙ inv.inbox_told;
       outbox_known = c.in_ok-is_new.ensures.known ∙ inv.outbox_known;
-      outbox_later = omega (arith, c.in_ok-is_new.ensures.later, inv.outbox_later);
+      outbox_told = c.in_ok-is_new.ensures.told (never_failed _ _) ∙ inv.outbox_told;
+      outbox_goes_on = λ known loses. c.in_ok-is_new.ensures.goes_on (inv.outbox_known ∙ known) (inv.outbox_goes_on known loses);
       counted = c.with_file-report.ensures.files ∙ ap (λ n. n + 1) inv.counted;
       fewer = grind (arith, common_steps);
       so = λ known.
           let so = inv.so known in
           let known' = inv.outbox_known ∙ known in
-          let one = answered _ _ _ _ name c.loop-file.books c.answers_of.new.books _ c.deref.result.now inv.inbox_known inv.inbox_same c.deref.ensures.value c.in_ok-answers.ensures.answers in
+          let one = answered _ _ _ _ name c.loop-file.books c.answers_of.new.books _ c.deref.result.now inv.inbox_kept.known inv.inbox_kept.same c.deref.ensures.value c.in_ok-answers.ensures.answers in
           let apart = not_named files i name c.requires.apart (omega arith) c.file-item.is so.answers so.named in
           let more = settled_more _ (take i files) name c.loop-file.books c.answers_of.new.books _ (g.O.Folder.image c.settle.new.outbox) _ _ _ _ _ _ (g.O.Folder.may_leave c.loop-file.outbox) (g.O.Folder.may_leave c.settle.new.outbox) c.loop-file.report c.deref.result.now so apart (c.in_ok-is_new.ensures.time known') c.with_file-report.result c.in_ok-is_new.is_new one (c.in_ok-is_new.ensures.settles known') c.with_file-report.ensures.files c.with_file-report.ensures.written in
           let P : List MessageName → Type 0 = λ l. HasAnswered (record { known = g.I.Folder.is_known c.args.inbox.now; inbox = g.I.Folder.image c.args.inbox.now; books = c.args.books.now; start = g.O.Folder.image c.args.outbox.now; first = g.O.Folder.moment c.args.outbox.now })

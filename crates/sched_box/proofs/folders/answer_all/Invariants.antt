@@ -1,14 +1,17 @@
 use Rattle.std.proofs.Common.{◌≡◌, ◌≤◌, true, take}
+use Rattle.profile.specs.streams.Folders.{LosesNamesAlone}
+use Rattle.sched_devices.specs.Folder.{IsKept}
 use Rattle.sched_box.specs.Running.{HasAnswered, LeavesHeld}
 use Rattle.sched_box.proofs.folders.answer_all.Given as goal
 
 abbrev pub invariant-loop-file : goal.invariant-loop-file
 invariant-loop-file g l = record {
-  inbox_known : g.I.Folder.is_known l.inbox ≡ g.I.Folder.is_known l.fn.inbox;
-  inbox_same : g.I.Folder.image l.inbox ≡ g.I.Folder.image l.fn.inbox;
-  inbox_later : g.I.Folder.failed l.fn.inbox ≤ g.I.Folder.failed l.inbox;
+  inbox_kept : IsKept g.I.Folder.is_known g.I.Folder.image g.I.Folder.temporary g.I.Folder.may_leave l.fn.inbox l.inbox;
+  inbox_told : g.I.Folder.failed l.inbox ≡ g.I.Folder.failed l.fn.inbox;
   outbox_known : g.O.Folder.is_known l.outbox ≡ g.O.Folder.is_known l.fn.outbox;
-  outbox_later : g.O.Folder.failed l.fn.outbox ≤ g.O.Folder.failed l.outbox;
+  outbox_told : g.O.Folder.failed l.outbox ≡ g.O.Folder.failed l.fn.outbox;
+  outbox_goes_on : g.O.Folder.is_known l.fn.outbox ≡ true → LosesNamesAlone (g.O.Folder.image l.fn.outbox) (g.O.Folder.may_leave l.fn.outbox)
+      → LosesNamesAlone (g.O.Folder.image l.outbox) (g.O.Folder.may_leave l.outbox);
   counted : l.report.files ≡ l.file-index;
   fewer : l.report.written ≤ l.report.files;
   so : g.O.Folder.is_known l.fn.outbox ≡ true

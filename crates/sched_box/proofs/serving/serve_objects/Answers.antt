@@ -1,7 +1,7 @@
 use Rattle.std.proofs.Common.{◌+◌, ◌∙◌, refl, subst, arith}
 use Rattle.std.proofs.lemmas.Result.{err_from_is_err_and}
 use Rattle.sched_box.specs.Objects.{ReadsObject}
-use Rattle.sched_box.proofs.ServingLemmas.{between_first, between_more, filled_within, forgotten_at, unsent, none_served, served_more, served_all, stopped, answered_from}
+use Rattle.sched_box.proofs.ServingLemmas.{between_first, between_more, bound_forgotten, bound_stopped, bound_unsent, filled_within, forgotten_at, unsent, none_served, served_more, served_all, stopped, answered_from}
 use Rattle.sched_box.proofs.serving.serve_objects.Goals as goal
 
 pub loop-answers-init : goal.loop-answers-init
@@ -103,3 +103,23 @@ pub returns-clause-fills : goal.returns-clause-fills
 returns-clause-fills g c =
     let (taken, t, left, more) = c.in_ok-next_object.ensures.reads in
     filled_within c.args.most _ (g.R.Input.remaining c.loop-answers.reader) _ _ _ _ c.loop-answers.objects.left c.next_object.new.self.left _ _ _ taken c.loop-answers.invariant.3 c.loop-answers.invariant.0.read t.consumed left c.next_object.ensures.fills
+
+pub returns-in_err-next_object-clause-bound : goal.returns-in_err-next_object-clause-bound
+returns-in_err-next_object-clause-bound g c =
+    let p = err_from_is_err_and c.from_residual.result c.from_residual.ensures.1 in
+    rw (p.1, p.2)
+    (bound_stopped c.args.most (g.R.Input.remaining c.args.reader.now) (g.R.Input.remaining c.loop-answers.reader) (g.R.Input.remaining c.next_object.new.reader) c.loop-answers.objects c.next_object.new.self _ c.loop-answers.invariant.0.read c.in_err-next_object.ensures.stops)
+
+pub returns-in_err-refused-clause-bound : goal.returns-in_err-refused-clause-bound
+returns-in_err-refused-clause-bound g c =
+    let p = err_from_is_err_and c.from_residual-in_err-refused.result c.from_residual-in_err-refused.ensures.1 in
+    rw (p.1, p.2)
+    (bound_forgotten c.args.most (g.R.Input.remaining c.args.reader.now) (g.R.Input.remaining c.loop-answers.reader) (g.R.Input.remaining c.next_object.new.reader) c.loop-answers.objects c.next_object.new.self _ _ c.loop-answers.invariant.0.read c.in_ok-next_object.ensures.reads
+    c.in_err-refused.ensures.memory)
+
+pub returns-in_err-send-clause-bound : goal.returns-in_err-send-clause-bound
+returns-in_err-send-clause-bound g c =
+    let p = err_from_is_err_and c.from_residual-in_err-send.result c.from_residual-in_err-send.ensures.1 in
+    rw (p.1, p.2)
+    (bound_unsent c.args.most (g.R.Input.remaining c.args.reader.now) (g.R.Input.remaining c.loop-answers.reader) (g.R.Input.remaining c.next_object.new.reader) _ _ _ _ c.loop-answers.objects c.next_object.new.self _ _ c.loop-answers.invariant.0.read c.in_ok-next_object.ensures.reads
+    c.in_err-send.ensures.stops)
