@@ -34,7 +34,7 @@ loop-component-preserved c =
             | else-cancels-via-then-cancels+else-names_nobody v ↦
                 more (ap (λ b. is_cancel (method_said message.method) && b) (sym v.names_nobody.ensures ∙ v.if-names_nobody.false) ∙ and-false (is_cancel (method_said message.method)))
             | else-cancels-via-else-cancels v ↦
-                let none : is_cancel (method_said message.method) ≡ false = ap (λ m. is_cancel (method_said m)) (sym c.method.ensures) ∙ sym c.is_cancel.ensures ∙ v.if-cancels.false in
+                let none : is_cancel (method_said message.method) ≡ false = ap (λ m. is_cancel (method_said m)) (sym c.method.ensures) ∙ sym c.is_cancel-cancels.ensures ∙ v.if-cancels.false in
                 more (ap (λ b. b && (length x.attendees == 0)) none)
           ]
     ]
