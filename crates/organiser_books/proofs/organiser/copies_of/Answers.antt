@@ -1,7 +1,6 @@
 use Rattle.std.proofs.Common.{◌≡◌, ◌∙◌, ◌+◌, ◌++◌, ◌∷◌, List, drop, sym, ap, subst, append-nil, arith}
 use Rattle.std.specs.List.{AllZip}
 use Rattle.std.proofs.lemmas.List.{drop_all, drop_more}
-use Rattle.profile.specs.events.EventComponents.{EventComponent}
 use Rattle.itip_messages.specs.Message.{SaysComponent}
 use Rattle.itip_messages.specs.declared.message_component.MessageComponent.{MessageComponent}
 use Rattle.organiser_books.proofs.Storing.{one_copied}

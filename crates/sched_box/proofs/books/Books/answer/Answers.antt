@@ -10,7 +10,6 @@ returns-in_err-message-clause-fault c =
     let p = err_from_is_err_and c.from_residual.result c.from_residual.ensures.1 in
     rw (p.1, p.2) (unread c.args.octets.now c.args.self.now c.in_err-message.field-0.0 c.in_err-message.ensures.fault)
 
-
 pub returns-then-is_to_rooms-clause-takes : goal.returns-then-is_to_rooms-clause-takes
 returns-then-is_to_rooms-clause-takes c =
     let message = c.in_ok-message.message in
