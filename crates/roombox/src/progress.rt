@@ -88,6 +88,8 @@ impl<R: Eprint, F: Folder + Drop> Folder for Progress<'_, R, F> {
         self.inbox.failures()
     }
 
+    ghost counts_held = { λ shown known. F.counts_held shown.inbox known };
+
     ghost counts_now = { λ shown moment left earlier leaves. F.counts_now shown.inbox moment left earlier leaves };
 
     ghost only_now = { λ shown left since. F.only_now shown.inbox left since };
