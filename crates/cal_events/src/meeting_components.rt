@@ -72,8 +72,8 @@ impl MeetingComponents {
     }
 }
 
-/// The VEVENTs of an object, which are of one meeting, in the order of the text, as this METHOD takes them: those of an ADD as the instances of their
-/// own starts. None is an object whose METHOD is ignored. In time n log n.
+/// The VEVENTs of an object, which are of one meeting, in the order of the text, as this METHOD takes them: those of an ADD as the instances
+/// of their own starts. None is an object whose METHOD is ignored. In time n log n.
 /// Refused: as by `EventComponent::read` for one of them; 66 where there is none; 62 for two UIDs or two ORGANIZERs; 53 for two without
 /// RECURRENCE-ID; 54 for two of the same instance.
 pub fn read_meeting(

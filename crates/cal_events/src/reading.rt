@@ -107,7 +107,8 @@ pub fn calendar_series_are_said()
     one_event();
 }
 
-/// What a VEVENT of an object of this METHOD says, or of one whose METHOD is ignored; its times may name these zones. Its lines are parsed once, for all that is asked of them.
+/// What a VEVENT of an object of this METHOD says, or of one whose METHOD is ignored; its times may name these zones. Its lines are parsed
+/// once, for all that is asked of them.
 /// Refused: as by `EventComponent::read`.
 pub(crate) fn read_event(
     alloc: Global,
