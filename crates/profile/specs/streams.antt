@@ -1,4 +1,8 @@
 -- what is written for a stream
 pub mod Streams
+-- the world of a schedule of stores and deliveries
+pub mod Worlds
+-- what holds in each such world
+pub mod Schedules
 -- folders of messages and of answers, and what a stop may leave of them
 pub mod Folders

@@ -179,18 +179,24 @@ pub record Hosted : Type 0 where
   pub address : List ℕ
   pub book : Book
 
--- a room takes the message, and answers these octets: its reply, and a refresh after it
+-- a room of this address takes the message, and sends these objects: its reply, and a refresh after it
+pub record TakesMessage (room : List ℕ) (moment : ℤ) (message : Message) (before after : Book) (sent : List (List ℕ)) : Type 0 where
+  pub claims : List Claim
+  pub are : AreClaims room message claims
+  pub outcome : Outcome
+  pub step : IsStep before claims moment outcome after
+  pub reply : Option (List ℕ)
+  pub replies : Replies room after claims reply
+  pub refresh : Option (List ℕ)
+  pub refreshes : Refreshes room (is_add message.method) before.taken after.taken claims moment refresh
+  pub is : sent ≡ option_to_list reply ++ option_to_list refresh
+
+-- a room that a box hosts takes it, and answers with these octets, which are the objects that it sends
 pub record Takes (moment : ℤ) (message : Message) (before after : Hosted) (octets : List ℕ) : Type 0 where
   pub same : after.address ≡ before.address
-  pub claims : List Claim
-  pub are : AreClaims before.address message claims
-  pub outcome : Outcome
-  pub step : IsStep before.book claims moment outcome after.book
-  pub reply : Option (List ℕ)
-  pub replies : Replies before.address after.book claims reply
-  pub refresh : Option (List ℕ)
-  pub refreshes : Refreshes before.address (is_add message.method) before.book.taken after.book.taken claims moment refresh
-  pub is : octets ≡ flat_map (λ x. x) (option_to_list reply ++ option_to_list refresh)
+  pub sent : List (List ℕ)
+  pub takes : TakesMessage before.address moment message before.book after.book sent
+  pub is : octets ≡ flat_map (λ object. object) sent
 
 -- all rooms take it, one after another; their answers are in the same order
 abbrev pub AllTake : ℤ → Message → List Hosted → List Hosted → List ℕ → Type 0
@@ -204,21 +210,28 @@ pub record HostedOrganiser : Type 0 where
   pub address : List ℕ
   pub book : OrganiserBook
 
--- what an organiser answers, and what it keeps then: to a store what it sends, to a REPLY nothing, to a REFRESH what it made of the last store
-abbrev pub ServesMethod : Method → ℤ → Message → OrganiserBook → OrganiserBook → List ℕ → Type 0
-ServesMethod Store moment said before after octets =
-    (sent : List Sent) × IsStore moment said before sent after × (octets ≡ flat_map (λ one. one.octets) sent)
-ServesMethod Reply moment said before after octets = (after ≡ after_reply said before) × (octets ≡ [])
-ServesMethod Refresh moment said before after octets =
-    (stored : Stored) × (last_store said.uid before ≡ Some stored) × (after ≡ before) × (octets ≡ stored.object)
-ServesMethod Request moment said before after octets = ⊥
-ServesMethod Add moment said before after octets = ⊥
-ServesMethod Cancel moment said before after octets = ⊥
+-- what an organiser keeps then, and the objects that it sends: to a store its messages, to a REPLY none, to a REFRESH what it made of the last
+-- store
+abbrev pub ServesMethod : Method → ℤ → Message → OrganiserBook → OrganiserBook → List (List ℕ) → Type 0
+ServesMethod Store moment said before after objects =
+    (sent : List Sent) × IsStore moment said before sent after × (objects ≡ map (λ one. one.octets) sent)
+ServesMethod Reply moment said before after objects = (after ≡ after_reply said before) × (objects ≡ [])
+ServesMethod Refresh moment said before after objects =
+    (stored : Stored) × (last_store said.uid before ≡ Some stored) × (after ≡ before) × (objects ≡ stored.object ∷ [])
+ServesMethod Request moment said before after objects = ⊥
+ServesMethod Add moment said before after objects = ⊥
+ServesMethod Cancel moment said before after objects = ⊥
 
--- an organiser takes what comes to it, which has no fault beside what it keeps
-pub record TakesObject (moment : ℤ) (said : Message) (before after : OrganiserBook) (octets : List ℕ) : Type 0 where
+-- an organiser takes what comes to it, which has no fault beside what it keeps, and sends these objects
+pub record ServesMessage (moment : ℤ) (said : Message) (before after : OrganiserBook) (objects : List (List ℕ)) : Type 0 where
   pub allowed : (n : ℕ) → StateFault said before n → ⊥
-  pub serves : ServesMethod said.method moment said before after octets
+  pub serves : ServesMethod said.method moment said before after objects
+
+-- it answers with these octets, which are those objects
+pub record TakesObject (moment : ℤ) (said : Message) (before after : OrganiserBook) (octets : List ℕ) : Type 0 where
+  pub objects : List (List ℕ)
+  pub serves : ServesMessage moment said before after objects
+  pub is : octets ≡ flat_map (λ object. object) objects
 
 -- of these organisers the one whose address it names takes it
 pub record IsTaken (moment : ℤ) (said : Message) (before after : List HostedOrganiser) (octets : List ℕ) : Type 0 where

@@ -16,7 +16,7 @@ AllKeep (room ∷ rooms) = KeepsAll room.address room.book × AllKeep rooms
 take_keeps : (moment : ℤ) (message : Message) (object octets : List ℕ) (before after : Hosted) → SpellsMessage object message → Takes moment message before after octets → KeepsAll before.address before.book → KeepsAll after.address after.book
 take_keeps moment message object octets before after s t k =
     subst (λ (a : List ℕ). KeepsAll a after.book) (sym t.same)
-    (keeps_step before.address before.book t.claims moment t.outcome after.book (all_asked before.address object message s t.claims t.are) t.step k)
+    (keeps_step before.address before.book t.takes.claims moment t.takes.outcome after.book (all_asked before.address object message s t.takes.claims t.takes.are) t.takes.step k)
 
 all_take_keep : (moment : ℤ) (message : Message) (object octets : List ℕ) (befores afters : List Hosted) → SpellsMessage object message → AllTake moment message befores afters octets → AllKeep befores → AllKeep afters
 unfolding AllKeep
