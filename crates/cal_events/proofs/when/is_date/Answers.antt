@@ -2,7 +2,7 @@ use Rattle.std.proofs.Common.{◌≡◌, true, List, ℕ, subst}
 use Rattle.std.specs.Prelude.{◌↔◌}
 use Rattle.profile.specs.events.Properties.{IsDateText}
 use Rattle.cal_events.proofs.shared_lemmas.EventLemmas.{date_test}
-use Rattle.cal_events.proofs.utc_time.is_date.Goals as goal
+use Rattle.cal_events.proofs.when.is_date.Goals as goal
 
 pub returns : goal.returns
 returns c =

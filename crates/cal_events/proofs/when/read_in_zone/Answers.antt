@@ -4,7 +4,7 @@ use Rattle.profile.specs.events.Properties.{time_kind}
 use Rattle.profile.specs.events.ZonedTimes.{InZoneFault}
 use Rattle.ical_values.proofs.Exits.{refusal_exit}
 use Rattle.cal_events.specs.Zones.{object_of}
-use Rattle.cal_events.proofs.zoned.read_in_zone.Goals as goal
+use Rattle.cal_events.proofs.when.read_in_zone.Goals as goal
 
 pub returns-in_err-local-clause-fault : goal.returns-in_err-local-clause-fault
 returns-in_err-local-clause-fault c =
