@@ -1,17 +1,17 @@
 -- The invariant of a world: what each sent message says, what each room took and answered, and what each organiser heard. It speaks of the
 -- world alone, and not of how the world came about.
 -- Behind schedules_hold.
-use Rattle.std.specs.Prelude.{◌≡◌, ◌⊎◌, ℕ, ◌<◌, ◌≤◌, ◌^◌, Bool, false, true, List, [], ◌∷◌, map, Contains, AllPairs, Some, None}
+use Rattle.std.specs.Prelude.{◌≡◌, ◌⊎◌, ℕ, ◌<◌, ◌≤◌, ◌^◌, Bool, false, true, List, ◌∷◌, map, Contains, AllPairs, Some}
 use Rattle.std.specs.List.{AllZip}
 use Rattle.profile.specs.events.EventComponents.{EventComponent, Accepted, Request, Reply, Store}
 use Rattle.profile.specs.events.Messages.{Message, SpellsMessage}
 use Rattle.profile.specs.organisers.Organisers.{Heard, Stored, heard_in, is_attendee, is_called_off, last_store}
 use Rattle.profile.specs.rooms.Kept.{each_once}
 use Rattle.profile.specs.rooms.Revisions.{Part}
-use Rattle.profile.specs.rooms.Rooms.{Book, Claim, PartAnswer, is_accept, is_set}
+use Rattle.profile.specs.rooms.Rooms.{Claim, PartAnswer, is_accept, is_set}
 use Rattle.profile.specs.streams.Streams.{AreClaims, Hosted, HostedOrganiser, IsReached}
 use Rattle.profile.specs.streams.Worlds.{World}
-use Rattle.itip_messages.specs.Law.{AreTextAnswers, answer_heard}
+use Rattle.itip_messages.specs.Law.{answer_heard}
 use Rattle.itip_messages.specs.SentLaw.{IsSentAs, cancel_message, cancel_part, request_of}
 
 -- ---- a store, and what rooms take of it
@@ -135,6 +135,5 @@ pub record IsSound (rooms organisers : List (List ℕ)) (world : World) : Type 0
   pub heard : (host : HostedOrganiser) → Contains world.organisers host → (heard : Heard) → Contains host.book.replies heard → IsHeardBy world host heard
   pub taken : (room : Hosted) → Contains world.rooms room → (part : Part) → Contains room.book.taken part → IsTakenPart world.organisers room.address part
   pub given : (room : Hosted) → Contains world.rooms room → (answer : PartAnswer) → Contains room.book.answers answer → IsGiven world.organisers room answer
-  pub texts : (room : Hosted) → Contains world.rooms room → AreTextAnswers room.book
   pub reached : (room : Hosted) → Contains world.rooms room → IsReached room.address room.book
   pub sent : (octets : List ℕ) → Contains world.sent octets → IsSentIn world octets
