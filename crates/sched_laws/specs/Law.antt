@@ -52,6 +52,8 @@ pub record Laws : Type 0 where
   pub tree : (m n : ℕ) (lines : List (List ℕ)) (s t : Tree) → SpellsTree m s lines → SpellsTree n t lines → s ≡ t
   -- runs_stay_clear
   pub clear : (deliveries : List Delivery) (book : Book) → Runs empty_book deliveries book → IsClear (Confirms book)
+  -- answers_name_texts
+  pub texts : (room : List ℕ) (book : Book) → IsReached room book → AreTextAnswers book
   -- kept_texts_pass
   pub kept : (room : List ℕ) (book : Book) (calendar : List ℕ) → IsReached room book → IsKeptCalendar room book calendar
       → (certificate : List ℕ) → IsKeptCertificate room calendar certificate → CertificateHolds room calendar certificate

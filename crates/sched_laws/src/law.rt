@@ -11,7 +11,7 @@ use itip_messages::{
     cancels_read_back, one_content, one_message, replies_are_heard, requests_read_back,
     shown_reads_back, stored_texts_can_be_sent,
 };
-use room_books::{kept_texts_pass, runs_stay_clear};
+use room_books::{answers_name_texts, kept_texts_pass, runs_stay_clear};
 
 /// Whatever organisers store, and whatever of the messages that were sent is delivered, to whom, how often and in which order: where an organiser
 /// sees that a room has accepted, the part that the last REQUEST of the meeting has for that room is in its view and accepted (RFC 5546 2.1.4,
@@ -40,5 +40,6 @@ fn laws_below()
     replies_are_heard();
     shown_reads_back();
     runs_stay_clear();
+    answers_name_texts();
     kept_texts_pass();
 }

@@ -14,5 +14,6 @@ returns c = record {
   event = c.one_event.ensures.one;
   tree = c.one_tree.ensures.one;
   clear = c.runs_stay_clear.ensures.clear;
+  texts = c.answers_name_texts.ensures;
   kept = c.kept_texts_pass.ensures;
 }
