@@ -13,3 +13,4 @@ pub mod Booked
 pub mod SaidAgain
 pub mod ShownTexts
 pub mod ShownInstances
+pub mod EffectOrNone
