@@ -1,7 +1,8 @@
-use Rattle.std.proofs.Common.{◌∙◌, ap, map, arith, take_all, rules}
+use Rattle.std.proofs.Common.{◌∙◌, ◌≢◌, AllPairs, ap, map, subst, sym, arith, take, take_all, rules}
 use Rattle.ical_values.specs.Octets.{address_octets}
 use Rattle.profile.specs.rooms.Kept.{each_once}
 use Rattle.sched_box.proofs.AskedLemmas.{listed_more}
+use Rattle.sched_box.proofs.HostLemmas.{once_differ}
 use Rattle.sched_box.proofs.directory.Directory.of.Goals as goal
 
 pub loop-host-preserved : goal.loop-host-preserved
@@ -11,3 +12,8 @@ loop-host-preserved c =
 
 pub returns : goal.returns
 returns c = c.loop-host.invariant ∙ ap (λ list. each_once (map address_octets list)) (take_all c.loop-host.host-index c.args.hosts.now (omega (arith, c.loop-host-test.false)))
+
+pub invariant_of-result : goal.invariant_of-result
+invariant_of-result c = record {
+  differ = subst (AllPairs ◌≢◌) (sym c.loop-host.invariant) (once_differ (map address_octets (take c.loop-host.host-index c.args.hosts.now)));
+}

@@ -2,6 +2,7 @@ use Rattle.std.proofs.Common.{◌∙◌, List, ℕ, map, subst}
 use Rattle.sched_box.specs.Organising.{AreKeptBy, nothing_kept}
 use Rattle.sched_box.proofs.organisers.Organisers.new.Goals as goal
 
-pub returns-clause-kept : goal.returns-clause-kept
-returns-clause-kept c =
-    subst (λ list. AreKeptBy c.in_ok-organisers.organisers.items (map nothing_kept list)) (c.addresses.ensures ∙ c.in_ok-directory.ensures) c.in_ok-organisers.ensures.kept
+pub returns : goal.returns
+returns c = record {
+  kept = subst (λ list. AreKeptBy c.in_ok-organisers.organisers.items (map nothing_kept list)) (c.addresses.ensures ∙ c.in_ok-directory.ensures) c.in_ok-organisers.ensures.kept;
+}
