@@ -38,7 +38,7 @@ sends_nothing world said more none is = record {
 }
 
 -- what was to be sent is among the messages
-pub is_sent : (old new : World) (said : worlds.World) (more : List (List ℕ)) → new.rooms ≡ old.rooms → new.organisers ≡ old.organisers
+is_sent : (old new : World) (said : worlds.World) (more : List (List ℕ)) → new.rooms ≡ old.rooms → new.organisers ≡ old.organisers
     → octets_each new.sent.items ≡ octets_each old.sent.items ++ more → IsWorldWith old more said → IsWorldOf new said
 is_sent old new said more rooms organisers sent is = record {
   rooms = subst (λ r. AreHosted r.rooms.items said.rooms) (sym rooms) is.rooms;
