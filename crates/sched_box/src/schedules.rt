@@ -78,7 +78,7 @@ fn played(
 }
 
 impl World {
-    ghost use Rattle.std.specs.Prelude.{◌≡◌, false, map, Contains, IfOk, IfSome, IfNone, OnOk};
+    ghost use Rattle.std.specs.Prelude.{◌≡◌, false, map, IfOk, IfSome, IfNone, OnOk};
     ghost use Rattle.ical_values.specs.Octets.{address_octets};
     ghost use Rattle.cal_events.specs.Component.{method_said};
     ghost use Rattle.profile.specs.events.Messages.{is_to_rooms};

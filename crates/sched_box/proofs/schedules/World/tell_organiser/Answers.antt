@@ -1,12 +1,23 @@
-use Rattle.std.proofs.Common.{◌≡◌, ap, refl, subst, rules}
+use Rattle.std.proofs.Common.{◌≡◌, ◌∙◌, false, ap, refl, subst, sym, rules}
+use Rattle.std.specs.Str.{bytes_eq}
+use Rattle.std.proofs.lemmas.Bool.{both_ways, not-true}
+use Rattle.std.proofs.lemmas.Slice.Eq.{bytes_eq-Decides}
 use Rattle.ical_lines.specs.Fault.{RefusesBy}
 use Rattle.ical_values.specs.Octets.{address_octets}
 use Rattle.ical_values.specs.Refused.{IfRefused}
 use Rattle.sched_box.specs.Answering.{octets_each}
 use Rattle.sched_box.specs.Organising.{KeepBooks, OrganisersRefuse}
 use Rattle.sched_box.specs.declared.schedules.World.{World}
-use Rattle.sched_box.proofs.ScheduleLemmas.{tells_refused, tells_taken}
+use Rattle.sched_box.proofs.ScheduleLemmas.{tells_other, tells_refused, tells_taken}
 use Rattle.sched_box.proofs.schedules.World.tell_organiser.Goals as goal
+
+pub returns-then-ne : goal.returns-then-ne
+returns-then-ne c =
+    let object = c.args.object.now in
+    let to = address_octets c.args.organiser.now in
+    let other = subst (λ a. bytes_eq (address_octets a) to ≡ false) c.organiser.ensures (not-true _ (sym c.ne.ensures ∙ c.if-ne.true)) in
+    tells_other to c.args.now object c.args.self.now (octets_each c.new.result.items) (ap octets_each c.new.ensures.items)
+    (λ same. both_ways _ other ((bytes_eq-Decides (address_octets object.organiser) to).1 same))
 
 pub returns-in-Ok : goal.returns-in-Ok
 returns-in-Ok c =
