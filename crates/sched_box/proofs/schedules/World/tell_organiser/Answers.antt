@@ -1,6 +1,6 @@
-use Rattle.std.proofs.Common.{◌≡◌, ◌∙◌, false, ap, refl, subst, sym, rules}
+use Rattle.std.proofs.Common.{◌≡◌, ◌∙◌, true, false, ap, refl, subst, sym}
 use Rattle.std.specs.Str.{bytes_eq}
-use Rattle.std.proofs.lemmas.Bool.{both_ways, not-true}
+use Rattle.std.proofs.lemmas.Bool.{both_ways, not-false, not-true}
 use Rattle.std.proofs.lemmas.Slice.Eq.{bytes_eq-Decides}
 use Rattle.ical_lines.specs.Fault.{RefusesBy}
 use Rattle.ical_values.specs.Octets.{address_octets}
@@ -22,18 +22,22 @@ returns-then-ne c =
 pub returns-in-Ok : goal.returns-in-Ok
 returns-in-Ok c =
     let old = c.args.self.now in
+    let to = address_octets c.args.organiser.now in
     let new : World = record { alloc = old.alloc; rooms = old.rooms; organisers = c.take.new.self; sent = old.sent } in
-    let named : address_octets c.args.object.now.organiser ≡ address_octets c.args.organiser.now = search rules in
-    tells_taken (address_octets c.args.organiser.now) c.args.now c.args.object.now old new (octets_each c.in-Ok.sent.items) named c.in-Ok.ensures.takes refl refl
+    let same = subst (λ a. bytes_eq (address_octets a) to ≡ true) c.organiser.ensures (not-false _ (sym c.ne.ensures ∙ c.if-ne.false)) in
+    let named = (bytes_eq-Decides (address_octets c.args.object.now.organiser) to).0 same in
+    tells_taken to c.args.now c.args.object.now old new (octets_each c.in-Ok.sent.items) named c.in-Ok.ensures.takes refl refl
 
 pub returns-in-Err-Refused : goal.returns-in-Err-Refused
 returns-in-Err-Refused c =
     let old = c.args.self.now in
+    let to = address_octets c.args.organiser.now in
     let new : World = record { alloc = old.alloc; rooms = old.rooms; organisers = c.take.new.self; sent = old.sent } in
-    let named : address_octets c.args.object.now.organiser ≡ address_octets c.args.organiser.now = search rules in
+    let same = subst (λ a. bytes_eq (address_octets a) to ≡ true) c.organiser.ensures (not-false _ (sym c.ne.ensures ∙ c.if-ne.false)) in
+    let named = (bytes_eq-Decides (address_octets c.args.object.now.organiser) to).0 same in
     let object = c.args.object.now in
     let olds = old.organisers.organisers.items in
     let refuses = subst (RefusesBy (OrganisersRefuse object olds)) c.in-Err-Refused.field-0-is c.in-Err-Refused.ensures.fault in
     let keep = subst (IfRefused (KeepBooks olds new.organisers.organisers.items)) c.in-Err-Refused.field-0-is c.in-Err-Refused.ensures.keeps in
-    tells_refused (address_octets c.args.organiser.now) c.args.now object old new (octets_each c.new-in-Err-Refused.result.items) c.in-Err-Refused.field-0-0.number
+    tells_refused to c.args.now object old new (octets_each c.new-in-Err-Refused.result.items) c.in-Err-Refused.field-0-0.number
     (ap octets_each c.new-in-Err-Refused.ensures.items) named refuses keep refl refl
