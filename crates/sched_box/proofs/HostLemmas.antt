@@ -1,5 +1,5 @@
 -- Rooms or organisers: they are made, one for each address, and one is found by its address.
-use Rattle.std.proofs.Common.{◌≡◌, ◌≢◌, ℕ, zero, suc, ◌+◌, ◌<◌, ◌≤◌, Bool, true, false, not, ◌||◌, cond, List, [], ◌∷◌, ◌++◌, length, take, map, filter, get_or, refl, sym, ap, subst, ◌∙◌, take_all, arith, AllPairs, Contains, Option, Some, None, IfNone, IfSome, true≢false}
+use Rattle.std.proofs.Common.{◌≡◌, ◌≢◌, ℕ, suc, ◌+◌, ◌<◌, ◌≤◌, Bool, true, false, not, ◌||◌, cond, List, [], ◌∷◌, ◌++◌, length, take, map, filter, get_or, refl, sym, ap, subst, ◌∙◌, take_all, arith, AllPairs, Contains, Option, Some, None, IfNone, IfSome, true≢false}
 use Rattle.std.specs.List.{AllZip, list_any}
 use Rattle.std.specs.Option.{IsNone}
 use Rattle.std.specs.Str.{bytes_eq}
@@ -70,16 +70,6 @@ none_hosted at address Is same to (h ∷ hs) (k ∷ ks) none all =
 pub never_among : {A : Type 0} (found : Option A) (to : List ℕ) (addresses : List (List ℕ)) → IfNone found (list_any (bytes_eq to) addresses ≡ false) → IsNone found → Contains addresses to → ⊥
 never_among (Some host) to addresses none is among = true≢false is
 never_among None to addresses none is (k, l, at) = true≢false (sym (list_any_at (bytes_eq to) addresses k to l ((bytes_eq-Decides to (get_or addresses k to)).1 (sym at))) ∙ none)
-
--- what is kept of one of the hosts
-pub kept_of_one : {H K : Type 0} (Is : H → K → Type 0) (hosts : List H) (kept : List K) (host : H) → AllZip Is hosts kept → Contains hosts host → (own : K) × Contains kept own × Is host own
-kept_of_one Is [] [] host all (k, l, is) = absurd (omega arith)
-kept_of_one Is [] (k ∷ ks) host all among = absurd all
-kept_of_one Is (h ∷ hs) [] host all among = absurd all
-kept_of_one Is (h ∷ hs) (k ∷ ks) host all (zero, l, is) = (k, (zero, omega arith, refl), subst (λ x. Is x k) is all.0)
-kept_of_one Is (h ∷ hs) (k ∷ ks) host all (suc i, l, is) =
-    let (own, (place, within, at), has) = kept_of_one Is hs ks host all.1 (i, omega arith, is) in
-    (own, (suc place, omega arith, at), has)
 
 -- one more host ahead of the one that changes
 pub one_behind : {Host : Type 0} {Changes : Host → Host → Type 0} {before after : List Host} (host : Host) → ChangesOne Changes before after → ChangesOne Changes (host ∷ before) (host ∷ after)

@@ -26,7 +26,8 @@ use Rattle.sched_box.specs.Organising.{AreKeptBy, IsKeptBy, KeepBooks, Organiser
 use Rattle.sched_box.specs.Schedules.{IsOrganiserOf, IsPlayed, IsRoomOf, IsUnread, IsWorldOf, IsWorldWith, LeadsOn, NobodyTakes, TakesStep, TellsOrganiser, step_said}
 use Rattle.sched_box.specs.declared.schedules.Step.{Step}
 use Rattle.sched_box.specs.declared.schedules.World.{World}
-use Rattle.sched_box.proofs.HostLemmas.{kept_of_one, none_hosted}
+use Rattle.cal_events.proofs.shared_lemmas.SeriesLemmas.{zip_with}
+use Rattle.sched_box.proofs.HostLemmas.{none_hosted}
 
 -- ---- worlds that send something or nothing
 
@@ -244,13 +245,13 @@ played_all rooms organisers steps i world so end = subst (λ list. IsPlayed room
 
 pub room_of : (world : World) (to : List ℕ) (room : Room) → Contains world.rooms.rooms.items room → address_octets room.address ≡ to → (said : worlds.World) → IsWorldOf world said → IsRoomOf to room said
 room_of world to room among at said is =
-    let (hosted, there, has) = kept_of_one IsHosted world.rooms.rooms.items said.rooms room is.rooms among in
+    let (hosted, there, has) = zip_with IsHosted world.rooms.rooms.items said.rooms room is.rooms among in
     record { hosted = hosted; among = there; at = has.at ∙ at; is = has }
 
 pub organiser_of : (world : World) (to : List ℕ) (organiser : Organiser) → Contains world.organisers.organisers.items organiser → address_of organiser ≡ to → (said : worlds.World) → IsWorldOf world said
     → IsOrganiserOf to organiser said
 organiser_of world to organiser among at said is =
-    let (hosted, there, has) = kept_of_one IsKeptBy world.organisers.organisers.items said.organisers organiser is.organisers among in
+    let (hosted, there, has) = zip_with IsKeptBy world.organisers.organisers.items said.organisers organiser is.organisers among in
     record { hosted = hosted; among = there; at = has.at ∙ at; is = has }
 
 pub no_room_of : (world : World) (to : List ℕ) → list_any (bytes_eq to) (room_addresses world.rooms.rooms.items) ≡ false → (said : worlds.World) → IsWorldOf world said → worlds.has_room to said ≡ false

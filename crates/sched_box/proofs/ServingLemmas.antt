@@ -26,7 +26,8 @@ use Rattle.sched_box.specs.declared.fault.StreamFault.TheVariants as stream
 use Rattle.sched_box.specs.Faults.{IfRefusedStream, IsReadFault, StopsFor}
 use Rattle.sched_box.specs.Sending.{StopsSending}
 use Rattle.sched_box.specs.Preamble.{OpensStream, OpensNot, StopsInPreamble}
-use Rattle.sched_box.proofs.HostLemmas.{MadeSofar, kept_of_one}
+use Rattle.cal_events.proofs.shared_lemmas.SeriesLemmas.{zip_with}
+use Rattle.sched_box.proofs.HostLemmas.{MadeSofar}
 use Rattle.sched_box.proofs.ObjectLemmas.{after_short}
 
 -- ---- one more object
@@ -532,7 +533,7 @@ pub keeps_texts : (moment : ℤ) (hosts : Config) (news : Books) (ends : Ends) (
     → ((book : Book) → Represents room.meetings.entries book → IsKeptCalendar (address_octets room.address) book calendar) → IsKeptCertificate (address_octets room.address) calendar certificate
     → KeepsTexts moment hosts ends.input ends.left address calendar certificate
 keeps_texts moment hosts news ends report room address calendar certificate (after, hosted, all) among is text proof' =
-    let (kept, has, represents) = kept_of_one IsHosted news.rooms.rooms.items after.rooms room hosted.rooms among in
+    let (kept, has, represents) = zip_with IsHosted news.rooms.rooms.items after.rooms room hosted.rooms among in
     let S : List ℕ → Type 0 = λ a. IsKeptCalendar a kept.book calendar in
     record {
       objects = all.objects;
