@@ -43,6 +43,8 @@ WEEKDAYS = ["MO", "TU", "WE", "TH", "FR", "SA", "SU"]
 FIRST_DAY = datetime(2025, 1, 6)
 # where rules without an end are no longer followed
 HORIZON = int((FIRST_DAY + timedelta(days=500) - EPOCH).total_seconds())
+# so many schedules are one table
+TOGETHER = 25
 # of two bodies of one revision the cancelled one counts, then the absent one
 SET, ABSENT, CANCELLED = 0, 1, 2
 RANKS = ["NEEDS-ACTION", "TENTATIVE", "ACCEPTED", "DELEGATED", "DECLINED"]
@@ -524,11 +526,11 @@ class Drawing:
     def __init__(self, seed):
         self.draw = draw = random.Random(f"schedule {seed}")
         self.rooms = ["r1", "r2", "r3"][: draw.choice([1, 1, 2, 2, 3])]
-        self.organisers = ["ann", "ben"][: draw.choice([1, 2])]
+        self.organisers = ["ann", "ben"][: draw.choice([1, 2, 2])]
         if draw.random() < 0.1:
             self.organisers[-1] = "r1"
         self.people = [*self.rooms, *self.rooms, "zed", self.organisers[0]]
-        self.uids = ["u", "v"][: draw.choice([1, 2, 2])]
+        self.uids = ["u", "v"][: draw.choice([1, 2, 2, 2])]
         self.moment = datetime(2025, 1, 2)
         self.delivered = set()
 
@@ -555,7 +557,7 @@ class Drawing:
     def store(self, organiser):
         """An object to store, with faults now and then."""
         draw, uid = self.draw, self.draw.choice(self.uids)
-        start = FIRST_DAY + timedelta(days=draw.randrange(3), minutes=30 * draw.randrange(18, 24))
+        start = FIRST_DAY + timedelta(days=draw.randrange(2), minutes=30 * draw.randrange(18, 21))
         slots = [start + timedelta(days=it) for it in draw.sample(range(3), draw.choice([0, 0, 0, 1, 1, 2]))]
         slots = ([None] if draw.random() < 0.85 or not slots else []) + slots
         draw.shuffle(slots)
@@ -778,7 +780,7 @@ def main():
     parser.add_argument("--answers", type=Path)
     words = parser.parse_args()
     seeds = [f"{words.seed}-{number}" for number in range(words.schedules)]
-    parts = [seeds[place:place + 50] for place in range(0, len(seeds), 25)]
+    parts = [seeds[place:place + TOGETHER] for place in range(0, len(seeds), TOGETHER)]
     if words.tables:
         for number, part in enumerate(parts):
             Path(words.tables, f"{number:04}").write_text("".join(Case(seed, words.steps).line() + "\n" for seed in part))
