@@ -10,9 +10,9 @@ of it, each with its own attendees, agents, statuses and SEQUENCE; RRULE with an
 stores that are refused. What was sent is delivered late, again, out of order, to others than it was for, or never; moments stand still and go back.
 
 After each step are compared: all messages sent, octet by octet (the clash that a decline names is free: the two instances have to be there and to clash);
-what the room keeps whose step it was, or what the organiser shows of its meetings and sees of answers; and of all hosts at the end. And the simulation sees that what an organiser sees accepted
-is booked, that all that the organisers' texts show for a room is confirmed in its book, and that what is confirmed is clear. It ends with 1 where any of
-this failed.
+what the room keeps whose step it was, or what the organiser shows of its meetings and sees of answers; and all of that at the end. And the simulation sees
+that what an organiser sees accepted is booked, that all that the organisers' texts show for a room is confirmed in its book, and that what is confirmed is
+clear. It ends with 1 where any of this failed.
 
 Days of rules are dateutil's, clocks are zoneinfo's. A rule without an end is followed for 500 days: all rules without one are daily or weekly, of intervals
 up to three days or two weeks, so they meet within 42 days on either side of a change of the clocks, or never.
@@ -363,7 +363,8 @@ class Stored:
         self.sequence = max(own, last.sequence + 1) if last else own
         self.off = any(it.cancelled and it.slot is None for it in self.components)
         self.named = list(dict.fromkeys(address for it in self.components for address in it.attendees))
-        by_server = {address for it in self.components for address, parameters in it.attendees.items() if parameters.get("SCHEDULE-AGENT", "SERVER").upper() == "SERVER"}
+        agents = [(address, parameters.get("SCHEDULE-AGENT", "SERVER").upper()) for it in self.components for address, parameters in it.attendees.items()]
+        by_server = {address for address, agent in agents if agent == "SERVER"}
         self.left = [it for it in self.named if it in by_server and it != organiser]
         before = last.left if last else []
         # whom no component names any more; a meeting that is called off is cancelled for all of both stores
@@ -617,15 +618,18 @@ class Drawing:
         for name, chance in (("RDATE", 0.25), ("EXDATE", 0.25)):
             if draw.random() < chance:
                 dates = draw.sample(near, draw.choice([1, 1, 2]))
-                lines += [self.timed(name, it, draw.choice([None, zone])) for it in dates] if draw.random() < 0.5 else [f"{name}:" + ",".join(f"{it:%Y%m%dT%H%M%SZ}" for it in dates)]
+                apart = draw.random() < 0.5
+                lines += [self.timed(name, it, draw.choice([None, zone])) for it in dates] if apart else [f"{name}:" + ",".join(f"{it:%Y%m%dT%H%M%SZ}" for it in dates)]
         return lines
 
     def rule(self, local, start):
         draw, own, other = self.draw, WEEKDAYS[local.weekday()], self.draw.choice(WEEKDAYS)
+        weekly = ["FREQ=WEEKLY", f"FREQ=WEEKLY;BYDAY={other},{own}"]
         if draw.random() < 0.25:
-            return draw.choice(["FREQ=DAILY", "FREQ=DAILY;INTERVAL=2", "INTERVAL=3;FREQ=DAILY", "FREQ=WEEKLY", "FREQ=WEEKLY;INTERVAL=2", f"FREQ=WEEKLY;BYDAY={other},{own}"])
-        form = draw.choice(["FREQ=DAILY", "FREQ=DAILY", "FREQ=DAILY;INTERVAL=2", f"FREQ=DAILY;BYDAY={own},{other}", "FREQ=WEEKLY", f"FREQ=WEEKLY;BYDAY={other},{own}",
-                            "FREQ=MONTHLY", f"FREQ=MONTHLY;BYDAY={(local.day + 6) // 7}{own}", f"FREQ=MONTHLY;BYMONTHDAY={local.day}"])
+            return draw.choice(["FREQ=DAILY", "FREQ=DAILY;INTERVAL=2", "INTERVAL=3;FREQ=DAILY", *weekly, "FREQ=WEEKLY;INTERVAL=2"])
+        daily = ["FREQ=DAILY", "FREQ=DAILY", "FREQ=DAILY;INTERVAL=2", f"FREQ=DAILY;BYDAY={own},{other}"]
+        monthly = ["FREQ=MONTHLY", f"FREQ=MONTHLY;BYDAY={(local.day + 6) // 7}{own}", f"FREQ=MONTHLY;BYMONTHDAY={local.day}"]
+        form = draw.choice([*daily, *weekly, *monthly])
         if "MONTHLY" not in form and draw.random() < 0.3:
             until = start + timedelta(days=draw.randrange(0, 12))
             return f"{form};UNTIL=" + draw.choice([f"{until:%Y%m%dT%H%M%SZ}", f"{until + timedelta(days=1):%Y%m%d}"])
@@ -688,9 +692,9 @@ class Case:
             for uid in book.stores if is_asked(organiser) else []:
                 self.ask(f"shown {name_of(organiser)} {uid}", book.text(uid))
                 slot = next((it[1] for it in reversed(book.replies) if it[0] == uid), None)
+                asked = f"seen {name_of(organiser)} {uid} {'whole' if slot is None else utc(slot)}"
                 for whom in [*self.world.rooms, address("zed")]:
-                    seen = book.seen(uid, slot, whom)
-                    self.ask(f"seen {name_of(organiser)} {uid} {'whole' if slot is None else utc(slot)} {name_of(whom)}", (seen or "none").lower().replace("-", " "))
+                    self.ask(f"{asked} {name_of(whom)}", (book.seen(uid, slot, whom) or "none").lower().replace("-", " "))
 
     def ask(self, question, answer):
         self.columns.append(question)
