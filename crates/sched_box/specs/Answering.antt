@@ -1,6 +1,7 @@
 -- What the rooms of a box answer to a message.
 use Rattle.std.specs.Prelude.{◌≡◌, ◌⊎◌, ℕ, ℤ, List, [], ◌∷◌, ◌++◌, map, Option, Some, None, Vec, false}
 use Rattle.std.specs.List.{AllZip, list_any}
+use Rattle.std.specs.Option.{option_to_list}
 use Rattle.std.specs.Str.{bytes_eq}
 use Rattle.ical_values.specs.Octets.{address_octets}
 use Rattle.itip_messages.specs.Message.{RepresentsMessage}
@@ -11,6 +12,8 @@ use Rattle.profile.specs.streams.Streams.{Hosted, Takes, TakesMessage}
 use Rattle.profile.specs.streams.Worlds as worlds
 use Rattle.profile.specs.streams.Worlds.{ChangesOne}
 use Rattle.room_books.specs.Room.{Represents}
+use Rattle.room_books.specs.Taking.{refresh_octets, reply_octets}
+use Rattle.room_books.specs.declared.answer.Answer.{Answer}
 use Rattle.room_books.specs.declared.room.Room.{Room}
 
 -- the addresses of the rooms, in order
@@ -33,6 +36,10 @@ nothing_taken address = record { address = address; book = empty_book }
 -- objects, each as its octets
 abbrev pub octets_each : {Z : Type 0} → List (Vec ℕ Z) → List (List ℕ)
 octets_each objects = map (λ object. object.items) objects
+
+-- what a room's answer sends: a reply, and a refresh after it
+abbrev pub sent_by : Answer → List (List ℕ)
+sent_by answer = option_to_list (reply_octets answer) ++ option_to_list (refresh_octets answer)
 
 -- a room takes the message and sends these objects, from whatever it represents
 abbrev pub RoomSends : ℤ → Message → Room → Room → List (List ℕ) → Type 0

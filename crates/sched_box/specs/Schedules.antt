@@ -5,7 +5,7 @@ use Rattle.ical_values.specs.declared.address.Address.{Address}
 use Rattle.itip_messages.specs.Message.{RepresentsMessage}
 use Rattle.itip_messages.specs.declared.message.Message.{Message}
 use Rattle.profile.specs.events.Messages as profile
-use Rattle.profile.specs.streams.Streams.{Hosted, HostedOrganiser}
+use Rattle.profile.specs.streams.Streams.{Hosted, HostedOrganiser, ObjectFault}
 use Rattle.profile.specs.streams.Worlds as worlds
 use Rattle.profile.specs.streams.Worlds.{IsRefusedBy, IsWorldStep, OrganiserSends, Plays, Storing, Delivering, has_organiser, new_world}
 use Rattle.organiser_books.specs.declared.organiser.Organiser.{Organiser}
@@ -60,9 +60,17 @@ pub record IsWorldWith (world : World) (more : List (List ℕ)) (said : worlds.W
 abbrev pub TakesStep : worlds.Step → World → World → List (List ℕ) → Type 0
 TakesStep step old new more = (before : worlds.World) → IsWorldOf old before → (after : worlds.World) × IsWorldWith new more after × IsWorldStep step before after
 
+-- the world after the step sends what comes of it
+abbrev pub LeadsOn : worlds.Step → World → World → Type 0
+LeadsOn step old new = (before : worlds.World) → IsWorldOf old before → (after : worlds.World) × IsWorldOf new after × IsWorldStep step before after
+
 -- no organiser of this address takes the object
 abbrev pub NobodyTakes : List ℕ → profile.Message → worlds.World → Type 0
 NobodyTakes to said before = (has_organiser to before ≡ false) ⊎ IsRefusedBy to said before
+
+-- the octets are no message
+abbrev pub IsUnread : List ℕ → Type 0
+IsUnread octets = (n : ℕ) × ObjectFault n octets
 
 -- the organiser of this address takes the object and sends these, or nothing happens
 abbrev pub TellsOrganiser : List ℕ → ℤ → Message → World → World → List (List ℕ) → Type 0

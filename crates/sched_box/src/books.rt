@@ -1,6 +1,7 @@
 //! What a box keeps, in one value: it takes one object after another, and answers each.
 
 ghost use Rattle.std.specs.Prelude.{◌≡◌, ◌++◌, List, ℕ, IfOk, IfErr, OnOk};
+ghost use Rattle.std.specs.List.{flat_map};
 ghost use Rattle.ical_lines.specs.Fault.{RefusesBy};
 ghost use Rattle.itip_messages.specs.Message.{IsSpelled};
 ghost use Rattle.profile.specs.streams.Streams.{ObjectFault, refused_line};

@@ -22,6 +22,7 @@ impl Directory {
     ghost use Rattle.std.specs.List.{list_any};
     ghost use Rattle.std.specs.Str.{bytes_eq};
     ghost use Rattle.ical_values.specs.Octets.{address_octets};
+    ghost use Rattle.profile.specs.rooms.Kept.{each_once};
     ghost use Rattle.sched_box.specs.Asked.{LeavesOut, asks, directory_addresses, names};
 
     /// The directory of these hosts; an address that is given twice counts once.

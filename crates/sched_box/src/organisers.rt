@@ -1,18 +1,19 @@
 //! The organisers of a box: what comes to one goes to the one whose address it names.
 
-ghost use Rattle.std.specs.Prelude.{◌≡◌, ◌<◌, ◌++◌, ℕ, List, [], false, length, get_or, IfOk, IfErr, OnOk};
-ghost use Rattle.std.specs.List.{flat_map};
+ghost use Rattle.std.specs.Prelude.{◌≡◌, ◌<◌, ◌∷◌, List, [], false, length, get_or, map, Contains, IfOk, IfErr, IfSome, IfNone};
+ghost use Rattle.std.specs.List.{list_any};
+ghost use Rattle.std.specs.Str.{bytes_eq};
 ghost use Rattle.ical_lines.specs.Fault.{RefusesBy};
 ghost use Rattle.ical_values.specs.Octets.{address_octets};
 ghost use Rattle.ical_values.specs.Refused.{IfRefused};
+ghost use Rattle.cal_events.specs.Component.{method_said};
 ghost use Rattle.profile.specs.events.Messages.{is_to_rooms};
 ghost use Rattle.profile.specs.organisers.Organisers.{empty_organiser};
-ghost use Rattle.cal_events.specs.Component.{method_said};
-ghost use Rattle.profile.specs.streams.Streams.{new_box};
+ghost use Rattle.profile.specs.rooms.Kept.{each_once};
 ghost use Rattle.organiser_books.specs.Representation.{Keeps, address_of};
+ghost use Rattle.sched_box.specs.Answering.{octets_each};
 ghost use Rattle.sched_box.specs.Asked.{directory_addresses};
-ghost use Rattle.sched_box.specs.Config.{config_hosts, config_organisers};
-ghost use Rattle.sched_box.specs.Organising.{AreKeptBy, KeepBooks, KeepsBook, OrganiserRefuses, OrganiserTakes, OrganisersRefuse, OrganisersTake, organiser_addresses};
+ghost use Rattle.sched_box.specs.Organising.{AreKeptBy, KeepBooks, KeepsBook, OrganiserRefuses, OrganiserTakes, OrganisersRefuse, OrganisersTake, nothing_kept, organiser_addresses};
 
 use crate::directory::Directory;
 use cal_events::Method;
@@ -44,9 +45,13 @@ impl Organisers {
     }
 
     /// The organiser of an address, if it is hosted.
-    pub(crate) fn at(&self, address: &Address) -> Option<&Organiser> {
+    pub(crate) fn at(&self, address: &Address) -> Option<&Organiser>
+        ensures found { IfSome result (λ organiser. Contains self.now.organisers.items organiser.now) }
+        ensures address { IfSome result (λ organiser. address_of organiser.now ≡ address_octets address.now) }
+        ensures none { IfNone result (list_any (bytes_eq (address_octets address.now)) (organiser_addresses self.now.organisers.items) ≡ false) }
+    {
         let place = self.directory.place_of(address)?;
-        self.organisers.get(place)
+        Some(&self.organisers[place])
     }
 
     /// Hands an object to the organiser that it names: what that sends.
@@ -122,17 +127,40 @@ fn take_object(
     ensures keeps { IfErr result (IfRefused (KeepsBook organiser.old organiser.new)) }
     ensures address { address_of organiser.new ≡ address_of organiser.old }
 {
-    let mut sent = Vec::new(alloc);
     match object.method() {
         Method::Store => {
-            for one in organiser.store(object, now)? {
-                sent.push(one.octets)?;
-            }
+            let sent = organiser.store(object, now)?;
+            Ok(objects_of(alloc, sent)?)
         }
-        Method::Reply => organiser.take_reply(object)?,
-        Method::Refresh => sent.push(organiser.take_refresh(object)?)?,
+        Method::Reply => {
+            organiser.take_reply(object)?;
+            Ok(Vec::new(alloc))
+        }
+        Method::Refresh => {
+            let octets = organiser.take_refresh(object)?;
+            Ok(only(alloc, octets)?)
+        }
         // a message to rooms isn't handed to an organiser
         Method::Request | Method::Add | Method::Cancel => unreachable!(),
     }
-    Ok(sent)
+}
+
+/// What an organiser sends, in its order.
+fn objects_of(alloc: Global, sent: Vec<Outgoing>) -> Result<Vec<Vec<u8>>, AllocError>
+    ensures { IfOk result (λ objects. octets_each objects.items ≡ map (λ one. one.octets.items) sent.items) }
+{
+    let mut objects = Vec::new(alloc);
+    for one in sent {
+        objects.push(one.octets)?;
+    }
+    Ok(objects)
+}
+
+/// One object alone.
+fn only(alloc: Global, octets: Vec<u8>) -> Result<Vec<Vec<u8>>, AllocError>
+    ensures { IfOk result (λ objects. octets_each objects.items ≡ octets.items ∷ []) }
+{
+    let mut objects = Vec::new(alloc);
+    objects.push(octets)?;
+    Ok(objects)
 }

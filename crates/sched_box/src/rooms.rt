@@ -1,14 +1,18 @@
 //! The rooms of a box: a message goes to each that it may be for, in turn.
 
-ghost use Rattle.std.specs.Prelude.{◌≡◌, ◌++◌, ℕ, List, length, Contains, option_map, IfOk, IfSome, IsNone, OnOk};
+ghost use Rattle.std.specs.Prelude.{◌≡◌, ◌<◌, ◌++◌, ℕ, List, [], true, false, length, get_or, map, Contains, option_map, IfOk, IfSome, IfNone, OnOk};
+ghost use Rattle.std.specs.List.{list_any};
+ghost use Rattle.std.specs.Option.{option_to_list};
+ghost use Rattle.std.specs.Str.{bytes_eq};
 ghost use Rattle.ical_values.specs.Octets.{address_octets};
-ghost use Rattle.profile.specs.streams.Streams.{new_box};
+ghost use Rattle.cal_events.specs.Component.{method_said};
+ghost use Rattle.profile.specs.events.Messages.{is_to_rooms};
+ghost use Rattle.profile.specs.rooms.Kept.{each_once};
 ghost use Rattle.profile.specs.rooms.Rooms.{empty_book};
 ghost use Rattle.room_books.specs.Room.{Represents};
-ghost use Rattle.std.specs.Str.{bytes_eq};
-ghost use Rattle.sched_box.specs.Answering.{AreHosted, RoomTakes, RoomsTake, room_addresses, sent_octets};
+ghost use Rattle.room_books.specs.Taking.{octets_in};
+ghost use Rattle.sched_box.specs.Answering.{AreHosted, RoomTakes, RoomsSend, RoomsTake, nothing_taken, octets_each, room_addresses, sent_by, sent_octets};
 ghost use Rattle.sched_box.specs.Asked.{LeavesOut, asks, directory_addresses};
-ghost use Rattle.sched_box.specs.Config.{config_hosts, config_rooms};
 
 use crate::directory::Directory;
 use ical_values::{Address, Stamp};
@@ -39,10 +43,10 @@ impl Rooms {
     pub(crate) fn at(&self, address: &Address) -> Option<&Room>
         ensures found { IfSome result (λ room. Contains self.now.rooms.items room.now) }
         ensures address { IfSome result (λ room. address_octets room.now.address ≡ address_octets address.now) }
-        ensures none { IsNone result → Contains (room_addresses self.now.rooms.items) (address_octets address.now) → ⊥ }
+        ensures none { IfNone result (list_any (bytes_eq (address_octets address.now)) (room_addresses self.now.rooms.items) ≡ false) }
     {
         let place = self.directory.place_of(address)?;
-        self.rooms.get(place)
+        Some(&self.rooms[place])
     }
 
     /// Hands a message to each room that it may be for, in turn, and appends what they answer.
@@ -68,12 +72,16 @@ impl Rooms {
         to: &Address,
         message: &Message,
         now: Stamp,
-    ) -> Result<Vec<Vec<u8>>, AllocError> {
+    ) -> Result<Vec<Vec<u8>>, AllocError>
+        requires for_rooms { is_to_rooms (method_said message.now.method) ≡ true }
+        ensures { IfOk result (λ sent. RoomsSend (address_octets to.now) now message.now self.old.rooms.items self.new.rooms.items (octets_each sent.items)) }
+    {
         let mut sent = Vec::new(alloc);
-        if let Some(place) = self.directory.place_of(to) {
-            let answer = take_at(&mut self.rooms, place, message, now)?;
-            push_answer(&mut sent, answer)?;
-        }
+        let Some(place) = self.directory.place_of(to) else {
+            return Ok(sent);
+        };
+        let answer = take_at(&mut self.rooms, place, message, now)?;
+        push_answer(&mut sent, answer)?;
         Ok(sent)
     }
 }
@@ -153,12 +161,19 @@ fn take_at(
     place: usize,
     message: &Message,
     now: Stamp,
-) -> Result<Answer, AllocError> {
+) -> Result<Answer, AllocError>
+    requires for_rooms { is_to_rooms (method_said message.now.method) ≡ true }
+    requires within { place < length rooms.old.items }
+    ensures sends { IfOk result (λ answer. RoomsSend (get_or (room_addresses rooms.old.items) place []) now message.now rooms.old.items rooms.new.items (sent_by answer)) }
+    ensures addresses { room_addresses rooms.new.items ≡ room_addresses rooms.old.items }
+{
     rooms[place].take(message, now)
 }
 
 /// Adds what a room sends: its reply and then its refresh.
-fn push_answer(sent: &mut Vec<Vec<u8>>, answer: Answer) -> Result<(), AllocError> {
+fn push_answer(sent: &mut Vec<Vec<u8>>, answer: Answer) -> Result<(), AllocError>
+    ensures { OnOk result (octets_each sent.new.items ≡ octets_each sent.old.items ++ sent_by answer) }
+{
     let Answer {
         kind: _,
         reply,
@@ -169,7 +184,9 @@ fn push_answer(sent: &mut Vec<Vec<u8>>, answer: Answer) -> Result<(), AllocError
 }
 
 /// Adds an object, if there is one.
-fn push(sent: &mut Vec<Vec<u8>>, object: Option<Vec<u8>>) -> Result<(), AllocError> {
+fn push(sent: &mut Vec<Vec<u8>>, object: Option<Vec<u8>>) -> Result<(), AllocError>
+    ensures { OnOk result (octets_each sent.new.items ≡ octets_each sent.old.items ++ option_to_list (octets_in object)) }
+{
     if let Some(octets) = object {
         sent.push(octets)?;
     }

@@ -1,12 +1,12 @@
 //! A schedule: organisers store meetings, and what anyone ever sent is delivered, in any order, repeated or not at all.
 //! The messages of a world are numbered in the order in which they are written.
 
-ghost use Rattle.std.specs.Prelude.{map, IfOk};
+ghost use Rattle.std.specs.Prelude.{map, IfOk, MatchOption};
 ghost use Rattle.ical_values.specs.Octets.{address_octets};
-ghost use Rattle.profile.specs.streams.Streams.{ObjectFault};
-ghost use Rattle.profile.specs.streams.Worlds.{Plays, new_world};
 ghost use Rattle.itip_messages.specs.Message.{IsSpelled};
-ghost use Rattle.sched_box.specs.Schedules.{IsPlayed, IsWorldOf, step_said};
+ghost use Rattle.profile.specs.streams.Worlds as worlds;
+ghost use Rattle.profile.specs.streams.Worlds.{Plays, new_world};
+ghost use Rattle.sched_box.specs.Schedules.{IsPlayed, IsUnread, IsWorldOf, step_said};
 
 use crate::organisers::Organisers;
 use crate::rooms::Rooms;
@@ -53,7 +53,23 @@ pub fn play(
     rooms: &[Address],
     organisers: &[Address],
     steps: &[Step],
-) -> Result<World, AllocError> {
+) -> Result<World, AllocError>
+    ensures plays { IfOk result (λ world. (after : worlds.World)
+        × Plays (map step_said steps.now) (new_world (map address_octets rooms.now) (map address_octets organisers.now)) after × IsWorldOf world after) }
+{
+    let world = played(alloc, rooms, organisers, steps)?;
+    Ok(world)
+}
+
+/// Takes these steps one after another, from a world in which nothing happened yet.
+fn played(
+    alloc: Global,
+    rooms: &[Address],
+    organisers: &[Address],
+    steps: &[Step],
+) -> Result<World, AllocError>
+    ensures { IfOk result (IsPlayed rooms.now organisers.now steps.now) }
+{
     let mut world = World::new(alloc, rooms, organisers)?;
     for step in steps {
         world.take(step)?;
@@ -62,23 +78,42 @@ pub fn play(
 }
 
 impl World {
+    ghost use Rattle.std.specs.Prelude.{◌≡◌, false, map, Contains, IfOk, IfSome, IfNone, OnOk};
+    ghost use Rattle.ical_values.specs.Octets.{address_octets};
+    ghost use Rattle.cal_events.specs.Component.{method_said};
+    ghost use Rattle.profile.specs.events.Messages.{is_to_rooms};
+    ghost use Rattle.profile.specs.streams.Worlds as worlds;
+    ghost use Rattle.profile.specs.streams.Worlds.{Delivering, Storing, has_organiser, has_room, new_world};
+    ghost use Rattle.sched_box.specs.Answering.{octets_each};
+    ghost use Rattle.sched_box.specs.Schedules.{IsOrganiserOf, IsRoomOf, IsWorldOf, LeadsOn, TakesStep, TellsOrganiser, step_said};
+
     /// The room of this address, if it is hosted.
-    pub fn room(&self, address: &Address) -> Option<&Room> {
+    pub fn room(&self, address: &Address) -> Option<&Room>
+        ensures found { IfSome result (λ room. (said : worlds.World) → IsWorldOf self.now said → IsRoomOf (address_octets address.now) room.now said) }
+        ensures none { IfNone result ((said : worlds.World) → IsWorldOf self.now said → has_room (address_octets address.now) said ≡ false) }
+    {
         self.rooms.at(address)
     }
 
     /// The organiser of this address, if it is hosted.
-    pub fn organiser(&self, address: &Address) -> Option<&Organiser> {
+    pub fn organiser(&self, address: &Address) -> Option<&Organiser>
+        ensures found { IfSome result (λ organiser. (said : worlds.World) → IsWorldOf self.now said → IsOrganiserOf (address_octets address.now) organiser.now said) }
+        ensures none { IfNone result ((said : worlds.World) → IsWorldOf self.now said → has_organiser (address_octets address.now) said ≡ false) }
+    {
         self.organisers.at(address)
     }
 
     /// All messages that were sent, as octets, in the order in which they were written.
-    pub fn sent(&self) -> &[Vec<u8>] {
+    pub fn sent(&self) -> &[Vec<u8>]
+        ensures { (said : worlds.World) → IsWorldOf self.now said → octets_each result.now ≡ said.sent }
+    {
         self.sent.as_slice()
     }
 
     /// A world in which nothing happened yet.
-    fn new(alloc: Global, rooms: &[Address], organisers: &[Address]) -> Result<World, AllocError> {
+    fn new(alloc: Global, rooms: &[Address], organisers: &[Address]) -> Result<World, AllocError>
+        ensures { IfOk result (λ world. IsWorldOf world (new_world (map address_octets rooms.now) (map address_octets organisers.now))) }
+    {
         Ok(World {
             alloc,
             rooms: Rooms::new(alloc, rooms)?,
@@ -88,16 +123,26 @@ impl World {
     }
 
     /// Takes one step.
-    fn take(&mut self, step: &Step) -> Result<(), AllocError> {
-        let mut sent = match step {
+    fn take(&mut self, step: &Step) -> Result<(), AllocError>
+        ensures { OnOk result (LeadsOn (step_said step.now) self.old self.new) }
+    {
+        let mut sent = self.effect(step)?;
+        self.sent.append(&mut sent)?;
+        Ok(())
+    }
+
+    /// What a step does to the hosts: what they send, which isn't among the messages yet.
+    fn effect(&mut self, step: &Step) -> Result<Vec<Vec<u8>>, AllocError>
+        ensures { IfOk result (λ sent. TakesStep (step_said step.now) self.old self.new (octets_each sent.items)) }
+    {
+        match step {
             Step::Store {
                 organiser,
                 object,
                 now,
-            } => self.store(organiser, object, *now)?,
-            Step::Deliver { message, to, now } => self.deliver(*message, to, *now)?,
-        };
-        self.sent.append(&mut sent)
+            } => self.store(organiser, object, *now),
+            Step::Deliver { message, to, now } => self.deliver(*message, to, *now),
+        }
     }
 
     /// Gives an organiser an object to store: what it sends.
@@ -106,22 +151,22 @@ impl World {
         organiser: &Address,
         object: &[u8],
         now: Stamp,
-    ) -> Result<Vec<Vec<u8>>, AllocError> {
-        match message_of(self.alloc, object)? {
-            Some(message) if message.method() == Method::Store => {
-                self.tell_organiser(organiser, &message, now)
-            }
-            _ => Ok(Vec::new(self.alloc)),
+    ) -> Result<Vec<Vec<u8>>, AllocError>
+        ensures { IfOk result (λ sent. TakesStep (Storing (address_octets organiser.now) object.now now) self.old self.new (octets_each sent.items)) }
+    {
+        let Some(message) = message_of(self.alloc, object)? else {
+            return Ok(Vec::new(self.alloc));
+        };
+        if message.method() != Method::Store {
+            return Ok(Vec::new(self.alloc));
         }
+        self.tell_organiser(organiser, &message, now)
     }
 
     /// Delivers a message by its number: what is sent of it.
-    fn deliver(
-        &mut self,
-        number: u32,
-        to: &Address,
-        now: Stamp,
-    ) -> Result<Vec<Vec<u8>>, AllocError> {
+    fn deliver(&mut self, number: u32, to: &Address, now: Stamp) -> Result<Vec<Vec<u8>>, AllocError>
+        ensures { IfOk result (λ sent. TakesStep (Delivering number (address_octets to.now) now) self.old self.new (octets_each sent.items)) }
+    {
         let Some(octets) = self.sent.get(number as usize) else {
             return Ok(Vec::new(self.alloc));
         };
@@ -145,7 +190,10 @@ impl World {
         organiser: &Address,
         object: &Message,
         now: Stamp,
-    ) -> Result<Vec<Vec<u8>>, AllocError> {
+    ) -> Result<Vec<Vec<u8>>, AllocError>
+        requires { is_to_rooms (method_said object.now.method) ≡ false }
+        ensures { IfOk result (λ sent. TellsOrganiser (address_octets organiser.now) now object.now self.old self.new (octets_each sent.items)) }
+    {
         if *object.organiser() != *organiser {
             return Ok(Vec::new(self.alloc));
         }
@@ -158,7 +206,9 @@ impl World {
 }
 
 /// The message that octets spell; None where they are refused.
-fn message_of(alloc: Global, octets: &[u8]) -> Result<Option<Message>, AllocError> {
+fn message_of(alloc: Global, octets: &[u8]) -> Result<Option<Message>, AllocError>
+    ensures { IfOk result (λ read. MatchOption read (IsUnread octets.now) (IsSpelled octets.now)) }
+{
     match Message::read(alloc, octets) {
         Ok(message) => Ok(Some(message)),
         Err(Fault::Refused(_)) => Ok(None),
