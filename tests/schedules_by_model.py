@@ -4,6 +4,7 @@ each step computes every book anew from what its owner took.
     python3 tests/schedules_by_model.py bin/schedule_examples [--schedules 10000] [--seed 1] [--jobs 2]
     python3 tests/schedules_by_model.py --tables FOLDER [--schedules 500]     # writes the schedules as tables, to be run by `rt try --cases FOLDER`
     python3 tests/schedules_by_model.py --answers FILE [--schedules 500]      # and judges what was printed for them
+    python3 tests/schedules_by_model.py --table N       # prints N schedules for crates/schedule_examples/data/random.txt, and the lines of stdout
 
 A schedule has one to three rooms, one or two organisers, of which one may have the address of a room, and stores of two meetings: the whole and instances
 of it, each with its own attendees, agents, statuses and SEQUENCE; RRULE with an end and without, RDATE, EXDATE, nominal days, times in UTC and in a zone;
@@ -645,6 +646,11 @@ def spelled(octets, digits="x"):
     return "".join(known.get(it) or (chr(it) if 32 <= it < 127 else f"\\x{it:02{digits}}") for it in octets)
 
 
+def said(wanted):
+    """An answer that is a word, or the lines of an object."""
+    return wanted if isinstance(wanted, str) else spelled(folded(wanted))
+
+
 def octets_of(text):
     return text.encode().decode("unicode_escape").encode("latin-1")
 
@@ -654,10 +660,10 @@ def name_of(whom):
 
 
 class Case:
-    """A schedule as a line of a table, with questions behind each step, and what is to be answered."""
+    """A schedule as a line of a table, with questions behind each step or at the end alone, and what is to be answered."""
 
-    def __init__(self, seed, steps):
-        self.seed, self.columns, self.wanted, self.faults = seed, [], [], []
+    def __init__(self, seed, steps, at_end=False):
+        self.seed, self.at_end, self.columns, self.wanted, self.faults = seed, at_end, [], [], []
         drawing = Drawing(seed)
         self.world = World([address(it) for it in drawing.rooms], [address(it) for it in drawing.organisers])
         # an address that is given twice counts once
@@ -666,8 +672,10 @@ class Case:
         for number in range(drawing.draw.randrange(2, steps + 1)):
             step = drawing.step(self.world)
             self.add(step)
-            self.ask_of(lambda whom: whom == step.who)
+            self.ask_of(lambda whom: whom == step.who and not at_end)
             self.faults += [f"after step {number}: {it}" for it in self.world.faults()]
+        if at_end:
+            self.ask_sent()
         self.ask_of(lambda whom: True)
 
     def add(self, step):
@@ -677,11 +685,15 @@ class Case:
             self.columns.append(f"octets {name_of(step.who)} {spelled(step.what.encode(), 'X')}")
         else:
             self.columns.append(f"deliver {step.what} {name_of(step.who)}")
-        world = self.world
-        world.play(step)
-        self.ask("sent", " ".join(next(it for it in lines if it.startswith("METHOD:"))[7:] for lines, _ in world.sent) or "none")
-        for number in range(told, len(world.sent)):
-            self.ask(f"sent {number}", world.sent[number])
+        self.world.play(step)
+        if not self.at_end:
+            self.ask_sent()
+            for number in range(told, len(self.world.sent)):
+                self.ask(f"sent {number}", self.world.sent[number])
+
+    def ask_sent(self):
+        """The METHODs of all messages."""
+        self.ask("sent", " ".join(next(it for it in lines if it.startswith("METHOD:"))[7:] for lines, _ in self.world.sent) or "none")
 
     def ask_of(self, is_asked):
         """What some hosts keep, show and see."""
@@ -712,8 +724,8 @@ class Case:
         for (question, step, wanted), found in zip(self.wanted, answers):
             if isinstance(wanted, tuple):
                 yield from (f"step {step}, {question}: {it}" for it in judged_message(wanted, found, named))
-            elif found != (wanted if isinstance(wanted, str) else spelled(folded(wanted))):
-                yield f"step {step}, {question}: {found}\n    not {wanted if isinstance(wanted, str) else spelled(folded(wanted))}"
+            elif found != said(wanted):
+                yield f"step {step}, {question}: {found}\n    not {said(wanted)}"
 
 
 def judged_message(wanted, found, named):
@@ -782,7 +794,14 @@ def main():
     parser.add_argument("--jobs", type=int, default=2)
     parser.add_argument("--tables", type=Path)
     parser.add_argument("--answers", type=Path)
+    parser.add_argument("--table", type=int)
     words = parser.parse_args()
+    if words.table:
+        for number in range(words.table):
+            case = Case(f"table {number}", 16, at_end=True)
+            print(case.line())
+            print(f"schedule {case.seed}: " + " | ".join(said(it) for _, _, it in case.wanted), file=sys.stderr)
+        return 0
     seeds = [f"{words.seed}-{number}" for number in range(words.schedules)]
     parts = [seeds[place:place + TOGETHER] for place in range(0, len(seeds), TOGETHER)]
     if words.tables:

@@ -1,8 +1,8 @@
 //! Worked examples of schedules: organisers store meetings, and what was sent is delivered to any address, in any order, again or not at all. Each line of
-//! the table `schedules.txt` names a case and has its steps and questions (`scene`). What is printed of each case is compared by `rt ci` with the file
-//! `stdout`, whose lines are made by hand.
+//! a table names a case and has its steps and questions (`scene`): `schedules.txt` was made by hand, `random.txt` by tests/schedules_by_model.py. What is
+//! printed of each case is compared by `rt ci` with the file `stdout`, whose lines were made beside the tables.
 //!
-//! A table that is named as an argument takes its place: random schedules (tests/schedules_by_model.py), or a long one (`make bench`).
+//! A table that is named as an argument takes the place of both: thousands of random schedules, or a long one (`make bench`).
 #![tactic(auto)]
 
 mod names;
@@ -12,26 +12,25 @@ mod scene;
 use example_cases::answers::print_answer;
 use example_cases::{Answers, Case, NoAnswer};
 use scene::Scene;
-use std::env::{self, Env};
 use std::rt::Files;
-use std::{fs, io};
+use std::{env, fs, io};
 
 fn main(rt: HostRuntime) -> io::Result<()> {
-    let table = table(&rt)?;
+    if let Some(table) = env::args(&rt)?.nth(1) {
+        return print_answers(&rt, table.as_str());
+    }
+    print_answers(&rt, "schedules.txt")?;
+    print_answers(&rt, "random.txt")
+}
+
+fn print_answers<R: Files + Print + AllocGlobal>(rt: &R, table: &str) -> io::Result<()> {
+    let table = fs::read_to_string(rt, table)?;
     for line in table.lines() {
         if let Some(case) = Case::of(line) {
-            print_answer(&rt, case, answer(&rt, case))?;
+            print_answer(rt, case, answer(rt, case))?;
         }
     }
     Ok(())
-}
-
-/// The table that is named, else that of the worked examples.
-fn table<R: Env + Files + AllocGlobal>(rt: &R) -> io::Result<String> {
-    match env::args(rt)?.nth(1) {
-        Some(name) => fs::read_to_string(rt, name.as_str()),
-        None => fs::read_to_string(rt, "schedules.txt"),
-    }
 }
 
 /// What the questions of a case answer.
