@@ -45,7 +45,7 @@ bin/worked_examples: bin/roombox FORCE
 	@-cd crates/worked_examples && $(RT) run < /dev/null > /dev/null 2> ../../out/build.log
 	@cp crates/worked_examples/out/worked_examples bin/worked_examples || { cat out/build.log; exit 1; }
 
-# Those of schedules, of which bench takes a long one. Without its table the program itself ends at once.
+# Those of schedules, of which bench takes a long one. Without its tables the program itself ends at once.
 bin/schedule_examples: bin/roombox FORCE
 	@rm -f crates/schedule_examples/out/schedule_examples
 	@-cd crates/schedule_examples && $(RT) run < /dev/null > /dev/null 2> ../../out/build.log

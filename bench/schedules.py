@@ -56,8 +56,9 @@ def schedule(meetings):
 def run(program, table):
     """Seconds, peak octets, status and output of the program with a table."""
     with tempfile.TemporaryDirectory() as folder, tempfile.TemporaryFile() as output:
-        Path(folder, "schedules.txt").write_text(table, encoding="ascii")
-        child = subprocess.Popen([program], stdin=subprocess.DEVNULL, stdout=output, cwd=folder)
+        path = Path(folder, "table")
+        path.write_text(table, encoding="ascii")
+        child = subprocess.Popen([program, str(path)], stdin=subprocess.DEVNULL, stdout=output)
         _, status, usage = os.wait4(child.pid, 0)
         child.returncode = os.waitstatus_to_exitcode(status)
         output.seek(0)

@@ -770,8 +770,9 @@ def played(program, seeds, steps):
     """The verdicts on some schedules, and what they met."""
     cases = [Case(seed, steps) for seed in seeds]
     with tempfile.TemporaryDirectory() as folder:
-        Path(folder, "schedules.txt").write_text("".join(case.line() + "\n" for case in cases))
-        ran = subprocess.run([program], cwd=folder, capture_output=True, check=False)
+        table = Path(folder, "table")
+        table.write_text("".join(case.line() + "\n" for case in cases), encoding="ascii")
+        ran = subprocess.run([program, str(table)], capture_output=True, check=False)
     return judgement(cases, ran.stdout.decode(), ran.returncode)
 
 
