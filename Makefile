@@ -45,10 +45,16 @@ bin/worked_examples: bin/roombox FORCE
 	@-cd crates/worked_examples && $(RT) run < /dev/null > /dev/null 2> ../../out/build.log
 	@cp crates/worked_examples/out/worked_examples bin/worked_examples || { cat out/build.log; exit 1; }
 
-# One table: serving, reading, rules, checking and boxes, with sizes, times, peak memory and growth. It takes about half a minute, and then as long as the
+# Those of schedules, of which bench takes a long one. Without its tables the program itself ends at once.
+bin/schedule_examples: bin/roombox FORCE
+	@rm -f crates/schedule_examples/out/schedule_examples
+	@-cd crates/schedule_examples && $(RT) run < /dev/null > /dev/null 2> ../../out/build.log
+	@cp crates/schedule_examples/out/schedule_examples bin/schedule_examples || { cat out/build.log; exit 1; }
+
+# One table: serving, reading, rules, checking, schedules and boxes, with sizes, times, peak memory and growth. It takes about half a minute, and then as long as the
 # disk takes for 20,000 answers or more, each synced twice.
-bench: bin/roombox bin/text_examples bin/worked_examples
-	python3 bench/bench.py bin/roombox bin/text_examples bin/worked_examples
+bench: bin/roombox bin/text_examples bin/worked_examples bin/schedule_examples
+	python3 bench/bench.py bin/roombox bin/text_examples bin/worked_examples bin/schedule_examples
 
 # The man page and the bash completion, docs/roombox.1 and docs/roombox.bash, from the program's help.
 man: bin/roombox

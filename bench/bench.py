@@ -2,7 +2,7 @@
 growth of the time from a tenth of the size. The peak counts the moment before the program begins too, so it is never less than
 this script's own, about 15 MiB.
 
-    python3 bench/bench.py bin/roombox bin/text_examples bin/worked_examples
+    python3 bench/bench.py bin/roombox bin/text_examples bin/worked_examples bin/schedule_examples
 """
 
 import os
@@ -601,10 +601,12 @@ def main():
     # their own modules use this one
     from boxes import boxes
     from residues import residues
+    from schedules import schedules
     from spans import spans
 
     spans(program, sys.argv[3])
     residues(program)
+    schedules(sys.argv[4])
     boxes(program)
 
 

@@ -1,7 +1,9 @@
 """Refuses each allocation of a run in turn, and looks at what the program then does: status 5, `roombox: memory` on standard error,
 and on standard output a beginning of the right answers that holds whole answers alone.
 
-    python3 tests/refused_memory.py bin/roombox
+    python3 tests/refused_memory.py bin/roombox [bin/schedule_examples]
+
+Of a schedule, which the second program plays, it sees that the answer is that there is no memory, or what it is with ample memory.
 
 The refusing is done by a small shim over the C library's allocator, built by gcc in a temporary folder.
 """
@@ -134,6 +136,31 @@ def sweep_box(name, program, config, messages, answers, shim):
     sys.exit(f"{name}: no end")
 
 
+def sweep_schedule(program, place, shim):
+    """The same of a schedule, a line of the table of worked examples: its name, and how many allocations were refused in turn."""
+    crate = os.path.join(os.path.dirname(__file__), "..", "crates", "schedule_examples")
+    lines = [it for it in open(os.path.join(crate, "data", "schedules.txt"), encoding="ascii") if not it.startswith("#")]
+    name = lines[place].split(" | ")[0]
+    whole = open(os.path.join(crate, "stdout"), "rb").readlines()[place]
+    with tempfile.NamedTemporaryFile("w", encoding="ascii") as table:
+        table.write(lines[place])
+        table.flush()
+        refused, unmoved = 0, 0
+        for number in range(1, 100_000):
+            environment = dict(os.environ, LD_PRELOAD=shim, REFUSED_ALLOCATION=str(number))
+            result = subprocess.run([os.path.abspath(program), table.name], capture_output=True, env=environment, cwd=os.path.join(crate, "data"), check=False)
+            if result.stdout == whole:
+                unmoved += 1
+                if unmoved > 100:
+                    return name, refused
+                continue
+            unmoved, refused = 0, refused + 1
+            # nothing is said of a table that wasn't read whole, and a file of an object that wasn't is unreadable
+            if result.stdout not in (b"", *(f"{name}: {it}\n".encode() for it in ("out of memory", "unreadable case"))) or result.returncode < 0:
+                sys.exit(f"{name}: allocation {number} refused: {result}")
+    sys.exit(f"{name}: no end")
+
+
 def main():
     program = sys.argv[1]
     with tempfile.TemporaryDirectory() as folder:
@@ -173,6 +200,8 @@ def main():
         messages = {f"{number:08}-{now.split()[1].decode()}": read(message) for number, message in enumerate(("request-a", "request-b-busy"))}
         name = "a box of two files"
         print(f"{name}: {sweep_box(name, program, hosts, messages, [accepted, declined], shim)} allocations, each refused in turn")
+        for place in range(3) if len(sys.argv) > 2 else []:
+            print("{}: {} allocations, each refused in turn".format(*sweep_schedule(sys.argv[2], place, shim)))
 
 
 main()
