@@ -13,7 +13,7 @@ from repository import ROOT
 
 CRATES = ROOT / "crates"
 # crates of examples and tests, and the definitions themselves
-LEFT_OUT = {"profile", "example_cases", "text_examples", "worked_examples", "folder_examples", "device_tests", "roombox"}
+LEFT_OUT = {"profile", "example_cases", "text_examples", "worked_examples", "folder_examples", "schedule_examples", "device_tests", "roombox"}
 EXPORT = re.compile(r"^pub use (\w+)[\w:]*?::(?:\{([^}]*)\}|(\w+));", re.MULTILINE)
 DEFINED = re.compile(r"^ *(?:pub )?(?:abbrev|unfoldable|data|record)(?: pub)? ([^\s:({]+)", re.MULTILINE)
 HEADING = "## The words of the code"

@@ -18,6 +18,6 @@ pub mod shared_lemmas
 pub mod single_starts_lemmas
 pub mod sweep_lemmas
 pub mod texts_lemmas
+pub mod when_lemmas
 pub mod whole_lemmas
-pub mod zoned_lemmas
 pub mod zones_lemmas

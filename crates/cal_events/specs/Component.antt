@@ -4,18 +4,14 @@ use Rattle.ical_values.specs.Octets.{address_octets, text_octets}
 use Rattle.ical_values.specs.declared.duration.Duration.{Duration}
 use Rattle.profile.specs.events.EventComponents as profile
 use Rattle.profile.specs.events.Events as meetings
-use Rattle.profile.specs.events.Properties as properties
-use Rattle.profile.specs.events.Properties.{length_seconds, time_kind}
+use Rattle.profile.specs.events.Properties.{length_seconds}
 use Rattle.profile.specs.text.Trees.{Tree}
-use Rattle.profile.specs.text.Values.{SpellsStamp}
 use Rattle.profile.specs.text.Lines.{is_same_name}
 use Rattle.ical_tree.specs.Tree.{component_name, component_lines, component_children}
 use Rattle.ical_tree.specs.declared.component.Component.{Component}
 use Rattle.cal_events.specs.declared.event_times.Extent.{Extent}
 use Rattle.cal_events.specs.declared.event_times.Extent.TheVariants.{ToEnd, For}
-pub use Rattle.cal_events.specs.Times.{length_of, zone_said, times_of}
-use Rattle.cal_events.specs.declared.utc_time.TimeKind.{TimeKind}
-use Rattle.cal_events.specs.declared.utc_time.TimeKind.TheVariants.{Date, DateTime, Period, Other}
+pub use Rattle.cal_events.specs.Times.{length_of, zone_said, local_said, times_of}
 use Rattle.cal_events.specs.declared.component.Attendee.{Attendee}
 use Rattle.cal_events.specs.declared.component.EventComponent.{EventComponent}
 use Rattle.cal_events.specs.declared.component.PartStat.{PartStat}
@@ -66,16 +62,6 @@ component_of e = record {
 -- the meeting that a master, if there is one, and overrides say
 abbrev pub meeting_with : Option EventComponent → List EventComponent → meetings.Event
 meeting_with master overrides = record { master = option_map component_of master; overrides = map component_of overrides }
-
-abbrev pub said_kind : TimeKind → properties.TimeKind
-said_kind DateTime = properties.DateTime
-said_kind Date = properties.Date
-said_kind Period = properties.Period
-said_kind Other = properties.Other
-
--- a text of a line is this instant, as a UTC date-time (RFC 5545 3.3.5, form 2)
-abbrev pub IsTime : List ℕ → List ℕ → ℤ → Type 0
-IsTime line text instant = (time_kind line ≡ properties.DateTime) × SpellsStamp text instant
 
 -- the length that an extent gives
 abbrev pub GivesLength : Extent → Duration → Type 0

@@ -22,6 +22,7 @@ pub mod Whole
 pub mod Overlapping
 pub mod SinglesLeft
 pub mod Times
+pub mod Forms
 pub mod Said
 pub mod Past
 pub mod SingleStarts

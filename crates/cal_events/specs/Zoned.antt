@@ -5,7 +5,7 @@ use Rattle.profile.specs.series.Zones.{Zone, Means}
 use Rattle.profile.specs.events.EventRules.{IsRuleText}
 use Rattle.profile.specs.events.Properties.{Length, LastsFor, OccursAtMostOnce, IsMissing, Says}
 use Rattle.profile.specs.events.ZonedTimes.{is_in_zone, IsInDates, SaysZonedTime, clock_of}
-use Rattle.cal_events.specs.Component.{length_of, zone_said}
+use Rattle.cal_events.specs.Component.{length_of, zone_said, local_said}
 use Rattle.cal_events.specs.declared.event_rule.SaidRule.{SaidRule}
 use Rattle.cal_events.specs.declared.event_times.Extent.{Extent}
 use Rattle.cal_events.specs.declared.event_times.Extent.TheVariants.{ToEnd, For}
@@ -35,9 +35,9 @@ IsExtentIn object lines start in_dates (For duration) =
 pub record AreSaid (object : Tree) (lines : List (List ℕ)) (said : SaidTimes) : Type 0 where
   pub line : List ℕ
   pub once : OccursAtMostOnce (codes "DTSTART") lines (Some line)
-  pub says : SaysZonedTime object line (zone_said said.start) said.start.local
-  pub means : Means (clock_of (zone_said said.start)) said.start.local said.instant
-  pub starts : IsTrue said.starts_in ↔ IsInDates (is_in_zone line) said.start.local said.instant
+  pub says : SaysZonedTime object line (zone_said said.start) (local_said said.start)
+  pub means : Means (clock_of (zone_said said.start)) (local_said said.start) said.instant
+  pub starts : IsTrue said.starts_in ↔ IsInDates (is_in_zone line) (local_said said.start) said.instant
   pub extent : IsExtentIn object lines said.instant said.ends_in said.extent
 
 -- where there is no start, an end gives no length
@@ -49,7 +49,7 @@ IsAlone (For duration) alone = alone ≡ For duration
 pub record AreSaidAlone (object : Tree) (lines : List (List ℕ)) (said : SaidTimes) : Type 0 where
   pub missing : IsMissing (codes "DTSTART") lines
   pub zone : zone_said said.start ≡ None
-  pub local : said.start.local ≡ pos 0
+  pub local : local_said said.start ≡ pos 0
   pub instant : said.instant ≡ pos 0
   pub starts : said.starts_in ≡ true
   pub read : Extent

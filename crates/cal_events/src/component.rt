@@ -7,11 +7,10 @@ ghost use Rattle.profile.specs.text.Trees.{Tree};
 ghost use Rattle.profile.specs.events.EventComponents.{EventComponent as SaidComponent, Method as SaidMethod, answer_named, answer_of, SaysEventComponent, EventComponentFault};
 ghost use Rattle.profile.specs.events.Properties.{length_seconds, TimeFault};
 ghost use Rattle.profile.specs.events.ZonedTimes.{clock_of};
-ghost use Rattle.cal_zones.specs.Kinds.{zone_of};
 ghost use Rattle.cal_events.specs.Zones.{object_of, AreRead};
 ghost use Rattle.cal_events.specs.MeetingComponents.{IsInEventDates};
 ghost use Rattle.cal_events.specs.Clocks.{IsSteady};
-ghost use Rattle.cal_events.specs.Times.{times_of};
+ghost use Rattle.cal_events.specs.Times.{times_of, zone_said};
 ghost use Rattle.cal_events.specs.Said.{AreSaidWith};
 
 use crate::component_values::{
@@ -25,7 +24,7 @@ use crate::occurrences::{
     Listing, SaidInstant, SaidInstants, judge_recurrence, refuse_recurring_instance,
 };
 use crate::properties::has;
-use crate::zoned::one_zoned_time;
+use crate::when::one_zoned_time;
 use crate::zones::ZonesOfObject;
 use cal_rules::{Rule, one_rule};
 use ical_lines::Fault;
@@ -99,7 +98,7 @@ pub struct EventComponent {
     pub summary: Text,
     /// The ATTENDEE lines in the order of the text. Of several with one address the first counts.
     pub attendees: Vec<Attendee>,
-    ghost steady: { IsSteady (clock_of (option_map zone_of times.start.zone)) },
+    ghost steady: { IsSteady (clock_of (zone_said times.start)) },
     ghost named: { IsInEventDates times.instant },
     ghost said: { ∥ AreSaidWith (times_of times) rule ∥₁ },
 }

@@ -11,13 +11,13 @@ ghost use Rattle.profile.specs.events.Properties.{is_of};
 ghost use Rattle.profile.specs.events.ZonedTimes.{SaysTimes, clock_of};
 ghost use Rattle.profile.specs.events.EventRules as event_rules;
 ghost use Rattle.profile.specs.events.EventRules.{IsLastAllowed, AllowsNone, GivesRule, SaysEventRule, IsOutsideRule, EventRuleFault};
-ghost use Rattle.cal_events.specs.Component.{times_of, zone_said};
+ghost use Rattle.cal_events.specs.Component.{times_of, zone_said, local_said};
 ghost use Rattle.cal_events.specs.Zoned.{IsRuleSaid};
 
 use crate::event_times::{EventTimes, FIRST_SECOND};
 use crate::instance::HORIZON;
 use crate::properties::optional;
-use crate::zoned::ZonedTime;
+use crate::when::When;
 use cal_days::Day;
 use cal_rules::{Rule, RuleText, Until};
 use cal_zones::Zone;
@@ -65,11 +65,11 @@ impl SaidRule {
 
 /// The rule that a text gives to an event that starts then.
 /// Refused: 34 where the start isn't one of the rule's days, or UNTIL leaves no day.
-fn rule_from(text: RuleText, start: ZonedTime) -> Result<Rule, Fault>
-    ensures gives { IfOk result (GivesRule (clock_of (zone_said start)) start.local text) }
-    ensures outside { IfErr result (RefusesBy (λ n. (n ≡ 34) × IsOutsideRule (clock_of (zone_said start)) start.local text)) }
+fn rule_from(text: RuleText, start: When) -> Result<Rule, Fault>
+    ensures gives { IfOk result (GivesRule (clock_of (zone_said start)) (local_said start) text) }
+    ensures outside { IfErr result (RefusesBy (λ n. (n ≡ 34) × IsOutsideRule (clock_of (zone_said start)) (local_said start) text)) }
 {
-    let (day, second) = start.local.day_and_second();
+    let (day, second) = start.local().day_and_second();
     match last_day(text.until(), start.clock(), second) {
         Some(last) => Rule::new(text, day, last),
         None => Err(Fault::Refused(Refusal::START_OUTSIDE_RULE)),

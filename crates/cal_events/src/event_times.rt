@@ -17,7 +17,7 @@ ghost use Rattle.cal_events.specs.Zoned.{EndsSo, IsExtentIn, IsAlone, AreSaid, A
 
 use crate::instance::HORIZON;
 use crate::properties::optional;
-use crate::zoned::ZonedTime;
+use crate::when::{When, is_in_zone};
 use crate::zones::ZonesOfObject;
 use cal_zones::Zone;
 use ical_lines::{Line, Refusal};
@@ -34,7 +34,7 @@ pub const FIRST_SECOND: i64 = -DAY_SECONDS;
 #[derive(Clone, Copy)]
 pub struct EventTimes {
     /// DTSTART.
-    pub start: ZonedTime,
+    pub start: When,
     /// The instant that DTSTART means.
     pub instant: Stamp,
     /// How long it lasts: exact seconds to DTEND, or DURATION as it is written, or nothing. At most 366 days.
@@ -131,7 +131,7 @@ impl Extent {
 /// What DTSTART, DTEND and DURATION say, each judged alone.
 #[derive(Clone, Copy)]
 pub(crate) struct SaidTimes {
-    start: ZonedTime,
+    start: When,
     instant: i64,
     extent: Extent,
     /// Whether DTSTART is in the dates that an event may name.
@@ -143,7 +143,7 @@ pub(crate) struct SaidTimes {
 impl SaidTimes {
     /// Reads the start of a VEVENT, which may be missing or not, and its end or its length, where they may name these zones.
     /// Refused: 61 where DTSTART is missing and may not, one of the three occurs twice, or DTEND beside DURATION; as by
-    /// `ZonedTime::read` for the two times; 12 and 51 for DURATION.
+    /// `When::read` for the two times; 12 and 51 for DURATION.
     pub(crate) fn read(
         zones: &ZonesOfObject<'_, '_>,
         properties: &Properties<'_>,
@@ -172,10 +172,10 @@ impl SaidTimes {
         ensures said { IfOk result (AreSaid (object_of zones.now) properties.now) }
         ensures fault { (may_lack : Bool) → IfErr result (λ e. EventTimesFault may_lack (object_of zones.now) properties.now e.number) }
     {
-        let start = ZonedTime::read(line, zones)?;
+        let start = When::read(line, zones)?;
         let instant = start.instant();
         let in_zone = is_in_zone(line);
-        let starts_in = is_in_dates(in_zone, start.local, instant);
+        let starts_in = is_in_dates(in_zone, start.local(), instant);
         let (extent, ends_in) = read_extent(zones, properties, instant)?;
         Ok(SaidTimes {
             start,
@@ -198,7 +198,7 @@ impl SaidTimes {
     {
         let (extent, ends_in) = read_extent(zones, properties, 0)?;
         Ok(SaidTimes {
-            start: ZonedTime::epoch(),
+            start: When::epoch(),
             instant: 0,
             extent: extent.alone(),
             starts_in: true,
@@ -228,13 +228,6 @@ impl SaidTimes {
             length,
         })
     }
-}
-
-/// Whether a line has TZID.
-pub(crate) fn is_in_zone(line: Line<'_>) -> bool
-    ensures { result ≡ is_in_zone (line_text line.entry) }
-{
-    line.param("TZID").is_some()
 }
 
 /// Whether an event may name a time, by its local time and the instant that it means.
@@ -286,11 +279,11 @@ fn seconds_to(
     ensures says { IfOk result (λ end. EndsSo (object_of zones.now) (line_text line.entry) (start +ℤ end.0) end.1) }
     ensures fault { IfErr result (λ e. ZonedTimeFault (object_of zones.now) (line_text line.entry) e.number) }
 {
-    let end = ZonedTime::read(line, zones)?;
+    let end = When::read(line, zones)?;
     let instant = end.instant();
     Ok((
         instant - start,
-        is_in_dates(is_in_zone(line), end.local, instant),
+        is_in_dates(is_in_zone(line), end.local(), instant),
     ))
 }
 

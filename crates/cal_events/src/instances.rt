@@ -22,7 +22,7 @@ use crate::event_times::FIRST_SECOND;
 use crate::instance::{HORIZON, Instance, InstanceKey};
 use crate::instants::Instants;
 use crate::rule_days::RuleDays;
-use crate::zoned::ZonedTime;
+use crate::when::When;
 use cal_days::Day;
 use cal_rules::Rule;
 use cal_zones::{Clock, Zone};
@@ -236,7 +236,7 @@ fn first_on_rule(
     ensures walked { AreWalked (component_of master.now) (map component_of event.now.overrides.items) after days.new }
     ensures reads { IsOfClock (component_of master.now) clock.new }
 {
-    let (_, second) = master.times.start.local.day_and_second();
+    let (_, second) = master.times.start.local().day_and_second();
     pass_given(after, days);
     while let Some(found) = days.next() {
         let start = start_by(clock, found, second);
@@ -260,7 +260,7 @@ fn pass_given(after: Bound, days: &mut RuleDays<'_>)
 }
 
 /// The instant that a second of a day means on the clocks of a time's zone.
-pub(crate) fn start_on(time: &ZonedTime, day: Day, second: u32) -> i64
+pub(crate) fn start_on(time: &When, day: Day, second: u32) -> i64
     requires day { day ≤ℤ pos 2_932_896 }
     requires second { second < 86_400 }
     ensures meaning { Means (clock_of (zone_said time.now)) (local_time (day_index day) second) result }

@@ -26,9 +26,8 @@ mod series;
 mod single_starts;
 pub mod sweep;
 mod texts;
-mod utc_time;
+mod when;
 mod whole;
-mod zoned;
 mod zones;
 
 pub use calendar::{Calendar, Singles};
@@ -46,7 +45,7 @@ pub use reading::{
 };
 pub use series::Series;
 pub use sweep::{Overlap, Span, first_overlap};
+pub use when::{When, judge_time, one_zoned_time};
 pub use whole::{
     all_instances, all_starts, instances_last, known_by_start, listed_series, series_are_said,
 };
-pub use zoned::{ZonedTime, judge_time, one_zoned_time};

@@ -12,9 +12,9 @@ ghost use Rattle.profile.specs.events.Occurrences.{ListedTime, IsRecurrenceLine,
 ghost use Rattle.cal_events.specs.Zones.{object_of, AreRead};
 ghost use Rattle.cal_events.specs.Occurrences.{name_of, SaysSo, IsRecurrenceSaid, AreListed};
 
-use crate::event_times::{is_in_dates, is_in_zone};
+use crate::event_times::is_in_dates;
 use crate::properties::optional;
-use crate::zoned::ZonedTime;
+use crate::when::{When, is_in_zone};
 use crate::zones::ZonesOfObject;
 use ical_lines::{Fault, Line, Refusal};
 use ical_tree::Properties;
@@ -70,7 +70,7 @@ pub(crate) struct SaidInstant {
 
 impl SaidInstant {
     /// The instant that a text of a line says, where TZID may name one of these zones.
-    /// Refused: as by `ZonedTime::read`.
+    /// Refused: as by `When::read`.
     pub(crate) fn read(
         line: Line<'_>,
         text: &str,
@@ -80,16 +80,16 @@ impl SaidInstant {
         ensures says { IfOk result (SaysSo (object_of zones.now) (line_text line.entry) text.now) }
         ensures fault { IfErr result (λ e. ZonedTextFault (object_of zones.now) (line_text line.entry) text.now e.number) }
     {
-        let time = ZonedTime::read_text(line, text, zones)?;
+        let time = When::read_text(line, text, zones)?;
         let instant = time.instant();
         Ok(SaidInstant {
             instant,
-            in_dates: is_in_dates(is_in_zone(line), time.local, instant),
+            in_dates: is_in_dates(is_in_zone(line), time.local(), instant),
         })
     }
 
     /// What RECURRENCE-ID says, None where it is absent.
-    /// Refused: 61 where it occurs twice, 65 where it has RANGE, and as by `ZonedTime::read`.
+    /// Refused: 61 where it occurs twice, 65 where it has RANGE, and as by `When::read`.
     pub(crate) fn read_recurrence(
         zones: &ZonesOfObject<'_, '_>,
         properties: &Properties<'_>,
@@ -172,7 +172,7 @@ pub(crate) struct SaidInstants {
 
 impl SaidInstants {
     /// Reads all lines of a property, each with one time or more, whose TZID may name one of these zones.
-    /// Refused: 56 at the 367th time and for a period, and else as by `ZonedTime::read`, at the first time in the text.
+    /// Refused: 56 at the 367th time and for a period, and else as by `When::read`, at the first time in the text.
     pub(crate) fn read(
         alloc: Global,
         zones: &ZonesOfObject<'_, '_>,

@@ -109,7 +109,7 @@ fn last_start_to(times: &EventTimes, rule: &Rule, to: u32) -> Option<i64>
     let Some(day) = rule.last_not_after(Day::at_index(to).unwrap()) else {
         return None;
     };
-    let (_, second) = times.start.local.day_and_second();
+    let (_, second) = times.start.local().day_and_second();
     let local = LocalTime::of_day(day, second).unwrap();
     Some(resolve(&times.start.clock(), local.seconds()))
 }

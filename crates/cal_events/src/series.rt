@@ -144,7 +144,7 @@ impl Series {
     pub fn second(&self) -> u32
         ensures { IsSecondOf (series_said self.now) result }
     {
-        let (_, second) = self.master().times.start.local.day_and_second();
+        let (_, second) = self.master().times.start.local().day_and_second();
         second
     }
 

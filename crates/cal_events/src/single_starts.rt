@@ -74,7 +74,7 @@ fn is_on_rule(master: &EventComponent, instant: i64) -> bool
     if master.rule.is_none() {
         return false;
     }
-    let (_, second) = master.times.start.local.day_and_second();
+    let (_, second) = master.times.start.local().day_and_second();
     let mut days = days_of(master, &[], instant);
     while let Some(day) = days.next() {
         let start = start_on(&master.times.start, day, second);

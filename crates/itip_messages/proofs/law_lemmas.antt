@@ -7,3 +7,4 @@ pub mod HeardEvents
 pub mod HeardObjects
 pub mod HeardLaws
 pub mod OneMessage
+pub mod OneContent

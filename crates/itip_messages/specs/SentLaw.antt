@@ -1,8 +1,11 @@
 -- What octets that an organiser wrote read back as: the message that they spell, and its parts.
-use Rattle.std.specs.Prelude.{◌≡◌, ◌↔◌, ◌∷◌, filter, ℕ, ◌<◌, ◌^◌, Bool, true, List, [], map, Option, Some, None}
+use Rattle.std.specs.Prelude.{◌≡◌, ◌↔◌, ◌∷◌, filter, ℕ, ◌<◌, ◌^◌, Bool, true, false, List, [], map, Option, Some, None}
 use Rattle.std.specs.List.{AllZip}
 use Rattle.std.specs.Str.{IsUtf8}
+use Rattle.profile.specs.checker.Calendars.{IsCalendarText, SayEvents}
 use Rattle.profile.specs.series.Rules.{Rule, is_rule_day}
+use Rattle.profile.specs.text.Lines.{reads_as_lines}
+use Rattle.profile.specs.text.Trees.{Tree}
 use Rattle.profile.specs.text.Values.{IsUid}
 use Rattle.profile.specs.events.EventComponents.{Attendee, EventComponent, Participation, Request, Cancel, NeedsAction}
 use Rattle.profile.specs.events.Events.{Event, SpellsEvent, is_master, is_override}
@@ -132,3 +135,12 @@ pub record SpellsShown (book : OrganiserBook) (stored : Stored) (octets : List �
   pub shown : List EventComponent
   pub each : AllZip (IsSaidAgain (HasAnswered book stored) stored.revision) stored.events shown
   pub spells : SpellsEvent octets (meeting_of shown)
+
+-- the octets are a calendar whose VEVENTs are those of the store, with the answers that are seen
+pub record SpellsShownCalendar (book : OrganiserBook) (stored : Stored) (octets : List ℕ) : Type 0 where
+  pub shown : List EventComponent
+  pub each : AllZip (IsSaidAgain (HasAnswered book stored) stored.revision) stored.events shown
+  pub lines : reads_as_lines false octets ≡ true
+  pub tree : Tree
+  pub object : IsCalendarText tree octets
+  pub says : SayEvents tree shown

@@ -15,7 +15,7 @@ ghost use Rattle.cal_events.specs.Component.{component_of, times_of};
 ghost use Rattle.itip_messages.specs.Body.{AppendsOthers, AppendsRule, AppendsStart, AppendsTimes, AppendsZone, EndIsTold, IsCanonical, IsCutAtZone, IsReady, IsTold, crlf_lines, zone_place};
 
 use cal_days::Day;
-use cal_events::{EventComponent, EventTimes, FIRST_SECOND, HORIZON, as_end};
+use cal_events::{EventComponent, EventTimes, FIRST_SECOND, HORIZON, When, as_end};
 use cal_rules::{Rule, Until};
 use cal_zones::Zone;
 use ical_values::shown::{date_text, stamp_text};
@@ -61,14 +61,14 @@ pub(crate) fn canonical_body(alloc: Global, event: &EventComponent) -> Result<Ve
 fn write_start(body: &mut Vec<u8>, times: &EventTimes) -> Result<(), AllocError>
     ensures { OnOk result (AppendsStart (times_of times.now) body.old.items body.new.items) }
 {
-    match times.start.zone {
-        None => {
+    match times.start {
+        When::Utc(_) => {
             body.extend_from_slice(b"DTSTART:")?;
             times.instant.write(body)?;
         }
-        Some(_) => {
+        When::Zoned(local, _) => {
             body.extend_from_slice(b"DTSTART;TZID=Z:")?;
-            times.start.local.write(body)?;
+            local.write(body)?;
         }
     }
     body.extend_from_slice(b"\r\n")?;
@@ -227,8 +227,8 @@ fn is_in_dates(instant: i64) -> bool
 fn write_zone(body: &mut Vec<u8>, times: &EventTimes) -> Result<(), AllocError>
     ensures { OnOk result (AppendsZone (times_of times.now) body.old.items body.new.items) }
 {
-    match times.start.zone {
-        Some(zone) => zone.write("Z", body),
-        None => Ok(()),
+    match times.start {
+        When::Utc(_) => Ok(()),
+        When::Zoned(_, zone) => zone.write("Z", body),
     }
 }

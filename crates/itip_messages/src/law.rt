@@ -2,8 +2,9 @@
 ghost use Rattle.std.specs.Prelude.{◌≡◌, ◌<◌, ◌^◌, ◌∷◌, [], ℕ, ℤ, false, List, Contains, Some, codes};
 ghost use Rattle.std.specs.List.{flat_map};
 ghost use Rattle.profile.specs.rooms.Kept.{Refreshes, Replies};
+ghost use Rattle.profile.specs.events.EventComponents.{EventComponent};
 ghost use Rattle.profile.specs.events.Messages.{Message, SpellsMessage};
-ghost use Rattle.profile.specs.rooms.Messages.{IsRefreshEvent, IsReplyEvent, Outcome, is_add, object_lines};
+ghost use Rattle.profile.specs.rooms.Messages.{Content, IsContent, IsRefreshEvent, IsReplyEvent, Outcome, is_add, object_lines};
 ghost use Rattle.profile.specs.rooms.Revisions.{Part};
 ghost use Rattle.profile.specs.rooms.Rooms.{Book, Claim, shown};
 ghost use Rattle.profile.specs.text.Values.{IsUid};
@@ -13,6 +14,9 @@ ghost use Rattle.itip_messages.specs.Law.{AreTextAnswers, IsTextAddress, IsTextV
 
 use cal_events::one_event;
 use ical_tree::one_tree;
+use ical_values::local_time::one_local_time;
+use ical_values::offset::one_offset;
+use ical_values::stamp::one_stamp;
 
 /// Octets say at most one message, to rooms or to an organiser, and none where they have a fault. With the contract of `Message::read`: what
 /// is taken is the one message that the octets spell, and what is refused spells none (RFC 5545 3.4, RFC 5546 3.2.2 to 3.2.6, RFC 4791 4.1).
@@ -22,6 +26,17 @@ pub fn one_message()
 {
     one_tree();
     one_event();
+}
+
+/// An event of a message has one content: one form says when it is. Its start, its length, its rule with what UNTIL means, its further and its
+/// excluded instants and its zone are each written in one form (RFC 5545 3.3, 3.6.5).
+pub fn one_content()
+    ensures { (read : List ℕ) (said : Message) (event : EventComponent) (a b : Content)
+        → SpellsMessage read said → Contains said.events event → IsContent a event → IsContent b event → a ≡ b }
+{
+    one_stamp();
+    one_local_time();
+    one_offset();
 }
 
 /// Whatever a room answers: the octets of its REPLY read as lines, and these spell one VCALENDAR of METHOD REPLY with

@@ -25,8 +25,8 @@ pub use body_text::write_body;
 pub use cancel::{Cancel, write_cancel};
 pub use event_lines::write_slot;
 pub use law::{
-    answers_read_back, one_message, refreshes_are_heard, refreshes_read_back, replies_are_heard,
-    replies_read_back,
+    answers_read_back, one_content, one_message, refreshes_are_heard, refreshes_read_back,
+    replies_are_heard, replies_read_back,
 };
 pub use meeting_text::{AttendeeLines, MeetingText, write_meeting, write_request};
 pub use message::Message;

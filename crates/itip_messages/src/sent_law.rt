@@ -7,7 +7,7 @@ ghost use Rattle.profile.specs.organisers.Organisers.{OrganiserBook, ShowsSeen, 
 ghost use Rattle.profile.specs.rooms.Messages.{AreParts};
 ghost use Rattle.profile.specs.rooms.Revisions.{Revision};
 ghost use Rattle.profile.specs.text.Lines.{is_too_long};
-ghost use Rattle.itip_messages.specs.SentLaw.{IsSentAddress, IsSentName, SpellsRequest, SpellsShown, cancel_message, cancel_part};
+ghost use Rattle.itip_messages.specs.SentLaw.{IsSentAddress, IsSentName, SpellsRequest, SpellsShown, SpellsShownCalendar, cancel_message, cancel_part};
 
 /// What an organiser read of a store can be sent: its organiser and its UID, and the addresses of its attendees.
 pub fn stored_texts_can_be_sent()
@@ -52,12 +52,16 @@ pub fn requests_read_back()
 
 /// Whatever an organiser shows of a meeting that it stored: its octets spell an event with its instances, as a VCALENDAR without METHOD does. Its
 /// VEVENTs are those of the store, in their order, and say the same in the revision that was sent; each attendee occurs once, with the answer
-/// that is seen of it. Required is what is required for a REQUEST.
+/// that is seen of it. Required is what is required for a REQUEST; of any size they are a calendar with these VEVENTs.
 pub fn shown_reads_back()
-    ensures { (read : List ℕ) (said : Message) (book : OrganiserBook) (stored : Stored) (octets : List ℕ)
+    ensures event { (read : List ℕ) (said : Message) (book : OrganiserBook) (stored : Stored) (octets : List ℕ)
         → SpellsMessage read said → said.method ≡ Store → stored.events ≡ said.events → stored.revision.sequence < 2 ^ 31
         → IsMeetingText None said.organiser said.uid stored.revision (ShowsSeen book stored) stored.events octets
         → is_too_long octets ≡ false → SpellsShown book stored octets }
+    ensures calendar { (read : List ℕ) (said : Message) (book : OrganiserBook) (stored : Stored) (octets : List ℕ)
+        → SpellsMessage read said → said.method ≡ Store → stored.events ≡ said.events → stored.revision.sequence < 2 ^ 31
+        → IsMeetingText None said.organiser said.uid stored.revision (ShowsSeen book stored) stored.events octets
+        → SpellsShownCalendar book stored octets }
 {
     ical_lines::lines_read_back();
     cal_zones::zone_reads_back();

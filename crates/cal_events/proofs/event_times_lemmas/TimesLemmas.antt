@@ -12,7 +12,7 @@ use Rattle.cal_events.specs.declared.event_times.Extent.{Extent}
 use Rattle.cal_events.specs.declared.event_times.Extent.TheVariants.{ToEnd, For}
 use Rattle.cal_events.specs.declared.event_times.SaidTimes.{SaidTimes}
 use Rattle.ical_values.specs.declared.duration.Duration.{Duration}
-use Rattle.cal_events.specs.Component.{length_of, zone_said, GivesLength, ExtentFault, ends_early as lies_before, ends_late as lies_late, lasts_long as is_long}
+use Rattle.cal_events.specs.Component.{length_of, zone_said, local_said, GivesLength, ExtentFault, ends_early as lies_before, ends_late as lies_late, lasts_long as is_long}
 use Rattle.cal_events.specs.Zoned.{LastsGiven, EndsSo, IsExtentIn, IsAlone, AreSaid, AreSaidAlone, AreSaidBy}
 use Rattle.cal_events.proofs.shared_lemmas.EventLemmas.{some_line, IsNone, long_length}
 
@@ -35,7 +35,7 @@ lasted object start d None is = is
 lasted object start d (Some line) is = is
 
 abbrev pub judged : SaidTimes → ℤ → Duration → EventTimes
-judged said start length = record { zone = zone_said said.start; local = said.start.local; start = start; length = length_of length }
+judged said start length = record { zone = zone_said said.start; local = local_said said.start; start = start; length = length_of length }
 
 -- the line says that instant, and it is in the dates
 pub ends_within : (object : Tree) (line : List ℕ) (instant : ℤ) (ends_in : Bool) → EndsSo object line instant ends_in → IsTrue ends_in → SaysInDates object line instant
@@ -77,7 +77,7 @@ times_said object lines said length start same a gives most starts_in ends_in =
 -- the instant that DTSTART says
 begins : (object : Tree) (lines : Lines) (said : SaidTimes) → AreSaid object lines said → SomeLine (codes "DTSTART") (λ line. SaysInstant object line said.instant) lines
 begins object lines said a =
-    some_line (codes "DTSTART") (λ line. SaysInstant object line said.instant) lines a.line a.once (zone_said said.start, said.start.local, a.says, a.means)
+    some_line (codes "DTSTART") (λ line. SaysInstant object line said.instant) lines a.line a.once (zone_said said.start, local_said said.start, a.says, a.means)
 
 ends_at : (object : Tree) (line : List ℕ) (instant : ℤ) (ends_in : Bool) → EndsSo object line instant ends_in → SaysInstant object line instant
 ends_at object line instant ends_in (zone, local, says, means, dates) = (zone, local, says, means)
@@ -108,7 +108,7 @@ end_out object lines start ends_in (For d) (line, none, once, is, within) outsid
 pub start_judged : {may : Bool} (object : Tree) (lines : Lines) (said : SaidTimes) → AreSaid object lines said → said.starts_in ≡ false → EventTimesFault may object lines 52
 start_judged object lines said a outside =
     starts_out (some_line (codes "DTSTART") (SaysOutOfDates object) lines a.line a.once
-    (zone_said said.start, said.start.local, said.instant, a.says, a.means, λ w. not_true said.starts_in outside (a.starts.1 w)))
+    (zone_said said.start, local_said said.start, said.instant, a.says, a.means, λ w. not_true said.starts_in outside (a.starts.1 w)))
 
 pub end_judged : {may : Bool} (object : Tree) (lines : Lines) (said : SaidTimes) → AreSaid object lines said → said.ends_in ≡ false → EventTimesFault may object lines 52
 end_judged object lines said a outside = end_out object lines said.instant said.ends_in said.extent a.extent outside

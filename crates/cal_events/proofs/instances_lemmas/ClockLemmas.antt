@@ -1,7 +1,6 @@
 -- What the clocks that an iterator keeps say of DTSTART's zone.
 -- Cited by clock_of, first_on_rule.
 use Rattle.std.proofs.Common.{◌≡◌, subst, ℤ, pos}
-use Rattle.std.specs.Prelude.{Option, Some, None, option_map}
 use Rattle.profile.specs.series.Zones.{Zone, Constant, Means, IsOneMeaning}
 use Rattle.profile.specs.events.ZonedTimes.{clock_of}
 use Rattle.cal_zones.specs.Kinds.{zone_of}
@@ -11,16 +10,14 @@ use Rattle.cal_zones.proofs.Meant.{meant_alone}
 use Rattle.cal_events.specs.Component.{component_of, zone_said}
 use Rattle.cal_events.specs.Instances.{IsOfClock}
 use Rattle.cal_events.specs.declared.component.EventComponent.{EventComponent}
-use Rattle.cal_events.specs.declared.zoned.ZonedTime.{ZonedTime}
+use Rattle.cal_events.specs.declared.when.When.{When}
+use Rattle.cal_events.specs.declared.when.When.TheVariants.{Utc, Zoned}
 use Rattle.cal_events.proofs.shared_lemmas.Meanings.{utc_means}
 
 -- what they say a local time means is what it means there
-pub means_there : (time : ZonedTime) (local r : ℤ) → ((u : ℤ) → Means (clock_of (zone_said time)) local u → u ≡ r) → Means (clock_of (zone_said time)) local r
-means_there time local r f = go time.zone f
-  where
-    go : (o : Option kept.Zone) → ((u : ℤ) → Means (clock_of (option_map zone_of o)) local u → u ≡ r) → Means (clock_of (option_map zone_of o)) local r
-    go None f = subst (Means (Constant (pos 0)) local) (f local (utc_means local)) (utc_means local)
-    go (Some z) f = meant_alone z local r f
+pub means_there : (time : When) (local r : ℤ) → ((u : ℤ) → Means (clock_of (zone_said time)) local u → u ≡ r) → Means (clock_of (zone_said time)) local r
+means_there (Utc shown) local r f = subst (Means (Constant (pos 0)) local) (f local (utc_means local)) (utc_means local)
+means_there (Zoned shown zone) local r f = meant_alone zone local r f
 
 pub means_by : (master : EventComponent) (clock : Clock) (local r : ℤ) → IsOfClock (component_of master) clock → Means (zone_of clock.zone) local r → Means (clock_of (component_of master).times.zone) local r
 means_by master clock local r same means = means_there master.times.start local r (λ u m. same local r u means m)

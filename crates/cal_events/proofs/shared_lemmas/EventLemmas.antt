@@ -16,11 +16,11 @@ use Rattle.ical_values.specs.Octets.{text_octets}
 use Rattle.ical_values.specs.declared.text.Text.{Text}
 use Rattle.cal_events.specs.declared.component.Attendee.{Attendee}
 use Rattle.profile.specs.text.Lines.{line_value}
-use Rattle.profile.specs.text.Values.{SpellsDate, SpellsLocal, SpellsStamp, SpellsSequence, SpellsDuration, SpellsLong, IsUid, unescaped}
+use Rattle.profile.specs.text.Values.{SpellsDate, SpellsLocal, SpellsSequence, SpellsDuration, SpellsLong, IsUid, unescaped}
 use Rattle.profile.specs.text.Trees.{Tree}
 use Rattle.profile.specs.events.EventComponents.{SaysSequence, EventComponentFault, IsAttendee, bad_attendee, Method, first_text, summary_of}
-use Rattle.profile.specs.events.Properties.{is_of, lines_named, OccursAtMostOnce, SomeLine, Says, IsUidLine, TimeKind, DateTime, time_kind, IsDateText, IsLocalText, KindFault, IsNegativeOrLong, IsNoAddress}
-use Rattle.cal_events.specs.Component.{attendee_of, IsTime}
+use Rattle.profile.specs.events.Properties.{is_of, lines_named, OccursAtMostOnce, SomeLine, Says, IsUidLine, IsDateText, IsLocalText, IsNegativeOrLong, IsNoAddress}
+use Rattle.cal_events.specs.Component.{attendee_of}
 use Rattle.ical_tree.proofs.OneLine.{the_line}
 
 -- ---- faults
@@ -71,14 +71,6 @@ local_test (Err x) text b e h none = (λ is. absurd (true≢false (sym is ∙ e)
 pub date_test : (o : Option ℤ) (text : List ℕ) (b : Bool) → b ≡ is_some o → IfSome o (SpellsDate text) → IfNone o ((number : ℤ) → SpellsDate text number → ⊥) → ((b ≡ true) ↔ IsDateText text)
 date_test (Some number) text b e h none = (λ _. (number, h), λ _. e)
 date_test None text b e h none = (λ is. absurd (true≢false (sym is ∙ e)), λ d. absurd (none d.0 d.1))
-
--- the kind that VALUE says decides what is wrong
-pub kind_fault : (line text : List ℕ) (kind : TimeKind) (n : ℕ) → kind ≡ time_kind line → KindFault kind text n → KindFault (time_kind line) text n
-kind_fault line text kind n k f = subst (λ (x : TimeKind). KindFault x text n) k f
-
-pub time_said : (r : Result ℤ Refusal) (line text : List ℕ) → DateTime ≡ time_kind line → IfOk r (SpellsStamp text) → IfOk r (IsTime line text)
-time_said (Ok t) line text k h = (sym k, h)
-time_said (Err x) line text k h = tt
 
 -- ---- durations
 

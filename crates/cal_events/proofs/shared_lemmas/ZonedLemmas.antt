@@ -15,9 +15,8 @@ use Rattle.profile.specs.text.Lines.{line_param, is_same_name}
 use Rattle.profile.specs.text.Trees.{Tree, tree_name, tree_own}
 use Rattle.profile.specs.series.Zones as zones
 use Rattle.profile.specs.text.Values.{SpellsStamp}
-use Rattle.profile.specs.events.Properties.{BothOrNeither, TimeKind, DateTime, time_kind, KindFault}
-use Rattle.profile.specs.events.ZonedTimes.{has_zone_name, zone_named, SaysZoneOf, SpellsZoned, SaysZonedText, LocalFault, NamedFault, InZoneFault, FaultIn, ZonedTextFault}
-use Rattle.cal_events.specs.Component.{IsTime}
+use Rattle.profile.specs.events.Properties.{BothOrNeither, DateTime, time_kind, KindFault}
+use Rattle.profile.specs.events.ZonedTimes.{has_zone_name, zone_named, SaysZoneOf, SpellsZoned, SaysZonedText, NamedFault, InZoneFault, FaultIn, ZonedTextFault}
 use Rattle.cal_events.specs.Zones.{is_zone_called, IsZoneRead}
 
 -- ---- the first component of a name
@@ -69,9 +68,6 @@ weaker_fault (Refused e) P Q g h = g e.number h
 
 -- ---- a text of a line
 
-pub local_fault : (line text : List ℕ) (kind : TimeKind) (n : ℕ) → kind ≡ time_kind line → LocalFault kind text n → LocalFault (time_kind line) text n
-local_fault line text kind n k f = subst (λ (x : TimeKind). LocalFault x text n) k f
-
 -- of a line with TZID
 pub zoned_said : (object : Tree) (line text name : List ℕ) (zone : Option zones.Zone) (local : ℤ) → line_param (codes "TZID") line ≡ Some name
     → (time_kind line ≡ DateTime) × SpellsZoned object (Some name) text zone local → SaysZonedText object line text zone local
@@ -82,12 +78,8 @@ pub zoned_fault : (object : Tree) (line text name : List ℕ) (n : ℕ) → line
 zoned_fault object line text name n e h = subst (λ (o : Option (List ℕ)). FaultIn object o (time_kind line) text n) (sym e) h
 
 -- of one without
-pub utc_said : (object : Tree) (line text : List ℕ) (zone : Option zones.Zone) (local instant : ℤ) → line_param (codes "TZID") line ≡ None → zone ≡ None → local ≡ instant
-    → IsTime line text instant → SaysZonedText object line text zone local
-utc_said object line text zone local instant e z l h =
-    let spelled : SpellsZoned object None text None local = subst (λ t. SpellsStamp text t) (sym l) h.1 in
-    let none : SpellsZoned object None text zone local = subst (λ (y : Option zones.Zone). SpellsZoned object None text y local) (sym z) spelled in
-    (h.0, subst (λ (o : Option (List ℕ)). SpellsZoned object o text zone local) (sym e) none)
+pub utc_said : (object : Tree) (line text : List ℕ) (local : ℤ) → line_param (codes "TZID") line ≡ None → time_kind line ≡ DateTime → SpellsStamp text local → SaysZonedText object line text None local
+utc_said object line text local e k h = (k, subst (λ (o : Option (List ℕ)). SpellsZoned object o text None local) (sym e) h)
 
 pub utc_fault : (object : Tree) (line text : List ℕ) (n : ℕ) → line_param (codes "TZID") line ≡ None → KindFault (time_kind line) text n → ZonedTextFault object line text n
 utc_fault object line text n e h = subst (λ (o : Option (List ℕ)). FaultIn object o (time_kind line) text n) (sym e) h

@@ -1,7 +1,7 @@
 -- All instances of a series as a list, in no order: what its rule gives before year 10000.
 -- Cited by listed_series.
 use Rattle.std.proofs.Common.{◌≡◌, ◌∙◌, ℕ, zero, suc, ◌*◌, ◌/◌, ◌%◌, ◌<◌, Bool, true, false, List, [], ◌∷◌, length, map, refl, sym, ap, subst, inl, inr, ◌⊎◌, arith, ℤ, pos, negsuc, ◌+ℤ◌}
-use Rattle.std.specs.Prelude.{Option, Some, None, is_some, Contains, option_map, ◌&&◌, ◌↔◌}
+use Rattle.std.specs.Prelude.{Option, Some, is_some, Contains, ◌&&◌, ◌↔◌}
 use Rattle.std.specs.Ordering.{int_eq}
 use Rattle.std.specs.List.{list_any}
 use Rattle.std.proofs.lemmas.Bool.{cases_order, true≢false}
@@ -17,10 +17,10 @@ use Rattle.profile.specs.events.Properties.{first_second}
 use Rattle.profile.specs.events.ZonedTimes.{clock_of}
 use Rattle.profile.specs.events.Starts.{key_at, IsGiven, IsRuleStart, IsInstance, IsDaysLater, EndsAt}
 use Rattle.profile.specs.events.Confirmed.{alone, has_series, IsOfSeries, AreOfRule}
-use Rattle.cal_zones.specs.Kinds.{zone_of}
-use Rattle.cal_zones.specs.declared.zone.Zone as kept
 use Rattle.cal_zones.proofs.Meant.{meant, in_force}
-use Rattle.cal_events.specs.Component.{component_of, times_of}
+use Rattle.cal_events.specs.Component.{component_of, times_of, zone_said, local_said}
+use Rattle.cal_events.specs.declared.when.When.{When}
+use Rattle.cal_events.specs.declared.when.When.TheVariants.{Utc, Zoned}
 use Rattle.cal_events.specs.MeetingComponents.{IsInEventDates}
 use Rattle.cal_events.specs.OwnInstances.{IsTimely}
 use Rattle.cal_events.specs.Series.{series_said, IsSeriesOf, IsSeriesWithout}
@@ -38,13 +38,13 @@ use Rattle.cal_events.proofs.shared_lemmas.SeriesLemmas.{rule_gives, own_master,
 
 -- ---- what clocks say
 
-meant_on : (zone : Option kept.Zone) (local : ℤ) → (t : ℤ) × Means (clock_of (option_map zone_of zone)) local t
-meant_on None local = (local, utc_means local)
-meant_on (Some z) local = meant z local
+meant_on : (time : When) (local : ℤ) → (t : ℤ) × Means (clock_of (zone_said time)) local t
+meant_on (Utc shown) local = (local, utc_means local)
+meant_on (Zoned shown zone) local = meant zone local
 
-offset_on : (zone : Option kept.Zone) (t : ℤ) → (offset : ℤ) × IsOffsetAt (clock_of (option_map zone_of zone)) t offset
-offset_on None t = (pos 0, refl)
-offset_on (Some z) t = in_force z.kind t
+offset_on : (time : When) (t : ℤ) → (offset : ℤ) × IsOffsetAt (clock_of (zone_said time)) t offset
+offset_on (Utc shown) t = (pos 0, refl)
+offset_on (Zoned shown zone) t = in_force zone.kind t
 
 -- what starts ends
 end_on : (times : declared.EventTimes) (start : ℤ) → (end : ℤ) × EndsAt (times_of times) start end
@@ -53,8 +53,8 @@ end_on times start = let l = later_on times.length.days in (l.0 +ℤ pos times.l
     later_on : (days : ℕ) → (later : ℤ) × IsDaysLater (clock_of (times_of times).zone) days start later
     later_on zero = (start, inl (refl, refl))
     later_on (suc n) =
-        let o = offset_on times.start.zone start in
-        let m = meant_on times.start.zone ((start +ℤ o.0) +ℤ pos (86_400 * suc n)) in
+        let o = offset_on times.start start in
+        let m = meant_on times.start ((start +ℤ o.0) +ℤ pos (86_400 * suc n)) in
         (m.0, inr (omega arith, (o.0, o.1, m.1)))
 
 -- ---- the starts that a rule gives
@@ -74,7 +74,7 @@ module _ (master : EventComponent) (rule : Rule) (one : IsOneMeaning (clock_of (
 
         go : (b : Bool) → is_rule_day rule n ≡ b → (starts : List ℤ) × ((t : ℤ) → Contains starts t ↔ IsBelow n t) → (starts : List ℤ) × ((t : ℤ) → Contains starts t ↔ IsBelow (suc n) t)
         go true e r =
-            let m = meant_on master.times.start.zone (local_time n second) in (
+            let m = meant_on master.times.start (local_time n second) in (
               m.0 ∷ r.0,
               λ t. (
                 (λ c. elim (first_or_later m.0 t r.0 c) [
@@ -110,12 +110,12 @@ module _ (master : EventComponent) (rule : Rule) (one : IsOneMeaning (clock_of (
   HasStarts starts = (t : ℤ) → Contains starts t ↔ IsRuleStart (component_of master).times rule t
 
   rule_starts : (k : ℕ) → 3_652_424 < k → (starts : List ℤ) × HasStarts starts
-  rule_starts k past = go (master.times.start.local +ℤ pos 62_167_219_200) refl
+  rule_starts k past = go (local_said master.times.start +ℤ pos 62_167_219_200) refl
     where
-      go : (d : ℤ) → master.times.start.local +ℤ pos 62_167_219_200 ≡ d → (starts : List ℤ) × HasStarts starts
+      go : (d : ℤ) → local_said master.times.start +ℤ pos 62_167_219_200 ≡ d → (starts : List ℤ) × HasStarts starts
       go (pos n) e =
           let second = n % 86_400 in
-          let on : IsOnDay master.times.start.local (n / 86_400) second = (omega arith, omega (arith, ints, e)) in
+          let on : IsOnDay (local_said master.times.start) (n / 86_400) second = (omega arith, omega (arith, ints, e)) in
           let b = below second k in (
             b.0,
             λ t. (
@@ -124,7 +124,7 @@ module _ (master : EventComponent) (rule : Rule) (one : IsOneMeaning (clock_of (
                 r.day,
                 omega (arith, past, last_of_rule rule r.day r.listed),
                 r.listed,
-                subst (λ (x : ℕ). Means (clock_of (component_of master).times.zone) (local_time r.day x) t) (one_second master.times.start.local r.first (n / 86_400) r.second second r.on on) r.means,
+                subst (λ (x : ℕ). Means (clock_of (component_of master).times.zone) (local_time r.day x) t) (one_second (local_said master.times.start) r.first (n / 86_400) r.second second r.on on) r.means,
               ),
             ),
           )

@@ -1,5 +1,5 @@
 -- What is known of the texts of a part of a message: they are those of content lines, as they are read.
--- Behind refreshes_are_heard, replies_are_heard.
+-- Behind one_content, refreshes_are_heard, replies_are_heard.
 use Rattle.std.proofs.Common.{◌≡◌, ◌∙◌, ℕ, ℤ, ◌<◌, ◌^◌, Bool, true, false, List, [], ◌∷◌, codes, Option, Some, None, inl, inr, refl, sym, subst, arith}
 use Rattle.std.specs.Prelude.{if◌then◌else◌, option_map}
 use Rattle.std.specs.Ordering.{is_lt}
@@ -12,8 +12,8 @@ use Rattle.profile.specs.text.Trees.{Tree, vevents}
 use Rattle.profile.specs.text.Values.{IsAddress, IsUid, lower_case}
 use Rattle.profile.specs.events.EventComponents.{Method, Store, Request, Add, Cancel, Reply, Refresh, EventComponent, SaysEventComponent, SaysSequence, IsAttendee, adds_instances}
 use Rattle.profile.specs.events.Events.{as_added, taken_by, is_master}
-use Rattle.profile.specs.events.ZonedTimes.{SaysTimes, SpellsZoned, SaysZoneOf, EventTimes, zone_named}
-use Rattle.profile.specs.series.Zones.{Zone}
+use Rattle.profile.specs.events.ZonedTimes.{SaysTimes, SpellsZoned, SaysZoneOf, EventTimes, clock_of, zone_named}
+use Rattle.profile.specs.series.Zones.{IsOneMeaning, Zone}
 use Rattle.profile.specs.series.ZoneTexts.{SaysZone}
 use Rattle.std.proofs.lemmas.Option.{same_Some}
 use Rattle.profile.specs.events.Properties.{Says, BothOrNeither, OccursAtMostOnce, IsAddressLine, IsUidLine, IsSequenceLine, is_of, lines_named}
@@ -82,6 +82,8 @@ pub record SaysTaken (object : Tree) (method : Method) (lines : Lines) (event : 
   pub facts : is_to_rooms method ≡ true → cancels method event ≡ false → EventFacts event (adds_instances (Some method))
   -- the instance that it is of is in the dates that an event may name
   pub dated : (t : ℤ) → event.recurrence ≡ Some t → IsInEventDates t
+  -- a local time means one instant on its clocks
+  pub meaning : IsOneMeaning (clock_of event.times.zone)
 
 zone_there : (object : Tree) (name : Option (List ℕ)) (text : List ℕ) (zone : Option Zone) (local : ℤ) → SpellsZoned object name text zone local → IsSaid zone
 zone_there object None text None local s = tt
@@ -106,6 +108,7 @@ as_said object method lines event s = record {
   zone = zone_said _ object lines event.times s.times;
   facts = event_facts object method lines event s;
   dated = (event_sound object lines event s).names;
+  meaning = (event_sound object lines event s).steady.meaning;
 }
 
 -- what is known of an event is known of it as an instance that is added
@@ -121,6 +124,7 @@ when_added object lines event s = record {
   zone = zone_said _ object lines event.times s.times;
   facts = λ to h. facts_added event (event_facts object Add lines event s to h);
   dated = λ t is. subst IsInEventDates (same_Some event.times.start t is) (event_sound object lines event s).starts;
+  meaning = (event_sound object lines event s).steady.meaning;
 }
 
 abbrev SaidIn : Tree → Method → List Lines → EventComponent → Type 0

@@ -19,7 +19,7 @@ use Rattle.itip_messages.proofs.shared_lemmas.CleanText.{clean_address}
 use Rattle.itip_messages.proofs.shared_lemmas.ObjectTree.{calendar_own}
 use Rattle.itip_messages.proofs.sent_law_lemmas.SentEvents.{ReadsLine}
 use Rattle.itip_messages.proofs.sent_law_lemmas.SentBehind.{IsAttendeeText}
-use Rattle.itip_messages.proofs.shared_lemmas.SentTexts.{text_of}
+use Rattle.itip_messages.proofs.shared_lemmas.SentTexts.{bounded_reads, text_of}
 use Rattle.itip_messages.proofs.sent_law_lemmas.WrittenMeetings.{written_back}
 use Rattle.itip_messages.proofs.sent_law_lemmas.StoredEvents.{AreStored, stored_events}
 use Rattle.itip_messages.proofs.shared_lemmas.ZonedObjects.{ZoneBack}
@@ -113,7 +113,7 @@ pub request_reads : LinesBack → ReadsLines → ZoneBack → (stored : List ℕ
     → IsRequest said.organiser said.uid revision said.events octets → is_too_long octets ≡ false → SpellsRequest said.organiser said.uid revision said.events octets
 request_reads back reads zone_back stored said revision octets s store small r short =
     let f = stored_events stored said s store in
-    let b = written_back back reads zone_back request_word request_method IsAsked HasNoAnswer asked_reads said.organiser said.uid revision said.events octets f small r short in
+    let b = written_back back reads zone_back request_word request_method IsAsked HasNoAnswer asked_reads said.organiser said.uid revision said.events octets f small r in
     let sent = b.saids in
     let again = map (revised revision) said.events in
     let sent_apart = apart_by revision (IsSentAs revision) (λ e x h. sym h.recurrence) said.organiser said.uid said.events sent f b.each in
@@ -122,7 +122,7 @@ request_reads back reads zone_back stored said revision octets s store small r s
       sent = sent;
       each = b.each;
       spells = record {
-        lines = b.lines;
+        lines = bounded_reads octets b.lines short;
         tree = b.whole;
         object = b.object;
         says = record {

@@ -3,7 +3,7 @@
 use Rattle.std.proofs.Common.{◌≡◌, ◌∙◌, refl, sym, subst, arith, lt-ltb, ℕ, ◌<◌, ◌^◌, Bool, true, false, List, [], ◌∷◌, ◌++◌, length, codes, None, Some}
 use Rattle.std.specs.List.{AllZip, list_any}
 use Rattle.std.specs.Str.{bytes_eq}
-use Rattle.profile.specs.text.Lines.{is_content, is_too_long}
+use Rattle.profile.specs.text.Lines.{is_content, is_too_long, logical_lines}
 use Rattle.profile.specs.text.Objects.{is_property}
 use Rattle.profile.specs.text.Trees.{Tree}
 use Rattle.profile.specs.events.EventComponents.{Accepted, Attendee, Declined, Delegated, EventComponent, IsAttendee, NeedsAction, Participation, Request, SaysEventComponent, Tentative, Store}
@@ -12,7 +12,7 @@ use Rattle.profile.specs.events.Messages.{Message, SpellsMessage}
 use Rattle.profile.specs.organisers.Organisers.{OrganiserBook, ShowsSeen, Stored, participation_word, sent_status}
 use Rattle.profile.specs.organisers.Sent.{IsMeetingText}
 use Rattle.ical_lines.proofs.CleanLines.{IsClean, valued}
-use Rattle.itip_messages.specs.SentLaw.{HasAnswered, IsSentAddress, SpellsShown}
+use Rattle.itip_messages.specs.SentLaw.{HasAnswered, IsSentAddress, SpellsShown, SpellsShownCalendar}
 use Rattle.itip_messages.proofs.shared_lemmas.CleanText.{clean_address}
 use Rattle.itip_messages.proofs.shared_lemmas.ContentLines.{LinesBack, ReadsLines, no_method}
 use Rattle.itip_messages.proofs.shared_lemmas.ObjectTree.{Lines}
@@ -20,10 +20,10 @@ use Rattle.itip_messages.proofs.shared_lemmas.OwnLines.{as_event}
 use Rattle.itip_messages.proofs.sent_law_lemmas.SentEvents.{ReadsLine}
 use Rattle.itip_messages.proofs.sent_law_lemmas.SentMeetings.{first_alone}
 use Rattle.itip_messages.proofs.sent_law_lemmas.SentBehind.{IsAttendeeText}
-use Rattle.itip_messages.proofs.shared_lemmas.SentTexts.{text_of}
+use Rattle.itip_messages.proofs.shared_lemmas.SentTexts.{bounded_reads, text_of}
 use Rattle.itip_messages.proofs.sent_law_lemmas.StoredEvents.{AreStored, stored_events}
-use Rattle.itip_messages.proofs.sent_law_lemmas.WrittenMeetings.{written_back}
-use Rattle.itip_messages.proofs.shared_lemmas.ZonedObjects.{ZoneBack}
+use Rattle.itip_messages.proofs.sent_law_lemmas.WrittenMeetings.{WrittenBack, written_back}
+use Rattle.itip_messages.proofs.shared_lemmas.ZonedObjects.{ZoneBack, unbounded_object}
 
 -- ---- the lines of attendees
 
@@ -118,18 +118,34 @@ as_events object [] (e ∷ events) z = absurd z
 as_events object (v ∷ vs) [] z = absurd z
 as_events object (v ∷ vs) (e ∷ events) z = (as_event object v e z.0, as_events object vs events z.1)
 
-pub shown_reads : LinesBack → ReadsLines → ZoneBack → (read : List ℕ) (said : Message) (book : OrganiserBook) (stored : Stored) (octets : List ℕ) → SpellsMessage read said → said.method ≡ Store → stored.events ≡ said.events
-    → stored.revision.sequence < 2 ^ 31 → IsMeetingText None said.organiser said.uid stored.revision (ShowsSeen book stored) stored.events octets → is_too_long octets ≡ false → SpellsShown book stored octets
-shown_reads back reads zone_back read said book stored octets s store same small t short =
-    let f = subst (λ (events : List EventComponent). AreStored said.organiser said.uid events) (sym same) (stored_events read said s store) in
-    let b = written_back back reads zone_back None no_method (ShowsSeen book stored) (HasAnswered book stored) (shown_reads_line book stored) said.organiser said.uid stored.revision stored.events octets f small t short in
-    record {
-      shown = b.saids;
-      each = b.each;
-      spells = record {
-        lines = b.lines;
-        tree = b.whole;
-        object = b.object;
-        says = record { events = b.saids; says = as_events b.whole _ b.saids b.says; some = b.some; one = λ x y p q. b.of_it x p ∙ sym (b.of_it y q); master = first_alone _ b.masters; overrides = refl; differ = b.differ };
-      };
-    }
+-- ---- what is shown of a store that was read
+
+module _ (back : LinesBack) (reads : ReadsLines) (zone_back : ZoneBack) (read : List ℕ) (said : Message) (book : OrganiserBook) (stored : Stored) (octets : List ℕ) where
+  shown_back : SpellsMessage read said → said.method ≡ Store → stored.events ≡ said.events → stored.revision.sequence < 2 ^ 31 → IsMeetingText None said.organiser said.uid stored.revision (ShowsSeen book stored) stored.events octets
+      → WrittenBack None (HasAnswered book stored) said.organiser said.uid stored.revision stored.events octets
+  shown_back s store same small t =
+      let f = subst (λ (events : List EventComponent). AreStored said.organiser said.uid events) (sym same) (stored_events read said s store) in
+      written_back back reads zone_back None no_method (ShowsSeen book stored) (HasAnswered book stored) (shown_reads_line book stored) said.organiser said.uid stored.revision stored.events octets f small t
+
+  -- as an event with its instances, of the size of a message
+  pub shown_reads : SpellsMessage read said → said.method ≡ Store → stored.events ≡ said.events → stored.revision.sequence < 2 ^ 31 → IsMeetingText None said.organiser said.uid stored.revision (ShowsSeen book stored) stored.events octets
+      → is_too_long octets ≡ false → SpellsShown book stored octets
+  shown_reads s store same small t short =
+      let b = shown_back s store same small t in
+      record {
+        shown = b.saids;
+        each = b.each;
+        spells = record {
+          lines = bounded_reads octets b.lines short;
+          tree = b.whole;
+          object = b.object;
+          says = record { events = b.saids; says = as_events b.whole _ b.saids b.says; some = b.some; one = λ x y p q. b.of_it x p ∙ sym (b.of_it y q); master = first_alone _ b.masters; overrides = refl; differ = b.differ };
+        };
+      }
+
+  -- as a calendar, of any size
+  pub shown_calendar : SpellsMessage read said → said.method ≡ Store → stored.events ≡ said.events → stored.revision.sequence < 2 ^ 31 → IsMeetingText None said.organiser said.uid stored.revision (ShowsSeen book stored) stored.events octets
+      → SpellsShownCalendar book stored octets
+  shown_calendar s store same small t =
+      let b = shown_back s store same small t in
+      record { shown = b.saids; each = b.each; lines = b.lines; tree = b.whole; object = unbounded_object b.whole (logical_lines octets) b.object; says = as_events b.whole _ b.saids b.says }

@@ -4,7 +4,7 @@ use Rattle.std.proofs.Common.{◌≡◌, ◌∙◌, refl, sym, ap, ap₂, subst,
 use Rattle.std.specs.Prelude.{Contains, unwrap_or}
 use Rattle.std.specs.List.{list_all, flat_map, AllZip}
 use Rattle.std.proofs.lemmas.Bool.{and_from}
-use Rattle.profile.specs.text.Lines.{is_content, is_too_long, logical_lines, reads_as_lines, written}
+use Rattle.profile.specs.text.Lines.{is_content, logical_lines, reads_as_lines, written}
 use Rattle.profile.specs.text.Objects.{IsObject, is_property}
 use Rattle.profile.specs.text.Trees.{Tree, tree_own, vevents}
 use Rattle.profile.specs.events.EventComponents.{Attendee, EventComponent, Request, SaysEventComponent, meeting_said}
@@ -20,7 +20,6 @@ use Rattle.itip_messages.proofs.shared_lemmas.ContentLines.{IsMethod, LinesBack,
 use Rattle.itip_messages.proofs.shared_lemmas.ObjectTree.{Lines, calendar_own, vevent_lines}
 use Rattle.itip_messages.proofs.sent_law_lemmas.SentEvents.{ReadsLine, one_back}
 use Rattle.itip_messages.proofs.sent_law_lemmas.SentMeetings.{masters_few, overrides_differ}
-use Rattle.itip_messages.proofs.shared_lemmas.SentTexts.{bounded_reads}
 use Rattle.itip_messages.proofs.sent_law_lemmas.SentZones.{sent_zones}
 use Rattle.itip_messages.proofs.sent_law_lemmas.StoredEvents.{AreStored, IsStored}
 use Rattle.itip_messages.proofs.shared_lemmas.ZonedObjects.{IsZonedTree, ZoneBack, bounded_object, zoned_spelled}
@@ -73,11 +72,11 @@ of_meeting IsSuch organiser uid revision (e ∷ events) (s ∷ saids) f z said c
 
 -- ---- the octets
 
--- they are one object with this METHOD, or with none, and its VEVENTs are those of one meeting
+-- they are one object with this METHOD, or with none, and its VEVENTs are those of one meeting, of which a message may have so many
 pub record WrittenBack (word : Option (List ℕ)) (IsSuch : Slot → Attendee → Attendee → Type 0) (organiser uid : List ℕ) (revision : Revision) (events : List EventComponent) (octets : List ℕ) : Type 0 where
   pub saids : List EventComponent
   pub each : AllZip (IsSaidAgain IsSuch revision) events saids
-  pub lines : reads_as_lines true octets ≡ true
+  pub lines : reads_as_lines false octets ≡ true
   pub whole : Tree
   pub object : IsObject true whole (logical_lines octets)
   pub own : tree_own whole ≡ calendar_own word
@@ -89,8 +88,8 @@ pub record WrittenBack (word : Option (List ℕ)) (IsSuch : Slot → Attendee �
 
 pub written_back : LinesBack → ReadsLines → ZoneBack → (word : Option (List ℕ)) → IsMethod word → (IsLine : Slot → Attendee → List ℕ → Type 0) (IsSuch : Slot → Attendee → Attendee → Type 0) → ReadsLine IsLine IsSuch
     → (organiser uid : List ℕ) (revision : Revision) (events : List EventComponent) (octets : List ℕ) → AreStored organiser uid events → revision.sequence < 2 ^ 31
-    → IsMeetingText word organiser uid revision IsLine events octets → is_too_long octets ≡ false → WrittenBack word IsSuch organiser uid revision events octets
-written_back back reads zone_back word method IsLine IsSuch reads_line organiser uid revision events octets f small m short =
+    → IsMeetingText word organiser uid revision IsLine events octets → WrittenBack word IsSuch organiser uid revision events octets
+written_back back reads zone_back word method IsLine IsSuch reads_line organiser uid revision events octets f small m =
     let zones = zones_of m.components in
     let b = all_back word IsLine IsSuch reads_line organiser uid revision small zones events m.components m.texts f.each m.are m.each in
     let k = zoned_spelled back zone_back word method zones b.owns (sent_zones events m.components (λ e c. (f.each e c).zone) m.are) m.few b.properties b.content in
@@ -107,7 +106,7 @@ written_back back reads zone_back word method IsLine IsSuch reads_line organiser
     record {
       saids = b.saids;
       each = b.each;
-      lines = bounded_reads octets (ap (reads_as_lines false) whole ∙ reads k.lines k.content) short;
+      lines = ap (reads_as_lines false) whole ∙ reads k.lines k.content;
       whole = k.whole;
       object = subst (IsObject true k.whole) (sym logical) object;
       own = k.own;

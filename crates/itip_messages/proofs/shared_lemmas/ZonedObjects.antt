@@ -363,3 +363,7 @@ bounded_object whole lines owns o are few = record {
   where
     ltb_false : (a b : ℕ) → b ≤ a → nat_lt a b ≡ false
     ltb_false a b h = grind (arith, nat_tests)
+
+-- one that a message may be is one of any size
+pub unbounded_object : (whole : Tree) (lines : Lines) → IsObject true whole lines → IsObject false whole lines
+unbounded_object whole lines o = record { spelled = o.spelled; calendar = o.calendar; version = o.version; events = refl }

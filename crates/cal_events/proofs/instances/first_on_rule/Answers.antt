@@ -3,7 +3,7 @@ use Rattle.std.proofs.lemmas.Bool.{false≢true}
 use Rattle.std.proofs.lemmas.Int.{ints}
 use Rattle.profile.specs.series.Days.{day_index}
 use Rattle.profile.specs.events.EventRules.{IsOnDay}
-use Rattle.cal_events.specs.Component.{component_of}
+use Rattle.cal_events.specs.Component.{component_of, local_said}
 use Rattle.cal_events.proofs.shared_lemmas.InstanceLemmas.{last_of_rule, first_of_rule, none_of_rule}
 use Rattle.cal_events.proofs.instances_lemmas.ClockLemmas.{means_by, same_clock}
 use Rattle.cal_events.proofs.shared_lemmas.Walks.{walked_on, walked_out, walked_back}
@@ -27,7 +27,7 @@ put_back-requires c =
 pub returns-then-is_wanted-clause-first : goal.returns-then-is_wanted-clause-first
 returns-then-is_wanted-clause-first c =
     let d = c.day_and_second-second.result in
-    let on : IsOnDay c.args.master.now.times.start.local (day_index d.0) d.1 = (c.day_and_second-second.ensures.second, omega (arith, ints, c.day_and_second-second.ensures.sum, c.day_and_second-second.type_inv)) in
+    let on : IsOnDay (local_said c.args.master.now.times.start) (day_index d.0) d.1 = (c.day_and_second-second.ensures.second, omega (arith, ints, c.local.ensures, c.day_and_second-second.ensures.sum, c.day_and_second-second.type_inv)) in
     let same : to_z w64 (of_z w64 c.start_by-start.result) ≡ c.start_by-start.result = omega (arith, ints, c.start_by-start.ensures.range) in
     let rule = c.args._rule.now in
     let walked = c.loop-found.invariant.0 in
@@ -38,7 +38,7 @@ returns-then-is_wanted-clause-first c =
 pub returns-then-is_wanted-clause-walked : goal.returns-then-is_wanted-clause-walked
 returns-then-is_wanted-clause-walked c =
     let d = c.day_and_second-second.result in
-    let on : IsOnDay c.args.master.now.times.start.local (day_index d.0) d.1 = (c.day_and_second-second.ensures.second, omega (arith, ints, c.day_and_second-second.ensures.sum, c.day_and_second-second.type_inv)) in
+    let on : IsOnDay (local_said c.args.master.now.times.start) (day_index d.0) d.1 = (c.day_and_second-second.ensures.second, omega (arith, ints, c.local.ensures, c.day_and_second-second.ensures.sum, c.day_and_second-second.type_inv)) in
     let same : to_z w64 (of_z w64 c.start_by-start.result) ≡ c.start_by-start.result = omega (arith, ints, c.start_by-start.ensures.range) in
     let rule = c.args._rule.now in
     let walked = c.loop-found.invariant.0 in
@@ -50,7 +50,7 @@ returns-then-is_wanted-clause-walked c =
 pub loop-found-preserved : goal.loop-found-preserved
 loop-found-preserved c =
     let d = c.day_and_second-second.result in
-    let on : IsOnDay c.args.master.now.times.start.local (day_index d.0) d.1 = (c.day_and_second-second.ensures.second, omega (arith, ints, c.day_and_second-second.ensures.sum, c.day_and_second-second.type_inv)) in
+    let on : IsOnDay (local_said c.args.master.now.times.start) (day_index d.0) d.1 = (c.day_and_second-second.ensures.second, omega (arith, ints, c.local.ensures, c.day_and_second-second.ensures.sum, c.day_and_second-second.type_inv)) in
     let same : to_z w64 (of_z w64 c.start_by-start.result) ≡ c.start_by-start.result = omega (arith, ints, c.start_by-start.ensures.range) in
     let rule = c.args._rule.now in
     let walked = c.loop-found.invariant.0 in
@@ -70,7 +70,7 @@ loop-found-smaller c =
 pub returns-clause-first : goal.returns-clause-first
 returns-clause-first c =
     let d = c.day_and_second-second.result in
-    let on : IsOnDay c.args.master.now.times.start.local (day_index d.0) d.1 = (c.day_and_second-second.ensures.second, omega (arith, ints, c.day_and_second-second.ensures.sum, c.day_and_second-second.type_inv)) in
+    let on : IsOnDay (local_said c.args.master.now.times.start) (day_index d.0) d.1 = (c.day_and_second-second.ensures.second, omega (arith, ints, c.local.ensures, c.day_and_second-second.ensures.sum, c.day_and_second-second.type_inv)) in
     let rule = c.args._rule.now in
     let walked = c.loop-found.invariant.0 in
     let step = c.in_default.ensures rule (walked.listed rule c.requires.rule) in
@@ -79,7 +79,7 @@ returns-clause-first c =
 pub returns-clause-walked : goal.returns-clause-walked
 returns-clause-walked c =
     let d = c.day_and_second-second.result in
-    let on : IsOnDay c.args.master.now.times.start.local (day_index d.0) d.1 = (c.day_and_second-second.ensures.second, omega (arith, ints, c.day_and_second-second.ensures.sum, c.day_and_second-second.type_inv)) in
+    let on : IsOnDay (local_said c.args.master.now.times.start) (day_index d.0) d.1 = (c.day_and_second-second.ensures.second, omega (arith, ints, c.local.ensures, c.day_and_second-second.ensures.sum, c.day_and_second-second.type_inv)) in
     let rule = c.args._rule.now in
     let walked = c.loop-found.invariant.0 in
     let step = c.in_default.ensures rule (walked.listed rule c.requires.rule) in

@@ -1,4 +1,4 @@
-use Rattle.std.proofs.Common.{◌≡◌, ◌∙◌, subst, to_z, of_z, w64, rules, FitsSigned, to_z-of_z}
+use Rattle.std.proofs.Common.{◌≡◌, ◌∙◌, sym, subst, to_z, of_z, w64, rules, FitsSigned, to_z-of_z}
 use Rattle.profile.specs.series.Days.{IsDayNumber, day_index}
 use Rattle.profile.specs.series.Zones.{Zone, Means, local_time}
 use Rattle.profile.specs.events.ZonedTimes.{clock_of}
@@ -28,7 +28,7 @@ returns c =
     rw cast (record {
       first = day_index split.result.0;
       second = second;
-      on = (split.ensures.second, split.ensures.sum ∙ local_of_day split.result.0 second first);
+      on = (split.ensures.second, sym c.local.ensures ∙ split.ensures.sum ∙ local_of_day split.result.0 second first);
       day = day_index day;
       is = subst (λ n. IsLastDayTo c.args.rule.now n (day_index day)) to c.in-Some.ensures;
       means = subst (λ l. Means (clock_of (zone_said c.args.times.now.start)) l t) local meant;

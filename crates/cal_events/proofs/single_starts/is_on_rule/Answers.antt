@@ -5,7 +5,7 @@ use Rattle.std.specs.Cmp.{unsigned_Decides}
 use Rattle.std.proofs.lemmas.Int.{ints, by_lt_z}
 use Rattle.profile.specs.series.Days.{day_index}
 use Rattle.profile.specs.events.EventRules.{IsOnDay}
-use Rattle.cal_events.specs.Component.{component_of}
+use Rattle.cal_events.specs.Component.{component_of, local_said}
 use Rattle.cal_events.specs.Instances.{AreWalked}
 use Rattle.cal_events.proofs.shared_lemmas.DraftKeys.{some_there}
 use Rattle.cal_events.proofs.shared_lemmas.InstanceLemmas.{last_of_rule}
@@ -25,7 +25,7 @@ returns-then-start-instant c =
     let event = component_of c.args.master.now in
     let r = some_there c.args.master.now.rule (c.is_none.ensures ∙ ap not c.if-is_none.false) in
     let d = c.day_and_second-second.result in
-    let on : IsOnDay c.args.master.now.times.start.local (day_index d.0) d.1 = (c.day_and_second-second.ensures.second, omega (arith, ints, c.day_and_second-second.ensures.sum, c.day_and_second-second.type_inv)) in
+    let on : IsOnDay (local_said c.args.master.now.times.start) (day_index d.0) d.1 = (c.day_and_second-second.ensures.second, omega (arith, ints, c.local.ensures, c.day_and_second-second.ensures.sum, c.day_and_second-second.type_inv)) in
     let start = c.start_on-start.result in
     let instant = c.args.instant in
     let here : to_z w64 (of_z w64 start) ≡ start = omega (arith, ints, c.start_on-start.ensures.range) in
@@ -54,7 +54,7 @@ loop-day-preserved c =
     let event = component_of c.args.master.now in
     let r = some_there c.args.master.now.rule (c.is_none.ensures ∙ ap not c.if-is_none.false) in
     let d = c.day_and_second-second.result in
-    let on : IsOnDay c.args.master.now.times.start.local (day_index d.0) d.1 = (c.day_and_second-second.ensures.second, omega (arith, ints, c.day_and_second-second.ensures.sum, c.day_and_second-second.type_inv)) in
+    let on : IsOnDay (local_said c.args.master.now.times.start) (day_index d.0) d.1 = (c.day_and_second-second.ensures.second, omega (arith, ints, c.local.ensures, c.day_and_second-second.ensures.sum, c.day_and_second-second.type_inv)) in
     let start = c.start_on-start.result in
     let bound = to_z w64 (of_z w64 c.args.instant) in
     let here : to_z w64 (of_z w64 start) ≡ start = omega (arith, ints, c.start_on-start.ensures.range) in
@@ -68,7 +68,7 @@ returns c =
     let event = component_of c.args.master.now in
     let r = some_there c.args.master.now.rule (c.is_none.ensures ∙ ap not c.if-is_none.false) in
     let d = c.day_and_second-second.result in
-    let on : IsOnDay c.args.master.now.times.start.local (day_index d.0) d.1 = (c.day_and_second-second.ensures.second, omega (arith, ints, c.day_and_second-second.ensures.sum, c.day_and_second-second.type_inv)) in
+    let on : IsOnDay (local_said c.args.master.now.times.start) (day_index d.0) d.1 = (c.day_and_second-second.ensures.second, omega (arith, ints, c.local.ensures, c.day_and_second-second.ensures.sum, c.day_and_second-second.type_inv)) in
     let given : to_z w64 (of_z w64 c.args.instant) ≡ c.args.instant = to_z-of_z c.ranges.instant in
     let walked = subst (λ (x : ℤ). AreWalked event [] (at x) c.loop-day.days) given c.loop-day.invariant in
     let step = c.in_default.ensures r.0 (walked.listed r.0 r.1) in

@@ -1,4 +1,4 @@
-use Rattle.std.proofs.Common.{◌≡◌, codes, sym, subst, arith, to_z, of_z, w64, ℤ}
+use Rattle.std.proofs.Common.{◌≡◌, Bool, codes, sym, subst, arith, to_z, of_z, w64, ℤ}
 use Rattle.std.proofs.lemmas.Int.{ints}
 use Rattle.profile.specs.series.Zones.{Means}
 use Rattle.ical_lines.specs.Text.{line_text}
@@ -8,7 +8,7 @@ use Rattle.cal_events.proofs.shared_lemmas.EventLemmas.{some_line}
 use Rattle.std.specs.Prelude.{◌↔◌, IsTrue}
 use Rattle.profile.specs.events.ZonedTimes.{IsInDates, clock_of}
 use Rattle.cal_events.specs.Zones.{object_of}
-use Rattle.cal_events.specs.Component.{zone_said}
+use Rattle.cal_events.specs.Component.{zone_said, local_said}
 use Rattle.cal_events.proofs.event_times.SaidTimes.from_start.Goals as goal
 
 pub returns-in_err-start-clause-fault : goal.returns-in_err-start-clause-fault
@@ -28,11 +28,13 @@ pub returns-clause-said : goal.returns-clause-said
 returns-clause-said c =
     let start = c.in_ok-start.start in
     let same : to_z w64 (of_z w64 c.instant-instant.result) ≡ c.instant-instant.result = omega (arith, ints, c.instant-instant.ensures.range) in
+    let P : Bool → ℤ → Type 0 = λ b l. IsTrue c.is_in_dates-starts_in.result ↔ IsInDates b l (to_z w64 (of_z w64 c.instant-instant.result)) in
+    let dates = subst (λ b. P b (local_said start)) c.is_in_zone-in_zone.ensures (subst (λ (l : ℤ). P c.is_in_zone-in_zone.result l) c.local.ensures c.is_in_dates-starts_in.ensures) in
     record {
       line = line_text c.args.line;
       once = c.requires.once;
       says = c.in_ok-start.ensures.says;
-      means = subst (λ (x : ℤ). Means (clock_of (zone_said start)) start.local x) (sym same) c.instant-instant.ensures.meaning;
-      starts = subst (λ b. IsTrue c.is_in_dates-starts_in.result ↔ IsInDates b start.local (to_z w64 (of_z w64 c.instant-instant.result))) c.is_in_zone-in_zone.ensures c.is_in_dates-starts_in.ensures;
+      means = subst (λ (x : ℤ). Means (clock_of (zone_said start)) (local_said start) x) (sym same) c.instant-instant.ensures.meaning;
+      starts = dates;
       extent = c.in_ok-extent.ensures.reads;
     }

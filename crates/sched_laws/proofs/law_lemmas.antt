@@ -1,0 +1,16 @@
+pub mod Invariant
+pub mod Growing
+pub mod Stores
+pub mod ClaimFacts
+pub mod TextAnswers
+pub mod SentClaims
+pub mod RoomReplies
+pub mod Hearing
+pub mod Delivering
+pub mod Storing
+pub mod Playing
+pub mod SlotParts
+pub mod Booked
+pub mod SaidAgain
+pub mod ShownTexts
+pub mod ShownInstances

@@ -1,0 +1,6 @@
+//! What holds in each world that a schedule of stores and deliveries leads to: a law, with nothing to do.
+#![tactic(auto)]
+
+mod law;
+
+pub use law::schedules_hold;
