@@ -374,7 +374,7 @@ class Ended:
 
     def kind(self, command):
         """What sets this answer apart from others: its numbers and words, but not their values."""
-        shape = re.sub(rb"\d{3,}|mailto:\S+", b"#", self.output[:4_000] if command in ("serve", "check", "explain") else self.output[:400])
+        shape = re.sub(rb"\d{3,}|mailto:\S+", b"#", self.output[: 400 if command in ("keep", "expand") else 4_000])
         return command, self.status, re.sub(rb"\d{3,}|'.*'", b"#", self.said[:200]), shape
 
 
@@ -401,7 +401,12 @@ class Runner:
             os.lseek(stream, 0, os.SEEK_SET)
         child = subprocess.Popen([self.program, *words], stdin=self.streams[0], stdout=self.streams[1], stderr=self.streams[2], cwd=self.folder)
         status = self.waited(child)
-        return Ended(status, *(os.pread(stream, 64 << 20, 0) for stream in self.streams[1:]))
+        output, said = (os.pread(stream, 64 << 20, 0) for stream in self.streams[1:])
+        return Ended(status, output + self.answers() if words[:1] == ["box"] else output, said)
+
+    def answers(self):
+        """What a box has left in its outbox."""
+        return b"".join(path.name.encode() + b"\n" + path.read_bytes() for path in sorted((self.folder / "outbox").iterdir()))
 
     def waited(self, child):
         handle = os.pidfd_open(child.pid)
@@ -463,7 +468,7 @@ def followed_up(command, case, runner, ended):
             return again, "what is kept doesn't pass"
     if command == "box":
         again = runner.run(case.words, case.stdin)
-        if (again.status, again.said) != (ended.status, ended.said):
+        if (again.status, again.output, again.said) != (ended.status, ended.output, ended.said):
             return again, "another answer the second time"
     return ended, None
 
@@ -511,8 +516,9 @@ class Fuzz:
         if kind in self.kinds or command == WORDS_OF_ALL:
             return
         self.kinds.add(kind)
-        texts = {"stream": case.stdin} if command in ("serve", "keep") else {"object": case.stdin} if command in ("expand", "explain") else case.files
+        texts = {"stream" if command in ("serve", "keep") else "object": case.stdin, **case.files}
         for name, text in texts.items():
+            name = "object" if name.startswith("inbox/") else name
             kept = self.corpus.kinds.get(name)
             if text and kept is not None and len(kept) < self.first[name] + KEPT and len(text) < 100_000:
                 kept.append(text)
