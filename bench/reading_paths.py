@@ -32,7 +32,7 @@ PATHS = {
         "room_books/src/room.rt.take.accepted",
         "room_books/src/room.rt.take.declined",
     ],
-    "every schedule": [f"sched_box/src/schedules.rt.play.{clause}" for clause in ("plays", "booked", "confirmed", "clear", "kept")],
+    "every schedule": [f"sched_box/src/schedules.rt.play.{clause}" for clause in ("plays", "booked", "confirmed", "clear", "spells", "kept")],
     "all of what serve writes": ["sched_box/src/serving.rt.serve_stream.whole"],
 }
 

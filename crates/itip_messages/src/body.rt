@@ -228,7 +228,7 @@ fn write_zone(body: &mut Vec<u8>, times: &EventTimes) -> Result<(), AllocError>
     ensures { OnOk result (AppendsZone (times_of times.now) body.old.items body.new.items) }
 {
     match times.start {
-        When::Utc(_) => Ok(()),
         When::Zoned(_, zone) => zone.write("Z", body),
+        When::Utc(_) => Ok(()),
     }
 }

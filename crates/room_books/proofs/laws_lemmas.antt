@@ -5,6 +5,7 @@ pub mod KeptMeetings
 pub mod KeptCalendars
 pub mod KeptStreams
 pub mod KeptAnswers
+pub mod TextAnswers
 pub mod ZonesIn
 pub mod KeptOwn
 pub mod KeptEvents

@@ -9,6 +9,7 @@ ghost use Rattle.profile.specs.streams.Streams.{IsDelivered, IsReached, AllAnswe
 ghost use Rattle.profile.specs.rooms.Kept.{IsKeptCalendar, IsKeptCertificate};
 ghost use Rattle.profile.specs.checker.Calendars.{CertificateHolds, SpellsCalendar};
 ghost use Rattle.profile.specs.Headline.{AcceptedWhereClear, DeclineNamesClash};
+ghost use Rattle.itip_messages.specs.Law.{AreTextAnswers};
 
 use cal_events::one_calendar_text;
 
@@ -36,6 +37,12 @@ pub fn accepted_where_clear()
         → AcceptedWhereClear before claims moment (kind_of before.taken after.taken claims outcome) }
     ensures declined { (before : Book) (claims : List Claim) (moment : ℤ) (outcome : Outcome) (after : Book) → IsStep before claims moment outcome after
         → DeclineNamesClash before claims moment (kind_of before.taken after.taken claims outcome) }
+{}
+
+/// The instances that a decline names have keys in UTF-8, whatever messages the room took: each organiser and UID in a
+/// book comes from octets that were read (RFC 5545 3.1.4).
+pub fn answers_name_texts()
+    ensures { (room : List ℕ) (book : Book) → IsReached room book → AreTextAnswers book }
 {}
 
 /// Whatever messages come, in any order and repeated: the calendar that a room keeps after them spells what it has

@@ -1,22 +1,28 @@
 -- The rooms of a box take a message, and their answers follow one another.
-use Rattle.std.proofs.Common.{◌≡◌, false, ℕ, ◌+◌, ◌<◌, ◌≤◌, ℤ, List, [], ◌∷◌, ◌++◌, length, take, drop, get_or, set, Option, Some, None, refl, sym, ap, subst, ◌∙◌, arith, take_all, length-set, codes, decimal, Result, Ok, Err, OnOk}
+use Rattle.std.proofs.Common.{◌≡◌, true, false, inl, inr, ℕ, zero, suc, ◌+◌, ◌<◌, ◌≤◌, ℤ, List, [], ◌∷◌, ◌++◌, length, take, drop, get_or, set, Option, Some, None, refl, sym, ap, subst, ◌∙◌, arith, take_all, length-set, codes, decimal, Result, Ok, Err, OnOk}
 use Rattle.std.specs.Option.{option_to_list}
-use Rattle.std.specs.List.{flat_map}
+use Rattle.std.specs.List.{flat_map, list_any}
+use Rattle.std.specs.Str.{bytes_eq}
 use Rattle.std.proofs.lemmas.List.{append_assoc, append-nil, get_or-map, map-append, take-append-drop, take_more, take_more_set, drop_more, drop_all, drop-set-lt}
 use Rattle.ical_values.specs.Octets.{address_octets}
 use Rattle.itip_messages.specs.Message.{RepresentsMessage}
 use Rattle.itip_messages.specs.declared.message.Message.{Message}
+use Rattle.cal_events.specs.Component.{method_said}
 use Rattle.profile.specs.events.Messages as profile
+use Rattle.profile.specs.events.Messages.{is_to_rooms}
 use Rattle.profile.specs.rooms.Messages.{is_add}
 use Rattle.profile.specs.rooms.Rooms as machine
 use Rattle.profile.specs.rooms.Rooms.{Book, Claim, IsStep}
 use Rattle.profile.specs.rooms.Kept.{Replies, Refreshes}
-use Rattle.profile.specs.streams.Streams.{AllTake, AreClaims, Hosted, refused_line}
+use Rattle.profile.specs.streams.Streams.{AllTake, AreClaims, Hosted, TakesMessage, refused_line}
+use Rattle.profile.specs.streams.Worlds as worlds
+use Rattle.profile.specs.streams.Worlds.{ChangesOne}
 use Rattle.room_books.specs.Room.{Represents, StepsWith}
 use Rattle.room_books.specs.declared.room.Room.{Room}
-use Rattle.sched_box.specs.Answering.{room_addresses, AreHosted, RoomTakes, RoomsTake, sent_octets}
+use Rattle.sched_box.specs.Answering.{room_addresses, AreHosted, IsHosted, RoomSends, RoomTakes, RoomsSend, RoomsTake, sent_octets}
 use Rattle.sched_box.specs.Asked.{asks}
 use Rattle.sched_box.proofs.AskedLemmas.{left_out}
+use Rattle.sched_box.proofs.HostLemmas.{none_hosted, one_behind}
 
 -- ---- one room
 
@@ -26,11 +32,11 @@ sent_is None (Some y) = sym (append-nil y)
 sent_is (Some x) None = refl
 sent_is (Some x) (Some y) = ap (λ z. x ++ z) (sym (append-nil y))
 
-pub room_takes : (moment : ℤ) (message : Message) (old new : Room) (kind : machine.Kind) (reply refresh : Option (List ℕ))
+pub room_sends : (moment : ℤ) (message : Message) (old new : Room) (kind : machine.Kind) (reply refresh : Option (List ℕ))
     → ((said : profile.Message) → RepresentsMessage message said → (book : Book) → Represents old.meetings.entries book
     → (claims : List Claim) × AreClaims (address_octets old.address) said claims × StepsWith (address_octets old.address) new.meetings.entries book claims moment kind reply (is_add said.method) refresh)
-    → new.address ≡ old.address → RoomTakes moment message old new (sent_octets reply ++ sent_octets refresh)
-room_takes moment message old new kind reply refresh steps same said represented before has =
+    → new.address ≡ old.address → RoomSends moment message old new (option_to_list reply ++ option_to_list refresh)
+room_sends moment message old new kind reply refresh steps same said represented before has =
     let room = address_octets old.address in
     let (claims, are, with') = steps said represented before.book has.represents in
     let P : List ℕ → Type 0 = λ a. AreClaims a said claims in
@@ -38,8 +44,8 @@ room_takes moment message old new kind reply refresh steps same said represented
     let R : List ℕ → Type 0 = λ a. Refreshes a (is_add said.method) before.book.taken with'.steps.after.taken claims moment refresh in (
       record { address = before.address; book = with'.steps.after },
       record { at = has.at ∙ ap address_octets (sym same); represents = with'.steps.represents },
+      refl,
       record {
-        same = refl;
         claims = claims;
         are = subst P (sym has.at) are;
         outcome = with'.steps.outcome;
@@ -48,9 +54,61 @@ room_takes moment message old new kind reply refresh steps same said represented
         replies = subst Q (sym has.at) with'.replies;
         refresh = refresh;
         refreshes = subst R (sym has.at) with'.refreshes;
-        is = sent_is reply refresh;
+        is = refl;
       },
     )
+
+-- it answers with the octets of what it sends
+pub room_takes : (moment : ℤ) (message : Message) (old new : Room) (kind : machine.Kind) (reply refresh : Option (List ℕ))
+    → ((said : profile.Message) → RepresentsMessage message said → (book : Book) → Represents old.meetings.entries book
+    → (claims : List Claim) × AreClaims (address_octets old.address) said claims × StepsWith (address_octets old.address) new.meetings.entries book claims moment kind reply (is_add said.method) refresh)
+    → new.address ≡ old.address → RoomTakes moment message old new (sent_octets reply ++ sent_octets refresh)
+room_takes moment message old new kind reply refresh steps same said represented before has =
+    let (after, is, stays, takes) = room_sends moment message old new kind reply refresh steps same said represented before has in
+    (after, is, record { same = stays; sent = option_to_list reply ++ option_to_list refresh; takes = takes; is = sent_is reply refresh })
+
+-- ---- the room in its place
+
+send_in : (moment : ℤ) (said : profile.Message) (to : List ℕ) (olds : List Room) (place : ℕ) (d new : Room) (sent : List (List ℕ)) → is_to_rooms said.method ≡ true → place < length olds
+    → to ≡ address_octets (get_or olds place d).address
+    → ((before : Hosted) → IsHosted (get_or olds place d) before → (after : Hosted) × IsHosted new after × (after.address ≡ before.address) × TakesMessage before.address moment said before.book after.book sent)
+    → (before : List Hosted) → AreHosted olds before → (after : List Hosted) × AreHosted (set olds place new) after × ChangesOne (worlds.RoomTakes to moment said sent) before after
+send_in moment said to [] place d new sent for_rooms within is sends before have = absurd (omega arith)
+send_in moment said to (o ∷ os) place d new sent for_rooms within is sends [] have = absurd have
+send_in moment said to (o ∷ os) zero d new sent for_rooms within is sends (b ∷ bs) have =
+    let (after, hosted, same, takes) = sends b have.0 in
+    let at : b.address ≡ to = have.0.at ∙ sym is in (
+      after ∷ bs,
+      (hosted, have.1),
+      record {
+        ahead = [];
+        behind = bs;
+        old = b;
+        new = after;
+        changes = record { address = at; same = same; for_rooms = for_rooms; takes = subst (λ a. TakesMessage a moment said b.book after.book sent) at takes };
+        of_these = refl;
+        to_these = refl;
+      },
+    )
+send_in moment said to (o ∷ os) (suc place) d new sent for_rooms within is sends (b ∷ bs) have =
+    let (after, hosted, one) = send_in moment said to os place d new sent for_rooms (omega arith) is sends bs have.1 in
+    (b ∷ after, (have.0, hosted), one_behind b one)
+
+address_at : (olds : List Room) (place : ℕ) (d : Room) → place < length olds → get_or (room_addresses olds) place [] ≡ address_octets (get_or olds place d).address
+address_at olds place d within = get_or-map (λ room. address_octets room.address) olds place d [] within
+
+pub sent_at : (moment : ℤ) (message : Message) (olds : List Room) (place : ℕ) (d new : Room) (sent : List (List ℕ)) → is_to_rooms (method_said message.method) ≡ true → place < length olds
+    → RoomSends moment message (get_or olds place d) new sent → RoomsSend (get_or (room_addresses olds) place []) moment message olds (set olds place new) sent
+sent_at moment message olds place d new sent for_rooms within sends said represented before have =
+    let to = get_or (room_addresses olds) place [] in
+    let (after, hosted, one) = send_in moment said to olds place d new sent (sym (ap is_to_rooms represented.method) ∙ for_rooms) within (address_at olds place d within) (sends said represented) before have in
+    (after, hosted, inl one)
+
+-- ---- none is of the address
+
+pub unsent : (moment : ℤ) (message : Message) (to : List ℕ) (rooms : List Room) (sent : List (List ℕ)) → list_any (bytes_eq to) (room_addresses rooms) ≡ false → sent ≡ [] → RoomsSend to moment message rooms rooms sent
+unsent moment message to rooms sent none nothing said represented before have =
+    (before, have, inr (none_hosted (λ room. address_octets room.address) (λ host. host.address) IsHosted (λ room host is. is.at) to rooms before none have, refl, nothing))
 
 -- ---- all rooms
 

@@ -1,5 +1,5 @@
 -- The rooms that a message isn't for: they are those whose flags stay off, and take nothing.
-use Rattle.std.proofs.Common.{◌≡◌, ◌≢◌, inl, inr, ℕ, zero, suc, ◌+◌, ◌<◌, ℤ, Bool, true, false, ◌&&◌, ◌||◌, cond, List, [], ◌∷◌, ◌++◌, length, take, get_or, set, replicate, map, Option, Some, None, IfSome, IfNone, is_some, refl, sym, ap, subst, ◌∙◌, arith, AllPairs, true≢false}
+use Rattle.std.proofs.Common.{◌≡◌, ◌≢◌, inl, inr, ℕ, zero, suc, ◌+◌, ◌<◌, ℤ, Bool, true, false, not, ◌&&◌, ◌||◌, cond, List, [], ◌∷◌, ◌++◌, length, take, get_or, set, replicate, map, Option, Some, None, IfSome, IfNone, is_some, refl, sym, ap, subst, ◌∙◌, arith, AllPairs, true≢false}
 use Rattle.std.specs.List.{list_any, position}
 use Rattle.std.specs.Str.{bytes_eq}
 use Rattle.std.proofs.Math.Bool.{and-false}
@@ -15,13 +15,17 @@ use Rattle.cal_events.specs.Component.{attendee_of, method_said}
 use Rattle.itip_messages.specs.Message.{is_component_for, component_names, cancels_for_all}
 use Rattle.itip_messages.specs.declared.message.Message.{Message}
 use Rattle.itip_messages.specs.declared.message_component.MessageComponent.{MessageComponent}
+use Rattle.itip_messages.specs.Zones.{with_zone, with_zones}
 use Rattle.itip_messages.proofs.shared_lemmas.MessageLemmas.{addressed, no_events}
+use Rattle.itip_messages.proofs.shared_lemmas.ZonesOnce.{with_more, zones_once}
 use Rattle.profile.specs.events.Messages.{is_to_rooms}
+use Rattle.profile.specs.rooms.Kept.{each_once}
 use Rattle.profile.specs.rooms.Messages.{Accept, is_addressed}
 use Rattle.profile.specs.streams.Streams.{AreClaims}
 use Rattle.room_books.specs.declared.room.Room.{Room}
 use Rattle.sched_box.specs.Answering.{RoomTakes}
 use Rattle.sched_box.specs.Asked.{LeavesOut, asks, names}
+use Rattle.sched_box.proofs.HostLemmas.{untrue}
 
 -- ---- look-ups
 
@@ -41,11 +45,6 @@ same_place xs differ i j within there same =
         | inr not_more ↦ omega arith
       ]
     ]
-
--- where it isn't true, it is false
-untrue : (b : Bool) → (b ≡ true → ⊥) → b ≡ false
-untrue true never = absurd (never refl)
-untrue false never = refl
 
 -- the address at a place, by itself
 at_place : (keys : List Address) (d : Address) (place : ℕ) → place < length keys → get_or (map address_octets keys) place [] ≡ address_octets (get_or keys place d)
@@ -94,25 +93,38 @@ no_place keys address (Some place) is = tt
 
 -- ---- the directory
 
--- an address that occurs for the first time goes last
-pub listed_more : (rooms : List Address) (i : ℕ) (keys newer : List Address) (x room : Address) → AllPairs ◌≢◌ (map address_octets rooms) → i < length rooms → room ≡ get_or rooms i room
-    → address_octets x ≡ address_octets room → map address_octets keys ≡ map address_octets (take i rooms)
-    → newer ≡ cond (list_any (λ key. bytes_eq (address_octets x) (address_octets key)) keys) keys (keys ++ x ∷ []) → map address_octets newer ≡ map address_octets (take (i + 1) rooms)
-listed_more rooms i keys newer x room differ within is same are made =
-    let sized : length keys ≡ i = sym (length-map keys address_octets) ∙ ap length are ∙ length-map (take i rooms) address_octets ∙ length-take-le i rooms (omega (arith, within)) in
-    let fresh : list_any (λ key. bytes_eq (address_octets x) (address_octets key)) keys ≡ false =
-    list_any_none (λ key. bytes_eq (address_octets x) (address_octets key)) keys (λ k d less. untrue _ (λ here.
-    let before : k < i = omega (arith, less, sized) in
-    let listed : address_octets (get_or keys k d) ≡ address_octets (get_or rooms k d) =
-    sym (at_place keys d k less) ∙ ap (λ list. get_or list k []) are ∙ at_place (take i rooms) d k (omega (arith, before, length-take-le i rooms (omega (arith, within)))) ∙ ap address_octets (get_or-take i rooms k d before) in
-    let one : address_octets x ≡ address_octets (get_or rooms k d) = (bytes_eq-Decides _ _).0 here ∙ listed in
-    differ k i [] before (omega (arith, within, length-map rooms address_octets))
-    (at_place rooms d k (omega (arith, before, within)) ∙ sym one ∙ same ∙ ap address_octets is ∙ sym (at_place rooms room i within)))) in
-    ap (map address_octets) (made ∙ ap (λ b. cond b keys (keys ++ x ∷ [])) fresh) ∙ map-append address_octets keys (x ∷ [])
-    ∙ ap (λ list. list ++ address_octets x ∷ []) are
-    ∙ ap (λ last. map address_octets (take i rooms) ++ last ∷ []) (same ∙ ap address_octets is)
-    ∙ sym (map-append address_octets (take i rooms) (get_or rooms i room ∷ []))
-    ∙ ap (map address_octets) (sym (take_more rooms i room within))
+any_turned : (x : List ℕ) (keys : List Address) → list_any (λ other. bytes_eq other x) (map address_octets keys) ≡ list_any (λ key. bytes_eq x (address_octets key)) keys
+any_turned x [] = refl
+any_turned x (key ∷ keys) =
+    ap (λ t. t || list_any (λ other. bytes_eq other x) (map address_octets keys)) (turned (address_octets key) x)
+    ∙ ap (λ t. bytes_eq x (address_octets key) || t) (any_turned x keys)
+  where
+    by : (a b : Bool) → (a ≡ true → b ≡ true) → (b ≡ true → a ≡ true) → a ≡ b
+    by true b there back = sym (there refl)
+    by false true there back = back refl
+    by false false there back = refl
+
+    turned : (xs ys : List ℕ) → bytes_eq xs ys ≡ bytes_eq ys xs
+    turned xs ys = by (bytes_eq xs ys) (bytes_eq ys xs) (λ one. (bytes_eq-Decides ys xs).1 (sym ((bytes_eq-Decides xs ys).0 one))) (λ other. (bytes_eq-Decides xs ys).1 (sym ((bytes_eq-Decides ys xs).0 other)))
+
+-- the keys with one more, which goes last where it is none of them
+keys_then : (keys : List Address) (x : Address) (known : Bool) → map address_octets (cond known keys (keys ++ x ∷ [])) ≡ cond (not known) (map address_octets keys ++ address_octets x ∷ []) (map address_octets keys)
+keys_then keys x true = refl
+keys_then keys x false = map-append address_octets keys (x ∷ [])
+
+-- one more address
+pub listed_more : (hosts : List Address) (i : ℕ) (keys newer : List Address) (x host : Address) → i < length hosts → host ≡ get_or hosts i host → address_octets x ≡ address_octets host
+    → map address_octets keys ≡ each_once (map address_octets (take i hosts))
+    → newer ≡ cond (list_any (λ key. bytes_eq (address_octets x) (address_octets key)) keys) keys (keys ++ x ∷ []) → map address_octets newer ≡ each_once (map address_octets (take (i + 1) hosts))
+listed_more hosts i keys newer x host within is same are made =
+    let a = address_octets x in
+    let before = map address_octets (take i hosts) in
+    let once : with_zones [] before ≡ map address_octets keys = zones_once before ∙ sym are in
+    let all : map address_octets (take (i + 1) hosts) ≡ before ++ a ∷ [] = ap (map address_octets) (take_more hosts i host within) ∙ map-append address_octets (take i hosts) (get_or hosts i host ∷ []) ∙ ap (λ z. before ++ z ∷ []) (sym (same ∙ ap address_octets is)) in
+    ap (map address_octets) made ∙ keys_then keys x (list_any (λ key. bytes_eq a (address_octets key)) keys)
+    ∙ ap (λ b. cond (not b) (map address_octets keys ++ a ∷ []) (map address_octets keys)) (sym (any_turned a keys))
+    ∙ ap (λ zones. with_zone zones a) (sym once)
+    ∙ sym (with_more [] before (a ∷ [])) ∙ zones_once (before ++ a ∷ []) ∙ ap each_once (sym all)
 
 -- ---- the loop over the attendees
 
@@ -203,14 +215,18 @@ left_out moment message room none said represented before has =
       has,
       record {
         same = refl;
-        claims = [];
-        are = subst (λ r. AreClaims r said []) (sym has.at) (record { events = []; are = no_events a message said represented off; each = tt });
-        outcome = Accept;
-        step = record { taken = sym (append-nil _); answers = sym (append-nil _); decided = λ some. absurd (false≢true some) };
-        reply = None;
-        replies = refl;
-        refresh = None;
-        refreshes = and-false _;
+        sent = [];
+        takes = record {
+          claims = [];
+          are = subst (λ r. AreClaims r said []) (sym has.at) (record { events = []; are = no_events a message said represented off; each = tt });
+          outcome = Accept;
+          step = record { taken = sym (append-nil _); answers = sym (append-nil _); decided = λ some. absurd (false≢true some) };
+          reply = None;
+          replies = refl;
+          refresh = None;
+          refreshes = and-false _;
+          is = refl;
+        };
         is = refl;
       },
     )

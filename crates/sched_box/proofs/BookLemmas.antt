@@ -1,5 +1,6 @@
 -- What a box answers to one object, from what its rooms or its organisers do.
-use Rattle.std.proofs.Common.{◌≡◌, ◌∙◌, ℕ, ℤ, Bool, true, false, List, ap, inl, inr, refl, sym, subst}
+use Rattle.std.proofs.Common.{◌≡◌, ◌∙◌, ℕ, ℤ, Bool, true, false, List, ◌∷◌, ◌++◌, ap, inl, inr, refl, sym, subst}
+use Rattle.std.specs.List.{flat_map}
 use Rattle.ical_lines.specs.Fault.{RefusesBy}
 use Rattle.ical_lines.specs.declared.fault.Fault.{Fault}
 use Rattle.ical_lines.specs.declared.fault.Fault.TheVariants.{Refused, Memory}
@@ -8,7 +9,9 @@ use Rattle.itip_messages.specs.Message.{IsSpelled, RepresentsMessage}
 use Rattle.itip_messages.specs.declared.message.Message.{Message}
 use Rattle.profile.specs.events.Messages as profile
 use Rattle.profile.specs.events.Messages.{is_to_rooms}
-use Rattle.profile.specs.streams.Streams.{ObjectFault, StepsFor, refused_line}
+use Rattle.profile.specs.streams.Streams.{HostedOrganiser, IsTaken, ObjectFault, StepsFor, refused_line}
+use Rattle.profile.specs.streams.Worlds as worlds
+use Rattle.profile.specs.streams.Worlds.{ChangesOne}
 use Rattle.sched_box.specs.Answering.{AreHosted, RoomsTake}
 use Rattle.sched_box.specs.Books.{AnswersKept, KeepAll, RefusesKept, TakesKept}
 use Rattle.sched_box.specs.Objects.{kept_of}
@@ -37,12 +40,27 @@ rooms_taken moment kept message old new octets spelled to takes same object is b
       ),
     )
 
-pub organiser_taken : (moment : ℤ) (kept : List ℕ) (message : Message) (old new : Books) (octets : List ℕ)
-    → ((object : List ℕ) → kept ≡ kept_of object → IsSpelled object message) → is_to_rooms (method_said message.method) ≡ false → OrganisersTake moment message old.organisers.organisers.items new.organisers.organisers.items octets
-    → new.rooms ≡ old.rooms → TakesKept moment kept old new octets
-organiser_taken moment kept message old new octets spelled to takes same object is before have =
+-- the one that changes has taken what was sent to it
+one_taken : (moment : ℤ) (said : profile.Message) (before after : List HostedOrganiser) (sent : List (List ℕ)) → ChangesOne (worlds.OrganiserTakes said.organiser moment said sent) before after
+    → IsTaken moment said before after (flat_map (λ object. object) sent)
+one_taken moment said before after sent one = record {
+  others_before = one.ahead;
+  others_behind = one.behind;
+  host = one.old;
+  book = one.new.book;
+  address = one.changes.address;
+  takes = record { objects = sent; serves = one.changes.serves; is = refl };
+  of_these = one.of_these;
+  to_these = one.to_these ∙ ap (λ address. one.ahead ++ record { address = address; book = one.new.book } ∷ one.behind) one.changes.same;
+}
+
+pub organiser_taken : (moment : ℤ) (kept : List ℕ) (message : Message) (old new : Books) (sent : List (List ℕ)) (octets : List ℕ)
+    → ((object : List ℕ) → kept ≡ kept_of object → IsSpelled object message) → is_to_rooms (method_said message.method) ≡ false → OrganisersTake moment message old.organisers.organisers.items new.organisers.organisers.items sent
+    → new.rooms ≡ old.rooms → octets ≡ flat_map (λ object. object) sent → TakesKept moment kept old new octets
+organiser_taken moment kept message old new sent octets spelled to takes same are object is before have =
     let (said, spells, represented) = spelled object is in
-    let (after, hosted, taken) = takes said represented before.organisers have.organisers in (
+    let (after, hosted, one) = takes said represented before.organisers have.organisers in
+    let taken = subst (IsTaken moment said before.organisers after) (sym are) (one_taken moment said before.organisers after sent one) in (
       record { rooms = before.rooms; organisers = after },
       record { rooms = subst (λ r. AreHosted r.rooms.items before.rooms) (sym same) have.rooms; organisers = hosted },
       (

@@ -12,5 +12,6 @@ pub mod NameOrder
 pub mod ObjectLemmas
 pub mod OrganiserLemmas
 pub mod PreambleLemmas
+pub mod ScheduleLemmas
 pub mod ServingLemmas
 pub mod SettingLemmas

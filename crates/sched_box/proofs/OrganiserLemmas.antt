@@ -2,10 +2,7 @@
 use Rattle.std.proofs.Common.{◌≡◌, ℕ, zero, suc, ◌<◌, ℤ, Bool, true, false, List, [], ◌∷◌, ◌++◌, length, map, get_or, set, Contains, Result, Ok, Err, IfOk, IfErr, OnOk, OnErr, refl, sym, ap, subst, ◌∙◌, arith, true≢false, ◌||◌}
 use Rattle.std.specs.List.{flat_map, list_any}
 use Rattle.std.specs.Str.{bytes_eq}
-use Rattle.std.proofs.lemmas.Bool.{or_parts}
-use Rattle.std.proofs.lemmas.List.{append-nil}
-use Rattle.std.proofs.lemmas.List.Folds.{flat_map-map}
-use Rattle.std.proofs.lemmas.Slice.Eq.{bytes_eq-Decides}
+use Rattle.std.proofs.lemmas.Simd.{map-map}
 use Rattle.ical_lines.specs.Fault.{RefusesBy}
 use Rattle.ical_lines.specs.declared.fault.Fault.{Fault}
 use Rattle.ical_lines.specs.declared.fault.Fault.TheVariants.{Refused, Memory}
@@ -22,19 +19,21 @@ use Rattle.organiser_books.specs.declared.outgoing.Outgoing.{Outgoing}
 use Rattle.profile.specs.events.Messages as profile
 use Rattle.profile.specs.events.EventComponents as events
 use Rattle.profile.specs.events.EventComponents.{Method}
-use Rattle.profile.specs.organisers.Organisers.{OrganiserBook, Sent, IsStore, StateFault, after_reply, empty_organiser}
-use Rattle.profile.specs.streams.Streams.{HostedOrganiser, IsTaken, TakesObject, not_hosted, in_state, ServesMethod}
-use Rattle.sched_box.proofs.HostLemmas.{MadeSofar}
-use Rattle.sched_box.specs.Organising.{AreKeptBy, IsKeptBy, KeepBooks, KeepsBook, OrganiserRefuses, OrganiserTakes, OrganisersRefuse, OrganisersTake, organiser_addresses}
+use Rattle.profile.specs.organisers.Organisers.{OrganiserBook, Sent, IsStore, StateFault, after_reply}
+use Rattle.profile.specs.streams.Streams.{HostedOrganiser, ServesMessage, ServesMethod, not_hosted, in_state}
+use Rattle.profile.specs.streams.Worlds as worlds
+use Rattle.profile.specs.streams.Worlds.{ChangesOne}
+use Rattle.sched_box.proofs.HostLemmas.{MadeSofar, none_hosted, one_behind}
+use Rattle.sched_box.specs.Organising.{AreKeptBy, IsKeptBy, KeepBooks, KeepsBook, OrganiserRefuses, OrganiserTakes, OrganisersRefuse, OrganisersTake, nothing_kept, organiser_addresses}
 
 -- ---- one organiser, by the call for what is asked
 
 -- what is taken by that call
-served : (method : Method) (moment : ℤ) (address : List ℕ) (said : profile.Message) (book after : OrganiserBook) (octets : List ℕ) → said.method ≡ method
-    → MayTake method address said book → ServesMethod method moment said book after octets → TakesObject moment said book after octets
-served method moment address said book after octets kind may serves = record {
+served : (method : Method) (moment : ℤ) (address : List ℕ) (said : profile.Message) (book after : OrganiserBook) (sent : List (List ℕ)) → said.method ≡ method
+    → MayTake method address said book → ServesMethod method moment said book after sent → ServesMessage moment said book after sent
+served method moment address said book after sent kind may serves = record {
   allowed = may.allowed;
-  serves = subst (λ o. ServesMethod o moment said book after octets) (sym kind) serves;
+  serves = subst (λ o. ServesMethod o moment said book after sent) (sym kind) serves;
 }
 
 -- what is refused by it
@@ -51,43 +50,30 @@ refused_by method object organiser Memory kind h = tt
 refused_by method object organiser (Refused r) kind h =
     λ said represented to book keeps. call_fault method (address_of organiser) said book r.number (sym represented.method ∙ kind) to (h said represented book keeps)
 
-pub store_takes : (moment : ℤ) (object : Message) (old new : Organiser) (sent : List Outgoing) → method_said object.method ≡ events.Store
+pub store_takes : (moment : ℤ) (object : Message) (old new : Organiser) (sent : List Outgoing) (objects : List (List ℕ)) → method_said object.method ≡ events.Store
     → ((said : profile.Message) → RepresentsMessage object said → (book : OrganiserBook) → Keeps old book
     → MayTake events.Store (address_of old) said book × ((after : OrganiserBook) × IsStore moment said book (map sent_of sent) after × Keeps new after))
-    → OrganiserTakes moment object old new (flat_map (λ one. one.octets.items) sent)
-store_takes moment object old new sent kind steps said represented to book keeps =
+    → objects ≡ map (λ one. one.octets.items) sent → OrganiserTakes moment object old new objects
+store_takes moment object old new sent objects kind steps are said represented to book keeps =
     let (may, (after, store, has)) = steps said represented book keeps in
-    (after, has, served events.Store moment (address_of old) said book after _ (sym represented.method ∙ kind) may (map sent_of sent, store, sym (flat_map-map (λ (one : Sent). one.octets) sent_of sent)))
+    let same : objects ≡ map (λ (one : Sent). one.octets) (map sent_of sent) = are ∙ sym (map-map (λ (one : Sent). one.octets) sent_of sent) in
+    (after, has, served events.Store moment (address_of old) said book after objects (sym represented.method ∙ kind) may (map sent_of sent, store, same))
 
-pub reply_takes : (moment : ℤ) (object : Message) (old new : Organiser) → method_said object.method ≡ events.Reply
+pub reply_takes : (moment : ℤ) (object : Message) (old new : Organiser) (objects : List (List ℕ)) → method_said object.method ≡ events.Reply
     → ((said : profile.Message) → RepresentsMessage object said → (book : OrganiserBook) → Keeps old book
     → MayTake events.Reply (address_of old) said book × Keeps new (after_reply said book))
-    → OrganiserTakes moment object old new []
-reply_takes moment object old new kind steps said represented to book keeps =
+    → objects ≡ [] → OrganiserTakes moment object old new objects
+reply_takes moment object old new objects kind steps none said represented to book keeps =
     let (may, has) = steps said represented book keeps in
-    (after_reply said book, has, served events.Reply moment (address_of old) said book (after_reply said book) [] (sym represented.method ∙ kind) may (refl, refl))
+    (after_reply said book, has, served events.Reply moment (address_of old) said book (after_reply said book) objects (sym represented.method ∙ kind) may (refl, none))
 
--- nothing is appended for it
-pub reply_answers : {A E : Type 0} (r : Result A E) (moment : ℤ) (object : Message) (old new : Organiser) (answers : List ℕ) → method_said object.method ≡ events.Reply
-    → IfOk r (λ _. (said : profile.Message) → RepresentsMessage object said → (book : OrganiserBook) → Keeps old book
-    → MayTake events.Reply (address_of old) said book × Keeps new (after_reply said book))
-    → OnOk r ((more : List ℕ) × (answers ≡ answers ++ more) × OrganiserTakes moment object old new more)
-reply_answers (Ok u) moment object old new answers kind steps = ([], sym (append-nil answers), reply_takes moment object old new kind steps)
-reply_answers (Err f) moment object old new answers kind steps = tt
-
--- where it is refused the book stays
-pub reply_keeps : {A : Type 0} (r : Result A Fault) (old new : Organiser) (answers : List ℕ) → OnErr r (KeepsBook old new) → IfErr r (IfRefused (KeepsBook old new × (answers ≡ answers)))
-reply_keeps (Ok u) old new answers keeps = tt
-reply_keeps (Err Memory) old new answers keeps = tt
-reply_keeps (Err (Refused x)) old new answers keeps = (keeps, refl)
-
-pub refresh_takes : (moment : ℤ) (object : Message) (organiser : Organiser) (octets : List ℕ) → method_said object.method ≡ events.Refresh
+pub refresh_takes : (moment : ℤ) (object : Message) (organiser : Organiser) (octets : List ℕ) (objects : List (List ℕ)) → method_said object.method ≡ events.Refresh
     → ((said : profile.Message) → RepresentsMessage object said → (book : OrganiserBook) → Keeps organiser book
     → MayTake events.Refresh (address_of organiser) said book × AnswersRefresh said book octets)
-    → OrganiserTakes moment object organiser organiser octets
-refresh_takes moment object organiser octets kind steps said represented to book keeps =
+    → objects ≡ octets ∷ [] → OrganiserTakes moment object organiser organiser objects
+refresh_takes moment object organiser octets objects kind steps are said represented to book keeps =
     let (may, (stored, last, is)) = steps said represented book keeps in
-    (book, keeps, served events.Refresh moment (address_of organiser) said book book octets (sym represented.method ∙ kind) may (stored, last, refl, is))
+    (book, keeps, served events.Refresh moment (address_of organiser) said book book objects (sym represented.method ∙ kind) may (stored, last, refl, are ∙ ap (λ o. o ∷ []) is))
 
 -- ---- the one in its place
 
@@ -103,33 +89,30 @@ named_at [] place d a within is = absurd (omega arith)
 named_at (o ∷ os) zero d a within is = is
 named_at (o ∷ os) (suc place) d a within is = named_at os place d a (omega arith) is
 
-take_in : (moment : ℤ) (said : profile.Message) (olds : List Organiser) (place : ℕ) (d new : Organiser) (octets : List ℕ) → place < length olds
+take_in : (moment : ℤ) (said : profile.Message) (olds : List Organiser) (place : ℕ) (d new : Organiser) (sent : List (List ℕ)) → place < length olds
     → said.organiser ≡ address_of (get_or olds place d) → address_of new ≡ address_of (get_or olds place d)
-    → ((book : OrganiserBook) → Keeps (get_or olds place d) book → (after : OrganiserBook) × Keeps new after × TakesObject moment said book after octets)
-    → (before : List HostedOrganiser) → AreKeptBy olds before → (after : List HostedOrganiser) × AreKeptBy (set olds place new) after × IsTaken moment said before after octets
-take_in moment said [] place d new octets within to same takes before have = absurd (omega arith)
-take_in moment said (o ∷ os) place d new octets within to same takes [] have = absurd have
-take_in moment said (o ∷ os) zero d new octets within to same takes (b ∷ bs) have =
+    → ((book : OrganiserBook) → Keeps (get_or olds place d) book → (after : OrganiserBook) × Keeps new after × ServesMessage moment said book after sent)
+    → (before : List HostedOrganiser) → AreKeptBy olds before
+    → (after : List HostedOrganiser) × AreKeptBy (set olds place new) after × ChangesOne (worlds.OrganiserTakes said.organiser moment said sent) before after
+take_in moment said [] place d new sent within to same takes before have = absurd (omega arith)
+take_in moment said (o ∷ os) place d new sent within to same takes [] have = absurd have
+take_in moment said (o ∷ os) zero d new sent within to same takes (b ∷ bs) have =
     let (book, keeps, taken) = takes b.book have.0.keeps in (
       record { address = b.address; book = book } ∷ bs,
       (record { at = have.0.at ∙ sym same; keeps = keeps }, have.1),
-      record { others_before = []; others_behind = bs; host = b; book = book; address = have.0.at ∙ sym to; takes = taken; of_these = refl; to_these = refl },
-    )
-take_in moment said (o ∷ os) (suc place) d new octets within to same takes (b ∷ bs) have =
-    let (after, hosted, t) = take_in moment said os place d new octets (omega arith) to same takes bs have.1 in (
-      b ∷ after,
-      (have.0, hosted),
       record {
-        others_before = b ∷ t.others_before;
-        others_behind = t.others_behind;
-        host = t.host;
-        book = t.book;
-        address = t.address;
-        takes = t.takes;
-        of_these = ap (λ z. b ∷ z) t.of_these;
-        to_these = ap (λ z. b ∷ z) t.to_these;
+        ahead = [];
+        behind = bs;
+        old = b;
+        new = record { address = b.address; book = book };
+        changes = record { address = have.0.at ∙ sym to; same = refl; named = refl; serves = taken };
+        of_these = refl;
+        to_these = refl;
       },
     )
+take_in moment said (o ∷ os) (suc place) d new sent within to same takes (b ∷ bs) have =
+    let (after, hosted, one) = take_in moment said os place d new sent (omega arith) to same takes bs have.1 in
+    (b ∷ after, (have.0, hosted), one_behind b one)
 
 -- the object names the organiser in this place
 abbrev pub IsNamed : Message → List Organiser → ℕ → Type 0
@@ -139,11 +122,11 @@ named : (object : Message) (said : profile.Message) (olds : List Organiser) (pla
     → said.organiser ≡ address_of (get_or olds place d)
 named object said olds place d within is represented = sym (named_at olds place d said.organiser within (is ∙ represented.organiser))
 
-pub taken_at : (moment : ℤ) (object : Message) (olds : List Organiser) (place : ℕ) (d new : Organiser) (octets : List ℕ) → place < length olds → IsNamed object olds place
-    → address_of new ≡ address_of (get_or olds place d) → OrganiserTakes moment object (get_or olds place d) new octets → OrganisersTake moment object olds (set olds place new) octets
-taken_at moment object olds place d new octets within is same takes said represented before have =
+pub taken_at : (moment : ℤ) (object : Message) (olds : List Organiser) (place : ℕ) (d new : Organiser) (sent : List (List ℕ)) → place < length olds → IsNamed object olds place
+    → address_of new ≡ address_of (get_or olds place d) → OrganiserTakes moment object (get_or olds place d) new sent → OrganisersTake moment object olds (set olds place new) sent
+taken_at moment object olds place d new sent within is same takes said represented before have =
     let to = named object said olds place d within is represented in
-    take_in moment said olds place d new octets within to same (takes said represented to) before have
+    take_in moment said olds place d new sent within to same (takes said represented to) before have
 
 fault_in : (said : profile.Message) (n : ℕ) (olds : List Organiser) (place : ℕ) (d : Organiser) → place < length olds → said.organiser ≡ address_of (get_or olds place d)
     → ((book : OrganiserBook) → Keeps (get_or olds place d) book → StateFault said book n) → (before : List HostedOrganiser) → AreKeptBy olds before
@@ -169,34 +152,19 @@ keep_in (o ∷ os) place d new same keeps [] have = absurd have
 keep_in (o ∷ os) zero d new same keeps (b ∷ bs) have = (record { at = have.0.at ∙ sym same; keeps = keeps b.book have.0.keeps }, have.1)
 keep_in (o ∷ os) (suc place) d new same keeps (b ∷ bs) have = (have.0, keep_in os place d new same keeps bs have.1)
 
-pub kept_at : (olds : List Organiser) (place : ℕ) (d new : Organiser) (old_answers answers : List ℕ) (f : Fault) → address_of new ≡ address_of (get_or olds place d)
-    → IfRefused (KeepsBook (get_or olds place d) new × (answers ≡ old_answers)) f → IfRefused (KeepBooks olds (set olds place new) × (answers ≡ old_answers)) f
-kept_at olds place d new old_answers answers Memory same h = tt
-kept_at olds place d new old_answers answers (Refused r) same h = (keep_in olds place d new same h.0, h.1)
+pub kept_at : (olds : List Organiser) (place : ℕ) (d new : Organiser) (f : Fault) → address_of new ≡ address_of (get_or olds place d)
+    → IfRefused (KeepsBook (get_or olds place d) new) f → IfRefused (KeepBooks olds (set olds place new)) f
+kept_at olds place d new Memory same h = tt
+kept_at olds place d new (Refused r) same h = keep_in olds place d new same h
 
 -- ---- one that isn't hosted
 
-untrue : (b : Bool) → (b ≡ true → ⊥) → b ≡ false
-untrue true never = absurd (never refl)
-untrue false never = refl
-
-none_named : (said : profile.Message) (a : List ℕ) (olds : List Organiser) (before : List HostedOrganiser) → a ≡ said.organiser → list_any (bytes_eq a) (organiser_addresses olds) ≡ false
-    → AreKeptBy olds before → list_any (λ host. bytes_eq host.address said.organiser) before ≡ false
-none_named said a [] [] to none have = refl
-none_named said a [] (b ∷ bs) to none have = absurd have
-none_named said a (o ∷ os) [] to none have = absurd have
-none_named said a (o ∷ os) (b ∷ bs) to none have =
-    let both = or_parts (bytes_eq a (address_of o)) (list_any (bytes_eq a) (organiser_addresses os)) none in
-    let other : bytes_eq b.address said.organiser ≡ false = untrue _ (λ here. true≢false (sym ((bytes_eq-Decides a (address_of o)).1 (to ∙ sym ((bytes_eq-Decides b.address said.organiser).0 here) ∙ have.0.at)) ∙ both.0)) in
-    ap (λ t. t || list_any (λ host. bytes_eq host.address said.organiser) bs) other ∙ none_named said a os bs to both.1 have.1
-
 pub refused_unhosted : (object : Message) (olds : List Organiser) → list_any (bytes_eq (address_octets object.organiser)) (organiser_addresses olds) ≡ false → OrganisersRefuse object olds 70
-refused_unhosted object olds none said represented before have = not_hosted (none_named said (address_octets object.organiser) olds before represented.organiser none have)
+refused_unhosted object olds none said represented before have =
+    let to : address_octets object.organiser ≡ said.organiser = represented.organiser in
+    not_hosted (none_hosted address_of (λ host. host.address) IsKeptBy (λ organiser host is. is.at) said.organiser olds before (subst (λ a. list_any (bytes_eq a) (organiser_addresses olds) ≡ false) to none) have)
 
 -- ---- empty organisers
-
-abbrev pub nothing_kept : List ℕ → HostedOrganiser
-nothing_kept address = record { address = address; book = empty_organiser }
 
 abbrev pub MadeOrganisers : List Address → ℕ → List Organiser → Type 0
 MadeOrganisers = MadeSofar address_of IsKeptBy nothing_kept

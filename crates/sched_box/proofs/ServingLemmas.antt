@@ -11,7 +11,7 @@ use Rattle.sched_box.specs.declared.fault.ServeFault.{ServeFault}
 use Rattle.sched_box.specs.declared.fault.ServeFault.TheVariants.{Read, Write, TooLong, Memory}
 use Rattle.sched_box.specs.declared.objects.Objects.{Objects}
 use Rattle.sched_box.specs.declared.serving.ServeReport.{ServeReport}
-use Rattle.sched_box.specs.Answering.{AreHosted, IsHosted, room_addresses}
+use Rattle.sched_box.specs.Answering.{AreHosted, IsHosted, nothing_taken, room_addresses}
 use Rattle.sched_box.specs.Books.{AnswersKept, AreBooksOf, hosted_rooms}
 use Rattle.sched_box.specs.declared.books.Books.{Books}
 use Rattle.sched_devices.specs.Input.{IsFilledWithin}
@@ -29,7 +29,7 @@ use Rattle.sched_box.specs.declared.fault.StreamFault.TheVariants as stream
 use Rattle.sched_box.specs.Faults.{IfRefusedStream, IsReadFault, StopsFor}
 use Rattle.sched_box.specs.Sending.{StopsSending}
 use Rattle.sched_box.specs.Preamble.{OpensStream, OpensNot, StopsInPreamble}
-use Rattle.sched_box.proofs.HostLemmas.{MadeSofar}
+use Rattle.sched_box.proofs.HostLemmas.{MadeSofar, kept_of_one}
 use Rattle.sched_box.proofs.ObjectLemmas.{after_short}
 
 -- ---- one more object
@@ -478,9 +478,6 @@ serves_none moment before input output fault is =
 
 -- ---- empty rooms
 
-abbrev pub nothing_taken : List ℕ → Hosted
-nothing_taken address = record { address = address; book = empty_book }
-
 abbrev pub MadeRooms : List Address → ℕ → List Room → Type 0
 MadeRooms = MadeSofar (λ room. address_octets room.address) IsHosted nothing_taken
 
@@ -532,52 +529,13 @@ stream_whole (Some xs) (Some ys) left output written moment hosts report opens (
 
 -- ---- one room
 
-pub hosted_of : (rooms : List Room) (box : List Hosted) → AreHosted rooms box → (room : Room) → Contains rooms room → (h : Hosted) × IsHosted room h × Contains box h
-hosted_of [] box all room (k, l, is) = absurd (omega arith)
-hosted_of (r ∷ rs) [] all room among = absurd all
-hosted_of (r ∷ rs) (h ∷ box) all room (zero, l, is) =
-    let P : Room → Type 0 = λ x. IsHosted x h in
-    (h, subst P is all.0, (zero, omega arith, refl))
-hosted_of (r ∷ rs) (h ∷ box) all room (suc k, l, is) =
-    let (found, represents, (j, m, same)) = hosted_of rs box all.1 room (k, omega arith, is) in
-    (found, represents, (suc j, omega arith, same))
-
--- no room so far has this address
-pub none_more : (rooms : List Room) (i : ℕ) (a : List ℕ) (d : Room) → ((k : ℕ) (e : Room) → k < i → k < length rooms → address_octets (get_or rooms k e).address ≢ a) → bytes_eq (address_octets (get_or rooms i d).address) a ≡ false
-    → (k : ℕ) (e : Room) → k < i + 1 → k < length rooms → address_octets (get_or rooms k e).address ≢ a
-none_more rooms i a d h no' k e less within same =
-    elim (cases_lt k i) [
-      | inl lt ↦ h k e lt within same
-      | inr ge ↦
-          let is : k ≡ i = omega arith in
-          let P : ℕ → Type 0 = λ n. address_octets (get_or rooms n e).address ≡ a in
-          let there : address_octets (get_or rooms i e).address ≡ a = subst P is same in
-          let Q : ℕ → Type 0 = λ n. n < length rooms in
-          let moved : address_octets (get_or rooms i d).address ≡ a = ap (λ (x : Room). address_octets x.address) (other rooms i (subst Q is within)) ∙ there in
-          true≢false (sym ((bytes_eq-Decides (address_octets (get_or rooms i d).address) a).1 moved) ∙ no')
-    ]
-  where
-    other : (rs : List Room) (i : ℕ) → i < length rs → get_or rs i d ≡ get_or rs i e
-    other [] i l = absurd (omega arith)
-    other (r ∷ rs) zero l = refl
-    other (r ∷ rs) (suc i) l = other rs i (omega arith)
-
-pub none_at : (rooms : List Room) (i : ℕ) (a : List ℕ) → length rooms ≤ i → ((k : ℕ) (e : Room) → k < i → k < length rooms → address_octets (get_or rooms k e).address ≢ a)
-    → Contains (room_addresses rooms) a → ⊥
-none_at rooms i a end h (k, l, is) = look rooms (λ n e lt. h n e (omega arith) lt) k l is
-  where
-    look : (rs : List Room) → ((n : ℕ) (e : Room) → n < length rs → address_octets (get_or rs n e).address ≢ a) → (k : ℕ) → k < length (room_addresses rs) → get_or (room_addresses rs) k a ≡ a → ⊥
-    look [] g k l is = omega arith
-    look (r ∷ rs) g zero l is = g 0 r (omega arith) is
-    look (r ∷ rs) g (suc k) l is = look rs (λ n e lt. g (suc n) e (omega arith)) k (omega arith) is
-
 -- what is kept of a room is the texts of its book
 pub keeps_texts : (moment : ℤ) (hosts : Config) (news : Books) (ends : Ends) (report : ServeReport) (room : Room) (address calendar certificate : List ℕ)
     → BooksServe 1_073_741_824 moment (new_box hosts) news ends (Ok report) → Contains news.rooms.rooms.items room → address_octets room.address ≡ address
     → ((book : Book) → Represents room.meetings.entries book → IsKeptCalendar (address_octets room.address) book calendar) → IsKeptCertificate (address_octets room.address) calendar certificate
     → KeepsTexts moment hosts ends.input ends.left address calendar certificate
 keeps_texts moment hosts news ends report room address calendar certificate (after, hosted, all) among is text proof' =
-    let (kept, represents, has) = hosted_of news.rooms.rooms.items after.rooms hosted.rooms room among in
+    let (kept, has, represents) = kept_of_one IsHosted news.rooms.rooms.items after.rooms room hosted.rooms among in
     let S : List ℕ → Type 0 = λ a. IsKeptCalendar a kept.book calendar in
     record {
       objects = all.objects;

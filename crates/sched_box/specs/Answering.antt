@@ -1,12 +1,19 @@
 -- What the rooms of a box answer to a message.
-use Rattle.std.specs.Prelude.{◌≡◌, ℕ, ℤ, List, [], ◌∷◌, ◌++◌, map, Option, Some, None}
-use Rattle.std.specs.List.{AllZip}
+use Rattle.std.specs.Prelude.{◌≡◌, ◌⊎◌, ℕ, ℤ, List, [], ◌∷◌, ◌++◌, map, Option, Some, None, Vec, false}
+use Rattle.std.specs.List.{AllZip, list_any}
+use Rattle.std.specs.Option.{option_to_list}
+use Rattle.std.specs.Str.{bytes_eq}
 use Rattle.ical_values.specs.Octets.{address_octets}
 use Rattle.itip_messages.specs.Message.{RepresentsMessage}
 use Rattle.itip_messages.specs.declared.message.Message.{Message}
 use Rattle.profile.specs.events.Messages as profile
-use Rattle.profile.specs.streams.Streams.{Hosted, Takes}
+use Rattle.profile.specs.rooms.Rooms.{empty_book}
+use Rattle.profile.specs.streams.Streams.{Hosted, Takes, TakesMessage}
+use Rattle.profile.specs.streams.Worlds as worlds
+use Rattle.profile.specs.streams.Worlds.{ChangesOne}
 use Rattle.room_books.specs.Room.{Represents}
+use Rattle.room_books.specs.Taking.{refresh_octets, reply_octets}
+use Rattle.room_books.specs.declared.answer.Answer.{Answer}
 use Rattle.room_books.specs.declared.room.Room.{Room}
 
 -- the addresses of the rooms, in order
@@ -21,6 +28,32 @@ pub record IsHosted (room : Room) (hosted : Hosted) : Type 0 where
 -- the rooms are what the box keeps
 abbrev pub AreHosted : List Room → List Hosted → Type 0
 AreHosted rooms box = AllZip IsHosted rooms box
+
+-- a room of this address that has taken nothing
+abbrev pub nothing_taken : List ℕ → Hosted
+nothing_taken address = record { address = address; book = empty_book }
+
+-- objects, each as its octets
+abbrev pub octets_each : {Z : Type 0} → List (Vec ℕ Z) → List (List ℕ)
+octets_each objects = map (λ object. object.items) objects
+
+-- what a room's answer sends: a reply, and a refresh after it
+abbrev pub sent_by : Answer → List (List ℕ)
+sent_by answer = option_to_list (reply_octets answer) ++ option_to_list (refresh_octets answer)
+
+-- a room takes the message and sends these objects, from whatever it represents
+abbrev pub RoomSends : ℤ → Message → Room → Room → List (List ℕ) → Type 0
+RoomSends moment message old new sent =
+    (said : profile.Message) → RepresentsMessage message said → (before : Hosted) → IsHosted old before
+    → (after : Hosted) × IsHosted new after × (after.address ≡ before.address) × TakesMessage before.address moment said before.book after.book sent
+
+-- of these rooms that of the address takes it and sends these objects, or none is of it
+abbrev pub RoomsSend : List ℕ → ℤ → Message → List Room → List Room → List (List ℕ) → Type 0
+RoomsSend to moment message olds news sent =
+    (said : profile.Message) → RepresentsMessage message said → (before : List Hosted) → AreHosted olds before
+    → (after : List Hosted) × AreHosted news after
+    × (ChangesOne (worlds.RoomTakes to moment said sent) before after
+    ⊎ ((list_any (λ host. bytes_eq host.address to) before ≡ false) × (after ≡ before) × (sent ≡ [])))
 
 -- a room takes the message and answers these octets, from whatever it represents
 abbrev pub RoomTakes : ℤ → Message → Room → Room → List ℕ → Type 0

@@ -9,6 +9,7 @@ pub mod Objects
 pub mod Organising
 pub mod Preamble
 pub mod Running
+pub mod Schedules
 pub mod Sending
 pub mod Serving
 pub mod Settings

@@ -1,6 +1,7 @@
 //! What a box keeps, in one value: it takes one object after another, and answers each.
 
 ghost use Rattle.std.specs.Prelude.{◌≡◌, ◌++◌, List, ℕ, IfOk, IfErr, OnOk};
+ghost use Rattle.std.specs.List.{flat_map};
 ghost use Rattle.ical_lines.specs.Fault.{RefusesBy};
 ghost use Rattle.itip_messages.specs.Message.{IsSpelled};
 ghost use Rattle.profile.specs.streams.Streams.{ObjectFault, refused_line};
@@ -40,8 +41,8 @@ impl Books {
         ensures addresses { IfOk result (λ books. hosted_rooms books ≡ config_rooms config.now) }
         ensures kept { IfOk result (λ books. AreBooksOf books (new_box (config_hosts config.now))) }
     {
-        let rooms = Rooms::new(alloc, config)?;
-        let organisers = Organisers::new(alloc, config)?;
+        let rooms = Rooms::new(alloc, config.rooms())?;
+        let organisers = Organisers::new(alloc, config.organisers())?;
         Ok(Books {
             alloc,
             rooms,
@@ -96,7 +97,9 @@ impl Books {
             self.rooms.take(self.alloc, &message, now, answers)?;
             return Ok(());
         }
-        self.organisers.take(&message, now, answers)
+        let sent = self.organisers.take(self.alloc, &message, now)?;
+        append_each(&sent, answers)?;
+        Ok(())
     }
 }
 
@@ -110,6 +113,16 @@ fn read_kept(alloc: Global, octets: &[u8]) -> Result<Message, Fault>
         return Err(Fault::Refused(Refusal::TOO_LONG));
     }
     Message::read(alloc, octets)
+}
+
+/// Appends these objects, in order.
+fn append_each(objects: &[Vec<u8>], answers: &mut Vec<u8>) -> Result<(), AllocError>
+    ensures { OnOk result (answers.new.items ≡ answers.old.items ++ flat_map (λ object. object.items) objects.now) }
+{
+    for object in objects {
+        answers.extend_from_slice(object.as_slice())?;
+    }
+    Ok(())
 }
 
 /// The line that is written for a refused object: `REFUSED;OBJECT=k:n`.

@@ -22,18 +22,25 @@ impl Directory {
     ghost use Rattle.std.specs.List.{list_any};
     ghost use Rattle.std.specs.Str.{bytes_eq};
     ghost use Rattle.ical_values.specs.Octets.{address_octets};
+    ghost use Rattle.profile.specs.rooms.Kept.{each_once};
     ghost use Rattle.sched_box.specs.Asked.{LeavesOut, asks, directory_addresses, names};
 
-    /// The directory of these hosts, of which no two have one address.
+    /// The directory of these hosts; an address that is given twice counts once.
     pub(crate) fn of(alloc: Global, hosts: &[Address]) -> Result<Directory, AllocError>
-        requires { AllPairs ◌≢◌ (map address_octets hosts.now) }
-        ensures { IfOk result (λ directory. directory_addresses directory ≡ map address_octets hosts.now) }
+        ensures { IfOk result (λ directory. directory_addresses directory ≡ each_once (map address_octets hosts.now)) }
     {
         let mut addresses = IndexSet::new(alloc);
         for host in hosts {
             addresses.insert(host.clone()?)?;
         }
         Ok(Directory { addresses })
+    }
+
+    /// The addresses of the hosts, in their order.
+    pub(crate) fn addresses(&self) -> &[Address]
+        ensures { map address_octets result.now ≡ directory_addresses self.now }
+    {
+        self.addresses.as_slice()
     }
 
     /// The place of the host of this address, by one look-up.

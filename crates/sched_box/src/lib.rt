@@ -11,6 +11,7 @@ pub mod objects;
 mod organisers;
 pub mod preamble;
 mod rooms;
+mod schedules;
 pub mod serving;
 mod settings;
 
@@ -22,4 +23,5 @@ pub use preamble::read_preamble;
 pub use sched_devices::{
     DeviceReader, DeviceWriter, DiskFolder, Folder, FolderFault, Input, Output, WriteFault,
 };
+pub use schedules::{Step, World, play};
 pub use serving::{ServeReport, keep, serve, serve_stream};

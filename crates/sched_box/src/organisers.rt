@@ -1,20 +1,20 @@
 //! The organisers of a box: what comes to one goes to the one whose address it names.
 
-ghost use Rattle.std.specs.Prelude.{◌≡◌, ◌<◌, ◌++◌, ℕ, List, [], false, length, get_or, IfOk, IfErr, OnOk};
-ghost use Rattle.std.specs.List.{flat_map};
+ghost use Rattle.std.specs.Prelude.{◌≡◌, ◌<◌, ◌∷◌, List, [], false, length, get_or, map, Contains, IfOk, IfErr, IfSome, IfNone};
+ghost use Rattle.std.specs.List.{list_any};
+ghost use Rattle.std.specs.Str.{bytes_eq};
 ghost use Rattle.ical_lines.specs.Fault.{RefusesBy};
 ghost use Rattle.ical_values.specs.Octets.{address_octets};
 ghost use Rattle.ical_values.specs.Refused.{IfRefused};
+ghost use Rattle.cal_events.specs.Component.{method_said};
 ghost use Rattle.profile.specs.events.Messages.{is_to_rooms};
 ghost use Rattle.profile.specs.organisers.Organisers.{empty_organiser};
-ghost use Rattle.cal_events.specs.Component.{method_said};
-ghost use Rattle.profile.specs.streams.Streams.{new_box};
+ghost use Rattle.profile.specs.rooms.Kept.{each_once};
 ghost use Rattle.organiser_books.specs.Representation.{Keeps, address_of};
+ghost use Rattle.sched_box.specs.Answering.{octets_each};
 ghost use Rattle.sched_box.specs.Asked.{directory_addresses};
-ghost use Rattle.sched_box.specs.Config.{config_hosts, config_organisers};
-ghost use Rattle.sched_box.specs.Organising.{AreKeptBy, KeepBooks, KeepsBook, OrganiserRefuses, OrganiserTakes, OrganisersRefuse, OrganisersTake, organiser_addresses};
+ghost use Rattle.sched_box.specs.Organising.{AreKeptBy, KeepBooks, KeepsBook, OrganiserRefuses, OrganiserTakes, OrganisersRefuse, OrganisersTake, nothing_kept, organiser_addresses};
 
-use crate::config::Config;
 use crate::directory::Directory;
 use cal_events::Method;
 use ical_lines::{Fault, Refusal};
@@ -32,47 +32,54 @@ pub(crate) struct Organisers {
 }
 
 impl Organisers {
-    /// An organiser that has stored nothing for each address, in the order of the configuration.
-    pub(crate) fn new(alloc: Global, config: &Config) -> Result<Organisers, AllocError>
-        ensures kept { IfOk result (λ organisers. AreKeptBy organisers.organisers.items (new_box (config_hosts config.now)).organisers) }
+    /// An organiser that has stored nothing for each address, in order; an address that is given twice counts once.
+    pub(crate) fn new(alloc: Global, addresses: &[Address]) -> Result<Organisers, AllocError>
+        ensures kept { IfOk result (λ organisers. AreKeptBy organisers.organisers.items (map nothing_kept (each_once (map address_octets addresses.now)))) }
     {
-        let organisers = organisers_of(alloc, config)?;
-        let directory = Directory::of(alloc, config.organisers())?;
+        let directory = Directory::of(alloc, addresses)?;
+        let organisers = organisers_of(alloc, directory.addresses())?;
         Ok(Organisers {
             organisers,
             directory,
         })
     }
 
-    /// Hands an object to the organiser that it names, and appends what that answers.
-    /// Refused, and then nothing has changed: 70 where the box doesn't host it, and as by the organiser.
+    /// The organiser of an address, if it is hosted.
+    pub(crate) fn at(&self, address: &Address) -> Option<&Organiser>
+        ensures found { IfSome result (λ organiser. Contains self.now.organisers.items organiser.now) }
+        ensures address { IfSome result (λ organiser. address_of organiser.now ≡ address_octets address.now) }
+        ensures none { IfNone result (list_any (bytes_eq (address_octets address.now)) (organiser_addresses self.now.organisers.items) ≡ false) }
+    {
+        let place = self.directory.place_of(address)?;
+        Some(&self.organisers[place])
+    }
+
+    /// Hands an object to the organiser that it names: what that sends.
+    /// Refused, and then nothing has changed: 70 where it isn't hosted, and as by the organiser.
     pub(crate) fn take(
         &mut self,
+        alloc: Global,
         object: &Message,
         now: Stamp,
-        answers: &mut Vec<u8>,
-    ) -> Result<(), Fault>
+    ) -> Result<Vec<Vec<u8>>, Fault>
         requires for_organiser { is_to_rooms (method_said object.now.method) ≡ false }
-        ensures takes { OnOk result ((more : List ℕ) × (answers.new.items ≡ answers.old.items ++ more)
-            × OrganisersTake now object.now self.old.organisers.items self.new.organisers.items more) }
+        ensures takes { IfOk result (λ sent. OrganisersTake now object.now self.old.organisers.items self.new.organisers.items (octets_each sent.items)) }
         ensures fault { IfErr result (RefusesBy (OrganisersRefuse object.now self.old.organisers.items)) }
-        ensures keeps { IfErr result (IfRefused (KeepBooks self.old.organisers.items self.new.organisers.items
-            × (answers.new.items ≡ answers.old.items))) }
+        ensures keeps { IfErr result (IfRefused (KeepBooks self.old.organisers.items self.new.organisers.items)) }
     {
         let Some(place) = self.directory.place_of(object.organiser()) else {
             return Err(Fault::Refused(Refusal::NOT_HOSTED));
         };
-        take_at(&mut self.organisers, place, object, now, answers)
+        take_at(alloc, &mut self.organisers, place, object, now)
     }
 }
 
-/// An organiser that has stored nothing for each address, in the order of the configuration.
-fn organisers_of(alloc: Global, config: &Config) -> Result<Vec<Organiser>, AllocError>
-    ensures addresses { IfOk result (λ organisers. organiser_addresses organisers.items ≡ config_organisers config.now) }
-    ensures kept { IfOk result (λ organisers. AreKeptBy organisers.items (new_box (config_hosts config.now)).organisers) }
+/// An organiser that has stored nothing for each address, in order.
+fn organisers_of(alloc: Global, addresses: &[Address]) -> Result<Vec<Organiser>, AllocError>
+    ensures addresses { IfOk result (λ organisers. organiser_addresses organisers.items ≡ map address_octets addresses.now) }
+    ensures kept { IfOk result (λ organisers. AreKeptBy organisers.items (map nothing_kept (map address_octets addresses.now))) }
 {
     let mut organisers = Vec::new(alloc);
-    let addresses = config.organisers();
     for address in addresses {
         let organiser = organiser_of(alloc, address)?;
         organisers.push(organiser)?;
@@ -90,62 +97,70 @@ fn organiser_of(alloc: Global, address: &Address) -> Result<Organiser, AllocErro
 
 /// Hands an object to the organiser in its place.
 fn take_at(
+    alloc: Global,
     organisers: &mut Vec<Organiser>,
     place: usize,
     object: &Message,
     now: Stamp,
-    answers: &mut Vec<u8>,
-) -> Result<(), Fault>
+) -> Result<Vec<Vec<u8>>, Fault>
     requires for_organiser { is_to_rooms (method_said object.now.method) ≡ false }
     requires within { place < length organisers.old.items }
     requires named { get_or (organiser_addresses organisers.old.items) place [] ≡ address_octets object.now.organiser }
-    ensures takes { OnOk result ((more : List ℕ) × (answers.new.items ≡ answers.old.items ++ more)
-        × OrganisersTake now object.now organisers.old.items organisers.new.items more) }
+    ensures takes { IfOk result (λ sent. OrganisersTake now object.now organisers.old.items organisers.new.items (octets_each sent.items)) }
     ensures fault { IfErr result (RefusesBy (OrganisersRefuse object.now organisers.old.items)) }
-    ensures keeps { IfErr result (IfRefused (KeepBooks organisers.old.items organisers.new.items
-        × (answers.new.items ≡ answers.old.items))) }
+    ensures keeps { IfErr result (IfRefused (KeepBooks organisers.old.items organisers.new.items)) }
     ensures addresses { organiser_addresses organisers.new.items ≡ organiser_addresses organisers.old.items }
 {
-    take_object(&mut organisers[place], object, now, answers)
+    take_object(alloc, &mut organisers[place], object, now)
 }
 
-/// Hands an object to an organiser, and appends what it sends or answers.
+/// Hands an object to an organiser: the objects that it sends or answers, in its order.
 fn take_object(
+    alloc: Global,
     organiser: &mut Organiser,
     object: &Message,
     now: Stamp,
-    answers: &mut Vec<u8>,
-) -> Result<(), Fault>
+) -> Result<Vec<Vec<u8>>, Fault>
     requires { is_to_rooms (method_said object.now.method) ≡ false }
-    ensures takes { OnOk result ((more : List ℕ) × (answers.new.items ≡ answers.old.items ++ more)
-        × OrganiserTakes now object.now organiser.old organiser.new more) }
+    ensures takes { IfOk result (λ sent. OrganiserTakes now object.now organiser.old organiser.new (octets_each sent.items)) }
     ensures fault { IfErr result (RefusesBy (OrganiserRefuses object.now organiser.old)) }
-    ensures keeps { IfErr result (IfRefused (KeepsBook organiser.old organiser.new × (answers.new.items ≡ answers.old.items))) }
+    ensures keeps { IfErr result (IfRefused (KeepsBook organiser.old organiser.new)) }
     ensures address { address_of organiser.new ≡ address_of organiser.old }
 {
     match object.method() {
         Method::Store => {
             let sent = organiser.store(object, now)?;
-            append_sent(&sent, answers)?;
-            Ok(())
+            Ok(objects_of(alloc, sent)?)
         }
-        Method::Reply => organiser.take_reply(object),
+        Method::Reply => {
+            organiser.take_reply(object)?;
+            Ok(Vec::new(alloc))
+        }
         Method::Refresh => {
             let octets = organiser.take_refresh(object)?;
-            answers.extend_from_slice(octets.as_slice())?;
-            Ok(())
+            Ok(only(alloc, octets)?)
         }
         // a message to rooms isn't handed to an organiser
         Method::Request | Method::Add | Method::Cancel => unreachable!(),
     }
 }
 
-/// Appends what an organiser sends, in its order.
-fn append_sent(sent: &[Outgoing], answers: &mut Vec<u8>) -> Result<(), AllocError>
-    ensures { OnOk result (answers.new.items ≡ answers.old.items ++ flat_map (λ one. one.octets.items) sent.now) }
+/// What an organiser sends, in its order.
+fn objects_of(alloc: Global, sent: Vec<Outgoing>) -> Result<Vec<Vec<u8>>, AllocError>
+    ensures { IfOk result (λ objects. octets_each objects.items ≡ map (λ one. one.octets.items) sent.items) }
 {
+    let mut objects = Vec::new(alloc);
     for one in sent {
-        answers.extend_from_slice(one.octets.as_slice())?;
+        objects.push(one.octets)?;
     }
-    Ok(())
+    Ok(objects)
+}
+
+/// One object alone.
+fn only(alloc: Global, octets: Vec<u8>) -> Result<Vec<Vec<u8>>, AllocError>
+    ensures { IfOk result (λ objects. octets_each objects.items ≡ octets.items ∷ []) }
+{
+    let mut objects = Vec::new(alloc);
+    objects.push(octets)?;
+    Ok(objects)
 }

@@ -1,20 +1,23 @@
 //! The rooms of a box: a message goes to each that it may be for, in turn.
 
-ghost use Rattle.std.specs.Prelude.{◌≡◌, ◌++◌, ℕ, List, length, Contains, option_map, IfOk, IfSome, IsNone, OnOk};
+ghost use Rattle.std.specs.Prelude.{◌≡◌, ◌<◌, ◌++◌, ℕ, List, [], true, false, length, get_or, map, Contains, option_map, IfOk, IfSome, IfNone, OnOk};
+ghost use Rattle.std.specs.List.{list_any};
+ghost use Rattle.std.specs.Option.{option_to_list};
+ghost use Rattle.std.specs.Str.{bytes_eq};
 ghost use Rattle.ical_values.specs.Octets.{address_octets};
-ghost use Rattle.profile.specs.streams.Streams.{new_box};
+ghost use Rattle.cal_events.specs.Component.{method_said};
+ghost use Rattle.profile.specs.events.Messages.{is_to_rooms};
+ghost use Rattle.profile.specs.rooms.Kept.{each_once};
 ghost use Rattle.profile.specs.rooms.Rooms.{empty_book};
 ghost use Rattle.room_books.specs.Room.{Represents};
-ghost use Rattle.std.specs.Str.{bytes_eq};
-ghost use Rattle.sched_box.specs.Answering.{AreHosted, RoomTakes, RoomsTake, room_addresses, sent_octets};
+ghost use Rattle.room_books.specs.Taking.{octets_in};
+ghost use Rattle.sched_box.specs.Answering.{AreHosted, RoomTakes, RoomsSend, RoomsTake, nothing_taken, octets_each, room_addresses, sent_by, sent_octets};
 ghost use Rattle.sched_box.specs.Asked.{LeavesOut, asks, directory_addresses};
-ghost use Rattle.sched_box.specs.Config.{config_hosts, config_rooms};
 
-use crate::config::Config;
 use crate::directory::Directory;
 use ical_values::{Address, Stamp};
 use itip_messages::Message;
-use room_books::Room;
+use room_books::{Answer, Room};
 use std::alloc::{AllocError, Global};
 
 /// The rooms that a box hosts, each with all that it took.
@@ -26,23 +29,24 @@ pub(crate) struct Rooms {
 }
 
 impl Rooms {
-    /// An empty room for each address, in the order of the configuration.
-    pub(crate) fn new(alloc: Global, config: &Config) -> Result<Rooms, AllocError>
-        ensures addresses { IfOk result (λ rooms. room_addresses rooms.rooms.items ≡ config_rooms config.now) }
-        ensures hosted { IfOk result (λ rooms. AreHosted rooms.rooms.items (new_box (config_hosts config.now)).rooms) }
+    /// An empty room for each address, in order; an address that is given twice counts once.
+    pub(crate) fn new(alloc: Global, addresses: &[Address]) -> Result<Rooms, AllocError>
+        ensures addresses { IfOk result (λ rooms. room_addresses rooms.rooms.items ≡ each_once (map address_octets addresses.now)) }
+        ensures hosted { IfOk result (λ rooms. AreHosted rooms.rooms.items (map nothing_taken (each_once (map address_octets addresses.now)))) }
     {
-        let rooms = rooms_of(alloc, config)?;
-        let directory = Directory::of(alloc, config.rooms())?;
+        let directory = Directory::of(alloc, addresses)?;
+        let rooms = rooms_of(alloc, directory.addresses())?;
         Ok(Rooms { rooms, directory })
     }
 
-    /// The room of an address, if the box hosts it.
+    /// The room of an address, if it is hosted.
     pub(crate) fn at(&self, address: &Address) -> Option<&Room>
         ensures found { IfSome result (λ room. Contains self.now.rooms.items room.now) }
         ensures address { IfSome result (λ room. address_octets room.now.address ≡ address_octets address.now) }
-        ensures none { IsNone result → Contains (room_addresses self.now.rooms.items) (address_octets address.now) → ⊥ }
+        ensures none { IfNone result (list_any (bytes_eq (address_octets address.now)) (room_addresses self.now.rooms.items) ≡ false) }
     {
-        room_at(self.rooms.as_slice(), address)
+        let place = self.directory.place_of(address)?;
+        Some(&self.rooms[place])
     }
 
     /// Hands a message to each room that it may be for, in turn, and appends what they answer.
@@ -60,15 +64,34 @@ impl Rooms {
         let asked = self.directory.asked_by(alloc, message)?;
         take_all(&mut self.rooms, &asked, message, now, answers)
     }
+
+    /// Hands a message to the room of this address, if it is hosted: what that sends.
+    pub(crate) fn deliver(
+        &mut self,
+        alloc: Global,
+        to: &Address,
+        message: &Message,
+        now: Stamp,
+    ) -> Result<Vec<Vec<u8>>, AllocError>
+        requires for_rooms { is_to_rooms (method_said message.now.method) ≡ true }
+        ensures { IfOk result (λ sent. RoomsSend (address_octets to.now) now message.now self.old.rooms.items self.new.rooms.items (octets_each sent.items)) }
+    {
+        let mut sent = Vec::new(alloc);
+        let Some(place) = self.directory.place_of(to) else {
+            return Ok(sent);
+        };
+        let answer = take_at(&mut self.rooms, place, message, now)?;
+        push_answer(&mut sent, answer)?;
+        Ok(sent)
+    }
 }
 
-/// An empty room for each address, in the order of the configuration.
-fn rooms_of(alloc: Global, config: &Config) -> Result<Vec<Room>, AllocError>
-    ensures addresses { IfOk result (λ rooms. room_addresses rooms.items ≡ config_rooms config.now) }
-    ensures hosted { IfOk result (λ rooms. AreHosted rooms.items (new_box (config_hosts config.now)).rooms) }
+/// An empty room for each address, in order.
+fn rooms_of(alloc: Global, addresses: &[Address]) -> Result<Vec<Room>, AllocError>
+    ensures addresses { IfOk result (λ rooms. room_addresses rooms.items ≡ map address_octets addresses.now) }
+    ensures hosted { IfOk result (λ rooms. AreHosted rooms.items (map nothing_taken (map address_octets addresses.now))) }
 {
     let mut rooms = Vec::new(alloc);
-    let addresses = config.rooms();
     for address in addresses {
         let room = room_of(alloc, address)?;
         rooms.push(room)?;
@@ -82,27 +105,6 @@ fn room_of(alloc: Global, address: &Address) -> Result<Room, AllocError>
     ensures book { IfOk result (λ room. Represents room.meetings.entries empty_book) }
 {
     Ok(Room::new(alloc, address.clone()?))
-}
-
-/// The room of an address, if there is one.
-fn room_at<'a>(rooms: &'a [Room], address: &Address) -> Option<&'a Room>
-    ensures found { IfSome result (λ room. Contains rooms.now room.now) }
-    ensures address { IfSome result (λ room. address_octets room.now.address ≡ address_octets address.now) }
-    ensures none { IsNone result → Contains (room_addresses rooms.now) (address_octets address.now) → ⊥ }
-{
-    for room in rooms {
-        if is_at(room, address) {
-            return Some(room);
-        }
-    }
-    None
-}
-
-/// Whether a room has this address.
-fn is_at(room: &Room, address: &Address) -> bool
-    ensures { result ≡ bytes_eq (address_octets room.now.address) (address_octets address.now) }
-{
-    *room.address() == *address
 }
 
 /// Hands a message to each room that it may be for, in turn, and appends what it answers.
@@ -151,4 +153,42 @@ fn append(object: &Option<Vec<u8>>, answers: &mut Vec<u8>) -> Result<(), AllocEr
         Some(octets) => answers.extend_from_slice(octets.as_slice()),
         None => Ok(()),
     }
+}
+
+/// Hands a message to the room in its place.
+fn take_at(
+    rooms: &mut Vec<Room>,
+    place: usize,
+    message: &Message,
+    now: Stamp,
+) -> Result<Answer, AllocError>
+    requires for_rooms { is_to_rooms (method_said message.now.method) ≡ true }
+    requires within { place < length rooms.old.items }
+    ensures sends { IfOk result (λ answer. RoomsSend (get_or (room_addresses rooms.old.items) place []) now message.now rooms.old.items rooms.new.items (sent_by answer)) }
+    ensures addresses { room_addresses rooms.new.items ≡ room_addresses rooms.old.items }
+{
+    rooms[place].take(message, now)
+}
+
+/// Adds what a room sends: its reply and then its refresh.
+fn push_answer(sent: &mut Vec<Vec<u8>>, answer: Answer) -> Result<(), AllocError>
+    ensures { OnOk result (octets_each sent.new.items ≡ octets_each sent.old.items ++ sent_by answer) }
+{
+    let Answer {
+        kind: _,
+        reply,
+        refresh,
+    } = answer;
+    push(sent, reply)?;
+    push(sent, refresh)
+}
+
+/// Adds an object, if there is one.
+fn push(sent: &mut Vec<Vec<u8>>, object: Option<Vec<u8>>) -> Result<(), AllocError>
+    ensures { OnOk result (octets_each sent.new.items ≡ octets_each sent.old.items ++ option_to_list (octets_in object)) }
+{
+    if let Some(octets) = object {
+        sent.push(octets)?;
+    }
+    Ok(())
 }

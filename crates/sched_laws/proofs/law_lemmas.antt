@@ -2,7 +2,6 @@ pub mod Invariant
 pub mod Growing
 pub mod Stores
 pub mod ClaimFacts
-pub mod TextAnswers
 pub mod SentClaims
 pub mod RoomReplies
 pub mod Hearing
@@ -14,3 +13,4 @@ pub mod Booked
 pub mod SaidAgain
 pub mod ShownTexts
 pub mod ShownInstances
+pub mod EffectOrNone

@@ -1,7 +1,8 @@
 -- The laws of the crates below that the law of schedules rests on, as one value: each is a clause of the public function that it is named after.
-use Rattle.std.specs.Prelude.{◌≡◌, ℕ, ◌<◌, ◌^◌, Bool, false, List, Contains, Option, Some, None}
-use Rattle.profile.specs.checker.Calendars.{CertificateHolds}
-use Rattle.profile.specs.checker.Instances.{IsClear}
+use Rattle.std.specs.Prelude.{◌≡◌, ◌↔◌, length, ℕ, ◌<◌, ◌^◌, Bool, false, List, Contains, Option, Some, None}
+use Rattle.profile.specs.checker.Calendars.{CertificateHolds, SpellsCalendar}
+use Rattle.profile.specs.checker.Instances.{Instance, IsClear}
+use Rattle.profile.specs.events.Confirmed.{Confirmed, IsOneOf}
 use Rattle.profile.specs.events.EventComponents.{Attendee, EventComponent, Method, SaysEventComponent, Store}
 use Rattle.profile.specs.events.Messages.{Message, SpellsMessage}
 use Rattle.profile.specs.organisers.Organisers.{OrganiserBook, ShowsSeen, Stored}
@@ -9,8 +10,8 @@ use Rattle.profile.specs.organisers.Sent.{IsCancel, IsMeetingText, IsRequest}
 use Rattle.profile.specs.rooms.Kept.{IsKeptCalendar, IsKeptCertificate, Replies}
 use Rattle.profile.specs.rooms.Messages.{Content, IsContent}
 use Rattle.profile.specs.rooms.Revisions.{Revision}
-use Rattle.profile.specs.rooms.Rooms.{Book, Claim, Confirms, Delivery, Runs, empty_book, shown}
-use Rattle.profile.specs.streams.Streams.{AreClaims, IsReached}
+use Rattle.profile.specs.rooms.Rooms.{Book, Claim, Confirms, Delivery, Runs, confirmed_series, confirmed_singles, empty_book, shown}
+use Rattle.profile.specs.streams.Streams.{AreClaims, IsDelivered, IsReached, ObjectFault}
 use Rattle.profile.specs.text.Lines.{is_too_long}
 use Rattle.profile.specs.text.Objects.{SpellsTree}
 use Rattle.profile.specs.text.Trees.{Tree}
@@ -20,6 +21,7 @@ use Rattle.itip_messages.specs.SentLaw.{IsSentAddress, IsSentName, SpellsRequest
 pub record Laws : Type 0 where
   -- one_message
   pub one_message : (octets : List ℕ) (a b : Message) → SpellsMessage octets a → SpellsMessage octets b → a ≡ b
+  pub or_a_fault : (octets : List ℕ) (a : Message) (n : ℕ) → SpellsMessage octets a → ObjectFault n octets → ⊥
   -- stored_texts_can_be_sent
   pub name : (stored : List ℕ) (said : Message) (revision : Revision)
       → SpellsMessage stored said → said.method ≡ Store → revision.sequence < 2 ^ 31 → IsSentName said.organiser said.uid revision
@@ -52,6 +54,14 @@ pub record Laws : Type 0 where
   pub tree : (m n : ℕ) (lines : List (List ℕ)) (s t : Tree) → SpellsTree m s lines → SpellsTree n t lines → s ≡ t
   -- runs_stay_clear
   pub clear : (deliveries : List Delivery) (book : Book) → Runs empty_book deliveries book → IsClear (Confirms book)
+  -- answers_name_texts
+  pub texts : (room : List ℕ) (book : Book) → IsReached room book → AreTextAnswers book
+  -- kept_texts_spell
+  pub spell : (room : List ℕ) (deliveries : List Delivery) (book : Book) (text : List ℕ)
+      → ((taken : Delivery) → Contains deliveries taken → IsDelivered room taken) → Runs empty_book deliveries book → IsKeptCalendar room book text
+      → (all : Confirmed) × SpellsCalendar room text all
+      × (length all.singles ≡ length (confirmed_singles book)) × (length all.series ≡ length (confirmed_series book))
+      × ((booked : Instance) → IsOneOf all booked ↔ Confirms book booked)
   -- kept_texts_pass
   pub kept : (room : List ℕ) (book : Book) (calendar : List ℕ) → IsReached room book → IsKeptCalendar room book calendar
       → (certificate : List ℕ) → IsKeptCertificate room calendar certificate → CertificateHolds room calendar certificate

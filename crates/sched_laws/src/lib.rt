@@ -3,4 +3,4 @@
 
 mod law;
 
-pub use law::schedules_hold;
+pub use law::{effect_or_none, schedules_hold};

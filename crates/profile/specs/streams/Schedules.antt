@@ -1,6 +1,6 @@
--- What holds in each world that a schedule leads to from the first: what organisers see is so, and no two meetings that they see accepted clash.
+-- What holds in each world that a schedule leads to from a new one: what organisers see is so, and no two instances that they see accepted clash.
 -- Nothing is promised of what arrives: a message may be lost, repeated, late or out of order.
-use Rattle.std.specs.Prelude.{◌≡◌, ℕ, true, List, Contains, Some}
+use Rattle.std.specs.Prelude.{◌≡◌, ◌↔◌, ℕ, true, List, Contains, Some}
 use Rattle.profile.specs.checker.Calendars.{CertificateHolds, IsConfirmedIn, SpellsCalendar}
 use Rattle.profile.specs.checker.Instances.{Instance, IsClear}
 use Rattle.profile.specs.events.Confirmed.{Confirmed, IsOneOf}
@@ -25,11 +25,13 @@ pub record IsBooked (book : Book) (part : Part) : Type 0 where
   pub to : answer.claim.part ≡ part
   pub accepted : is_accept answer.outcome ≡ true
 
--- the octets are a REQUEST, and the part that it has for the room in this slot is booked there
-pub record HasBooked (room : Hosted) (slot : Slot) (octets : List ℕ) : Type 0 where
+-- the octets are a REQUEST of this meeting, and the part that it has for the room in this slot is booked there
+pub record HasBooked (organiser uid : List ℕ) (room : Hosted) (slot : Slot) (octets : List ℕ) : Type 0 where
   pub message : Message
   pub spells : SpellsMessage octets message
   pub request : message.method ≡ Request
+  pub of_organiser : message.organiser ≡ organiser
+  pub of_uid : message.uid ≡ uid
   pub parts : List Part
   pub are : AreParts room.address message parts
   pub part : Part
@@ -37,12 +39,14 @@ pub record HasBooked (room : Hosted) (slot : Slot) (octets : List ℕ) : Type 0 
   pub of_slot : part.slot ≡ slot
   pub booked : IsBooked room.book part
 
--- Where an organiser sees that a room has accepted, for a slot of a meeting, the part that the last REQUEST of that meeting has for it is booked;
+-- of the last store of this meeting: the part that its REQUEST has for the room in this slot is booked there
 pub record SeesBooked (organiser : HostedOrganiser) (room : Hosted) (uid : List ℕ) (slot : Slot) : Type 0 where
   pub stored : Stored
   pub last : last_store uid organiser.book ≡ Some stored
-  pub has : HasBooked room slot stored.object
+  pub has : HasBooked organiser.address uid room slot stored.object
 
+-- Where an organiser sees that a room has accepted, for a slot of a meeting, the part that the last REQUEST of that meeting has for this room in this
+-- slot is booked;
 abbrev pub SeenIsBooked : World → Type 0
 SeenIsBooked world =
     (organiser : HostedOrganiser) (room : Hosted) → Contains world.organisers organiser → Contains world.rooms room
@@ -57,7 +61,8 @@ pub record IsText (world : World) (octets : List ℕ) : Type 0 where
   pub uid : List ℕ
   pub shown : IsShown organiser.address organiser.book uid (Some octets)
 
--- what the text of a meeting, read as a calendar, confirms for a room, the room has confirmed;
+-- what the text of a meeting, read as a calendar, confirms for a room, the room has confirmed: by its series and its singles, as whether an addition is
+-- on a start of the rule is settled where the calendar is read;
 abbrev pub ShownIsConfirmed : World → Type 0
 ShownIsConfirmed world =
     (room : Hosted) → Contains world.rooms room → (octets : List ℕ) → IsText world octets
@@ -66,7 +71,7 @@ ShownIsConfirmed world =
 
 -- an instance that the text of a meeting confirms for the room of this address
 abbrev pub IsShownFor : World → List ℕ → Instance → Type 0
-IsShownFor world room instance = (octets : List ℕ) × IsText world octets × IsConfirmedIn room octets instance
+IsShownFor world address instance = (octets : List ℕ) × IsText world octets × IsConfirmedIn address octets instance
 
 -- so no two instances that all meetings of all organisers show for one room clash;
 abbrev pub ShownIsClear : World → Type 0
@@ -74,7 +79,13 @@ ShownIsClear world = (room : Hosted) → Contains world.rooms room → IsClear (
 
 -- ---- and each room's kept texts pass
 
--- the certificate of each room holds for its calendar
+-- the calendar of each room spells exactly what it has confirmed,
+abbrev pub KeptTextsSpell : World → Type 0
+KeptTextsSpell world =
+    (room : Hosted) → Contains world.rooms room → (calendar : List ℕ) → IsKeptCalendar room.address room.book calendar
+    → (all : Confirmed) × SpellsCalendar room.address calendar all × ((instance : Instance) → IsOneOf all instance ↔ Confirms room.book instance)
+
+-- and its certificate holds for it
 abbrev pub KeptTextsHold : World → Type 0
 KeptTextsHold world =
     (room : Hosted) → Contains world.rooms room → (calendar certificate : List ℕ) → IsKeptCalendar room.address room.book calendar

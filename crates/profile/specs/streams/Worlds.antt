@@ -24,14 +24,15 @@ new_world rooms organisers = record {
   sent = [];
 }
 
--- what happens: an organiser is given an object to store, or a sent message is delivered to an address, whoever it was for; at a moment
+-- what happens: an organiser is given an object to store, or a sent message is delivered to an address, whoever it was for; at a moment of the years
+-- 1 to 9999
 pub data Step : Type 0 where
-  Storing : (organiser object : List ℕ) → ℤ → Step
-  Delivering : (message : ℕ) → (to : List ℕ) → ℤ → Step
+  Storing : (organiser object : List ℕ) → (moment : ℤ) → Step
+  Delivering : (message : ℕ) → (to : List ℕ) → (moment : ℤ) → Step
 
 -- ---- what a step does
 
--- one of these hosts is changed so
+-- one of these hosts changes so, and no other
 pub record ChangesOne {Host : Type 0} (Changes : Host → Host → Type 0) (before after : List Host) : Type 0 where
   pub ahead : List Host
   pub behind : List Host
@@ -55,13 +56,14 @@ pub record OrganiserTakes (to : List ℕ) (moment : ℤ) (message : Message) (se
   pub named : message.organiser ≡ to
   pub serves : ServesMessage moment message old.book new.book sent
 
--- these are sent after all others, by one of the rooms; by one of the organisers
+-- one of the rooms takes the message, and what it sends comes after all that was sent
 pub record RoomSends (to : List ℕ) (moment : ℤ) (message : Message) (before after : World) : Type 0 where
   pub sent : List (List ℕ)
   pub takes : ChangesOne (RoomTakes to moment message sent) before.rooms after.rooms
   pub others : after.organisers ≡ before.organisers
   pub adds : after.sent ≡ before.sent ++ sent
 
+-- one of the organisers takes it, and what it sends comes after all that was sent
 pub record OrganiserSends (to : List ℕ) (moment : ℤ) (message : Message) (before after : World) : Type 0 where
   pub sent : List (List ℕ)
   pub takes : ChangesOne (OrganiserTakes to moment message sent) before.organisers after.organisers
@@ -82,7 +84,8 @@ has_room to world = list_any (λ host. bytes_eq host.address to) world.rooms
 abbrev pub has_organiser : List ℕ → World → Bool
 has_organiser to world = list_any (λ host. bytes_eq host.address to) world.organisers
 
--- the organiser of this address refuses a message: it names another, or has a fault beside what is kept
+-- an organiser of this address would refuse the message: it names another, or has a fault beside what is kept. In a world that a schedule leads to, no
+-- two hosts of one kind have one address
 pub data IsRefusedBy (to : List ℕ) (message : Message) (world : World) : Type 0 where
   other_organiser : message.organiser ≢ to → IsRefusedBy to message world
   in_state : {n : ℕ} → (host : HostedOrganiser) → Contains world.organisers host → host.address ≡ to → StateFault message host.book n
@@ -102,7 +105,7 @@ pub data HasNoEffect (to : List ℕ) (message : Message) (world : World) : Type 
   a_store : message.method ≡ Store → HasNoEffect to message world
   refused_answer : is_of_attendee message.method ≡ true → IsRefusedBy to message world → HasNoEffect to message world
 
--- delivering octets has no effect: they are refused, or they are such a message
+-- delivering octets has no effect: they are refused, or spell a message that has none
 abbrev pub DeliversNothing : (octets to : List ℕ) → World → Type 0
 DeliversNothing octets to world =
     ((n : ℕ) × ObjectFault n octets) ⊎ ((message : Message) × SpellsMessage octets message × HasNoEffect to message world)

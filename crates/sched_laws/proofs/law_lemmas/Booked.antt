@@ -221,8 +221,9 @@ parts_each room message [] (c ∷ claims) z = absurd z
 parts_each room message (e ∷ events) [] z = absurd z
 parts_each room message (e ∷ events) (c ∷ claims) z = ((c.content, z.0.part), parts_each room message events claims z.1)
 
-has_booked : (organiser : List ℕ) (stored : Stored) (room : Hosted) (slot : Slot) → IsBookedFor organiser stored room slot → HasBooked room slot stored.object
-has_booked organiser stored room slot b =
+has_booked : (organiser uid : List ℕ) (stored : Stored) (room : Hosted) (slot : Slot) → stored.uid ≡ uid → IsBookedFor organiser stored room slot
+    → HasBooked organiser uid room slot stored.object
+has_booked organiser uid stored room slot of_uid b =
     let c = b.of_store in
     let message = request_of organiser stored.uid c.sent in
     let part_of : Claim → Part = λ claim. claim.part in
@@ -230,6 +231,8 @@ has_booked organiser stored room slot b =
       message = message;
       spells = c.spells;
       request = refl;
+      of_organiser = refl;
+      of_uid = of_uid;
       parts = map part_of c.claims;
       are = record { events = c.are.events; are = c.are.are; each = parts_each room.address message c.are.events c.claims c.are.each };
       part = b.answer.claim.part;
@@ -241,4 +244,4 @@ has_booked organiser stored room slot b =
 pub seen_is_booked : Laws → (rooms organisers : List (List ℕ)) (world : World) → IsSound rooms organisers world → SeenIsBooked world
 seen_is_booked laws rooms organisers world sound host room hosted there uid slot (stored, last, named, seen) =
     let booked = booked_for laws rooms organisers world sound host hosted room there uid stored last named slot seen in
-    record { stored = stored; last = last; has = has_booked host.address stored room slot booked }
+    record { stored = stored; last = last; has = has_booked host.address uid stored room slot (last_among uid host.book stored last).1 booked }

@@ -12,7 +12,6 @@ use Rattle.profile.specs.rooms.Rooms.{Claim, Delivery, PartAnswer, answered, ask
 use Rattle.profile.specs.streams.Streams.{Hosted, HostedOrganiser, IsReached, ServesMethod, TakesMessage}
 use Rattle.profile.specs.streams.Worlds.{OrganiserSends, OrganiserTakes, RoomSends, RoomTakes, World}
 use Rattle.cal_events.proofs.shared_lemmas.InOneOrder.{in_mapped, of_mapped}
-use Rattle.itip_messages.specs.Law.{AreTextAnswers}
 use Rattle.itip_order.proofs.Lists.{none_in_nil}
 use Rattle.room_books.proofs.laws_lemmas.Runs.{new_answer}
 use Rattle.room_books.proofs.room_lemmas.Reaching.{reached_then}
@@ -22,7 +21,6 @@ use Rattle.sched_laws.proofs.law_lemmas.Invariant.{IsAnswerHeard, IsClaimOf, IsG
 use Rattle.sched_laws.specs.Law.{Laws}
 use Rattle.sched_laws.proofs.law_lemmas.RoomReplies.{replies_sent}
 use Rattle.sched_laws.proofs.law_lemmas.SentClaims.{IsSentClaim, sent_claim}
-use Rattle.sched_laws.proofs.law_lemmas.TextAnswers.{answers_name_texts}
 
 -- ---- to a room
 
@@ -100,9 +98,6 @@ module _ (laws : Laws) (rooms organisers : List (List ℕ)) (octets to : List �
   stores_now : (host : HostedOrganiser) → Contains after.organisers host → (stored : Stored) → Contains host.book.stores stored → IsStoreOf host.address stored
   stores_now host c = sound.stores host (hosted_before host c)
 
-  texts_now : AreTextAnswers new.book
-  texts_now = answers_name_texts laws after.organisers stores_now old new takes.claims moment takes.outcome takes.step given_now (sound.texts old hosts.was)
-
   reached_now : IsReached new.address new.book
   reached_now =
       let delivery : Delivery = record { claims = takes.claims; moment = moment } in
@@ -124,11 +119,10 @@ module _ (laws : Laws) (rooms organisers : List (List ℕ)) (octets to : List �
         (λ room c part d. still_taken before after grow room.address part (sound.taken room c part d));
     given = each_room (λ room. (answer : PartAnswer) → Contains room.book.answers answer → IsGiven after.organisers room answer) given_now
         (λ room c answer d. still_given before after grow room room (room_itself room) answer (sound.given room c answer d));
-    texts = each_room (λ room. AreTextAnswers room.book) texts_now sound.texts;
     reached = each_room (λ room. IsReached room.address room.book) reached_now sound.reached;
     sent = λ text c. elim (Contains-append_cases before.sent r.sent text (subst (λ (all : List (List ℕ)). Contains all text) r.adds c)) [
       | inl was ↦ still_sent before after grow text (sound.sent text was)
-      | inr now ↦ replies_sent laws before after new hosts.is texts_now octets message spells says moment old.book r.sent takes text now
+      | inr now ↦ replies_sent laws before after new hosts.is reached_now octets message spells says moment old.book r.sent takes text now
     ];
   }
 
@@ -205,7 +199,6 @@ module _ (laws : Laws) (rooms organisers : List (List ℕ)) (octets to : List �
         (λ host c heard d. still_heard before after larger host host refl heard refl (sound.heard host c heard d));
     taken = λ room c part d. still_taken before after larger room.address part (sound.taken room (room_before room c) part d);
     given = λ room c answer d. still_given before after larger room room (room_itself room) answer (sound.given room (room_before room c) answer d);
-    texts = λ room c. sound.texts room (room_before room c);
     reached = λ room c. sound.reached room (room_before room c);
     sent = λ text c.
         let all = subst (λ (more : List (List ℕ)). Contains (before.sent ++ more) text) served.1 (subst (λ (texts : List (List ℕ)). Contains texts text) s.adds c) in

@@ -11,7 +11,7 @@ use Rattle.profile.specs.rooms.Revisions.{Part}
 use Rattle.profile.specs.rooms.Rooms.{Claim, PartAnswer, is_accept, is_set}
 use Rattle.profile.specs.streams.Streams.{AreClaims, Hosted, HostedOrganiser, IsReached}
 use Rattle.profile.specs.streams.Worlds.{World}
-use Rattle.itip_messages.specs.Law.{AreTextAnswers, answer_heard}
+use Rattle.itip_messages.specs.Law.{answer_heard}
 use Rattle.itip_messages.specs.SentLaw.{IsSentAs, cancel_message, cancel_part, request_of}
 
 -- ---- a store, and what rooms take of it
@@ -135,6 +135,5 @@ pub record IsSound (rooms organisers : List (List ℕ)) (world : World) : Type 0
   pub heard : (host : HostedOrganiser) → Contains world.organisers host → (heard : Heard) → Contains host.book.replies heard → IsHeardBy world host heard
   pub taken : (room : Hosted) → Contains world.rooms room → (part : Part) → Contains room.book.taken part → IsTakenPart world.organisers room.address part
   pub given : (room : Hosted) → Contains world.rooms room → (answer : PartAnswer) → Contains room.book.answers answer → IsGiven world.organisers room answer
-  pub texts : (room : Hosted) → Contains world.rooms room → AreTextAnswers room.book
   pub reached : (room : Hosted) → Contains world.rooms room → IsReached room.address room.book
   pub sent : (octets : List ℕ) → Contains world.sent octets → IsSentIn world octets

@@ -58,7 +58,6 @@ module _ (rooms organisers : List (List ℕ)) where
     heard = each_organiser _ (λ address heard c. absurd (none_in_nil heard c));
     taken = each_room _ (λ address part c. absurd (none_in_nil part c));
     given = each_room _ (λ address answer c. absurd (none_in_nil answer c));
-    texts = each_room _ (λ address answer c. absurd (none_in_nil answer c));
     reached = each_room _ (λ address. record { deliveries = []; delivered = λ delivery c. absurd (none_in_nil delivery c); runs = refl });
     sent = λ octets c. absurd (none_in_nil octets c);
   }

@@ -13,7 +13,7 @@ use Rattle.profile.specs.events.Starts.{IsInstance}
 use Rattle.profile.specs.rooms.Messages.{slot_named, slot_of}
 use Rattle.profile.specs.rooms.Revisions.{At, Part, Slot, Whole, implies, in_view, is_greatest, is_cancelled, is_whole, leaves_in_view, Revision, same_meeting, same_place, slot_cmp, stays_beside}
 use Rattle.profile.specs.rooms.Rooms.{Book, Confirms, PartAnswer, Recurring, is_confirmed, is_hidden, left_of, recurring_in}
-use Rattle.profile.specs.streams.Schedules.{IsShownFor, KeptTextsHold, ShownIsClear, ShownIsConfirmed}
+use Rattle.profile.specs.streams.Schedules.{IsShownFor, KeptTextsHold, KeptTextsSpell, ShownIsClear, ShownIsConfirmed}
 use Rattle.profile.specs.streams.Streams.{Hosted}
 use Rattle.profile.specs.streams.Worlds.{World}
 use Rattle.profile.specs.series.Rules.{Rule}
@@ -224,6 +224,12 @@ shown_is_clear laws rooms organisers world sound room there a b t first second c
     not_unconfirmed laws rooms organisers world sound room there b second (λ other. laws.clear reached.deliveries room.book reached.runs a b t one other clash))
 
 -- ---- kept texts
+
+pub kept_texts_spell_all : Laws → (rooms organisers : List (List ℕ)) (world : World) → IsSound rooms organisers world → KeptTextsSpell world
+kept_texts_spell_all laws rooms organisers world sound room there calendar kept =
+    let reached = sound.reached room there in
+    let (all, spells, singles, series, same) = laws.spell room.address reached.deliveries room.book calendar reached.delivered reached.runs kept in
+    (all, spells, same)
 
 pub kept_texts_hold : Laws → (rooms organisers : List (List ℕ)) (world : World) → IsSound rooms organisers world → KeptTextsHold world
 kept_texts_hold laws rooms organisers world sound room there calendar certificate kept made =

@@ -313,7 +313,6 @@ module _ (laws : Laws) (rooms organisers : List (List ℕ)) (organiser object : 
         (λ host was heard c. still_heard before after grow host host refl heard refl (sound.heard host was heard c));
     taken = λ room c part t. still_taken before after grow room.address part (sound.taken room (was_room room c) part t);
     given = λ room c answer g. still_given before after grow room room (room_itself room) answer (sound.given room (was_room room c) answer g);
-    texts = λ room c. sound.texts room (was_room room c);
     reached = λ room c. sound.reached room (was_room room c);
     sent = λ octets c. elim (Contains-append_cases before.sent sends.sent octets (subst (λ (all : List (List ℕ)). Contains all octets) sends.adds c)) [
       | inl earlier ↦ still_sent before after grow octets (sound.sent octets earlier)

@@ -1,10 +1,8 @@
-use Rattle.std.proofs.Common.{◌∙◌, ap, map, subst, sym, arith}
-use Rattle.std.specs.List.{AllZip}
+use Rattle.std.proofs.Common.{◌∙◌, ap, sym, arith}
 use Rattle.ical_values.specs.Octets.{address_octets}
 use Rattle.organiser_books.specs.Representation.{address_of}
-use Rattle.sched_box.specs.Organising.{IsKeptBy}
+use Rattle.sched_box.specs.Organising.{IsKeptBy, nothing_kept}
 use Rattle.sched_box.proofs.HostLemmas.{none_made, made_more, all_made}
-use Rattle.sched_box.proofs.OrganiserLemmas.{nothing_kept}
 use Rattle.sched_box.proofs.organisers.organisers_of.Goals as goal
 
 pub loop-address-init : goal.loop-address-init
@@ -17,9 +15,7 @@ loop-address-preserved c =
     (record { at = sym same; keeps = c.in_ok-organiser.ensures.empty })
 
 pub returns-clause-addresses : goal.returns-clause-addresses
-returns-clause-addresses c = (all_made address_of IsKeptBy nothing_kept _ _ _ c.loop-address.invariant (omega arith)).0 ∙ ap (map address_octets) c.organisers-addresses.ensures.organisers
+returns-clause-addresses c = (all_made address_of IsKeptBy nothing_kept _ _ _ c.loop-address.invariant (omega arith)).0
 
 pub returns-clause-kept : goal.returns-clause-kept
-returns-clause-kept c =
-    subst (λ list. AllZip IsKeptBy c.loop-address.organisers.items (map nothing_kept (map address_octets list))) c.organisers-addresses.ensures.organisers
-    (all_made address_of IsKeptBy nothing_kept _ _ _ c.loop-address.invariant (omega arith)).1
+returns-clause-kept c = (all_made address_of IsKeptBy nothing_kept _ _ _ c.loop-address.invariant (omega arith)).1

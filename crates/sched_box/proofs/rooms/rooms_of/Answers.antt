@@ -1,9 +1,7 @@
-use Rattle.std.proofs.Common.{◌∙◌, ap, map, subst, sym, arith}
-use Rattle.std.specs.List.{AllZip}
+use Rattle.std.proofs.Common.{◌∙◌, ap, sym, arith}
 use Rattle.ical_values.specs.Octets.{address_octets}
-use Rattle.sched_box.specs.Answering.{IsHosted}
+use Rattle.sched_box.specs.Answering.{IsHosted, nothing_taken}
 use Rattle.sched_box.proofs.HostLemmas.{none_made, made_more, all_made}
-use Rattle.sched_box.proofs.ServingLemmas.{nothing_taken}
 use Rattle.sched_box.proofs.rooms.rooms_of.Goals as goal
 
 pub loop-address-init : goal.loop-address-init
@@ -16,10 +14,7 @@ loop-address-preserved c =
     (record { at = sym same; represents = c.in_ok-room.ensures.book })
 
 pub returns-clause-addresses : goal.returns-clause-addresses
-returns-clause-addresses c =
-    (all_made (λ room. address_octets room.address) IsHosted nothing_taken _ _ _ c.loop-address.invariant (omega arith)).0 ∙ ap (map address_octets) c.rooms-addresses.ensures.rooms
+returns-clause-addresses c = (all_made (λ room. address_octets room.address) IsHosted nothing_taken _ _ _ c.loop-address.invariant (omega arith)).0
 
 pub returns-clause-hosted : goal.returns-clause-hosted
-returns-clause-hosted c =
-    subst (λ list. AllZip IsHosted c.loop-address.rooms.items (map nothing_taken (map address_octets list))) c.rooms-addresses.ensures.rooms
-    (all_made (λ room. address_octets room.address) IsHosted nothing_taken _ _ _ c.loop-address.invariant (omega arith)).1
+returns-clause-hosted c = (all_made (λ room. address_octets room.address) IsHosted nothing_taken _ _ _ c.loop-address.invariant (omega arith)).1

@@ -1,7 +1,10 @@
-use Rattle.std.proofs.Common.{◌≡◌, ◌∙◌, true, false, ap, refl, sym}
-use Rattle.std.proofs.lemmas.Result.{IfErr-weaker, err_from_is_err_and, on_ok_weaker}
+use Rattle.std.proofs.Common.{◌≡◌, ◌∙◌, ◌++◌, true, false, ap, refl, sym}
+use Rattle.std.specs.List.{flat_map}
+use Rattle.std.proofs.lemmas.List.Folds.{flat_map-map}
+use Rattle.std.proofs.lemmas.Result.{err_from_is_err_and}
 use Rattle.profile.specs.events.Messages.{is_to_rooms}
 use Rattle.cal_events.specs.Component.{method_said}
+use Rattle.sched_box.specs.Answering.{octets_each}
 use Rattle.sched_box.proofs.BookLemmas.{organiser_taken, rooms_taken, unhosted, unread}
 use Rattle.sched_box.proofs.books.Books.answer.Goals as goal
 
@@ -17,18 +20,19 @@ returns-then-is_to_rooms-clause-takes c =
     let (more, is, takes) = c.in_ok-take.ensures.takes in
     (more, is, rooms_taken c.args.now c.args.octets.now message c.args.self.now _ more c.in_ok-message.ensures.spells to takes refl)
 
+pub returns-in_err-sent-clause-fault : goal.returns-in_err-sent-clause-fault
+returns-in_err-sent-clause-fault c =
+    let message = c.in_ok-message.message in
+    let to : is_to_rooms (method_said message.method) ≡ false = ap (λ m. is_to_rooms (method_said m)) (sym c.method.ensures) ∙ sym c.is_to_rooms.ensures ∙ c.if-is_to_rooms.false in
+    let p = err_from_is_err_and c.from_residual-in_err-sent.result c.from_residual-in_err-sent.ensures.1 in
+    rw (p.1, p.2) (unhosted c.args.octets.now message c.args.self.now c.in_err-sent.field-0.0 c.in_ok-message.ensures.spells to c.in_err-sent.ensures.fault)
+
 pub returns-clause-takes : goal.returns-clause-takes
 returns-clause-takes c =
     let message = c.in_ok-message.message in
     let to : is_to_rooms (method_said message.method) ≡ false = ap (λ m. is_to_rooms (method_said m)) (sym c.method.ensures) ∙ sym c.is_to_rooms.ensures ∙ c.if-is_to_rooms.false in
-    on_ok_weaker c.take-2.result
-    (λ t.
-    let (more, is, takes) = t in
-    (more, is, organiser_taken c.args.now c.args.octets.now message c.args.self.now _ more c.in_ok-message.ensures.spells to takes refl))
-    c.take-2.ensures.takes
-
-pub returns-clause-fault : goal.returns-clause-fault
-returns-clause-fault c =
-    let message = c.in_ok-message.message in
-    let to : is_to_rooms (method_said message.method) ≡ false = ap (λ m. is_to_rooms (method_said m)) (sym c.method.ensures) ∙ sym c.is_to_rooms.ensures ∙ c.if-is_to_rooms.false in
-    IfErr-weaker c.take-2.result _ _ (λ f. unhosted c.args.octets.now message c.args.self.now f c.in_ok-message.ensures.spells to) c.take-2.ensures.fault
+    let sent = c.in_ok-sent.sent.items in
+    let octets = flat_map (λ object. object.items) sent in
+    let is = c.in_ok-append_each.ensures ∙ ap (λ objects. c.args.answers.now.items ++ flat_map (λ object. object.items) objects) c.deref.ensures.value in
+    let all = sym (flat_map-map (λ object. object) (λ object. object.items) sent) in
+    (octets, is, organiser_taken c.args.now c.args.octets.now message c.args.self.now _ (octets_each sent) octets c.in_ok-message.ensures.spells to c.in_ok-sent.ensures.takes refl all)
