@@ -1,13 +1,12 @@
 -- One step of a world, from what its hosts do; and the steps of a schedule one after another.
 -- Behind tell_organiser, store, deliver, effect and take of World, and played of schedules.
-use Rattle.std.proofs.Common.{◌≡◌, ◌≢◌, ◌∙◌, ◌⊎◌, inl, inr, ℕ, ◌+◌, ◌<◌, ◌≤◌, ℤ, Bool, true, false, List, [], ◌∷◌, ◌++◌, length, map, take, get_or, Option, Some, None, Contains, Vec, MatchOption, refl, sym, ap, subst, take_all, arith}
+use Rattle.std.proofs.Common.{◌≡◌, ◌≢◌, ◌∙◌, ◌⊎◌, inl, inr, ℕ, ◌+◌, ◌<◌, ◌≤◌, ℤ, true, false, List, [], ◌∷◌, ◌++◌, length, map, take, get_or, Some, None, Contains, refl, sym, ap, subst, take_all}
 use Rattle.std.specs.Prelude.{slice_get, option_map}
-use Rattle.std.specs.List.{AllZip, list_any}
+use Rattle.std.specs.List.{list_any}
 use Rattle.std.specs.Str.{bytes_eq}
 use Rattle.std.proofs.lemmas.List.{append-nil, map-append, take_more}
 use Rattle.std.proofs.lemmas.Option.{slice_get-get_or, slice_get-map}
 use Rattle.cal_events.specs.Component.{method_said}
-use Rattle.ical_lines.specs.Fault.{RefusesBy}
 use Rattle.ical_values.specs.Octets.{address_octets}
 use Rattle.ical_values.specs.declared.address.Address.{Address}
 use Rattle.itip_messages.specs.Message.{IsSpelled, RepresentsMessage}
@@ -39,7 +38,7 @@ sends_nothing world said more none is = record {
 }
 
 -- what was to be sent is among the messages
-pub is_sent : (old new : World) (said : worlds.World) (more : List (List ℕ)) → new.rooms ≡ old.rooms → new.organisers ≡ old.organisers
+is_sent : (old new : World) (said : worlds.World) (more : List (List ℕ)) → new.rooms ≡ old.rooms → new.organisers ≡ old.organisers
     → octets_each new.sent.items ≡ octets_each old.sent.items ++ more → IsWorldWith old more said → IsWorldOf new said
 is_sent old new said more rooms organisers sent is = record {
   rooms = subst (λ r. AreHosted r.rooms.items said.rooms) (sym rooms) is.rooms;

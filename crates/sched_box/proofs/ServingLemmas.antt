@@ -1,25 +1,22 @@
 -- The objects and answers so far, against those of the whole stream.
-use Rattle.std.proofs.Common.{◌≡◌, ◌⊎◌, inl, inr, ℕ, ℤ, Bool, zero, suc, ◌+◌, ◌-◌, ◌<◌, ◌≤◌, true, false, List, [], ◌∷◌, ◌++◌, length, take, Option, Some, None, IfSome, OnSome, Result, Ok, Err, refl, sym, ap, subst, ◌∙◌, arith, length-append, ◌≢◌, Contains, true≢false, get_or}
+use Rattle.std.proofs.Common.{◌≡◌, ◌⊎◌, inl, inr, ℕ, ℤ, Bool, ◌+◌, ◌-◌, ◌<◌, ◌≤◌, true, false, List, [], ◌∷◌, ◌++◌, length, take, Option, Some, None, IfSome, OnSome, Result, Ok, Err, refl, sym, ap, subst, ◌∙◌, arith, length-append, Contains, true≢false}
 use Rattle.std.proofs.lemmas.List.{append_assoc, append-nil}
 use Rattle.std.specs.Io.KnownBytes.{Appends, Consumes, Keeps, IsAtEnd}
 use Rattle.std.proofs.KnownBytes.{Appends-kept, Appends-nil, Appends-trans, Keeps-refl}
 use Rattle.profile.specs.text.Objects.{is_begun, after_object}
-use Rattle.profile.specs.rooms.Rooms.{Book, empty_book}
-use Rattle.profile.specs.streams.Streams.{BeginsWith, AreObjects, Answers, AllAnswers, Box, Hosted, Config, new_box}
+use Rattle.profile.specs.rooms.Rooms.{Book}
+use Rattle.profile.specs.streams.Streams.{BeginsWith, AreObjects, Answers, AllAnswers, Box, Config, new_box}
 use Rattle.room_books.specs.declared.room.Room.{Room}
 use Rattle.sched_box.specs.declared.fault.ServeFault.{ServeFault}
 use Rattle.sched_box.specs.declared.fault.ServeFault.TheVariants.{Read, Write, TooLong, Memory}
 use Rattle.sched_box.specs.declared.objects.Objects.{Objects}
 use Rattle.sched_box.specs.declared.serving.ServeReport.{ServeReport}
-use Rattle.sched_box.specs.Answering.{AreHosted, IsHosted, nothing_taken, room_addresses}
+use Rattle.sched_box.specs.Answering.{IsHosted, nothing_taken}
 use Rattle.sched_box.specs.Books.{AnswersKept, AreBooksOf, hosted_rooms}
 use Rattle.sched_box.specs.declared.books.Books.{Books}
 use Rattle.sched_devices.specs.Input.{IsFilledWithin}
-use Rattle.sched_box.specs.Objects.{kept_of, IsStop, LendsNext, TakesNextObject, ReadsObject, StopsReading}
+use Rattle.sched_box.specs.Objects.{kept_of, IsStop, TakesNextObject, ReadsObject, StopsReading}
 use Rattle.sched_box.specs.Serving.{AnswersWhole, Ends, Gives, GivesPart, GivesRead, IsWithin, IsWithinBound, ServesAll, ServesSome, HasRead, ServesUntil, Serves, BooksServe, ServesStream, KeepsTexts, StopsKeeping, StopsWithin}
-use Rattle.std.specs.Str.{bytes_eq}
-use Rattle.std.proofs.lemmas.Slice.Eq.{bytes_eq-Decides}
-use Rattle.std.proofs.lemmas.Bool.{cases_lt}
 use Rattle.profile.specs.rooms.Kept.{IsKeptCalendar, IsKeptCertificate}
 use Rattle.ical_values.specs.Octets.{address_octets}
 use Rattle.ical_values.specs.declared.address.Address.{Address}

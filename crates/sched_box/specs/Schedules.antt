@@ -27,10 +27,14 @@ pub record IsWorldOf (world : World) (said : worlds.World) : Type 0 where
   pub organisers : AreKeptBy world.organisers.organisers.items said.organisers
   pub sent : said.sent ≡ octets_each world.sent.items
 
--- some of these steps lead from the first world to one that it is
+-- these steps, in order, lead there from a new world of these addresses
+abbrev pub PlaysTo : (rooms organisers : List Address) → List Step → worlds.World → Type 0
+PlaysTo rooms organisers steps after = Plays (map step_said steps) (new_world (map address_octets rooms) (map address_octets organisers)) after
+
+-- the world is one that they lead to
 pub record IsPlayed (rooms organisers : List Address) (steps : List Step) (world : World) : Type 0 where
   pub after : worlds.World
-  pub plays : Plays (map step_said steps) (new_world (map address_octets rooms) (map address_octets organisers)) after
+  pub plays : PlaysTo rooms organisers steps after
   pub is : IsWorldOf world after
 
 -- ---- what is looked up

@@ -1,4 +1,4 @@
-//! A box of rooms and organisers: streams of objects, and the answers to them.
+//! A box of rooms and organisers: streams of objects, and the answers to them; and schedules, in which what was sent arrives in any order.
 #![tactic(auto)]
 
 mod books;

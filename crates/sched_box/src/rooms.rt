@@ -167,7 +167,8 @@ fn take_at(
     ensures sends { IfOk result (λ answer. RoomsSend (get_or (room_addresses rooms.old.items) place []) now message.now rooms.old.items rooms.new.items (sent_by answer)) }
     ensures addresses { room_addresses rooms.new.items ≡ room_addresses rooms.old.items }
 {
-    rooms[place].take(message, now)
+    let room = &mut rooms[place];
+    room.take(message, now)
 }
 
 /// Adds what a room sends: its reply and then its refresh.

@@ -1,12 +1,11 @@
 //! A schedule: organisers store meetings, and what anyone ever sent is delivered, in any order, repeated or not at all.
 //! The messages of a world are numbered in the order in which they are written.
 
-ghost use Rattle.std.specs.Prelude.{map, IfOk, MatchOption};
-ghost use Rattle.ical_values.specs.Octets.{address_octets};
+ghost use Rattle.std.specs.Prelude.{IfOk, MatchOption};
 ghost use Rattle.itip_messages.specs.Message.{IsSpelled};
+ghost use Rattle.profile.specs.streams.Schedules.{KeptTextsHold, KeptTextsSpell, SeenIsBooked, ShownIsClear, ShownIsConfirmed};
 ghost use Rattle.profile.specs.streams.Worlds as worlds;
-ghost use Rattle.profile.specs.streams.Worlds.{Plays, new_world};
-ghost use Rattle.sched_box.specs.Schedules.{IsPlayed, IsUnread, IsWorldOf, step_said};
+ghost use Rattle.sched_box.specs.Schedules.{IsPlayed, IsUnread, IsWorldOf, PlaysTo};
 
 use crate::organisers::Organisers;
 use crate::rooms::Rooms;
@@ -16,6 +15,7 @@ use ical_values::{Address, Stamp};
 use itip_messages::Message;
 use organiser_books::Organiser;
 use room_books::Room;
+use sched_laws::schedules_hold;
 use std::alloc::{AllocError, Global};
 
 /// What happens in a world.
@@ -54,9 +54,17 @@ pub fn play(
     organisers: &[Address],
     steps: &[Step],
 ) -> Result<World, AllocError>
-    ensures plays { IfOk result (λ world. (after : worlds.World)
-        × Plays (map step_said steps.now) (new_world (map address_octets rooms.now) (map address_octets organisers.now)) after × IsWorldOf world after) }
+    ensures plays { IfOk result (λ world. (after : worlds.World) × PlaysTo rooms.now organisers.now steps.now after × IsWorldOf world after) }
+    // Of each world that these steps lead to and that the result is: what an organiser sees accepted is booked.
+    ensures booked { IfOk result (λ world. (after : worlds.World) → PlaysTo rooms.now organisers.now steps.now after → IsWorldOf world after → SeenIsBooked after) }
+    // What the texts of meetings confirm for a room, the room has confirmed, and no two of these instances clash.
+    ensures confirmed { IfOk result (λ world. (after : worlds.World) → PlaysTo rooms.now organisers.now steps.now after → IsWorldOf world after → ShownIsConfirmed after) }
+    ensures clear { IfOk result (λ world. (after : worlds.World) → PlaysTo rooms.now organisers.now steps.now after → IsWorldOf world after → ShownIsClear after) }
+    // Each room's calendar spells what it has confirmed, and its certificate holds for it.
+    ensures spells { IfOk result (λ world. (after : worlds.World) → PlaysTo rooms.now organisers.now steps.now after → IsWorldOf world after → KeptTextsSpell after) }
+    ensures kept { IfOk result (λ world. (after : worlds.World) → PlaysTo rooms.now organisers.now steps.now after → IsWorldOf world after → KeptTextsHold after) }
 {
+    schedules_hold();
     let world = played(alloc, rooms, organisers, steps)?;
     Ok(world)
 }
@@ -78,7 +86,7 @@ fn played(
 }
 
 impl World {
-    ghost use Rattle.std.specs.Prelude.{◌≡◌, false, map, Contains, IfOk, IfSome, IfNone, OnOk};
+    ghost use Rattle.std.specs.Prelude.{◌≡◌, false, map, IfOk, IfSome, IfNone, OnOk};
     ghost use Rattle.ical_values.specs.Octets.{address_octets};
     ghost use Rattle.cal_events.specs.Component.{method_said};
     ghost use Rattle.profile.specs.events.Messages.{is_to_rooms};

@@ -1,4 +1,4 @@
-use Rattle.std.proofs.Common.{◌≡◌, ◌∙◌, ℕ, ℤ, Bool, true, Global, List, [], Option, Some, Result, Ok, Err, IfOk, Vec, string_bytes, refl, sym, ap, subst}
+use Rattle.std.proofs.Common.{◌≡◌, ◌∙◌, ℕ, ℤ, Bool, true, Global, List, [], Some, Result, Ok, Err, IfOk, Vec, string_bytes, refl, sym, ap, subst}
 use Rattle.std.specs.Option.{unwrap_or}
 use Rattle.profile.specs.streams.Folders.{Image}
 use Rattle.profile.specs.streams.Streams.{AllAnswers, AreObjects}

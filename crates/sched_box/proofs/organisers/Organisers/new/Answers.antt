@@ -1,4 +1,4 @@
-use Rattle.std.proofs.Common.{◌∙◌, List, ℕ, map, subst}
+use Rattle.std.proofs.Common.{◌∙◌, map, subst}
 use Rattle.sched_box.specs.Organising.{AreKeptBy, nothing_kept}
 use Rattle.sched_box.proofs.organisers.Organisers.new.Goals as goal
 

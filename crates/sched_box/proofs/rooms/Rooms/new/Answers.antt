@@ -1,4 +1,4 @@
-use Rattle.std.proofs.Common.{◌∙◌, List, ℕ, map, subst}
+use Rattle.std.proofs.Common.{◌∙◌, map, subst}
 use Rattle.sched_box.specs.Answering.{AreHosted, nothing_taken}
 use Rattle.sched_box.proofs.rooms.Rooms.new.Goals as goal
 

@@ -1,5 +1,5 @@
-use Rattle.std.proofs.Common.{◌≡◌, ◌∙◌, List, ℕ, Vec, None, Some, MatchOption, true, false, ap, refl, subst, sym}
-use Rattle.std.specs.Prelude.{option_map, slice_get}
+use Rattle.std.proofs.Common.{◌≡◌, ◌∙◌, None, MatchOption, true, false, ap, refl, subst, sym}
+use Rattle.std.specs.Prelude.{slice_get}
 use Rattle.std.proofs.lemmas.Option.{slice_get_past}
 use Rattle.std.proofs.lemmas.Result.{IfOk-weaker}
 use Rattle.cal_events.specs.Component.{method_said}
@@ -9,7 +9,7 @@ use Rattle.profile.specs.events.Messages.{is_of_attendee, is_to_rooms}
 use Rattle.sched_box.specs.Answering.{octets_each}
 use Rattle.sched_box.specs.Schedules.{IsUnread}
 use Rattle.sched_box.specs.declared.schedules.World.{World}
-use Rattle.sched_box.proofs.ScheduleLemmas.{IsMessageAt, delivers_store, delivers_to_room, delivers_told, delivers_unread, delivers_unsent, message_at}
+use Rattle.sched_box.proofs.ScheduleLemmas.{delivers_store, delivers_to_room, delivers_told, delivers_unread, delivers_unsent, message_at}
 use Rattle.sched_box.proofs.schedules.World.deliver.Goals as goal
 
 pub returns-in_default : goal.returns-in_default

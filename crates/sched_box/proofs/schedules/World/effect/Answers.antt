@@ -1,4 +1,4 @@
-use Rattle.std.proofs.Common.{◌≡◌, ◌∙◌, IfOk, ap, subst, sym}
+use Rattle.std.proofs.Common.{◌∙◌, IfOk, ap, subst, sym}
 use Rattle.ical_values.specs.Octets.{address_octets}
 use Rattle.profile.specs.streams.Worlds.{Storing}
 use Rattle.sched_box.specs.Answering.{octets_each}
