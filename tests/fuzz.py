@@ -113,7 +113,7 @@ organiser mailto:ann@example.com""".split("\n")
 OCTETS = b"\0\t\n\r\x1b !\",.:;=\\\x7f\x80\xbf\xc3\xe2\xff"
 # of the command line
 WORDS = ["serve", "keep", "check", "expand", "explain", "box", "help", "--help", "-h", "--version", "--report", "--certificate", "--limit", "--limit=1", "--", "-", "", ROOM]
-WORDS += ["r1", "no/such/file", "/", ".", *NUMBERS]
+WORDS += ["r1", "no/such/file", ".", *NUMBERS]
 
 # ---- what is spoiled
 
