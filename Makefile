@@ -2,7 +2,7 @@
 RT ?= rt
 EXAMPLE := examples/first-request.ics-stream
 
-.PHONY: try run test attack bench man layout clean
+.PHONY: try run test attack bench fuzz man layout clean
 
 # Answers the first request in about a minute. Nothing is proved this way.
 try:
@@ -51,10 +51,14 @@ bin/schedule_examples: bin/roombox FORCE
 	@-cd crates/schedule_examples && $(RT) run < /dev/null > /dev/null 2> ../../out/build.log
 	@cp crates/schedule_examples/out/schedule_examples bin/schedule_examples || { cat out/build.log; exit 1; }
 
-# One table: serving, reading, rules, checking, schedules and boxes, with sizes, times, peak memory and growth. It takes about half a minute, and then as long as the
-# disk takes for 20,000 answers or more, each synced twice.
+# One table: serving, reading, rules, checking, schedules and boxes, with sizes, times, peak memory and growth. It takes about half a minute, then as
+# long as the disk takes for 20,000 answers or more, each synced twice, and then some minutes for hostile sizes; with LARGE=1 these are up to 1 GB.
 bench: bin/roombox bin/text_examples bin/worked_examples bin/schedule_examples
-	python3 bench/bench.py bin/roombox bin/text_examples bin/worked_examples bin/schedule_examples
+	python3 bench/bench.py bin/roombox bin/text_examples bin/worked_examples bin/schedule_examples $(if $(LARGE),--large)
+
+# Spoiled input for each command, or for COMMAND, for so many SECONDS. A crash, a hang or a status that the manual doesn't list is kept in out/fuzz.
+fuzz: bin/roombox
+	python3 tests/fuzz.py bin/roombox $(if $(SECONDS),--seconds $(SECONDS)) $(if $(COMMAND),--command $(COMMAND)) $(if $(SEED),--seed $(SEED))
 
 # The man page and the bash completion, docs/roombox.1 and docs/roombox.bash, from the program's help.
 man: bin/roombox

@@ -2,7 +2,9 @@
 growth of the time from a tenth of the size. The peak counts the moment before the program begins too, so it is never less than
 this script's own, about 15 MiB.
 
-    python3 bench/bench.py bin/roombox bin/text_examples bin/worked_examples bin/schedule_examples
+    python3 bench/bench.py bin/roombox bin/text_examples bin/worked_examples bin/schedule_examples [--large]
+
+With --large the last table has streams and a calendar of 1 GB (bench/hostile.py).
 """
 
 import os
@@ -600,6 +602,7 @@ def main():
         line(work, 1, seconds, f"{size / seconds / 1e6:.0f} MB/s", peak)
     # their own modules use this one
     from boxes import boxes
+    from hostile import hostile_sizes
     from residues import residues
     from schedules import schedules
     from spans import spans
@@ -608,6 +611,7 @@ def main():
     residues(program)
     schedules(sys.argv[4])
     boxes(program)
+    hostile_sizes(program, "--large" in sys.argv)
 
 
 if __name__ == "__main__":

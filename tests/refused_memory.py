@@ -171,6 +171,7 @@ def main():
         accepted, declined = read("accepted-a"), read("declined-b")
         room = "mailto:r1@example.com"
         decline = read("preamble", "request-a", "request-b-busy")
+        two_series = ("preamble", "request-series-k", "request-series-l")
         kept, certificate = os.path.join(folder, "kept.ics"), os.path.join(folder, "kept.cert")
         open(kept, "wb").write(read("calendar-a"))
         open(certificate, "wb").write(read("certificate-1"))
@@ -178,13 +179,18 @@ def main():
             ("an accepted request", [program, "serve"], read("preamble", "request-a"), [b"", accepted]),
             ("a declined request", [program, "serve"], decline, [b"", accepted, accepted + declined]),
             ("an ADD", [program, "serve"], read("preamble", "add-n-two"), [b"", read("accepted-n-two-instances", "refresh-n")]),
+            ("an ADD that comes again", [program, "serve"], read("preamble", "add-n", "add-n"), [b"", read("accepted-n-instance", "refresh-n"), read("accepted-n-instance", "refresh-n", "accepted-n-instance")]),
             ("a series, and a single in it", [program, "serve"], read("preamble", "request-series-d", "request-behind-the-gap"), [b"", read("accepted-series-d"), read("accepted-series-d", "declined-behind-the-gap")]),
+            ("a monthly and a yearly series", [program, "serve"], read(*two_series), [b"", read("accepted-series-k"), read("accepted-series-k", "accepted-series-l")]),
+            ("their calendar", [program, "keep", room], read(*two_series), [b"", read("calendar-series-k-l")]),
+            ("their certificate", [program, "keep", "--certificate", room], read(*two_series), [b"", read("certificate-series-k-l")]),
             ("a series with an instance of its own", [program, "serve"], read("preamble", "request-series-h-excepted"), [b"", read("accepted-series-h-excepted")]),
             ("a series that is declined", [program, "serve"], read("preamble", "request-series-h"), [b"", read("declined-series-h")]),
             ("the kept calendar of a series", [program, "keep", room], read("preamble", "request-series-h-excepted"), [b"", read("calendar-series-h-excepted")]),
             ("a kept calendar", [program, "keep", room], decline, [b"", read("calendar-a")]),
             ("a kept calendar with a hidden start", [program, "keep", room], read("preamble", "cancel-a-instance-sequence-1", "request-a"), [b"", read("calendar-a-hidden")]),
             ("a store, its second revision and a refresh", [program, "serve"], read("preamble-organiser", "store-s-two", "store-s", "reply-s-1", "refresh-s"), [b"", read("sent-s-two-0"), read("sent-s-two-0", "sent-s-1", "taken-out-r2-1"), read("sent-s-two-0", "sent-s-1", "taken-out-r2-1", "sent-s-1")]),
+            ("a store twice, and replies to it", [program, "serve"], read("preamble-organiser", "store-s", "store-s", "reply-s-2", "reply-s-0"), [b"", read("sent-s-0"), read("sent-s-0", "sent-s-1"), read("sent-s-0", "sent-s-1", "refused-3-71")]),
             ("a meeting that is called off", [program, "serve"], read("preamble-organiser", "store-s-cancelled"), [b"", read("called-off-s-0")]),
             ("a series in a zone that is stored", [program, "serve"], read("preamble-organiser", "store-s-series"), [b"", read("sent-s-series-3")]),
             ("a check", [program, "check", kept, certificate, room], b"", [b"", b"yes\n"]),
