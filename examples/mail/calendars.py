@@ -22,7 +22,7 @@ class Line:
 def split_objects(octets):
     """The objects that stand one after another, cut where roombox cuts a stream. What is behind the last one is an object too; empty lines aren't."""
     ends = [found.end() for found in END.finditer(octets)]
-    pieces = [octets[begin:end] for begin, end in zip([0, *ends], [*ends, len(octets)])]
+    pieces = [octets[begin:end].lstrip(b"\r\n") for begin, end in zip([0, *ends], [*ends, len(octets)])]
     return [piece for piece in pieces if piece.removeprefix(BYTE_ORDER_MARK).strip(b"\r\n")]
 
 
