@@ -340,6 +340,18 @@ def not_told(cases, parent):
     cases.holds("also where no return path was noted", (post.run(), len(post.sent())), ([0, 0, 0], 3))
 
 
+def odd_heads(cases, parent):
+    """A Message-ID of any length comes back as it was; a subject of any letters is one line, without what can't be printed."""
+    post, long = Post(parent), f"<{'a' * 100}@office.example.com>"
+    post.deliver(mail(request("a")).replace("<1@office.example.com>", long).replace("Subject: Meeting 1", "Subject: =?utf-8?b?w7xiZXI=?=\n\tall =?utf-8?q?=00=0A=07Bcc=3A_x=40example=2Ecom?="),
+                 mail(request("b"), number=2).replace("Subject: Meeting 2", "Subject: =?nothing?q?=FF?= \udc80").encode("utf-8", "surrogateescape"))
+    cases.holds("odd heads", post.run(), [0, 0, 0])
+    sent = post.sent()
+    cases.holds("a long Message-ID", (sent[0]["In-Reply-To"].strip(), sent[0]["References"].strip()), (long, long))
+    cases.holds("a subject of two lines", (sent[0]["Subject"], sent[0]["Bcc"]), ("Accepted: über all  Bcc: x@example.com", None))
+    cases.holds("a subject that can't be read", len(sent), 2)
+
+
 # ---- organisers of the box
 
 
@@ -513,7 +525,7 @@ def unstopped(cases, parent):
 
 def main():
     cases = Cases()
-    parts = [producers, again, in_order, no_invitations, several_objects, no_objects, methods, charsets, told, one_notice, not_told, organisers, by_sendmail, stopped_at_each_step,
+    parts = [producers, again, in_order, no_invitations, several_objects, no_objects, methods, charsets, told, one_notice, not_told, odd_heads, organisers, by_sendmail, stopped_at_each_step,
              unstopped, stopped_maildir, stopped_sendmail]
     where = sys.argv[2] if len(sys.argv) > 2 else MEMORY if os.access(MEMORY, os.W_OK) else None
     with tempfile.TemporaryDirectory(dir=where) as parent:

@@ -3,7 +3,11 @@
 import json
 import re
 import subprocess
-from email.message import EmailMessage
+from email import charset, encoders
+from email.header import Header
+from email.mime.base import MIMEBase
+from email.mime.multipart import MIMEMultipart
+from email.mime.text import MIMEText
 from email.utils import formatdate, make_msgid
 
 from adapting import adapted_back
@@ -13,6 +17,8 @@ from wording import FOOTER, no_room_text, plain, refused_text, subject_of, text_
 
 REFUSED = re.compile(rb"^REFUSED;OBJECT=\d+:(\d+)\r?\n", re.MULTILINE)
 TO_ROOMS = ("REQUEST", "ADD", "CANCEL")
+UTF_8 = charset.Charset("utf-8")
+UTF_8.body_encoding = charset.QP
 
 
 # ---- who gets an object
@@ -61,20 +67,37 @@ def speakers_of(octets):
 # ---- a mail
 
 
-def new_mail(sender, speaker, receivers, subject, text, answered):
-    """A mail with a text alone. `answered` is what is known of the mail that it answers, if it does."""
-    mail = EmailMessage()
+def in_header(text):
+    """A stranger's text in a header: one line, without what can't be printed."""
+    return Header("".join(letter for letter in text if letter.isprintable())[:200], "utf-8")
+
+
+def text_part(text):
+    return MIMEText(f"{text}\n\n-- \n{FOOTER}\n", "plain", UTF_8)
+
+
+def calendar_part(octets):
+    """The object, with the octets that it has."""
+    part = MIMEBase("text", "calendar", method=method_of(octets), charset="UTF-8", component="VEVENT")
+    part.set_payload(octets)
+    encoders.encode_base64(part)
+    return part
+
+
+def addressed(mail, sender, speaker, receivers, subject, answered):
+    """The mail with its head. `answered` is what is known of the mail that it answers, if it does.
+
+    The library's older classes are used, since the newer ones read what they are given and fail at some of what strangers write."""
     mail["From"] = speaker
     if speaker != sender:
         mail["Sender"] = sender
     mail["To"] = ", ".join(receivers)
-    mail["Subject"] = subject.encode("utf-8", "replace").decode()
+    mail["Subject"] = in_header(subject)
     mail["Date"] = formatdate()
     mail["Message-ID"] = make_msgid(domain=sender.rpartition("@")[2])
     mail["Auto-Submitted"] = "auto-replied"
     if answered and answered["message_id"]:
         mail["In-Reply-To"] = mail["References"] = answered["message_id"]
-    mail.set_content(f"{text}\n\n-- \n{FOOTER}\n", charset="utf-8")
     return mail
 
 
@@ -87,16 +110,14 @@ def mail_with(octets, message, sender, answered):
     if not receivers:
         return None
     speaker = next((found for found in map(mail_address, speakers_of(octets)) if found), sender)
-    mail = new_mail(sender, speaker, receivers, subject_of(octets, answered["subject"] if answered else ""), text_of(octets), answered)
-    parameters = {"method": method_of(octets), "charset": "UTF-8", "component": "VEVENT"}
-    mail.add_alternative(octets, maintype="text", subtype="calendar", params=parameters)
-    return mail
+    mail = MIMEMultipart("alternative", _subparts=[text_part(text_of(octets)), calendar_part(octets)])
+    return addressed(mail, sender, speaker, receivers, subject_of(octets, answered["subject"] if answered else ""), answered)
 
 
 def notice(complaints, sender, answered):
     """The plain mail that says what was wrong."""
-    texts = "\n\n".join(complaints)
-    return new_mail(sender, sender, [answered["sender"]], f"Not booked: {answered['subject'] or 'your mail'}", texts, answered)
+    subject = f"Not booked: {answered['subject'] or 'your mail'}"
+    return addressed(text_part("\n\n".join(complaints)), sender, sender, [answered["sender"]], subject, answered)
 
 
 # ---- what was wrong
@@ -106,7 +127,7 @@ def explained(roombox, number, message):
     """What roombox says about a refusal: of the object itself where it says the same number, else of the number."""
     of_object = subprocess.run([roombox, "explain"], input=message, capture_output=True)
     if re.match(rb"refused %d\b" % number, of_object.stdout):
-        return of_object.stdout.decode()
+        return of_object.stdout.decode(errors="replace")
     return subprocess.run([roombox, "explain", str(number)], stdin=subprocess.DEVNULL, capture_output=True, text=True).stdout
 
 

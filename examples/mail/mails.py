@@ -5,6 +5,7 @@ import email.policy
 import hashlib
 import re
 from dataclasses import dataclass, field
+from email.errors import MessageError
 from email.header import decode_header, make_header
 from email.utils import collapse_rfc2231_value, getaddresses
 
@@ -12,7 +13,7 @@ from adapting import adapted
 from calendars import method_of, split_objects, with_method
 
 ADDRESS = re.compile(r"[A-Za-z0-9.!#$%&'*+/=?^_`{|}~-]+@[A-Za-z0-9._-]+")
-MESSAGE_ID = re.compile(r"<[^<>\s]+>")
+MESSAGE_ID = re.compile(r"<[!-;=?-~]+>")
 # texts that Python decodes by other means than a charset
 NO_CHARSETS = {"idna", "punycode", "unicode_escape", "raw_unicode_escape"}
 EMPTY = "The calendar part of your mail is empty."
@@ -79,7 +80,7 @@ def header(message, name):
     raw = str(message.get(name, ""))
     try:
         raw = str(make_header(decode_header(raw)))
-    except (LookupError, ValueError):
+    except (LookupError, ValueError, MessageError):
         # it stays as it was written
         pass
     return " ".join(raw.split())

@@ -122,10 +122,10 @@ def no_room_text(octets, rooms):
     named = addresses(octets, "ATTENDEE")
     invited = f"It names {listed(named)}." if named else "It names nobody as an attendee."
     kept = f"The rooms are {listed(rooms)}" if rooms else "There are none"
-    return (f"Your {method_of(octets)} names none of the rooms that are kept here, so nothing was booked and nothing was changed. {invited}\n"
+    return (f"Your {method_of(octets)} names none of the rooms that are kept here, and has booked and changed nothing. {invited}\n"
             f"{kept}. Put the one that you want among the attendees of the meeting, and send it again.")
 
 
 def refused_text(explanation):
     """For an object that roombox refuses, with what it says about that."""
-    return f"The calendar in your mail can't be read, so nothing was booked and nothing was changed:\n\n{explanation.strip()}\n\nMend this, and send it again."
+    return f"A calendar object in your mail was refused, and has booked and changed nothing:\n\n{explanation.strip()}\n\nMend this, and send it again."
