@@ -406,35 +406,48 @@ def by_sendmail(cases, parent):
 # ---- runs that are stopped
 
 
+STEPS = ("rename", "fsync", "unlink", "mkdir", "rmdir", "write")
+FEW = [mail(request("a")), mail(refused("b"), number=2), mail(request("c", "20250310T100000Z") + request("d", "20250310T110000Z"), number=3), mail("", number=4), mail("hello", "text/plain", 5)]
+FEW_SENT = ["Accepted: Meeting 1", "Accepted: Meeting 3", "Accepted: Meeting 3", "Not booked: Meeting 2", "Not booked: Meeting 4"]
+
+
+def with_calls(words, call, inject=()):
+    """Runs the words under strace; the status, and how often they made the call."""
+    with tempfile.NamedTemporaryFile(mode="r") as log:
+        ended = subprocess.run(["strace", "-qq", "-o", log.name, "-e", f"trace={call}", *inject, *words], stdin=subprocess.DEVNULL, capture_output=True)
+        return ended.returncode, sum(line.startswith(f"{call}(") for line in log)
+
+
+def stopped_at(cases, parent, call, how, number):
+    """Stops a run of `take`, and one of `send`, at one call; how many were, and whether the next run does the rest."""
+    post = Post(parent)
+    post.deliver(*FEW)
+    inject = ("-e", f"inject={call}:{how}:when={number}")
+    took = with_calls(post.taking(), call, inject)[0]
+    subprocess.run(post.answering(), check=True)
+    sent = with_calls(post.sending(), call, inject)[0]
+    cases.holds(f"after {call} {number}, {how}", post.run(), [0, 0, 0])
+    found = ([re.search("UID:(.*)", lf(octets))[1] for octets in post.objects()], sorted(message["Subject"] for message in post.sent()), post.left())
+    cases.holds(f"what {call} {number}, {how}, leaves", found, (["a", "b", "c", "d"], FEW_SENT, 0))
+    shutil.rmtree(post.folder)
+    return (took != 0) + (sent != 0)
+
+
 def stopped_at_each_step(cases, parent):
-    """A run of `take`, and one of `send`, is killed at each of its calls that change a folder, one after the other; the next run does the rest."""
+    """A run of `take`, and one of `send`, is killed at each of its calls that change a folder, or the call fails; the next run does the rest."""
     if not shutil.which("strace"):
         print("left out: runs that are stopped at each step (no strace)")
         return
-    mails = [mail(request("a")), mail(refused("b"), number=2), mail(request("c", "20250310T100000Z") + request("d", "20250310T110000Z"), number=3), mail("", number=4), mail("hello", "text/plain", 5)]
-    wanted_objects = ["a", "b", "c", "d"]
-    wanted = sorted(["Accepted: Meeting 1", "Not booked: Meeting 2", "Accepted: Meeting 3", "Accepted: Meeting 3", "Not booked: Meeting 4"])
-
-    def killed_at(words, call, number):
-        return subprocess.run(["strace", "-qq", "-o", "/dev/null", "-e", f"trace={call}", "-e", f"inject={call}:signal=KILL:when={number}", *words], capture_output=True).returncode
-
-    for call in ("rename", "fsync", "unlink", "mkdir", "rmdir", "write"):
-        number, stops = 0, 0
-        while True:
-            number += 1
-            post = Post(parent)
-            post.deliver(*mails)
-            took = killed_at(post.taking(), call, number)
-            subprocess.run(post.answering())
-            sent = killed_at(post.sending(), call, number)
-            stops += (took != 0) + (sent != 0)
-            cases.holds(f"after {call} {number}", post.run(), [0, 0, 0])
-            found = ([re.search("UID:(.*)", lf(octets))[1] for octets in post.objects()], sorted(message["Subject"] for message in post.sent()), post.left())
-            cases.holds(f"what {call} {number} leaves", found, (wanted_objects, wanted, 0))
-            shutil.rmtree(post.folder)
-            if took == sent == 0:
-                break
-        cases.holds(f"{call} stops some runs", stops > 0, True)
+    stops = 0
+    for call in STEPS:
+        post = Post(parent)
+        post.deliver(*FEW)
+        by_take = with_calls(post.taking(), call)[1]
+        subprocess.run(post.answering(), check=True)
+        often = max(by_take, with_calls(post.sending(), call)[1])
+        for number in range(1, often + 1):
+            stops += stopped_at(cases, parent, call, "signal=KILL", number) + stopped_at(cases, parent, call, "error=ENOSPC", number)
+    print(f"{stops} runs stopped at a step")
 
 
 def kind_of(number):

@@ -68,8 +68,9 @@ def speakers_of(octets):
 
 
 def in_header(text):
-    """A stranger's text in a header: one line, without what can't be printed."""
-    return Header("".join(letter for letter in text if letter.isprintable())[:200], "utf-8")
+    """A stranger's text in a header: one line, without what can't be printed. What looks encoded is encoded, so that it is shown as it is."""
+    line = "".join(letter for letter in text if letter.isprintable())[:200]
+    return Header(line, "us-ascii" if line.isascii() and "=?" not in line else "utf-8")
 
 
 def text_part(text):
