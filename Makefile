@@ -2,7 +2,7 @@
 RT ?= rt
 EXAMPLE := examples/first-request.ics-stream
 
-# Where `make install` puts things: below PREFIX, and all of that below DESTDIR, which is the root of the system where it is empty.
+# Where `make install` puts things: below PREFIX, and all of that below DESTDIR, which is the root of the system if it is empty.
 PREFIX ?= /usr/local
 DESTDIR ?=
 PROGRAM ?= bin/roombox

@@ -3,7 +3,7 @@
     python3 tests/installed.py bin/roombox
 
 What is expected is what the Makefile and examples/first-request.replies say. The units of examples/systemd are looked at by systemd-analyze. A test
-that needs dpkg, man or systemd-analyze says so and is left out where there is none. It prints each case that fails, and ends with 1 where one did.
+that needs dpkg, man or systemd-analyze says so and is left out if there is none. It prints each case that fails, and ends with 1 if one did.
 """
 
 import os

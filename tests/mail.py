@@ -4,8 +4,8 @@ invitations, faults and who is told of them, and runs that are stopped.
     python3 tests/mail.py bin/roombox [FOLDER]
 
 tests/mails/ has the eight mails, each beside the object that it brings. What is expected was written by hand, from RFC 5546, RFC 6047, RFC 3834 and
-docs/PROFILE.md, and never from what came out. FOLDER is where the folders of the tests are made; where none is given, it is memory, since each
-mail is synced several times. A test that needs strace says so and is left out where there is none. It prints each case that fails, and ends with 1 where
+docs/PROFILE.md, and never from what came out. FOLDER is where the folders of the tests are made; if none is given, it is memory, since each
+mail is synced several times. A test that needs strace says so and is left out if there is none. It prints each case that fails, and ends with 1 if
 one did.
 """
 
@@ -122,7 +122,7 @@ def lf(octets):
 
 
 def calendar_of(message):
-    """The METHOD that the calendar part's header names, and the lines of its object; None where there is no such part."""
+    """The METHOD that the calendar part's header names, and the lines of its object; None if there is no such part."""
     found = [part for part in message.walk() if part.get_content_type() == "text/calendar"]
     if not found:
         return None
@@ -253,12 +253,12 @@ def no_objects(cases, parent):
 
 
 def methods(cases, parent):
-    """The part's header says the METHOD where the object doesn't; an object that says it needs no header."""
-    post = Post(parent)
-    post.deliver(mail(calendar(*event("a", "20250310T090000Z"), method=None)), mail(request("b"), "text/calendar", 2), mail(request("c"), "text/calendar; method=request", 3),
+    """The part's header says the METHOD if the object doesn't; an object that says it needs no header."""
+    post, event_text = Post(parent), calendar(*event("a", "20250310T090000Z"), method=None)
+    post.deliver(mail(event_text), mail(request("b"), "text/calendar", 2), mail(request("c"), "text/calendar; method=request", 3),
                  mail(calendar(*event("d", "20250310T090000Z"), method=None), "text/calendar; method*=us-ascii'en'REQUEST", 4))
     cases.holds("METHOD of the part", post.run(), [0, 0, 0])
-    wanted = [calendar(*event("a", "20250310T090000Z"), method=None).replace("BEGIN:VCALENDAR\n", "BEGIN:VCALENDAR\nMETHOD:REQUEST\n"), request("b"), request("c"),
+    wanted = [event_text.replace("BEGIN:VCALENDAR\n", "BEGIN:VCALENDAR\nMETHOD:REQUEST\n"), request("b"), request("c"),
               calendar(*event("d", "20250310T090000Z"), method=None).replace("BEGIN:VCALENDAR\n", "BEGIN:VCALENDAR\nMETHOD:REQUEST\n")]
     cases.holds("the objects have it", list(map(lf, post.objects())), wanted)
     # inside a VEVENT it isn't that of the object: roombox would take this for what an organiser stores
@@ -266,6 +266,16 @@ def methods(cases, parent):
     post = Post(parent, f"room mailto:{ROOM}\norganiser mailto:{ANN}\n")
     post.deliver(mail(hidden, "text/calendar"))
     cases.holds("METHOD inside of an event", (post.run(), post.objects(), len(post.sent())), ([0, 0, 0], [], 1))
+    odd = [event_text.replace("BEGIN:VCALENDAR", begin) for begin in ("BEGIN:VCAL\n ENDAR", "begin;x=y:vcalendar", "\ufeff\n\nBEGIN:VCALENDAR")]
+    post = Post(parent)
+    post.deliver(*(mail(text, number=number) for number, text in enumerate(odd)))
+    cases.holds("METHOD behind other forms of BEGIN", (post.run(), [len(re.findall("\nMETHOD:REQUEST\n", octets.decode())) for octets in post.objects()]), ([0, 0, 0], [1, 1, 1]))
+    # behind an END that is folded, or that has a byte order mark, comes another object, without METHOD
+    for what, end, sent in [("folded", request("f").replace("END:VCALENDAR", "END:VCAL\n ENDAR"), ["Accepted: Meeting 1"]), ("marked", "\ufeffEND:VCALENDAR\n", [])]:
+        post = Post(parent, f"room mailto:{ROOM}\norganiser mailto:{ANN}\n")
+        post.deliver(mail(end + calendar(*event("g", "20250310T090000Z"), method=None), "text/calendar"))
+        cases.holds(f"an object behind one whose end is {what}", (post.run(), len(post.objects()), [message["Subject"] for message in post.sent()]),
+                    ([0, 0, 0], len(sent), [*sent, "Not booked: Meeting 1"]))
 
 
 def charsets(cases, parent):
@@ -323,7 +333,7 @@ def one_notice(cases, parent):
 
 
 def not_told(cases, parent):
-    """Nobody is told where a program wrote, a list, nobody, or the box itself; and nobody of a REPLY. Replies to what is right are sent to all of them."""
+    """Nobody is told if a program wrote, a list, nobody, or the box itself; and nobody of a REPLY. Replies to what is right are sent to all of them."""
     forms = [dict(lines=["Auto-Submitted: auto-generated"]), dict(lines=["Auto-Submitted: auto-replied (by x); a=b"]), dict(lines=["List-Id: <all.example.com>"]), dict(path=""),
              dict(sender=ROOM), dict(sender=BOX.upper()), dict(sender="not an address"), dict(lines=["auto-submitted: auto-notified"]), dict(lines=["Auto-Submitted: no", "Auto-Submitted: auto-replied"])]
     post = Post(parent)
@@ -337,7 +347,7 @@ def not_told(cases, parent):
     cases.holds("a person is told", (post.run(), [summary(message)[0] for message in post.sent()]), ([0, 0, 0], [ANN, "bob@example.com"]))
     without = mail(refused("c"), number=3).replace(f"Return-Path: <{ANN}>\n", "")
     post.deliver(without)
-    cases.holds("also where no return path was noted", (post.run(), len(post.sent())), ([0, 0, 0], 3))
+    cases.holds("also if no return path was noted", (post.run(), len(post.sent())), ([0, 0, 0], 3))
 
 
 def odd_heads(cases, parent):

@@ -25,7 +25,7 @@ UTF_8.body_encoding = charset.QP
 
 
 def mail_address(address):
-    """What a mail can be sent to; None where the address isn't one of mail."""
+    """What a mail can be sent to; None if the address isn't one of mail."""
     found = plain(address).split("?")[0]
     return found if address.lower().startswith("mailto:") and ADDRESS.fullmatch(found) else None
 
@@ -103,7 +103,7 @@ def addressed(mail, sender, speaker, receivers, subject, answered):
 
 
 def mail_with(octets, message, sender, answered):
-    """The mail that brings an object to those whom it is for; None where none of them has a mail address."""
+    """The mail that brings an object to those whom it is for; None if none of them has a mail address."""
     receivers = [found for found in map(mail_address, receivers_of(octets, message)) if found]
     if not receivers and answered and answered["sender"]:
         # an organiser without a mail address wrote the mail, or had it written
@@ -125,7 +125,7 @@ def notice(complaints, sender, answered):
 
 
 def explained(roombox, number, message):
-    """What roombox says about a refusal: of the object itself where it says the same number, else of the number."""
+    """What roombox says about a refusal: of the object itself if it says the same number, else of the number."""
     of_object = subprocess.run([roombox, "explain"], input=message, capture_output=True)
     if re.match(rb"refused %d\b" % number, of_object.stdout):
         return of_object.stdout.decode(errors="replace")
@@ -146,7 +146,7 @@ def complaints_about(box, stem, roombox):
 
 
 def answered_by(box, stem):
-    """What is known of the mail that brought this message; None where none did."""
+    """What is known of the mail that brought this message; None if none did."""
     found = box.senders / stem
     return json.loads(found.read_bytes()) if found.exists() else None
 
@@ -171,7 +171,7 @@ def mails_of(box, stem, sender, roombox):
 
 
 def mail_of_faults(box, answered, sender):
-    """The notice of a mail without objects; None where nobody may be told."""
+    """The notice of a mail without objects; None if nobody may be told."""
     if not may_be_written_to(answered["sender"], box, sender):
         return None
     return notice(answered["faults"], sender, answered).as_bytes()

@@ -4,9 +4,11 @@ import re
 from dataclasses import dataclass
 
 BYTE_ORDER_MARK = b"\xef\xbb\xbf"
-# the line that ends an object, whatever its case, where no other line continues it
-END = re.compile(rb"^end:vcalendar\r?(?:\n|\Z)(?![ \t])", re.IGNORECASE | re.MULTILINE)
-FIRST_LINE = re.compile(rb"\A(?:\xef\xbb\xbf)?[\r\n]*begin:vcalendar(?=(\r?\n)(?![ \t]))", re.IGNORECASE)
+# a line with its continuations
+FOLDED = re.compile(rb"[^\n]*(?:\n[ \t][^\n]*)*(?:\n|\Z)")
+FOLD = re.compile(rb"\r?\n[ \t]")
+# the first line of an object, behind a byte order mark and empty lines
+FIRST = re.compile(rb"(?:\xef\xbb\xbf)?[\r\n]*([^\n]*(?:\n[ \t][^\n]*)*\n)")
 NAME = re.compile(r"[^;:]*")
 PARAMETER = re.compile(r';([^=;:"]+)=((?:"[^"]*"|[^";:])*)')
 
@@ -19,9 +21,16 @@ class Line:
     value: str
 
 
+def ends_object(folded):
+    """Whether this is the line that ends an object, whatever its case, also if it is the object's first."""
+    line = FOLD.sub(b"", folded.removeprefix(BYTE_ORDER_MARK).removesuffix(b"\n")).removesuffix(b"\r")
+    return line.lower() == b"end:vcalendar"
+
+
 def split_objects(octets):
-    """The objects that stand one after another, cut where roombox cuts a stream. What is behind the last one is an object too; empty lines aren't."""
-    ends = [found.end() for found in END.finditer(octets)]
+    """The objects that stand one after another, cut as roombox cuts a stream: so none of them hides another one. What is behind the last is an object
+    too; empty lines aren't."""
+    ends = [found.end() for found in FOLDED.finditer(octets) if ends_object(found[0])]
     pieces = [octets[begin:end].lstrip(b"\r\n") for begin, end in zip([0, *ends], [*ends, len(octets)])]
     return [piece for piece in pieces if piece.removeprefix(BYTE_ORDER_MARK).strip(b"\r\n")]
 
@@ -56,14 +65,18 @@ def placed(octets):
 
 
 def method_of(octets):
-    """The METHOD of the calendar itself, in upper case; None where it has none."""
+    """The METHOD of the calendar itself, in upper case; None if it has none."""
     found = [line.value.strip().upper() for line, around in placed(octets) if line.name == "METHOD" and len(around) == 1]
     return found[0] if found else None
 
 
 def with_method(octets, method):
-    """The object with this METHOD behind its first line, where that is its BEGIN."""
-    return FIRST_LINE.sub(lambda begin: begin[0] + begin[1] + f"METHOD:{method}".encode(), octets)
+    """The object with this METHOD behind its first line, if that is a BEGIN; else roombox refuses it in any case."""
+    first = FIRST.match(octets)
+    if not first or not any(line.name == "BEGIN" for line in lines_of(first[1])):
+        return octets
+    ended = b"\r\n" if first[1].endswith(b"\r\n") else b"\n"
+    return octets[:first.end()] + b"METHOD:" + method.encode("ascii", "replace") + ended + octets[first.end():]
 
 
 def events_of(octets):

@@ -39,7 +39,7 @@ def put_for_good(path, octets):
 
 
 def octets_of(path):
-    """None where no file has this name."""
+    """None if no file has this name."""
     try:
         return path.read_bytes()
     except FileNotFoundError:
@@ -61,7 +61,7 @@ class Box:
     """The folder of a box: its `config`, its `inbox` and `outbox`, and `mail`, where this program keeps what it has done.
 
     `mail/known` has an empty file for each mail that was taken in, `mail/senders` a file for each object of one, `mail/faults` one for each mail without
-    objects of which somebody is to be told. `mail/taking` has the mails that are being taken in, `mail/queue` folders of mails that are to be handed
+    objects whose sender is to be told. `mail/taking` has the mails that are being taken in, `mail/queue` folders of mails that are to be handed
     over, and `mail/sent` the name of the last answer whose mails were put there."""
 
     def __init__(self, folder):
@@ -92,5 +92,5 @@ class Box:
         return octets_of(self.outbox / f"{stem}.out") or b""
 
     def sent_until(self):
-        """The last answer whose mails were made; before all others where none was."""
+        """The last answer whose mails were made; before all others if none was."""
         return (octets_of(self.sent) or b"").decode().strip()

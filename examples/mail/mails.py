@@ -1,4 +1,4 @@
-"""What a mail brings (RFC 6047): the objects in it, and who is told where they can't be taken."""
+"""What a mail brings (RFC 6047): the objects in it, and who is told if they can't be taken."""
 
 import email
 import email.policy
@@ -53,7 +53,7 @@ def method_named(part):
 
 
 def calendar_parts(message):
-    """The parts text/calendar. Where one names its METHOD, as RFC 6047 wants it, only those that do: the others are copies for people."""
+    """The parts text/calendar. If one names its METHOD, as RFC 6047 wants it, only those that do: the others are copies for people."""
     parts = [part for part in parts_of(message) if part.get_content_type() == "text/calendar"]
     return [part for part in parts if method_named(part)] or parts
 
@@ -145,7 +145,7 @@ def read_parts(message):
 
 
 def read_mail(octets):
-    """The mail in these octets; None where they can't be read as one."""
+    """The mail in these octets; None if they can't be read as one."""
     try:
         return read_parts(email.message_from_bytes(octets, policy=email.policy.compat32))
     except Exception:

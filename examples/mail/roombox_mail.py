@@ -5,7 +5,7 @@
 
 `take` gives each object of each new mail a name in BOX/inbox, and moves the mail from `new` to `cur`. `send` makes mails of each new file of BOX/outbox
 and hands them over. Between the two `roombox box` is run. Each does what is left of a run that was stopped first, so that no mail is lost and none is
-sent twice. The status is 0, or 1 where something is left that the next run tries again; standard error says what.
+sent twice. The status is 0, or 1 if something is left that the next run tries again; standard error says what.
 """
 
 import argparse
@@ -29,7 +29,7 @@ from mails import read_mail
 AT_ONCE, OCTETS_AT_ONCE = 100, 16_777_216
 STEM = re.compile(r"[0-9]{8}-[0-9]{8}T[0-9]{6}Z")
 MOST_FILES = 99_999_999
-# The shell goes on where this program is killed: a mail that was handed over is out of the queue.
+# The shell goes on if this program is killed: a mail that was handed over is out of the queue.
 HAND_OVER = '"$@" < "$QUEUED" && rm -- "$QUEUED"'
 
 
@@ -144,7 +144,7 @@ def name_objects(box, taken):
 
 
 def note(box, mail):
-    """Leaves whom each object came from, and that the mail is known. Where it has no object, what is wrong is told without one."""
+    """Leaves whom each object came from, and that the mail is known. If it has no object, what is wrong is told without one."""
     stems = [stem for stem, _ in mail["objects"]]
     noted = json.dumps({name: mail[name] for name in ("sender", "subject", "message_id", "faults")} | {"stems": stems}).encode()
     for stem in stems:
@@ -215,7 +215,7 @@ def hand_over(box, hand):
 
 
 def by_sendmail(program, sender, lock):
-    """Hands a mail to a program such as sendmail. The lock stays until it has ended, also where this program is killed."""
+    """Hands a mail to a program such as sendmail. The lock stays until it has ended, also if this program is killed."""
     if not shutil.which(program):
         raise Fault(f"{program} isn't a program")
 
