@@ -13,6 +13,7 @@ from adapting import adapted
 from calendars import method_of, split_objects, with_method
 
 ADDRESS = re.compile(r"[A-Za-z0-9.!#$%&'*+/=?^_`{|}~-]+@[A-Za-z0-9._-]+")
+WORD = re.compile(r"[A-Z-]+")
 MESSAGE_ID = re.compile(r"<[!-;=?-~]+>")
 # texts that Python decodes by other means than a charset
 NO_CHARSETS = {"idna", "punycode", "unicode_escape", "raw_unicode_escape"}
@@ -48,8 +49,8 @@ def parts_of(message):
 
 def method_named(part):
     """The METHOD that the part's own header names, in upper case."""
-    named = part.get_param("method")
-    return collapse_rfc2231_value(named).strip().upper() if named else None
+    named = collapse_rfc2231_value(part.get_param("method") or "").strip().upper()
+    return named if WORD.fullmatch(named) else None
 
 
 def calendar_parts(message):
