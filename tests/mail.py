@@ -416,6 +416,24 @@ def by_sendmail(cases, parent):
 # ---- runs that are stopped
 
 
+def side_by_side(cases, parent):
+    """Nothing gets a name in an inbox that somebody has locked; several runs at once take and send each mail once."""
+    post = Post(parent)
+    post.deliver(mail(request("a")))
+    holding = subprocess.Popen(["flock", str(post.box / "inbox"), "sh", "-c", "echo held; sleep 1"], stdout=subprocess.PIPE)
+    holding.stdout.readline()
+    taking = subprocess.Popen(post.taking(), stdout=subprocess.DEVNULL)
+    time.sleep(0.6)
+    found = post.objects()
+    cases.holds("a locked inbox", (found, holding.wait(), taking.wait(), len(post.objects())), ([], 0, 0, 1))
+    holding.stdout.close()
+    post.deliver(*many_mails(300))
+    for words in (post.taking(), post.answering(), post.sending()):
+        runs = [subprocess.Popen(words, stdout=subprocess.DEVNULL) for _ in range(4)]
+        cases.holds(f"four times {words[2]} at once", [run.wait() for run in runs], [0] * 4)
+    cases.holds("each is sent once", sorted(message["Subject"] for message in post.sent()), sorted(["Accepted: Meeting 1", *expected(300)[1]]))
+
+
 STEPS = ("rename", "fsync", "unlink", "mkdir", "rmdir", "write")
 FEW = [mail(request("a")), mail(refused("b"), number=2), mail(request("c", "20250310T100000Z") + request("d", "20250310T110000Z"), number=3), mail("", number=4), mail("hello", "text/plain", 5)]
 FEW_SENT = ["Accepted: Meeting 1", "Accepted: Meeting 3", "Accepted: Meeting 3", "Not booked: Meeting 2", "Not booked: Meeting 4"]
@@ -548,7 +566,7 @@ def unstopped(cases, parent):
 
 def main():
     cases = Cases()
-    parts = [producers, again, in_order, no_invitations, several_objects, no_objects, methods, charsets, told, one_notice, not_told, odd_heads, organisers, by_sendmail, stopped_at_each_step,
+    parts = [producers, again, in_order, no_invitations, several_objects, no_objects, methods, charsets, told, one_notice, not_told, odd_heads, organisers, by_sendmail, side_by_side, stopped_at_each_step,
              unstopped, stopped_maildir, stopped_sendmail]
     where = sys.argv[2] if len(sys.argv) > 2 else MEMORY if os.access(MEMORY, os.W_OK) else None
     with tempfile.TemporaryDirectory(dir=where) as parent:
