@@ -2,7 +2,19 @@
 RT ?= rt
 EXAMPLE := examples/first-request.ics-stream
 
-.PHONY: try run test attack bench fuzz man layout clean
+# Where `make install` puts things: below PREFIX, and all of that below DESTDIR, which is the root of the system if it is empty.
+PREFIX ?= /usr/local
+DESTDIR ?=
+PROGRAM ?= bin/roombox
+VERSION := 0.1.0
+BELOW = $(DESTDIR)$(PREFIX)
+MAN_PAGE = $(BELOW)/share/man/man1/roombox.1
+COMPLETION = $(BELOW)/share/bash-completion/completions/roombox
+# README, what it leads to, and the examples, with the same folders between them
+DOCUMENTS = $(BELOW)/share/doc/roombox
+DOCUMENT_FILES := README.md CHANGELOG.md $(wildcard docs/*) $(wildcard examples/*.ics* examples/*.replies) $(wildcard examples/mail/*.* examples/systemd/*.*)
+
+.PHONY: try run test attack bench fuzz man layout install uninstall deb clean
 
 # Answers the first request in about a minute. Nothing is proved this way.
 try:
@@ -63,6 +75,33 @@ fuzz: bin/roombox
 # The man page and the bash completion, docs/roombox.1 and docs/roombox.bash, from the program's help.
 man: bin/roombox
 	python3 bench/man_page.py bin/roombox docs
+
+# The program that `make run` has built, its man page, its completion in bash, its documents and its examples. It builds nothing: so it can be run by root.
+install:
+	@test -x $(PROGRAM) || { echo "$(PROGRAM) isn't there: 'make run' proves and builds it" >&2; exit 1; }
+	install -D -m 755 $(PROGRAM) "$(BELOW)/bin/roombox"
+	install -D -m 644 docs/roombox.1 "$(MAN_PAGE)"
+	install -D -m 644 docs/roombox.bash "$(COMPLETION)"
+	@for file in $(DOCUMENT_FILES); do install -D -m 644 $$file "$(DOCUMENTS)/$$file" || exit 1; done
+
+# Takes away what `make install` with the same PREFIX and DESTDIR has put there.
+uninstall:
+	rm -f "$(BELOW)/bin/roombox" "$(MAN_PAGE)" "$(COMPLETION)"
+	rm -rf "$(DOCUMENTS)"
+
+# The same as a package of Debian, in out/; dpkg-deb alone is needed for it.
+deb:
+	@rm -rf out/deb
+	@$(MAKE) --no-print-directory --silent install DESTDIR=out/deb PREFIX=/usr
+	@gzip -9n out/deb/usr/share/man/man1/roombox.1
+	@mkdir out/deb/DEBIAN
+	@{ echo "Package: roombox"; echo "Version: $(VERSION)"; echo "Architecture: $$(dpkg --print-architecture)"; \
+		echo "Maintainer: the makers of roombox <roombox@localhost>"; echo "Depends: libc6"; echo "Suggests: python3"; \
+		echo "Section: mail"; echo "Priority: optional"; echo "Installed-Size: $$(du -sk out/deb/usr | cut -f1)"; \
+		echo "Description: answers meeting requests for rooms without double-booking"; \
+		echo " It reads iCalendar objects and iTIP messages, single meetings and series,"; \
+		echo " and keeps a calendar for each room, which a separate checker judges."; } > out/deb/DEBIAN/control
+	dpkg-deb --root-owner-group --build out/deb out/roombox_$(VERSION)_$$(dpkg --print-architecture).deb
 
 clean:
 	rm -rf bin out crates/*/out
