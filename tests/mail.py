@@ -102,7 +102,7 @@ def request(uid, start="20250310T090000Z", **how):
 
 
 def refused(uid):
-    """A zone that isn't there: 43 in the line of DTSTART, the eighth."""
+    """A zone that isn't there: 43 in the line of DTSTART, the ninth."""
     return calendar(*event(uid, "20250310T090000Z", "DURATION:PT1H")).replace("DTSTART:20250310T090000Z", "DTSTART;TZID=Nowhere:20250310T090000")
 
 
@@ -314,7 +314,7 @@ def told(cases, parent):
     sent = post.sent()
     cases.holds("who is told", [(message["From"], *summary(message), message["In-Reply-To"], message["Auto-Submitted"], calendar_of(message)) for message in sent],
                 [(BOX, ANN, f"Not booked: Meeting {number}", f"<{number}@office.example.com>", "auto-replied", None) for number in (1, 2, 3, 5)])
-    words = ["refused 43 at line 8: DTSTART\n43: no VTIMEZONE has the name that TZID gives. What to do: ", "Your REQUEST names none of the rooms that are kept here",
+    words = ["refused 43 at line 9: DTSTART\n43: no VTIMEZONE has the name that TZID gives. What to do: ", "Your REQUEST names none of the rooms that are kept here",
              "Your CANCEL names none of the rooms that are kept here", "60: METHOD twice, or another word than REQUEST"]
     cases.holds("of what", [word in text_of(message) for word, message in zip(words, sent)], [True] * 4)
     cases.holds("what was named, and what there is", [word in text_of(sent[1]) for word in ("It names room2@example.com.", "The rooms are room1@example.com.")], [True, True])
