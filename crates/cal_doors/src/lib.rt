@@ -1,0 +1,2 @@
+//! The door before a room: VTIMEZONEs in general (RFC 5545 3.6.5), and the zone that one is from an instant on.
+#![tactic(auto)]
