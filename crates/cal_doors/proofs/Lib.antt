@@ -1,1 +1,4 @@
 pub mod SameFrom
+pub mod RunLemmas
+pub mod SameDays
+pub mod Reaches
