@@ -1,12 +1,12 @@
 -- The onsets that a run shares with another of the same rule. For `Run::is_within` and `Run::reach`.
-use Rattle.std.proofs.Common.{◌≡◌, refl, sym, subst, ◌∙◌, arith, ℕ, ◌≤◌, ◌<◌, ◌==◌, ◌&&◌, nat_le, true, ℤ, pos, ◌+ℤ◌, ◌-ℤ◌, ◌≤ℤ◌}
+use Rattle.std.proofs.Common.{◌≡◌, sym, subst, ◌∙◌, arith, ℕ, ◌≤◌, ◌==◌, ◌&&◌, nat_le, true, ℤ, pos, ◌+ℤ◌, ◌-ℤ◌, ◌≤ℤ◌}
 use Rattle.std.specs.Prelude.{Option, Some, None}
 use Rattle.std.specs.Int.Signed.{◌<ℤ◌}
 use Rattle.std.proofs.lemmas.Int.{ints, by_lt_z}
 use Rattle.std.proofs.lemmas.Bool.Decides.{nat_tests}
 use Rattle.profile.specs.series.Rules.{Pattern, is_base}
-use Rattle.profile.specs.series.Zones.{Observance, Onset, IsOnset, IsFirstOf, local_time, begins_on}
-use Rattle.profile.specs.series.GeneralZones.{End, Never, AtInstant, Run, IsRunOnset, IsInTime}
+use Rattle.profile.specs.series.Zones.{Observance, Onset, IsOnset, IsFirstOf, local_time}
+use Rattle.profile.specs.series.GeneralZones.{Never, AtInstant, Run, IsRunOnset, IsInTime}
 use Rattle.cal_doors.specs.Runs.{IsAlike}
 use Rattle.cal_doors.proofs.RunLemmas.{day_order}
 

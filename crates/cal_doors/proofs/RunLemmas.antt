@@ -1,11 +1,11 @@
 -- What is found of one run of onsets. For the methods of `Run`.
-use Rattle.std.proofs.Common.{◌≡◌, refl, sym, subst, ◌∙◌, arith, ℕ, ◌+◌, ◌*◌, ◌/◌, ◌%◌, unsigned_abs, ◌≤◌, ◌<◌, true, ◌&&◌, nat_le, inl, inr, ℤ, pos, ◌+ℤ◌, ◌-ℤ◌, ◌≤ℤ◌, ◌⊎◌, MatchOption}
+use Rattle.std.proofs.Common.{◌≡◌, arith, ℕ, ◌*◌, ◌/◌, ◌%◌, unsigned_abs, ◌≤◌, ◌<◌, inl, inr, ℤ, pos, ◌+ℤ◌, ◌-ℤ◌, ◌≤ℤ◌, ◌⊎◌, MatchOption}
 use Rattle.std.specs.Prelude.{Option, Some, None}
 use Rattle.std.specs.Int.Signed.{◌<ℤ◌}
 use Rattle.std.proofs.lemmas.Int.{ints, by_lt_z}
 use Rattle.jiff_core.proofs.SignedLemmas.{signed_arith, one_part}
-use Rattle.profile.specs.series.Zones.{Observance, Onset, IsOnset, IsLatest, IsFirstOf, NoneBegun, onset_at, local_time, begins_on}
-use Rattle.profile.specs.series.GeneralZones.{End, Run, IsRunOnset}
+use Rattle.profile.specs.series.Zones.{IsOnset, IsLatest, NoneBegun, onset_at, local_time}
+use Rattle.profile.specs.series.GeneralZones.{Run}
 use Rattle.cal_doors.specs.Ends.{IsBound, AreDaysApart}
 use Rattle.cal_doors.specs.Runs.{AreUpTo}
 
@@ -33,3 +33,9 @@ day_order d s e t one other same a b l = omega (arith, ints, same, a, b, l)
 pub whole_days : (one other : ℤ) (n : ℕ) → n ≡ unsigned_abs (one -ℤ other) → n % 86_400 ≡ 0 → AreDaysApart one other
 whole_days one other n e z =
     (n / 86_400, by_lt_z one other (λ lt. inr (omega (arith, signed_arith, lt, e, z, one_part (one -ℤ other)))) (λ ge. inl (omega (arith, signed_arith, ge, e, z, one_part (one -ℤ other)))))
+
+-- an instant after one, and none before another but up to it
+pub at_only : (x instant only : ℤ) → instant <ℤ x → (x ≤ℤ (only -ℤ pos 1) → x ≤ℤ instant) → x ≤ℤ only → x ≡ only
+at_only x instant only later quiet l = by_lt_z x only
+    (λ lt. let q = quiet (omega (arith, ints, lt)) in absurd (omega (arith, ints, q, later)))
+    (λ ge. omega (arith, ints, ge, l))

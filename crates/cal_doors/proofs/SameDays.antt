@@ -1,5 +1,5 @@
 -- Rules of the same day of the year have the same days, whatever their DTSTARTs are. For `Run::is_alike`.
-use Rattle.std.proofs.Common.{◌≡◌, ◌∙◌, sym, refl, subst, ℕ, ◌+◌, ◌*◌, ◌≤◌, ◌<◌, Bool, true, ◌&&◌, nat_le, arith, ℤ, pos, ◌+ℤ◌, ◌⊎◌}
+use Rattle.std.proofs.Common.{◌≡◌, ◌∙◌, refl, ℕ, ◌≤◌, ◌<◌, true, ◌&&◌, nat_le, arith, ℤ}
 use Rattle.std.specs.Prelude.{Option, Some, None}
 use Rattle.std.proofs.lemmas.Bool.Decides.{nat_tests}
 use Rattle.profile.specs.series.Days.{period_of}

@@ -1,10 +1,10 @@
 -- Two sets of onsets that are the same after an instant, and of which the same offset is in force there, are the same from then on. For
 -- `GeneralZone::from_instant`.
-use Rattle.std.proofs.Common.{◌≡◌, refl, sym, ◌∙◌, arith, inl, inr, ℤ, pos, ◌+ℤ◌, ◌-ℤ◌, ◌≤ℤ◌, ◌⊎◌}
+use Rattle.std.proofs.Common.{arith, inl, inr, ℤ, pos, ◌+ℤ◌, ◌≤ℤ◌}
 use Rattle.std.specs.Int.Signed.{◌<ℤ◌}
 use Rattle.std.proofs.lemmas.Int.{ints, by_lt_z}
-use Rattle.profile.specs.series.Zones.{Onset, IsLatest, IsFirstAfter, InForce, Since, Until}
-use Rattle.profile.specs.series.GeneralZones.{ShowsBy, IsShownFirstBy, IsSkippedBy, MeansBy}
+use Rattle.profile.specs.series.Zones.{Onset, IsLatest, InForce, Since, Until}
+use Rattle.profile.specs.series.GeneralZones.{ShowsBy, MeansBy}
 
 -- ---- the offset in force
 

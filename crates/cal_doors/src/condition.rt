@@ -4,7 +4,8 @@ ghost use Rattle.std.specs.Prelude.{◌≡◌, true};
 ghost use Rattle.profile.specs.series.Zones.{Onset};
 ghost use Rattle.profile.specs.series.GeneralZones.{IsRunOnset};
 ghost use Rattle.cal_doors.specs.Runs.{run_of};
-ghost use Rattle.cal_doors.specs.Conditions.{PassesLatest, PassesFirst, PassesOnly, PassesPair};
+ghost use Rattle.cal_zones.specs.Onsets.{observance_of};
+ghost use Rattle.cal_doors.specs.Passing.{PassesLatest, PassesFirst, PassesOnly, PassesPair};
 
 use crate::run::Run;
 
@@ -68,55 +69,71 @@ impl Condition {
         ensures { result ≡ true → (x : Onset) → IsRunOnset (run_of run.now) x → Passes self.now x }
     {
         match self {
-            Condition::Over(last) => run.is_over(last.instant),
-            Condition::Latest(latest) => is_latest(latest, run),
-            Condition::First(first) => is_first(first, run),
-            Condition::Only(only) => is_only(only, run),
-            Condition::Pair(pair) => is_in_pair(pair, run),
+            Condition::Over(c) => run.is_over(c.instant),
+            Condition::Latest(c) => is_latest(run, c.instant, c.latest, c.sets),
+            Condition::First(c) => is_first(run, c.first, c.ends),
+            Condition::Only(c) => is_only(run, c.instant, c.only, c.offset_from, c.offset_to),
+            Condition::Pair(c) => is_in_pair(run, c.instant, &c.one, &c.other),
         }
     }
 }
 
-fn is_latest(condition: &Latest, run: &Run) -> bool
-    ensures { result ≡ true → (x : Onset) → IsRunOnset (run_of run.now) x → PassesLatest condition.now x }
+/// Whether no onset of the run up to an instant is later than the latest one, and those at its instant set that offset.
+fn is_latest(run: &Run, instant: i64, latest: i64, offset: i32) -> bool
+    ensures { result ≡ true → (x : Onset) → IsRunOnset (run_of run.now) x → PassesLatest instant latest offset x }
 {
-    match run.latest_bound(condition.instant) {
-        None => true,
-        Some(bound) if bound < condition.latest => true,
-        Some(bound) => bound == condition.latest && run.offset_to == condition.sets,
-    }
-}
-
-fn is_first(condition: &First, run: &Run) -> bool
-    ensures { result ≡ true → (x : Onset) → IsRunOnset (run_of run.now) x → PassesFirst condition.now x }
-{
-    let bound = run.first_bound();
-    if condition.first < bound {
+    let Some(bound) = run.latest_bound(instant) else {
+        return true;
+    };
+    if bound < latest {
         return true;
     }
-    bound == condition.first && run.offset_from == condition.ends
-}
-
-fn is_only(condition: &Only, run: &Run) -> bool
-    ensures { result ≡ true → (x : Onset) → IsRunOnset (run_of run.now) x → PassesOnly condition.now x }
-{
-    if run.is_over(condition.instant) {
-        return true;
-    }
-    if run.offset_from != condition.offset_from || run.offset_to != condition.offset_to {
+    if latest < bound {
         return false;
     }
-    run.is_over(condition.only) && run.is_quiet(condition.instant, condition.only.saturating_sub(1))
+    run.sets(offset)
 }
 
-fn is_in_pair(condition: &Two, run: &Run) -> bool
-    ensures { result ≡ true → (x : Onset) → IsRunOnset (run_of run.now) x → PassesPair condition.now x }
+/// Whether no onset of the run is earlier than the first one, and those at its instant end that offset.
+fn is_first(run: &Run, first: i64, offset: i32) -> bool
+    ensures { result ≡ true → (x : Onset) → IsRunOnset (run_of run.now) x → PassesFirst first offset x }
 {
-    if run.is_over(condition.instant) {
+    let bound = run.first_bound();
+    if first < bound {
         return true;
     }
-    if run.is_within(&condition.one) {
+    if bound < first {
+        return false;
+    }
+    run.ends(offset)
+}
+
+/// Whether no onset of the run comes after an instant but the one, with those offsets.
+fn is_only(run: &Run, instant: i64, only: i64, from: i32, to: i32) -> bool
+    ensures { result ≡ true → (x : Onset) → IsRunOnset (run_of run.now) x → PassesOnly instant only from to x }
+{
+    if run.is_over(instant) {
         return true;
     }
-    run.is_within(&condition.other)
+    if !run.ends(from) {
+        return false;
+    }
+    if !run.sets(to) {
+        return false;
+    }
+    run.is_alone(instant, only)
+}
+
+/// Whether each onset of the run after an instant is one of the two.
+fn is_in_pair(run: &Run, instant: i64, one: &Run, other: &Run) -> bool
+    ensures { result ≡ true → (x : Onset) → IsRunOnset (run_of run.now) x
+        → PassesPair instant (observance_of one.now.observance) (observance_of other.now.observance) x }
+{
+    if run.is_over(instant) {
+        return true;
+    }
+    if run.is_within(one) {
+        return true;
+    }
+    run.is_within(other)
 }

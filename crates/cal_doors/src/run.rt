@@ -109,6 +109,33 @@ impl Run {
         }
     }
 
+    /// Whether each of its onsets ends that offset.
+    pub(crate) fn ends(&self, offset: i32) -> bool
+        ensures { result ≡ true → (x : Onset) → IsRunOnset (run_of self.now) x → x.before ≡ offset }
+    {
+        self.offset_from == offset
+    }
+
+    /// Whether each of its onsets sets that offset.
+    pub(crate) fn sets(&self, offset: i32) -> bool
+        ensures { result ≡ true → (x : Onset) → IsRunOnset (run_of self.now) x → x.after ≡ offset }
+    {
+        self.offset_to == offset
+    }
+
+    /// Whether none comes after an instant but at a later one.
+    pub(crate) fn is_alone(&self, instant: i64, only: i64) -> bool
+        ensures { result ≡ true → (x : Onset) → IsRunOnset (run_of self.now) x → instant <ℤ x.instant → x.instant ≡ only }
+    {
+        if only <= instant {
+            return false;
+        }
+        if !self.is_quiet(instant, only - 1) {
+            return false;
+        }
+        self.is_over(only)
+    }
+
     /// The same, and those of its rule that come after its end.
     pub(crate) fn endless(&self) -> Run
         ensures observance { result.observance ≡ self.now.observance }

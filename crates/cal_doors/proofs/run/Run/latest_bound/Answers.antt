@@ -1,4 +1,4 @@
-use Rattle.std.proofs.Common.{◌≡◌, rules, to_z, of_z, w64, to_z-of_z}
+use Rattle.std.proofs.Common.{◌≡◌, to_z, of_z, w64, to_z-of_z}
 use Rattle.cal_doors.specs.Runs.{run_of}
 use Rattle.cal_doors.proofs.RunLemmas.{up_to}
 use Rattle.cal_doors.proofs.run.Run.latest_bound.Goals as goal

@@ -1,8 +1,7 @@
 use Rattle.std.proofs.lemmas.Int.{ints}
-use Rattle.std.proofs.Common.{rules, ◌≡◌, sym, subst, ap, arith, ℤ, pos, ◌-ℤ◌, ◌≤ℤ◌, to_z, of_z, w64, to_z-of_z}
+use Rattle.std.proofs.Common.{rules, ◌≡◌, sym, subst, ap, arith, pos, ◌-ℤ◌, to_z, of_z, w64, to_z-of_z}
 use Rattle.jiff_core.proofs.SignedLemmas.{signed_arith}
-use Rattle.profile.specs.series.Zones.{Onset}
-use Rattle.profile.specs.series.GeneralZones.{IsRunOnset, Never}
+use Rattle.profile.specs.series.GeneralZones.{IsRunOnset}
 use Rattle.cal_zones.specs.Onsets.{observance_of}
 use Rattle.cal_doors.specs.Ends.{end_of}
 use Rattle.cal_doors.specs.Runs.{run_of}
