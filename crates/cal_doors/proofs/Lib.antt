@@ -6,3 +6,4 @@ pub mod Left
 pub mod Offsets
 pub mod Afterwards
 pub mod Same
+pub mod General

@@ -19,10 +19,10 @@ module _ (zone : List Run) (instant latest p : ℤ) (x : Onset) (is : IsGeneralO
   pub by_latest : IsOnlyOffset zone instant p
   by_latest = record {
     in_force = Since x (record {
-        listed = is;
-        begun = omega (arith, ints, at, begun);
-        latest = λ y there l. let up = (all y there l).0 in omega (arith, ints, up, at);
-      }) (sym sets);
+      listed = is;
+      begun = omega (arith, ints, at, begun);
+      latest = λ y there l. let up = (all y there l).0 in omega (arith, ints, up, at);
+    }) (sym sets);
     only = only_latest;
   }
 
@@ -38,9 +38,9 @@ module _ (zone : List Run) (instant first p : ℤ) (x : Onset) (is : IsGeneralOn
   pub by_first : IsOnlyOffset zone instant p
   by_first = record {
     in_force = Until x (record {
-        listed = is;
-        ahead = omega (arith, ints, at, ahead);
-        least = λ y there. let l = (all y there).0 in omega (arith, ints, l, at);
-      }) (sym ends);
+      listed = is;
+      ahead = omega (arith, ints, at, ahead);
+      least = λ y there. let l = (all y there).0 in omega (arith, ints, l, at);
+    }) (sym ends);
     only = only_first;
   }

@@ -37,8 +37,8 @@ shared : (o whole : Observance) (first from : ℤ) → IsAlike o whole → IsFir
     → (x : Onset) → IsOnset whole x → from <ℤ x.instant → IsOnset o x
 shared o whole first from like f quiet x is later =
     let past : first ≤ℤ x.instant = by_lt_z x.instant first
-        (λ lt. let q = quiet x (record { is = is; in_time = tt }) (omega (arith, ints, lt)) in absurd (omega (arith, ints, q, later)))
-        (λ ge. ge) in
+    (λ lt. let q = quiet x (record { is = is; in_time = tt }) (omega (arith, ints, lt)) in absurd (omega (arith, ints, q, later)))
+    (λ ge. ge) in
     let r = f.listed.read in
     let s : x.instant +ℤ o.offset_from ≡ local_time is.day o.second = rw (like.before, like.second) is.read in
     let day : f.listed.day ≤ is.day = omega (arith, ints, past, r, s) in

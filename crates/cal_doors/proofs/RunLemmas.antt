@@ -1,11 +1,13 @@
 -- What is found of one run of onsets. For the methods of `Run`.
-use Rattle.std.proofs.Common.{◌≡◌, arith, ℕ, ◌*◌, ◌/◌, ◌%◌, unsigned_abs, ◌≤◌, ◌<◌, inl, inr, ℤ, pos, ◌+ℤ◌, ◌-ℤ◌, ◌≤ℤ◌, ◌⊎◌, MatchOption}
+use Rattle.std.proofs.Common.{◌≡◌, refl, arith, ℕ, ◌*◌, ◌/◌, ◌%◌, unsigned_abs, ◌≤◌, ◌<◌, inl, inr, ℤ, pos, ◌+ℤ◌, ◌-ℤ◌, ◌≤ℤ◌, ◌⊎◌, MatchOption}
 use Rattle.std.specs.Prelude.{Option, Some, None}
 use Rattle.std.specs.Int.Signed.{◌<ℤ◌}
 use Rattle.std.proofs.lemmas.Int.{ints, by_lt_z}
 use Rattle.jiff_core.proofs.SignedLemmas.{signed_arith, one_part}
-use Rattle.profile.specs.series.Zones.{IsOnset, IsLatest, NoneBegun, onset_at, local_time}
-use Rattle.profile.specs.series.GeneralZones.{Run}
+use Rattle.profile.specs.series.Rules.{Pattern}
+use Rattle.profile.specs.series.Zones.{Observance, IsOnset, IsLatest, NoneBegun, onset_at, local_time}
+use Rattle.profile.specs.series.GeneralZones.{Never, Run}
+use Rattle.profile.specs.series.GeneralZoneTexts.{IsRunAt}
 use Rattle.cal_doors.specs.Ends.{IsBound, AreDaysApart}
 use Rattle.cal_doors.specs.Runs.{AreUpTo}
 
@@ -14,9 +16,9 @@ pub up_to : (run : Run) (instant b : ℤ) (result : Option ℤ) → IsBound run.
     → MatchOption result (NoneBegun run.observance b) (λ t. IsLatest (IsOnset run.observance) b (onset_at run.observance t)) → AreUpTo run instant result
 up_to run instant b None bound (first, f, ahead) = λ x is. by_lt_z instant x.instant (λ lt. lt)
     (λ ge.
-        let l = f.least x is.is in
-        let m = bound run.observance is.is.day x.instant ge is.in_time in
-        absurd (omega (arith, ints, ahead, l, m)))
+    let l = f.least x is.is in
+    let m = bound run.observance is.is.day x.instant ge is.in_time in
+    absurd (omega (arith, ints, ahead, l, m)))
 up_to run instant b (Some t) bound latest = λ x is l. latest.latest x is.is (bound run.observance is.is.day x.instant l is.in_time)
 
 -- ---- two runs of one rule
@@ -39,3 +41,22 @@ pub at_only : (x instant only : ℤ) → instant <ℤ x → (x ≤ℤ (only -ℤ
 at_only x instant only later quiet l = by_lt_z x only
     (λ lt. let q = quiet (omega (arith, ints, lt)) in absurd (omega (arith, ints, q, later)))
     (λ ge. omega (arith, ints, ge, l))
+
+-- ---- runs of one onset
+
+abbrev ruled : ℕ → ℕ → Option Pattern → ℤ → ℤ → Run
+ruled day second rule from to = record { observance = record { day = day; second = second; rule = rule; offset_from = from; offset_to = to }; end = Never }
+
+once_is : (day second : ℕ) (rule : Option Pattern) (f t from to : ℤ) → rule ≡ None → f ≡ from → t ≡ to
+    → ruled day second rule f t ≡ ruled day second None from to
+once_is day second rule f t from to e g h = rw (e, g, h) refl
+
+pub once_run : (o p : Observance) (local : ℤ) → p.second < 86_400 → local_time p.day p.second ≡ local → p.rule ≡ None → p.offset_from ≡ o.offset_from → p.offset_to ≡ o.offset_to
+    → IsRunAt o local (record { observance = p; end = Never })
+once_run o p local w at rule from to = record {
+  day = p.day;
+  second = p.second;
+  in_day = w;
+  at = at;
+  is = once_is p.day p.second p.rule p.offset_from p.offset_to o.offset_from o.offset_to rule from to;
+}

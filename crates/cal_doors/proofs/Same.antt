@@ -19,9 +19,10 @@ short p h = omega (arith, signed_arith, h)
 onset_short : (runs : List kept.Run) (x : Onset) → IsGeneralOnset (runs_in runs) x → (x.before ≤ℤ pos 86_399) × (x.after ≤ℤ pos 86_399)
 onset_short [] x (r, (k, w, e), on) = absurd (omega (arith, w))
 onset_short (run ∷ rest) x (r, (zero, w, e), on) =
-    let is = subst (λ s. IsRunOnset s x) (sym e) on in
-    (subst (λ p. p ≤ℤ pos 86_399) (sym is.is.before) (short run.observance.offset_from run.observance.from),
-    subst (λ p. p ≤ℤ pos 86_399) (sym is.is.after) (short run.observance.offset_to run.observance.to))
+    let is = subst (λ s. IsRunOnset s x) (sym e) on in (
+      subst (λ p. p ≤ℤ pos 86_399) (sym is.is.before) (short run.observance.offset_from run.observance.from),
+      subst (λ p. p ≤ℤ pos 86_399) (sym is.is.after) (short run.observance.offset_to run.observance.to),
+    )
 onset_short (run ∷ rest) x (r, (suc k, w, e), on) = onset_short rest x (r, (k, omega (arith, w), e), on)
 
 offset_short : (runs : List kept.Run) (t p : ℤ) → IsGeneralOffsetAt (runs_in runs) t p → p ≤ℤ pos 86_399
@@ -34,13 +35,13 @@ runs_short runs = record { offsets = offset_short runs; onsets = λ x is. (onset
 pub zone_short : (z : Zone) (least greatest : ℤ) → IsBounds z least greatest → IsOffset least → IsOffset greatest → AreShort (IsOffsetAt z) (IsZoneOnset z)
 zone_short z least greatest bounds low high = record {
   offsets = λ t p at. elim (bounds.one t p at) [
-      | inl e ↦ subst (λ q. q ≤ℤ pos 86_399) (sym e) (short least low)
-      | inr e ↦ subst (λ q. q ≤ℤ pos 86_399) (sym e) (short greatest high)
-    ];
+    | inl e ↦ subst (λ q. q ≤ℤ pos 86_399) (sym e) (short least low)
+    | inr e ↦ subst (λ q. q ≤ℤ pos 86_399) (sym e) (short greatest high)
+  ];
   onsets = λ x is. elim (bounds.sides x is) [
-      | inl e ↦ subst (λ q. q ≤ℤ pos 86_399) (sym e.1) (short greatest high)
-      | inr e ↦ subst (λ q. q ≤ℤ pos 86_399) (sym e.1) (short least low)
-    ];
+    | inl e ↦ subst (λ q. q ≤ℤ pos 86_399) (sym e.1) (short greatest high)
+    | inr e ↦ subst (λ q. q ≤ℤ pos 86_399) (sym e.1) (short least low)
+  ];
 }
 
 -- ---- what it means by its offsets and its onsets is what it means
@@ -62,15 +63,17 @@ module _ (zone : List Run) (from k : ℤ) (only : IsOnlyOffset zone from k) wher
 
   by_onsets : (Is : Onset → Type 0) → ((x : Onset) → from <ℤ x.instant → IsGeneralOnset zone x → Is x) → ((x : Onset) → from <ℤ x.instant → Is x → IsGeneralOnset zone x)
       → InForce Is from k → ((q : ℤ) → InForce Is from q → q ≡ k) → (t p : ℤ) → from ≤ℤ t → (IsGeneralOffsetAt zone t p → InForce Is t p) × (InForce Is t p → IsGeneralOffsetAt zone t p)
-  by_onsets Is there back at one t p l =
-      (in_force_later (IsGeneralOnset zone) Is from there back t p l (λ q f. subst (InForce Is from) (sym (only.only q f)) at),
-      in_force_later Is (IsGeneralOnset zone) from back there t p l (λ q f. subst (InForce (IsGeneralOnset zone) from) (sym (one q f)) only.in_force))
+  by_onsets Is there back at one t p l = (
+    in_force_later (IsGeneralOnset zone) Is from there back t p l (λ q f. subst (InForce Is from) (sym (only.only q f)) at),
+    in_force_later Is (IsGeneralOnset zone) from back there t p l (λ q f. subst (InForce (IsGeneralOnset zone) from) (sym (one q f)) only.in_force),
+  )
 
   pub agree : (z : Zone) → HasOnsetsAfter zone from z → IsOffsetAt z from k → IsOneOffset z → Agree z
   agree (Constant c) h at one t p l =
-      let none : (x : Onset) → IsGeneralOnset zone x → x.instant ≤ℤ from = λ x is. by_lt_z from x.instant (λ lt. absurd (h.there x lt is)) (λ ge. ge) in
-      (λ f. only.only p (was (IsGeneralOnset zone) from none t p l f) ∙ at,
-      λ e. kept (IsGeneralOnset zone) from none t p l (subst (InForce (IsGeneralOnset zone) from) (at ∙ sym e) only.in_force))
+      let none : (x : Onset) → IsGeneralOnset zone x → x.instant ≤ℤ from = λ x is. by_lt_z from x.instant (λ lt. absurd (h.there x lt is)) (λ ge. ge) in (
+        λ f. only.only p (was (IsGeneralOnset zone) from none t p l f) ∙ at,
+        λ e. kept (IsGeneralOnset zone) from none t p l (subst (InForce (IsGeneralOnset zone) from) (at ∙ sym e) only.in_force),
+      )
   agree (Single a) h at one t p l = by_onsets (IsZoneOnset (Single a)) h.there h.back at (λ q f. one from q k f at) t p l
   agree (Pair a b) h at one t p l = by_onsets (IsZoneOnset (Pair a b)) h.there h.back at (λ q f. one from q k f at) t p l
 

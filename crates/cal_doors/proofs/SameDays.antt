@@ -31,7 +31,7 @@ same_days o p one other n e f m d from h =
     let t : (nat_le p.day n && is_base (yearly_pattern other.month other.days p.day) n) ≡ true = rw f at h in
     let base : is_base (yearly_pattern other.month other.days p.day) n ≡ true = grind (arith, nat_tests) in
     let same : is_base (yearly_pattern one.month one.days o.day) n ≡ true =
-        rw (m, d) (same_base other.month other.days o.day p.day n ∙ base) in
+    rw (m, d) (same_base other.month other.days o.day p.day n ∙ base) in
     let b : (nat_le o.day n && is_base (yearly_pattern one.month one.days o.day) n) ≡ true = grind (arith, nat_tests) in
     rw e b
 

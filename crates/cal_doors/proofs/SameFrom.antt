@@ -41,12 +41,12 @@ module _ (A B : Onset → Type 0) (from : ℤ)
       by_lt_z from x.instant
       (λ lt. Since x (ahead t x h lt) e)
       (λ ge. stays t p l
-          (λ y is lt. by_lt_z t y.instant (λ q. q) (λ m. let k = h.latest y is m in absurd (omega (arith, ints, k, ge, lt))))
-          (at_from p (Since x (record { listed = h.listed; begun = ge; latest = λ y is m. h.latest y is (omega (arith, ints, m, l)) }) e)))
+      (λ y is lt. by_lt_z t y.instant (λ q. q) (λ m. let k = h.latest y is m in absurd (omega (arith, ints, k, ge, lt))))
+      (at_from p (Since x (record { listed = h.listed; begun = ge; latest = λ y is m. h.latest y is (omega (arith, ints, m, l)) }) e)))
   in_force_later t p l at_from (Until x h e) =
       let later = h.ahead in
       stays t p l (λ y is lt. let k = h.least y is in omega (arith, ints, k, later))
-          (at_from p (Until x (record { listed = h.listed; ahead = omega (arith, ints, later, l); least = h.least }) e))
+      (at_from p (Until x (record { listed = h.listed; ahead = omega (arith, ints, later, l); least = h.least }) e))
 
 -- no onset comes after `from`: what is in force there is in force at each later instant, and nothing else
 module _ (A : Onset → Type 0) (from : ℤ) (none : (x : Onset) → A x → x.instant ≤ℤ from) where

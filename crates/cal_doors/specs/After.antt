@@ -1,8 +1,8 @@
 -- What is found of some runs at an instant, and after it.
-use Rattle.std.specs.Prelude.{◌≡◌, None, List, ℤ, ◌+ℤ◌}
+use Rattle.std.specs.Prelude.{◌≡◌, ◌↔◌, None, List, ℤ, ◌+ℤ◌}
 use Rattle.std.specs.Int.Signed.{◌<ℤ◌}
-use Rattle.profile.specs.series.Zones.{Observance, Onset, Zone, Single, local_time, IsZoneOnset}
-use Rattle.profile.specs.series.GeneralZones.{Run, IsGeneralOnset, IsGeneralOffsetAt}
+use Rattle.profile.specs.series.Zones.{Observance, Onset, Zone, Single, local_time, IsZoneOnset, IsOffsetAt, Means}
+use Rattle.profile.specs.series.GeneralZones.{Run, IsGeneralOnset, IsGeneralOffsetAt, MeansGenerally, runs_of}
 
 -- one offset is in force at an instant
 pub record IsOnlyOffset (zone : List Run) (instant offset : ℤ) : Type 0 where
@@ -22,3 +22,8 @@ pub record IsOnceAt (only from to : ℤ) (zone : Zone) : Type 0 where
   pub local : local_time o.day o.second ≡ only +ℤ from
   pub before : o.offset_from ≡ from
   pub after : o.offset_to ≡ to
+
+-- the zone in general of its runs has the same offset in force, and its local times mean the same
+pub record IsGeneral (z : Zone) : Type 0 where
+  pub offset : (instant offset : ℤ) → IsOffsetAt z instant offset ↔ IsGeneralOffsetAt (runs_of z) instant offset
+  pub meaning : (local t : ℤ) → Means z local t ↔ MeansGenerally (runs_of z) local t

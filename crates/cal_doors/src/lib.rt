@@ -5,10 +5,12 @@ mod after;
 mod check;
 mod condition;
 mod end;
+mod law;
 mod places;
 mod run;
 mod zone;
 
 pub use end::{End, YearDay};
+pub use law::zones_are_general;
 pub use run::Run;
 pub use zone::GeneralZone;

@@ -6,7 +6,7 @@ ghost use Rattle.cal_zones.specs.Onsets.{observance_of};
 ghost use Rattle.cal_doors.specs.Ends.{rule_on, AreDaysApart, AreSameDays};
 
 use crate::end::{End, YearDay};
-use cal_zones::Observance;
+use cal_zones::{Observance, Yearly};
 use ical_values::{DAY_SECONDS, LocalTime, UtcOffset};
 
 /// A run of onsets.
@@ -34,15 +34,17 @@ impl Run {
     ghost use Rattle.profile.specs.series.Zones.{Onset, IsOnset, IsFirstOf, onset_at};
     ghost use Rattle.profile.specs.series.GeneralZones.{IsRunOnset};
     ghost use Rattle.cal_zones.specs.Onsets.{observance_of};
-    ghost use Rattle.cal_doors.specs.Runs.{run_of, AreUpTo, IsAlike, ReachTo};
+    ghost use Rattle.std.specs.Prelude.{◌↔◌, IsSome};
+    ghost use Rattle.profile.specs.series.Zones as said;
+    ghost use Rattle.profile.specs.series.GeneralZoneTexts.{IsRunAt};
+    ghost use Rattle.cal_zones.specs.Shapes.{occurs_yearly};
+    ghost use Rattle.cal_doors.specs.Ends.{end_of};
+    ghost use Rattle.cal_doors.specs.Runs.{IsYearlyRun, run_of, AreUpTo, IsAlike, ReachTo};
     ghost use Rattle.cal_doors.specs.declared.end.End.TheVariants.{Never};
 
     /// The run of one onset, at a local time that is read with TZOFFSETFROM.
     pub fn once(start: LocalTime, from: UtcOffset, to: UtcOffset) -> Run
-        ensures start { result.start ≡ start }
-        ensures each { result.each ≡ None }
-        ensures from { result.offset_from ≡ from }
-        ensures to { result.offset_to ≡ to }
+        ensures run { (o : said.Observance) → o.offset_from ≡ from → o.offset_to ≡ to → IsRunAt o start (run_of result) }
     {
         Run {
             observance: Observance::new(start, None, from, to),
@@ -52,6 +54,28 @@ impl Run {
             offset_to: to.seconds(),
             end: End::Never,
         }
+    }
+
+    /// The run of one day a year from a DTSTART on, up to an end. None where a year lacks the day or has two of it.
+    pub fn yearly(
+        start: LocalTime,
+        each: YearDay,
+        from: UtcOffset,
+        to: UtcOffset,
+        end: End,
+    ) -> Option<Run>
+        ensures run { IfSome result (λ run. IsYearlyRun start each from to (end_of end) (run_of run)) }
+        ensures found { IsSome result ↔ (occurs_yearly each.month each.days ≡ true) }
+    {
+        let rule = Yearly::new(each.month, each.days)?;
+        Some(Run {
+            observance: Observance::new(start, Some(rule), from, to),
+            start,
+            each: Some(each),
+            offset_from: from.seconds(),
+            offset_to: to.seconds(),
+            end,
+        })
     }
 
     /// No onset up to an instant is later than this. None where there is none up to it.

@@ -40,9 +40,9 @@ pub record IsRunAt (o : Observance) (local : ℤ) (run : Run) : Type 0 where
   pub in_day : second < 86_400
   pub at : local_time day second ≡ local
   pub is : run ≡ record {
-      observance = record { day = day; second = second; rule = None; offset_from = o.offset_from; offset_to = o.offset_to };
-      end = Never;
-    }
+    observance = record { day = day; second = second; rule = None; offset_from = o.offset_from; offset_to = o.offset_to };
+    end = Never;
+  }
 
 -- ---- RRULE
 

@@ -18,5 +18,5 @@ returns c =
     let instant = to_z-of_z c.ranges.instant in
     let begun : latest ≤ℤ c.args.instant = omega (arith, signed_arith, cast, instant, c.if-instant-latest.false) in
     rw sets (by_latest (runs_in c.args.runs.now) c.args.instant latest run.offset_to (onset_at (observance_of run.observance) latest)
-        (run_of run, at_index c.args.runs.now c.args.place run c.in_ok-run.ensures.lookup.3.0 c.in_ok-run.ensures.lookup.1, rw cast at (c.begins_at.ensures c.if-not-begins_at.false)) refl run.after begun
-        (rw (cast, sets, instant) at (c.all_hold.ensures c.if-not-all_hold.false)))
+    (run_of run, at_index c.args.runs.now c.args.place run c.in_ok-run.ensures.lookup.3.0 c.in_ok-run.ensures.lookup.1, rw cast at (c.begins_at.ensures c.if-not-begins_at.false)) refl run.after begun
+    (rw (cast, sets, instant) at (c.all_hold.ensures c.if-not-all_hold.false)))

@@ -18,5 +18,5 @@ returns c =
     let instant = to_z-of_z c.ranges.instant in
     let ahead : c.args.instant <ℤ first = omega (arith, signed_arith, cast, instant, c.if-first-instant.false) in
     rw ends (by_first (runs_in c.args.runs.now) c.args.instant first run.offset_from (onset_at (observance_of run.observance) first)
-        (run_of run, at_index c.args.runs.now c.args.place run c.in_ok-run.ensures.lookup.3.0 c.in_ok-run.ensures.lookup.1, rw cast at (c.begins_at.ensures c.if-not-begins_at.false)) refl run.before ahead
-        (rw (cast, ends) at (c.all_hold.ensures c.if-not-all_hold.false)))
+    (run_of run, at_index c.args.runs.now c.args.place run c.in_ok-run.ensures.lookup.3.0 c.in_ok-run.ensures.lookup.1, rw cast at (c.begins_at.ensures c.if-not-begins_at.false)) refl run.before ahead
+    (rw (cast, ends) at (c.all_hold.ensures c.if-not-all_hold.false)))

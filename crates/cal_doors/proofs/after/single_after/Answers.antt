@@ -21,5 +21,5 @@ returns c =
     let all = rw (cast, ends, sets, to_z-of_z c.ranges.instant) at (c.all_hold.ensures c.if-not-all_hold.false) in
     some_map c.once_at.result (λ z. IsOnceAt only run.offset_from run.offset_to (zone_of z)) (λ z. HasOnsetsAfter zone c.args.instant (zone_of z))
     (λ z once. one_onset zone c.args.instant only run.offset_from run.offset_to (zone_of z) (onset_at (observance_of run.observance) only)
-        (run_of run, at_index c.args.runs.now c.args.place run c.in_ok-run.ensures.lookup.3.0 c.in_ok-run.ensures.lookup.1, rw cast at (c.begins_at.ensures c.if-not-begins_at.false)) refl run.before run.after all once)
+    (run_of run, at_index c.args.runs.now c.args.place run c.in_ok-run.ensures.lookup.3.0 c.in_ok-run.ensures.lookup.1, rw cast at (c.begins_at.ensures c.if-not-begins_at.false)) refl run.before run.after all once)
     (rw (cast, ends, sets) at c.once_at.ensures)

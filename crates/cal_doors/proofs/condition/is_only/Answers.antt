@@ -8,6 +8,8 @@ returns-then-is_over c = λ _ x is later.
     absurd (omega (arith, ints, q, later))
 
 pub returns : goal.returns
-returns c = λ h x is later.
-    ((rw (to_z-of_z c.ranges.instant, to_z-of_z c.ranges.only) at (c.is_alone.ensures h)) x is later,
-    (rw (to_z-of_z c.ranges.from) at (c.ends.ensures c.if-not-ends.false)) x is, (rw (to_z-of_z c.ranges.to) at (c.sets.ensures c.if-not-sets.false)) x is)
+returns c = λ h x is later. (
+  (rw (to_z-of_z c.ranges.instant, to_z-of_z c.ranges.only) at (c.is_alone.ensures h)) x is later,
+  (rw (to_z-of_z c.ranges.from) at (c.ends.ensures c.if-not-ends.false)) x is,
+  (rw (to_z-of_z c.ranges.to) at (c.sets.ensures c.if-not-sets.false)) x is,
+)

@@ -30,5 +30,5 @@ returns-in-At c =
     let quiet = rw (cast, back, to_z-of_z c.ranges.from) at (c.is_quiet.ensures c.if-not-is_quiet.false) in
     let there : to_z w64 (of_z w64 c.in-At.until) ≡ c.in-At.until = to_z-of_z {w = w64} (search rules) in
     rw there (reach_until (run_of c.args.self.now) (observance_of whole.observance) first c.args.from (c.is_alike.ensures c.if-not-is_alike.false) e.first
-        (λ x is l. quiet x (subst (λ end. IsRunOnset (record { observance = observance_of whole.observance; end = end_of end }) x) (sym c.requires) is) l)
-        c.in-At.until c.in-At.until (ap end_of c.in-At.is) (λ _. omega (arith, ints)))
+    (λ x is l. quiet x (subst (λ end. IsRunOnset (record { observance = observance_of whole.observance; end = end_of end }) x) (sym c.requires) is) l)
+    c.in-At.until c.in-At.until (ap end_of c.in-At.is) (λ _. omega (arith, ints)))
