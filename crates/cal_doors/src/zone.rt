@@ -5,6 +5,7 @@ use crate::run::Run;
 use cal_zones::Zone;
 
 /// A zone in general: runs of onsets.
+#[derive(Drop)]
 pub struct GeneralZone {
     pub(crate) runs: Vec<Run>,
 }
