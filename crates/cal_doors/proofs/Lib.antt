@@ -7,3 +7,4 @@ pub mod Offsets
 pub mod Afterwards
 pub mod Same
 pub mod General
+mod Examples
