@@ -1,10 +1,10 @@
 -- Worked zones in general, by the definitions alone: onsets of RDATE, COUNT and UNTIL.
-use Rattle.std.proofs.Common.{◌≡◌, refl, ℕ, [], ◌∷◌, Some, None, true, ℤ, pos, negsuc}
+use Rattle.std.proofs.Common.{◌≡◌, refl, [], ◌∷◌, Some, None, true, pos, negsuc}
 use Rattle.profile.specs.series.Days.{Yearly, day_index, greatest, year_of, month_of, year_days_before, year_days_after, month_days_before, month_days_after, weekday_of, period_of, days_of_months}
-use Rattle.profile.specs.series.Rules.{Pattern, RuleText, UntilLocal, UntilInstant, count_days, is_base, is_in_step, passes, passes_month, passes_month_day, passes_weekday}
-use Rattle.profile.specs.series.ZoneTexts.{YearRule, FromEnd, FromStart, is_one_day, year_pattern}
+use Rattle.profile.specs.series.Rules.{RuleText, UntilLocal, UntilInstant, count_days, is_base, is_in_step, passes, passes_month, passes_month_day, passes_weekday}
+use Rattle.profile.specs.series.ZoneTexts.{FromEnd, FromStart, is_one_day, year_pattern}
 use Rattle.profile.specs.series.Zones.{Observance, begins_on}
-use Rattle.profile.specs.series.GeneralZones.{Run, Never, AtInstant, AfterCount, IsRunOnset}
+use Rattle.profile.specs.series.GeneralZones.{Never, AtInstant, AfterCount, IsRunOnset}
 use Rattle.profile.specs.series.GeneralZoneTexts.{without_end, IsEndOf}
 
 -- DTSTART:19700426T070000, RDATE:19700426T070000, from +0000 to -0400: the onset is at 1970-04-26T07:00:00Z
