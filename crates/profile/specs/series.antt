@@ -6,4 +6,6 @@ pub mod Periods
 pub mod RuleTexts
 pub mod Zones
 pub mod ZoneTexts
+pub mod GeneralZones
+pub mod GeneralZoneTexts
 pub mod Residues

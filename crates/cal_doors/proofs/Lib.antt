@@ -1,0 +1,10 @@
+pub mod SameFrom
+pub mod RunLemmas
+pub mod SameDays
+pub mod Reaches
+pub mod Left
+pub mod Offsets
+pub mod Afterwards
+pub mod Same
+pub mod General
+mod Examples

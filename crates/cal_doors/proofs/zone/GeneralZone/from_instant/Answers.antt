@@ -1,0 +1,22 @@
+use Rattle.std.proofs.Common.{rules, ◌≡◌, subst, to_z-of_z, w32, SFits}
+use Rattle.cal_zones.specs.Kinds.{zone_of}
+use Rattle.cal_zones.proofs.Casts.{same_offset}
+use Rattle.profile.specs.series.Zones.{IsOffsetAt}
+use Rattle.cal_doors.specs.Runs.{runs_in}
+use Rattle.cal_doors.proofs.Same.{same, runs_short, zone_short}
+use Rattle.cal_doors.proofs.zone.GeneralZone.from_instant.Goals as goal
+
+pub returns : goal.returns
+returns c =
+    let runs = c.args.self.now.runs.items in
+    let items = c.as_slice-runs.ensures.value in
+    let instant = to_z-of_z c.ranges.instant in
+    let k = c.in_ok-offset.offset in
+    let z = zone_of c.in_ok-zone.zone in
+    let fits : SFits w32 k = search rules in
+    let eq : c.offset.result ≡ k = same_offset c.offset.result k c.offset.ensures.range fits c.if-offset.false in
+    let at : IsOffsetAt z c.args.instant k = subst (IsOffsetAt z c.args.instant) eq (rw instant at c.offset.ensures.offset) in
+    record {
+      same = same (runs_in runs) c.args.instant k (rw (items, instant) at c.in_ok-offset.ensures) z (rw (items, instant) at c.in_ok-zone.ensures) at c.one_meaning.ensures.offset
+          (runs_short runs) (zone_short z c.offsets.result.0 c.offsets.result.1 c.offsets.ensures.bounds c.offsets.ensures.range.0 c.offsets.ensures.range.1);
+    }

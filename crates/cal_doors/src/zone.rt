@@ -1,0 +1,44 @@
+//! A zone in general, and the zone of the accepted form that it is from an instant on.
+
+use crate::after::{offset_at, zone_after};
+use crate::run::Run;
+use cal_zones::Zone;
+
+/// A zone in general: runs of onsets.
+#[derive(Drop)]
+pub struct GeneralZone {
+    pub(crate) runs: Vec<Run>,
+}
+
+impl GeneralZone {
+    ghost use Rattle.std.specs.Prelude.{◌≡◌, IfSome};
+    ghost use Rattle.profile.specs.series.GeneralZones.{IsSameFrom};
+    ghost use Rattle.cal_zones.specs.Kinds.{zone_of};
+    ghost use Rattle.cal_doors.specs.Runs.{runs_in};
+    ghost use Rattle.cal_doors.specs.Found.{general_of};
+
+    /// The zone of those runs.
+    pub fn of(runs: Vec<Run>) -> GeneralZone
+        ensures { general_of result ≡ runs_in runs.items }
+    {
+        GeneralZone { runs }
+    }
+
+    /// The zone of the accepted form that does the same from an instant on: the same offset is in force at each instant, and each local time that no
+    /// clock shows before it means the same. None where none is found. It is one offset where no onset comes after the instant, a
+    /// single where one comes, and a pair where all that come are those of two endless rules.
+    pub fn from_instant(&self, instant: i64) -> Option<Zone>
+        ensures same { IfSome result (λ zone. IsSameFrom (general_of self.now) (zone_of zone) instant) }
+    {
+        let runs = self.runs.as_slice();
+        let offset = offset_at(runs, instant)?;
+        let zone = zone_after(runs, instant, offset)?;
+        if zone.offset(instant) != offset {
+            return None;
+        }
+        // Only for the proof: one offset is in force in it, and none is a day or more.
+        zone.one_meaning();
+        let _ = zone.offsets();
+        Some(zone)
+    }
+}

@@ -1,0 +1,86 @@
+-- Zones in general: a VTIMEZONE with any number of observances, which begin by DTSTART, by RDATE and by yearly rules that may end
+-- (RFC 5545 3.6.5). What a local time means is said here of any onsets and offsets, those of Zones.antt among them.
+use Rattle.std.specs.Prelude.{◌≡◌, ℕ, ◌+◌, ◌-◌, ◌≤◌, ◌⊎◌, Contains, List, [], ◌∷◌, ℤ, pos, ◌+ℤ◌, ◌≤ℤ◌}
+use Rattle.std.specs.Int.Signed.{◌<ℤ◌}
+use Rattle.profile.specs.series.Rules.{count_days}
+use Rattle.profile.specs.series.Zones.{Observance, Zone, Constant, Single, Pair, Onset, IsOnset, begins_on, InForce, IsOffsetAt, Means}
+
+-- WHAT IS WRITTEN
+
+-- where the onsets of a rule end: never, after so many of them, or with the last one up to an instant (RFC 5545 3.3.10, COUNT and UNTIL)
+pub data End : Type 0 where
+  Never : End
+  AfterCount : ℕ → End
+  AtInstant : ℤ → End
+
+-- a run of onsets: those of an observance, up to an end. A zone in general is a list of runs: STANDARD or DAYLIGHT is the run of its
+-- DTSTART or of its RRULE, and one more for each local time of its RDATEs
+pub record Run : Type 0 where
+  pub observance : Observance
+  pub end : End
+
+-- ONSETS
+
+-- the onset on that day, at that instant, isn't past the end. COUNT counts from the first onset of the rule on
+abbrev pub IsInTime : End → Observance → ℕ → ℤ → Type 0
+IsInTime Never o day instant = Unit {0}
+IsInTime (AfterCount count) o day instant = count_days (begins_on o) o.day (day + 1 - o.day) ≤ count
+IsInTime (AtInstant until) o day instant = instant ≤ℤ until
+
+-- an onset of a run
+pub record IsRunOnset (run : Run) (onset : Onset) : Type 0 where
+  pub is : IsOnset run.observance onset
+  pub in_time : IsInTime run.end run.observance is.day onset.instant
+
+-- the onsets of a zone are those of its runs
+abbrev pub IsGeneralOnset : List Run → Onset → Type 0
+IsGeneralOnset zone onset = (run : Run) × Contains zone run × IsRunOnset run onset
+
+-- the offset of a zone at an instant: of the latest onset, and before every onset what the first one ends (RFC 5545 3.6.5)
+abbrev pub IsGeneralOffsetAt : List Run → ℤ → ℤ → Type 0
+IsGeneralOffsetAt zone instant offset = InForce (IsGeneralOnset zone) instant offset
+
+-- WHAT A LOCAL TIME MEANS
+-- Its definitions are about any offsets at instants, `At`, and any onsets, `Is`.
+
+-- at this instant the clocks show this local time
+abbrev pub ShowsBy : (ℤ → ℤ → Type 0) → ℤ → ℤ → Type 0
+ShowsBy At instant local = (offset : ℤ) × At instant offset × (instant +ℤ offset ≡ local)
+
+-- the least instant at which they show it: the first of two where the local time occurs twice
+pub record IsShownFirstBy (At : ℤ → ℤ → Type 0) (local instant : ℤ) : Type 0 where
+  pub shown : ShowsBy At instant local
+  pub least : (other : ℤ) → ShowsBy At other local → instant ≤ℤ other
+
+-- no instant shows it, since an onset sets the clocks from before it to after it; it is then read with the offset before that onset
+pub record IsSkippedBy (At : ℤ → ℤ → Type 0) (Is : Onset → Type 0) (local instant : ℤ) : Type 0 where
+  pub never : (other : ℤ) → ShowsBy At other local → ⊥
+  pub onset : Onset
+  pub listed : Is onset
+  pub set_from : (onset.instant +ℤ onset.before) ≤ℤ local
+  pub set_past : local <ℤ (onset.instant +ℤ onset.after)
+  pub read : instant +ℤ onset.before ≡ local
+
+-- the instant that a local time means (RFC 5545 3.3.5)
+abbrev pub MeansBy : (ℤ → ℤ → Type 0) → (Onset → Type 0) → ℤ → ℤ → Type 0
+MeansBy At Is local instant = IsShownFirstBy At local instant ⊎ IsSkippedBy At Is local instant
+
+-- what it means in a zone in general
+abbrev pub MeansGenerally : List Run → ℤ → ℤ → Type 0
+MeansGenerally zone local instant = MeansBy (IsGeneralOffsetAt zone) (IsGeneralOnset zone) local instant
+
+-- THE ZONES OF ONE OBSERVANCE OR TWO
+
+-- the runs that they are
+abbrev pub runs_of : Zone → List Run
+runs_of (Constant _) = []
+runs_of (Single a) = record { observance = a; end = Never } ∷ []
+runs_of (Pair a b) = record { observance = a; end = Never } ∷ record { observance = b; end = Never } ∷ []
+
+-- such a zone does the same as a zone in general from an instant on: the same offset is in force at each instant, and each local time that no
+-- clock shows before it means the same. No offset is a day or more
+pub record IsSameFrom (zone : List Run) (other : Zone) (from : ℤ) : Type 0 where
+  pub offset_there : (instant offset : ℤ) → from ≤ℤ instant → IsGeneralOffsetAt zone instant offset → IsOffsetAt other instant offset
+  pub offset_back : (instant offset : ℤ) → from ≤ℤ instant → IsOffsetAt other instant offset → IsGeneralOffsetAt zone instant offset
+  pub means_there : (local t : ℤ) → (from +ℤ pos 86_399) ≤ℤ local → MeansGenerally zone local t → Means other local t
+  pub means_back : (local t : ℤ) → (from +ℤ pos 86_399) ≤ℤ local → Means other local t → MeansGenerally zone local t
