@@ -33,6 +33,8 @@ from zoneinfo import ZoneInfo
 
 from dateutil.rrule import rrulestr
 
+from organisers_by_model import folded
+
 EPOCH = datetime(1970, 1, 1)
 MOST = 2_147_483_647
 HEAD = ["BEGIN:VCALENDAR", "VERSION:2.0", "PRODID:-//iTIP room box//EN"]
@@ -201,22 +203,6 @@ class Message:
 
 
 # ---- writing
-
-
-def folded(lines):
-    """Each line in physical lines of at most 75 octets, no character split."""
-    out = bytearray()
-    for line in lines:
-        size = 0
-        for character in line:
-            octets = character.encode()
-            if size + len(octets) > 75:
-                out += b"\r\n "
-                size = 1
-            out += octets
-            size += len(octets)
-        out += b"\r\n"
-    return bytes(out)
 
 
 def with_zones(method, blocks):
