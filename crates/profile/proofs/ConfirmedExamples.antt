@@ -3,6 +3,7 @@ use Rattle.std.proofs.Common.{◌≡◌, ◌∙◌, ℕ, zero, suc, true, false,
 use Rattle.std.specs.Prelude.{Option, Some, None, Contains, Bool, is_some}
 use Rattle.std.proofs.lemmas.Bool.{false≢true}
 use Rattle.std.proofs.lemmas.Int.{ints}
+use Rattle.profile.specs.events.Properties.{Fixed}
 use Rattle.profile.specs.events.EventComponents.{EventComponent, Participation, Accepted, Declined}
 use Rattle.profile.specs.events.Starts.{key_at}
 use Rattle.profile.specs.events.Confirmed.{is_kept, is_series, IsInstanceAmong, IsConfirmed, MastersDiffer, OverridesDiffer}
@@ -19,10 +20,11 @@ event recurrence start answer cancelled = record {
   sequence = 0;
   cancelled = cancelled;
   recurrence = recurrence;
-  times = record { zone = None; local = start; start = start; length = record { days = 0; seconds = 1 } };
+  times = record { form = Fixed; zone = None; local = start; start = start; length = record { days = 0; seconds = 1 } };
   rule = None;
   additions = pos 200 ∷ [];
   exceptions = [];
+  written = record { recurrence = None; additions = record { form = Fixed; instant = pos 200 } ∷ []; exceptions = [] };
   summary = [];
   attendees = record { address = room; participation = answer; scheduled = true } ∷ [];
 }

@@ -4,6 +4,7 @@ use Rattle.std.specs.Prelude.{Some, None}
 use Rattle.std.proofs.lemmas.Int.{ints}
 use Rattle.std.proofs.lemmas.Bool.{true≢false}
 use Rattle.std.proofs.lemmas.List.Elements.{All-from_recursion}
+use Rattle.profile.specs.events.Properties.{Fixed}
 use Rattle.profile.specs.series.Days.{Daily, Weekly, days_before_year, days_of_months, greatest, year_of, month_of, year_days_before, year_days_after, month_days_before, month_days_after, weekday_of, period_of}
 use Rattle.profile.specs.text.Trees.{Tree}
 use Rattle.profile.specs.text.Values.{SpellsStamp}
@@ -93,7 +94,7 @@ before_the_first_day = record {
 -- ---- what RRULE says: FREQ=DAILY;COUNT=3
 
 abbrev times : EventTimes
-times = record { zone = None; local = pos 1_741_597_200; start = pos 1_741_597_200; length = record { days = 0; seconds = 3600 } }
+times = record { form = Fixed; zone = None; local = pos 1_741_597_200; start = pos 1_741_597_200; length = record { days = 0; seconds = 3600 } }
 
 three_days : RuleText
 three_days = record {
@@ -216,6 +217,7 @@ a_monday_of_tuesdays object = starts_outside (
     codes "RRULE:FREQ=WEEKLY;BYDAY=TU",
     (0, lit< tt, refl),
     record {
+      form = Fixed;
       zone = None;
       local = pos 1_741_597_200;
       says = (refl, nine);

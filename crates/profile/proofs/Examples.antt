@@ -10,9 +10,9 @@ use Rattle.profile.specs.checker.Calendars.{CalendarTextFault, in_lines, in_tree
 use Rattle.profile.specs.text.Trees.{Tree, tree, none, more, vevents}
 use Rattle.profile.specs.text.Values.{unescaped}
 use Rattle.profile.specs.events.EventComponents.{Method, Store, Request, Add, Cancel, Reply, may_lack_start, EventComponent, Participation, Accepted, Declined, NeedsAction, answer_named, answer_of, is_by_server, summary_of}
-use Rattle.profile.specs.events.Properties.{lines_named}
+use Rattle.profile.specs.events.Properties.{Fixed, lines_named}
 use Rattle.profile.specs.rooms.Revisions.{Part, Whole, At, Set, Absent, Cancelled, same_meeting}
-use Rattle.profile.specs.events.Events.{Event, taken_by}
+use Rattle.profile.specs.events.Events.{start_written, Event, taken_by}
 use Rattle.profile.specs.events.Messages.{Message, NamesMethod}
 use Rattle.profile.specs.rooms.Messages.{Accept, SinglesLimit, no_content, list_lines, is_in_dates, cancels, is_addressed, parts_for, revision_beside, IsBody, object_lines, word}
 use Rattle.profile.specs.checker.Instances.{Instance}
@@ -107,7 +107,8 @@ event_with first second = record {
   recurrence = None;
   additions = [];
   exceptions = [];
-  times = record { zone = None; local = pos 100; start = pos 100; length = record { days = 1; seconds = 1 } };
+  written = record { recurrence = None; additions = []; exceptions = [] };
+  times = record { form = Fixed; zone = None; local = pos 100; start = pos 100; length = record { days = 1; seconds = 1 } };
   rule = None;
   summary = [];
   attendees = record { address = codes "r:1"; participation = first; scheduled = true } ∷ record { address = codes "r:1"; participation = second; scheduled = true } ∷ [];
@@ -202,10 +203,10 @@ a_cancel_of_another_instance = refl
 an_add_has_all_instances : parts_for (codes "r:1") (of_events Add (event_of_nobody ∷ instance ∷ [])) ≡ event_of_nobody ∷ instance ∷ []
 an_add_has_all_instances = refl
 
-an_add_takes_its_start : taken_by (Some Add) (instance ∷ []) ≡ record instance { recurrence = Some (pos 100) } ∷ []
+an_add_takes_its_start : taken_by (Some Add) (instance ∷ []) ≡ record instance { recurrence = Some (pos 100); written = record instance.written { recurrence = Some (start_written instance) } } ∷ []
 an_add_takes_its_start = refl
 
-an_add_is_no_whole : taken_by (Some Add) (whole ∷ []) ≡ record whole { recurrence = Some (pos 100) } ∷ []
+an_add_is_no_whole : taken_by (Some Add) (whole ∷ []) ≡ record whole { recurrence = Some (pos 100); written = record whole.written { recurrence = Some (start_written whole) } } ∷ []
 an_add_is_no_whole = refl
 
 a_request_takes_them_as_they_are : taken_by (Some Request) (whole ∷ instance ∷ []) ≡ whole ∷ instance ∷ []

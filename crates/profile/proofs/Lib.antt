@@ -6,6 +6,7 @@ mod ZoneTextExamples
 mod WrittenZoneExamples
 mod EventRuleExamples
 mod OccurrenceExamples
+mod FormExamples
 pub mod SpanExamples
 mod ResidueExamples
 mod StartExamples

@@ -7,7 +7,8 @@ use Rattle.profile.specs.series.Days.{days_before_year, days_of_months}
 use Rattle.profile.specs.text.Trees.{Tree}
 use Rattle.profile.specs.text.Values.{SpellsStamp}
 use Rattle.profile.specs.series.Zones.{Constant, Means}
-use Rattle.profile.specs.events.Occurrences.{SaysStatus, has_range, entries_named, is_period, IsListed, IsInside, recurs_as_instance, SaysOccurrences, OccurrenceFault, bad_additions, recurs, in_entry}
+use Rattle.profile.specs.events.Properties.{Fixed}
+use Rattle.profile.specs.events.Occurrences.{Time, SaysStatus, has_range, entries_named, is_period, IsListed, IsInside, recurs_as_instance, SaysOccurrences, OccurrenceFault, bad_additions, recurs, in_entry}
 
 -- ---- STATUS
 
@@ -75,14 +76,18 @@ at_nine = inl (record { shown = (pos 0, refl, omega (arith, ints)); least = λ o
 lines : List (List ℕ)
 lines = codes "UID:a" ∷ codes "RDATE:20250310T090000Z,20250310T090000Z" ∷ codes "EXDATE:20250310T090000Z" ∷ []
 
-say : (object : Tree) → SaysOccurrences false object lines None (pos 1_741_597_200 ∷ pos 1_741_597_200 ∷ []) (pos 1_741_597_200 ∷ [])
-unfolding lines
+at_nine_written : Time
+at_nine_written = record { form = Fixed; instant = pos 1_741_597_200 }
+
+say : (object : Tree) → SaysOccurrences false false object lines (record { recurrence = None; additions = at_nine_written ∷ at_nine_written ∷ []; exceptions = at_nine_written ∷ [] })
+unfolding lines at_nine_written
 say object =
-    let added : IsListed object (codes "RDATE") (codes "RDATE:20250310T090000Z,20250310T090000Z", codes "20250310T090000Z") (pos 1_741_597_200) = (refl, (None, pos 1_741_597_200, (refl, nine), at_nine)) in
-    let inside : IsInside object (codes "RDATE:20250310T090000Z,20250310T090000Z", codes "20250310T090000Z") (pos 1_741_597_200) =
+    let added : IsListed object (codes "RDATE") (codes "RDATE:20250310T090000Z,20250310T090000Z", codes "20250310T090000Z") at_nine_written = (refl, (None, pos 1_741_597_200, (refl, nine), at_nine)) in
+    let inside : IsInside object (codes "RDATE:20250310T090000Z,20250310T090000Z", codes "20250310T090000Z") at_nine_written =
     (None, pos 1_741_597_200, (refl, nine), at_nine, (omega (arith, ints), omega (arith, ints), omega (arith, ints))) in
     record {
       is = record { line = None; once = refl; present = λ h. absurd (true≢false (sym h)); is = tt };
+      fixed_recurrence = λ h. absurd (true≢false (sym h));
       adds = ((added, (added, tt)), omega arith);
       inside = (inside, (inside, tt));
       takes = (((refl, (None, pos 1_741_597_200, (refl, nine), at_nine)), tt), omega arith);
@@ -92,14 +97,14 @@ say object =
 -- ---- faults
 
 -- RDATE beside RECURRENCE-ID is 67, EXDATE isn't
-a_recurring_instance : (object : Tree) → OccurrenceFault false object (codes "RECURRENCE-ID:20250310T090000Z" ∷ codes "RDATE:20250310T090000Z" ∷ []) 67
+a_recurring_instance : (object : Tree) → OccurrenceFault false false object (codes "RECURRENCE-ID:20250310T090000Z" ∷ codes "RDATE:20250310T090000Z" ∷ []) 67
 a_recurring_instance object = recurs refl
 
 a_single_instance : recurs_as_instance false (codes "RECURRENCE-ID:20250310T090000Z" ∷ codes "EXDATE:20250310T090000Z" ∷ []) ≡ false
 a_single_instance = refl
 
 -- of what is added neither may recur
-an_added_instance : (object : Tree) → OccurrenceFault true object (codes "RDATE:20250310T090000Z" ∷ []) 67
+an_added_instance : (object : Tree) → OccurrenceFault true false object (codes "RDATE:20250310T090000Z" ∷ []) 67
 an_added_instance object = recurs refl
 
 an_added_one_with_exceptions : recurs_as_instance true (codes "EXDATE:20250310T090000Z" ∷ []) ≡ false
@@ -108,5 +113,5 @@ an_added_one_with_exceptions = refl
 a_series_alone : recurs_as_instance false (codes "RRULE:FREQ=DAILY" ∷ codes "RDATE:20250310T090000Z" ∷ []) ≡ false
 a_series_alone = refl
 
-periods_are_56 : (object : Tree) → OccurrenceFault false object (codes "RDATE:20250310T090000Z,20250310T090000Z/PT1H" ∷ []) 56
+periods_are_56 : (object : Tree) → OccurrenceFault false false object (codes "RDATE:20250310T090000Z,20250310T090000Z/PT1H" ∷ []) 56
 periods_are_56 object = bad_additions (in_entry (codes "RDATE:20250310T090000Z,20250310T090000Z/PT1H", codes "20250310T090000Z/PT1H") (1, omega arith, refl) (inl (refl, refl)))

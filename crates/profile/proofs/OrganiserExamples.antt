@@ -1,5 +1,6 @@
 -- Worked examples of what an organiser keeps, sends and shows (RFC 6638 3.2, RFC 5546 2.1.4, 2.1.5).
 use Rattle.std.proofs.Common.{◌≡◌, ℕ, ℤ, pos, Bool, true, false, List, [], ◌∷◌, codes, Option, None, Some, refl, lit<}
+use Rattle.profile.specs.events.Properties.{Fixed}
 use Rattle.profile.specs.events.EventComponents.{EventComponent, Attendee, NeedsAction, Accepted, Declined, Participation}
 use Rattle.profile.specs.rooms.Revisions.{Whole, At}
 use Rattle.profile.specs.events.Messages.{has_one_attendee}
@@ -30,10 +31,11 @@ event recurrence sequence cancelled attendees = record {
   sequence = sequence;
   cancelled = cancelled;
   recurrence = recurrence;
-  times = record { zone = None; local = pos 100; start = pos 100; length = record { days = 0; seconds = 1 } };
+  times = record { form = Fixed; zone = None; local = pos 100; start = pos 100; length = record { days = 0; seconds = 1 } };
   rule = None;
   additions = [];
   exceptions = [];
+  written = record { recurrence = None; additions = []; exceptions = [] };
   summary = [];
   attendees = attendees;
 }

@@ -4,6 +4,7 @@ use Rattle.std.proofs.Common.{◌≡◌, refl, arith, ℕ, ◌*◌, ℤ, pos, ne
 use Rattle.std.specs.Prelude.{Contains}
 use Rattle.std.proofs.lemmas.Int.{ints}
 use Rattle.std.proofs.lemmas.Bool.{eqb-true}
+use Rattle.profile.specs.events.Properties.{Fixed}
 use Rattle.profile.specs.series.Days.{Weekly}
 use Rattle.profile.specs.series.Rules.{Pattern, Rule}
 use Rattle.profile.specs.series.Periods.{IsMultiple, IsShift}
@@ -28,10 +29,11 @@ master = record {
   sequence = 0;
   cancelled = false;
   recurrence = None;
-  times = record { zone = None; local = pos 1_736_154_000; start = pos 1_736_154_000; length = record { days = 0; seconds = 3600 } };
+  times = record { form = Fixed; zone = None; local = pos 1_736_154_000; start = pos 1_736_154_000; length = record { days = 0; seconds = 3600 } };
   rule = Some each_monday;
   additions = [];
   exceptions = pos 1_736_758_800 ∷ [];
+  written = record { recurrence = None; additions = []; exceptions = record { form = Fixed; instant = pos 1_736_758_800 } ∷ [] };
   summary = [];
   attendees = [];
 }

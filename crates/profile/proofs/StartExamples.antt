@@ -2,6 +2,7 @@
 use Rattle.std.proofs.Common.{zero, suc, true, List, [], ◌∷◌, codes, refl, inl, inr, arith, ℤ, pos}
 use Rattle.std.specs.Prelude.{Option, Some, None, Contains}
 use Rattle.std.proofs.lemmas.Int.{ints}
+use Rattle.profile.specs.events.Properties.{Fixed}
 use Rattle.profile.specs.events.EventComponents.{EventComponent}
 use Rattle.profile.specs.events.Events.{Event}
 use Rattle.profile.specs.events.Starts.{EndsAt, IsStart, IsInstance, Overlaps, SharesInstant, key_at}
@@ -15,10 +16,11 @@ event recurrence start additions exceptions = record {
   sequence = 0;
   cancelled = true;
   recurrence = recurrence;
-  times = record { zone = None; local = start; start = start; length = record { days = 0; seconds = 1 } };
+  times = record { form = Fixed; zone = None; local = start; start = start; length = record { days = 0; seconds = 1 } };
   rule = None;
   additions = additions;
   exceptions = exceptions;
+  written = record { recurrence = None; additions = []; exceptions = [] };
   summary = [];
   attendees = [];
 }

@@ -6,6 +6,7 @@ pub mod Periods
 pub mod RuleTexts
 pub mod Zones
 pub mod ZoneTexts
+pub mod RoomZones
 pub mod GeneralZones
 pub mod GeneralZoneTexts
 pub mod Residues

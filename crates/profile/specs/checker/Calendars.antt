@@ -1,21 +1,26 @@
 -- The calendar of a room that a text is (RFC 5545 3.4), what it confirms, and what can be wrong with such a text.
-use Rattle.std.specs.Prelude.{◌≡◌, ℕ, true, false, List, Contains, None}
+use Rattle.std.specs.Prelude.{◌≡◌, ℕ, true, false, List, Contains, Option, None}
 use Rattle.std.specs.List.{AllZip}
 use Rattle.profile.specs.text.Lines.{logical_lines, text_has, reads_as_lines}
 use Rattle.profile.specs.text.Objects.{SpellsTree, IsObject, has_version, lines_have}
 use Rattle.profile.specs.text.Trees.{Tree, tree_own, vevents}
 use Rattle.profile.specs.checker.Instances.{Instance}
 use Rattle.profile.specs.checker.Certificates.{CertificateHoldsFor}
-use Rattle.profile.specs.events.EventComponents.{EventComponent, SaysEventComponent, EventComponentFault}
+use Rattle.profile.specs.series.Zones.{Zone}
+use Rattle.profile.specs.series.RoomZones.{NamesRoomZone, RoomZoneFault}
+use Rattle.profile.specs.events.EventComponents.{EventComponent, EventComponentFault}
+use Rattle.profile.specs.events.Placed.{SaysPlaced}
 use Rattle.profile.specs.events.Confirmed.{Confirmed, IsConfirmed, AreConfirmed, MastersDiffer, OverridesDiffer}
 
 -- the octets are this VCALENDAR, of any size
 abbrev pub IsCalendarText : Tree → List ℕ → Type 0
 IsCalendarText t octets = IsObject false t (logical_lines octets)
 
--- the VEVENTs of an object say these events. METHOD is ignored
-abbrev pub SayEvents : Tree → List EventComponent → Type 0
-SayEvents object events = AllZip (SaysEventComponent object None) (vevents object) events
+-- the VEVENTs of an object say these events, in a room of the zone that its own lines name. METHOD is ignored
+pub record SayEvents (object : Tree) (events : List EventComponent) : Type 0 where
+  pub zone : Option Zone
+  pub names : NamesRoomZone (tree_own object) zone
+  pub each : AllZip (SaysPlaced zone object None) (vevents object) events
 
 -- they do, and of them these are confirmed for the room
 pub record SaysCalendar (room : List ℕ) (object : Tree) (confirmed : Confirmed) : Type 0 where
@@ -48,8 +53,9 @@ pub record CertificateHolds (room calendar text : List ℕ) : Type 0 where
 
 -- ---- what can be wrong, by the number of its refusal
 
--- the VEVENTs of an object have the fault of this number, as a calendar
+-- the VEVENTs of an object, or the zone that it names, have the fault of this number, as a calendar
 pub data CalendarFault (object : Tree) : ℕ → Type 0 where
+  in_zone : RoomZoneFault (tree_own object) → CalendarFault object 44
   -- one of them has this fault
   in_event : {n : ℕ} → (lines : List (List ℕ)) → Contains (vevents object) lines → EventComponentFault object None lines n → CalendarFault object n
   two_masters : (events : List EventComponent) → SayEvents object events → (MastersDiffer events → ⊥) → CalendarFault object 53

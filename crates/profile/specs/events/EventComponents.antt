@@ -1,6 +1,6 @@
 -- VEVENTs: what their lines say (RFC 5545 3.6.1). A VEVENT is its content lines here, beside the object that it is in: its times may
 -- name a VTIMEZONE of that. What is required depends on the METHOD of the object, where it is a message.
-use Rattle.std.specs.Prelude.{◌≡◌, ℕ, Contains, Bool, true, false, if◌then◌else◌, List, [], ◌∷◌, codes, Option, None, Some, is_some, option_map, unwrap_or, ℤ}
+use Rattle.std.specs.Prelude.{◌≡◌, ℕ, Contains, Bool, true, false, if◌then◌else◌, List, [], ◌∷◌, map, codes, Option, None, Some, is_some, option_map, unwrap_or, ℤ}
 use Rattle.std.specs.List.{find, AllZip}
 use Rattle.std.specs.Str.{bytes_eq}
 use Rattle.profile.specs.text.Lines.{line_value, line_param, is_same_name}
@@ -10,7 +10,7 @@ use Rattle.profile.specs.events.Properties.{lines_named, IsStampLine, IsSequence
 use Rattle.profile.specs.series.Rules.{Rule}
 use Rattle.profile.specs.events.ZonedTimes.{EventTimes, SaysTimes, EventTimesFault}
 use Rattle.profile.specs.events.EventRules.{SaysEventRule, EventRuleFault}
-use Rattle.profile.specs.events.Occurrences.{SaysStatus, SaysOccurrences, OccurrenceFault}
+use Rattle.profile.specs.events.Occurrences.{Time, WrittenTimes, SaysStatus, SaysOccurrences, OccurrenceFault}
 
 -- ---- methods
 
@@ -43,6 +43,16 @@ may_lack_start (Some Add) = false
 may_lack_start (Some Cancel) = true
 may_lack_start (Some Reply) = true
 may_lack_start (Some Refresh) = true
+
+-- what is stored, and what is answered, names an instance by a fixed time
+abbrev pub names_by_fixed : Option Method → Bool
+names_by_fixed None = false
+names_by_fixed (Some Store) = true
+names_by_fixed (Some Request) = false
+names_by_fixed (Some Add) = false
+names_by_fixed (Some Cancel) = false
+names_by_fixed (Some Reply) = true
+names_by_fixed (Some Refresh) = false
 
 -- METHOD occurs exactly once among the lines of a VCALENDAR, and names this word, caseless (RFC 5545 3.7.2)
 pub record NamesWord (own : List (List ℕ)) (word : List ℕ) : Type 0 where
@@ -90,7 +100,7 @@ pub record IsAttendee (line : List ℕ) (attendee : Attendee) : Type 0 where
 -- ---- one event
 
 -- what a VEVENT says; organiser and stamp may be missing in a calendar. Without a rule and additions it happens once. With a recurrence it
--- is that instance of its meeting. Instants are in the order of the text
+-- is that instance of its meeting. Instants are in the order of the text; beside them is how their times are written
 pub record EventComponent : Type 0 where
   pub uid : List ℕ
   pub organiser : Option (List ℕ)
@@ -102,6 +112,7 @@ pub record EventComponent : Type 0 where
   pub rule : Option Rule
   pub additions : List ℤ
   pub exceptions : List ℤ
+  pub written : WrittenTimes
   pub summary : List ℕ
   pub attendees : List Attendee
 
@@ -117,6 +128,16 @@ first_text (line ∷ lines) = unescaped (line_value line)
 abbrev pub summary_of : List (List ℕ) → List ℕ
 summary_of lines = first_text (lines_named (codes "SUMMARY") lines)
 
+-- the instants of times
+abbrev pub instants_of : List Time → List ℤ
+instants_of = map (λ time. time.instant)
+
+-- the instants of what is written
+pub record AreOfWritten (written : WrittenTimes) (recurrence : Option ℤ) (additions exceptions : List ℤ) : Type 0 where
+  pub slot : recurrence ≡ option_map (λ time. time.instant) written.recurrence
+  pub added : additions ≡ instants_of written.additions
+  pub taken : exceptions ≡ instants_of written.exceptions
+
 -- the lines of a VEVENT of an object of this METHOD, or of none, say this event. UID is required, in a message ORGANIZER and DTSTAMP too,
 -- and DTSTART except in a CANCEL (RFC 5545 3.6.1, RFC 5546 3.2). That a calendar's VEVENT may lack DTSTAMP and that a REQUEST may lack ATTENDEE
 -- is this profile's choice
@@ -128,7 +149,8 @@ pub record SaysEventComponent (object : Tree) (method : Option Method) (lines : 
   pub status : SaysStatus lines event.cancelled
   pub times : SaysTimes (may_lack_start method) object lines event.times
   pub rule : SaysEventRule lines event.times event.rule
-  pub occurrences : SaysOccurrences (adds_instances method) object lines event.recurrence event.additions event.exceptions
+  pub occurrences : SaysOccurrences (adds_instances method) (names_by_fixed method) object lines event.written
+  pub instants : AreOfWritten event.written event.recurrence event.additions event.exceptions
   pub summary : event.summary ≡ summary_of lines
   pub attendees : AllZip IsAttendee (lines_named (codes "ATTENDEE") lines) event.attendees
 
@@ -163,7 +185,7 @@ single_names = codes "UID" ∷ codes "ORGANIZER" ∷ codes "DTSTAMP" ∷ codes "
 pub data EventComponentFault (object : Tree) (method : Option Method) (lines : List (List ℕ)) : ℕ → Type 0 where
   in_times : {n : ℕ} → EventTimesFault (may_lack_start method) object lines n → EventComponentFault object method lines n
   in_rule : {n : ℕ} → EventRuleFault object lines n → EventComponentFault object method lines n
-  in_occurrences : {n : ℕ} → OccurrenceFault (adds_instances method) object lines n → EventComponentFault object method lines n
+  in_occurrences : {n : ℕ} → OccurrenceFault (adds_instances method) (names_by_fixed method) object lines n → EventComponentFault object method lines n
   bad_stamp : SomeLine (codes "DTSTAMP") (λ line. IsNoStamp (line_value line)) lines → EventComponentFault object method lines 10
   bad_uid : SomeLine (codes "UID") (λ line. IsUid (unescaped (line_value line)) → ⊥) lines → EventComponentFault object method lines 14
   bad_organiser : SomeLine (codes "ORGANIZER") IsNoAddress lines → EventComponentFault object method lines 15

@@ -1,5 +1,6 @@
 -- The rule of a VEVENT: on which days its RRULE lets it start (RFC 5545 3.3.10, 3.8.5.3). The days are those of the start's own clocks,
--- which are those of the zone that DTSTART names, or of UTC. A day is given by its index.
+-- which are those of the zone that DTSTART names, or of UTC; beside a start that isn't fixed UNTIL is read as a local time, its `Z` without
+-- meaning, so that here too the clocks of UTC serve. A day is given by its index.
 use Rattle.std.specs.Prelude.{◌≡◌, ℕ, ◌<◌, ◌⊎◌, false, true, if◌then◌else◌, List, [], ◌∷◌, codes, Option, Some, None, ℤ, pos, ◌-ℤ◌}
 use Rattle.std.specs.Int.Signed.{lt_z}
 use Rattle.profile.specs.checker.Instances.{horizon}
@@ -9,7 +10,7 @@ use Rattle.profile.specs.text.Trees.{Tree}
 use Rattle.profile.specs.series.Rules.{Rule, RuleText, Until, UntilDay, UntilLocal, UntilInstant, rule_of, is_rule_day, last_rule_day}
 use Rattle.profile.specs.series.RuleTexts.{SpellsRule, IsLeastRuleFault}
 use Rattle.profile.specs.series.Zones.{Zone, Means, NoneFrom, IsLastDay, local_time}
-use Rattle.profile.specs.events.Properties.{first_second, lines_named, BothOrNeither, Says, OccursMoreThanOnce, SomeLine}
+use Rattle.profile.specs.events.Properties.{Form, first_second, lines_named, BothOrNeither, Says, OccursMoreThanOnce, SomeLine}
 use Rattle.profile.specs.events.ZonedTimes.{SaysZonedTime, clock_of, EventTimes}
 
 -- ---- the last day that UNTIL allows
@@ -79,9 +80,10 @@ pub record IsOutsideRule (zone : Zone) (local : ℤ) (text : RuleText) : Type 0 
 
 -- the start that a line says is outside of the rule that another line spells
 pub record StartsOutside (object : Tree) (start line : List ℕ) : Type 0 where
+  pub form : Form
   pub zone : Option Zone
   pub local : ℤ
-  pub says : SaysZonedTime object start zone local
+  pub says : SaysZonedTime object start form zone local
   pub text : RuleText
   pub spelled : SpellsRule (line_value line) text
   pub outside : IsOutsideRule (clock_of zone) local text

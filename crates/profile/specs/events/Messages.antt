@@ -116,7 +116,7 @@ pub data MethodFault (own : List (List ℕ)) : ℕ → Type 0 where
 pub data MessageFault (object : Tree) : ℕ → Type 0 where
   in_method : {n : ℕ} → MethodFault (tree_own object) n → MessageFault object n
   -- in one VEVENT, or between them
-  in_meeting : {n : ℕ} → (method : Method) → NamesMethod (tree_own object) method → EventFault object (Some method) n → MessageFault object n
+  in_meeting : {n : ℕ} → (method : Method) → NamesMethod (tree_own object) method → EventFault None object (Some method) n → MessageFault object n
   -- an attendee speaks, and a VEVENT doesn't have one attendee
   not_one : (method : Method) → NamesMethod (tree_own object) method → is_of_attendee method ≡ true → (events : List EventComponent)
       → AllZip (SaysEventComponent object (Some method)) (vevents object) events → list_all has_one_attendee events ≡ false → MessageFault object 64

@@ -1,14 +1,14 @@
 -- Which instance of a meeting a VEVENT is for, which instants it adds to those of its rule and which it takes away, and whether it is
 -- cancelled (RFC 5545 3.8.4.4, 3.8.5.2, 3.8.5.1, 3.8.1.11). Instants are seconds from 1970-01-01T00:00:00Z. A VEVENT is its lines, beside
 -- the object that it is in.
-use Rattle.std.specs.Prelude.{◌≡◌, ℕ, ◌<◌, ◌≤◌, ◌⊎◌, ◌==◌, ◌&&◌, ◌||◌, Bool, true, false, List, length, map, codes, Contains, Option, is_some, option_map, unwrap_or, ℤ}
+use Rattle.std.specs.Prelude.{◌≡◌, ◌≢◌, ℕ, ◌<◌, ◌≤◌, ◌⊎◌, ◌==◌, ◌&&◌, ◌||◌, Bool, true, false, List, length, map, codes, Contains, Option, is_some, option_map, unwrap_or, Some, ℤ}
 use Rattle.std.specs.List.{slice_split, flat_map, list_any, AllZip}
 use Rattle.std.specs.Str.{bytes_eq}
 use Rattle.profile.specs.text.Lines.{line_value, line_param, is_same_name}
 use Rattle.profile.specs.text.Trees.{Tree}
 use Rattle.profile.specs.series.Zones.{Zone, Means}
-use Rattle.profile.specs.events.Properties.{is_of, lines_named, OccursAtMostOnce, OccursMoreThanOnce, SomeLine, Says}
-use Rattle.profile.specs.events.ZonedTimes.{is_in_zone, clock_of, IsInDates, SaysZonedText, SaysInDates, SaysOutOfDates, ZonedTextFault, ZonedTimeFault}
+use Rattle.profile.specs.events.Properties.{Form, Fixed, is_of, lines_named, OccursAtMostOnce, OccursMoreThanOnce, SomeLine, Says}
+use Rattle.profile.specs.events.ZonedTimes.{is_in_zone, clock_of, IsInDates, SaysZonedText, SaysInDates, SaysOutOfDates, HasForm, ZonedTextFault, ZonedTimeFault}
 
 -- ---- STATUS
 
@@ -24,9 +24,14 @@ SaysStatus lines cancelled =
 abbrev pub has_range : List ℕ → Bool
 has_range line = is_some (line_param (codes "RANGE") line)
 
--- the line says this instant, without RANGE
-abbrev pub IsRecurrenceLine : Tree → List ℕ → ℤ → Type 0
-IsRecurrenceLine object line instant = (has_range line ≡ false) × SaysInDates object line instant
+-- a time as it is written: its form, and the instant that it means
+pub record Time : Type 0 where
+  pub form : Form
+  pub instant : ℤ
+
+-- the line says this time, without RANGE
+abbrev pub IsRecurrenceLine : Tree → List ℕ → Time → Type 0
+IsRecurrenceLine object line time = (has_range line ≡ false) × SaysInDates false object line time.form time.instant
 
 -- ---- RDATE and EXDATE
 
@@ -50,26 +55,26 @@ most_entries = 366
 abbrev pub is_period : List ℕ → List ℕ → Bool
 is_period name text = bytes_eq name (codes "RDATE") && list_any (λ c. c == 47) text
 
--- a time of a list of that property says this instant
-abbrev pub IsListed : Tree → List ℕ → ListedTime → ℤ → Type 0
-IsListed object name (line, text) instant =
+-- a time of a list of that property says this
+abbrev pub IsListed : Tree → List ℕ → ListedTime → Time → Type 0
+IsListed object name (line, text) time =
     (is_period name text ≡ false)
-    × ((zone : Option Zone) × (local : ℤ) × SaysZonedText object line text zone local × Means (clock_of zone) local instant)
+    × ((zone : Option Zone) × (local : ℤ) × SaysZonedText object line text time.form zone local × Means (clock_of zone) local time.instant)
 
--- it says this instant, in the dates that an event may name, or outside of them
-abbrev pub IsInside : Tree → ListedTime → ℤ → Type 0
-IsInside object (line, text) instant =
-    (zone : Option Zone) × (local : ℤ) × SaysZonedText object line text zone local × Means (clock_of zone) local instant
-    × IsInDates (is_in_zone line) local instant
+-- it says this, in the dates that an event may name, or something outside of them
+abbrev pub IsInside : Tree → ListedTime → Time → Type 0
+IsInside object (line, text) time =
+    (zone : Option Zone) × (local : ℤ) × SaysZonedText object line text time.form zone local × Means (clock_of zone) local time.instant
+    × IsInDates false time.form (is_in_zone line) local time.instant
 
 abbrev pub IsOutside : Tree → ListedTime → Type 0
 IsOutside object (line, text) =
-    (zone : Option Zone) × (local : ℤ) × (instant : ℤ) × SaysZonedText object line text zone local × Means (clock_of zone) local instant
-    × (IsInDates (is_in_zone line) local instant → ⊥)
+    (time : Time) × (zone : Option Zone) × (local : ℤ) × SaysZonedText object line text time.form zone local
+    × Means (clock_of zone) local time.instant × (IsInDates false time.form (is_in_zone line) local time.instant → ⊥)
 
--- the times of a property are these instants
-abbrev pub Lists : Tree → List ℕ → List ListedTime → List ℤ → Type 0
-Lists object name entries instants = AllZip (IsListed object name) entries instants × (length instants ≤ most_entries)
+-- the times of a property are these
+abbrev pub Lists : Tree → List ℕ → List ListedTime → List Time → Type 0
+Lists object name entries times = AllZip (IsListed object name) entries times × (length times ≤ most_entries)
 
 -- ---- together
 
@@ -78,12 +83,24 @@ abbrev pub recurs_as_instance : Bool → List (List ℕ) → Bool
 recurs_as_instance added lines =
     (added || list_any (is_of (codes "RECURRENCE-ID")) lines) && list_any (λ line. is_of (codes "RRULE") line || is_of (codes "RDATE") line) lines
 
--- the lines say which instance the VEVENT is, if one of a meeting, and what is added and taken away, the latter in any year from 1 to 9999
-pub record SaysOccurrences (added : Bool) (object : Tree) (lines : List (List ℕ)) (recurrence : Option ℤ) (additions exceptions : List ℤ) : Type 0 where
-  pub is : Says (codes "RECURRENCE-ID") false (IsRecurrenceLine object) lines recurrence
-  pub adds : Lists object (codes "RDATE") (entries_named (codes "RDATE") lines) additions
-  pub inside : AllZip (IsInside object) (entries_named (codes "RDATE") lines) additions
-  pub takes : Lists object (codes "EXDATE") (entries_named (codes "EXDATE") lines) exceptions
+-- which instance a VEVENT is, if one of a meeting, and what it adds and takes away, as they are written, in the order of the text
+pub record WrittenTimes : Type 0 where
+  pub recurrence : Option Time
+  pub additions : List Time
+  pub exceptions : List Time
+
+-- where only a fixed time can name an instance, this is one
+abbrev pub IsFixedWhere : Bool → Option Time → Type 0
+IsFixedWhere fixed recurrence = fixed ≡ true → (time : Time) → recurrence ≡ Some time → time.form ≡ Fixed
+
+-- the lines say these, EXDATE in any year from 1 to 9999. An organiser's meetings have no one zone, so that what it stores, and what is answered
+-- to it, names instances by fixed times; this profile's choice
+pub record SaysOccurrences (added fixed : Bool) (object : Tree) (lines : List (List ℕ)) (written : WrittenTimes) : Type 0 where
+  pub is : Says (codes "RECURRENCE-ID") false (IsRecurrenceLine object) lines written.recurrence
+  pub fixed_recurrence : IsFixedWhere fixed written.recurrence
+  pub adds : Lists object (codes "RDATE") (entries_named (codes "RDATE") lines) written.additions
+  pub inside : AllZip (IsInside object) (entries_named (codes "RDATE") lines) written.additions
+  pub takes : Lists object (codes "EXDATE") (entries_named (codes "EXDATE") lines) written.exceptions
   pub alone : recurs_as_instance added lines ≡ false
 
 -- ---- what can be wrong, by the number of its refusal
@@ -99,13 +116,16 @@ pub data EntriesFault (object : Tree) (name : List ℕ) (entries : List ListedTi
   too_many : most_entries < length entries → EntriesFault object name entries 56
 
 -- the lines of a VEVENT have the fault of this number
-pub data OccurrenceFault (added : Bool) (object : Tree) (lines : List (List ℕ)) : ℕ → Type 0 where
-  bad_recurrence : {n : ℕ} → SomeLine (codes "RECURRENCE-ID") (λ line. ZonedTimeFault object line n) lines → OccurrenceFault added object lines n
-  bad_additions : {n : ℕ} → EntriesFault object (codes "RDATE") (entries_named (codes "RDATE") lines) n → OccurrenceFault added object lines n
-  bad_exceptions : {n : ℕ} → EntriesFault object (codes "EXDATE") (entries_named (codes "EXDATE") lines) n → OccurrenceFault added object lines n
+pub data OccurrenceFault (added fixed : Bool) (object : Tree) (lines : List (List ℕ)) : ℕ → Type 0 where
+  bad_recurrence : {n : ℕ} → SomeLine (codes "RECURRENCE-ID") (λ line. ZonedTimeFault object line n) lines → OccurrenceFault added fixed object lines n
+  bad_additions : {n : ℕ} → EntriesFault object (codes "RDATE") (entries_named (codes "RDATE") lines) n → OccurrenceFault added fixed object lines n
+  bad_exceptions : {n : ℕ} → EntriesFault object (codes "EXDATE") (entries_named (codes "EXDATE") lines) n → OccurrenceFault added fixed object lines n
   -- outside of the dates that an event may name
-  recurrence_out : SomeLine (codes "RECURRENCE-ID") (SaysOutOfDates object) lines → OccurrenceFault added object lines 52
-  additions_out : (entry : ListedTime) → Contains (entries_named (codes "RDATE") lines) entry → IsOutside object entry → OccurrenceFault added object lines 52
-  two_recurrences : OccursMoreThanOnce (codes "RECURRENCE-ID") lines → OccurrenceFault added object lines 61
-  ranged : SomeLine (codes "RECURRENCE-ID") (λ line. has_range line ≡ true) lines → OccurrenceFault added object lines 65
-  recurs : recurs_as_instance added lines ≡ true → OccurrenceFault added object lines 67
+  recurrence_out : SomeLine (codes "RECURRENCE-ID") (SaysOutOfDates false object) lines → OccurrenceFault added fixed object lines 52
+  additions_out : (entry : ListedTime) → Contains (entries_named (codes "RDATE") lines) entry → IsOutside object entry → OccurrenceFault added fixed object lines 52
+  -- where only a fixed time can name an instance, it is named by another one
+  unfixed : fixed ≡ true → SomeLine (codes "RECURRENCE-ID") (λ line. (form : Form) × (form ≢ Fixed) × HasForm object line form) lines
+      → OccurrenceFault added fixed object lines 57
+  two_recurrences : OccursMoreThanOnce (codes "RECURRENCE-ID") lines → OccurrenceFault added fixed object lines 61
+  ranged : SomeLine (codes "RECURRENCE-ID") (λ line. has_range line ≡ true) lines → OccurrenceFault added fixed object lines 65
+  recurs : recurs_as_instance added lines ≡ true → OccurrenceFault added fixed object lines 67

@@ -1,5 +1,5 @@
 -- Properties: what the content lines of a component say by their names (RFC 5545 3.1, 3.2, 3.6), whichever component it is.
-use Rattle.std.specs.Prelude.{◌≡◌, ℕ, ◌+◌, ◌-◌, ◌*◌, Contains, ◌<◌, ◌⊎◌, Bool, true, if◌then◌else◌, ◌==◌, List, [], length, filter, codes, Option, Some, None, is_some, option_map, unwrap_or, slice_index, ℤ, negsuc}
+use Rattle.std.specs.Prelude.{◌≡◌, ℕ, ◌+◌, ◌-◌, ◌*◌, Contains, ◌<◌, ◌⊎◌, Bool, true, false, if◌then◌else◌, ◌==◌, List, [], length, filter, codes, Option, Some, None, is_some, option_map, unwrap_or, slice_index, ℤ, negsuc}
 use Rattle.std.specs.Option.{option_to_list}
 use Rattle.profile.specs.text.Lines.{line_name, line_value, line_param, is_same_name}
 use Rattle.profile.specs.text.Values.{SpellsStamp, SpellsLocal, SpellsDate, SpellsSequence, SpellsDuration, SpellsNegative, IsAddress, IsUid, lower_case, unescaped}
@@ -67,8 +67,9 @@ IsNoSequence line = (n : ℕ) → SpellsSequence (line_value line) n → ⊥
 
 -- ---- times: what VALUE says, and what is wrong with a time without TZID
 
--- what VALUE says that a line's value is (RFC 5545 3.2.20)
+-- what VALUE says that a line's value is (RFC 5545 3.2.20); without it a date-time or a date, by the text
 pub data TimeKind : Type 0 where
+  Unsaid : TimeKind
   DateTime : TimeKind
   Date : TimeKind
   Period : TimeKind
@@ -81,9 +82,49 @@ kind_named word =
     else (if is_same_name word (codes "DATE") then Date
     else (if is_same_name word (codes "PERIOD") then Period else Other))
 
--- a start or an end without VALUE is a date-time (RFC 5545 3.8.2.4, 3.8.2.2)
+-- a start or an end without VALUE is a date-time (RFC 5545 3.8.2.4, 3.8.2.2). That it may also be a date is this profile's choice
 abbrev pub time_kind : List ℕ → TimeKind
-time_kind line = unwrap_or (option_map kind_named (line_param (codes "VALUE") line)) DateTime
+time_kind line = unwrap_or (option_map kind_named (line_param (codes "VALUE") line)) Unsaid
+
+-- the forms of a time: fixed, in UTC (RFC 5545 3.3.5, form 2) or in the zone that TZID names (form 3); floating, a local time with neither
+-- (form 1); or a whole day, a date (3.3.4)
+pub data Form : Type 0 where
+  Fixed : Form
+  Floating : Form
+  WholeDay : Form
+
+abbrev pub is_fixed : Form → Bool
+is_fixed Fixed = true
+is_fixed Floating = false
+is_fixed WholeDay = false
+
+abbrev pub is_floating : Form → Bool
+is_floating Fixed = false
+is_floating Floating = true
+is_floating WholeDay = false
+
+abbrev pub is_whole_day : Form → Bool
+is_whole_day Fixed = false
+is_whole_day Floating = false
+is_whole_day WholeDay = true
+
+-- VALUE allows this form
+abbrev pub allows : TimeKind → Form → Bool
+allows Unsaid Fixed = true
+allows Unsaid Floating = true
+allows Unsaid WholeDay = true
+allows DateTime Fixed = true
+allows DateTime Floating = true
+allows DateTime WholeDay = false
+allows Date Fixed = false
+allows Date Floating = false
+allows Date WholeDay = true
+allows Period Fixed = false
+allows Period Floating = false
+allows Period WholeDay = false
+allows Other Fixed = false
+allows Other Floating = false
+allows Other WholeDay = false
 
 -- VALUE says that the line's value is a date-time, or is absent
 abbrev pub is_date_time : List ℕ → Bool
@@ -108,14 +149,15 @@ IsLocalText text = (t : ℤ) × SpellsLocal text t
 abbrev pub malformed_number : List ℕ → ℕ
 malformed_number text = if ends_in_z text then 10 else 11
 
--- 55 where the text isn't a fixed time, else the number of a malformed one
-abbrev pub UnfixedOrMalformed : Type 0 → List ℕ → ℕ → Type 0
-UnfixedOrMalformed IsUnfixed text number = (IsUnfixed × (number ≡ 55)) ⊎ ((IsUnfixed → ⊥) × (number ≡ malformed_number text))
+-- the text is neither a UTC time nor a local one: it has the number of a malformed one
+abbrev pub NoTimeFault : List ℕ → ℕ → Type 0
+NoTimeFault text number = IsNoStamp text × (IsLocalText text → ⊥) × (number ≡ malformed_number text)
 
--- the number of what is wrong with a text of this kind: there is at most one. Dates, and times without zone, aren't supported yet
+-- the number of what is wrong with a text of this kind, without TZID: there is at most one
 abbrev pub KindFault : TimeKind → List ℕ → ℕ → Type 0
-KindFault DateTime text number = IsNoStamp text × UnfixedOrMalformed (IsDateText text ⊎ IsLocalText text) text number
-KindFault Date text number = UnfixedOrMalformed (IsDateText text) text number
+KindFault Unsaid text number = (IsDateText text → ⊥) × NoTimeFault text number
+KindFault DateTime text number = NoTimeFault text number
+KindFault Date text number = (IsDateText text → ⊥) × (number ≡ 11)
 KindFault Period text number = number ≡ 56
 KindFault Other text number = number ≡ 11
 

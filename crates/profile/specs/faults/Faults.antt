@@ -28,7 +28,7 @@ is_value_fault = is_between 10 16
 
 -- a fault of one VEVENT: its values, its times, and properties that are missing, repeated or exclude another (RFC 5545 3.6.1)
 abbrev pub is_event_fault : ℕ → Bool
-is_event_fault n = is_value_fault n || is_between 50 52 n || is_between 55 56 n || n == 61 || n == 63
+is_event_fault n = is_value_fault n || is_between 50 52 n || is_between 56 57 n || n == 61 || n == 63
 
 -- a fault of the VTIMEZONE that a TZID names, or a missing one (RFC 5545 3.6.5); what is wrong with its values has a value's number
 abbrev pub is_zone_fault : ℕ → Bool
@@ -50,9 +50,9 @@ is_series_event_fault n = is_zoned_event_fault n || is_rule_fault n
 abbrev pub is_meeting_event_fault : ℕ → Bool
 is_meeting_event_fault n = is_series_event_fault n || n == 65 || n == 67
 
--- a fault of a calendar: an object, its VEVENTs, or two masters or two overrides of one start
+-- a fault of a calendar: an object, the zone of its room, its VEVENTs, or two masters or two overrides of one start
 abbrev pub is_calendar_fault : ℕ → Bool
-is_calendar_fault n = is_object_fault n || is_meeting_event_fault n || is_between 53 54 n
+is_calendar_fault n = is_object_fault n || n == 44 || is_meeting_event_fault n || is_between 53 54 n
 
 -- a fault of a message: an object, its VEVENTs, its method, its meeting, its attendees or a missing VEVENT (RFC 5546 3.2)
 abbrev pub is_message_fault : ℕ → Bool

@@ -6,9 +6,11 @@ use Rattle.std.specs.Str.{bytes_eq}
 use Rattle.std.specs.Char.{is_ascii_alphabetic, is_ascii_digit}
 use Rattle.profile.specs.text.Lines.{written}
 use Rattle.profile.specs.text.Values.{SpellsDate, WritesStamp, WritesLocal, duration_text, escaped}
-use Rattle.profile.specs.events.EventComponents.{Method, Store, Request, Add, Cancel, Reply, Refresh, EventComponent}
-use Rattle.profile.specs.events.Properties.{first_second, BothOrNeither}
-use Rattle.profile.specs.events.ZonedTimes.{EventTimes, clock_of}
+use Rattle.profile.specs.events.Occurrences.{Time}
+use Rattle.profile.specs.events.EventComponents.{Method, Store, Request, Add, Cancel, Reply, Refresh, EventComponent, instants_of}
+use Rattle.profile.specs.events.Properties.{Form, Fixed, Floating, WholeDay, is_fixed, is_floating, is_whole_day, first_second, BothOrNeither}
+use Rattle.profile.specs.events.ZonedTimes.{EventTimes, SpellsMidnight, clock_of}
+use Rattle.profile.specs.series.Days.{day_index}
 use Rattle.profile.specs.series.Rules.{Rule, Until, UntilDay, UntilLocal, UntilInstant, text_in}
 use Rattle.profile.specs.series.RuleTexts.{rule_text}
 use Rattle.profile.specs.events.EventRules.{as_end}
@@ -22,10 +24,12 @@ use Rattle.profile.specs.rooms.Revisions.{Part, Slot, Whole, At, Revision, Body,
 
 -- ---- the parts of a message
 
--- DTSTART in UTC, or in a zone, whose name here is `Z` whatever it was
-abbrev pub StartsIn : Option Zone → EventTimes → List ℕ → Type 0
-StartsIn None times line = (text : List ℕ) × WritesStamp text times.start × (line ≡ codes "DTSTART:" ++ text)
-StartsIn (Some zone) times line = (text : List ℕ) × WritesLocal text times.local × (line ≡ codes "DTSTART;TZID=Z:" ++ text)
+-- DTSTART by its form and its zone, whose name here is `Z` whatever it was: in UTC, in the zone, without zone, or as a date
+abbrev pub StartsIn : Form → Option Zone → EventTimes → List ℕ → Type 0
+StartsIn Fixed None times line = (text : List ℕ) × WritesStamp text times.start × (line ≡ codes "DTSTART:" ++ text)
+StartsIn Fixed (Some zone) times line = (text : List ℕ) × WritesLocal text times.local × (line ≡ codes "DTSTART;TZID=Z:" ++ text)
+StartsIn Floating _ times line = (text : List ℕ) × WritesLocal text times.local × (line ≡ codes "DTSTART:" ++ text)
+StartsIn WholeDay _ times line = (text : List ℕ) × SpellsMidnight text times.local × (line ≡ codes "DTSTART;VALUE=DATE:" ++ text)
 
 -- these instants ascending, each once
 pub record AreAscending (instants ascending : List ℤ) : Type 0 where
@@ -37,30 +41,65 @@ abbrev pub list_lines : List ℕ → List (List ℕ) → List (List ℕ)
 list_lines name [] = []
 list_lines name (text ∷ texts) = (name ++ codes ":" ++ text ++ flat_map (λ other. codes "," ++ other) texts) ∷ []
 
--- a property that lists these instants, in UTC
-pub record WritesTimes (name : List ℕ) (instants : List ℤ) (lines : List (List ℕ)) : Type 0 where
+-- a property that lists these instants, each as it is written so
+pub record WritesTimes (Writes : List ℕ → ℤ → Type 0) (name : List ℕ) (instants : List ℤ) (lines : List (List ℕ)) : Type 0 where
   pub ascending : List ℤ
   pub are : AreAscending instants ascending
   pub texts : List (List ℕ)
-  pub each : AllZip WritesStamp texts ascending
+  pub each : AllZip Writes texts ascending
   pub is : lines ≡ list_lines name texts
+
+-- the time has this form
+abbrev pub is_of_form : Form → Time → Bool
+is_of_form Fixed time = is_fixed time.form
+is_of_form Floating time = is_floating time.form
+is_of_form WholeDay time = is_whole_day time.form
+
+-- the instants of the times of one form
+abbrev pub instants_in : Form → List Time → List ℤ
+instants_in form times = instants_of (filter (is_of_form form) times)
+
+-- a property that lists these times, in up to three lines: in UTC, without zone, and as dates
+pub record WritesListed (name : List ℕ) (times : List Time) (lines : List (List ℕ)) : Type 0 where
+  pub fixed : List (List ℕ)
+  pub floating : List (List ℕ)
+  pub days : List (List ℕ)
+  pub in_utc : WritesTimes WritesStamp name (instants_in Fixed times) fixed
+  pub local : WritesTimes WritesLocal name (instants_in Floating times) floating
+  pub dates : WritesTimes SpellsMidnight (name ++ codes ";VALUE=DATE") (instants_in WholeDay times) days
+  pub are : lines ≡ fixed ++ floating ++ days
 
 -- the instant is where a start may be
 abbrev pub is_in_dates : ℤ → Bool
 is_in_dates instant = lt_z instant horizon && not (lt_z instant first_second)
 
--- the text of UNTIL: a date, or a UTC time, also of a local time, by what that means on these clocks (RFC 5545 3.3.10). That a date may
--- occur beside a DTSTART that is a DATE-TIME is this profile's choice
-abbrev pub WritesEnd : Zone → Until → List ℕ → Type 0
-WritesEnd clock (UntilDay number) text = SpellsDate text number
-WritesEnd clock (UntilLocal local) text = (instant : ℤ) × Means clock local instant × WritesStamp text (as_end instant)
-WritesEnd clock (UntilInstant instant) text = WritesStamp text (as_end instant)
+-- the time may take a start away: a fixed one where a start may be; of the others each is kept, as it depends on a zone where they are
+abbrev pub may_take : Time → Bool
+may_take time = not (is_fixed time.form) || is_in_dates time.instant
 
--- the RRULE of an event that starts on these clocks, where it has a rule
-abbrev pub WritesRule : Zone → Option Rule → List (List ℕ) → Type 0
-WritesRule clock None lines = lines ≡ []
-WritesRule clock (Some rule) lines =
-    (end : Option (List ℕ)) × BothOrNeither (WritesEnd clock) rule.until end × (lines ≡ (codes "RRULE:" ++ rule_text (text_in rule) end) ∷ [])
+-- the text of UNTIL beside a fixed start: a date, or a UTC time, also of a local time, by what that means on these clocks (RFC 5545 3.3.10).
+-- That a date may occur beside a DTSTART that is a DATE-TIME is this profile's choice
+abbrev pub WritesFixedEnd : Zone → Until → List ℕ → Type 0
+WritesFixedEnd clock (UntilDay number) text = SpellsDate text number
+WritesFixedEnd clock (UntilLocal local) text = (instant : ℤ) × Means clock local instant × WritesStamp text (as_end instant)
+WritesFixedEnd clock (UntilInstant instant) text = WritesStamp text (as_end instant)
+
+-- the date of a day
+abbrev pub WritesDay : ℕ → List ℕ → Type 0
+WritesDay day text = (number : ℤ) × SpellsDate text number × (day ≡ day_index number)
+
+-- beside one that isn't fixed: the date of the last day that it allows
+abbrev pub WritesEnd : Form → Zone → ℕ → Until → List ℕ → Type 0
+WritesEnd Fixed clock last until text = WritesFixedEnd clock until text
+WritesEnd Floating clock last until text = WritesDay last text
+WritesEnd WholeDay clock last until text = WritesDay last text
+
+-- the RRULE of an event whose start has this form, on these clocks, where it has a rule
+abbrev pub WritesRule : Form → Zone → Option Rule → List (List ℕ) → Type 0
+WritesRule form clock None lines = lines ≡ []
+WritesRule form clock (Some rule) lines =
+    (end : Option (List ℕ)) × BothOrNeither (WritesEnd form clock rule.last) rule.until end
+    × (lines ≡ (codes "RRULE:" ++ rule_text (text_in rule) end) ∷ [])
 
 -- what says when an event is, in its one form: the lines of its VEVENT, unfolded and without line ends, where a zone is named `Z`; and the octets
 -- of the VTIMEZONE after its TZID, where there is a zone
@@ -80,16 +119,16 @@ IsZoneRest zone rest = (parts : List (List ℕ)) × WritesParts parts zone × (r
 abbrev pub zone_text : List ℕ → List ℕ → List ℕ
 zone_text name rest = written (codes "BEGIN:VTIMEZONE" ∷ (codes "TZID:" ++ name) ∷ []) ++ rest
 
--- the content of an event: DTSTART, DURATION, RRULE, RDATE and EXDATE, and its zone. EXDATE counts only where a start may be
+-- the content of an event: DTSTART, DURATION, RRULE, RDATE and EXDATE, and its zone
 pub record IsContent (content : Content) (event : EventComponent) : Type 0 where
   pub start : List ℕ
-  pub starts : StartsIn event.times.zone event.times start
+  pub starts : StartsIn event.times.form event.times.zone event.times start
   pub rule : List (List ℕ)
-  pub recurs : WritesRule (clock_of event.times.zone) event.rule rule
+  pub recurs : WritesRule event.times.form (clock_of event.times.zone) event.rule rule
   pub additions : List (List ℕ)
-  pub adds : WritesTimes (codes "RDATE") event.additions additions
+  pub adds : WritesListed (codes "RDATE") event.written.additions additions
   pub exceptions : List (List ℕ)
-  pub takes : WritesTimes (codes "EXDATE") (filter is_in_dates event.exceptions) exceptions
+  pub takes : WritesListed (codes "EXDATE") (filter may_take event.written.exceptions) exceptions
   pub are : content.lines ≡ start ∷ (codes "DURATION:" ++ duration_text event.times.length.days event.times.length.seconds)
       ∷ (rule ++ (additions ++ exceptions))
   pub in_zone : BothOrNeither IsZoneRest event.times.zone content.zone
