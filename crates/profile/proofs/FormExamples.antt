@@ -1,5 +1,5 @@
 -- Times by their forms, worked by the definitions alone: UTC, a zone, without zone, and whole days (RFC 5545 3.3.4, 3.3.5).
-use Rattle.std.proofs.Common.{◌≡◌, ◌≢◌, ℕ, true, false, List, [], ◌∷◌, codes, refl, inl, inr, ap, arith, ℤ, pos, sym, length, ◌<◌}
+use Rattle.std.proofs.Common.{◌≡◌, ℕ, true, false, List, [], ◌∷◌, codes, refl, inl, ap, arith, ℤ, pos, length, ◌<◌}
 use Rattle.std.specs.Prelude.{Some, None}
 use Rattle.std.proofs.lemmas.Bool.{true≢false}
 use Rattle.std.proofs.lemmas.Int.{ints}
@@ -8,11 +8,11 @@ use Rattle.profile.specs.text.Trees.{Tree}
 use Rattle.profile.specs.text.Values.{SpellsDate, SpellsLocal}
 use Rattle.profile.specs.series.Zones.{Constant, Means}
 use Rattle.profile.specs.series.RoomZones.{IsRoomZone}
-use Rattle.profile.specs.events.Properties.{Form, Fixed, Floating, WholeDay, Unsaid, DateTime, Date, is_whole_day, time_kind, KindFault, IsDateText}
-use Rattle.profile.specs.events.ZonedTimes.{SaysZonedTime, SaysEventTimes, IsInDates, InZoneFault, EventTimesFault, HasForm, other_form}
+use Rattle.profile.specs.events.Properties.{Fixed, Floating, WholeDay, Unsaid, Date, is_whole_day, time_kind, KindFault, IsDateText}
+use Rattle.profile.specs.events.ZonedTimes.{SaysZonedTime, SaysEventTimes, IsInDates, InZoneFault, EventTimesFault, other_form}
 use Rattle.profile.specs.events.EventComponents.{Store, Request, Cancel, Reply, names_by_fixed}
 use Rattle.profile.specs.events.Occurrences.{Time}
-use Rattle.profile.specs.rooms.Messages.{WritesListed, WritesTimes, list_lines, instants_in, may_take}
+use Rattle.profile.specs.rooms.Messages.{list_lines, instants_in, may_take}
 use Rattle.profile.specs.events.Placed.{IsInstantIn}
 
 -- ---- what VALUE allows

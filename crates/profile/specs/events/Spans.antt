@@ -5,10 +5,12 @@ use Rattle.profile.specs.checker.Instances.{Instance, horizon, AreClear, HasClas
 use Rattle.profile.specs.text.Trees.{Tree}
 use Rattle.profile.specs.series.Rules.{Rule}
 use Rattle.profile.specs.series.Zones.{Zone, Constant, Single, Pair, AreFirstOnsets}
+use Rattle.profile.specs.series.RoomZones.{IsRoomZone}
 use Rattle.profile.specs.series.Periods.{IsMultiple, IsShift, most_period}
 use Rattle.profile.specs.events.Properties.{first_second}
 use Rattle.profile.specs.events.ZonedTimes.{clock_of}
-use Rattle.profile.specs.events.EventComponents.{Method, EventComponent, SaysEventComponent}
+use Rattle.profile.specs.events.EventComponents.{Method, EventComponent}
+use Rattle.profile.specs.events.Placed.{SaysPlaced}
 use Rattle.profile.specs.events.Events.{Event}
 use Rattle.profile.specs.events.Starts.{IsInstance, IsRuleStart, IsWidth}
 
@@ -118,13 +120,16 @@ SpanFails a b from days =
 
 -- ---- which series there are
 
--- some VEVENT with RRULE says the times and the rule of the series' master, which nothing is added to
+-- some VEVENT with RRULE says the times and the rule of the series' master, in a room of a zone that words mean, and nothing is added to it
 pub record IsSaidSeries (series : Event) : Type 0 where
+  pub words : List ℕ
+  pub room : Option Zone
+  pub named : IsRoomZone words room
   pub object : Tree
   pub method : Option Method
   pub lines : List (List ℕ)
   pub event : EventComponent
-  pub says : SaysEventComponent object method lines event
+  pub says : SaysPlaced room object method lines event
   pub master : EventComponent
   pub is : series ≡ record { master = Some master; overrides = [] }
   pub times : master.times ≡ event.times

@@ -1,6 +1,6 @@
 -- The zone of a room, in words: one offset, `-0500`; or the offsets of STANDARD and of DAYLIGHT and, of each, when in the year it begins,
 -- `-0500 -0400 11 1SU 0200 3 2SU 0200` (month, weekday by its number from the month's start or end, local time). This profile's own form.
-use Rattle.std.specs.Prelude.{◌≡◌, ◌≢◌, ℕ, ◌+◌, ◌*◌, ◌≤◌, ◌<◌, ◌⊎◌, true, false, List, ◌++◌, codes, decimal, Option, Some, None, unwrap_or, ℤ, pos}
+use Rattle.std.specs.Prelude.{◌≡◌, ◌≢◌, ℕ, ◌+◌, ◌*◌, ◌≤◌, ◌⊎◌, true, false, List, ◌++◌, codes, decimal, Option, Some, None, unwrap_or, ℤ, pos}
 use Rattle.profile.specs.text.Lines.{line_value}
 use Rattle.profile.specs.text.Values.{two_digits, WritesOffset}
 use Rattle.profile.specs.series.RuleTexts.{weekday_word}
