@@ -69,6 +69,8 @@ impl Refusal {
     pub const ZONE_ONSETS: Refusal = Refusal { number: 42 };
     /// No VTIMEZONE of the object has the name that TZID gives (RFC 5545 3.2.19).
     pub const NO_ZONE: Refusal = Refusal { number: 43 };
+    /// X-ROOM-ZONE twice, or words that mean no zone of a room; this profile's own form.
+    pub const ROOM_ZONE: Refusal = Refusal { number: 44 };
     /// DTEND before DTSTART (RFC 5545 3.8.2.2).
     pub const END_BEFORE_START: Refusal = Refusal { number: 50 };
     /// A duration past 366 days, or a negative one; this profile's choice.
@@ -79,10 +81,11 @@ impl Refusal {
     pub const TWO_MASTERS: Refusal = Refusal { number: 53 };
     /// Two VEVENTs of one meeting with one RECURRENCE-ID (RFC 5545 3.8.4.4).
     pub const TWO_OVERRIDES: Refusal = Refusal { number: 54 };
-    /// A DATE or floating value, which isn't supported yet (RFC 5545 3.3.4, 3.3.5).
-    pub const NOT_FIXED: Refusal = Refusal { number: 55 };
     /// An RDATE or EXDATE of more than 366 entries, or a PERIOD (RFC 5545 3.8.5.2; the bound is this profile's).
     pub const LIST_OR_PERIOD: Refusal = Refusal { number: 56 };
+    /// DTEND or DURATION doesn't go with the form of DTSTART (RFC 5545 3.8.2.2, 3.8.2.5), or a RECURRENCE-ID that isn't fixed where it has to be;
+    /// the latter is this profile's choice.
+    pub const OTHER_FORM: Refusal = Refusal { number: 57 };
     /// A METHOD that isn't supported (RFC 5546 1.4).
     pub const BAD_METHOD: Refusal = Refusal { number: 60 };
     /// A property that is missing, occurs twice or excludes another (RFC 5545 3.6.1).
