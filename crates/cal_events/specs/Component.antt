@@ -1,17 +1,19 @@
 -- What the types of a VEVENT that was read represent.
-use Rattle.std.specs.Prelude.{ℕ, Bool, List, length, map, filter, option_map, Option, codes, Contains, ◌≡◌, ◌<◌, ℤ, pos, ◌<ℤ◌}
+use Rattle.std.specs.Prelude.{ℕ, Bool, List, length, map, filter, option_map, Option, codes, Contains, ◌≡◌, ◌≢◌, ◌/◌, ◌<◌, ℤ, pos, unsigned_abs, ◌<ℤ◌}
 use Rattle.ical_values.specs.Octets.{address_octets, text_octets}
 use Rattle.ical_values.specs.declared.duration.Duration.{Duration}
 use Rattle.profile.specs.events.EventComponents as profile
 use Rattle.profile.specs.events.Events as meetings
-use Rattle.profile.specs.events.Properties.{length_seconds}
+use Rattle.profile.specs.events.Properties.{Form, Fixed, Floating, WholeDay, Length, length_seconds}
+use Rattle.profile.specs.events.ZonedTimes.{SuitsForm, length_alone}
 use Rattle.profile.specs.text.Trees.{Tree}
 use Rattle.profile.specs.text.Lines.{is_same_name}
 use Rattle.ical_tree.specs.Tree.{component_name, component_lines, component_children}
 use Rattle.ical_tree.specs.declared.component.Component.{Component}
 use Rattle.cal_events.specs.declared.event_times.Extent.{Extent}
-use Rattle.cal_events.specs.declared.event_times.Extent.TheVariants.{ToEnd, For}
-pub use Rattle.cal_events.specs.Times.{length_of, zone_said, local_said, times_of}
+use Rattle.cal_events.specs.declared.event_times.Extent.TheVariants.{To, For, Open}
+use Rattle.cal_events.specs.declared.event_times.SaidEnd.{SaidEnd}
+pub use Rattle.cal_events.specs.Times.{length_of, form_of, form_said, zone_said, local_said, times_of, time_of, written_of}
 use Rattle.cal_events.specs.declared.component.Attendee.{Attendee}
 use Rattle.cal_events.specs.declared.component.EventComponent.{EventComponent}
 use Rattle.cal_events.specs.declared.component.PartStat.{PartStat}
@@ -55,6 +57,7 @@ component_of e = record {
   rule = e.rule;
   additions = e.additions.items;
   exceptions = e.exceptions.items;
+  written = written_of e.written;
   summary = text_octets e.summary;
   attendees = map attendee_of e.attendees.items;
 }
@@ -63,16 +66,25 @@ component_of e = record {
 abbrev pub meeting_with : Option EventComponent → List EventComponent → meetings.Event
 meeting_with master overrides = record { master = option_map component_of master; overrides = map component_of overrides }
 
--- the length that an extent gives
-abbrev pub GivesLength : Extent → Duration → Type 0
-GivesLength (ToEnd seconds) length = (length.days ≡ 0) × (seconds ≡ pos length.seconds)
-GivesLength (For duration) length = length ≡ duration
+-- the length to an end of this form, so many seconds later, of a date in whole days
+abbrev pub IsLengthTo : Form → ℤ → Length → Type 0
+IsLengthTo Fixed seconds length = (length.days ≡ 0) × (seconds ≡ pos length.seconds)
+IsLengthTo Floating seconds length = (length.days ≡ 0) × (seconds ≡ pos length.seconds)
+IsLengthTo WholeDay seconds length = (length.seconds ≡ 0) × (length.days ≡ unsigned_abs seconds / 86_400)
 
--- what is wrong with an extent: it ends before the start, or lasts longer than 366 days
-pub data ExtentFault : Extent → ℕ → Type 0 where
-  ends_early : (seconds : ℤ) → seconds <ℤ pos 0 → ExtentFault (ToEnd seconds) 50
-  ends_late : (seconds : ℤ) → pos 31_622_400 <ℤ seconds → ExtentFault (ToEnd seconds) 51
-  lasts_long : (duration : Duration) → 31_622_400 < length_seconds (length_of duration) → ExtentFault (For duration) 51
+-- the length that an extent gives beside a start of this form
+abbrev pub GivesLength : Form → Extent → Length → Type 0
+GivesLength form (To end) length = (form_of end.form ≡ form) × IsLengthTo form end.seconds length
+GivesLength form (For duration) length = (length ≡ length_of duration) × SuitsForm form length
+GivesLength form Open length = length ≡ length_alone form
+
+-- what is wrong with an extent beside such a start: another form, it ends before the start, or lasts longer than 366 days
+pub data ExtentFault (form : Form) : Extent → ℕ → Type 0 where
+  other_form : (end : SaidEnd) → form_of end.form ≢ form → ExtentFault form (To end) 57
+  part_of_day : (duration : Duration) → form ≡ WholeDay → 0 < duration.seconds → ExtentFault form (For duration) 57
+  ends_early : (end : SaidEnd) → form_of end.form ≡ form → end.seconds <ℤ pos 0 → ExtentFault form (To end) 50
+  ends_late : (end : SaidEnd) → form_of end.form ≡ form → pos 31_622_400 <ℤ end.seconds → ExtentFault form (To end) 51
+  lasts_long : (duration : Duration) → 31_622_400 < length_seconds (length_of duration) → ExtentFault form (For duration) 51
 
 -- the VEVENTs of an object, each as its lines
 abbrev pub is_vevent : Component → Bool

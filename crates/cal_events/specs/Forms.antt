@@ -1,44 +1,35 @@
--- What a text of a time spells by its form, and which fault it has: of a line with TZID (true) a local time, of one without a UTC time
--- (RFC 5545 3.3.5, forms 3 and 2).
-use Rattle.std.specs.Prelude.{◌≡◌, ◌⊎◌, ℕ, Bool, true, false, List, ℤ}
+-- What a text of a time spells by its form (RFC 5545 3.3.4, 3.3.5).
+use Rattle.std.specs.Prelude.{◌≡◌, ℕ, true, List, codes, Option, None, MatchOption, ℤ}
+use Rattle.profile.specs.text.Lines.{line_param}
 use Rattle.profile.specs.text.Values.{SpellsStamp, SpellsLocal}
+use Rattle.profile.specs.series.Zones.{Zone}
 use Rattle.profile.specs.events.Properties as properties
-use Rattle.profile.specs.events.Properties.{IsDateText, IsLocalText, KindFault, malformed_number}
-use Rattle.profile.specs.events.ZonedTimes.{LocalFault}
+use Rattle.profile.specs.events.Properties.{Form, Fixed, Floating, WholeDay, allows, time_kind, IsLocalText}
+use Rattle.profile.specs.events.ZonedTimes.{SpellsMidnight}
+use Rattle.cal_events.specs.Times.{form_said, zone_said, local_said}
 use Rattle.cal_events.specs.declared.when.TimeKind.{TimeKind}
-use Rattle.cal_events.specs.declared.when.TimeKind.TheVariants.{Date, DateTime, Period, Other}
+use Rattle.cal_events.specs.declared.when.TimeKind.TheVariants.{Unsaid, Date, DateTime, Period, Other}
+use Rattle.cal_events.specs.declared.when.When.{When}
 
 abbrev pub said_kind : TimeKind → properties.TimeKind
+said_kind Unsaid = properties.Unsaid
 said_kind DateTime = properties.DateTime
 said_kind Date = properties.Date
 said_kind Period = properties.Period
 said_kind Other = properties.Other
 
--- the text spells this local time
-abbrev pub SpellsAs : Bool → List ℕ → ℤ → Type 0
-SpellsAs true text local = SpellsLocal text local
-SpellsAs false text local = SpellsStamp text local
+-- without TZID the text is a time of this form
+abbrev pub IsAlone : List ℕ → Form → ℤ → Type 0
+IsAlone text Fixed local = SpellsStamp text local
+IsAlone text Floating local = SpellsLocal text local
+IsAlone text WholeDay local = SpellsMidnight text local
 
--- it spells none
-abbrev pub IsUnspelled : Bool → List ℕ → Type 0
-IsUnspelled in_zone text = (local : ℤ) → SpellsAs in_zone text local → ⊥
+-- it says this time, of no zone
+abbrev pub SpellsAlone : List ℕ → When → Type 0
+SpellsAlone text time = (zone_said time ≡ None) × IsAlone text (form_said time) (local_said time)
 
--- the number of what is wrong with it
-abbrev pub FaultAs : Bool → properties.TimeKind → List ℕ → ℕ → Type 0
-FaultAs true kind text number = LocalFault kind text number
-FaultAs false kind text number = KindFault kind text number
-
--- it is a local time, and no TZID names the zone
-abbrev pub IsFloating : Bool → List ℕ → Type 0
-IsFloating true text = ⊥
-IsFloating false text = IsLocalText text
-
--- the number of a text that is neither a date nor a time
-abbrev pub malformed_as : Bool → List ℕ → ℕ
-malformed_as true text = 11
-malformed_as false text = malformed_number text
-
--- 55 for a date, else the number of a malformed text
-abbrev pub IsDateOrMalformed : Bool → List ℕ → ℕ → Type 0
-IsDateOrMalformed in_zone text number =
-    (IsDateText text × (number ≡ 55)) ⊎ ((IsDateText text → ⊥) × (number ≡ malformed_as in_zone text))
+-- a text of a line is a time, whichever zone TZID names
+abbrev pub IsReadable : List ℕ → List ℕ → Type 0
+IsReadable line text =
+    MatchOption (line_param (codes "TZID") line) ((form : Form) × (local : ℤ) × (allows (time_kind line) form ≡ true) × IsAlone text form local)
+    (λ _. (allows (time_kind line) Fixed ≡ true) × IsLocalText text)

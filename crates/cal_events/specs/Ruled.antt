@@ -7,6 +7,7 @@ use Rattle.profile.specs.checker.Instances.{Key}
 use Rattle.profile.specs.events.EventComponents.{EventComponent as Said, meeting_said}
 use Rattle.profile.specs.events.Events.{Event as Whole}
 use Rattle.profile.specs.events.Confirmed.{by_its_rule}
+use Rattle.cal_events.specs.Times.{none_written}
 use Rattle.cal_events.specs.Calendar.{MeetingName, key_in}
 use Rattle.cal_events.specs.declared.component.EventComponent.{EventComponent}
 use Rattle.cal_events.specs.declared.event.Event.{Event}
@@ -21,7 +22,7 @@ IsRuled event =
 
 -- a master by its rule alone, without these starts, as if EXDATE named them, and without its SUMMARY and who attends
 abbrev pub ruled_without : Said → List ℤ → Said
-ruled_without master starts = record (by_its_rule master starts) { summary = []; attendees = [] }
+ruled_without master starts = record (by_its_rule master starts) { written = none_written; summary = []; attendees = [] }
 
 -- ---- the keys of one meeting
 

@@ -19,9 +19,10 @@ use crate::component_values::{
 };
 use crate::event_rule::SaidRule;
 use crate::event_times::{EventTimes, SaidTimes, seconds_of};
-use crate::method::{Method, adds_instances, may_lack_start};
+use crate::method::{Method, adds_instances, may_lack_start, names_by_fixed};
 use crate::occurrences::{
-    Listing, SaidInstant, SaidInstants, judge_recurrence, refuse_recurring_instance,
+    Listing, SaidInstant, SaidInstants, WrittenTimes, instants_of, judge_recurrence,
+    refuse_recurring_instance, refuse_unfixed,
 };
 use crate::properties::has;
 use crate::when::one_zoned_time;
@@ -94,6 +95,8 @@ pub struct EventComponent {
     pub additions: Vec<i64>,
     /// EXDATE: the starts that are taken away (RFC 5545 3.8.5.1), likewise; they may be in any year from 1 to 9999.
     pub exceptions: Vec<i64>,
+    /// RECURRENCE-ID, RDATE and EXDATE as they are written.
+    pub written: WrittenTimes,
     /// SUMMARY, that of the first line where there are several; empty where it is missing (RFC 5545 3.8.1.12).
     pub summary: Text,
     /// The ATTENDEE lines in the order of the text. Of several with one address the first counts.
@@ -109,8 +112,8 @@ impl EventComponent {
     /// Reads the properties of a VEVENT of an object of this METHOD, or of one whose METHOD is ignored; its times may name these zones.
     /// Refused, in this order: of UID, ORGANIZER, DTSTAMP, SEQUENCE and STATUS 10 and 14 to 16 for a value, 61 and 63 for one that
     /// is missing or occurs twice; as by `SaidInstant::read_recurrence` for RECURRENCE-ID; as by `SaidTimes::read` for DTSTART,
-    /// DTEND and DURATION; 61 and 30 to 33 for RRULE; as by `SaidInstants::read` for RDATE and EXDATE; 15 for an ATTENDEE; as by
-    /// `SaidTimes::judge` for the times together; 52 for a RECURRENCE-ID or an RDATE outside of the dates that an event may name;
+    /// DTEND and DURATION; 61 and 30 to 33 for RRULE; as by `SaidInstants::read` for RDATE and EXDATE; 15 for an ATTENDEE; 57 for a
+    /// RECURRENCE-ID that isn't fixed in what is stored or answered; as by `SaidTimes::judge` for the times together; 52 for a RECURRENCE-ID or an RDATE outside of the dates that an event may name;
     /// 67 for RRULE or RDATE in a single instance; 34 for a DTSTART that isn't one of the rule's days.
     pub(crate) fn read(
         alloc: Global,
@@ -134,22 +137,29 @@ impl EventComponent {
         let said_exceptions = SaidInstants::read(alloc, zones, properties, Listing::Exceptions)?;
         let attendees = read_attendees(alloc, properties)?;
         let summary = read_summary(alloc, properties)?;
+        refuse_unfixed(said_recurrence, names_by_fixed(method))?;
         let times = said.judge()?;
-        let recurrence = judge_recurrence(said_recurrence)?;
-        let additions = said_additions.judge()?;
+        let written = WrittenTimes {
+            recurrence: judge_recurrence(said_recurrence)?,
+            additions: said_additions.judge()?,
+            exceptions: said_exceptions.times,
+        };
         refuse_recurring_instance(properties, adds_instances(method))?;
         let rule = said_rule.judge(&times, has(properties, "DTSTART"))?;
+        let additions = instants_of(alloc, &written.additions)?;
+        let exceptions = instants_of(alloc, &written.exceptions)?;
         Ok(EventComponent {
             uid,
             organiser,
             stamp,
             sequence,
             cancelled,
-            recurrence,
+            recurrence: written.instant(),
             times,
             rule,
             additions,
-            exceptions: said_exceptions.instants,
+            exceptions,
+            written,
             summary,
             attendees,
         })

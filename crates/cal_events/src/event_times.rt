@@ -1,7 +1,7 @@
-//! When an event starts and how long it lasts (RFC 5545 3.6.1): first its three properties as they are said, in UTC or
-//! where TZID names a zone, then all of them together.
+//! When an event starts and how long it lasts (RFC 5545 3.6.1): first its three properties as they are said, in UTC,
+//! where TZID names a zone, without zone or as dates, then all of them together.
 
-ghost use Rattle.std.specs.Prelude.{◌≡◌, ◌↔◌, ◌≤◌, ◌^◌, ℕ, Bool, List, Some, codes, pos, ◌+ℤ◌, ◌-ℤ◌, ◌<ℤ◌, ◌≤ℤ◌, IfOk, IfErr, IsTrue};
+ghost use Rattle.std.specs.Prelude.{◌≡◌, ◌↔◌, ◌⊎◌, ◌≤◌, ◌^◌, ℕ, Bool, List, Some, codes, pos, ◌+ℤ◌, ◌-ℤ◌, ◌<ℤ◌, ◌≤ℤ◌, IfOk, IfErr, OnOk, IsTrue};
 ghost use Rattle.ical_lines.specs.Text.{line_text};
 ghost use Rattle.profile.specs.text.Trees.{Tree};
 ghost use Rattle.profile.specs.series.Zones.{IsNearEpoch, Means};
@@ -9,20 +9,21 @@ ghost use Rattle.profile.specs.events.Starts.{IsDaysLater, EndsAt, IsWidth};
 ghost use Rattle.cal_zones.specs.Kinds.{zone_of};
 ghost use Rattle.profile.specs.faults.Faults.{is_event_fault};
 ghost use Rattle.profile.specs.events.Properties.{length_seconds, OccursAtMostOnce, IsMissing};
-ghost use Rattle.profile.specs.events.ZonedTimes.{is_in_zone, IsInDates, ZonedTimeFault, SaysTimes, EventTimesFault};
-ghost use Rattle.cal_events.specs.Component.{times_of, length_of, GivesLength, ExtentFault};
+ghost use Rattle.profile.specs.events.ZonedTimes.{is_in_zone, past_locals, IsInDates, SuitsForm, length_alone, ZonedTimeFault, SaysEventTimes, SaysNoStart, SaysTimes, EventTimesFault};
+ghost use Rattle.cal_events.specs.Component.{times_of, length_of, form_of, form_said, local_said, IsLengthTo, GivesLength, ExtentFault};
+ghost use Rattle.cal_events.specs.declared.event_times.Extent.TheVariants.{For};
 ghost use Rattle.cal_events.specs.Zones.{object_of, AreRead};
 ghost use Rattle.cal_events.specs.Overlapping.{LastAtMost};
-ghost use Rattle.cal_events.specs.Zoned.{EndsSo, IsExtentIn, IsAlone, AreSaid, AreSaidAlone, AreSaidBy, IsInYears};
+ghost use Rattle.cal_events.specs.Zoned.{ends_in, EndsSo, IsStartSaid, IsExtentIn, AreSaid, AreSaidAlone, AreSaidBy, IsInYears};
 
 use crate::instance::HORIZON;
 use crate::properties::optional;
-use crate::when::{When, is_in_zone};
+use crate::when::{Form, When, is_in_zone};
 use crate::zones::ZonesOfObject;
 use cal_zones::Zone;
 use ical_lines::{Line, Refusal};
 use ical_tree::Properties;
-use ical_values::{DAY_SECONDS, Duration, LocalTime, Stamp};
+use ical_values::{DAY_SECONDS, Duration, Stamp};
 
 /// The longest event, 366 days in seconds; this profile's choice.
 const LONGEST: i64 = 366 * DAY_SECONDS;
@@ -37,7 +38,8 @@ pub struct EventTimes {
     pub start: When,
     /// The instant that DTSTART means.
     pub instant: Stamp,
-    /// How long it lasts: exact seconds to DTEND, or DURATION as it is written, or nothing. At most 366 days.
+    /// How long it lasts: to DTEND in exact seconds, or in days where it is a date; or DURATION as it is written; or a day where DTSTART is a date;
+    /// or nothing. At most 366 days.
     pub length: Duration,
 }
 
@@ -104,40 +106,54 @@ pub(crate) fn resolve(clock: &Zone, local: i64) -> i64
     late
 }
 
+/// DTEND as it is said.
+#[derive(Clone, Copy)]
+pub(crate) struct SaidEnd {
+    form: Form,
+    /// Seconds from DTSTART, negative where it is before.
+    seconds: i64,
+    /// Whether it is in the dates that an event may name.
+    in_dates: bool,
+}
+
 /// How long an event is said to last.
 #[derive(Clone, Copy)]
-enum Extent {
-    /// DTEND: seconds from DTSTART, negative where it is before.
-    ToEnd(i64),
-    /// DURATION, or nothing where there is neither.
+pub(crate) enum Extent {
+    /// DTEND.
+    To(SaidEnd),
+    /// DURATION.
     For(Duration),
+    /// There is neither.
+    Open,
 }
 
 impl Extent {
-    /// Without a start: an end gives no length.
-    fn alone(self) -> Extent
-        ensures { IsAlone self result }
+    /// Whether DTEND is in the dates that an event may name, or is absent.
+    fn ends_in(self) -> bool
+        ensures { result ≡ ends_in self }
     {
         match self {
-            Extent::ToEnd(_) => Extent::For(Duration {
-                days: 0,
-                seconds: 0,
-            }),
-            Extent::For(duration) => Extent::For(duration),
+            Extent::To(end) => end.in_dates,
+            Extent::For(_) | Extent::Open => true,
         }
     }
 }
 
+/// DTSTART as it is said.
+#[derive(Clone, Copy)]
+pub(crate) struct SaidStart {
+    when: When,
+    instant: i64,
+    /// Whether it is in the dates that an event may name.
+    in_dates: bool,
+}
+
 /// What DTSTART, DTEND and DURATION say, each judged alone.
 #[derive(Clone, Copy)]
-pub(crate) struct SaidTimes {
-    start: When,
-    instant: i64,
-    extent: Extent,
-    /// Whether DTSTART is in the dates that an event may name.
-    starts_in: bool,
-    /// Whether DTEND is in them, or is absent.
-    ends_in: bool,
+pub(crate) enum SaidTimes {
+    From(SaidStart, Extent),
+    /// Without DTSTART: an end gives no length.
+    Alone(Extent),
 }
 
 impl SaidTimes {
@@ -156,7 +172,7 @@ impl SaidTimes {
         let line = optional(properties, "DTSTART")?;
         match line {
             Some(line) => SaidTimes::from_start(line, zones, properties),
-            None if may_lack => SaidTimes::without_start(zones, properties),
+            None if may_lack => Ok(SaidTimes::Alone(read_extent(zones, properties, 0)?)),
             None => Err(Refusal::BAD_PROPERTY),
         }
     }
@@ -169,142 +185,220 @@ impl SaidTimes {
     ) -> Result<SaidTimes, Refusal>
         requires zones { AreRead zones.now }
         requires once { OccursAtMostOnce (codes "DTSTART") properties.now (Some (line_text line)) }
-        ensures said { IfOk result (AreSaid (object_of zones.now) properties.now) }
+        ensures said { (may_lack : Bool) → IfOk result (AreSaidBy may_lack (object_of zones.now) properties.now) }
         ensures fault { (may_lack : Bool) → IfErr result (λ e. EventTimesFault may_lack (object_of zones.now) properties.now e.number) }
     {
-        let start = When::read(line, zones)?;
-        let instant = start.instant();
-        let in_zone = is_in_zone(line);
-        let starts_in = is_in_dates(in_zone, start.local(), instant);
-        let (extent, ends_in) = read_extent(zones, properties, instant)?;
-        Ok(SaidTimes {
-            start,
-            instant,
-            extent,
-            starts_in,
-            ends_in,
-        })
-    }
-
-    /// What they say without DTSTART: an end is read, and gives no length.
-    fn without_start(
-        zones: &ZonesOfObject<'_, '_>,
-        properties: &Properties<'_>,
-    ) -> Result<SaidTimes, Refusal>
-        requires zones { AreRead zones.now }
-        requires missing { IsMissing (codes "DTSTART") properties.now }
-        ensures said { IfOk result (AreSaidAlone (object_of zones.now) properties.now) }
-        ensures fault { (may_lack : Bool) → IfErr result (λ e. EventTimesFault may_lack (object_of zones.now) properties.now e.number) }
-    {
-        let (extent, ends_in) = read_extent(zones, properties, 0)?;
-        Ok(SaidTimes {
-            start: When::epoch(),
-            instant: 0,
-            extent: extent.alone(),
-            starts_in: true,
-            ends_in,
-        })
+        let start = read_start(line, zones)?;
+        let extent = read_extent(zones, properties, start.instant)?;
+        Ok(SaidTimes::From(start, extent))
     }
 
     /// Judges the times together.
-    /// Refused: 50 where the event ends before it starts, 51 past 366 days, 52 where DTSTART or DTEND is outside of the
-    /// local years 1970 to 9999 (in UTC from 1969-12-31 on), or not before 10000-01-01T00:00:00Z.
+    /// Refused: 57 where DTEND or DURATION doesn't go with the form of DTSTART; 50 where the event ends before it starts, 51 past 366 days; 52 where
+    /// DTSTART or DTEND is outside of the local years 1970 to 9999 (in UTC from 1969-12-31 on), or not before 10000-01-01T00:00:00Z, or
+    /// a DTSTART that isn't fixed is on 9999-12-31.
     pub(crate) fn judge(self) -> Result<EventTimes, Refusal>
         ensures says { (may_lack : Bool) (object : Tree) (lines : List (List ℕ)) → AreSaidBy may_lack object lines self
             → IfOk result (λ times. SaysTimes may_lack object lines (times_of times)) }
         ensures fault { (may_lack : Bool) (object : Tree) (lines : List (List ℕ)) → AreSaidBy may_lack object lines self
             → IfErr result (λ e. EventTimesFault may_lack object lines e.number) }
     {
-        let length = judge_extent(self.extent)?;
-        if !self.starts_in || !self.ends_in {
-            return Err(Refusal::OUT_OF_DATES);
+        match self {
+            SaidTimes::From(start, extent) => judge_from(start, extent),
+            SaidTimes::Alone(extent) => judge_alone(extent),
         }
-        let Some(instant) = Stamp::of_instant(self.instant) else {
-            return Err(Refusal::OUT_OF_DATES);
-        };
-        Ok(EventTimes {
-            start: self.start,
-            instant,
-            length,
-        })
     }
 }
 
-/// Whether an event may name a time, by its local time and the instant that it means.
-pub(crate) fn is_in_dates(in_zone: bool, local: LocalTime, instant: i64) -> bool
-    ensures { IsTrue result ↔ IsInDates in_zone local instant }
+/// DTSTART as a line says it.
+fn read_start(line: Line<'_>, zones: &ZonesOfObject<'_, '_>) -> Result<SaidStart, Refusal>
+    requires zones { AreRead zones.now }
+    ensures says { IfOk result (IsStartSaid (object_of zones.now) (line_text line.entry)) }
+    ensures near { IfOk result (λ start. IsNearEpoch start.instant) }
+    ensures fault { IfErr result (λ e. ZonedTimeFault (object_of zones.now) (line_text line.entry) e.number) }
 {
-    let first = if in_zone { 0 } else { FIRST_SECOND };
-    local.seconds() >= first && instant >= FIRST_SECOND && instant < HORIZON
+    let when = When::read(line, zones)?;
+    let instant = when.instant();
+    Ok(SaidStart {
+        when,
+        instant,
+        in_dates: is_in_dates(&when, false, is_in_zone(line), instant),
+    })
 }
 
-/// What DTEND or DURATION say of an event that starts at an instant, and whether DTEND is in the dates that an event may name.
+/// Whether an event may name a time, as an end or not, of a line with TZID or without, which means this instant.
+pub(crate) fn is_in_dates(when: &When, is_end: bool, in_zone: bool, instant: i64) -> bool
+    ensures { IsTrue result ↔ IsInDates is_end (form_said when.now) in_zone (local_said when.now) instant }
+{
+    let local = when.local().seconds();
+    match when.form() {
+        Form::Fixed => {
+            let first = if in_zone { 0 } else { FIRST_SECOND };
+            local >= first && instant >= FIRST_SECOND && instant < HORIZON
+        }
+        Form::Floating | Form::WholeDay => local >= 0 && local < past_locals(is_end),
+    }
+}
+
+/// The first local time past those of a start that isn't fixed, 9999-12-31T00:00:00, or past those of an end.
+fn past_locals(is_end: bool) -> i64
+    ensures { result ≡ past_locals is_end }
+{
+    if is_end { HORIZON } else { HORIZON - DAY_SECONDS }
+}
+
+/// What DTEND or DURATION say of an event that starts at an instant.
 fn read_extent(
     zones: &ZonesOfObject<'_, '_>,
     properties: &Properties<'_>,
     start: i64,
-) -> Result<(Extent, bool), Refusal>
+) -> Result<Extent, Refusal>
     requires zones { AreRead zones.now }
     requires start { IsNearEpoch start }
-    ensures reads { IfOk result (λ read. IsExtentIn (object_of zones.now) properties.now start read.1 read.0) }
+    ensures reads { IfOk result (IsExtentIn (object_of zones.now) properties.now start) }
     ensures fault { (may_lack : Bool) → IfErr result (λ e. EventTimesFault may_lack (object_of zones.now) properties.now e.number) }
 {
     let end = optional(properties, "DTEND")?;
     let duration = optional(properties, "DURATION")?;
     match (end, duration) {
         (Some(_), Some(_)) => Err(Refusal::BAD_PROPERTY),
-        (Some(line), None) => {
-            let (seconds, ends_in) = seconds_to(line, zones, start)?;
-            Ok((Extent::ToEnd(seconds), ends_in))
-        }
-        (None, Some(line)) => Ok((Extent::For(Duration::read(line.value())?), true)),
-        (None, None) => Ok((
-            Extent::For(Duration {
-                days: 0,
-                seconds: 0,
-            }),
-            true,
-        )),
+        (Some(line), None) => Ok(Extent::To(read_end(line, zones, start)?)),
+        (None, Some(line)) => Ok(Extent::For(Duration::read(line.value())?)),
+        (None, None) => Ok(Extent::Open),
     }
 }
 
-/// The seconds from an instant to the end that a line says, and whether that is in the dates that an event may name.
-fn seconds_to(
+/// The end that a line says, of an event that starts at an instant.
+fn read_end(
     line: Line<'_>,
     zones: &ZonesOfObject<'_, '_>,
     start: i64,
-) -> Result<(i64, bool), Refusal>
+) -> Result<SaidEnd, Refusal>
     requires zones { AreRead zones.now }
     requires start { IsNearEpoch start }
-    ensures says { IfOk result (λ end. EndsSo (object_of zones.now) (line_text line.entry) (start +ℤ end.0) end.1) }
+    ensures says { IfOk result (EndsSo (object_of zones.now) (line_text line.entry) start) }
     ensures fault { IfErr result (λ e. ZonedTimeFault (object_of zones.now) (line_text line.entry) e.number) }
 {
-    let end = When::read(line, zones)?;
-    let instant = end.instant();
-    Ok((
-        instant - start,
-        is_in_dates(is_in_zone(line), end.local(), instant),
-    ))
+    let when = When::read(line, zones)?;
+    let instant = when.instant();
+    Ok(SaidEnd {
+        form: when.form(),
+        seconds: instant - start,
+        in_dates: is_in_dates(&when, true, is_in_zone(line), instant),
+    })
 }
 
-/// Judges what DTEND or DURATION say, and gives the length.
-/// Refused: 50 where the event ends before it starts, 51 past 366 days.
-fn judge_extent(extent: Extent) -> Result<Duration, Refusal>
-    ensures length { IfOk result (GivesLength extent) }
+/// The times of an event with DTSTART.
+/// Refused: as by `SaidTimes::judge`.
+fn judge_from(start: SaidStart, extent: Extent) -> Result<EventTimes, Refusal>
+    ensures says { (object : Tree) (lines : List (List ℕ)) → AreSaid object lines start extent
+        → IfOk result (λ times. SaysEventTimes object lines (times_of times)) }
+    ensures fault { (may_lack : Bool) (object : Tree) (lines : List (List ℕ)) → AreSaid object lines start extent
+        → IfErr result (λ e. EventTimesFault may_lack object lines e.number) }
+{
+    let length = length_from(start.when.form(), extent)?;
+    if !start.in_dates || !extent.ends_in() {
+        return Err(Refusal::OUT_OF_DATES);
+    }
+    let Some(instant) = Stamp::of_instant(start.instant) else {
+        return Err(Refusal::OUT_OF_DATES);
+    };
+    Ok(EventTimes {
+        start: start.when,
+        instant,
+        length,
+    })
+}
+
+/// The times of an event without DTSTART.
+/// Refused: 51 for a DURATION past 366 days, 52 for a DTEND outside of the dates that an event may name.
+fn judge_alone(extent: Extent) -> Result<EventTimes, Refusal>
+    ensures says { (object : Tree) (lines : List (List ℕ)) → AreSaidAlone object lines extent
+        → IfOk result (λ times. SaysNoStart object lines (times_of times)) }
+    ensures fault { (may_lack : Bool) (object : Tree) (lines : List (List ℕ)) → AreSaidAlone object lines extent
+        → IfErr result (λ e. EventTimesFault may_lack object lines e.number) }
+{
+    let length = match extent {
+        Extent::For(duration) => judge_duration(duration, Form::Fixed)?,
+        Extent::To(_) | Extent::Open => length_alone(Form::Fixed),
+    };
+    if !extent.ends_in() {
+        return Err(Refusal::OUT_OF_DATES);
+    }
+    Ok(EventTimes {
+        start: When::epoch(),
+        instant: Stamp::of_instant(0).unwrap(),
+        length,
+    })
+}
+
+/// How long an event lasts whose DTSTART has this form.
+/// Refused: 57 where DTEND has another form, or DURATION isn't of whole days beside a date; 50 where the event ends before it starts, 51 past
+/// 366 days.
+fn length_from(form: Form, extent: Extent) -> Result<Duration, Refusal>
+    ensures length { IfOk result (λ length. GivesLength (form_of form) extent (length_of length)) }
     ensures most { IfOk result (λ length. length_seconds (length_of length) ≤ 31_622_400) }
-    ensures refuses { IfErr result (λ e. IsTrue (is_event_fault e.number)) }
-    ensures fault { IfErr result (λ e. ExtentFault extent e.number) }
+    ensures fault { IfErr result (λ e. ExtentFault (form_of form) extent e.number) }
 {
     match extent {
-        Extent::ToEnd(seconds) if seconds < 0 => Err(Refusal::END_BEFORE_START),
-        Extent::ToEnd(seconds) if seconds > LONGEST => Err(Refusal::LONG_OR_NEGATIVE),
-        Extent::ToEnd(seconds) => Ok(Duration {
+        Extent::To(end) if end.form != form => Err(Refusal::OTHER_FORM),
+        Extent::To(end) => length_to(form, end.seconds),
+        Extent::For(duration) => judge_duration(duration, form),
+        Extent::Open => Ok(length_alone(form)),
+    }
+}
+
+/// The length up to a DTEND of this form, so many seconds after DTSTART: whole days up to a date, which are 86,400 seconds each.
+/// Refused: 50 where it is negative, 51 past 366 days.
+fn length_to(form: Form, seconds: i64) -> Result<Duration, Refusal>
+    ensures length { IfOk result (λ length. IsLengthTo (form_of form) seconds (length_of length)) }
+    ensures most { IfOk result (λ length. length_seconds (length_of length) ≤ 31_622_400) }
+    ensures fault { IfErr result (λ e. ((e.number ≡ 50) × (seconds <ℤ pos 0)) ⊎ ((e.number ≡ 51) × (pos 31_622_400 <ℤ seconds))) }
+{
+    if seconds < 0 {
+        return Err(Refusal::END_BEFORE_START);
+    }
+    if seconds > LONGEST {
+        return Err(Refusal::LONG_OR_NEGATIVE);
+    }
+    Ok(match form {
+        Form::Fixed | Form::Floating => Duration {
             days: 0,
             seconds: seconds as u32,
-        }),
-        Extent::For(duration) if seconds_of(duration) > LONGEST => Err(Refusal::LONG_OR_NEGATIVE),
-        Extent::For(duration) => Ok(duration),
+        },
+        Form::WholeDay => Duration {
+            days: (seconds / DAY_SECONDS) as u32,
+            seconds: 0,
+        },
+    })
+}
+
+/// A DURATION beside a DTSTART of this form.
+/// Refused: 57 where it isn't of whole days beside a date, 51 past 366 days.
+fn judge_duration(duration: Duration, form: Form) -> Result<Duration, Refusal>
+    ensures same { IfOk result (λ length. length ≡ duration) }
+    ensures suits { OnOk result (SuitsForm (form_of form) (length_of duration)) }
+    ensures most { OnOk result (length_seconds (length_of duration) ≤ 31_622_400) }
+    ensures fault { IfErr result (λ e. ExtentFault (form_of form) (For duration) e.number) }
+{
+    if form == Form::WholeDay && duration.seconds > 0 {
+        return Err(Refusal::OTHER_FORM);
     }
+    if seconds_of(duration) > LONGEST {
+        return Err(Refusal::LONG_OR_NEGATIVE);
+    }
+    Ok(duration)
+}
+
+/// How long an event lasts without DTEND and DURATION: a whole day that day, another not at all.
+fn length_alone(form: Form) -> Duration
+    ensures { length_of result ≡ length_alone (form_of form) }
+{
+    let days = match form {
+        Form::Fixed | Form::Floating => 0,
+        Form::WholeDay => 1,
+    };
+    Duration { days, seconds: 0 }
 }
 
 /// A duration in seconds, days as 86,400: in UTC no day is longer or shorter.

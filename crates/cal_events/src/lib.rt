@@ -45,7 +45,8 @@ pub use reading::{
 };
 pub use series::Series;
 pub use sweep::{Overlap, Span, first_overlap};
-pub use when::{When, judge_time, one_zoned_time};
+pub use occurrences::{Time, WrittenTimes};
+pub use when::{Form, When, judge_time, one_zoned_time};
 pub use whole::{
     all_instances, all_starts, instances_last, known_by_start, listed_series, series_are_said,
 };

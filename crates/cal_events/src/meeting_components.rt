@@ -13,6 +13,7 @@ ghost use Rattle.cal_events.specs.MeetingComponents.{instants_said, AreOfObject,
 use crate::component::EventComponent;
 use crate::instants::Instants;
 use crate::method::{Method, adds_instances};
+use crate::occurrences::Time;
 use crate::reading::read_events;
 use ical_lines::{Fault, Refusal};
 use ical_tree::Component;
@@ -127,7 +128,12 @@ fn add(component: &mut EventComponent)
     ensures { component_of component.new ≡ as_added (component_of component.old) }
 {
     let times = component.times;
-    component.recurrence = Some(times.instant.instant());
+    let instant = times.instant.instant();
+    component.recurrence = Some(instant);
+    component.written.recurrence = Some(Time {
+        form: times.start.form(),
+        instant,
+    });
 }
 
 /// Refuses components that aren't those of one meeting.

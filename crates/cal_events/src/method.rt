@@ -1,6 +1,6 @@
 //! What an object asks for, by its METHOD (RFC 5546 1.4). It says which properties of a VEVENT are required, and to whom the object goes.
 ghost use Rattle.std.specs.Prelude.{◌≡◌};
-ghost use Rattle.profile.specs.events.EventComponents.{adds_instances, may_lack_start};
+ghost use Rattle.profile.specs.events.EventComponents.{adds_instances, may_lack_start, names_by_fixed};
 ghost use Rattle.profile.specs.events.Messages.{is_of_attendee, is_to_rooms};
 ghost use Rattle.profile.specs.rooms.Messages.{is_add, is_cancel};
 ghost use Rattle.cal_events.specs.Component.{method_read, method_said};
@@ -67,4 +67,11 @@ pub(crate) fn may_lack_start(method: Option<Method>) -> bool
         method,
         Some(Method::Cancel | Method::Reply | Method::Refresh)
     )
+}
+
+/// Whether only a fixed time can name an instance: in what is stored, and in what is answered to it.
+pub(crate) fn names_by_fixed(method: Option<Method>) -> bool
+    ensures { result ≡ names_by_fixed (method_read method) }
+{
+    matches!(method, Some(Method::Store | Method::Reply))
 }

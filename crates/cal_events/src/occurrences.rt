@@ -1,24 +1,26 @@
 //! Which instance of a meeting a VEVENT is for (RECURRENCE-ID, RFC 5545 3.8.4.4), and which starts it adds to those of its
 //! rule and which it takes away (RDATE 3.8.5.2, EXDATE 3.8.5.1): first as they are said, then judged together with the rest.
 
-ghost use Rattle.std.specs.Prelude.{◌≡◌, ◌⊎◌, ◌<◌, ◌∷◌, ◌++◌, ◌==◌, ◌||◌, [], List, ℕ, Bool, codes, true, false, IfOk, IfErr, OnOk, OnErr};
+ghost use Rattle.std.specs.Prelude.{◌≡◌, ◌⊎◌, ◌<◌, ◌∷◌, ◌++◌, ◌==◌, ◌||◌, [], List, ℕ, Bool, codes, map, option_map, true, false, IfOk, IfErr, OnOk, OnErr};
 ghost use Rattle.std.specs.List.{AllZip, list_any};
 ghost use Rattle.ical_lines.specs.Fault.{RefusesBy};
 ghost use Rattle.ical_lines.specs.Text.{line_text};
 ghost use Rattle.profile.specs.text.Trees.{Tree};
 ghost use Rattle.profile.specs.events.Properties.{is_of, Says};
 ghost use Rattle.profile.specs.events.ZonedTimes.{ZonedTextFault};
-ghost use Rattle.profile.specs.events.Occurrences.{ListedTime, IsRecurrenceLine, is_period, entries_of, entries_named, Lists, IsInside, EntriesFault, OccurrenceFault, recurs_as_instance};
+ghost use Rattle.profile.specs.events.Occurrences.{ListedTime, IsRecurrenceLine, is_period, entries_of, entries_named, Lists, IsInside, EntriesFault, OccurrenceFault, IsFixedWhere, recurs_as_instance};
+ghost use Rattle.profile.specs.events.EventComponents.{instants_of};
+ghost use Rattle.cal_events.specs.Times.{none_written, time_of, written_of};
 ghost use Rattle.cal_events.specs.Zones.{object_of, AreRead};
-ghost use Rattle.cal_events.specs.Occurrences.{name_of, SaysSo, IsRecurrenceSaid, AreListed};
+ghost use Rattle.cal_events.specs.Occurrences.{name_of, time_said, SaysSo, IsRecurrenceSaid, AreListed};
 
 use crate::event_times::is_in_dates;
 use crate::properties::optional;
-use crate::when::{When, is_in_zone};
+use crate::when::{Form, When, is_in_zone};
 use crate::zones::ZonesOfObject;
 use ical_lines::{Fault, Line, Refusal};
 use ical_tree::Properties;
-use std::alloc::Global;
+use std::alloc::{AllocError, Global};
 
 /// The most times of RDATE, and of EXDATE, of a VEVENT; this profile's choice.
 const MOST: usize = 366;
@@ -59,17 +61,58 @@ fn has_slash(text: &str) -> bool
     text.bytes().any(|octet| octet == b'/')
 }
 
-/// An instant as it is said.
+/// A time as it is written.
+#[derive(Clone, Copy)]
+pub struct Time {
+    pub form: Form,
+    /// In seconds from 1970-01-01T00:00:00Z; of a time that isn't fixed what it is in UTC.
+    pub instant: i64,
+}
+
+/// Which instance a VEVENT is for, and what it adds and takes away, as they are written.
+#[derive(Drop)]
+pub struct WrittenTimes {
+    /// RECURRENCE-ID.
+    pub recurrence: Option<Time>,
+    /// RDATE, in the order of the text.
+    pub additions: Vec<Time>,
+    /// EXDATE, likewise.
+    pub exceptions: Vec<Time>,
+}
+
+impl WrittenTimes {
+    /// None.
+    pub(crate) fn new(alloc: Global) -> WrittenTimes
+        ensures { written_of result ≡ none_written }
+    {
+        WrittenTimes {
+            recurrence: None,
+            additions: Vec::new(alloc),
+            exceptions: Vec::new(alloc),
+        }
+    }
+
+    /// The instant of RECURRENCE-ID.
+    pub(crate) fn instant(&self) -> Option<i64>
+        ensures { result ≡ option_map (λ time. time.instant) self.now.recurrence }
+    {
+        match self.recurrence {
+            Some(time) => Some(time.instant),
+            None => None,
+        }
+    }
+}
+
+/// A time as it is said.
 #[derive(Clone, Copy)]
 pub(crate) struct SaidInstant {
-    /// In seconds from 1970-01-01T00:00:00Z.
-    instant: i64,
+    time: Time,
     /// Whether it is in the dates that an event may name.
     in_dates: bool,
 }
 
 impl SaidInstant {
-    /// The instant that a text of a line says, where TZID may name one of these zones.
+    /// The time that a text of a line says, where TZID may name one of these zones.
     /// Refused: as by `When::read`.
     pub(crate) fn read(
         line: Line<'_>,
@@ -80,11 +123,14 @@ impl SaidInstant {
         ensures says { IfOk result (SaysSo (object_of zones.now) (line_text line.entry) text.now) }
         ensures fault { IfErr result (λ e. ZonedTextFault (object_of zones.now) (line_text line.entry) text.now e.number) }
     {
-        let time = When::read_text(line, text, zones)?;
-        let instant = time.instant();
+        let when = When::read_text(line, text, zones)?;
+        let time = Time {
+            form: when.form(),
+            instant: when.instant(),
+        };
         Ok(SaidInstant {
-            instant,
-            in_dates: is_in_dates(is_in_zone(line), time.local(), instant),
+            time,
+            in_dates: is_in_dates(&when, false, is_in_zone(line), time.instant),
         })
     }
 
@@ -96,7 +142,7 @@ impl SaidInstant {
     ) -> Result<Option<SaidInstant>, Refusal>
         requires zones { AreRead zones.now }
         ensures said { IfOk result (IsRecurrenceSaid (object_of zones.now) properties.now) }
-        ensures fault { (added : Bool) → IfErr result (λ e. OccurrenceFault added (object_of zones.now) properties.now e.number) }
+        ensures fault { (added fixed : Bool) → IfErr result (λ e. OccurrenceFault added fixed (object_of zones.now) properties.now e.number) }
     {
         let Some(line) = optional(properties, "RECURRENCE-ID")? else {
             return Ok(None);
@@ -108,17 +154,31 @@ impl SaidInstant {
     }
 }
 
-/// The instant of RECURRENCE-ID.
-/// Refused: 52 where it is outside of the dates that an event may name.
-pub(crate) fn judge_recurrence(said: Option<SaidInstant>) -> Result<Option<i64>, Refusal>
-    ensures says { (object : Tree) (lines : List (List ℕ)) → IsRecurrenceSaid object lines said
-        → IfOk result (Says (codes "RECURRENCE-ID") false (IsRecurrenceLine object) lines) }
+/// Refuses a RECURRENCE-ID that isn't fixed where only a fixed time can name an instance.
+/// Refused: 57.
+pub(crate) fn refuse_unfixed(said: Option<SaidInstant>, fixed: bool) -> Result<(), Refusal>
+    ensures is { OnOk result (IsFixedWhere fixed (time_said said)) }
     ensures fault { (object : Tree) (lines : List (List ℕ)) → IsRecurrenceSaid object lines said
-        → (added : Bool) → IfErr result (λ e. OccurrenceFault added object lines e.number) }
+        → (added : Bool) → IfErr result (λ e. OccurrenceFault added fixed object lines e.number) }
+{
+    match said {
+        Some(said) if fixed && said.time.form != Form::Fixed => Err(Refusal::OTHER_FORM),
+        _ => Ok(()),
+    }
+}
+
+/// The time of RECURRENCE-ID.
+/// Refused: 52 where it is outside of the dates that an event may name.
+pub(crate) fn judge_recurrence(said: Option<SaidInstant>) -> Result<Option<Time>, Refusal>
+    ensures is { IfOk result (λ time. option_map time_of time ≡ time_said said) }
+    ensures says { (object : Tree) (lines : List (List ℕ)) → IsRecurrenceSaid object lines said
+        → IfOk result (λ time. Says (codes "RECURRENCE-ID") false (IsRecurrenceLine object) lines (option_map time_of time)) }
+    ensures fault { (object : Tree) (lines : List (List ℕ)) → IsRecurrenceSaid object lines said
+        → (added fixed : Bool) → IfErr result (λ e. OccurrenceFault added fixed object lines e.number) }
 {
     match said {
         Some(said) if !said.in_dates => Err(Refusal::OUT_OF_DATES),
-        Some(said) => Ok(Some(said.instant)),
+        Some(said) => Ok(Some(said.time)),
         None => Ok(None),
     }
 }
@@ -161,11 +221,11 @@ fn recurs(properties: &Properties<'_>) -> bool
     false
 }
 
-/// The instants that a property lists, as they are said.
+/// The times that a property lists, as they are said.
 #[derive(Drop)]
 pub(crate) struct SaidInstants {
-    /// In seconds from 1970-01-01T00:00:00Z, in the order of the text. At most 366.
-    pub(crate) instants: Vec<i64>,
+    /// In the order of the text. At most 366.
+    pub(crate) times: Vec<Time>,
     /// Whether all are in the dates that an event may name.
     in_dates: bool,
 }
@@ -184,7 +244,7 @@ impl SaidInstants {
         ensures fault { IfErr result (RefusesBy (EntriesFault (object_of zones.now) (name_of listing) (entries_named (name_of listing) properties.now))) }
     {
         let mut said = SaidInstants {
-            instants: Vec::new(alloc),
+            times: Vec::new(alloc),
             in_dates: true,
         };
         for line in properties.lines() {
@@ -228,29 +288,40 @@ impl SaidInstants {
         ensures fault { (done : List ListedTime) → AreListed (object_of zones.now) (name_of listing) done self.old
             → IfErr result (RefusesBy (EntriesFault (object_of zones.now) (name_of listing) (done ++ (line_text line.entry, text.now) ∷ []))) }
     {
-        if self.instants.len() == MOST || listing.is_period(text) {
+        if self.times.len() == MOST || listing.is_period(text) {
             return Err(Fault::Refused(Refusal::LIST_OR_PERIOD));
         }
         let said = SaidInstant::read(line, text, zones)?;
-        self.instants.push(said.instant)?;
+        self.times.push(said.time)?;
         if !said.in_dates {
             self.in_dates = false;
         }
         Ok(())
     }
 
-    /// The instants of RDATE.
+    /// The times of RDATE.
     /// Refused: 52 where one is outside of the dates that an event may name.
-    pub(crate) fn judge(self) -> Result<Vec<i64>, Refusal>
+    pub(crate) fn judge(self) -> Result<Vec<Time>, Refusal>
         ensures says { (object : Tree) (lines : List (List ℕ)) → AreListed object (codes "RDATE") (entries_named (codes "RDATE") lines) self
-            → IfOk result (λ v. Lists object (codes "RDATE") (entries_named (codes "RDATE") lines) v.items
-            × AllZip (IsInside object) (entries_named (codes "RDATE") lines) v.items) }
+            → IfOk result (λ v. Lists object (codes "RDATE") (entries_named (codes "RDATE") lines) (map time_of v.items)
+            × AllZip (IsInside object) (entries_named (codes "RDATE") lines) (map time_of v.items)) }
         ensures fault { (object : Tree) (lines : List (List ℕ)) → AreListed object (codes "RDATE") (entries_named (codes "RDATE") lines) self
-            → (added : Bool) → IfErr result (λ e. OccurrenceFault added object lines e.number) }
+            → (added fixed : Bool) → IfErr result (λ e. OccurrenceFault added fixed object lines e.number) }
     {
         if !self.in_dates {
             return Err(Refusal::OUT_OF_DATES);
         }
-        Ok(self.instants)
+        Ok(self.times)
     }
+}
+
+/// The instants of times, in their order. It fails only when out of memory.
+pub(crate) fn instants_of(alloc: Global, times: &[Time]) -> Result<Vec<i64>, AllocError>
+    ensures { IfOk result (λ instants. instants.items ≡ instants_of (map time_of times.now)) }
+{
+    let mut instants = Vec::new(alloc);
+    for time in times {
+        instants.push(time.instant)?;
+    }
+    Ok(instants)
 }

@@ -24,6 +24,7 @@ use crate::entries::organiser_of;
 use crate::event::Event;
 use crate::instance::{Instance, InstanceKey, OwnedKey};
 use crate::instances::Instances;
+use crate::occurrences::WrittenTimes;
 use crate::regular::regular_from;
 use crate::single_starts::copied;
 use crate::sweep::Span;
@@ -219,7 +220,7 @@ impl EventComponent {
     }
 }
 
-/// A copy of a master by its rule alone, without these starts. Its SUMMARY and who attends aren't kept. It fails only when out of memory.
+/// A copy of a master by its rule alone, without these starts. Its SUMMARY, who attends and how its times are written aren't kept. It fails only when out of memory.
 fn ruled_copy(
     alloc: Global,
     master: &EventComponent,
@@ -244,6 +245,7 @@ fn ruled_copy(
         rule,
         additions: Vec::new(alloc),
         exceptions,
+        written: WrittenTimes::new(alloc),
         summary,
         attendees: Vec::new(alloc),
     })
