@@ -16,7 +16,7 @@ _roombox() {
     serve) options="--report --help" ;;
     keep) options="--certificate --help" ;;
     check) options="--help" ;;
-    expand) options="--limit --help" ;;
+    expand) options="--limit --zone --help" ;;
     explain) options="--help" ;;
     box) options="--help" ;;
     esac

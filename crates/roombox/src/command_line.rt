@@ -22,6 +22,7 @@ pub enum Invocation<'a> {
     },
     Expand {
         limit: &'a str,
+        zone: &'a str,
     },
     Explain {
         number: Option<&'a str>,
@@ -108,6 +109,10 @@ Input: one object without preamble; METHOD has no effect.
 Output: a line for each instance: original start, start, both in UTC, and length in seconds.
   20250107T090000Z 20250107T090000Z 3600
 
+WORDS: one argument, an offset, or the offset of standard time, that of daylight saving time, and
+of each when in the year it begins: month, weekday from the month's start or end, local time.
+  roombox expand --zone='-0500 -0400 11 1SU 0200 3 2SU 0200' < examples/whole-day.ics
+
 Exit status: 0 done; 2 usage; 3 the object is refused: standard error has the number, which
 `roombox explain` explains and docs/PROFILE.md lists; 4 a device failed; 5 out of memory.
 
@@ -157,6 +162,9 @@ Example: roombox box rooms.conf inbox outbox";
 /// How many instances are printed where no limit is given.
 const LIMIT: &str = "100";
 
+/// The zone in which a whole day or a time without zone is read where none is given: UTC.
+const ZONE: &str = "+0000";
+
 const ROOM_HELP: &str = "The room's address, as mailto:r1@example.com";
 
 const NUMBER_HELP: &str = "The number behind REFUSED;OBJECT=k:, `refused` or `no`";
@@ -183,6 +191,7 @@ pub fn read_words<'a>(alloc: Global, words: &'a [String]) -> Result<Invocation<'
 pub enum BadWord<'a> {
     Room(&'a str),
     Limit(&'a str),
+    Zone(&'a str),
     Number(&'a str),
 }
 
@@ -194,6 +203,9 @@ pub fn fault_of(alloc: Global, bad: BadWord<'_>) -> Result<Error, AllocError> {
         )?,
         BadWord::Limit(word) => format!(in alloc;
             "invalid value '{word}' for '--limit <N>': it isn't a number from 1 to 100000"
+        )?,
+        BadWord::Zone(word) => format!(in alloc;
+            "invalid value '{word}' for '--zone <WORDS>': it isn't an offset, or two offsets and when each begins, such as '-0500 -0400 11 1SU 0200 3 2SU 0200'"
         )?,
         BadWord::Number(word) => format!(in alloc;
             "invalid value '{word}' for '[NUMBER]': it isn't the number of a refusal, such as 43"
@@ -252,10 +264,15 @@ fn expand_command<'a>(alloc: Global) -> Result<Command<'a>, AllocError> {
     let limit = Arg::new(alloc, "limit").long("limit").value_name("N").help(
         "How many instances at most, from 1 to 100000; 100 where it isn't given",
     );
+    let zone = Arg::new(alloc, "zone")
+        .long("zone")
+        .value_name("WORDS")
+        .help("The zone of whole days and of times without zone; UTC where it isn't given");
     Command::new(alloc, "expand")
         .about(EXPAND)
         .after_help(EXPAND_MORE)
-        .arg(limit)
+        .arg(limit)?
+        .arg(zone)
 }
 
 fn explain_command<'a>(alloc: Global) -> Result<Command<'a>, AllocError> {
@@ -291,6 +308,7 @@ fn invocation_of<'a>(matches: &ArgMatches<'a>) -> Invocation<'a> {
         },
         Some(("expand", words)) => Invocation::Expand {
             limit: words.get_str("limit").unwrap_or(LIMIT),
+            zone: words.get_str("zone").unwrap_or(ZONE),
         },
         Some(("explain", words)) => Invocation::Explain {
             number: words.get_str("NUMBER"),

@@ -2,6 +2,7 @@
 
 use crate::command_line::{BadWord, Invocation, fault_of, read_words};
 use crate::progress::Progress;
+use cal_zones::RoomZone;
 use ical_lines::Fault;
 use ical_values::Address;
 use sched_box::config::LONGEST;
@@ -117,8 +118,11 @@ fn invoke<R: Runtime + AllocGlobal>(
             Ok(room) => invoke_check(rt, alloc, calendar, certificate, &room),
             Err(status) => status,
         },
-        Invocation::Expand { limit } => match limit_of(limit) {
-            Some(limit) => invoke_expand(rt, alloc, limit),
+        Invocation::Expand { limit, zone } => match limit_of(limit) {
+            Some(limit) => match read_zone(rt, alloc, zone) {
+                Ok(zone) => invoke_expand(rt, alloc, &zone, limit),
+                Err(status) => status,
+            },
             None => refuse_word(rt, alloc, BadWord::Limit(limit)),
         },
         Invocation::Explain {
@@ -139,6 +143,15 @@ fn read_room<R: Runtime + AllocGlobal>(rt: &R, alloc: Global, word: &str) -> Res
         Ok(room) => Ok(room),
         Err(Fault::Memory) => Err(no_memory(rt)),
         Err(Fault::Refused(_)) => Err(refuse_word(rt, alloc, BadWord::Room(word))),
+    }
+}
+
+/// The zone that words mean; else the status of a usage fault.
+fn read_zone<R: Runtime + AllocGlobal>(rt: &R, alloc: Global, words: &str) -> Result<RoomZone, u8> {
+    match RoomZone::read(alloc, words) {
+        Ok(zone) => Ok(zone),
+        Err(Fault::Memory) => Err(no_memory(rt)),
+        Err(Fault::Refused(_)) => Err(refuse_word(rt, alloc, BadWord::Zone(words))),
     }
 }
 
@@ -220,12 +233,24 @@ fn read_object<R: Runtime + AllocGlobal, E: Output>(
     }
 }
 
-fn invoke_expand<R: Runtime + AllocGlobal>(rt: &R, alloc: Global, limit: usize) -> u8 {
+fn invoke_expand<R: Runtime + AllocGlobal>(
+    rt: &R,
+    alloc: Global,
+    zone: &RoomZone,
+    limit: usize,
+) -> u8 {
     let mut errors = DeviceWriter::new(ErrorPrinter { to: rt });
     match read_object(rt, alloc, &mut errors) {
         Ok(octets) => {
             let mut writer = DeviceWriter::new(io::writer(rt));
-            run_expand(alloc, octets.as_slice(), limit, &mut writer, &mut errors)
+            run_expand(
+                alloc,
+                octets.as_slice(),
+                zone,
+                limit,
+                &mut writer,
+                &mut errors,
+            )
         }
         Err(status) => status,
     }

@@ -1,7 +1,7 @@
 -- What a content line has to do with a fault, by the number of its refusal.
 use Rattle.std.specs.Prelude.{◌≡◌, ◌≢◌, ◌⊎◌, ◌==◌, ◌||◌, ℕ, ℤ, Bool, true, false, IsTrue, List, codes, is_some, MatchOption, if◌then◌else◌, Contains}
 use Rattle.std.specs.List.{slice_split}
-use Rattle.profile.specs.events.Properties.{time_kind, DateTime, IsLocalText}
+use Rattle.cal_events.specs.Forms.{IsReadable}
 use Rattle.profile.specs.events.ZonedTimes.{ZonedTextFault}
 use Rattle.profile.specs.faults.Faults.{is_uid_fault, is_address_fault}
 use Rattle.profile.specs.series.RuleTexts.{SpellsRule, IsLeastRuleFault}
@@ -42,10 +42,6 @@ zone_property line =
     else (if has_name (codes "TZOFFSETFROM") line || has_name (codes "TZOFFSETTO") line then Offset
     else Other)
 
--- a time in UTC where there is no TZID, and a local one where there is
-abbrev pub IsTime : List ℕ → List ℕ → Type 0
-IsTime line text = (time_kind line ≡ DateTime) × MatchOption (line_param (codes "TZID") line) ((instant : ℤ) × SpellsStamp text instant) (λ _. IsLocalText text)
-
 -- the value of a line of a VEVENT is right by itself; of RDATE and EXDATE nothing is said
 abbrev pub IsRight : Property → List ℕ → Type 0
 IsRight Uid line = IsUid (unescaped (line_value line))
@@ -54,8 +50,8 @@ IsRight Moment line = (instant : ℤ) × SpellsStamp (line_value line) instant
 IsRight Count line = (n : ℕ) × SpellsSequence (line_value line) n
 IsRight Length line = (days : ℕ) × (seconds : ℕ) × SpellsDuration (line_value line) days seconds
 IsRight Rule line = (rule : rules.RuleText) × SpellsRule (line_value line) rule
-IsRight Slot line = (is_some (line_param (codes "RANGE") line) ≡ false) × IsTime line (line_value line)
-IsRight Time line = IsTime line (line_value line)
+IsRight Slot line = (is_some (line_param (codes "RANGE") line) ≡ false) × IsReadable line (line_value line)
+IsRight Time line = IsReadable line (line_value line)
 IsRight Times line = Unit {0}
 IsRight Offset line = Unit {0}
 IsRight Other line = Unit {0}
@@ -108,8 +104,9 @@ HasAlone Elsewhere line n = ⊥
 abbrev pub can_have_in_calendar : ℕ → List ℕ → Bool
 can_have_in_calendar n line =
     if n == 24 then has_name (codes "VERSION") line
+    else (if n == 44 then has_name (codes "X-ROOM-ZONE") line
     else (if n == 60 then has_name (codes "METHOD") line
-    else false)
+    else false))
 
 abbrev pub can_have_in_event : ℕ → List ℕ → Bool
 can_have_in_event n line =
@@ -118,8 +115,9 @@ can_have_in_event n line =
     else (if n == 50 then has_name (codes "DTEND") line
     else (if n == 51 then has_name (codes "DTEND") line || has_name (codes "DURATION") line
     else (if n == 52 then has_name (codes "DTSTART") line || has_name (codes "DTEND") line || has_name (codes "RECURRENCE-ID") line || has_name (codes "RDATE") line
+    else (if n == 57 then has_name (codes "DTEND") line || has_name (codes "DURATION") line || has_name (codes "RECURRENCE-ID") line
     else (if n == 67 then has_name (codes "RRULE") line || has_name (codes "RDATE") line
-    else false)))))
+    else false))))))
 
 abbrev pub can_have : ℕ → Within → List ℕ → Bool
 can_have n Calendar line = can_have_in_calendar n line

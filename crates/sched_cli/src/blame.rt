@@ -222,6 +222,7 @@ fn can_have_in_calendar(number: u8, line: Line<'_>) -> bool
 {
     match number {
         24 => line.is_named("VERSION"),
+        44 => line.is_named("X-ROOM-ZONE"),
         60 => line.is_named("METHOD"),
         _ => false,
     }
@@ -236,6 +237,7 @@ fn can_have_in_event(number: u8, line: Line<'_>) -> bool
         50 => line.is_named("DTEND"),
         51 => line.is_named("DTEND") || line.is_named("DURATION"),
         52 => is_time(line) || line.is_named("RDATE"),
+        57 => is_of_form(line),
         67 => line.is_named("RRULE") || line.is_named("RDATE"),
         _ => false,
     }
@@ -246,4 +248,11 @@ fn is_time(line: Line<'_>) -> bool
     ensures { result ≡ (has_name (codes "DTSTART") (line_text line.entry) || has_name (codes "DTEND") (line_text line.entry) || has_name (codes "RECURRENCE-ID") (line_text line.entry)) }
 {
     line.is_named("DTSTART") || line.is_named("DTEND") || line.is_named("RECURRENCE-ID")
+}
+
+/// Whether a line's value has to go with the form of another time, or to be fixed.
+fn is_of_form(line: Line<'_>) -> bool
+    ensures { result ≡ (has_name (codes "DTEND") (line_text line.entry) || has_name (codes "DURATION") (line_text line.entry) || has_name (codes "RECURRENCE-ID") (line_text line.entry)) }
+{
+    line.is_named("DTEND") || line.is_named("DURATION") || line.is_named("RECURRENCE-ID")
 }

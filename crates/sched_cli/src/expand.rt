@@ -20,11 +20,12 @@ use std::alloc::{AllocError, Global};
 /// Lines are handed to the writer once they have so many octets.
 const FULL: usize = 65_536;
 
-/// `expand`: prints the first instances of the event that an object says, at most `limit` of them, as lines `slot start seconds`
-/// by start and then by slot.
+/// `expand`: prints the first instances of the event that an object says in a room of this zone, at most `limit` of them, as lines
+/// `slot start seconds` by start and then by slot.
 pub fn run_expand<W: Output, E: Output>(
     alloc: Global,
     octets: &[u8],
+    zone: &RoomZone,
     limit: usize,
     writer: &mut W,
     errors: &mut E,
@@ -37,7 +38,7 @@ pub fn run_expand<W: Output, E: Output>(
     ensures told { TellsDevice result false false (W.has_failed writer.old) (W.has_failed writer.new) }
     ensures status { (result ≡ 0) ⊎ (result ≡ 3) ⊎ (result ≡ 4) ⊎ (result ≡ 5) }
 {
-    let event = match Event::read(alloc, octets) {
+    let event = match Event::read(alloc, octets, zone) {
         Ok(event) => event,
         Err(fault) => return report_read(errors, fault),
     };

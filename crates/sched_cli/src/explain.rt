@@ -78,6 +78,9 @@ pub fn explanation(number: u8) -> Option<&'static str>
         43 => Some(
             "43: no VTIMEZONE has the name that TZID gives. What to do: send the VTIMEZONE in the same object, or fix the name.\n",
         ),
+        44 => Some(
+            "44: X-ROOM-ZONE twice, or words that mean no zone. What to do: write an offset, or two offsets and when each begins, as -0500 -0400 11 1SU 0200 3 2SU 0200.\n",
+        ),
         50 => Some("50: DTEND before DTSTART. What to do: fix the times.\n"),
         51 => Some(
             "51: more than 366 days, or a negative duration. What to do: send a shorter event.\n",
@@ -89,11 +92,11 @@ pub fn explanation(number: u8) -> Option<&'static str>
         54 => Some(
             "54: two VEVENTs of one meeting for one instance, or two of an ADD that start together. What to do: send one for each instance.\n",
         ),
-        55 => Some(
-            "55: a date, or a time without zone. What to do: write the time in UTC or with TZID.\n",
-        ),
         56 => Some(
             "56: a period, or more than 366 times of RDATE or of EXDATE in a VEVENT. What to do: write a date-time; send fewer.\n",
+        ),
+        57 => Some(
+            "57: DTEND of another form than DTSTART, a DURATION of hours beside a date, or a date or a time without zone as the RECURRENCE-ID of a store or a REPLY. What to do: write both as dates, both without zone, or both in UTC or with TZID.\n",
         ),
         60 => Some(
             "60: METHOD twice, or another word than REQUEST, CANCEL, ADD, REPLY and REFRESH, such as PUBLISH. What to do: send REQUEST, or store the meeting without METHOD.\n",

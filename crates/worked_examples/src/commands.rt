@@ -1,12 +1,14 @@
 //! Cases of the commands: `name | command | input | certificate | output | errors | status`. The middle columns are names of files, put one
-//! after another. A command runs on them with a reader and writers in memory.
+//! after another; the fourth of `expand` is the words of a zone. A command runs on them with a reader and writers in memory.
 
 use crate::files::read_all;
 use crate::names::ROOM;
+use cal_zones::RoomZone;
 use example_cases::Case;
 use ical_values::Address;
 use sched_cli::commands::{KeptText, run_check, run_keep, run_serve};
 use sched_cli::{run_expand, run_explain};
+use std::alloc::Global;
 use std::io::{self, ErrorKind};
 use std::rt::Files;
 use std::str;
@@ -34,7 +36,6 @@ pub fn print<R: Files + Print + AllocGlobal>(rt: &R, case: Case<'_>) -> io::Resu
 fn run<R: Files + AllocGlobal>(rt: &R, case: Case<'_>) -> io::Result<Outcome> {
     let alloc = rt.alloc();
     let input = read_all(rt, case.input())?;
-    let certificate = read_all(rt, case.column(3))?;
     let mut reader = input.as_slice();
     let mut output = Vec::new(alloc);
     let mut errors = Vec::new(alloc);
@@ -47,8 +48,12 @@ fn run<R: Files + AllocGlobal>(rt: &R, case: Case<'_>) -> io::Result<Outcome> {
             let kept = kept_of(case);
             run_keep(alloc, &room, kept, &mut reader, &mut output, &mut errors)
         }
-        "expand" => run_expand(alloc, reader, 100, &mut output, &mut errors),
+        "expand" => {
+            let zone = zone_of(alloc, case.column(3))?;
+            run_expand(alloc, reader, &zone, 100, &mut output, &mut errors)
+        }
         "check" => {
+            let certificate = read_all(rt, case.column(3))?;
             let certificate = certificate.as_slice();
             run_check(alloc, reader, certificate, &room, &mut output, &mut errors)
         }
@@ -60,6 +65,14 @@ fn run<R: Files + AllocGlobal>(rt: &R, case: Case<'_>) -> io::Result<Outcome> {
         output,
         errors,
     })
+}
+
+/// The zone that the words of a column mean; UTC where there are none.
+fn zone_of(alloc: Global, words: &str) -> io::Result<RoomZone> {
+    if words.is_empty() {
+        return Ok(RoomZone::utc());
+    }
+    RoomZone::read(alloc, words).map_err(|_| io::Error::from(ErrorKind::InvalidInput))
 }
 
 /// The number that an input is; 0, which nothing has, where it isn't one.

@@ -115,6 +115,10 @@ pub returns-in-43-clause-own : goal.returns-in-43-clause-own
 unfolding meaning_of
 returns-in-43-clause-own c = rw (tens c.in-43.is (omega arith) (omega arith), ap meaning_of c.in-43.is) refl
 
+pub returns-in-44-clause-own : goal.returns-in-44-clause-own
+unfolding meaning_of
+returns-in-44-clause-own c = rw (tens c.in-44.is (omega arith) (omega arith), ap meaning_of c.in-44.is) refl
+
 pub returns-in-50-clause-own : goal.returns-in-50-clause-own
 unfolding meaning_of
 returns-in-50-clause-own c = rw (tens c.in-50.is (omega arith) (omega arith), ap meaning_of c.in-50.is) refl
@@ -135,13 +139,13 @@ pub returns-in-54-clause-own : goal.returns-in-54-clause-own
 unfolding meaning_of
 returns-in-54-clause-own c = rw (tens c.in-54.is (omega arith) (omega arith), ap meaning_of c.in-54.is) refl
 
-pub returns-in-55-clause-own : goal.returns-in-55-clause-own
-unfolding meaning_of
-returns-in-55-clause-own c = rw (tens c.in-55.is (omega arith) (omega arith), ap meaning_of c.in-55.is) refl
-
 pub returns-in-56-clause-own : goal.returns-in-56-clause-own
 unfolding meaning_of
 returns-in-56-clause-own c = rw (tens c.in-56.is (omega arith) (omega arith), ap meaning_of c.in-56.is) refl
+
+pub returns-in-57-clause-own : goal.returns-in-57-clause-own
+unfolding meaning_of
+returns-in-57-clause-own c = rw (tens c.in-57.is (omega arith) (omega arith), ap meaning_of c.in-57.is) refl
 
 pub returns-in-60-clause-own : goal.returns-in-60-clause-own
 unfolding meaning_of
