@@ -222,10 +222,10 @@ finished meeting limit a b c text so_far q =
 -- ---- of the event that octets spell
 
 abbrev OneInstance : Type 0
-OneInstance = (octets : List ℕ) (meeting : Event) (a b : SaidInstance) → SpellsEvent octets meeting → IsInstance meeting a → IsInstance meeting b → a.start ≡ b.start → a.key.slot ≡ b.key.slot → a ≡ b
+OneInstance = (room : Option Zone) (octets : List ℕ) (meeting : Event) (a b : SaidInstance) → SpellsEvent room octets meeting → IsInstance meeting a → IsInstance meeting b → a.start ≡ b.start → a.key.slot ≡ b.key.slot → a ≡ b
 
 abbrev AreDated : Type 0
-AreDated = (octets : List ℕ) (meeting : Event) (a : SaidInstance) → SpellsEvent octets meeting → IsInstance meeting a → IsInEventDates a.key.slot × IsInEventDates a.start × (a.start ≤ℤ a.end)
+AreDated = (room : Option Zone) (octets : List ℕ) (meeting : Event) (a : SaidInstance) → SpellsEvent room octets meeting → IsInstance meeting a → IsInEventDates a.key.slot × IsInEventDates a.start × (a.start ≤ℤ a.end)
 
 pub lines_there : (instances : List SaidInstance) (lines : List (List ℕ)) → ((b : SaidInstance) → Contains instances b → HasLine b) → AllZip IsPrintedLine instances lines → AllZip IsInstanceLine instances lines
 lines_there [] [] has h = tt

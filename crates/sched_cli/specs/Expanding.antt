@@ -4,6 +4,7 @@ use Rattle.std.specs.List.{AllZip, concat}
 use Rattle.std.specs.Io.KnownBytes.{Appends}
 use Rattle.profile.specs.text.Values.{IsClockSeconds}
 use Rattle.profile.specs.checker.Instances.{Instance as SaidInstance}
+use Rattle.profile.specs.series.Zones.{Zone}
 use Rattle.profile.specs.events.Events.{Event}
 use Rattle.profile.specs.events.Starts.{IsInstance, ComesBefore}
 use Rattle.profile.specs.events.Expanding.{IsInstanceLine, IsExpansion}
@@ -70,5 +71,5 @@ PrintsNext true left rest old new text after =
 PrintsNext false left rest old new text after = ((b : SaidInstance) → IsLeft left b → ⊥) × IsHandedOver old new after text
 
 -- the lines of the first instances were written, whole
-abbrev pub ExpandsTo : List ℕ → ℕ → Option (List ℕ) → Option (List ℕ) → Type 0
-ExpandsTo octets limit old new = (text : List ℕ) × IsExpansion octets limit text × Appends old new text
+abbrev pub ExpandsTo : Option Zone → List ℕ → ℕ → Option (List ℕ) → Option (List ℕ) → Type 0
+ExpandsTo room octets limit old new = (text : List ℕ) × IsExpansion room octets limit text × Appends old new text

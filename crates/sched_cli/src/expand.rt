@@ -4,6 +4,7 @@ ghost use Rattle.std.specs.Prelude.{◌≡◌, ◌⊎◌, ◌++◌, ◌∷◌, �
 ghost use Rattle.std.specs.Io.KnownBytes.{Appends, Keeps};
 ghost use Rattle.profile.specs.text.Values.{WritesStamp};
 ghost use Rattle.profile.specs.events.Events.{EventTextFault};
+ghost use Rattle.cal_zones.specs.RoomZones.{room_of};
 ghost use Rattle.cal_events.specs.Calendar.{instance_of};
 ghost use Rattle.cal_events.specs.Event.{said_meeting};
 ghost use Rattle.sched_devices.specs.Output.{KeepsButFailed, WriteStopsFor};
@@ -12,6 +13,7 @@ ghost use Rattle.sched_cli.specs.Expanding.{IsPrintedLine, IsHandedOver, PrintsF
 
 use crate::status::{DONE, report_read, report_write};
 use cal_events::{Event, Instance, Instances, one_instance};
+use cal_zones::RoomZone;
 use ical_values::Stamp;
 use itoa::Buffer;
 use sched_box::{Output, WriteFault};
@@ -30,9 +32,9 @@ pub fn run_expand<W: Output, E: Output>(
     writer: &mut W,
     errors: &mut E,
 ) -> u8
-    ensures expands { result ≡ 0 → ExpandsTo octets.now limit (W.contents writer.old) (W.contents writer.new) }
+    ensures expands { result ≡ 0 → ExpandsTo (room_of zone.now) octets.now limit (W.contents writer.old) (W.contents writer.new) }
     ensures unwritten { result ≡ 3 → Keeps (W.contents writer.old) (W.contents writer.new) }
-    ensures refused { result ≡ 3 → (n : ℕ) × EventTextFault octets.now n × SaysLine (refused_text n) (E.contents errors.old) (E.contents errors.new) (E.may_lose errors.new) }
+    ensures refused { result ≡ 3 → (n : ℕ) × EventTextFault (room_of zone.now) octets.now n × SaysLine (refused_text n) (E.contents errors.old) (E.contents errors.new) (E.may_lose errors.new) }
     ensures said { IsStatusSaid result (E.contents errors.old) (E.contents errors.new) (E.may_lose errors.new) }
     ensures device { BlamesDevice false (W.has_failed writer.new) result }
     ensures told { TellsDevice result false false (W.has_failed writer.old) (W.has_failed writer.new) }
