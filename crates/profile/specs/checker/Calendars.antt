@@ -1,5 +1,5 @@
 -- The calendar of a room that a text is (RFC 5545 3.4), what it confirms, and what can be wrong with such a text.
-use Rattle.std.specs.Prelude.{◌≡◌, ℕ, true, false, List, Contains, Option, None}
+use Rattle.std.specs.Prelude.{◌≡◌, ℕ, true, false, List, [], ◌∷◌, ◌++◌, codes, Contains, Option, None}
 use Rattle.std.specs.List.{AllZip}
 use Rattle.profile.specs.text.Lines.{logical_lines, text_has, reads_as_lines}
 use Rattle.profile.specs.text.Objects.{SpellsTree, IsObject, has_version, lines_have}
@@ -8,8 +8,8 @@ use Rattle.profile.specs.checker.Instances.{Instance}
 use Rattle.profile.specs.checker.Certificates.{CertificateHoldsFor}
 use Rattle.profile.specs.series.Zones.{Zone}
 use Rattle.profile.specs.series.RoomZones.{NamesRoomZone, RoomZoneFault}
-use Rattle.profile.specs.events.EventComponents.{EventComponent, EventComponentFault}
-use Rattle.profile.specs.events.Placed.{SaysPlaced}
+use Rattle.profile.specs.events.EventComponents.{EventComponent, SaysEventComponent, EventComponentFault}
+use Rattle.profile.specs.events.Placed.{SaysPlaced, is_all_fixed}
 use Rattle.profile.specs.events.Confirmed.{Confirmed, IsConfirmed, AreConfirmed, MastersDiffer, OverridesDiffer}
 
 -- the octets are this VCALENDAR, of any size
@@ -50,6 +50,23 @@ pub record CertificateHolds (room calendar text : List ℕ) : Type 0 where
   pub confirmed : Confirmed
   pub spells : SpellsCalendar room calendar confirmed
   pub holds : CertificateHoldsFor confirmed text
+
+-- ---- naming the zone of its room
+
+-- the octets of a VCALENDAR with a line more, after that of its BEGIN, which names the zone of its room; all else is as it was
+pub record IsWithZone (words octets with_zone : List ℕ) : Type 0 where
+  pub before : List ℕ
+  pub after : List ℕ
+  pub is : octets ≡ before ++ after
+  pub begins : (first : List ℕ) × (rest : List (List ℕ)) × (logical_lines before ≡ first ∷ []) × (logical_lines octets ≡ first ∷ rest)
+      × (logical_lines with_zone ≡ first ∷ (codes "X-ROOM-ZONE:" ++ words) ∷ rest)
+  pub added : with_zone ≡ before ++ (codes "X-ROOM-ZONE:" ++ words ++ codes "\r\n") ++ after
+
+-- no event of the VCALENDAR that the octets are has a time that isn't fixed
+abbrev pub AreAllFixed : List ℕ → Type 0
+AreAllFixed octets =
+    (tree : Tree) (lines : List (List ℕ)) (event : EventComponent) → IsCalendarText tree octets → Contains (vevents tree) lines
+    → SaysEventComponent tree None lines event → is_all_fixed event ≡ true
 
 -- ---- what can be wrong, by the number of its refusal
 

@@ -1,10 +1,10 @@
 -- Events in a room: times that aren't fixed are read on the room's clocks (RFC 5545 3.3.4, 3.3.5, form 1). A room's zone is None where it goes by
 -- UTC, whose clocks show such times as they are written: so there an event is as its lines say it.
-use Rattle.std.specs.Prelude.{◌≡◌, ℕ, List, Option, ℤ}
-use Rattle.std.specs.List.{AllZip}
+use Rattle.std.specs.Prelude.{◌≡◌, ◌&&◌, Bool, true, option_map, unwrap_or, ℕ, List, Option, ℤ}
+use Rattle.std.specs.List.{list_all, AllZip}
 use Rattle.profile.specs.text.Trees.{Tree}
 use Rattle.profile.specs.series.Zones.{Zone, Means}
-use Rattle.profile.specs.events.Properties.{Form, Fixed, Floating, WholeDay, BothOrNeither}
+use Rattle.profile.specs.events.Properties.{Form, Fixed, Floating, WholeDay, is_fixed, BothOrNeither}
 use Rattle.profile.specs.events.ZonedTimes.{clock_of}
 use Rattle.profile.specs.events.Occurrences.{Time}
 use Rattle.profile.specs.events.EventComponents.{Method, EventComponent, SaysEventComponent}
@@ -45,3 +45,9 @@ pub record IsPlaced (room : Option Zone) (event placed : EventComponent) : Type 
 abbrev pub SaysPlaced : Option Zone → Tree → Option Method → List (List ℕ) → EventComponent → Type 0
 SaysPlaced room object method lines placed =
     (event : EventComponent) × SaysEventComponent object method lines event × IsPlaced room event placed
+
+-- each of its times is fixed: it is the same event in each room
+abbrev pub is_all_fixed : EventComponent → Bool
+is_all_fixed event =
+    is_fixed event.times.form && unwrap_or (option_map (λ time. is_fixed time.form) event.written.recurrence) true
+    && list_all (λ time. is_fixed time.form) event.written.additions && list_all (λ time. is_fixed time.form) event.written.exceptions
