@@ -10,3 +10,4 @@ pub mod Named
 pub mod Read
 pub mod Spans
 pub mod Repeats
+pub mod RoomZones
