@@ -65,7 +65,7 @@ impl Zone {
     ghost use Rattle.profile.specs.written.WrittenZones.{IsZoneText};
     ghost use Rattle.ical_values.specs.Written.{Appends};
     ghost use Rattle.std.specs.Option.{is_none};
-    ghost use Rattle.cal_zones.specs.RoomZones.{own_zone};
+    ghost use Rattle.cal_zones.specs.RoomWords.{own_zone};
 
     /// UTC.
     pub fn utc() -> Zone
