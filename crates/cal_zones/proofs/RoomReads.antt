@@ -9,7 +9,7 @@ use Rattle.std.proofs.lemmas.Bool.{true≢false, false≢true, and_parts, and_fr
 use Rattle.std.proofs.lemmas.Bool.Decides.{nat_tests, Decides-int_eq}
 use Rattle.std.proofs.lemmas.List.Splits.{slice_split_none, slice_split_at}
 use Rattle.jiff_core.proofs.SignedLemmas.{signed_arith}
-use Rattle.std.specs.Prelude.{Result, Ok, Err, IfOk, map, get_or}
+use Rattle.std.specs.Prelude.{Result, Ok, Err, IfOk, map, get_or, slice_index_or}
 use Rattle.std.proofs.lemmas.List.{length-map}
 use denote.Ref.{Bor}
 use Rattle.profile.specs.faults.Faults.{is_between}
@@ -376,17 +376,17 @@ fault_of P f e is h = subst (RefusesBy P) is h
 pub one_there : (parts : List (Bor (List ℕ))) (words : List ℕ) (z : Option Zone) → map (λ x. x.now) parts ≡ slice_split is_gap words → length parts ≡ 1 → IsRoomZone words z → (offset : ℤ) × WritesOffset words offset
 one_there parts words z e one h = elim (one_or_eight words z h) [
   | inl o ↦ o
-  | inr (zone, k) ↦ let n : length parts ≡ 8 = sym (length-map (λ (x : Bor (List ℕ)). x.now) parts) ∙ ap length (e ∙ k.split) in absurd (omega (arith, n, one))
+  | inr (zone, k) ↦ let n : length parts ≡ 8 = sym (length-map parts (λ x. x.now)) ∙ ap length (e ∙ k.split) in absurd (omega (arith, n, one))
 ]
 
 pub eight_there : (parts : List (Bor (List ℕ))) (words : List ℕ) (z : Option Zone) → map (λ x. x.now) parts ≡ slice_split is_gap words → (length parts ≡ 1 → ⊥) → IsRoomZone words z → (zone : Zone) × Cut words zone
 eight_there parts words z e more h = elim (one_or_eight words z h) [
-  | inl (offset, w) ↦ absurd (more (sym (length-map (λ (x : Bor (List ℕ)). x.now) parts) ∙ ap length (e ∙ one_word words offset w)))
+  | inl (offset, w) ↦ absurd (more (sym (length-map parts (λ x. x.now)) ∙ ap length (e ∙ one_word words offset w)))
   | inr k ↦ k
 ]
 
 pub eight_many : (parts : List (Bor (List ℕ))) (words : List ℕ) (z : Option Zone) → map (λ x. x.now) parts ≡ slice_split is_gap words → (length parts ≡ 1 → ⊥) → IsRoomZone words z → length parts ≡ 8
-eight_many parts words z e more h = let k = eight_there parts words z e more h in sym (length-map (λ (x : Bor (List ℕ)). x.now) parts) ∙ ap length (e ∙ k.1.split)
+eight_many parts words z e more h = let k = eight_there parts words z e more h in sym (length-map parts (λ x. x.now)) ∙ ap length (e ∙ k.1.split)
 
 pub record Found (words p0 p1 p2 p3 p4 p5 p6 p7 : List ℕ) (zone : Zone) : Type 0 where
   pub are : AreWords p0 p1 p2 p3 p4 p5 p6 p7 zone
@@ -398,3 +398,37 @@ pub found : (all : List (List ℕ)) (words : List ℕ) (zone : Zone) → all ≡
 found all words zone e k =
     subst (λ (l : List (List ℕ)). Found words (get_or l 0 []) (get_or l 1 []) (get_or l 2 []) (get_or l 3 []) (get_or l 4 []) (get_or l 5 []) (get_or l 6 []) (get_or l 7 []) zone) (sym (e ∙ k.split))
     (record { are = k.are; is = k.is })
+
+at_place : (parts : List (Bor (List ℕ))) (i : ℕ) (x : Bor (List ℕ)) → x ≡ slice_index_or parts i x → i < length parts → x.now ≡ get_or (map (λ x. x.now) parts) i []
+at_place [] i x e h = absurd (omega arith)
+at_place (y ∷ ys) zero x e h = ap (λ (b : Bor (List ℕ)). b.now) e
+at_place (y ∷ ys) (suc i) x e h = at_place ys i x e (omega arith)
+
+abbrev pub IsAt : List (Bor (List ℕ)) → ℕ → Bor (List ℕ) → Type 0
+IsAt parts i x = x ≡ slice_index_or parts i x
+
+pub find_eight : (parts : List (Bor (List ℕ))) (words : List ℕ) (z : Option Zone) (p0 p1 p2 p3 p4 p5 p6 p7 : Bor (List ℕ)) → map (λ x. x.now) parts ≡ slice_split is_gap words → (length parts ≡ 1 → ⊥)
+    → IsAt parts 0 p0 → IsAt parts 1 p1 → IsAt parts 2 p2 → IsAt parts 3 p3 → IsAt parts 4 p4 → IsAt parts 5 p5 → IsAt parts 6 p6 → IsAt parts 7 p7
+    → IsRoomZone words z → (zone : Zone) × Found words p0.now p1.now p2.now p3.now p4.now p5.now p6.now p7.now zone
+find_eight parts words z p0 p1 p2 p3 p4 p5 p6 p7 e more a0 a1 a2 a3 a4 a5 a6 a7 h =
+    let k = eight_there parts words z e more h in
+    let n = eight_many parts words z e more h in
+    let e0 = at_place parts 0 p0 a0 (omega (arith, n)) in
+    let e1 = at_place parts 1 p1 a1 (omega (arith, n)) in
+    let e2 = at_place parts 2 p2 a2 (omega (arith, n)) in
+    let e3 = at_place parts 3 p3 a3 (omega (arith, n)) in
+    let e4 = at_place parts 4 p4 a4 (omega (arith, n)) in
+    let e5 = at_place parts 5 p5 a5 (omega (arith, n)) in
+    let e6 = at_place parts 6 p6 a6 (omega (arith, n)) in
+    let e7 = at_place parts 7 p7 a7 (omega (arith, n)) in
+    (k.0, rw (e0, e1, e2, e3, e4, e5, e6, e7) (found (map (λ x. x.now) parts) words k.0 e k.1))
+
+pub one_ok : (r : Result RoomZone Fault) (words : List ℕ) → ((z : Option Zone) → IsRoomZone words z → (offset : ℤ) × WritesOffset words offset)
+    → IfOk r (λ x. (offset : ℤ) → WritesOffset words offset → form_words x.kept.kind ≡ words) → IfOk r (λ x. (z : Option Zone) → IsRoomZone words z → form_words x.kept.kind ≡ words)
+one_ok (Ok x) words there h = λ z w. let o = there z w in h o.0 o.1
+one_ok (Err e) words there h = tt
+
+pub eight_ok : (r : Result RoomZone Fault) (words p0 p1 p2 p3 p4 p5 p6 p7 : List ℕ) → ((z : Option Zone) → IsRoomZone words z → (zone : Zone) × Found words p0 p1 p2 p3 p4 p5 p6 p7 zone)
+    → IfOk r (λ x. (z : Zone) → AreWords p0 p1 p2 p3 p4 p5 p6 p7 z → form_words x.kept.kind ≡ eight_words p0 p1 p2 p3 p4 p5 p6 p7) → IfOk r (λ x. (z : Option Zone) → IsRoomZone words z → form_words x.kept.kind ≡ words)
+eight_ok (Ok x) words p0 p1 p2 p3 p4 p5 p6 p7 there h = λ z w. let f = there z w in h f.0 f.1.are ∙ sym f.1.is
+eight_ok (Err e) words p0 p1 p2 p3 p4 p5 p6 p7 there h = tt
