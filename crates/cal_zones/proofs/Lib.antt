@@ -25,3 +25,4 @@ pub mod Periods
 pub mod Regular
 pub mod RoomZoneLemmas
 pub mod RoomReads
+pub mod RoomZoneExamples

@@ -1,11 +1,11 @@
 -- How the words of a room are read: what they may say, and that nothing else is said.
-use Rattle.std.proofs.Common.{◌≡◌, ◌≢◌, ◌∙◌, ap, sym, subst, refl, arith, inl, inr, ◌⊎◌, ℕ, zero, suc, ◌+◌, ◌*◌, ◌/◌, ◌%◌, ◌^◌, ◌<◌, ◌≤◌, Bool, true, false, cond, not, ◌&&◌, ◌==◌, nat_lt, eqb, List, [], ◌∷◌, ◌++◌, length, take, codes, decimal, append_assoc, Option, Some, None, ℤ, pos, ◌-ℤ◌, ◌+ℤ◌, ◌*ℤ◌, unsigned_abs}
+use Rattle.std.proofs.Common.{◌≡◌, ◌≢◌, ◌∙◌, ap, sym, subst, refl, arith, inl, inr, ◌⊎◌, ℕ, zero, suc, ◌+◌, ◌/◌, ◌%◌, ◌^◌, ◌<◌, Bool, true, false, cond, not, ◌&&◌, ◌==◌, nat_lt, eqb, List, [], ◌∷◌, ◌++◌, length, codes, decimal, append_assoc, Option, Some, None, ℤ, pos, unsigned_abs}
 use Rattle.std.specs.Int.{is_negative}
 use Rattle.std.specs.List.{slice_split}
 use Rattle.std.specs.Ordering.{int_eq}
 use Rattle.std.proofs.lemmas.Int.{ints}
 use Rattle.std.proofs.lemmas.Fmt.{decimal_by_steps}
-use Rattle.std.proofs.lemmas.Bool.{true≢false, false≢true, and_parts, and_from, eqb-true}
+use Rattle.std.proofs.lemmas.Bool.{and_parts, and_from}
 use Rattle.std.proofs.lemmas.Bool.Decides.{nat_tests, Decides-int_eq}
 use Rattle.std.proofs.lemmas.List.Splits.{slice_split_none, slice_split_at}
 use Rattle.jiff_core.proofs.SignedLemmas.{signed_arith}
@@ -19,10 +19,10 @@ use Rattle.ical_lines.specs.declared.fault.Refusal.{Refusal}
 use Rattle.ical_lines.specs.declared.fault.Fault.TheVariants.{Refused}
 use Rattle.cal_zones.specs.declared.room_zone.RoomZone.{RoomZone}
 use Rattle.profile.specs.series.Days.{number_of_date, days_before_year, days_of_months}
-use Rattle.profile.specs.text.Values.{IsOffset, SpellsTime, SpellsLocal, WritesOffset, two_digits}
+use Rattle.profile.specs.text.Values.{SpellsLocal, WritesOffset, two_digits}
 use Rattle.profile.specs.series.Rules.{RuleText}
 use Rattle.profile.specs.series.RuleTexts.{weekday_word}
-use Rattle.profile.specs.series.Zones.{Observance, Zone, Constant, Single, Pair, local_time}
+use Rattle.profile.specs.series.Zones.{Observance, Zone, Pair, local_time}
 use Rattle.profile.specs.series.ZoneTexts as written
 use Rattle.profile.specs.series.ZoneTexts.{AreMatched, AreSpaced, OnDay, FromStart, FromEnd, InWeek, YearRule, is_each_year, is_one_day, year_pattern, SpellsYear, SpellsNoYear, IsPairFault}
 use Rattle.profile.specs.series.RoomZones.{IsRoomZone, IsTwoOffsets, BeginsSo, WritesHourMinute, WritesMonthDay}
@@ -31,9 +31,9 @@ use Rattle.cal_rules.proofs.Parted.{same_octet}
 use Rattle.cal_rules.proofs.OneRule.{one_rule_read, no_fault}
 use Rattle.cal_rules.proofs.ReadBack.{lacks, lacks_append, lacks_all}
 use Rattle.cal_zones.specs.Onsets.{observance_of, yearly_rule}
-use Rattle.cal_zones.specs.Shapes.{days_of, rule_named}
+use Rattle.cal_zones.specs.Shapes.{rule_named}
 use Rattle.cal_zones.specs.Kinds.{pair_of}
-use Rattle.cal_zones.specs.RoomWords.{size_octets, form_words, offset_octets, day_words, year_words, time_words, onset_words, pair_octets, is_word_day, is_word_rule, is_word_onset, are_worded, WritesYear, BeginsBy, IsReadAs, AreWords, GoTogether, three_words, eight_words}
+use Rattle.cal_zones.specs.RoomWords.{size_octets, form_words, offset_octets, day_words, year_words, time_words, onset_words, pair_octets, is_word_day, is_word_rule, WritesYear, BeginsBy, IsReadAs, AreWords, GoTogether, three_words, eight_words}
 use Rattle.cal_zones.specs.declared.yearly.Yearly.{Yearly}
 use Rattle.cal_zones.specs.declared.yearly.MonthDays.TheVariants as rust_days
 use Rattle.cal_zones.specs.declared.observance.Observance as rust

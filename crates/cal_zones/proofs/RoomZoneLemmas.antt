@@ -1,5 +1,5 @@
 -- What is known of a zone that the words of a room mean, and what the words of a kept one mean.
-use Rattle.std.proofs.Common.{◌≡◌, ◌∙◌, ap, sym, subst, refl, arith, inl, inr, ◌⊎◌, ℕ, zero, suc, ◌+◌, ◌*◌, ◌/◌, ◌%◌, ◌<◌, ◌≤◌, Bool, true, false, cond, not, ◌&&◌, nat_le, eqb, List, [], ◌∷◌, ◌++◌, take, codes, decimal, append_assoc, Option, Some, None, ℤ, pos, ◌-ℤ◌, unsigned_abs}
+use Rattle.std.proofs.Common.{◌≡◌, ◌∙◌, ap, sym, subst, refl, arith, inl, inr, ℕ, ◌+◌, ◌/◌, ◌%◌, ◌<◌, ◌≤◌, Bool, true, false, cond, not, ◌&&◌, nat_le, eqb, List, [], ◌∷◌, ◌++◌, take, codes, decimal, append_assoc, Option, Some, None, ℤ, pos, ◌-ℤ◌, unsigned_abs}
 use Rattle.std.specs.Int.{is_negative}
 use Rattle.std.specs.Ordering.{int_eq}
 use Rattle.std.proofs.lemmas.Int.{ints}
@@ -8,7 +8,6 @@ use Rattle.std.proofs.lemmas.Bool.{true≢false, false≢true, and_parts, eqb-tr
 use Rattle.std.proofs.lemmas.Bool.Decides.{Decides-int_eq}
 use Rattle.profile.specs.text.Values.{IsOffset, SpellsTime, WritesOffset, two_digits}
 use Rattle.profile.specs.series.Rules.{Pattern, is_base}
-use Rattle.profile.specs.series.RuleTexts.{weekday_word}
 use Rattle.profile.specs.series.Zones.{Observance, Zone, Constant, Single, Pair, Onset, IsOnset, IsOneOffset}
 use Rattle.profile.specs.series.ZoneTexts as written
 use Rattle.profile.specs.series.ZoneTexts.{AreMatched, AreSpaced, IsRuleOnset, OnDay, FromStart, FromEnd, InWeek}
@@ -17,7 +16,7 @@ use Rattle.cal_zones.specs.Onsets.{observance_of, yearly_rule}
 use Rattle.cal_zones.specs.Shapes.{days_of, rule_named}
 use Rattle.cal_zones.specs.Kinds.{zone_of, zone_of_form, pair_of}
 use Rattle.cal_zones.specs.Repeats.{IsRegular, HasOffsets}
-use Rattle.cal_zones.specs.RoomWords.{size_octets, offset_octets, day_words, year_words, time_words, onset_words, form_words, is_word_day, is_word_rule, is_word_onset, has_words, own_zone}
+use Rattle.cal_zones.specs.RoomWords.{offset_octets, day_words, year_words, time_words, onset_words, form_words, is_word_day, is_word_rule, is_word_onset, has_words, own_zone}
 use Rattle.cal_zones.specs.RoomZones.{words_of, room_of}
 use Rattle.cal_zones.specs.declared.yearly.Yearly.{Yearly}
 use Rattle.cal_zones.specs.declared.observance.Observance as rust

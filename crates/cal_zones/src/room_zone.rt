@@ -15,14 +15,14 @@ ghost use Rattle.cal_zones.specs.declared.zone.Form.TheVariants as the;
 
 use crate::observance::Observance;
 use crate::pair::Pair;
-use crate::yearly::{MonthDays, Yearly};
 use crate::read::read_year as read_rule;
+use crate::yearly::{MonthDays, Yearly};
 use crate::zone::{Fixed, Form, Zone};
 use cal_days::EPOCH_INDEX;
 use cal_rules::weekday_word;
 use ical_lines::{Fault, Refusal};
-use ical_values::{LocalTime, UtcOffset};
 use ical_values::shown::offset_text;
+use ical_values::{LocalTime, UtcOffset};
 use std::alloc::{AllocError, Global};
 
 /// The zone of a room.

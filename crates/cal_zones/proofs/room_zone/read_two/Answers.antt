@@ -1,4 +1,4 @@
-use Rattle.std.proofs.Common.{ℕ, ℤ, ◌≡◌, ◌∙◌}
+use Rattle.std.proofs.Common.{ℤ, ◌≡◌}
 use Rattle.profile.specs.text.Values.{WritesOffset}
 use Rattle.profile.specs.series.Zones as zones
 use Rattle.cal_zones.specs.RoomWords.{BeginsBy, AreWords, GoTogether}

@@ -17,9 +17,12 @@ returns-then-len-eq1-clause-fault c =
     (λ n q. (q.0, λ z h. let o = one_there c.in_ok-parts.parts.items c.args.words.now z c.in_ok-parts.ensures (omega (arith, c.len.ensures, c.if-len-eq1.true)) h in q.1 o.0 o.1)) c.read_one.ensures.fault
 
 pub returns-then-len-ne8-clause-fault : goal.returns-then-len-ne8-clause-fault
-returns-then-len-ne8-clause-fault c = (refl, λ z h.
-    let n = eight_many c.in_ok-parts.parts.items c.args.words.now z c.in_ok-parts.ensures (λ (one : length c.in_ok-parts.parts.items ≡ 1). absurd (omega (arith, c.len.ensures, one, c.if-len-eq1.false))) h in
-    absurd (omega (arith, c.len-2.ensures, c.if-len-ne8.true, n)))
+returns-then-len-ne8-clause-fault c = (
+  refl,
+  λ z h.
+      let n = eight_many c.in_ok-parts.parts.items c.args.words.now z c.in_ok-parts.ensures (λ (one : length c.in_ok-parts.parts.items ≡ 1). absurd (omega (arith, c.len.ensures, one, c.if-len-eq1.false))) h in
+      absurd (omega (arith, c.len-2.ensures, c.if-len-ne8.true, n)),
+)
 
 pub returns-clause-words : goal.returns-clause-words
 returns-clause-words c =

@@ -10,6 +10,9 @@ returns-in-Ok-clause-reads c = λ each w.
     (year_spelled c.as_str.result.now c.args.month.now c.args.day.now each (c.as_str.ensures.value ∙ c.in_ok-text.ensures.ok) w)
 
 pub returns-clause-fault : goal.returns-clause-fault
-returns-clause-fault c = (refl, λ each w.
-    no_year c.as_str.result.now each (fault_of (λ n. (n ≡ 40) × SpellsNoYear c.as_str.result.now) c.in-Err-Refused.field-0 c.in-Err-Refused.field-0-0 c.in-Err-Refused.field-0-is c.in-Err-Refused.ensures.fault).1
-    (year_spelled c.as_str.result.now c.args.month.now c.args.day.now each (c.as_str.ensures.value ∙ c.in_ok-text.ensures.ok) w))
+returns-clause-fault c = (
+  refl,
+  λ each w.
+      no_year c.as_str.result.now each (fault_of (λ n. (n ≡ 40) × SpellsNoYear c.as_str.result.now) c.in-Err-Refused.field-0 c.in-Err-Refused.field-0-0 c.in-Err-Refused.field-0-is c.in-Err-Refused.ensures.fault).1
+      (year_spelled c.as_str.result.now c.args.month.now c.args.day.now each (c.as_str.ensures.value ∙ c.in_ok-text.ensures.ok) w),
+)

@@ -1,8 +1,8 @@
-use Rattle.std.proofs.Common.{◌≡◌, ◌∙◌, sym, subst, ℕ, List}
+use Rattle.std.proofs.Common.{◌∙◌, sym, subst, ℕ, List}
 use Rattle.std.proofs.lemmas.Bool.{not-false}
 use Rattle.std.proofs.lemmas.Slice.Eq.{bytes_eq-Decides}
 use Rattle.profile.specs.series.RoomZones.{IsRoomZone}
-use Rattle.cal_zones.specs.RoomZones.{words_of, room_of}
+use Rattle.cal_zones.specs.RoomZones.{room_of}
 use Rattle.cal_zones.proofs.RoomZoneLemmas.{room_means}
 use Rattle.cal_zones.proofs.room_zone.RoomZone.read.Goals as goal
 
