@@ -26,3 +26,4 @@ pub mod Regular
 pub mod RoomZoneLemmas
 pub mod RoomReads
 pub mod RoomZoneExamples
+pub mod OneRoomZone

@@ -252,7 +252,7 @@ day_worded day (InWeek n k) w = absurd w
 day_worded day (FromStart n k) w = refl
 day_worded day (FromEnd n k) w = refl
 
-second_small : (time : List ℕ) (second : ℕ) → WritesHourMinute time second → second < 86_400
+pub second_small : (time : List ℕ) (second : ℕ) → WritesHourMinute time second → second < 86_400
 second_small time second w =
     let h = w.hours in
     let m = w.minutes in
@@ -273,7 +273,7 @@ time_whole time second w = let c = w.counted in omega (arith, c)
 same_day : (n s m r : ℕ) → local_time n s ≡ local_time m r → s < 86_400 → r < 86_400 → n ≡ m
 same_day n s m r e h k = omega (arith, signed_arith)
 
-same_second : (n s m r : ℕ) → local_time n s ≡ local_time m r → s < 86_400 → r < 86_400 → s ≡ r
+pub same_second : (n s m r : ℕ) → local_time n s ≡ local_time m r → s < 86_400 → r < 86_400 → s ≡ r
 same_second n s m r e h k = omega (arith, signed_arith)
 
 is_it : (a b : ℕ) → a ≡ b → eqb a b ≡ true
