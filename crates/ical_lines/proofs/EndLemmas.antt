@@ -67,7 +67,7 @@ lines_apart body rest h =
 
 -- ---- a byte order mark doesn't reach over an LF
 
-abbrev has_mark : List ℕ → Bool
+abbrev pub has_mark : List ℕ → Bool
 has_mark octets = bytes_eq (take 3 octets) (0xEF ∷ 0xBB ∷ 0xBF ∷ [])
 
 same_mark : (b rest : List ℕ) → has_mark (b ++ 10 ∷ rest) ≡ has_mark b
@@ -94,7 +94,7 @@ mark_stays (x ∷ []) rest = mark_none (x ∷ []) rest (and-false (eqb x 0xEF))
 mark_stays (x ∷ y ∷ []) rest = mark_none (x ∷ y ∷ []) rest (none_short (eqb x 0xEF) (eqb y 0xBB))
 mark_stays (x ∷ y ∷ z ∷ b) rest = stays_by (has_mark (x ∷ y ∷ z ∷ b)) b (x ∷ y ∷ z ∷ b) (10 ∷ rest)
 
-logical_apart : (body rest : List ℕ) → is_continuation rest ≡ false → logical_lines (body ++ 10 ∷ rest) ≡ logical_lines body ++ lines_behind rest
+pub logical_apart : (body rest : List ℕ) → is_continuation rest ≡ false → logical_lines (body ++ 10 ∷ rest) ≡ logical_lines body ++ lines_behind rest
 logical_apart body rest h =
     ap (λ z. filter is_filled (all_lines z)) (mark_stays body rest) ∙ (ap (filter is_filled) (lines_apart (without_mark body) rest h) ∙ filter-append is_filled (all_lines (without_mark body)) (all_lines rest))
 
@@ -105,7 +105,7 @@ logical_ended body rest h =
 
 -- ---- the parts in which an object ends, and those that follow
 
-return_continues : (part : List ℕ) → is_continuation (without_return part) ≡ is_continuation part
+pub return_continues : (part : List ℕ) → is_continuation (without_return part) ≡ is_continuation part
 return_continues [] = refl
 return_continues (c ∷ []) =
     elim (eqb_tells c 13) [ inl e ↦ (let P : ℕ → Type 0 = λ x. is_continuation (without_return (x ∷ [])) ≡ is_continuation (x ∷ []) in subst P (sym e.1) refl) | inr e ↦ ap (λ t. is_continuation (cond t [] (c ∷ []))) e.0 ]

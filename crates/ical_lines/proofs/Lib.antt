@@ -19,3 +19,4 @@ pub mod OutsideLemmas
 pub mod MarkLemmas
 mod PlainLemmas
 pub mod ReturnLemmas
+pub mod FirstLineLemmas

@@ -98,3 +98,7 @@ only_empty = refl
 
 mark_alone : is_begun (0xEF ∷ 0xBB ∷ 0xBF ∷ []) ≡ true
 mark_alone = refl
+
+-- a line may be put behind the first one, folded or not, after empty lines
+put_behind_folded : logical_lines (13 ∷ 10 ∷ codes "BEGIN:VCAL" ++ 10 ∷ codes " ENDAR" ++ 13 ∷ 10 ∷ codes "A:x" ++ 13 ∷ 10 ∷ codes "B:y" ++ 10 ∷ []) ≡ codes "BEGIN:VCALENDAR" ∷ codes "A:x" ∷ codes "B:y" ∷ []
+put_behind_folded = refl

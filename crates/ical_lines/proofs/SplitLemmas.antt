@@ -1,10 +1,11 @@
 -- What memchr finds, as the parts that a list is split into.
-use Rattle.std.proofs.Common.{◌≡◌, map, ℕ, ◌+◌, ◌-◌, ◌<◌, ◌≤◌, Bool, eqb, None, Some, List, [], ◌∷◌, length, take, drop, get_or, ap, ◌∙◌, arith}
+use Rattle.std.proofs.Common.{◌≡◌, map, ℕ, ◌+◌, ◌-◌, ◌<◌, ◌≤◌, Bool, eqb, None, Some, List, [], ◌∷◌, ◌++◌, length, take, drop, get_or, ap, sym, ◌∙◌, arith}
 use Rattle.std.specs.List.{slice_split, position_or_len}
-use Rattle.std.proofs.lemmas.List.{get_or_default, take_rest}
+use Rattle.std.proofs.lemmas.List.{get_or_default, take_rest, drop_more, take-append-drop}
 use Rattle.std.proofs.lemmas.List.Sums.{position_or_len_is}
 use Rattle.std.proofs.lemmas.List.Splits.{slice_split_first, slice_split_none}
 use Rattle.std.proofs.lemmas.Bool.{false_from_ne_true}
+use Rattle.std.proofs.lemmas.Bool.Decides.{Decides-eqb}
 use Rattle.memchr.specs.Find.{IsFirstByte, is_byte}
 use Rattle.profile.specs.text.Lines.{physical_lines, without_return}
 
@@ -22,6 +23,11 @@ pub split_no_byte : (c : ℕ) (xs : List ℕ) → IsFirstByte (is_byte c) xs Non
 split_no_byte c xs h =
     let p : ℕ → Bool = λ x. eqb x c in
     slice_split_none p xs (λ k d l. rw (get_or_default xs k d 0 l) (false_from_ne_true (p (get_or xs k 0)) (h k (omega arith) l)))
+
+-- what comes before it, the byte, and the rest
+pub rest_at_byte : (xs : List ℕ) (i : ℕ) → IsFirstByte (is_byte 10) xs (Some i) → (line : List ℕ) × (xs ≡ line ++ 10 ∷ take (length xs - (i + 1)) (drop (i + 1) xs))
+rest_at_byte xs i h =
+    (take i xs, sym (take-append-drop i xs) ∙ ap (λ z. take i xs ++ z) (drop_more xs i 0 h.0.high ∙ (ap (λ z. z ∷ drop (i + 1) xs) ((Decides-eqb (get_or xs i 0) 10).0 h.1) ∙ ap (λ z. 10 ∷ z) (sym (take_rest xs (i + 1))))))
 
 pub first_line : (xs f : List ℕ) (i : ℕ) → IsFirstByte (is_byte 10) xs (Some i) → f ≡ without_return (take i xs) → physical_lines xs ≡ f ∷ physical_lines (take (length xs - (i + 1)) (drop (i + 1) xs))
 first_line xs f i h e =

@@ -7,3 +7,4 @@ pub mod PiecesOf
 pub mod Text
 pub mod Unfold
 pub mod Plain
+pub mod FirstLine

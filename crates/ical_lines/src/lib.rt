@@ -3,6 +3,7 @@
 #![tactic(auto)]
 
 pub mod fault;
+pub mod first_line;
 pub mod fold;
 pub mod law;
 pub mod limits;
@@ -15,6 +16,7 @@ pub mod text;
 pub mod unfold;
 
 pub use fault::{Fault, Refusal};
+pub use first_line::first_line_end;
 pub use fold::{write_line, write_property};
 pub use law::{lines_read_back, object_ends_with_its_line, read_lines_are_content};
 pub use limits::Limits;

@@ -18,6 +18,7 @@ ghost use Rattle.profile.specs.text.Lines.{
 ghost use Rattle.ical_lines.specs.Fault.{RefusesBy};
 ghost use Rattle.ical_lines.specs.Breaks.{lines_of};
 ghost use Rattle.ical_lines.specs.Unfold.{lines_after, with_breaks, broken_if_filled};
+ghost use Rattle.ical_lines.specs.FirstLine.{IsAfterBreak};
 
 use crate::fault::{Fault, Refusal};
 use memchr::memchr;
@@ -137,6 +138,7 @@ fn end_line(text: &mut Vec<u8>, begun: usize) -> Result<(), AllocError>
 /// The first physical line (RFC 5545 3.1), without one CR at its end, and what follows its LF where it has one.
 pub fn split_line(octets: &[u8]) -> (&[u8], Option<&[u8]>)
     ensures lines { physical_lines octets.now ≡ result.0.now ∷ lines_after result.1 }
+    ensures rest { IsAfterBreak octets.now result.1 }
     ensures memory { length octets.now < 2 ^ 63 }
 {
     match memchr(b'\n', octets) {
