@@ -1,6 +1,6 @@
 -- A line says at most one local time of one form in one zone, and none where it has a fault.
 -- Cited by one_zoned_time.
-use Rattle.std.proofs.Common.{◌≡◌, ◌∙◌, ap, sym, refl, inl, inr, ℕ, true, List, ℤ, pos, ◌*ℤ◌, codes, length, ◌++◌, arith}
+use Rattle.std.proofs.Common.{◌≡◌, ◌∙◌, ap, sym, refl, inl, inr, ℕ, true, List, ℤ, pos, ◌*ℤ◌, codes, length, length-append, arith}
 use Rattle.std.specs.Prelude.{Option, Some, None}
 use Rattle.std.proofs.lemmas.Bool.{false≢true}
 use Rattle.profile.specs.text.Lines.{line_param}
@@ -50,7 +50,7 @@ local_length : (text : List ℕ) (s : ℤ) → SpellsLocal text s → length tex
 local_length text s h = (clock_parts 60 text s h).long
 
 stamp_length : (text : List ℕ) (s : ℤ) → SpellsStamp text s → length text ≡ 16
-stamp_length text s (local, h, e) = let l = local_length local s h in ap length e ∙ omega (arith, l)
+stamp_length text s (local, h, e) = let l = local_length local s h in omega (arith, l, ap length e, length-append local (codes "Z"))
 
 midnight_length : (text : List ℕ) (s : ℤ) → SpellsMidnight text s → length text ≡ 8
 midnight_length text s (day, h, e) = date_length text day h
@@ -126,8 +126,8 @@ no_spelled z object None kind text form a s n k h f = no_alone kind text form s 
 no_spelled z object (Some name) kind text Fixed None s n k h f = absurd h
 no_spelled z object (Some name) kind text Fixed (Some a) s n k (h, p) (inl f) = no_local kind text s n k h f
 no_spelled z object (Some name) kind text Fixed (Some a) s n k (h, p) (inr (_, _, f)) = no_named z (zone_named name object) a n p f
-no_spelled z object (Some name) kind text Floating a s n k (e, _) f = cc
-no_spelled z object (Some name) kind text WholeDay a s n k (e, _) f = cc
+no_spelled z object (Some name) kind text Floating a s n k (e, _, _) f = cc
+no_spelled z object (Some name) kind text WholeDay a s n k (e, _, _) f = cc
 
 pub or_a_fault : NoFault → (object : Tree) (line text : List ℕ) (form : Form) (a : Option Zone) (s : ℤ) (n : ℕ) → SaysZonedText object line text form a s → ZonedTextFault object line text n → ⊥
 or_a_fault z object line text form a s n h f = no_spelled z object (line_param (codes "TZID") line) (time_kind line) text form a s n h.0 h.1 f
