@@ -39,6 +39,7 @@ form_from Floating = forms.Floating
 form_from WholeDay = forms.WholeDay
 
 from_of : (a : Kept) → form_from (form_of a) ≡ a
+unfolding form_from
 from_of forms.Fixed = refl
 from_of forms.Floating = refl
 from_of forms.WholeDay = refl
@@ -275,23 +276,23 @@ module _ (object : Tree) (lines : Lines) (times : EventTimes) where
         start = t;
       }
 
-  pub alone_judged : {may : Bool} (extent : Extent) (n : ℕ) → AreSaidAlone object lines extent → AloneFault extent n → EventTimesFault may object lines n
-  alone_judged (To end) n a h = absurd h
-  alone_judged Open n a h = absurd h
-  alone_judged (For duration) n a (is_part d whole part) = absurd (true≢false (sym (ap is_whole_day whole)))
-  alone_judged (For duration) n a (is_long d h) =
-      let (line, none, once, lasts) = a.extent_in in
-      lasts_long (some_line (codes "DURATION") IsNegativeOrLong lines line once (inr (length_of duration, lasts, h)))
+pub alone_judged : {may : Bool} (object : Tree) (lines : Lines) (extent : Extent) (n : ℕ) → AreSaidAlone object lines extent → AloneFault extent n → EventTimesFault may object lines n
+alone_judged object lines (To end) n a h = absurd h
+alone_judged object lines Open n a h = absurd h
+alone_judged object lines (For duration) n a (is_part d whole part) = absurd (true≢false (sym (ap is_whole_day whole)))
+alone_judged object lines (For duration) n a (is_long d h) =
+    let (line, none, once, lasts) = a.extent_in in
+    lasts_long (some_line (codes "DURATION") IsNegativeOrLong lines line once (inr (length_of duration, lasts, h)))
 
-  pub alone_out : {may : Bool} (extent : Extent) → AreSaidAlone object lines extent → ends_in extent ≡ false → EventTimesFault may object lines 52
-  alone_out extent a outside = end_out object lines (pos 0) extent a.extent_in outside
+pub alone_out : {may : Bool} (object : Tree) (lines : Lines) (extent : Extent) → AreSaidAlone object lines extent → ends_in extent ≡ false → EventTimesFault may object lines 52
+alone_out object lines extent a outside = end_out object lines (pos 0) extent a.extent_in outside
 
 -- ---- an end of the start's form
 
-pub end_faulty : (r : Result Duration Refusal) (end : SaidEnd) (extent : Extent) (form : Form) → extent ≡ To end → form_of end.form ≡ form
-    → IfErr r (λ e. ((e.number ≡ 50) × (end.seconds <ℤ pos 0)) ⊎ ((e.number ≡ 51) × (pos 31_622_400 <ℤ end.seconds))) → IfErr r (λ e. ExtentFault form extent e.number)
-end_faulty (Ok d) end extent form is alike h = tt
-end_faulty (Err e) end extent form is alike h = subst (λ (x : Extent). ExtentFault form x e.number) (sym is) (go e.number h)
+pub end_faulty : (r : Result Duration Refusal) (end : SaidEnd) (form : Form) → form_of end.form ≡ form
+    → IfErr r (λ e. ((e.number ≡ 50) × (end.seconds <ℤ pos 0)) ⊎ ((e.number ≡ 51) × (pos 31_622_400 <ℤ end.seconds))) → IfErr r (λ e. ExtentFault form (To end) e.number)
+end_faulty (Ok d) end form alike h = tt
+end_faulty (Err e) end form alike h = go e.number h
   where
     go : (n : ℕ) → ((n ≡ 50) × (end.seconds <ℤ pos 0)) ⊎ ((n ≡ 51) × (pos 31_622_400 <ℤ end.seconds)) → ExtentFault form (To end) n
     go n (inl (k, early)) = subst (ExtentFault form (To end)) (sym k) (lies_before end alike early)
