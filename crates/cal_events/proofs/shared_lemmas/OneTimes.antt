@@ -44,7 +44,7 @@ IsLone lines name = length (lines_named name lines) ≤ 1
 -- ---- one time
 
 utc_one : (zone : Option Zone) → zone ≡ None → IsOneMeaning (clock_of zone)
-utc_one zone none = subst (λ (z : Option Zone). IsOneMeaning (clock_of z)) (sym none) (one_meaning (Constant (pos 0)) tt)
+utc_one zone e = subst (λ (z : Option Zone). IsOneMeaning (clock_of z)) (sym e) (one_meaning (Constant (pos 0)) tt)
 
 zone_one : (part : Option Tree) (zone : Zone) → SaysZoneOf part zone → IsOneMeaning zone
 zone_one None zone says = absurd says
