@@ -15,7 +15,7 @@ use Rattle.profile.specs.series.Zones.{Zone, Constant, Single, Pair, Observance,
 use Rattle.profile.specs.series.ZoneTexts.{AreMatched, AreSpaced, HasForm, pair, IsRuleOnset, PartsSay, year_pattern}
 use Rattle.profile.specs.checker.Instances.{Key, Instance}
 use Rattle.profile.specs.events.Properties.{BothOrNeither, Form, Fixed, Floating, WholeDay}
-use Rattle.profile.specs.events.ZonedTimes.{zone_named, SaysZoneOf, SpellsZoned, SaysZonedText, clock_of, EventTimes, SaysTimes}
+use Rattle.profile.specs.events.ZonedTimes.{zone_named, is_in_zone, SaysZoneOf, SpellsZoned, SaysZonedText, SaysZonedTime, clock_of, IsInDates, EventTimes, SaysTimes}
 use Rattle.profile.specs.events.Occurrences.{IsRecurrenceLine}
 use Rattle.profile.specs.events.EventComponents.{Method, EventComponent, SaysEventComponent}
 use Rattle.profile.specs.events.Events.{Event, is_master, is_override, InstancesDiffer, SaysEvent}
@@ -23,8 +23,8 @@ use Rattle.profile.specs.events.Starts.{IsDaysLater, EndsAt, IsOfMaster, IsOfOve
 use Rattle.cal_events.specs.Clocks.{IsSteady}
 use Rattle.cal_events.specs.MeetingComponents.{IsInEventDates}
 use Rattle.cal_zones.proofs.Zones.{unique, once_constant, once_single, once_pair}
-use Rattle.cal_events.proofs.shared_lemmas.Meanings.{one_meaning}
-use Rattle.cal_events.proofs.shared_lemmas.OneTimes.{Lines}
+use Rattle.cal_events.proofs.shared_lemmas.Meanings.{one_meaning, utc_instant}
+use Rattle.cal_events.proofs.shared_lemmas.OneTimes.{Lines, some_zone}
 use Rattle.cal_events.proofs.shared_lemmas.Clocks.{ReadsWith, near, single_in_force, pair_in_force, single_reads, pair_reads, constant_reads, ascends}
 
 -- ---- the clocks of a zone
@@ -73,8 +73,8 @@ utc_steady = record {
 
 clock_steady : (object : Tree) (line text : List ℕ) (form : Form) (zone : Option Zone) (local : ℤ) → SaysZonedText object line text form zone local → IsSteady (clock_of zone)
 clock_steady object line text form None local h = utc_steady
-clock_steady object line text Floating (Some zone) local (_, (_, e, _)) = cc
-clock_steady object line text WholeDay (Some zone) local (_, (_, e, _)) = cc
+clock_steady object line text Floating (Some zone) local h = absurd (some_zone zone h.1)
+clock_steady object line text WholeDay (Some zone) local h = absurd (some_zone zone h.1)
 clock_steady object line text Fixed (Some zone) local h = spelled (line_param (codes "TZID") line) h.1
   where
     named : (o : Option Tree) → SaysZoneOf o zone → IsSteady zone
@@ -99,9 +99,21 @@ recurrence_named object line r slot h e = go line (subst (BothOrNeither (IsRecur
     go None h = absurd h
     go (Some l) (_, (_, _, _, _, dates)) = (dates.1, dates.2)
 
+-- a start is in the dates that an event may name: one that isn't fixed is an instant by the clocks of UTC
+pub start_dated : (object : Tree) (line : List ℕ) (form : Form) (zone : Option Zone) (local t : ℤ) → SaysZonedTime object line form zone local → Means (clock_of zone) local t
+    → IsInDates false form (is_in_zone line) local t → IsInEventDates t
+start_dated object line Fixed zone local t says means dates = (dates.1, dates.2)
+start_dated object line Floating None local t says means dates = let e = utc_instant local t means in (omega (arith, ints, e, dates.0), omega (arith, ints, e, dates.1))
+start_dated object line WholeDay None local t says means dates = let e = utc_instant local t means in (omega (arith, ints, e, dates.0), omega (arith, ints, e, dates.1))
+start_dated object line Floating (Some zone) local t says means dates = absurd (some_zone zone says.1)
+start_dated object line WholeDay (Some zone) local t says means dates = absurd (some_zone zone says.1)
+
 -- its clocks, and where it starts
 pub times_sound : {may : Bool} (object : Tree) (lines : Lines) (times : EventTimes) → SaysTimes may object lines times → IsSteady (clock_of times.zone) × IsInEventDates times.start
-times_sound object lines times (inl t) = (clock_steady object t.line (line_value t.line) times.zone times.local t.says, (t.in_dates.1, t.in_dates.2))
+times_sound object lines times (inl t) = (
+  clock_steady object t.line (line_value t.line) times.form times.zone times.local t.says,
+  start_dated object t.line times.form times.zone times.local times.start t.says t.means t.in_dates,
+)
 times_sound object lines times (inr (_, t)) = (
   subst (λ (z : Option Zone). IsSteady (clock_of z)) (sym t.zone) utc_steady,
   subst IsInEventDates (sym t.start) (omega (arith, ints), omega (arith, ints)),
