@@ -237,7 +237,11 @@ pub(crate) fn is_in_dates(when: &When, is_end: bool, in_zone: bool, instant: i64
 fn past_locals(is_end: bool) -> i64
     ensures { result ≡ past_locals is_end }
 {
-    if is_end { HORIZON } else { HORIZON - DAY_SECONDS }
+    if is_end {
+        HORIZON
+    } else {
+        HORIZON - DAY_SECONDS
+    }
 }
 
 /// What DTEND or DURATION say of an event that starts at an instant.
@@ -262,11 +266,7 @@ fn read_extent(
 }
 
 /// The end that a line says, of an event that starts at an instant.
-fn read_end(
-    line: Line<'_>,
-    zones: &ZonesOfObject<'_, '_>,
-    start: i64,
-) -> Result<SaidEnd, Refusal>
+fn read_end(line: Line<'_>, zones: &ZonesOfObject<'_, '_>, start: i64) -> Result<SaidEnd, Refusal>
     requires zones { AreRead zones.now }
     requires start { IsNearEpoch start }
     ensures says { IfOk result (EndsSo (object_of zones.now) (line_text line.entry) start) }
