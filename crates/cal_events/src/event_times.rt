@@ -14,7 +14,7 @@ ghost use Rattle.cal_events.specs.Component.{times_of, length_of, form_of, form_
 ghost use Rattle.cal_events.specs.declared.event_times.Extent.TheVariants.{For};
 ghost use Rattle.cal_events.specs.Zones.{object_of, AreRead};
 ghost use Rattle.cal_events.specs.Overlapping.{LastAtMost};
-ghost use Rattle.cal_events.specs.Zoned.{ends_in, EndsSo, IsStartSaid, IsExtentIn, AreSaid, AreSaidAlone, AreSaidBy, IsInYears};
+ghost use Rattle.cal_events.specs.Zoned.{ends_in, EndsSo, IsExtentIn, AreSaid, AreSaidAlone, AreSaidBy, IsInYears};
 
 use crate::instance::HORIZON;
 use crate::properties::optional;
@@ -139,19 +139,17 @@ impl Extent {
     }
 }
 
-/// DTSTART as it is said.
-#[derive(Clone, Copy)]
-pub(crate) struct SaidStart {
-    when: When,
-    instant: i64,
-    /// Whether it is in the dates that an event may name.
-    in_dates: bool,
-}
-
 /// What DTSTART, DTEND and DURATION say, each judged alone.
 #[derive(Clone, Copy)]
 pub(crate) enum SaidTimes {
-    From(SaidStart, Extent),
+    From {
+        start: When,
+        /// The instant that it means.
+        instant: i64,
+        /// Whether it is in the dates that an event may name.
+        in_dates: bool,
+        extent: Extent,
+    },
     /// Without DTSTART: an end gives no length.
     Alone(Extent),
 }
@@ -188,9 +186,16 @@ impl SaidTimes {
         ensures said { (may_lack : Bool) → IfOk result (AreSaidBy may_lack (object_of zones.now) properties.now) }
         ensures fault { (may_lack : Bool) → IfErr result (λ e. EventTimesFault may_lack (object_of zones.now) properties.now e.number) }
     {
-        let start = read_start(line, zones)?;
-        let extent = read_extent(zones, properties, start.instant)?;
-        Ok(SaidTimes::From(start, extent))
+        let start = When::read(line, zones)?;
+        let instant = start.instant();
+        let in_dates = is_in_dates(&start, false, is_in_zone(line), instant);
+        let extent = read_extent(zones, properties, instant)?;
+        Ok(SaidTimes::From {
+            start,
+            instant,
+            in_dates,
+            extent,
+        })
     }
 
     /// Judges the times together.
@@ -204,26 +209,15 @@ impl SaidTimes {
             → IfErr result (λ e. EventTimesFault may_lack object lines e.number) }
     {
         match self {
-            SaidTimes::From(start, extent) => judge_from(start, extent),
+            SaidTimes::From {
+                start,
+                instant,
+                in_dates,
+                extent,
+            } => judge_from(start, instant, in_dates, extent),
             SaidTimes::Alone(extent) => judge_alone(extent),
         }
     }
-}
-
-/// DTSTART as a line says it.
-fn read_start(line: Line<'_>, zones: &ZonesOfObject<'_, '_>) -> Result<SaidStart, Refusal>
-    requires zones { AreRead zones.now }
-    ensures says { IfOk result (IsStartSaid (object_of zones.now) (line_text line.entry)) }
-    ensures near { IfOk result (λ start. IsNearEpoch start.instant) }
-    ensures fault { IfErr result (λ e. ZonedTimeFault (object_of zones.now) (line_text line.entry) e.number) }
-{
-    let when = When::read(line, zones)?;
-    let instant = when.instant();
-    Ok(SaidStart {
-        when,
-        instant,
-        in_dates: is_in_dates(&when, false, is_in_zone(line), instant),
-    })
 }
 
 /// Whether an event may name a time, as an end or not, of a line with TZID or without, which means this instant.
@@ -290,21 +284,26 @@ fn read_end(
 
 /// The times of an event with DTSTART.
 /// Refused: as by `SaidTimes::judge`.
-fn judge_from(start: SaidStart, extent: Extent) -> Result<EventTimes, Refusal>
-    ensures says { (object : Tree) (lines : List (List ℕ)) → AreSaid object lines start extent
+fn judge_from(
+    start: When,
+    instant: i64,
+    in_dates: bool,
+    extent: Extent,
+) -> Result<EventTimes, Refusal>
+    ensures says { (object : Tree) (lines : List (List ℕ)) → AreSaid object lines start instant in_dates extent
         → IfOk result (λ times. SaysEventTimes object lines (times_of times)) }
-    ensures fault { (may_lack : Bool) (object : Tree) (lines : List (List ℕ)) → AreSaid object lines start extent
+    ensures fault { (may_lack : Bool) (object : Tree) (lines : List (List ℕ)) → AreSaid object lines start instant in_dates extent
         → IfErr result (λ e. EventTimesFault may_lack object lines e.number) }
 {
-    let length = length_from(start.when.form(), extent)?;
-    if !start.in_dates || !extent.ends_in() {
+    let length = length_from(start.form(), extent)?;
+    if !in_dates || !extent.ends_in() {
         return Err(Refusal::OUT_OF_DATES);
     }
-    let Some(instant) = Stamp::of_instant(start.instant) else {
+    let Some(instant) = Stamp::of_instant(instant) else {
         return Err(Refusal::OUT_OF_DATES);
     };
     Ok(EventTimes {
-        start: start.when,
+        start,
         instant,
         length,
     })

@@ -1,6 +1,6 @@
 -- The lines of a VEVENT say its times in at most one way, and not at all where they have a fault.
 -- Behind Calendar::of_object of calendar, Calendar::read of calendar, EventComponent::read of component, EventComponent::series of component, EventComponent::singles of component, EventComponent::singles_at of component and 17 more.
-use Rattle.std.proofs.Common.{◌≡◌, ℕ, ◌+◌, ◌*◌, ◌≤◌, Bool, true, List, length, codes, subst, sym, ap, ◌∙◌, inl, inr, arith, ℤ, pos, ◌+ℤ◌, ◌<ℤ◌}
+use Rattle.std.proofs.Common.{◌≡◌, ℕ, ◌+◌, ◌*◌, ◌≤◌, Bool, true, false, List, length, codes, subst, sym, ap, ◌∙◌, inl, inr, arith, ℤ, pos, ◌+ℤ◌, ◌<ℤ◌}
 use Rattle.std.specs.Prelude.{Option, Some, None, All}
 use Rattle.std.proofs.lemmas.Bool.{true≢false}
 use Rattle.std.proofs.lemmas.Int.{ints}
@@ -10,7 +10,7 @@ use Rattle.profile.specs.text.Lines.{line_value, line_param}
 use Rattle.profile.specs.text.Trees.{Tree}
 use Rattle.profile.specs.text.Values.{SpellsDuration, SpellsNegative}
 use Rattle.profile.specs.series.Zones.{Zone, Constant, IsOneMeaning, Means}
-use Rattle.profile.specs.events.Properties.{lines_named, IsMissing, OccursAtMostOnce, SomeLine, Length, length_seconds, LastsFor, IsNegativeOrLong}
+use Rattle.profile.specs.events.Properties.{Form, Fixed, Floating, WholeDay, lines_named, IsMissing, OccursAtMostOnce, SomeLine, Length, length_seconds, LastsFor, IsNegativeOrLong}
 use Rattle.profile.specs.events.ZonedTimes.{zone_named, is_in_zone, SaysZoneOf, SpellsZoned, SaysZonedText, SaysZonedTime, clock_of, SaysInstant, IsInDates, SaysInDates, SaysOutOfDates, ZonedTextFault, EventTimes, LastsUntil, LastsSo, LastsAlone, SaysEventTimes, SaysNoStart, SaysTimes, StartAndEndLie, names_of_times, EventTimesFault, bad_start, bad_end, bad_duration, ends_early, ends_late, lasts_long, starts_out, ends_out, no_start, twice, end_and_duration}
 use Rattle.profile.specs.events.Occurrences.{IsOutside}
 use Rattle.ical_tree.proofs.OneLine.{IsFunctional, same_option, only_line}
@@ -20,10 +20,10 @@ abbrev pub Lines : Type 0
 Lines = List (List ℕ)
 
 abbrev pub OneZonedTime : Type 0
-OneZonedTime = (object : Tree) (line text : List ℕ) (a b : Option Zone) (s t : ℤ) → SaysZonedText object line text a s → SaysZonedText object line text b t → (a ≡ b) × (s ≡ t)
+OneZonedTime = (object : Tree) (line text : List ℕ) (f g : Form) (a b : Option Zone) (s t : ℤ) → SaysZonedText object line text f a s → SaysZonedText object line text g b t → (f ≡ g) × (a ≡ b) × (s ≡ t)
 
 abbrev pub NoTimeFault : Type 0
-NoTimeFault = (object : Tree) (line text : List ℕ) (a : Option Zone) (s : ℤ) (n : ℕ) → SaysZonedText object line text a s → ZonedTextFault object line text n → ⊥
+NoTimeFault = (object : Tree) (line text : List ℕ) (f : Form) (a : Option Zone) (s : ℤ) (n : ℕ) → SaysZonedText object line text f a s → ZonedTextFault object line text n → ⊥
 
 abbrev pub OneDuration : Type 0
 OneDuration = (text : List ℕ) (d s e t : ℕ) → SpellsDuration text d s → SpellsDuration text e t → (d ≡ e) × (s ≡ t)
@@ -41,48 +41,64 @@ at_most_one name lines (Some x) h = let e : length (lines_named name lines) ≡ 
 abbrev pub IsLone : Lines → List ℕ → Type 0
 IsLone lines name = length (lines_named name lines) ≤ 1
 
--- ---- one instant
+-- ---- one time
+
+utc_one : (zone : Option Zone) → zone ≡ None → IsOneMeaning (clock_of zone)
+utc_one zone none = subst (λ (z : Option Zone). IsOneMeaning (clock_of z)) (sym none) (one_meaning (Constant (pos 0)) tt)
+
+zone_one : (part : Option Tree) (zone : Zone) → SaysZoneOf part zone → IsOneMeaning zone
+zone_one None zone says = absurd says
+zone_one (Some part) zone says = one_meaning zone says.matched
+
+zoned_one : (object : Tree) (name : Option (List ℕ)) (text : List ℕ) (zone : Option Zone) (local : ℤ) → SpellsZoned object name text zone local → IsOneMeaning (clock_of zone)
+zoned_one object name text None local says = one_meaning (Constant (pos 0)) tt
+zoned_one object None text (Some zone) local says = absurd says
+zoned_one object (Some name) text (Some zone) local says = zone_one (zone_named name object) zone says.1
 
 -- the clocks of what a text says show a local time at one instant
-pub clock_one : (object : Tree) (line text : List ℕ) (zone : Option Zone) (local : ℤ) → SaysZonedText object line text zone local → IsOneMeaning (clock_of zone)
-clock_one object line text None local h = one_meaning (Constant (pos 0)) tt
-clock_one object line text (Some zone) local h = spelled (line_param (codes "TZID") line) h.1
-  where
-    named : (o : Option Tree) → SaysZoneOf o zone → IsOneMeaning zone
-    named None says = absurd says
-    named (Some part) says = one_meaning zone says.matched
+pub clock_one : (object : Tree) (line text : List ℕ) (form : Form) (zone : Option Zone) (local : ℤ) → SaysZonedText object line text form zone local → IsOneMeaning (clock_of zone)
+clock_one object line text Fixed zone local h = zoned_one object (line_param (codes "TZID") line) text zone local h.1
+clock_one object line text Floating zone local h = utc_one zone h.1.1
+clock_one object line text WholeDay zone local h = utc_one zone h.1.1
 
-    spelled : (o : Option (List ℕ)) → SpellsZoned object o text (Some zone) local → IsOneMeaning zone
-    spelled None says = absurd says
-    spelled (Some name) says = named (zone_named name object) says.1
+-- the time that a text says
+abbrev SaysText : Tree → List ℕ → List ℕ → Form → ℤ → Type 0
+SaysText object line text form t = (zone : Option Zone) × (local : ℤ) × SaysZonedText object line text form zone local × Means (clock_of zone) local t
 
--- the instant that a text says
-abbrev SaysText : Tree → List ℕ → List ℕ → ℤ → Type 0
-SaysText object line text t = (zone : Option Zone) × (local : ℤ) × SaysZonedText object line text zone local × Means (clock_of zone) local t
+pub text_instant : OneZonedTime → (object : Tree) (line text : List ℕ) (f g : Form) (s t : ℤ) → SaysText object line text f s → SaysText object line text g t → (f ≡ g) × (s ≡ t)
+text_instant one object line text f g s t (zone, local, says, means) (other, clock, said, meant) =
+    let e = one object line text f g zone other local clock says said in
+    let means' = subst (λ (l : ℤ). Means (clock_of other) l s) e.2 (subst (λ (z : Option Zone). Means (clock_of z) local s) e.1 means) in (
+      e.0,
+      clock_one object line text g other clock said clock s t means' meant,
+    )
 
-pub text_instant : OneZonedTime → (object : Tree) (line text : List ℕ) (s t : ℤ) → SaysText object line text s → SaysText object line text t → s ≡ t
-text_instant one object line text s t (zone, local, says, means) (other, clock, said, meant) =
-    let e = one object line text zone other local clock says said in
-    let means' = subst (λ (l : ℤ). Means (clock_of other) l s) e.1 (subst (λ (z : Option Zone). Means (clock_of z) local s) e.0 means) in
-    clock_one object line text other clock said clock s t means' meant
+pub one_instant : OneZonedTime → (object : Tree) (line : List ℕ) (f g : Form) (s t : ℤ) → SaysInstant object line f s → SaysInstant object line g t → (f ≡ g) × (s ≡ t)
+one_instant one object line f g s t h k = text_instant one object line (line_value line) f g s t h k
 
-pub one_instant : OneZonedTime → (object : Tree) (line : List ℕ) (s t : ℤ) → SaysInstant object line s → SaysInstant object line t → s ≡ t
-one_instant one object line s t h k = text_instant one object line (line_value line) s t h k
+pub dated : (is_end : Bool) (object : Tree) (line : List ℕ) (form : Form) (t : ℤ) → SaysInDates is_end object line form t → SaysInstant object line form t
+dated is_end object line form t (zone, local, says, means, dates) = (zone, local, says, means)
 
-pub dated : (object : Tree) (line : List ℕ) (t : ℤ) → SaysInDates object line t → SaysInstant object line t
-dated object line t (zone, local, says, means, dates) = (zone, local, says, means)
+-- a time that is in the dates isn't outside
+time_not_out : OneZonedTime → (is_end : Bool) (object : Tree) (line text : List ℕ) (f g : Form) (zone other : Option Zone) (local clock t instant : ℤ)
+    → SaysZonedText object line text f zone local → Means (clock_of zone) local t → IsInDates is_end f (is_in_zone line) local t → SaysZonedText object line text g other clock
+    → Means (clock_of other) clock instant → (IsInDates is_end g (is_in_zone line) clock instant → ⊥) → ⊥
+time_not_out one is_end object line text f g zone other local clock t instant says means dates said meant out =
+    let e = one object line text f g zone other local clock says said in
+    let i = text_instant one object line text f g t instant (zone, local, says, means) (other, clock, said, meant) in
+    out
+    (subst (λ (x : ℤ). IsInDates is_end g (is_in_zone line) clock x) i.1
+    (subst (λ (l : ℤ). IsInDates is_end g (is_in_zone line) l t) e.2 (subst (λ (x : Form). IsInDates is_end x (is_in_zone line) local t) e.0 dates)))
 
--- an instant that is in the dates isn't outside
-pub text_not_out : OneZonedTime → (object : Tree) (line text : List ℕ) (zone : Option Zone) (local t : ℤ) → SaysZonedText object line text zone local → Means (clock_of zone) local t
-    → IsInDates (is_in_zone line) local t → IsOutside object (line, text) → ⊥
-text_not_out one object line text zone local t says means dates (other, clock, instant, said, meant, out) =
-    let e = one object line text zone other local clock says said in
-    let i = text_instant one object line text t instant (zone, local, says, means) (other, clock, said, meant) in
-    out (subst (λ (x : ℤ). IsInDates (is_in_zone line) clock x) i (subst (λ (l : ℤ). IsInDates (is_in_zone line) l t) e.1 dates))
+pub text_not_out : OneZonedTime → (object : Tree) (line text : List ℕ) (form : Form) (zone : Option Zone) (local t : ℤ) → SaysZonedText object line text form zone local → Means (clock_of zone) local t
+    → IsInDates false form (is_in_zone line) local t → IsOutside object (line, text) → ⊥
+text_not_out one object line text form zone local t says means dates (time, other, clock, said, meant, out) =
+    time_not_out one false object line text form time.form zone other local clock t time.instant says means dates said meant out
 
-pub not_out : OneZonedTime → (object : Tree) (line : List ℕ) (zone : Option Zone) (local t : ℤ) → SaysZonedTime object line zone local → Means (clock_of zone) local t
-    → IsInDates (is_in_zone line) local t → SaysOutOfDates object line → ⊥
-not_out one object line zone local t says means dates out = text_not_out one object line (line_value line) zone local t says means dates out
+pub not_out : OneZonedTime → (is_end : Bool) (object : Tree) (line : List ℕ) (form : Form) (zone : Option Zone) (local t : ℤ) → SaysZonedTime object line form zone local
+    → Means (clock_of zone) local t → IsInDates is_end form (is_in_zone line) local t → SaysOutOfDates is_end object line → ⊥
+not_out one is_end object line form zone local t says means dates (other_form, other, clock, instant, said, meant, out) =
+    time_not_out one is_end object line (line_value line) form other_form zone other local clock t instant says means dates said meant out
 
 -- ---- one length
 
