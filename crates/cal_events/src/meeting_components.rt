@@ -14,9 +14,9 @@ ghost use Rattle.cal_events.specs.MeetingComponents.{instants_said, AreOfObject,
 use crate::component::EventComponent;
 use crate::instants::Instants;
 use crate::method::{Method, adds_instances};
-use crate::occurrences::Time;
 use crate::reading::read_events;
 use crate::room_zone::RoomZone;
+use crate::time::Time;
 use ical_lines::{Fault, Refusal};
 use ical_tree::Component;
 use std::alloc::{AllocError, Global};

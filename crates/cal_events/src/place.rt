@@ -12,8 +12,8 @@ ghost use Rattle.cal_events.specs.RoomZones.{room_of};
 
 use crate::component::EventComponent;
 use crate::event_times::{EventTimes, resolve};
-use crate::occurrences::Time;
 use crate::room_zone::RoomZone;
+use crate::time::Time;
 use crate::when::Form;
 use cal_zones::Zone;
 use ical_values::Stamp;
