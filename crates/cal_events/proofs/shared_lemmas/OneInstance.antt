@@ -14,7 +14,7 @@ use Rattle.profile.specs.series.Rules.{Pattern, is_base}
 use Rattle.profile.specs.series.Zones.{Zone, Constant, Single, Pair, Observance, Onset, IsOnset, IsOffsetAt, IsOneOffset, Means}
 use Rattle.profile.specs.series.ZoneTexts.{AreMatched, AreSpaced, HasForm, pair, IsRuleOnset, PartsSay, year_pattern}
 use Rattle.profile.specs.checker.Instances.{Key, Instance}
-use Rattle.profile.specs.events.Properties.{BothOrNeither}
+use Rattle.profile.specs.events.Properties.{BothOrNeither, Form, Fixed, Floating, WholeDay}
 use Rattle.profile.specs.events.ZonedTimes.{zone_named, SaysZoneOf, SpellsZoned, SaysZonedText, clock_of, EventTimes, SaysTimes}
 use Rattle.profile.specs.events.Occurrences.{IsRecurrenceLine}
 use Rattle.profile.specs.events.EventComponents.{Method, EventComponent, SaysEventComponent}
@@ -71,9 +71,11 @@ utc_steady = record {
   ascends = ascends (Constant (pos 0)) tt;
 }
 
-clock_steady : (object : Tree) (line text : List ℕ) (zone : Option Zone) (local : ℤ) → SaysZonedText object line text zone local → IsSteady (clock_of zone)
-clock_steady object line text None local h = utc_steady
-clock_steady object line text (Some zone) local h = spelled (line_param (codes "TZID") line) h.1
+clock_steady : (object : Tree) (line text : List ℕ) (form : Form) (zone : Option Zone) (local : ℤ) → SaysZonedText object line text form zone local → IsSteady (clock_of zone)
+clock_steady object line text form None local h = utc_steady
+clock_steady object line text Floating (Some zone) local (_, (_, e, _)) = cc
+clock_steady object line text WholeDay (Some zone) local (_, (_, e, _)) = cc
+clock_steady object line text Fixed (Some zone) local h = spelled (line_param (codes "TZID") line) h.1
   where
     named : (o : Option Tree) → SaysZoneOf o zone → IsSteady zone
     named None says = absurd says
