@@ -1,6 +1,8 @@
 //! STAND-IN for cal_zones::RoomZone.
 
-ghost use Rattle.std.specs.Prelude.{◌≡◌, pos};
+ghost use Rattle.std.specs.Prelude.{◌≡◌, pos, ℕ, List, Option};
+ghost use Rattle.profile.specs.series.Zones as zones;
+ghost use Rattle.profile.specs.series.RoomZones.{IsRoomZone};
 ghost use Rattle.profile.specs.series.Zones.{Constant};
 ghost use Rattle.cal_zones.specs.Kinds.{zone_of};
 
@@ -59,3 +61,8 @@ impl RoomZone {
         None
     }
 }
+
+/// Words mean one zone.
+pub fn one_room_zone()
+    ensures { (words : List ℕ) (a b : Option zones.Zone) → IsRoomZone words a → IsRoomZone words b → a ≡ b }
+{}
