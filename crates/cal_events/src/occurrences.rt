@@ -6,11 +6,11 @@ ghost use Rattle.std.specs.List.{AllZip, list_any};
 ghost use Rattle.ical_lines.specs.Fault.{RefusesBy};
 ghost use Rattle.ical_lines.specs.Text.{line_text};
 ghost use Rattle.profile.specs.text.Trees.{Tree};
-ghost use Rattle.profile.specs.events.Properties.{is_of, Says};
+ghost use Rattle.profile.specs.events.Properties.{is_fixed, is_of, Says};
 ghost use Rattle.profile.specs.events.ZonedTimes.{ZonedTextFault};
 ghost use Rattle.profile.specs.events.Occurrences.{ListedTime, IsRecurrenceLine, is_period, entries_of, entries_named, Lists, IsInside, EntriesFault, OccurrenceFault, IsFixedWhere, recurs_as_instance};
 ghost use Rattle.profile.specs.events.EventComponents.{instants_of};
-ghost use Rattle.cal_events.specs.Times.{none_written, time_of, written_of};
+ghost use Rattle.cal_events.specs.Times.{form_of, none_written, time_of, written_of};
 ghost use Rattle.cal_events.specs.Zones.{object_of, AreRead};
 ghost use Rattle.cal_events.specs.Occurrences.{name_of, time_said, SaysSo, IsRecurrenceSaid, AreListed};
 
@@ -145,6 +145,12 @@ impl SaidInstant {
         }
         Ok(Some(SaidInstant::read(line, line.value(), zones)?))
     }
+
+    fn is_fixed(self) -> bool
+        ensures { result ≡ is_fixed (form_of self.time.form) }
+    {
+        matches!(self.time.form, Form::Fixed)
+    }
 }
 
 /// Refuses a RECURRENCE-ID that isn't fixed where only a fixed time can name an instance.
@@ -155,7 +161,7 @@ pub(crate) fn refuse_unfixed(said: Option<SaidInstant>, fixed: bool) -> Result<(
         → (added : Bool) → IfErr result (λ e. OccurrenceFault added fixed object lines e.number) }
 {
     match said {
-        Some(said) if fixed && said.time.form != Form::Fixed => Err(Refusal::OTHER_FORM),
+        Some(said) if fixed && !said.is_fixed() => Err(Refusal::OTHER_FORM),
         _ => Ok(()),
     }
 }

@@ -6,7 +6,7 @@ use Rattle.std.proofs.lemmas.Bool.{true≢false}
 use denote.Ref.{Bor}
 use Rattle.profile.specs.text.Lines.{line_param}
 use Rattle.profile.specs.text.Trees.{Tree}
-use Rattle.profile.specs.events.Properties.{Form, Fixed, OccursAtMostOnce, BothOrNeither, Says}
+use Rattle.profile.specs.events.Properties.{Form, Fixed, is_fixed, OccursAtMostOnce, BothOrNeither, Says}
 use Rattle.profile.specs.events.ZonedTimes.{HasForm, SaysOutOfDates}
 use Rattle.profile.specs.events.Occurrences.{has_range, IsRecurrenceLine, OccurrenceFault, recurrence_out, unfixed}
 use Rattle.cal_events.specs.Times.{form_of, time_of}
@@ -25,7 +25,7 @@ recurrence_out_there {added} {fixed} object lines said s out = go s.line s.once 
         (form_of said.time.form, h.1.0, h.1.1, said.time.instant, h.1.2, h.1.3, λ d. true≢false (sym (h.1.4.1 d) ∙ out)))
 
 -- it isn't fixed
-pub unfixed_there : {added fixed : Bool} (object : Tree) (lines : List (List ℕ)) (said : SaidInstant) → IsRecurrenceSaid object lines (Some said) → fixed ≡ true → form_of said.time.form ≢ Fixed
+pub unfixed_there : {added fixed : Bool} (object : Tree) (lines : List (List ℕ)) (said : SaidInstant) → IsRecurrenceSaid object lines (Some said) → fixed ≡ true → is_fixed (form_of said.time.form) ≡ false
     → OccurrenceFault added fixed object lines 57
 unfixed_there {added} {fixed} object lines said s needed other = go s.line s.once s.is
   where
@@ -34,7 +34,7 @@ unfixed_there {added} {fixed} object lines said s needed other = go s.line s.onc
     go (Some line) once h =
         unfixed needed
         (some_line (codes "RECURRENCE-ID") (λ l. (form : Form) × (form ≢ Fixed) × HasForm object l form) lines line once
-        (form_of said.time.form, other, (h.1.0, h.1.1, h.1.2)))
+        (form_of said.time.form, (λ e. true≢false (sym (ap is_fixed e) ∙ other)), (h.1.0, h.1.1, h.1.2)))
 
 -- a time that is said and in the dates is that of RECURRENCE-ID
 pub recurrence_judged : (object : Tree) (lines : List (List ℕ)) (said : SaidInstant) → IsRecurrenceSaid object lines (Some said) → said.in_dates ≡ true
