@@ -1,6 +1,6 @@
 -- The instances of an event that octets spell: one at each place, in the dates that an event may name. None ends before it starts.
 -- Cited by EventComponent::read of component, Event::of_object of event, one_instance of event.
-use Rattle.std.proofs.Common.{◌≡◌, ◌∙◌, ℕ, zero, suc, ◌*◌, ◌<◌, ◌≤◌, true, ◌&&◌, nat_le, List, [], ◌∷◌, codes, map, filter, get_or, length, sym, ap, subst, refl, inl, inr, ◌⊎◌, arith, ℤ, pos, ◌+ℤ◌, ◌-ℤ◌, ◌≤ℤ◌, unsigned_abs, Bool}
+use Rattle.std.proofs.Common.{◌≡◌, ◌∙◌, ℕ, zero, suc, ◌*◌, ◌<◌, ◌≤◌, true, false, ◌&&◌, nat_le, List, [], ◌∷◌, codes, map, filter, get_or, length, sym, ap, subst, refl, inl, inr, ◌⊎◌, arith, ℤ, pos, ◌+ℤ◌, ◌-ℤ◌, ◌≤ℤ◌, unsigned_abs, Bool}
 use Rattle.std.specs.Prelude.{Option, Some, None, All, Contains}
 use Rattle.std.specs.Option.{option_to_list}
 use Rattle.std.specs.List.{AllZip, AllByRecursion}
@@ -15,7 +15,7 @@ use Rattle.profile.specs.series.Zones.{Zone, Constant, Single, Pair, Observance,
 use Rattle.profile.specs.series.ZoneTexts.{AreMatched, AreSpaced, HasForm, pair, IsRuleOnset, PartsSay, year_pattern}
 use Rattle.profile.specs.checker.Instances.{Key, Instance}
 use Rattle.profile.specs.events.Properties.{BothOrNeither, Form, Fixed, Floating, WholeDay}
-use Rattle.profile.specs.events.ZonedTimes.{zone_named, SaysZoneOf, SpellsZoned, SaysZonedText, clock_of, EventTimes, SaysTimes}
+use Rattle.profile.specs.events.ZonedTimes.{zone_named, is_in_zone, SaysZoneOf, SpellsZoned, SaysZonedText, SaysZonedTime, clock_of, IsInDates, EventTimes, SaysTimes}
 use Rattle.profile.specs.events.Occurrences.{IsRecurrenceLine}
 use Rattle.profile.specs.events.EventComponents.{Method, EventComponent, SaysEventComponent}
 use Rattle.profile.specs.events.Events.{Event, is_master, is_override, InstancesDiffer, SaysEvent}
@@ -23,7 +23,7 @@ use Rattle.profile.specs.events.Starts.{IsDaysLater, EndsAt, IsOfMaster, IsOfOve
 use Rattle.cal_events.specs.Clocks.{IsSteady}
 use Rattle.cal_events.specs.MeetingComponents.{IsInEventDates}
 use Rattle.cal_zones.proofs.Zones.{unique, once_constant, once_single, once_pair}
-use Rattle.cal_events.proofs.shared_lemmas.Meanings.{one_meaning}
+use Rattle.cal_events.proofs.shared_lemmas.Meanings.{one_meaning, utc_instant}
 use Rattle.cal_events.proofs.shared_lemmas.OneTimes.{Lines}
 use Rattle.cal_events.proofs.shared_lemmas.Clocks.{ReadsWith, near, single_in_force, pair_in_force, single_reads, pair_reads, constant_reads, ascends}
 
@@ -92,29 +92,25 @@ pub record IsSound (event : EventComponent) : Type 0 where
   pub starts : IsInEventDates event.times.start
   pub names : (slot : ℤ) → event.recurrence ≡ Some slot → IsInEventDates slot
 
-pub recurrence_named : (object : Tree) (line : Option (List ℕ)) (r : Option ℤ) (slot : ℤ) → BothOrNeither (IsRecurrenceLine object) line r → r ≡ Some slot → IsInEventDates slot
-recurrence_named object line r slot h e = go line (subst (BothOrNeither (IsRecurrenceLine object) line) e h)
-  where
-    go : (l : Option (List ℕ)) → BothOrNeither (IsRecurrenceLine object) l (Some slot) → IsInEventDates slot
-    go None h = absurd h
-    go (Some l) (_, (_, _, _, _, dates)) = (dates.1, dates.2)
+-- a start is in the dates that an event may name: one that isn't fixed is an instant by the clocks of UTC
+pub start_dated : (object : Tree) (line : List ℕ) (form : Form) (zone : Option Zone) (local t : ℤ) → SaysZonedTime object line form zone local → Means (clock_of zone) local t
+    → IsInDates false form (is_in_zone line) local t → IsInEventDates t
+start_dated object line Fixed zone local t says means dates = (dates.1, dates.2)
+start_dated object line Floating None local t says means dates = let e = utc_instant local t means in (omega (arith, ints, e, dates.0), omega (arith, ints, e, dates.1))
+start_dated object line WholeDay None local t says means dates = let e = utc_instant local t means in (omega (arith, ints, e, dates.0), omega (arith, ints, e, dates.1))
+start_dated object line Floating (Some zone) local t (_, (_, e, _)) means dates = cc
+start_dated object line WholeDay (Some zone) local t (_, (_, e, _)) means dates = cc
 
 -- its clocks, and where it starts
 pub times_sound : {may : Bool} (object : Tree) (lines : Lines) (times : EventTimes) → SaysTimes may object lines times → IsSteady (clock_of times.zone) × IsInEventDates times.start
-times_sound object lines times (inl t) = (clock_steady object t.line (line_value t.line) times.zone times.local t.says, (t.in_dates.1, t.in_dates.2))
+times_sound object lines times (inl t) = (
+  clock_steady object t.line (line_value t.line) times.form times.zone times.local t.says,
+  start_dated object t.line times.form times.zone times.local times.start t.says t.means t.in_dates,
+)
 times_sound object lines times (inr (_, t)) = (
   subst (λ (z : Option Zone). IsSteady (clock_of z)) (sym t.zone) utc_steady,
   subst IsInEventDates (sym t.start) (omega (arith, ints), omega (arith, ints)),
 )
-
-pub event_sound : (object : Tree) {m : Option Method} (lines : Lines) (event : EventComponent) → SaysEventComponent object m lines event → IsSound event
-event_sound object lines event s =
-    let t = times_sound object lines event.times s.times in
-    record {
-      steady = t.0;
-      starts = t.1;
-      names = λ slot e. recurrence_named object s.occurrences.is.line event.recurrence slot s.occurrences.is.is e;
-    }
 
 -- an instance of it ends at one instant
 later_one : (z : Zone) (days : ℕ) (t u v : ℤ) → IsSteady z → IsDaysLater z days t u → IsDaysLater z days t v → u ≡ v
