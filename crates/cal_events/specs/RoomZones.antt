@@ -3,8 +3,8 @@ use Rattle.std.specs.Prelude.{ℕ, List, codes, Option, None}
 use Rattle.profile.specs.series.Zones.{Zone}
 use Rattle.cal_events.specs.declared.room_zone.RoomZone.{RoomZone}
 
-pub words_of : RoomZone → List ℕ
+unfoldable pub words_of : RoomZone → List ℕ
 words_of r = codes "+0000"
 
-pub room_of : RoomZone → Option Zone
+unfoldable pub room_of : RoomZone → Option Zone
 room_of r = None

@@ -1,10 +1,11 @@
 -- Events in a room: there is one, and in a room that goes by UTC it is as it is written.
 -- Behind EventComponent::placed of place, one_meeting and one_instance of event, one_calendar of reading.
-use Rattle.std.proofs.Common.{◌≡◌, ◌∙◌, ℕ, Bool, false, List, [], ◌∷◌, map, codes, subst, sym, refl, ap, inl, inr, ◌⊎◌, arith, ℤ, pos}
+use Rattle.std.proofs.Common.{◌≡◌, ◌∙◌, ℕ, ◌+◌, ◌<◌, Bool, false, List, [], ◌∷◌, ◌++◌, length, get_or, take, map, codes, subst, sym, refl, ap, inl, inr, ◌⊎◌, arith, ℤ, pos}
 use Rattle.std.specs.Prelude.{Option, Some, None, All, option_map}
 use Rattle.std.specs.List.{AllZip, AllByRecursion}
 use Rattle.std.proofs.lemmas.Int.{ints}
 use Rattle.std.proofs.lemmas.Option.{same_Some}
+use Rattle.std.proofs.lemmas.List.{take_more, map-append}
 use Rattle.std.proofs.lemmas.List.Elements.{All-from_recursion}
 use Rattle.profile.specs.text.Lines.{line_value, line_param}
 use Rattle.profile.specs.text.Trees.{Tree}
@@ -17,10 +18,11 @@ use Rattle.profile.specs.events.EventComponents.{Method, EventComponent, SaysEve
 use Rattle.profile.specs.events.Placed.{IsInstantIn, IsAt, zone_in, IsPlaced, SaysPlaced}
 use Rattle.cal_events.specs.Clocks.{IsSteady, HasGoodClock}
 use Rattle.cal_events.specs.MeetingComponents.{IsInEventDates}
-use Rattle.cal_events.specs.Said.{AreSaidWith}
+use Rattle.cal_events.specs.Said.{AreSaidWith, IsWritten}
 use Rattle.cal_events.proofs.shared_lemmas.Meanings.{utc_means, utc_instant}
 use Rattle.cal_events.proofs.shared_lemmas.OneInstance.{IsSound, times_sound}
 use Rattle.cal_events.proofs.shared_lemmas.RoomClocks.{IsRoomClock, room_clock}
+use Rattle.cal_events.proofs.shared_lemmas.EventLemmas.{push_zip}
 use Rattle.cal_events.proofs.shared_lemmas.Zips.{zip_one}
 
 abbrev Lines : Type 0
@@ -194,3 +196,43 @@ all_sound words room named object m vs es z = All-from_recursion IsSound es (go 
     go [] (e ∷ es) z = absurd z
     go (v ∷ vs) [] z = absurd z
     go (v ∷ vs) (e ∷ es) z = (placed_sound words room named object v e z.0, go vs es z.1)
+
+-- ---- one more of a list, with its value
+
+pub zip_more : {A B C : Type 0} (R : B → C → Type 0) (f : A → B) (xs : List A) (k : ℕ) (d : A) (old new : List C) (y : C) → k < length xs → AllZip R (map f (take k xs)) old → new ≡ old ++ y ∷ []
+    → R (f (get_or xs k d)) y → AllZip R (map f (take (k + 1) xs)) new
+zip_more R f xs k d old new y w z n r =
+    let taken = ap (map f) (take_more xs k d w) ∙ map-append f (take k xs) (get_or xs k d ∷ []) in
+    subst (λ vs. AllZip R vs new) (sym taken) (subst (AllZip R (map f (take k xs) ++ f (get_or xs k d) ∷ [])) (sym n) (push_zip R (map f (take k xs)) old (f (get_or xs k d)) y z r))
+
+-- ---- an event that was read, placed
+
+pub started : (room : Option Zone) (f g : Form) (t u v : ℤ) → f ≡ g → t ≡ u → IsInstantIn room f t v → IsInstantIn room g u v
+started room f g t u v p q h = subst (λ (x : Form). IsInstantIn room x u v) p (subst (λ (x : ℤ). IsInstantIn room f x v) q h)
+
+abbrev pub placed_at : Option Zone → EventComponent → Option ℤ → ℤ → List ℤ → List ℤ → EventComponent
+placed_at room event slot start adds takes = record event {
+  recurrence = slot;
+  times = record event.times { zone = zone_in room event.times.form event.times.zone; start = start };
+  additions = adds;
+  exceptions = takes;
+}
+
+pub placed_so : (room : Option Zone) (event : EventComponent) (slot : Option ℤ) (start : ℤ) (adds takes : List ℤ) → IsInstantIn room event.times.form event.times.start start
+    → BothOrNeither (IsAt room) event.written.recurrence slot → AllZip (IsAt room) event.written.additions adds → AllZip (IsAt room) event.written.exceptions takes
+    → IsPlaced room event (placed_at room event slot start adds takes)
+placed_so room event slot start adds takes s r a x = record {
+  start = start;
+  recurrence = slot;
+  additions = adds;
+  exceptions = takes;
+  starts = s;
+  slot = r;
+  adds = a;
+  takes = x;
+  is = refl;
+}
+
+-- where it starts
+pub written_start : (words : List ℕ) (room : Option Zone) → IsRoomZone words room → (event : EventComponent) → IsWritten event → (u : ℤ) → IsInstantIn room event.times.form event.times.start u → IsInEventDates u
+written_start words room named event w u p = starts_there room (room_clock words room named) w.object w.lines event.times u w.says.times p
