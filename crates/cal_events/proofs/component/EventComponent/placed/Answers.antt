@@ -1,4 +1,4 @@
-use Rattle.std.proofs.Common.{◌≡◌, ◌∙◌, sym, ap, subst, refl, arith, rules, ℤ, List, ℕ, FitsSigned, to_z, of_z, w64, to_z-of_z}
+use Rattle.std.proofs.Common.{◌≡◌, ◌∙◌, true, sym, ap, subst, refl, arith, rules, ℤ, List, ℕ, FitsSigned, to_z, of_z, w64, to_z-of_z}
 use Rattle.std.specs.Prelude.{Option, Some, None, option_map, is_some, map}
 use Rattle.std.specs.List.{AllZip}
 use Rattle.std.proofs.lemmas.Bool.{true≢false}
@@ -31,8 +31,10 @@ unreachable-requires c =
     let is : room_of c.args.room.now ≡ room = sym c.own_zone.ensures ∙ ap (option_map zone_of) c.in-Some.is in
     let named : IsRoomZone (words_of c.args.room.now) room = subst (IsRoomZone (words_of c.args.room.now)) is c.words_mean.ensures in
     let y = c.instant_in.result in
-    let cast : to_z w64 (of_z w64 y) ≡ y = to_z-of_z (search rules) in
-    let given : to_z w64 (of_z w64 c.instant.result) ≡ c.instant.result = to_z-of_z (search rules) in
+    let fits : FitsSigned w64 y = search rules in
+    let cast : to_z w64 (of_z w64 y) ≡ y = to_z-of_z fits in
+    let fit : FitsSigned w64 c.instant.result = search rules in
+    let given : to_z w64 (of_z w64 c.instant.result) ≡ c.instant.result = to_z-of_z fit in
     let starts = started room (form_of c.form.result) event.times.form (to_z w64 (of_z w64 c.instant.result)) event.times.start y c.form.ensures (given ∙ c.instant.ensures.value) c.instant_in.ensures in
     let dates = written_start (words_of c.args.room.now) room named event c.requires y starts in
     let some : is_some c.of_instant.result ≡ true = c.of_instant.ensures.found.1 (omega (arith, ints, cast, dates.0, dates.1), omega (arith, ints, cast, dates.0, dates.1)) in
@@ -47,8 +49,10 @@ invariant_of-result c =
     let is : room_of c.args.room.now ≡ room = sym c.own_zone.ensures ∙ ap (option_map zone_of) c.in-Some.is in
     let named : IsRoomZone words room = subst (IsRoomZone words) is c.words_mean.ensures in
     let y = c.instant_in.result in
-    let cast : to_z w64 (of_z w64 y) ≡ y = to_z-of_z (search rules) in
-    let given : to_z w64 (of_z w64 c.instant.result) ≡ c.instant.result = to_z-of_z (search rules) in
+    let fits : FitsSigned w64 y = search rules in
+    let cast : to_z w64 (of_z w64 y) ≡ y = to_z-of_z fits in
+    let fit : FitsSigned w64 c.instant.result = search rules in
+    let given : to_z w64 (of_z w64 c.instant.result) ≡ c.instant.result = to_z-of_z fit in
     let t = c.in-Some-of_instant.instant in
     let same : y ≡ t = sym (c.in-Some-of_instant.ensures.value ∙ cast) in
     let starts = started room (form_of c.form.result) event.times.form (to_z w64 (of_z w64 c.instant.result)) event.times.start y c.form.ensures (given ∙ c.instant.ensures.value) c.instant_in.ensures in
