@@ -10,8 +10,8 @@ ghost use Rattle.cal_zones.specs.Kinds.{zone_of};
 ghost use Rattle.profile.specs.faults.Faults.{is_event_fault};
 ghost use Rattle.profile.specs.events.Properties.{length_seconds, OccursAtMostOnce, IsMissing};
 ghost use Rattle.profile.specs.events.ZonedTimes.{is_in_zone, past_locals, IsInDates, SuitsForm, length_alone, ZonedTimeFault, SaysEventTimes, SaysNoStart, SaysTimes, EventTimesFault};
-ghost use Rattle.cal_events.specs.Component.{times_of, length_of, form_of, form_said, local_said, IsLengthTo, GivesLength, ExtentFault};
-ghost use Rattle.cal_events.specs.declared.event_times.Extent.TheVariants.{For};
+ghost use Rattle.cal_events.specs.Component.{times_of, length_of, form_of, form_said, local_said, IsLengthTo, GivesLength, GivesAlone, ExtentFault, AloneFault};
+ghost use Rattle.cal_events.specs.declared.event_times.Extent.TheVariants.{To, For};
 ghost use Rattle.cal_events.specs.Zones.{object_of, AreRead};
 ghost use Rattle.cal_events.specs.Overlapping.{LastAtMost};
 ghost use Rattle.cal_events.specs.Zoned.{ends_in, EndsSo, IsExtentIn, AreSaid, AreSaidAlone, AreSaidBy, IsInYears};
@@ -317,10 +317,7 @@ fn judge_alone(extent: Extent) -> Result<EventTimes, Refusal>
     ensures fault { (may_lack : Bool) (object : Tree) (lines : List (List ℕ)) → AreSaidAlone object lines extent
         → IfErr result (λ e. EventTimesFault may_lack object lines e.number) }
 {
-    let length = match extent {
-        Extent::For(duration) => judge_duration(duration, Form::Fixed)?,
-        Extent::To(_) | Extent::Open => length_alone(Form::Fixed),
-    };
+    let length = length_without_start(extent)?;
     if !extent.ends_in() {
         return Err(Refusal::OUT_OF_DATES);
     }
@@ -329,6 +326,20 @@ fn judge_alone(extent: Extent) -> Result<EventTimes, Refusal>
         instant: Stamp::of_instant(0).unwrap(),
         length,
     })
+}
+
+/// How long an event lasts without DTSTART: an end gives no length.
+/// Refused: 51 for a DURATION past 366 days.
+fn length_without_start(extent: Extent) -> Result<Duration, Refusal>
+    ensures length { IfOk result (λ length. GivesAlone extent (length_of length)) }
+    ensures most { IfOk result (λ length. length_seconds (length_of length) ≤ 31_622_400) }
+    ensures fault { IfErr result (λ e. AloneFault extent e.number) }
+{
+    match extent {
+        Extent::For(duration) => judge_duration(duration, Form::Fixed),
+        Extent::To(_) => Ok(length_alone(Form::Fixed)),
+        Extent::Open => Ok(length_alone(Form::Fixed)),
+    }
 }
 
 /// How long an event lasts whose DTSTART has this form.
@@ -340,11 +351,23 @@ fn length_from(form: Form, extent: Extent) -> Result<Duration, Refusal>
     ensures fault { IfErr result (λ e. ExtentFault (form_of form) extent e.number) }
 {
     match extent {
-        Extent::To(end) if end.form != form => Err(Refusal::OTHER_FORM),
-        Extent::To(end) => length_to(form, end.seconds),
+        Extent::To(end) => judge_end(end, form),
         Extent::For(duration) => judge_duration(duration, form),
         Extent::Open => Ok(length_alone(form)),
     }
+}
+
+/// The length up to a DTEND beside a DTSTART of this form.
+/// Refused: 57 where it has another form, 50 where the event ends before it starts, 51 past 366 days.
+fn judge_end(end: SaidEnd, form: Form) -> Result<Duration, Refusal>
+    ensures length { IfOk result (λ length. GivesLength (form_of form) (To end) (length_of length)) }
+    ensures most { IfOk result (λ length. length_seconds (length_of length) ≤ 31_622_400) }
+    ensures fault { IfErr result (λ e. ExtentFault (form_of form) (To end) e.number) }
+{
+    if end.form != form {
+        return Err(Refusal::OTHER_FORM);
+    }
+    length_to(form, end.seconds)
 }
 
 /// The length up to a DTEND of this form, so many seconds after DTSTART: whole days up to a date, which are 86,400 seconds each.

@@ -87,7 +87,7 @@ impl WrittenTimes {
 
     /// The instant of RECURRENCE-ID.
     pub(crate) fn instant(&self) -> Option<i64>
-        ensures { result ≡ option_map (λ time. time.instant) self.now.recurrence }
+        ensures { result ≡ option_map (λ time. time.instant) (written_of self.now).recurrence }
     {
         match self.recurrence {
             Some(time) => Some(time.instant),

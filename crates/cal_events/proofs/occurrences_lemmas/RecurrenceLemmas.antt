@@ -1,6 +1,6 @@
 -- What RECURRENCE-ID says, judged.
--- Cited by SaidInstant::read_recurrence, refuse_unfixed, judge_recurrence.
-use Rattle.std.proofs.Common.{◌≡◌, ◌≢◌, ℕ, Bool, true, false, List, codes, sym, ap, ◌∙◌}
+-- Cited by SaidInstant::read_recurrence, refuse_unfixed, judge_recurrence, EventComponent::read.
+use Rattle.std.proofs.Common.{◌≡◌, ◌≢◌, ℕ, Bool, true, false, List, codes, sym, ap, subst, ◌∙◌}
 use Rattle.std.specs.Prelude.{Option, Some, None, is_some, option_map}
 use Rattle.std.proofs.lemmas.Bool.{true≢false}
 use denote.Ref.{Bor}
@@ -8,7 +8,7 @@ use Rattle.profile.specs.text.Lines.{line_param}
 use Rattle.profile.specs.text.Trees.{Tree}
 use Rattle.profile.specs.events.Properties.{Form, Fixed, is_fixed, OccursAtMostOnce, BothOrNeither, Says}
 use Rattle.profile.specs.events.ZonedTimes.{HasForm, SaysOutOfDates}
-use Rattle.profile.specs.events.Occurrences.{has_range, IsRecurrenceLine, OccurrenceFault, recurrence_out, unfixed}
+use Rattle.profile.specs.events.Occurrences.{Time, IsFixedWhere, has_range, IsRecurrenceLine, OccurrenceFault, recurrence_out, unfixed}
 use Rattle.cal_events.specs.Times.{form_of, time_of}
 use Rattle.cal_events.specs.Occurrences.{IsRecurrenceSo, IsRecurrenceSaid}
 use Rattle.cal_events.specs.declared.occurrences.SaidInstant.{SaidInstant}
@@ -52,3 +52,7 @@ shows_range line found e h = sym (ap is_some e) ∙ go found h
     go : (o : Option (Bor (List ℕ))) → is_some o ≡ true → is_some (option_map (λ x. x.now) o) ≡ true
     go None h = h
     go (Some x) h = h
+
+-- it is fixed where that is needed, as it was said
+pub fixed_as_said : (fixed b : Bool) (said time : Option Time) → time ≡ said → b ≡ fixed → IsFixedWhere b said → IsFixedWhere fixed time
+fixed_as_said fixed b said time same needed h = subst (IsFixedWhere fixed) (sym same) (subst (λ (x : Bool). IsFixedWhere x said) needed h)

@@ -1,7 +1,7 @@
 -- The instances of an event that octets spell: one at each place, in the dates that an event may name. None ends before it starts.
 -- Cited by EventComponent::read of component, Event::of_object of event, one_instance of event.
-use Rattle.std.proofs.Common.{◌≡◌, ◌∙◌, ℕ, zero, suc, ◌*◌, ◌<◌, ◌≤◌, true, false, ◌&&◌, nat_le, List, [], ◌∷◌, codes, map, filter, get_or, length, sym, ap, subst, refl, inl, inr, ◌⊎◌, arith, ℤ, pos, ◌+ℤ◌, ◌-ℤ◌, ◌≤ℤ◌, unsigned_abs, Bool}
-use Rattle.std.specs.Prelude.{Option, Some, None, All, Contains}
+use Rattle.std.proofs.Common.{◌≡◌, ◌∙◌, ℕ, zero, suc, ◌*◌, ◌<◌, ◌≤◌, true, ◌&&◌, nat_le, List, [], ◌∷◌, codes, map, filter, get_or, length, sym, ap, subst, refl, inl, inr, ◌⊎◌, arith, ℤ, pos, ◌+ℤ◌, ◌-ℤ◌, ◌≤ℤ◌, unsigned_abs, Bool}
+use Rattle.std.specs.Prelude.{Option, Some, None, All, Contains, option_map}
 use Rattle.std.specs.Option.{option_to_list}
 use Rattle.std.specs.List.{AllZip, AllByRecursion}
 use Rattle.std.proofs.lemmas.Int.{ints}
@@ -16,7 +16,7 @@ use Rattle.profile.specs.series.ZoneTexts.{AreMatched, AreSpaced, HasForm, pair,
 use Rattle.profile.specs.checker.Instances.{Key, Instance}
 use Rattle.profile.specs.events.Properties.{BothOrNeither, Form, Fixed, Floating, WholeDay}
 use Rattle.profile.specs.events.ZonedTimes.{zone_named, is_in_zone, SaysZoneOf, SpellsZoned, SaysZonedText, SaysZonedTime, clock_of, IsInDates, EventTimes, SaysTimes}
-use Rattle.profile.specs.events.Occurrences.{IsRecurrenceLine}
+use Rattle.profile.specs.events.Occurrences.{Time, IsRecurrenceLine}
 use Rattle.profile.specs.events.EventComponents.{Method, EventComponent, SaysEventComponent}
 use Rattle.profile.specs.events.Events.{Event, is_master, is_override, InstancesDiffer, SaysEvent}
 use Rattle.profile.specs.events.Starts.{IsDaysLater, EndsAt, IsOfMaster, IsOfOverride, IsInstance, key_at}
@@ -24,7 +24,7 @@ use Rattle.cal_events.specs.Clocks.{IsSteady}
 use Rattle.cal_events.specs.MeetingComponents.{IsInEventDates}
 use Rattle.cal_zones.proofs.Zones.{unique, once_constant, once_single, once_pair}
 use Rattle.cal_events.proofs.shared_lemmas.Meanings.{one_meaning, utc_instant}
-use Rattle.cal_events.proofs.shared_lemmas.OneTimes.{Lines}
+use Rattle.cal_events.proofs.shared_lemmas.OneTimes.{Lines, some_zone}
 use Rattle.cal_events.proofs.shared_lemmas.Clocks.{ReadsWith, near, single_in_force, pair_in_force, single_reads, pair_reads, constant_reads, ascends}
 
 -- ---- the clocks of a zone
@@ -73,8 +73,8 @@ utc_steady = record {
 
 clock_steady : (object : Tree) (line text : List ℕ) (form : Form) (zone : Option Zone) (local : ℤ) → SaysZonedText object line text form zone local → IsSteady (clock_of zone)
 clock_steady object line text form None local h = utc_steady
-clock_steady object line text Floating (Some zone) local (_, (_, e, _)) = cc
-clock_steady object line text WholeDay (Some zone) local (_, (_, e, _)) = cc
+clock_steady object line text Floating (Some zone) local h = absurd (some_zone zone h.1)
+clock_steady object line text WholeDay (Some zone) local h = absurd (some_zone zone h.1)
 clock_steady object line text Fixed (Some zone) local h = spelled (line_param (codes "TZID") line) h.1
   where
     named : (o : Option Tree) → SaysZoneOf o zone → IsSteady zone
@@ -98,8 +98,8 @@ pub start_dated : (object : Tree) (line : List ℕ) (form : Form) (zone : Option
 start_dated object line Fixed zone local t says means dates = (dates.1, dates.2)
 start_dated object line Floating None local t says means dates = let e = utc_instant local t means in (omega (arith, ints, e, dates.0), omega (arith, ints, e, dates.1))
 start_dated object line WholeDay None local t says means dates = let e = utc_instant local t means in (omega (arith, ints, e, dates.0), omega (arith, ints, e, dates.1))
-start_dated object line Floating (Some zone) local t (_, (_, e, _)) means dates = cc
-start_dated object line WholeDay (Some zone) local t (_, (_, e, _)) means dates = cc
+start_dated object line Floating (Some zone) local t says means dates = absurd (some_zone zone says.1)
+start_dated object line WholeDay (Some zone) local t says means dates = absurd (some_zone zone says.1)
 
 -- its clocks, and where it starts
 pub times_sound : {may : Bool} (object : Tree) (lines : Lines) (times : EventTimes) → SaysTimes may object lines times → IsSteady (clock_of times.zone) × IsInEventDates times.start
@@ -111,6 +111,23 @@ times_sound object lines times (inr (_, t)) = (
   subst (λ (z : Option Zone). IsSteady (clock_of z)) (sym t.zone) utc_steady,
   subst IsInEventDates (sym t.start) (omega (arith, ints), omega (arith, ints)),
 )
+
+pub recurrence_named : (object : Tree) (line : Option (List ℕ)) (w : Option Time) (slot : ℤ) → BothOrNeither (IsRecurrenceLine object) line w → option_map (λ time. time.instant) w ≡ Some slot → IsInEventDates slot
+recurrence_named object None None slot h e = cc
+recurrence_named object None (Some w) slot h e = absurd h
+recurrence_named object (Some l) None slot h e = absurd h
+recurrence_named object (Some l) (Some w) slot (_, (zone, local, says, means, dates)) e =
+    subst IsInEventDates (same_Some w.instant slot e) (start_dated object l w.form zone local w.instant says means dates)
+
+-- an event as it is written
+pub event_sound : (object : Tree) {m : Option Method} (lines : Lines) (event : EventComponent) → SaysEventComponent object m lines event → IsSound event
+event_sound object lines event s =
+    let t = times_sound object lines event.times s.times in
+    record {
+      steady = t.0;
+      starts = t.1;
+      names = λ slot e. recurrence_named object s.occurrences.is.line event.written.recurrence slot s.occurrences.is.is (sym s.instants.slot ∙ e);
+    }
 
 -- an instance of it ends at one instant
 later_one : (z : Zone) (days : ℕ) (t u v : ℤ) → IsSteady z → IsDaysLater z days t u → IsDaysLater z days t v → u ≡ v

@@ -1,5 +1,4 @@
-use Rattle.std.proofs.Common.{◌≡◌, ◌≢◌, ◌∙◌, ◌++◌, ◌∷◌, [], length, ap, sym, refl, inl, inr, arith, rules, ℤ, FitsSigned, to_z, of_z, w64}
-use Rattle.std.proofs.lemmas.Int.{ints}
+use Rattle.std.proofs.Common.{◌≡◌, ◌≢◌, ◌∙◌, ◌++◌, ◌∷◌, [], length, sym, refl, inl, inr, arith, rules}
 use Rattle.std.proofs.lemmas.Bool.Decides.{nat_tests}
 use Rattle.ical_lines.specs.Fault.{RefusesBy}
 use Rattle.ical_lines.specs.Text.{line_text}
@@ -36,19 +35,13 @@ returns-in_err-said-clause-fault c done a =
 pub returns-then-not-said-clause-adds : goal.returns-then-not-said-clause-adds
 returns-then-not-said-clause-adds c done a =
     let few : length c.args.self.now.times.items ≢ 366 = λ e. grind (arith, nat_tests, c.len.ensures, c.if-len-eq-MOST.false, e) in
-    let t = c.in_ok-said.said.instant in
-    let fits : FitsSigned w64 t = search rules in
-    let kept : to_z w64 (of_z w64 t) ≡ t = omega (arith, ints) in
-    let more : c.push.new.self.items ≡ c.args.self.now.times.items ++ t ∷ [] = c.in_ok-push.ensures.items ∙ ap (λ (x : ℤ). c.args.self.now.times.items ++ x ∷ []) kept in
+    let more : c.push.new.self.items ≡ c.args.self.now.times.items ++ c.in_ok-said.said.time ∷ [] = c.in_ok-push.ensures.items in
     one_listed (object_of c.args.zones.now) (name_of c.args.listing) (line_text c.args.line) c.args.text.now done c.args.self.now a c.in_ok-said.said _ few
     (sym c.is_period.ensures ∙ c.if-is_period.false) c.in_ok-said.ensures.says more (inr (search rules, refl))
 
 pub returns-else-not-said-clause-adds : goal.returns-else-not-said-clause-adds
 returns-else-not-said-clause-adds c done a =
     let few : length c.args.self.now.times.items ≢ 366 = λ e. grind (arith, nat_tests, c.len.ensures, c.if-len-eq-MOST.false, e) in
-    let t = c.in_ok-said.said.instant in
-    let fits : FitsSigned w64 t = search rules in
-    let kept : to_z w64 (of_z w64 t) ≡ t = omega (arith, ints) in
-    let more : c.push.new.self.items ≡ c.args.self.now.times.items ++ t ∷ [] = c.in_ok-push.ensures.items ∙ ap (λ (x : ℤ). c.args.self.now.times.items ++ x ∷ []) kept in
+    let more : c.push.new.self.items ≡ c.args.self.now.times.items ++ c.in_ok-said.said.time ∷ [] = c.in_ok-push.ensures.items in
     one_listed (object_of c.args.zones.now) (name_of c.args.listing) (line_text c.args.line) c.args.text.now done c.args.self.now a c.in_ok-said.said _ few
     (sym c.is_period.ensures ∙ c.if-is_period.false) c.in_ok-said.ensures.says more (inl (search rules, refl))
