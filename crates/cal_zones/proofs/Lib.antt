@@ -23,3 +23,7 @@ pub mod Spans
 pub mod Meant
 pub mod Periods
 pub mod Regular
+pub mod RoomZoneLemmas
+pub mod RoomReads
+pub mod RoomZoneExamples
+pub mod OneRoomZone

@@ -10,3 +10,5 @@ pub mod Named
 pub mod Read
 pub mod Spans
 pub mod Repeats
+pub mod RoomWords
+pub mod RoomZones

@@ -148,7 +148,7 @@ fn read_yearly(alloc: Global, part: &Component) -> Result<Observance, Fault>
 }
 
 /// The one day of the year that the text of a rule names. Refused with 40 where it names none.
-fn read_year(alloc: Global, text: &str) -> Result<Yearly, Fault>
+pub(crate) fn read_year(alloc: Global, text: &str) -> Result<Yearly, Fault>
     ensures says { IfOk result (λ r. SpellsYear text.now (rule_named r.month r.days)) }
     ensures fault { IfErr result (RefusesBy (λ n. (n ≡ 40) × SpellsNoYear text.now)) }
 {

@@ -64,6 +64,8 @@ impl Zone {
     ghost use Rattle.ical_tree.specs.Tree.{tree_of};
     ghost use Rattle.profile.specs.written.WrittenZones.{IsZoneText};
     ghost use Rattle.ical_values.specs.Written.{Appends};
+    ghost use Rattle.std.specs.Option.{is_none};
+    ghost use Rattle.cal_zones.specs.RoomWords.{own_zone};
 
     /// UTC.
     pub fn utc() -> Zone
@@ -71,6 +73,17 @@ impl Zone {
     {
         Zone {
             kind: Form::Constant(Fixed { offset: 0 }),
+        }
+    }
+
+    /// Is it one offset for all time, 0?
+    pub(crate) fn is_utc(&self) -> bool
+        ensures { result ≡ is_none (own_zone (zone_of self.now)) }
+    {
+        match &self.kind {
+            Form::Constant(fixed) => fixed.offset == 0,
+            Form::Single(_) => false,
+            Form::Pair(_) => false,
         }
     }
 
