@@ -16,6 +16,7 @@ ghost use Rattle.cal_events.specs.Occurrences.{name_of, time_said, SaysSo, IsRec
 
 use crate::event_times::is_in_dates;
 use crate::properties::optional;
+use crate::time::Time;
 use crate::when::{Form, When, is_in_zone};
 use crate::zones::ZonesOfObject;
 use ical_lines::{Fault, Line, Refusal};
@@ -59,14 +60,6 @@ fn has_slash(text: &str) -> bool
     ensures { result ≡ list_any (λ c. c == 47) text.now }
 {
     text.bytes().any(|octet| octet == b'/')
-}
-
-/// A time as it is written.
-#[derive(Clone, Copy)]
-pub struct Time {
-    pub form: Form,
-    /// In seconds from 1970-01-01T00:00:00Z; of a time that isn't fixed what it is in UTC.
-    pub instant: i64,
 }
 
 /// Which instance a VEVENT is for, and what it adds and takes away, as they are written.

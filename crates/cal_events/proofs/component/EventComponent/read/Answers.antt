@@ -14,6 +14,7 @@ use Rattle.cal_events.specs.declared.occurrences.Time.{Time}
 use Rattle.cal_events.specs.Zoned.{AreSaidBy}
 use Rattle.cal_events.specs.Zones.{object_of}
 use Rattle.cal_events.proofs.shared_lemmas.OneInstance.{times_sound}
+use Rattle.cal_events.proofs.shared_lemmas.Placing.{said_as_written}
 use Rattle.cal_events.proofs.shared_lemmas.ZonedLemmas.{weaker_fault}
 use Rattle.cal_events.proofs.occurrences_lemmas.RecurrenceLemmas.{fixed_as_said}
 use Rattle.ical_values.proofs.Exits.{err_exit}
@@ -219,5 +220,5 @@ invariant_of-result c =
     record {
       steady = t.0;
       named = t.1;
-      said = merely (record { object = object; method = method_read c.args.method; lines = lines; event = event; says = said; times_are = refl; rule_is = refl });
+      said = merely (said_as_written object lines event said);
     }
