@@ -112,7 +112,7 @@ AreShowable times = (time : Time) → Contains times time → IsShowable time.fo
 
 -- what isn't fixed is of no zone, and a whole day begins with its midnight
 abbrev pub IsWholeIn : Form → Option Zone → ℤ → Type 0
-IsWholeIn Fixed zone local = Unit {0}
+IsWholeIn Fixed _ local = Unit {0}
 IsWholeIn Floating zone local = zone ≡ None
 IsWholeIn WholeDay zone local = (zone ≡ None) × IsMidnight local
 

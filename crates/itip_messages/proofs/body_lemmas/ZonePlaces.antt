@@ -38,8 +38,8 @@ are_early = list_all (list_all is_early)
 early_start : (form : Form) (zone : Option Zone) (times : EventTimes) (line : List ℕ) → StartsIn form zone times line → list_all is_early line ≡ true
 early_start Fixed None times line (text, w, e) = ap (list_all is_early) e ∙ both_pass is_early (codes "DTSTART:") text refl (stamp_passes is_early early_time text times.start w)
 early_start Fixed (Some zone) times line (text, w, e) = ap (list_all is_early) e ∙ both_pass is_early (codes "DTSTART;TZID=Z:") text refl (local_passes is_early early_time text times.local w)
-early_start Floating zone times line (text, w, e) = ap (list_all is_early) e ∙ both_pass is_early (codes "DTSTART:") text refl (local_passes is_early early_time text times.local w)
-early_start WholeDay zone times line (text, (day, d, _), e) = ap (list_all is_early) e ∙ both_pass is_early (codes "DTSTART;VALUE=DATE:") text refl (date_passes is_early early_time text day d)
+early_start Floating _ times line (text, w, e) = ap (list_all is_early) e ∙ both_pass is_early (codes "DTSTART:") text refl (local_passes is_early early_time text times.local w)
+early_start WholeDay _ times line (text, (day, d, _), e) = ap (list_all is_early) e ∙ both_pass is_early (codes "DTSTART;VALUE=DATE:") text refl (date_passes is_early early_time text day d)
 
 early_time_text : (form : Form) (text : List ℕ) (instant : ℤ) → writes_as form text instant → list_all is_early text ≡ true
 early_time_text Fixed text instant w = stamp_passes is_early early_time text instant w
@@ -275,8 +275,8 @@ content_utf8 content event c = IsUtf8-append (crlf_lines content.lines) (zone_oc
 abbrev pub StartsAs : List ℕ → Form → Option Zone → EventTimes → List ℕ → Type 0
 StartsAs name Fixed None times line = (text : List ℕ) × WritesStamp text times.start × (line ≡ codes "DTSTART:" ++ text)
 StartsAs name Fixed (Some zone) times line = (text : List ℕ) × WritesLocal text times.local × (line ≡ codes "DTSTART;TZID=" ++ name ++ codes ":" ++ text)
-StartsAs name Floating zone times line = (text : List ℕ) × WritesLocal text times.local × (line ≡ codes "DTSTART:" ++ text)
-StartsAs name WholeDay zone times line = (text : List ℕ) × SpellsMidnight text times.local × (line ≡ codes "DTSTART;VALUE=DATE:" ++ text)
+StartsAs name Floating _ times line = (text : List ℕ) × WritesLocal text times.local × (line ≡ codes "DTSTART:" ++ text)
+StartsAs name WholeDay _ times line = (text : List ℕ) × SpellsMidnight text times.local × (line ≡ codes "DTSTART;VALUE=DATE:" ++ text)
 
 -- the lines, with the start under that name
 pub record AreNamed (name : List ℕ) (content : Content) (event : EventComponent) (c : IsContent content event) : Type 0 where
@@ -290,8 +290,8 @@ named name = renamed (codes "DTSTART;TZID=Z") (codes "DTSTART;TZID=" ++ name)
 start_named : (name : List ℕ) (form : Form) (zone : Option Zone) (times : EventTimes) (line : List ℕ) → StartsIn form zone times line → StartsAs name form zone times (named name line)
 start_named name Fixed None times line (text, w, e) = (text, w, ap (named name) e)
 start_named name Fixed (Some zone) times line (text, w, e) = (text, w, ap (named name) e ∙ sym (append_assoc (codes "DTSTART;TZID=" ++ name) (codes ":") text))
-start_named name Floating zone times line (text, w, e) = (text, w, ap (named name) e)
-start_named name WholeDay zone times line (text, w, e) = (text, w, ap (named name) e)
+start_named name Floating _ times line (text, w, e) = (text, w, ap (named name) e)
+start_named name WholeDay _ times line (text, w, e) = (text, w, ap (named name) e)
 
 -- a line of another name stays
 abbrev StaysNamed : List ℕ → List ℕ → Type 0

@@ -106,17 +106,17 @@ midnight_clock text local (day, d, e) = (subst IsClockSeconds (sym e) (date_cloc
 
 -- a time that isn't fixed is of no zone
 unzoned_clock : (object : Tree) (name : Option (List ℕ)) (text : List ℕ) (form : Form) (zone : Option Zone) (local : ℤ) → SpellsForm object name text form zone local → IsWholeIn form zone local
-unzoned_clock object name text Fixed zone local s = tt
-unzoned_clock object name text Floating zone local s = s.1
-unzoned_clock object name text WholeDay zone local s = (s.1, midnight_clock text local s.2)
+unzoned_clock object name text Fixed _ local s = tt
+unzoned_clock object name text Floating _ local s = s.1
+unzoned_clock object name text WholeDay _ local s = (s.1, midnight_clock text local s.2)
 
 -- a listed time: a fixed one where a start may be
 shown_from : (object : Tree) (name : Option (List ℕ)) (text : List ℕ) (form : Form) (zone : Option Zone) (local t : ℤ) → SpellsForm object name text form zone local → Means (clock_of zone) local t → may_take (time_as form t) ≡ true
     → IsShowable form t
-shown_from object name text Fixed zone local t s m h = let d = dates_start t h in (omega (arith, ints, d.0), omega (arith, ints, d.1))
-shown_from object name text Floating zone local t s m h =
+shown_from object name text Fixed _ local t s m h = let d = dates_start t h in (omega (arith, ints, d.0), omega (arith, ints, d.1))
+shown_from object name text Floating _ local t s m h =
     subst IsClockSeconds (sym (utc_instant local t (subst (λ (z : Option Zone). Means (clock_of z) local t) s.1 m))) (local_clock text local s.2)
-shown_from object name text WholeDay zone local t s m h =
+shown_from object name text WholeDay _ local t s m h =
     subst IsMidnight (sym (utc_instant local t (subst (λ (z : Option Zone). Means (clock_of z) local t) s.1 m))) (midnight_clock text local s.2)
 
 listed_shown : (object : Tree) (name : List ℕ) (entry : ListedTime) (time : Time) → IsListed object name entry time → may_take time ≡ true → IsShowable time.form time.instant
@@ -132,7 +132,7 @@ inside_takes Floating in_zone local t d = refl
 inside_takes WholeDay in_zone local t d = refl
 
 entry_takes : (object : Tree) (entry : ListedTime) (time : Time) → IsInside object entry time → may_take time ≡ true
-entry_takes object (line, text) time (zone, local, says, means, dates) = inside_takes time.form (is_in_zone line) local time.instant dates
+entry_takes object (line, text) time (_, local, says, means, dates) = inside_takes time.form (is_in_zone line) local time.instant dates
 
 start_whole : (may_lack : Bool) (object : Tree) (lines : Lines) (times : EventTimes) → SaysTimes may_lack object lines times → StartIsWhole times
 start_whole may_lack object lines times (inl t) = unzoned_clock object (line_param (codes "TZID") t.line) (line_value t.line) times.form times.zone times.local t.says.1

@@ -68,8 +68,8 @@ zone_there object (Some n) text None local s = absurd s
 -- TZID is there where there is a zone, and where the time isn't fixed there is neither
 form_there : (object : Tree) (name : Option (List ℕ)) (text : List ℕ) (form : Form) (zone : Option Zone) (local : ℤ) → SpellsForm object name text form zone local → (is_some name ≡ is_some zone) × IsUnzoned form zone
 form_there object name text Fixed zone local s = (zone_there object name text zone local s, tt)
-form_there object name text Floating zone local s = (ap is_some s.0 ∙ sym (ap is_some s.1), s.1)
-form_there object name text WholeDay zone local s = (ap is_some s.0 ∙ sym (ap is_some s.1), s.1)
+form_there object name text Floating _ local s = (ap is_some s.0 ∙ sym (ap is_some s.1), s.1)
+form_there object name text WholeDay _ local s = (ap is_some s.0 ∙ sym (ap is_some s.1), s.1)
 
 length_suits : (object : Tree) (form : Form) (start : ℤ) (end duration : Option (List ℕ)) (length : Length) → LastsSo object form start end duration length → SuitsForm form length
 length_suits object Fixed start end duration length l = tt
@@ -82,10 +82,10 @@ length_suits object WholeDay start (Some line) (Some other) length l = absurd l
 -- a listed time in the dates that an event may name is in them when it is written without zone
 plain_from : (object : Tree) (name : Option (List ℕ)) (text : List ℕ) (form : Form) (zone : Option Zone) (local t : ℤ) (in_zone : Bool) → SpellsForm object name text form zone local → Means (clock_of zone) local t
     → IsInDates false form in_zone local t → IsPlainStart form t
-plain_from object name text Fixed zone local t in_zone s m d = (d.1, d.1, d.2)
-plain_from object name text Floating zone local t in_zone s m d =
+plain_from object name text Fixed _ local t in_zone s m d = (d.1, d.1, d.2)
+plain_from object name text Floating _ local t in_zone s m d =
     subst (IsInLocalDates false) (sym (utc_instant local t (subst (λ (z : Option Zone). Means (clock_of z) local t) s.1 m))) d
-plain_from object name text WholeDay zone local t in_zone s m d =
+plain_from object name text WholeDay _ local t in_zone s m d =
     subst (IsInLocalDates false) (sym (utc_instant local t (subst (λ (z : Option Zone). Means (clock_of z) local t) s.1 m))) d
 
 plain_entry : (object : Tree) (entry : ListedTime) (time : Time) → IsInside object entry time → IsPlainStart time.form time.instant

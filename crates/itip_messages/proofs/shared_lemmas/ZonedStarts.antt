@@ -203,7 +203,7 @@ MeansZone object name (Some zone) = SaysZoneOf (zone_named name object) zone
 
 -- what isn't fixed is of no zone
 abbrev pub IsUnzoned : Form → Option Zone → Type 0
-IsUnzoned Fixed zone = Unit {0}
+IsUnzoned Fixed _ = Unit {0}
 IsUnzoned Floating zone = zone ≡ None
 IsUnzoned WholeDay zone = zone ≡ None
 
@@ -233,28 +233,28 @@ start_says object name WholeDay zone times line (text, w, e) u means plain m =
 pub start_content : (name : List ℕ) (form : Form) (zone : Option Zone) (times : EventTimes) (line : List ℕ) → StartsAs name form zone times line → IsPlainFor name zone → is_content line ≡ true
 start_content name Fixed None times line (text, w, e) plain = ap is_content e ∙ start_line text (clean_shown text (shown_stamp text times.start w))
 start_content name Fixed (Some zone) times line (text, w, e) plain = ap is_content e ∙ (zoned_start_is name text plain).content (shown_local text times.local w)
-start_content name Floating zone times line (text, w, e) plain = ap is_content e ∙ start_line text (clean_shown text (shown_local text times.local w))
-start_content name WholeDay zone times line (text, (day, d, _), e) plain =
+start_content name Floating _ times line (text, w, e) plain = ap is_content e ∙ start_line text (clean_shown text (shown_local text times.local w))
+start_content name WholeDay _ times line (text, (day, d, _), e) plain =
     let clean = clean_shown text (early_shown text (date_passes is_early early_time text day d)) in
     ap is_content e ∙ valued (codes "DTSTART;VALUE=DATE:") text (lt-ltb 18 (length (day_start text)) (omega arith)) refl refl refl clean
 
 pub start_property : (name : List ℕ) (form : Form) (zone : Option Zone) (times : EventTimes) (line : List ℕ) → StartsAs name form zone times line → IsPlainFor name zone → is_property line ≡ true
 start_property name Fixed None times line (text, w, e) plain = ap is_property e
 start_property name Fixed (Some zone) times line (text, w, e) plain = ap is_property e ∙ (zoned_start_is name text plain).property
-start_property name Floating zone times line (text, w, e) plain = ap is_property e
-start_property name WholeDay zone times line (text, w, e) plain = ap is_property e
+start_property name Floating _ times line (text, w, e) plain = ap is_property e
+start_property name WholeDay _ times line (text, w, e) plain = ap is_property e
 
 pub start_named : (other name : List ℕ) (form : Form) (zone : Option Zone) (times : EventTimes) (line : List ℕ) → StartsAs name form zone times line → IsPlainFor name zone → is_of other line ≡ is_of other (codes "DTSTART:")
 start_named other name Fixed None times line (text, w, e) plain = ap (is_of other) e
 start_named other name Fixed (Some zone) times line (text, w, e) plain = ap (is_of other) e ∙ (zoned_start_is name text plain).named other
-start_named other name Floating zone times line (text, w, e) plain = ap (is_of other) e
-start_named other name WholeDay zone times line (text, w, e) plain = ap (is_of other) e
+start_named other name Floating _ times line (text, w, e) plain = ap (is_of other) e
+start_named other name WholeDay _ times line (text, w, e) plain = ap (is_of other) e
 
 pub start_in_zone : (name : List ℕ) (form : Form) (zone : Option Zone) (times : EventTimes) (line : List ℕ) → StartsAs name form zone times line → IsUnzoned form zone → IsPlainFor name zone → is_in_zone line ≡ is_some zone
 start_in_zone name Fixed None times line (text, w, e) u plain = ap is_in_zone e
 start_in_zone name Fixed (Some zone) times line (text, w, e) u plain = ap is_in_zone e ∙ (zoned_start_is name text plain).in_zone
-start_in_zone name Floating zone times line (text, w, e) u plain = ap is_in_zone e ∙ sym (ap is_some u)
-start_in_zone name WholeDay zone times line (text, w, e) u plain = ap is_in_zone e ∙ sym (ap is_some u)
+start_in_zone name Floating _ times line (text, w, e) u plain = ap is_in_zone e ∙ sym (ap is_some u)
+start_in_zone name WholeDay _ times line (text, w, e) u plain = ap is_in_zone e ∙ sym (ap is_some u)
 
 -- ---- in an object with its zones
 
@@ -276,8 +276,8 @@ zone_said object (Some n) text None local s = absurd s
 
 pub form_said : (object : Tree) (name : Option (List ℕ)) (text : List ℕ) (form : Form) (zone : Option Zone) (local : ℤ) → SpellsForm object name text form zone local → IsSaid zone
 form_said object name text Fixed zone local s = zone_said object name text zone local s
-form_said object name text Floating zone local s = subst IsSaid (sym s.1) tt
-form_said object name text WholeDay zone local s = subst IsSaid (sym s.1) tt
+form_said object name text Floating _ local s = subst IsSaid (sym s.1) tt
+form_said object name text WholeDay _ local s = subst IsSaid (sym s.1) tt
 
 -- the name that is given to the zone of a content is plain
 pub name_plain : (zones : List (List ℕ)) (content : Content) (event : EventComponent) → IsContent content event → (name : List ℕ) → IsNamed zones content.zone name → IsPlainFor name event.times.zone
