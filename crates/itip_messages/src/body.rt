@@ -97,11 +97,7 @@ fn write_duration(body: &mut Vec<u8>, length: Duration) -> Result<(), AllocError
 }
 
 /// RRULE, where there is a rule, beside a DTSTART, on its clocks.
-fn write_rule(
-    body: &mut Vec<u8>,
-    start: &When,
-    rule: Option<&Rule>,
-) -> Result<(), AllocError>
+fn write_rule(body: &mut Vec<u8>, start: &When, rule: Option<&Rule>) -> Result<(), AllocError>
     requires { EndIsTold (form_said start.now) (option_copied rule) }
     ensures { OnOk result (AppendsRule (form_said start.now) (clock_of (zone_said start.now)) (option_copied rule.entry) body.old.items body.new.items) }
 {
@@ -129,12 +125,7 @@ fn end_text(alloc: Global, start: &When, rule: &Rule) -> Result<Option<String>, 
 }
 
 /// Beside a fixed start what UNTIL says, else the last day that it allows.
-fn until_text(
-    alloc: Global,
-    start: &When,
-    last: Day,
-    until: &Until,
-) -> Result<String, AllocError>
+fn until_text(alloc: Global, start: &When, last: Day, until: &Until) -> Result<String, AllocError>
     requires { IsTold (form_said start.now) (day_index last) (until_of until.now) }
     ensures { IfOk result (λ text. WritesEnd (form_said start.now) (clock_of (zone_said start.now)) (day_index last) (until_of until.now) (string_bytes text)) }
 {
@@ -190,12 +181,7 @@ fn write_listed(body: &mut Vec<u8>, name: &str, times: &[Time]) -> Result<(), Al
 }
 
 /// A property that lists those of this form, ascending and each once. In time n log n.
-fn write_times(
-    body: &mut Vec<u8>,
-    name: &str,
-    times: &[Time],
-    form: Form,
-) -> Result<(), AllocError>
+fn write_times(body: &mut Vec<u8>, name: &str, times: &[Time], form: Form) -> Result<(), AllocError>
     requires { AreShowable (map time_of times.now) }
     ensures { OnOk result (AppendsTimes (form_of form) name.now (instants_in (form_of form) (map time_of times.now)) body.old.items body.new.items) }
 {

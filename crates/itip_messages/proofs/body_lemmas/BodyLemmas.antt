@@ -93,7 +93,7 @@ listed_written name times i0 i1 i2 i3 (a, v, p) (b, w, q) (d, x, r) = (
   a ++ b ++ d,
   record { fixed = a; floating = b; days = d; in_utc = v; local = w; dates = x; are = refl },
   r ∙ ap (λ l. l ++ crlf_lines d) (q ∙ ap (λ l. l ++ crlf_lines b) p) ∙ regroup i0 (crlf_lines a) (crlf_lines b) (crlf_lines d)
-  ∙ ap (λ l. i0 ++ l) (sym (crlf_both (a ++ b) d ∙ ap (λ l. l ++ crlf_lines d) (crlf_both a b))),
+      ∙ ap (λ l. i0 ++ l) (sym (crlf_both (a ++ b) d ∙ ap (λ l. l ++ crlf_lines d) (crlf_both a b))),
 )
   where
     regroup : (o a b c : List ℕ) → ((o ++ a) ++ b) ++ c ≡ o ++ ((a ++ b) ++ c)

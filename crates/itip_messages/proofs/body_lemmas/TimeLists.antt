@@ -466,8 +466,15 @@ module _ (name : List ℕ) (n : IsListing name) (times : List Time) (lines : Lin
       let b = map (time_as Floating) w.local.ascending in
       let c = map (time_as WholeDay) w.dates.ascending in
       omega (
-        arith, forms_counted times, ascending_short (instants_in Fixed times) w.in_utc.ascending w.in_utc.are, ascending_short (instants_in Floating times) w.local.ascending w.local.are,
-        ascending_short (instants_in WholeDay times) w.dates.ascending w.dates.are, length-append (a ++ b) c, length-append a b, length-map w.in_utc.ascending (time_as Fixed), length-map w.local.ascending (time_as Floating),
+        arith,
+        forms_counted times,
+        ascending_short (instants_in Fixed times) w.in_utc.ascending w.in_utc.are,
+        ascending_short (instants_in Floating times) w.local.ascending w.local.are,
+        ascending_short (instants_in WholeDay times) w.dates.ascending w.dates.are,
+        length-append (a ++ b) c,
+        length-append a b,
+        length-map w.in_utc.ascending (time_as Fixed),
+        length-map w.local.ascending (time_as Floating),
         length-map w.dates.ascending (time_as WholeDay),
       )
 

@@ -12,9 +12,8 @@ use Rattle.profile.specs.text.Trees.{Tree, vevents}
 use Rattle.profile.specs.text.Values.{IsAddress, IsUid, lower_case}
 use Rattle.profile.specs.events.EventComponents.{Method, Store, Request, Add, Cancel, Reply, Refresh, EventComponent, SaysEventComponent, SaysSequence, IsAttendee, adds_instances}
 use Rattle.profile.specs.events.Events.{as_added, taken_by, is_master}
-use Rattle.profile.specs.events.ZonedTimes.{SaysTimes, SpellsZoned, SaysZoneOf, EventTimes, clock_of, zone_named}
-use Rattle.profile.specs.series.Zones.{IsOneMeaning, Zone}
-use Rattle.profile.specs.series.ZoneTexts.{SaysZone}
+use Rattle.profile.specs.events.ZonedTimes.{SaysTimes, EventTimes, clock_of}
+use Rattle.profile.specs.series.Zones.{IsOneMeaning}
 use Rattle.std.proofs.lemmas.Option.{same_Some}
 use Rattle.profile.specs.events.Properties.{Says, BothOrNeither, OccursAtMostOnce, IsAddressLine, IsUidLine, IsSequenceLine, is_of, lines_named}
 use Rattle.profile.specs.events.Messages as events

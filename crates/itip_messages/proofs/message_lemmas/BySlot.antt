@@ -1,6 +1,6 @@
 -- The events of a message: what is known of each, and their order by slots.
 -- Cited by Message::of.
-use Rattle.std.proofs.Common.{◌≡◌, ◌≢◌, ◌∙◌, ℕ, zero, suc, ◌≤◌, Bool, true, false, not, cond, List, [], ◌∷◌, length, map, filter, get_or, refl, sym, ap, subst, inl, inr, codes, arith, pos, ◌*ℤ◌, ◌+ℤ◌, ◌<◌, ℤ, Option, Some, None, is_some, Ordering}
+use Rattle.std.proofs.Common.{◌≡◌, ◌≢◌, ◌∙◌, ℕ, ◌≤◌, Bool, true, false, not, cond, List, [], ◌∷◌, length, map, filter, get_or, refl, sym, ap, subst, inl, inr, codes, arith, pos, ◌*ℤ◌, ◌+ℤ◌, ◌<◌, ℤ, Option, Some, None, is_some, Ordering}
 use Rattle.std.specs.Prelude.{Contains, All, AllPairs, unwrap_or}
 use Rattle.std.specs.List.{AllZip}
 use Rattle.std.specs.List.Sorted.{IsPermutation, IsSortedByKey}
@@ -25,7 +25,7 @@ use Rattle.profile.specs.rooms.Messages.{AreBySlot, may_take, slot_of, slot_name
 use Rattle.profile.specs.rooms.Revisions.{Slot, Whole, At, slot_cmp}
 use Rattle.itip_order.proofs.Order.{slot_total}
 use Rattle.std.specs.FinMap.{int_cmp-IsAntisymmetric}
-use Rattle.cal_events.proofs.shared_lemmas.InOneOrder.{none_in, of_mapped, in_filtered, of_filtered, cons_pairs, head_pairs, tail_pairs, pairs_mapped, mapped_pairs}
+use Rattle.cal_events.proofs.shared_lemmas.InOneOrder.{of_mapped, in_filtered, of_filtered, cons_pairs, head_pairs, tail_pairs, pairs_mapped, mapped_pairs}
 use Rattle.cal_events.proofs.draft_lemmas.KeyLemmas.{pairs_permutation}
 use Rattle.cal_events.specs.Component.{component_of}
 use Rattle.cal_events.specs.declared.component.EventComponent.{EventComponent}

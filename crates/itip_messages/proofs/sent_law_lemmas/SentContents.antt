@@ -1,6 +1,6 @@
 -- An event that is said again has the same content.
 -- Behind requests_read_back, shown_reads_back.
-use Rattle.std.proofs.Common.{◌≡◌, ◌∙◌, refl, sym, ap, subst, inl, inr, arith, ℤ, zero, suc, ◌<◌, Bool, true, false, cond, List, [], ◌∷◌, ◌++◌, ℕ, codes, filter, map, length, append-nil}
+use Rattle.std.proofs.Common.{◌≡◌, ◌∙◌, refl, sym, ap, subst, inl, inr, arith, ℤ, zero, suc, Bool, true, false, cond, List, [], ◌∷◌, ◌++◌, ℕ, codes, filter, map, append-nil}
 use Rattle.std.specs.Prelude.{◌↔◌, Contains}
 use Rattle.std.proofs.lemmas.List.{map-append}
 use Rattle.std.proofs.lemmas.List.Elements.{Contains-append_cases, filter-append}
@@ -116,8 +116,8 @@ of_again fixed floating days P f g h time c = elim (Contains-append_cases (map (
 pub dates_same : (xs ys : List Time) → AreListedAgain (filter may_take xs) ys → SameTimes (filter may_take xs) (filter may_take ys)
 dates_same xs ys a =
     let kept : filter may_take ys ≡ ys = all_kept may_take ys
-      (λ time c. of_again a.fixed a.floating a.days (λ t. may_take t ≡ true) (λ i d. may_each Fixed xs i ((a.in_utc.exact i).0 d)) (λ i d. may_each Floating xs i ((a.local.exact i).0 d)) (λ i d. may_each WholeDay xs i ((a.dates.exact i).0 d))
-      time (subst (λ (l : List Time). Contains l time) a.are c)) in
+    (λ time c. of_again a.fixed a.floating a.days (λ t. may_take t ≡ true) (λ i d. may_each Fixed xs i ((a.in_utc.exact i).0 d)) (λ i d. may_each Floating xs i ((a.local.exact i).0 d)) (λ i d. may_each WholeDay xs i ((a.dates.exact i).0 d))
+    time (subst (λ (l : List Time). Contains l time) a.are c)) in
     subst (SameTimes (filter may_take xs)) (sym kept) (again_same (filter may_take xs) ys a)
 
 abbrev WritesSame : EventComponent → EventComponent → Type 0

@@ -13,12 +13,11 @@ use Rattle.profile.specs.text.Objects.{most_events}
 use Rattle.profile.specs.text.Trees.{Tree, tree_inside, tree_name, tree_own, vevents}
 use Rattle.profile.specs.rooms.Revisions.{Revision}
 use Rattle.profile.specs.text.Values.{IsUid}
-use Rattle.profile.specs.series.Zones.{IsOneMeaning, Zone}
-use Rattle.profile.specs.series.ZoneTexts.{SaysZone}
+use Rattle.profile.specs.series.Zones.{IsOneMeaning}
 use Rattle.profile.specs.events.EventComponents.{Attendee, EventComponent, IsAttendee, SaysEventComponent, first_text, meeting_said, Method, Store}
 use Rattle.profile.specs.events.Events.{InstancesDiffer, is_master, is_override, taken_by}
-use Rattle.profile.specs.events.Properties.{Form, Fixed, Floating, WholeDay, BothOrNeither, IsAddressLine, IsUidLine, Says, OccursAtMostOnce, is_of, lines_named}
-use Rattle.profile.specs.events.ZonedTimes.{EventTimes, SaysTimes, SaysZoneOf, SpellsForm, SpellsZoned, clock_of, zone_named}
+use Rattle.profile.specs.events.Properties.{Fixed, BothOrNeither, IsAddressLine, IsUidLine, Says, OccursAtMostOnce, is_of, lines_named}
+use Rattle.profile.specs.events.ZonedTimes.{EventTimes, SaysTimes, clock_of}
 use Rattle.profile.specs.events.Occurrences.{IsFixedWhere, Time}
 use Rattle.profile.specs.events.Messages.{Message, SpellsMessage}
 use Rattle.cal_events.specs.MeetingComponents.{IsInEventDates}

@@ -1,6 +1,6 @@
 -- In a room that goes by UTC an event is as its lines say it.
 -- Behind one_message of law, shown_reads_back of sent_law.
-use Rattle.std.proofs.Common.{◌≡◌, ◌∙◌, refl, sym, ap, subst, inl, inr, ℤ, List, [], ◌∷◌, map, ℕ, codes, Bool}
+use Rattle.std.proofs.Common.{◌≡◌, ◌∙◌, refl, sym, ap, subst, inl, inr, ℤ, List, [], ◌∷◌, ℕ, codes, Bool}
 use Rattle.std.specs.Prelude.{Option, Some, None, option_map}
 use Rattle.std.specs.List.{AllZip}
 use Rattle.profile.specs.text.Lines.{line_param, line_value}
@@ -9,8 +9,8 @@ use Rattle.profile.specs.series.Zones.{Zone}
 use Rattle.profile.specs.events.Properties.{BothOrNeither, Form, Fixed, Floating, WholeDay}
 use Rattle.profile.specs.events.ZonedTimes.{EventTimes, SaysTimes, SpellsForm}
 use Rattle.profile.specs.events.Occurrences.{Time}
-use Rattle.profile.specs.events.EventComponents.{AreOfWritten, EventComponent, Method, SaysEventComponent, instants_of}
-use Rattle.profile.specs.events.Placed.{IsAt, IsInstantIn, IsPlaced, SaysPlaced, zone_in}
+use Rattle.profile.specs.events.EventComponents.{EventComponent, Method, SaysEventComponent, instants_of}
+use Rattle.profile.specs.events.Placed.{IsAt, IsInstantIn, SaysPlaced, zone_in}
 use Rattle.cal_events.proofs.shared_lemmas.Meanings.{utc_instant, utc_means}
 
 abbrev Lines : Type 0

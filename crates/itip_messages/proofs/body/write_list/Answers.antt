@@ -1,4 +1,4 @@
-use Rattle.std.proofs.Common.{◌≡◌, ◌∙◌, ◌∷◌, ◌++◌, List, ℤ, sym, ap, subst, FitsSigned, to_z, of_z, w64, to_z-of_z, rules}
+use Rattle.std.proofs.Common.{◌≡◌, ◌∷◌, List, ℤ, sym, subst, FitsSigned, to_z, of_z, w64, to_z-of_z, rules}
 use Rattle.std.specs.Prelude.{Contains}
 use Rattle.std.specs.List.{AllZip}
 use Rattle.cal_events.specs.Component.{form_of}

@@ -1,4 +1,4 @@
-use Rattle.std.proofs.Common.{◌≡◌, ◌∙◌, ◌++◌, List, ℕ, codes, refl, sym, ap, subst}
+use Rattle.std.proofs.Common.{◌∙◌, ◌++◌, List, ℕ, codes, refl, sym, ap, subst}
 use Rattle.profile.specs.events.ZonedTimes.{SpellsMidnight}
 use Rattle.profile.specs.text.Values.{WritesLocal}
 use Rattle.profile.specs.rooms.Messages.{StartsIn}

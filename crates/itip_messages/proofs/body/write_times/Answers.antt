@@ -1,7 +1,7 @@
 use Rattle.std.proofs.Common.{◌∙◌, refl, sym, List, ℤ, subst}
 use Rattle.std.specs.Prelude.{Contains, map}
 use Rattle.std.proofs.lemmas.Result.{on_ok_weaker}
-use Rattle.profile.specs.rooms.Messages.{AreAscending, instants_in, list_lines}
+use Rattle.profile.specs.rooms.Messages.{AreAscending, list_lines}
 use Rattle.cal_events.specs.Component.{form_of, time_of}
 use Rattle.itip_messages.specs.Body.{name_as}
 use Rattle.itip_messages.proofs.body_lemmas.BodyLemmas.{form_shown}
