@@ -1,5 +1,6 @@
 #!/usr/bin/env python3
-"""Makes the cases of crates/worked_examples of times with TZID, nominal days, RDATE, EXDATE and RECURRENCE-ID: files `zone-*` and
+"""Makes the cases of crates/worked_examples of times with TZID, nominal days, RDATE, EXDATE and RECURRENCE-ID, and those of whole days and of times
+without zone in the zone of a room, which are in room_zone_cases.py: files `zone-*`, `placed-*` and
 `zoned-*` of its `data` (those without an ending), the lines of `commands.txt` from the line `# times in zones` to the next empty one, and the lines of
 `stdout` for all of `commands.txt`, which are there one after another. It is run by hand, in the top folder: `python3 tests/zoned_examples.py`.
 
@@ -9,6 +10,8 @@ two, and in a gap the offset before it).
 import datetime as dt
 import pathlib
 import zoneinfo
+
+import room_zone_cases
 
 CRATE = pathlib.Path("crates/worked_examples")
 DATA = CRATE / "data"
@@ -52,6 +55,7 @@ ZONES = {
     "lord-howe": zone("Australia/Lord_Howe",
                       part("STANDARD", "20080406T020000", "BYMONTH=4;BYDAY=1SU", "+1100", "+1030"),
                       part("DAYLIGHT", "20081005T020000", "BYMONTH=10;BYDAY=1SU", "+1030", "+1100")),
+    "of-a-room": ["X-ROOM-ZONE:" + room_zone_cases.NEW_YORK],
 }
 
 
@@ -335,28 +339,32 @@ def ok_lines(names):
     return ["ok %s\n" % name for name in names]
 
 
+def rows(word, cases):
+    """The lines of the table for these cases, whose files are written."""
+    table = []
+    for number, (name, words, zones, lines, outcome) in enumerate(cases, 1):
+        event = "%s-%02d" % (word, number)
+        write(event, ["BEGIN:VEVENT", "UID:a"] + lines + ["END:VEVENT", "END:VCALENDAR"])
+        files = " ".join(["zoned-begin"] + ["zone-" + z for z in zones] + [event])
+        output, errors, status = "nothing", "nothing", 0
+        if isinstance(outcome, int):
+            errors, status = "said-refused-%d" % outcome, 3
+            (DATA / errors).write_text("roombox: refused %d\n" % outcome)
+        elif outcome:
+            output = event + "-days"
+            write(output, outcome, "\n")
+        table.append("%s | expand | %s | %s | %s | %s | %d" % (name, files, words, output, errors, status))
+    return table
+
+
 def main():
-    for old in list(DATA.glob("zone-*")) + list(DATA.glob("zoned-*")):
+    for old in list(DATA.glob("zone-*")) + list(DATA.glob("zoned-*")) + list(DATA.glob("placed-*")):
         if not old.suffix:
             old.unlink()
     write("zoned-begin", BEGIN)
     for name, lines in ZONES.items():
         write("zone-" + name, lines)
-    table = []
-    for number, (name, zones, lines, outcome) in enumerate(CASES, 1):
-        event = "zoned-%02d" % number
-        write(event, ["BEGIN:VEVENT", "UID:a"] + lines + ["END:VEVENT", "END:VCALENDAR"])
-        files = " ".join(["zoned-begin"] + ["zone-" + z for z in zones] + [event])
-        if isinstance(outcome, int):
-            said = "said-refused-%d" % outcome
-            (DATA / said).write_text("roombox: refused %d\n" % outcome)
-            table.append("%s | expand | %s |  | nothing | %s | 3" % (name, files, said))
-        else:
-            output = "nothing"
-            if outcome:
-                output = event + "-days"
-                write(output, outcome, "\n")
-            table.append("%s | expand | %s |  | %s | nothing | 0" % (name, files, output))
+    table = rows("zoned", [(name, "", *case) for name, *case in CASES]) + rows("placed", room_zone_cases.CASES)
     before = TABLE.read_text()
     head, _, rest = before.partition(MARK + "\n")
     after = head + MARK + "\n" + "\n".join(table) + "\n\n" + rest.partition("\n\n")[2]
