@@ -1,7 +1,7 @@
 -- The lines of a VEVENT of an object say at most one event, and none where they have a fault.
 -- Cited by one_event.
-use Rattle.std.proofs.Common.{◌≡◌, ℕ, Bool, true, false, List, [], codes, subst, sym, refl, ap, ◌∙◌, inl, inr, arith, ℤ}
-use Rattle.std.specs.Prelude.{Option, Some, None, is_some, unwrap_or, All, ◌⊎◌}
+use Rattle.std.proofs.Common.{◌≡◌, ℕ, Bool, true, false, List, [], codes, subst, sym, refl, ap, ◌∙◌, arith, ℤ}
+use Rattle.std.specs.Prelude.{Option, Some, None, is_some, unwrap_or, All}
 use Rattle.std.specs.Option.{option_to_list}
 use Rattle.std.proofs.lemmas.Bool.{true≢false}
 use Rattle.std.proofs.lemmas.List.Elements.{All-from_recursion, All-contains}

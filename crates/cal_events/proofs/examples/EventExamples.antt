@@ -96,7 +96,7 @@ say object = record {
     duration_line = Some (codes "DURATION:PT90M");
     end_once = refl;
     duration_once = refl;
-    lasts = ninety_minutes;
+    lasts = (ninety_minutes, tt);
     most = omega arith;
     in_dates = (omega (arith, ints), omega (arith, ints), omega (arith, ints));
   });

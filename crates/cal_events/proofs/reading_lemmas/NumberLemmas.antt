@@ -1,7 +1,7 @@
 -- The numbers of the faults of a VEVENT, and which of them are left where no time names a zone.
 -- Cited by read_event.
 use Rattle.std.proofs.Common.{eqb, ◌≡◌, ◌∙◌, ap, refl, inl, inr, ℕ, Bool, true, false, cond, ◌||◌, List, codes}
-use Rattle.std.specs.Prelude.{Option, Some, None, ◌⊎◌}
+use Rattle.std.specs.Prelude.{Option, Some, None}
 use Rattle.ical_lines.specs.Fault.{RefusesOnly, RefusesBy}
 use Rattle.ical_lines.specs.declared.fault.Fault.{Fault}
 use Rattle.ical_lines.specs.declared.fault.Fault.TheVariants.{Refused, Memory}

@@ -1,7 +1,7 @@
 -- What the readers of a VEVENT's properties say, put together.
 -- Cited by EventComponent::status_of of component, read_attendees of component_values, read_organiser of component_values, read_sequence of component_values, read_stamp of component_values, read_summary of component_values and 10 more.
 use Rattle.std.proofs.Common.{◌≡◌, ℕ, zero, suc, ◌+◌, ◌<◌, Bool, true, false, eqb, List, [], ◌∷◌, ◌++◌, length, get_or, drop, drop-cons, add-one, append_assoc, cond, map, codes, subst, sym, refl, ap, ◌∙◌, inl, inr, arith, Option}
-use Rattle.std.specs.Prelude.{Option, Some, None, option_map, unwrap_or, Result, Ok, Err, IfOk, OnOk, Contains, IsTrue}
+use Rattle.std.specs.Prelude.{Option, Some, option_map, unwrap_or, Result, Ok, Err, IfOk, OnOk, Contains, IsTrue}
 use Rattle.std.specs.List.{AllZip, find}
 use Rattle.std.proofs.lemmas.List.{map-append}
 use Rattle.std.proofs.lemmas.List.Elements.{Contains-append_right}

@@ -251,7 +251,7 @@ module _ (one : OneZonedTime) (none : NoTimeFault) (two : OneDuration) (apart : 
   no_times_fault n (ends_out l) = let until = (end_said _ l).1 in not_out one true object l.0 times.form until.0 until.1 _ until.2 until.3 until.4 l.2
   no_times_fault n (other_form (start, end, first, last, differ)) = differ (sym (start_form start first) ∙ end_form end last)
   no_times_fault n (part_of_day (length, first, (line, at, lasts), part)) =
-      let suits = duration_suits _ (line, at, lasts) in
+      let suits = duration_suits (λ l. LastsFor l length) (line, at, lasts) in
       let none : times.length.seconds ≡ 0 = subst (λ (f : Form). SuitsForm f times.length) (start_form WholeDay first) suits.1 in
       let e : times.length ≡ length = length_one two line times.length length suits.0 lasts in
       let none' : length.seconds ≡ 0 = subst (λ (x : Length). x.seconds ≡ 0) e none in

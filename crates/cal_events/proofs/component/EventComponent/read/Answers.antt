@@ -1,15 +1,16 @@
-use Rattle.std.proofs.Common.{◌∙◌, Bool, codes, map, sym, ap, subst, refl, arith}
+use Rattle.std.proofs.Common.{◌∙◌, Bool, List, ℤ, codes, map, sym, ap, subst, refl, arith}
 use Rattle.std.specs.Prelude.{option_map}
 use Rattle.std.proofs.lemmas.Grind.{merely}
 use Rattle.ical_values.specs.Octets.{address_octets, text_octets}
-use Rattle.profile.specs.events.EventComponents.{EventComponent as SaidComponent, SaysEventComponent}
+use Rattle.profile.specs.events.EventComponents.{EventComponent as SaidComponent, SaysEventComponent, instants_of}
 use Rattle.cal_events.specs.Component.{attendee_of}
 use Rattle.ical_lines.specs.Fault.{RefusesBy}
 use Rattle.profile.specs.events.EventComponents.{EventComponentFault, adds_instances, may_lack_start, names_by_fixed, in_times, in_rule, in_occurrences, twice}
 use Rattle.profile.specs.events.Occurrences.{OccurrenceFault, entries_named, EntriesFault, bad_additions, bad_exceptions, recurs, recurs_as_instance}
 use Rattle.profile.specs.events.EventRules.{EventRuleFault}
 use Rattle.profile.specs.events.ZonedTimes.{EventTimesFault}
-use Rattle.cal_events.specs.Component.{method_read, times_of, written_of}
+use Rattle.cal_events.specs.Component.{method_read, times_of, time_of, written_of}
+use Rattle.cal_events.specs.declared.occurrences.Time.{Time}
 use Rattle.cal_events.specs.Zoned.{AreSaidBy}
 use Rattle.cal_events.specs.Zones.{object_of}
 use Rattle.cal_events.proofs.shared_lemmas.OneInstance.{times_sound}
@@ -137,6 +138,10 @@ returns-in_err-rule-clause-fault c =
     (c.in_err-rule.ensures.fault (may_lack_start m) object lines c.in_ok-said_rule.ensures.said c.has.ensures
     (c.in_ok-times.ensures.says (may_lack_start m) object lines (subst (λ (b : Bool). AreSaidBy b object lines c.in_ok-said.said) c.may_lack_start.ensures c.in_ok-said.ensures.said))))
 
+-- the instants of times as they were read
+abbrev instants_in : List Time → List ℤ
+instants_in times = instants_of (map time_of times)
+
 pub returns-clause-says : goal.returns-clause-says
 returns-clause-says c = record {
   uid = c.in_ok-uid.ensures.reads;
@@ -163,7 +168,7 @@ returns-clause-says c = record {
         takes = c.in_ok-said_exceptions.ensures.listed.lists;
         alone = ap (λ b. recurs_as_instance b lines) (sym c.adds_instances.ensures) ∙ c.in_ok-refuse_recurring_instance.ensures.alone;
       };
-  instants = record { slot = c.instant.ensures; added = c.in_ok-additions.ensures; taken = c.in_ok-exceptions.ensures };
+  instants = record { slot = c.instant.ensures; added = c.in_ok-additions.ensures ∙ ap instants_in c.deref.ensures.value; taken = c.in_ok-exceptions.ensures ∙ ap instants_in c.deref-2.ensures.value };
   summary = c.in_ok-summary.ensures;
   attendees = c.in_ok-attendees.ensures.reads;
 }
@@ -188,7 +193,7 @@ invariant_of-result c =
       rule = c.in_ok-rule.rule;
       additions = c.in_ok-additions.additions.items;
       exceptions = c.in_ok-exceptions.exceptions.items;
-      written = written_of (record { recurrence = c.in_ok-judge_recurrence.judge_recurrence; additions = c.in_ok-judge.judge; exceptions = c.in_ok-said_exceptions.said_exceptions.times });
+      written = written_of (record { recurrence = c.in_ok-judge_recurrence.field-0; additions = c.in_ok-judge.field-0; exceptions = c.in_ok-said_exceptions.said_exceptions.times });
       summary = text_octets c.in_ok-summary.summary;
       attendees = map attendee_of c.in_ok-attendees.attendees.items;
     } in
@@ -208,7 +213,7 @@ invariant_of-result c =
         takes = c.in_ok-said_exceptions.ensures.listed.lists;
         alone = ap (λ b. recurs_as_instance b lines) (sym c.adds_instances.ensures) ∙ c.in_ok-refuse_recurring_instance.ensures.alone;
       };
-      instants = record { slot = c.instant.ensures; added = c.in_ok-additions.ensures; taken = c.in_ok-exceptions.ensures };
+      instants = record { slot = c.instant.ensures; added = c.in_ok-additions.ensures ∙ ap instants_in c.deref.ensures.value; taken = c.in_ok-exceptions.ensures ∙ ap instants_in c.deref-2.ensures.value };
       summary = c.in_ok-summary.ensures;
       attendees = c.in_ok-attendees.ensures.reads;
     } in
