@@ -7,8 +7,7 @@ ghost use Rattle.profile.specs.text.Trees.{Tree};
 ghost use Rattle.profile.specs.series.Zones.{IsNearEpoch, Means};
 ghost use Rattle.profile.specs.events.Starts.{IsDaysLater, EndsAt, IsWidth};
 ghost use Rattle.cal_zones.specs.Kinds.{zone_of};
-ghost use Rattle.profile.specs.faults.Faults.{is_event_fault};
-ghost use Rattle.profile.specs.events.Properties.{length_seconds, OccursAtMostOnce, IsMissing};
+ghost use Rattle.profile.specs.events.Properties.{length_seconds, OccursAtMostOnce};
 ghost use Rattle.profile.specs.events.ZonedTimes.{is_in_zone, past_locals, IsInDates, SuitsForm, length_alone, ZonedTimeFault, SaysEventTimes, SaysNoStart, SaysTimes, EventTimesFault};
 ghost use Rattle.cal_events.specs.Component.{times_of, length_of, form_of, form_said, local_said, IsLengthTo, GivesLength, GivesAlone, ExtentFault, AloneFault};
 ghost use Rattle.cal_events.specs.declared.event_times.Extent.TheVariants.{To, For};
@@ -238,7 +237,11 @@ pub(crate) fn is_in_dates(when: &When, is_end: bool, in_zone: bool, instant: i64
 fn past_locals(is_end: bool) -> i64
     ensures { result ≡ past_locals is_end }
 {
-    if is_end { HORIZON } else { HORIZON - DAY_SECONDS }
+    if is_end {
+        HORIZON
+    } else {
+        HORIZON - DAY_SECONDS
+    }
 }
 
 /// What DTEND or DURATION say of an event that starts at an instant.
@@ -263,11 +266,7 @@ fn read_extent(
 }
 
 /// The end that a line says, of an event that starts at an instant.
-fn read_end(
-    line: Line<'_>,
-    zones: &ZonesOfObject<'_, '_>,
-    start: i64,
-) -> Result<SaidEnd, Refusal>
+fn read_end(line: Line<'_>, zones: &ZonesOfObject<'_, '_>, start: i64) -> Result<SaidEnd, Refusal>
     requires zones { AreRead zones.now }
     requires start { IsNearEpoch start }
     ensures says { IfOk result (EndsSo (object_of zones.now) (line_text line.entry) start) }

@@ -10,12 +10,10 @@ use Rattle.profile.specs.text.Lines.{line_value}
 use Rattle.profile.specs.text.Values.{IsClockSeconds, SpellsDuration, SpellsNegative, SpellsLong}
 use Rattle.profile.specs.series.Zones.{Zone, Means}
 use Rattle.profile.specs.events.Properties.{Form, Fixed, Floating, WholeDay, is_whole_day, Length, OccursAtMostOnce, SomeLine, length_seconds, LastsFor, IsNoDuration, IsNegativeOrLong}
-use Rattle.profile.specs.events.ZonedTimes.{is_in_zone, clock_of, SaysZonedTime, HasForm, EventTimes, IsInDates, IsCountedBy, SuitsForm, LastsUntil, LastsSo, LastsAlone, length_alone, SaysNoStart, SaysInstant, SaysInDates, SaysOutOfDates, SaysEventTimes, SaysTimes, EventTimesFault, bad_duration, ends_early, ends_late, ends_out, lasts_long, starts_out, other_form, part_of_day}
+use Rattle.profile.specs.events.ZonedTimes.{is_in_zone, clock_of, SaysZonedTime, HasForm, EventTimes, IsInDates, IsCountedBy, LastsUntil, SaysNoStart, SaysInstant, SaysInDates, SaysOutOfDates, SaysEventTimes, EventTimesFault, bad_duration, ends_early, ends_late, ends_out, lasts_long, starts_out, other_form, part_of_day}
 use Rattle.cal_events.specs.declared.event_times.Extent.{Extent}
 use Rattle.cal_events.specs.declared.event_times.Extent.TheVariants.{To, For, Open}
 use Rattle.cal_events.specs.declared.event_times.SaidEnd.{SaidEnd}
-use Rattle.cal_events.specs.declared.event_times.SaidTimes.{SaidTimes}
-use Rattle.cal_events.specs.declared.event_times.SaidTimes.TheVariants.{From, Alone}
 use Rattle.cal_events.specs.contracts.when.Form.{the_type}
 use Rattle.cal_events.specs.declared.when.Form.{Form as Kept}
 use Rattle.cal_events.specs.declared.when.Form.TheVariants as forms
@@ -23,7 +21,7 @@ use Rattle.cal_events.specs.declared.when.When.{When}
 use Rattle.ical_lines.specs.declared.fault.Refusal.{Refusal}
 use Rattle.ical_values.specs.declared.duration.Duration.{Duration}
 use Rattle.cal_events.specs.Component.{length_of, form_of, form_said, zone_said, local_said, IsLengthTo, GivesLength, GivesAlone, ExtentFault, AloneFault, other_form as is_other, part_of_day as is_part, ends_early as lies_before, ends_late as lies_late, lasts_long as is_long}
-use Rattle.cal_events.specs.Zoned.{ends_in, EndsSo, IsExtentIn, AreSaid, AreSaidAlone, AreSaidBy}
+use Rattle.cal_events.specs.Zoned.{ends_in, EndsSo, IsExtentIn, AreSaid, AreSaidAlone}
 use Rattle.cal_events.proofs.shared_lemmas.EventLemmas.{some_line, IsNone, long_length}
 use Rattle.cal_events.proofs.shared_lemmas.Meanings.{utc_instant}
 
@@ -76,7 +74,7 @@ ends_at object line form start seconds in_dates (zone, local, says, means, dates
 
 -- a date begins at a midnight, which by the clocks of UTC is the instant
 midnight : (object : Tree) (line : List ℕ) (t : ℤ) → SaysInstant object line WholeDay t → (day : ℤ) × (t ≡ day *ℤ pos 86_400)
-midnight object line t (zone, local, (allowed, (name, alone, (day, date, is))), means) =
+midnight object line t (_, local, (allowed, (name, alone, (day, date, is))), means) =
     (day, utc_instant local t (subst (λ (z : Option Zone). Means (clock_of z) local t) alone means) ∙ is)
 
 -- the length is the seconds up to the end
@@ -213,11 +211,11 @@ module _ {may : Bool} (object : Tree) (lines : Lines) (start : When) (instant : 
 -- a start in the dates is an instant that a stamp can have
 clocked : (object : Tree) (line : List ℕ) (form : Form) (zone : Option Zone) (local t : ℤ) → SaysZonedTime object line form zone local → Means (clock_of zone) local t
     → IsInDates false form (is_in_zone line) local t → IsClockSeconds t
-clocked object line Fixed zone local t says means dates = (omega (arith, ints, dates.1), omega (arith, ints, dates.2))
-clocked object line Floating zone local t (allowed, (name, alone, spells)) means dates =
+clocked object line Fixed _ local t says means dates = (omega (arith, ints, dates.1), omega (arith, ints, dates.2))
+clocked object line Floating _ local t (allowed, (name, alone, spells)) means dates =
     let e = utc_instant local t (subst (λ (z : Option Zone). Means (clock_of z) local t) alone means) in
     (omega (arith, ints, e, dates.0), omega (arith, ints, e, dates.1))
-clocked object line WholeDay zone local t (allowed, (name, alone, spells)) means dates =
+clocked object line WholeDay _ local t (allowed, (name, alone, spells)) means dates =
     let e = utc_instant local t (subst (λ (z : Option Zone). Means (clock_of z) local t) alone means) in
     (omega (arith, ints, e, dates.0), omega (arith, ints, e, dates.1))
 

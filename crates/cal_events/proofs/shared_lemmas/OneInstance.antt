@@ -95,7 +95,7 @@ pub record IsSound (event : EventComponent) : Type 0 where
 -- a start is in the dates that an event may name: one that isn't fixed is an instant by the clocks of UTC
 pub start_dated : (object : Tree) (line : List ℕ) (form : Form) (zone : Option Zone) (local t : ℤ) → SaysZonedTime object line form zone local → Means (clock_of zone) local t
     → IsInDates false form (is_in_zone line) local t → IsInEventDates t
-start_dated object line Fixed zone local t says means dates = (dates.1, dates.2)
+start_dated object line Fixed _ local t says means dates = (dates.1, dates.2)
 start_dated object line Floating None local t says means dates = let e = utc_instant local t means in (omega (arith, ints, e, dates.0), omega (arith, ints, e, dates.1))
 start_dated object line WholeDay None local t says means dates = let e = utc_instant local t means in (omega (arith, ints, e, dates.0), omega (arith, ints, e, dates.1))
 start_dated object line Floating (Some zone) local t says means dates = absurd (some_zone zone says.1)

@@ -1,6 +1,6 @@
 use Rattle.std.proofs.Common.{◌∙◌, sym, arith}
 use Rattle.std.proofs.lemmas.Int.{ints}
-use Rattle.cal_events.specs.Component.{ExtentFault, part_of_day, lasts_long}
+use Rattle.cal_events.specs.Component.{part_of_day, lasts_long}
 use Rattle.cal_events.specs.declared.when.Form.TheVariants.{WholeDay}
 use Rattle.cal_events.proofs.event_times_lemmas.TimesLemmas.{same_form}
 use Rattle.cal_events.proofs.event_times.judge_duration.Goals as goal

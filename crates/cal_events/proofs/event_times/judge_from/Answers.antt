@@ -1,7 +1,7 @@
-use Rattle.std.proofs.Common.{◌≡◌, ◌∙◌, Bool, subst, sym, arith, to_z, of_z, w64, to_z-of_z, rules}
+use Rattle.std.proofs.Common.{◌≡◌, ◌∙◌, subst, sym, arith, to_z, of_z, w64, rules}
 use Rattle.std.proofs.lemmas.Bool.{false≢true}
 use Rattle.std.proofs.lemmas.Int.{ints}
-use Rattle.profile.specs.events.Properties.{Form, Length, length_seconds}
+use Rattle.profile.specs.events.Properties.{Form}
 use Rattle.profile.specs.events.ZonedTimes.{EventTimesFault}
 use Rattle.ical_values.proofs.Exits.{refusal_exit}
 use Rattle.cal_events.specs.Component.{GivesLength, ExtentFault, length_of}

@@ -1,4 +1,4 @@
-use Rattle.std.proofs.Common.{◌≡◌, arith, to_z, of_z, w64, ◌-ℤ◌, ◌+ℤ◌, ◌∙◌, sym, subst, ℤ, Bool, false, true}
+use Rattle.std.proofs.Common.{◌≡◌, arith, to_z, of_z, w64, ◌-ℤ◌, ◌+ℤ◌, ◌∙◌, sym, subst, ℤ, Bool, true}
 use Rattle.std.specs.Prelude.{◌↔◌, IsTrue}
 use Rattle.ical_lines.specs.Text.{line_text}
 use Rattle.profile.specs.events.Properties.{Form}
