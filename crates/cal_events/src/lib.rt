@@ -22,7 +22,6 @@ mod places;
 mod properties;
 mod reading;
 mod regular;
-mod room_zone;
 mod rule_days;
 mod series;
 mod single_starts;

@@ -5,7 +5,7 @@ use Rattle.ical_tree.specs.Tree.{tree_of}
 use Rattle.profile.specs.series.Zones.{Zone}
 use Rattle.profile.specs.events.Events.{EventFault}
 use Rattle.cal_events.specs.Component.{method_read, vevents_of}
-use Rattle.cal_events.specs.RoomZones.{room_of}
+use Rattle.cal_zones.specs.RoomZones.{room_of}
 use Rattle.cal_events.proofs.shared_lemmas.MeetingLemmas.{meeting_written}
 use Rattle.cal_events.proofs.meeting_components.read_meeting.Goals as goal
 
