@@ -1,0 +1,14 @@
+use Rattle.std.proofs.Common.{ap, ◌∙◌}
+use Rattle.std.specs.Prelude.{option_map}
+use Rattle.std.specs.Option.{option_to_list}
+use Rattle.ical_lines.specs.Text.{line_text}
+use Rattle.cal_events.proofs.shared_lemmas.ReadingLemmas.{room_named, room_unnamed}
+use Rattle.cal_events.proofs.reading.read_room_zone.Goals as goal
+
+pub returns-in-Some-clause-names : goal.returns-in-Some-clause-names
+returns-in-Some-clause-names c =
+    room_named _ _ (line_text c.in-Some.line) _ (c.in_ok-optional.ensures.found ∙ ap (λ l. option_to_list (option_map line_text l)) c.in-Some.is) c.value.ensures c.read.ensures.means
+
+pub returns-in-Some-clause-fault : goal.returns-in-Some-clause-fault
+returns-in-Some-clause-fault c =
+    room_unnamed _ _ (line_text c.in-Some.line) _ (c.in_ok-optional.ensures.found ∙ ap (λ l. option_to_list (option_map line_text l)) c.in-Some.is) c.value.ensures c.read.ensures.fault
