@@ -7,8 +7,8 @@ use Rattle.cal_events.proofs.reading.read_room_zone.Goals as goal
 
 pub returns-in-Some-clause-names : goal.returns-in-Some-clause-names
 returns-in-Some-clause-names c =
-    room_named _ _ (line_text c.in-Some.line) _ (c.in_ok-optional.ensures.found ∙ ap (λ l. option_to_list (option_map line_text l)) c.in-Some.is) c.value.ensures c.read.ensures.means
+    room_named _ _ (line_text c.in-Some.line) _ (c.in_ok-line.ensures.found ∙ ap (λ l. option_to_list (option_map line_text l)) c.in-Some.is) c.value.ensures c.read.ensures.means
 
 pub returns-in-Some-clause-fault : goal.returns-in-Some-clause-fault
 returns-in-Some-clause-fault c =
-    room_unnamed _ _ (line_text c.in-Some.line) _ (c.in_ok-optional.ensures.found ∙ ap (λ l. option_to_list (option_map line_text l)) c.in-Some.is) c.value.ensures c.read.ensures.fault
+    room_unnamed _ _ (line_text c.in-Some.line) _ (c.in_ok-line.ensures.found ∙ ap (λ l. option_to_list (option_map line_text l)) c.in-Some.is) c.value.ensures c.read.ensures.fault
