@@ -28,6 +28,7 @@ pub mod sweep;
 mod texts;
 mod when;
 mod whole;
+mod with_zone;
 mod zones;
 
 pub use calendar::{Calendar, Singles};
@@ -47,6 +48,7 @@ pub use series::Series;
 pub use sweep::{Overlap, Span, first_overlap};
 pub use occurrences::{Time, WrittenTimes};
 pub use when::{Form, When, judge_time, one_zoned_time};
+pub use with_zone::zone_named_keeps;
 pub use whole::{
     all_instances, all_starts, instances_last, known_by_start, listed_series, series_are_said,
 };
