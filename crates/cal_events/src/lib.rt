@@ -48,7 +48,7 @@ pub use series::Series;
 pub use sweep::{Overlap, Span, first_overlap};
 pub use occurrences::{Time, WrittenTimes};
 pub use when::{Form, When, judge_time, one_zoned_time};
-pub use with_zone::zone_named_keeps;
 pub use whole::{
     all_instances, all_starts, instances_last, known_by_start, listed_series, series_are_said,
 };
+pub use with_zone::zone_named_keeps;

@@ -1,10 +1,11 @@
 -- Where the line that names the zone of a room is put, and when it is not.
 -- Cited by Calendar::with_zone, judge_unnamed, put_words and zone_place of with_zone.
-use Rattle.std.proofs.Common.{◌≡◌, ◌<◌, ℕ, true, false, List, [], ◌∷◌, ◌++◌, Option, Some, None, length, take, drop, codes, refl, sym, subst, ap, ◌∙◌, arith}
+use Rattle.std.proofs.Common.{◌≡◌, ◌||◌, ◌<◌, ℕ, true, false, List, [], ◌∷◌, ◌++◌, Option, Some, None, length, take, drop, codes, refl, sym, subst, ap, ◌∙◌, arith}
 use Rattle.std.specs.Prelude.{Contains, is_some}
 use Rattle.std.specs.Option.{option_map}
 use Rattle.std.proofs.lemmas.List.{append_assoc, take-append-drop}
 use Rattle.std.proofs.lemmas.Bool.{lt-ltb}
+use Rattle.profile.specs.faults.Faults.{is_between, is_line_fault, is_object_fault}
 use Rattle.profile.specs.text.Lines.{logical_lines}
 use Rattle.profile.specs.text.Objects.{SpellsTree}
 use Rattle.profile.specs.text.Trees.{Tree, tree_own}
@@ -13,14 +14,14 @@ use Rattle.profile.specs.series.RoomZones.{IsRoomZone}
 use Rattle.profile.specs.events.Properties.{lines_named, OccursAtMostOnce, OccursMoreThanOnce}
 use Rattle.profile.specs.checker.Calendars.{IsWithZone}
 use Rattle.ical_lines.specs.FirstLine.{EndsFirstLine}
-use Rattle.ical_lines.specs.Fault.{RefusesBy}
+use Rattle.ical_lines.specs.Fault.{RefusesBy, RefusesOnly}
 use Rattle.ical_lines.specs.declared.fault.Fault.{Fault}
 use Rattle.ical_lines.specs.declared.fault.Fault.TheVariants.{Refused, Memory}
 use Rattle.ical_tree.specs.Tree.{component_lines, IsObjectOf, tree_of}
 use Rattle.ical_tree.specs.Reading.{IsRefusalOf}
 use Rattle.ical_tree.specs.declared.component.Component.{Component}
 use Rattle.ical_tree.proofs.TreeOfLemmas.{tree_of-own, object_tree}
-use Rattle.cal_events.specs.WithZone.{NamesNoZone, WithZoneFault, in_text, is_named, HasZoneLine}
+use Rattle.cal_events.specs.WithZone.{NamesNoZone, WithZoneFault, in_object, is_named, HasZoneLine}
 use Rattle.cal_events.proofs.shared_lemmas.TreeLemmas.{no_object}
 use Rattle.cal_events.proofs.with_zone_lemmas.Worded.{zone_line, shown_words, line_whole}
 
@@ -50,9 +51,13 @@ named_object octets c Memory object h = tt
 named_object octets c (Refused r) object (e, has) =
     subst (WithZoneFault octets) (sym e) (is_named (tree_of c) (object_tree false c (logical_lines octets) object) (subst HasZoneLine (sym (tree_of-own c)) has))
 
-pub no_text : (octets : List ℕ) (f : Fault) → IsRefusalOf false octets f → RefusesBy (WithZoneFault octets) f
-no_text octets Memory h = tt
-no_text octets (Refused r) h = in_text (no_object octets (Refused r) h)
+pub no_text : (octets : List ℕ) (f : Fault) → IsRefusalOf false octets f → RefusesOnly is_object_fault f → RefusesBy (WithZoneFault octets) f
+no_text octets Memory h k = tt
+no_text octets (Refused r) h k = in_object k (no_object octets (Refused r) h)
+
+pub line_object : (f : Fault) → RefusesOnly is_line_fault f → RefusesOnly is_object_fault f
+line_object Memory h = tt
+line_object (Refused r) h = ap (λ b. b || is_between 20 25 r.number) h
 
 -- ---- the octets
 

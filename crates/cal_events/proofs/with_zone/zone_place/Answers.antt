@@ -4,19 +4,19 @@ use Rattle.ical_tree.specs.Tree.{IsObjectOf}
 use Rattle.ical_tree.proofs.RefusalLemmas.{text_refuses, tree_refuses}
 use Rattle.ical_values.proofs.Exits.{err_exit}
 use Rattle.cal_events.specs.WithZone.{WithZoneFault}
-use Rattle.cal_events.proofs.with_zone_lemmas.Places.{no_text, named_object, unnamed_object}
+use Rattle.cal_events.proofs.with_zone_lemmas.Places.{no_text, line_object, named_object, unnamed_object}
 use Rattle.cal_events.proofs.with_zone.zone_place.Goals as goal
 
 pub returns-in_err-text-clause-fault : goal.returns-in_err-text-clause-fault
 returns-in_err-text-clause-fault c =
     let octets = c.args.bytes.now in
-    err_exit c.from_residual.result (RefusesBy (WithZoneFault octets)) c.in_err-text.field-0.0 c.from_residual.ensures.1 (no_text octets c.in_err-text.field-0.0 (text_refuses false octets _ c.in_err-text.ensures.fault))
+    err_exit c.from_residual.result (RefusesBy (WithZoneFault octets)) c.in_err-text.field-0.0 c.from_residual.ensures.1 (no_text octets c.in_err-text.field-0.0 (text_refuses false octets _ c.in_err-text.ensures.fault) (line_object c.in_err-text.field-0.0 c.in_err-text.ensures.refuses))
 
 pub returns-in_err-object-clause-fault : goal.returns-in_err-object-clause-fault
 returns-in_err-object-clause-fault c =
     let octets = c.args.bytes.now in
     err_exit c.from_residual-in_err-object.result (RefusesBy (WithZoneFault octets)) c.in_err-object.field-0.0 c.from_residual-in_err-object.ensures.1
-    (no_text octets c.in_err-object.field-0.0 (tree_refuses false octets _ _ c.in_ok-text.ensures.lines c.in_err-object.ensures.fault))
+    (no_text octets c.in_err-object.field-0.0 (tree_refuses false octets _ _ c.in_ok-text.ensures.lines c.in_err-object.ensures.fault) c.in_err-object.ensures.refuses)
 
 pub returns-in_err-judge_unnamed-clause-fault : goal.returns-in_err-judge_unnamed-clause-fault
 returns-in_err-judge_unnamed-clause-fault c =
