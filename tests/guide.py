@@ -239,7 +239,7 @@ def refusals(cases, program):
     cases.holds("366 times of RDATE", one(request(lines=("DURATION:PT0S", "RDATE:" + many[:17 * 366 - 1]))), ["ACCEPTED"])
     cases.holds("RDATE in an ADD", number(message("ADD", vevent(lines=("DURATION:PT1H", "RDATE:20250311T090000Z")))), "67")
     cases.holds("RDATE beside RECURRENCE-ID", number(message("REQUEST", vevent(slot=slot, lines=("DURATION:PT1H", "RDATE:20250311T090000Z")))), "67")
-    cases.holds("a whole day", number(request().replace("DTSTART:20250310T090000Z", "DTSTART;VALUE=DATE:20250310")), "55")
+    cases.holds("a whole day and an end in UTC", number(request().replace("DTSTART:20250310T090000Z", "DTSTART;VALUE=DATE:20250310")), "57")
     cases.holds("a parameter without =", number(request().replace("ATTENDEE:", "ATTENDEE;X-FOO:")), "2")
     cases.holds("a mail before it", number("Content-Type: text/calendar\r\n\r\n" + request()), "23")
     cases.holds("a mail's text before it", number("Hello\r\n" + request()), "1")
@@ -323,6 +323,101 @@ def times_in_zones(cases, program):
     cases.holds("lists in UTC, ascending, each once", [line for line in lines if line.startswith(("RDATE", "EXDATE", "DURATION"))],
                 ["DURATION:PT3600S", "DURATION:PT3600S", "DURATION:P1D", "RDATE:20250315T090000Z,20250316T090000Z", "EXDATE:20250315T090000Z"])
     cases.holds("and how many", run(program, "keep", "--certificate", R1, given=stream)[1], "ROOMCERT 1\nSINGLES 4\nSERIES 0\nDONE\n")
+
+
+YORK = "-0500 -0400 11 1SU 0200 3 2SU 0200"
+
+
+def dated(uid="a", date="20250310", lines=(), sequence=0, slot=None, method="REQUEST"):
+    """A message of a whole day, or, by a longer text, of a time without zone."""
+    start = f"DTSTART;VALUE=DATE:{date}" if len(date) == 8 else f"DTSTART:{date}"
+    event = [start if line.startswith("DTSTART:") else line.replace("RECURRENCE-ID:2", "RECURRENCE-ID;VALUE=DATE:2") if slot and len(slot) == 8 else line
+             for line in vevent(uid, sequence, lines=lines, slot=slot)]
+    return message(method, event)
+
+
+def whole_days(cases, program):
+    """The section "Whole days and times without zone": rooms, which go by UTC."""
+    def tried(what, wanted, *objects):
+        cases.holds(what, answers(program, *objects), wanted)
+
+    def hour(uid, start):
+        return request(uid, start=start, lines=("DURATION:PT1H",))
+
+    def lines_of(*objects):
+        lines = unfolded(run(program, "keep", R1, given=PREAMBLE + "".join(objects))[1]).split("\r\n")
+        return [line for line in lines if line.startswith(("RECURRENCE-ID", "DTSTART", "DURATION", "RRULE", "RDATE", "EXDATE", "STATUS"))]
+
+    tried("a whole day is from 00:00Z to 00:00Z", ["ACCEPTED", "ACCEPTED", "DECLINED", "DECLINED", "ACCEPTED"],
+          dated(), hour("b", "20250309T230000Z"), hour("c", "20250310T000000Z"), hour("d", "20250310T230000Z"), hour("e", "20250311T000000Z"))
+    tried("a day that is shown as free holds the room too", ["ACCEPTED", "DECLINED"], dated(lines=("TRANSP:TRANSPARENT",)), hour("b", "20250310T090000Z"))
+    tried("a time without zone is one of UTC", ["ACCEPTED", "DECLINED", "ACCEPTED"], dated(date="20250310T090000", lines=("DTEND:20250310T100000",)), request("b", start="20250310T093000Z"), hour("c", "20250310T100000Z"))
+    tried("a date up to the day after is one request with the date alone", ["ACCEPTED", "ACCEPTED", "ACCEPTED"], dated(), dated(lines=("DTEND;VALUE=DATE:20250311",)), dated(lines=("DURATION:P1D",)))
+    tried("in the other order too", ["ACCEPTED", "ACCEPTED", "ACCEPTED"], dated(lines=("DURATION:P1D",)), dated(lines=("DTEND:20250311",)), dated())
+    tried("its 24 hours in UTC are another one", ["ACCEPTED"], dated(), request(start="20250310T000000Z", lines=("DURATION:P1D",)))
+    tried("a date up to itself holds nothing", ["ACCEPTED", "ACCEPTED"], dated(lines=("DTEND;VALUE=DATE:20250310",)), hour("b", "20250310T090000Z"))
+    tried("two days", ["ACCEPTED", "DECLINED", "ACCEPTED"], dated(lines=("DTEND;VALUE=DATE:20250312",)), hour("b", "20250311T230000Z"), hour("c", "20250312T000000Z"))
+    daily = "RRULE:FREQ=DAILY;COUNT=3"
+    tried("EXDATE as a date frees its day", ["ACCEPTED", "ACCEPTED", "DECLINED"], dated(lines=(daily, "EXDATE;VALUE=DATE:20250311")), hour("b", "20250311T090000Z"), hour("c", "20250312T090000Z"))
+    tried("and not what starts at nine", ["ACCEPTED", "DECLINED"], dated(date="20250310T090000", lines=("DURATION:PT1H", daily, "EXDATE;VALUE=DATE:20250311")), hour("b", "20250311T090000Z"))
+    tried("a CANCEL of one day", ["ACCEPTED", "ACCEPTED", "DECLINED"], dated(lines=(daily,)), dated(slot="20250311", date="20250311", sequence=1, method="CANCEL"), hour("b", "20250311T090000Z"), hour("c", "20250310T090000Z"))
+    tried("a date and 24 hours", ["REFUSED;OBJECT=1:57"], dated(lines=("DURATION:PT24H",)))
+    tried("a date and an end without zone", ["REFUSED;OBJECT=1:57"], dated(lines=("DTEND:20250311T000000",)))
+    tried("a date before its own", ["REFUSED;OBJECT=1:50"], dated(lines=("DTEND;VALUE=DATE:20250309",)))
+    tried("the last date", ["REFUSED;OBJECT=1:52"], dated(date="99991231"))
+    tried("a date and its first instant are one instance", ["REFUSED;OBJECT=1:54"], message("REQUEST", vevent(slot="20250310T000000Z"), [line.replace("RECURRENCE-ID:", "RECURRENCE-ID;VALUE=DATE:") for line in vevent(slot="20250310")]))
+    cases.holds("a date is kept as a date", lines_of(dated()), ["DTSTART;VALUE=DATE:20250310", "DURATION:P1D"])
+    cases.holds("a time without zone is kept so", lines_of(dated(date="20250310T090000", lines=("DTEND:20250310T100000",))), ["DTSTART:20250310T090000", "DURATION:PT3600S"])
+    cases.holds("no length is kept as no seconds", lines_of(dated(lines=("DTEND;VALUE=DATE:20250310",))), ["DTSTART;VALUE=DATE:20250310", "DURATION:PT0S"])
+    for until, wanted in (("20250312", "20250312"), ("20250312T000000Z", "20250312"), ("20250311T235959Z", "20250311"), ("20250312T000000", "20250312"), ("99991231T235959Z", "99991231")):
+        cases.holds(f"UNTIL={until} beside a date", lines_of(dated(lines=("RRULE:FREQ=WEEKLY;UNTIL=" + until,)))[-1], "RRULE:FREQ=WEEKLY;UNTIL=" + wanted)
+    cases.holds("UNTIL a second before a time without zone", lines_of(dated(date="20250310T090000", lines=("RRULE:FREQ=DAILY;UNTIL=20250312T085959Z",)))[-1], "RRULE:FREQ=DAILY;UNTIL=20250311")
+    lists = ("RDATE;VALUE=DATE:20250316,20250315", "RDATE:20250318T090000,20250320T090000Z,20250315", "EXDATE:19600101T000000Z,19600101,00010101T000000")
+    cases.holds("lists in up to three lines each", lines_of(dated(lines=lists)),
+                ["DTSTART;VALUE=DATE:20250310", "DURATION:P1D", "RDATE:20250320T090000Z", "RDATE:20250318T090000", "RDATE;VALUE=DATE:20250315,20250316", "EXDATE:00010101T000000", "EXDATE;VALUE=DATE:19600101"])
+    cases.holds("an instance is kept by its instant", lines_of(dated(slot="20250310", lines=("DTEND;VALUE=DATE:20250312",))), ["RECURRENCE-ID:20250310T000000Z", "DTSTART;VALUE=DATE:20250310", "DURATION:P2D"])
+
+
+def rooms_of_a_zone(cases, program):
+    """The same section: `expand --zone`, and X-ROOM-ZONE in a calendar."""
+    def expanded(words, *lines):
+        event = "\r\n".join(["BEGIN:VCALENDAR", "VERSION:2.0", "BEGIN:VEVENT", "UID:a", *lines, "END:VEVENT", "END:VCALENDAR", ""])
+        return run(program, "expand", f"--zone={words}", given=event)
+
+    def printed(*instances):
+        return 0, "".join(f"{at} {at} {seconds}\n" for at, seconds in instances), ""
+
+    cases.holds("a day of 23 hours", expanded(YORK, "DTSTART;VALUE=DATE:20250309"), printed(("20250309T050000Z", 82800)))
+    cases.holds("a day of 25 hours", expanded(YORK, "DTSTART;VALUE=DATE:20251102"), printed(("20251102T040000Z", 90000)))
+    cases.holds("a day in UTC", expanded("+0000", "DTSTART;VALUE=DATE:20250309"), printed(("20250309T000000Z", 86400)))
+    cases.holds("a day half an hour off", expanded("+0530", "DTSTART:20250310"), printed(("20250309T183000Z", 86400)))
+    cases.holds("a gap", expanded(YORK, "DTSTART:20250309T023000", "DURATION:PT1H"), printed(("20250309T073000Z", 3600)))
+    cases.holds("a fold", expanded(YORK, "DTSTART:20251102T013000", "DURATION:PT1H"), printed(("20251102T053000Z", 3600)))
+    cases.holds("an end by the clock", expanded(YORK, "DTSTART:20250309T013000", "DTEND:20250309T033000"), printed(("20250309T063000Z", 7200)))
+    cases.holds("Dublin, where summer is standard", expanded("+0100 +0000 3 -1SU 0100 10 -1SU 0200", "DTSTART;VALUE=DATE:20250330", "RRULE:FREQ=DAILY;COUNT=2"), printed(("20250330T000000Z", 82800), ("20250330T230000Z", 86400)))
+    cases.holds("each Monday", expanded(YORK, "DTSTART;VALUE=DATE:20250303", "RRULE:FREQ=WEEKLY;COUNT=2"), printed(("20250303T050000Z", 86400), ("20250310T040000Z", 86400)))
+    cases.holds("forms that don't go together", expanded(YORK, "DTSTART;VALUE=DATE:20250309", "DURATION:PT1H"), (3, "", "roombox: refused 57\n"))
+    for words in ("noon", "", "0500", "-0000", "-0500 -0400", YORK + " ", YORK.replace(" 3 ", " 03 "), YORK.replace("1SU", "5SU"), YORK.replace("1SU", "+1SU"), YORK.replace("-0400", "-0500"), YORK.replace("0200", "2400")):
+        found = expanded(words, "DTSTART;VALUE=DATE:20250309")
+        cases.holds(f"the words {words!r}", (found[0], found[1], found[2].startswith("error: ")), (2, "", True))
+
+    def checked(own, *events):
+        with tempfile.TemporaryDirectory() as folder:
+            calendar, certificate = Path(folder, "c"), Path(folder, "k")
+            accepted = [line.replace("ATTENDEE:", "ATTENDEE;PARTSTAT=ACCEPTED:") for event in events for line in event]
+            calendar.write_text("\r\n".join(["BEGIN:VCALENDAR", "VERSION:2.0", *own, *accepted, "END:VCALENDAR", ""]), newline="")
+            certificate.write_text(f"ROOMCERT 1\nSINGLES {len(events)}\nSERIES 0\nDONE\n", newline="")
+            return run(program, "check", calendar, certificate, R1)[:2]
+
+    day = [line.replace("DTSTART:", "DTSTART;VALUE=DATE:") for line in vevent(start="20250310", lines=())]
+    before, after = vevent("b", start="20250310T030000Z"), vevent("c", start="20250311T040000Z")
+    cases.holds("a day in New York touches two hours", checked([f"X-ROOM-ZONE:{YORK}"], day, before, after), (0, "yes\n"))
+    cases.holds("it overlaps one where no zone is named", checked([], day, before, after), (1, "no 84\n"))
+    cases.holds("parameters are ignored", checked([f"x-room-zone;X-A=b:{YORK}"], day, before, after), (0, "yes\n"))
+    cases.holds("two zones", checked(["X-ROOM-ZONE:+0530", "X-ROOM-ZONE:+0530"], before, after), (1, "no 80\n"))
+    cases.holds("words of no zone", checked(["X-ROOM-ZONE:America/New_York"], before, after), (1, "no 80\n"))
+    cases.holds("UTC by its words", checked(["X-ROOM-ZONE:+0000"], day, after), (0, "yes\n"))
+    cases.holds("a message's X-ROOM-ZONE is ignored", answers(program, request().replace("METHOD:", "X-ROOM-ZONE:noon\r\nMETHOD:")), ["ACCEPTED"])
 
 
 def recurring(uid="s", sequence=0, start="20250310T090000Z", rule="FREQ=DAILY;COUNT=3", lines=(), length="PT1H"):
@@ -446,7 +541,8 @@ def explained(cases, program):
     known = numbers_of_guide()
     cases.holds("the numbers of the guide are explained", {n for n in range(256) if run(program, "explain", str(n))[0] == 0}, known)
     cases.holds("a line for each begins with its number", [n for n in sorted(known) if not run(program, "explain", str(n))[1].startswith(f"{n}: ")], [])
-    cases.holds("another number is a usage fault", run(program, "explain", "44")[:2], (2, ""))
+    cases.holds("another number is a usage fault", run(program, "explain", "45")[:2], (2, ""))
+    cases.holds("so is one that is gone", run(program, "explain", "55")[:2], (2, ""))
     cases.holds("so is a word", run(program, "explain", "no")[:2], (2, ""))
 
 
@@ -507,8 +603,13 @@ def explained_objects(cases, program):
         ("a start in 1960", "52 at line 9: DTSTART", {9: "DTSTART:19600310T090000Z"}),
         ("a start and an end in 1960", "52", {9: "DTSTART:19600310T090000Z", 10: "DTEND:19600310T100000Z"}),
         ("two VEVENTs without RECURRENCE-ID", "53", {11: "|".join(["END:VEVENT", *OBJECT[3:11]])}),
-        ("a whole day", "55 at line 9: DTSTART", {9: "DTSTART;VALUE=DATE:20250310"}),
-        ("a time without zone", "55 at line 9: DTSTART", {9: "DTSTART:20250310T090000"}),
+        ("a date with TZID", "11 at line 9: DTSTART", {9: "DTSTART;TZID=Europe/Berlin:20250310"}),
+        ("eight digits as a date-time", "11 at line 9: DTSTART", {9: "DTSTART;VALUE=DATE-TIME:20250310"}),
+        ("the last date", "52 at line 9: DTSTART", {9: "DTSTART;VALUE=DATE:99991231", 10: ""}),
+        ("an hour beside a date", "57 at line 10: DURATION", {9: "DTSTART;VALUE=DATE:20250310"}),
+        ("a date and an end in UTC", "57 at line 10: DTEND", {9: "DTSTART;VALUE=DATE:20250310", 10: "DTEND:20250311T000000Z"}),
+        ("a time without zone and an end in UTC", "57 at line 10: DTEND", {9: "DTSTART:20250310T090000", 10: "DTEND:20250310T100000Z"}),
+        ("a store of an instance by its date", "57 at line 9: RECURRENCE-ID", {3: "", 10: "RECURRENCE-ID;VALUE=DATE:20250310"}),
         ("a period", "56 at line 11: RDATE", {10: "DURATION:PT1H|RDATE;VALUE=PERIOD:20250311T090000Z/PT1H"}),
         ("PUBLISH", "60 at line 3: METHOD", {3: "METHOD:PUBLISH"}),
         ("no UID", "61", {5: ""}),
@@ -639,6 +740,9 @@ def examples(cases, program):
         cases.holds(f"the example {name}", found, (0, (folder / f"{name}.replies").read_bytes().decode(), ""))
     found = run(program, "expand", "--limit", "3", given=(folder / "every-second-tuesday.ics").read_bytes())
     cases.holds("the example of expand", found, (0, "".join(f"{day}T090000Z {day}T090000Z 3600\n" for day in ("20250107", "20250121", "20250204")), ""))
+    found = run(program, "expand", f"--zone={YORK}", given=(folder / "whole-day.ics").read_bytes())
+    days = (("20250308T050000Z", 86400), ("20250309T050000Z", 82800), ("20250310T040000Z", 86400))
+    cases.holds("the example of whole days", found, (0, "".join(f"{day} {day} {seconds}\n" for day, seconds in days), ""))
 
 
 def organisers(cases, program):
@@ -698,7 +802,7 @@ def organisers(cases, program):
 
 def main():
     program, cases = str(Path(sys.argv[1]).resolve()), Cases()
-    for part in (preambles, decisions, instances, added, replies, refusals, kept, zones, times_in_zones, series, kept_series, organisers, explained, explained_objects, reported, command_line, logged, examples):
+    for part in (preambles, decisions, instances, added, replies, refusals, kept, zones, times_in_zones, whole_days, rooms_of_a_zone, series, kept_series, organisers, explained, explained_objects, reported, command_line, logged, examples):
         part(cases, program)
     print(f"{cases.count} cases, {cases.failed} failed")
     return 1 if cases.failed else 0

@@ -2,8 +2,8 @@
 
     python3 tests/messages_by_model.py bin/roombox [--streams 300] [--seed 1]
 
-Each stream has REQUESTs, ADDs and CANCELs of few meetings for two rooms: times in UTC and in four zones, near gaps and folds; RRULE, RDATE, EXDATE,
-nominal days, instances by RECURRENCE-ID, statuses, cancellations without a start; older messages late, and messages again. Compared are the answers to
+Each stream has REQUESTs, ADDs and CANCELs of few meetings for two rooms: times in UTC and in four zones, near gaps and folds, whole days and times without
+zone, which are those of UTC in these rooms; RRULE, RDATE, EXDATE, nominal days, instances by RECURRENCE-ID, statuses, cancellations without a start; older messages late, and messages again. Compared are the answers to
 each object and the clash that a decline names, the confirmed instances of each room's kept calendar, how many singles and series its certificate
 counts, and that `check` says yes to it.
 Instants are zoneinfo's, the days of rules dateutil's. A weekly rule without an end is expanded to 30 years: within 28 of them every year has come with
@@ -59,6 +59,28 @@ def written(name, local, zone, alias):
     return f"{name}:{text}Z" if zone is None else f"{name};TZID={alias[zone]}:{text}"
 
 
+def unfixed(rng, name, local, form):
+    """A date or a time without zone."""
+    if form == "date":
+        return f"{name}{rng.choice([';VALUE=DATE', ';VALUE=DATE', ''])}:{local:%Y%m%d}"
+    return f"{name}{rng.choice([';VALUE=DATE-TIME', '', ''])}:{local:%Y%m%dT%H%M%S}"
+
+
+def texts(rng, times):
+    """Instants as a list has them where its line has neither VALUE nor TZID: in UTC, without zone, or, at midnight, as dates."""
+    for at in rng.sample(times, len(times)):
+        forms = [utc(at), utc(at), utc(at)[:-1]] + [utc(at)[:8]] * (at % 86_400 == 0)
+        yield rng.choice(forms)
+
+
+def listed(rng, name, times):
+    """The lines of a list: one for all, or one for the dates and one for the others."""
+    all_texts = list(texts(rng, times))
+    dates = [text for text in all_texts if len(text) == 8] if rng.random() < 0.6 else []
+    others = [text for text in all_texts if not dates or len(text) > 8]
+    return [f"{name};VALUE=DATE:{','.join(dates)}" for _ in dates[:1]] + [f"{name}:{','.join(others)}" for _ in others[:1]]
+
+
 # ---- what a message says
 
 
@@ -97,7 +119,7 @@ def rule_for(rng, local, zone):
     if ending == "date":
         return Rule(form, date=far.date()), f"UNTIL={far.strftime('%Y%m%d')};{form}"
     until = instant(far, zone) + rng.choice([0, 0, 1, 3600])
-    return Rule(form, until=until), f"{form};UNTIL={utc(until)}"
+    return Rule(form, until=until), f"{form};UNTIL={utc(until)[:-1] if zone is None and rng.random() < 0.3 else utc(until)}"
 
 
 def kept_rule(line):
@@ -145,8 +167,11 @@ def when(rng, days):
 
 
 def said(rng, days, slot, revision, zones, starts):
-    zone = rng.choice([None, *zones])
+    form = rng.choices(["fixed", "date", "floating"], [4, 1, 1])[0]
+    zone = rng.choice([None, *zones]) if form == "fixed" else None
     local = when(rng, days)
+    if form == "date":
+        local = local.replace(hour=0, minute=0)
     own = instant(local, zone)
     others = [instant(when(rng, days), rng.choice([None, *zones])) for _ in range(rng.randrange(4))]
     added = [] if slot is not None or rng.random() < 0.5 else others
@@ -157,7 +182,10 @@ def said(rng, days, slot, revision, zones, starts):
         taken = taken + rng.sample(given, rng.randrange(1, 1 + len(given)))
     starts += [*given, *added]
     whole_days = rng.random() < 0.2
-    return Said(zone=zone, local=local, days=1 if whole_days else 0, seconds=rng.choice([0, 1800]) if whole_days else rng.choice([0, 1800, 3600, 5400]), added=added, taken=taken,
+    many = (1 if whole_days else 0, rng.choice([0, 1800]) if whole_days else rng.choice([0, 1800, 3600, 5400]))
+    if form == "date":
+        many = (rng.choice([0, 1, 1, 1, 2]), 0)
+    return Said(form=form, zone=zone, local=local, days=many[0], seconds=many[1], added=added, taken=taken,
                 rule=rule, rule_text=rule_text, slot=slot, revision=revision, names=[room for room in ROOMS if rng.random() < 0.8], cancelled=rng.random() < 0.1, without_start=False)
 
 
@@ -166,16 +194,24 @@ def lines_of(rng, uid, event, alias, method):
     lines = ["BEGIN:VEVENT", f"UID:{uid}", f"SEQUENCE:{sequence}", f"DTSTAMP:{utc(stamp)}", "ORGANIZER:mailto:ann@example.com", *(f"ATTENDEE:{room}" for room in event.names)]
     if event.slot is not None and method != "ADD":
         zone = rng.choice([None, *alias])
-        lines.append(written("RECURRENCE-ID", clock(event.slot, zone), zone, alias) if zone and instant(clock(event.slot, zone), zone) == event.slot else f"RECURRENCE-ID:{utc(event.slot)}")
+        at = clock(event.slot, None)
+        if zone is None and rng.random() < 0.5:
+            lines.append(unfixed(rng, "RECURRENCE-ID", at, rng.choice(["date", "floating"]) if event.slot % 86_400 == 0 else "floating"))
+        else:
+            lines.append(written("RECURRENCE-ID", clock(event.slot, zone), zone, alias) if zone and instant(clock(event.slot, zone), zone) == event.slot else f"RECURRENCE-ID:{utc(event.slot)}")
     if not event.without_start:
-        lines.append(written("DTSTART", event.local, event.zone, alias))
+        lines.append(written("DTSTART", event.local, event.zone, alias) if event.form == "fixed" else unfixed(rng, "DTSTART", event.local, event.form))
         length = (f"P{event.days}D" if event.days else "P") + (f"T{event.seconds // 60}M" if event.seconds or not event.days else "")
-        lines.append(f"DURATION:{length}")
+        end = event.local + timedelta(days=event.days, seconds=event.seconds)
+        if event.form != "fixed" and rng.random() < 0.5:
+            lines.append(unfixed(rng, "DTEND", end, event.form))
+        elif event.form != "date" or event.days != 1 or rng.random() < 0.5:
+            # a date without DTEND and DURATION lasts a day
+            lines.append(f"DURATION:{length}")
     if event.rule_text:
         lines.append(f"RRULE:{event.rule_text}")
     for name, times in (("RDATE", event.added), ("EXDATE", event.taken)):
-        if times:
-            lines.append(f"{name}:" + ",".join(utc(at) for at in rng.sample(times, len(times))))
+        lines += listed(rng, name, times)
     if event.cancelled and method != "CANCEL":
         lines.append("STATUS:CANCELLED")
     return lines + ["END:VEVENT"]
@@ -337,22 +373,28 @@ def kept_instances(text):
         elif line == "END:VTIMEZONE":
             zones[block[0].split(":")[1]] = next(zone for zone, lines in ZONES.items() if lines == block[1:])
         elif line == "END:VEVENT":
-            events.append({field.split(":", 1)[0].split(";")[0]: field for field in block})
+            named = {}
+            for field in block:
+                named.setdefault(field.split(":", 1)[0].split(";")[0], []).append(field)
+            events.append({name: fields if name in ("RDATE", "EXDATE") else fields[0] for name, fields in named.items()})
         elif block is not None:
             block.append(line)
 
-    def times(line):
-        return [int(datetime.strptime(text, "%Y%m%dT%H%M%SZ").replace(tzinfo=timezone.utc).timestamp()) for text in line.split(":", 1)[1].split(",")] if line else []
+    def local_of(text):
+        return datetime.strptime(text.rstrip("Z"), "%Y%m%dT%H%M%S" if "T" in text else "%Y%m%d")
+
+    def times(lines):
+        return [int(local_of(text).replace(tzinfo=timezone.utc).timestamp()) for line in lines or [] for text in line.split(":", 1)[1].split(",")]
 
     masters, found = [], []
     for event in events:
         start, value = event["DTSTART"].split(":", 1)
         zone = zones[start.split("TZID=")[1]] if "TZID=" in start else None
-        local = datetime.strptime(value.rstrip("Z"), "%Y%m%dT%H%M%S")
+        local = local_of(value)
         text = event["DURATION"].split(":")[1][1:]
         days, _, rest = text.partition("T")
         one = Said(zone=zone, local=local, days=int(days.rstrip("D") or 0), seconds=int(rest.rstrip("S") or 0), added=times(event.get("RDATE")), taken=times(event.get("EXDATE")),
-                   rule=kept_rule(event["RRULE"]) if "RRULE" in event else None, slot=times(event.get("RECURRENCE-ID"))[0] if "RECURRENCE-ID" in event else None)
+                   rule=kept_rule(event["RRULE"]) if "RRULE" in event else None, slot=times([event["RECURRENCE-ID"]])[0] if "RECURRENCE-ID" in event else None)
         masters.append((event["UID"].split(":")[1], one, "STATUS" in event))
     for uid, one, cancelled in masters:
         hidden = {other.slot for name, other, _ in masters if name == uid and other.slot is not None} if one.slot is None else set()

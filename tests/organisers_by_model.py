@@ -1,10 +1,11 @@
 """Random conversations of organisers, answered by the program and by a small model that was written from docs/PROFILE.md and the RFCs alone.
 
     python3 tests/organisers_by_model.py bin/roombox [--streams 500] [--seed 1]
-    python3 tests/organisers_by_model.py --table N      # prints N cases of what organisers show, for crates/worked_examples/data/organisers.txt
+    python3 tests/organisers_by_model.py --table N          # prints N cases of what organisers show, for crates/worked_examples/data/organisers.txt,
+    python3 tests/organisers_by_model.py --table N --days   # and N with whole days and times without zone
 
 Each stream has two organisers and stores, replies and refreshes of a few meetings: instances by RECURRENCE-ID before and behind the whole meeting, RDATE
-and EXDATE, times in UTC and in two zones, SUMMARY with escapes, attendees that occur twice, agents of each kind, statuses, a SEQUENCE near the last one;
+and EXDATE, times in UTC and in two zones, whole days and times without zone, which are sent as they came, SUMMARY with escapes, attendees that occur twice, agents of each kind, statuses, a SEQUENCE near the last one;
 replies to older and newer stores, of strangers, of two attendees; objects of organisers that aren't hosted, with METHODs that aren't taken, with two
 VEVENTs for the whole or for one instance. Compared is all that is written, octet by octet. It ends with 1 where any differed.
 """
@@ -57,8 +58,16 @@ def vtimezone(zone, name):
     return ["BEGIN:VTIMEZONE", f"TZID:{name}", *ZONES[zone][0], "END:VTIMEZONE"]
 
 
+def unfixed(form, at):
+    """A time that isn't in UTC and has no TZID: its parameters and its text."""
+    return (";VALUE=DATE", f"{at:%Y%m%d}") if form == "date" else ("", f"{at:%Y%m%dT%H%M%S}")
+
+
 class Event:
-    """One VEVENT: a start in UTC or in a zone in winter, its length in seconds, dates that are added and taken away."""
+    """One VEVENT: a start in UTC, in a zone in winter, without zone or as a date, its length in seconds, times that are added and taken away."""
+
+    # whether whole days and times without zone are drawn
+    with_days = True
 
     def __init__(self, draw, uid, instance):
         self.uid, self.instance = uid, instance
@@ -69,10 +78,25 @@ class Event:
         dates = [self.start + timedelta(days=draw.randrange(1, 9)) for _ in range(draw.choice([0, 0, 1, 3]))]
         self.added = [] if instance else dates
         self.taken = [it for it in dates if draw.random() < 0.4]
+        self.form, self.forms = "fixed", ["fixed"]
+        if Event.with_days:
+            self.draw_form(draw)
+        self.added, self.taken = ([(draw.choice(self.forms) if Event.with_days else "fixed", it) for it in dates] for dates in (self.added, self.taken))
         self.cancelled = draw.random() < 0.12
         self.sequence = draw.choice([None, None, 0, 1, 2, 3, 7])
         self.summary = draw.choice([None, "Plan", "", "a, b; c\\d\ne", "Straße " * 12])
         self.lines = [(draw.choice(PEOPLE), draw.choice([None, None, None, None, "SERVER", "server", "CLIENT", "NONE", "X-OTHER"])) for _ in range(draw.randrange(0, 5))]
+
+    def draw_form(self, draw):
+        """A third of the events are whole days or without zone; half of all have lists of any form."""
+        self.form = draw.choice(["fixed"] * 4 + ["date", "floating"])
+        if draw.random() < 0.5:
+            self.forms = ["fixed", "date", "floating"]
+        if self.form != "fixed":
+            self.zone = None
+        if self.form == "date":
+            self.start, self.days = self.start.replace(hour=0, minute=0), True
+            self.seconds = 86_400 * draw.choice([0, 1, 1, 2])
 
     def attendees(self):
         """Of several lines of one address the first: address, and whether the server sends it messages."""
@@ -82,22 +106,29 @@ class Event:
         return list(first.items())
 
     def length(self):
-        return f"P{self.seconds // 86_400}D" if self.days and self.seconds == 86_400 else f"PT{self.seconds}S"
+        whole = self.seconds == 86_400 or (self.form == "date" and self.seconds)
+        return f"P{self.seconds // 86_400}D" if self.days and whole else f"PT{self.seconds}S"
 
     def content(self, names):
         """What says when it is, in the one form that is written, by the names of the zones."""
         local = self.start + ZONES[self.zone][1] if self.zone else self.start
-        yield f"DTSTART;TZID={names[self.zone]}:{local:%Y%m%dT%H%M%S}" if self.zone else f"DTSTART:{utc(self.start)}"
+        if self.form == "fixed":
+            yield f"DTSTART;TZID={names[self.zone]}:{local:%Y%m%dT%H%M%S}" if self.zone else f"DTSTART:{utc(self.start)}"
+        else:
+            yield "DTSTART" + ":".join(unfixed(self.form, self.start))
         yield f"DURATION:{self.length()}"
-        for word, dates in ("RDATE", self.added), ("EXDATE", self.taken):
-            if dates:
-                yield f"{word}:" + ",".join(utc(it) for it in sorted(set(dates)))
+        for word, times in ("RDATE", self.added), ("EXDATE", self.taken):
+            # in UTC, without zone, and dates, each in order and once; texts of one form are in the order of the times
+            for form in "fixed", "floating", "date":
+                texts = {utc(at) if form == "fixed" else unfixed(form, at)[1] for its, at in times if its == form}
+                if texts:
+                    yield f"{word}{';VALUE=DATE' if form == 'date' else ''}:" + ",".join(sorted(texts))
 
     def given(self, draw, organiser):
         """Its lines as a client writes them, in any order."""
         lines = [f"UID:{escaped(self.uid)}", "DTSTAMP:20250101T000000Z", f"ORGANIZER:{draw.choice([organiser, organiser.upper()])}"]
         lines.append(next(self.content({it: it for it in ZONES})))
-        lines.append(f"DURATION:{self.length()}")
+        lines += self.end(draw) if Event.with_days else [f"DURATION:{self.length()}"]
         if self.instance:
             lines.append(f"RECURRENCE-ID:{utc(self.instance)}")
         if self.sequence is not None:
@@ -106,10 +137,22 @@ class Event:
             lines.append("STATUS:CANCELLED")
         if self.summary is not None:
             lines.append(f"SUMMARY;LANGUAGE=de:{escaped(self.summary)}")
-        lines += [f"{word}:{utc(it)}" for word, dates in (("RDATE", self.added), ("EXDATE", self.taken)) for it in dates]
+        for word, times in ("RDATE", self.added), ("EXDATE", self.taken):
+            lines += [f"{word}:{utc(at)}" if form == "fixed" else word + ":".join(unfixed(form, at)) for form, at in times]
         draw.shuffle(lines)
         attendees = [f"ATTENDEE{';SCHEDULE-AGENT=' + agent if agent else ''};CN=x:{address}" for address, agent in self.lines]
         return ["BEGIN:VEVENT", *lines, *attendees, "END:VEVENT"]
+
+
+    def end(self, draw):
+        """The line that says how long it lasts, if any."""
+        if self.form == "date" and self.seconds == 86_400 and draw.random() < 0.4:
+            return []
+        if self.form == "date" and draw.random() < 0.5:
+            return ["DTEND" + ":".join(unfixed("date", self.start + timedelta(seconds=self.seconds)))]
+        if self.form == "floating" and not self.days and draw.random() < 0.5:
+            return ["DTEND" + ":".join(unfixed("floating", self.start + timedelta(seconds=self.seconds)))]
+        return [f"DURATION:{self.length()}"]
 
 
 class Stored:
@@ -221,6 +264,10 @@ def one_store(draw, model, organiser, uid):
         return calendar(None, zone + events[0].given(draw, organiser) + lines), 54 if events[0].instance else 53
     if fault < 0.06:
         return calendar("PUBLISH", zone + lines), 60
+    if 0.08 <= fault < 0.11 and Event.with_days and any(it.instance for it in events):
+        # an organiser's book has no clocks that such an instance could be on
+        forms = [";VALUE=DATE:20250107", ":20250107", ":20250107T090000"]
+        return calendar(None, zone + ["RECURRENCE-ID" + draw.choice(forms) if it.startswith("RECURRENCE-ID") else it for it in lines]), 57
     if fault < 0.08:
         other = Event(draw, uid + "x", None)
         more = vtimezone(other.zone, other.zone) if other.zone else []
@@ -251,6 +298,9 @@ def one_reply(draw, model, organiser, uid):
         if doubled:
             attendees.append("ATTENDEE:mailto:zed@example.com")
         lines += ["BEGIN:VEVENT", *event, *attendees, "END:VEVENT"]
+    if Event.with_days and any(slots) and draw.random() < 0.05:
+        unfixed_lines = [it[:-1] if it.startswith("RECURRENCE-ID") else it for it in lines]
+        return calendar("REPLY", unfixed_lines), 57
     if doubled:
         return calendar("REPLY", lines), 64
     return calendar(draw.choice(["REPLY", "reply"]), lines), model.reply(organiser, uid, answers)
@@ -261,6 +311,8 @@ def one_refresh(draw, model, organiser, uid):
     event = [f"UID:{escaped(uid)}", "DTSTAMP:20250101T000000Z", f"ORGANIZER:{organiser}"]
     if draw.random() < 0.06:
         return calendar("REFRESH", ["BEGIN:VEVENT", *event, "END:VEVENT"]), 64
+    if Event.with_days and draw.random() < 0.3:
+        event.append("RECURRENCE-ID;VALUE=DATE:20250107")
     return calendar("REFRESH", ["BEGIN:VEVENT", *event, f"ATTENDEE:{by}", "END:VEVENT"]), model.refresh(organiser, uid, by)
 
 
@@ -288,13 +340,14 @@ def spelled(octets, digits="X"):
     return "".join(known.get(it) or (chr(it) if 32 <= it < 127 else f"\\x{it:02{digits}}") for it in octets)
 
 
-def print_table(count):
+def print_table(count, with_days):
+    Event.with_days = with_days
     for number in range(count):
-        draw = random.Random(f"table {number}")
+        draw = random.Random(f"{'days' if with_days else 'table'} {number}")
         model, objects = conversation(draw, ORGANISERS[:1])
         stream = b"".join(octets for octets, _ in objects)
         for organiser, uid in sorted(model.kept):
-            name = f"conversation {number}, what is shown of {uid.replace(';', ' ')}"
+            name = f"conversation {'of days ' if with_days else ''}{number}, what is shown of {uid.replace(';', ' ')}"
             print(f"{name} | shown | {spelled(stream)} | {uid}")
             print(f"{name}: {spelled(model.kept[organiser, uid].shown(), 'x')}", file=sys.stderr)
 
@@ -305,9 +358,10 @@ def main():
     parser.add_argument("--streams", type=int, default=500)
     parser.add_argument("--seed", type=int, default=1)
     parser.add_argument("--table", type=int)
+    parser.add_argument("--days", action="store_true")
     words = parser.parse_args()
     if words.table is not None:
-        print_table(words.table)
+        print_table(words.table, words.days)
         return 0
     preamble = f"now {NOW}\n" + "".join(f"organiser {it}\n" for it in ORGANISERS) + "\n"
     differed = seen = refused = 0

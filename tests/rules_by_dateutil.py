@@ -72,10 +72,10 @@ def by_dateutil(given, start, years, most):
     return list(islice(rrulestr(f"RRULE:{text(given)};{until}", dtstart=start), most))
 
 
-def case():
-    """A rule, its first day, and the days that it has; None where none can be had."""
+def case(first=1970, last=2030):
+    """A rule, its first day, from that of some year on, and the days that it has; None where none can be had."""
     given = parts()
-    earliest = datetime(random.randint(1970, 2030), random.randint(1, 12), random.randint(1, 28), 9)
+    earliest = datetime(random.randint(first, last), random.randint(1, 12), random.randint(1, 28), 9)
     found = by_dateutil(given, earliest, YEARS // 2, 1)
     if not found:
         return None

@@ -5,10 +5,11 @@ each step computes every book anew from what its owner took.
     python3 tests/schedules_by_model.py --tables FOLDER [--schedules 500]     # writes the schedules as tables, to be run by `rt try --cases FOLDER`
     python3 tests/schedules_by_model.py --answers FILE [--schedules 500]      # and judges what was printed for them
     python3 tests/schedules_by_model.py --table N       # prints N schedules for crates/schedule_examples/data/random.txt, and the lines of stdout
+    python3 tests/schedules_by_model.py --table N --days    # the same with whole days and times without zone
 
 A schedule has one to three rooms, one or two organisers, of which one may have the address of a room, and stores of two meetings: the whole and instances
-of it, each with its own attendees, agents, statuses and SEQUENCE; RRULE with an end and without, RDATE, EXDATE, nominal days, times in UTC and in a zone;
-stores that are refused. What was sent is delivered late, again, out of order, to others than it was for, or never; moments stand still and go back.
+of it, each with its own attendees, agents, statuses and SEQUENCE; RRULE with an end and without, RDATE, EXDATE, nominal days, times in UTC and in a zone,
+whole days and times without zone, which are those of UTC in these rooms; stores that are refused. What was sent is delivered late, again, out of order, to others than it was for, or never; moments stand still and go back.
 
 After each step are compared: all messages sent, octet by octet (the clash that a decline names is free: the two instances have to be there and to clash);
 what the room keeps whose step it was, or what the organiser shows of its meetings and sees of answers; and all of that at the end. And the simulation sees
@@ -61,7 +62,12 @@ def utc(at):
 
 
 def local_of(text):
-    return datetime.strptime(text.rstrip("Z"), "%Y%m%dT%H%M%S")
+    return datetime.strptime(text.rstrip("Z"), "%Y%m%dT%H%M%S" if "T" in text else "%Y%m%d")
+
+
+def form_of(parameters, text):
+    """Fixed is what is in UTC or has TZID."""
+    return "date" if len(text) == 8 else "fixed" if text.endswith("Z") or "TZID" in parameters else "floating"
 
 
 def instant(local, zone):
@@ -109,12 +115,14 @@ class Component:
 
     def __init__(self, properties, zones):
         self.attendees = {}
-        self.added, self.taken, found = [], [], {}
+        found = {}
+        # the forms and the instants of RDATE and EXDATE
+        self.lists = {"RDATE": [], "EXDATE": []}
         for name, parameters, value in properties:
             if name == "ATTENDEE":
                 self.attendees.setdefault(value.lower(), parameters)
             elif name in ("RDATE", "EXDATE"):
-                (self.added if name == "RDATE" else self.taken).extend(self.when(parameters, it, zones) for it in value.split(","))
+                self.lists[name] += [(form_of(parameters, it), self.when(parameters, it, zones)) for it in value.split(",")]
             else:
                 found[name] = parameters, value
         value_of = lambda name, default=None: found.get(name, ({}, default))[1]
@@ -122,13 +130,18 @@ class Component:
         self.sequence, self.own_sequence = int(value_of("SEQUENCE", 0)), "SEQUENCE" in found
         self.stamp, self.summary, self.rule = value_of("DTSTAMP"), value_of("SUMMARY", ""), value_of("RRULE")
         self.cancelled = value_of("STATUS", "").upper() == "CANCELLED"
+        self.added, self.taken = ([at for _, at in self.lists[name]] for name in ("RDATE", "EXDATE"))
         self.slot = self.when(*found["RECURRENCE-ID"], zones) if "RECURRENCE-ID" in found else None
+        self.fixed_slot = self.slot is None or form_of(*found["RECURRENCE-ID"]) == "fixed"
+        self.suits = True
         self.answer = next((it.get("PARTSTAT", "").upper() for it in self.attendees.values()), "")
         if "DTSTART" in found:
             parameters, value = found["DTSTART"]
             self.zone, self.local = zones.get(parameters.get("TZID")), local_of(value)
-            self.start = instant(self.local, self.zone)
+            self.start, self.form = instant(self.local, self.zone), form_of(parameters, value)
             self.days, self.seconds = self.length(value_of("DURATION"), found.get("DTEND"), zones)
+            # DTEND has the form of DTSTART, and a date lasts whole days
+            self.suits = form_of(*found.get("DTEND", found["DTSTART"])) == self.form and not (self.form == "date" and self.seconds)
 
     @staticmethod
     def when(parameters, value, zones):
@@ -136,7 +149,10 @@ class Component:
 
     def length(self, duration, end, zones):
         if end:
-            return 0, self.when(*end, zones) - self.start
+            seconds = self.when(*end, zones) - self.start
+            return (seconds // 86_400, 0) if self.form == "date" else (0, seconds)
+        if self.form == "date" and duration is None:
+            return 1, 0
         days, _, rest = (duration or "PT0S")[1:].partition("T")
         seconds, number = 0, ""
         for character in rest:
@@ -156,18 +172,28 @@ class Component:
 
     def content(self, names):
         """The lines that say when it is, in the one form that is written, by the names of the zones."""
-        yield f"DTSTART;TZID={names[self.zone]}:{self.local:%Y%m%dT%H%M%S}" if self.zone else f"DTSTART:{utc(self.start)}"
+        if self.form == "fixed":
+            yield f"DTSTART;TZID={names[self.zone]}:{self.local:%Y%m%dT%H%M%S}" if self.zone else f"DTSTART:{utc(self.start)}"
+        else:
+            yield f"DTSTART;VALUE=DATE:{self.local:%Y%m%d}" if self.form == "date" else f"DTSTART:{self.local:%Y%m%dT%H%M%S}"
         yield "DURATION:P" + f"{self.days}D" * bool(self.days) + f"T{self.seconds}S" * bool(self.seconds or not self.days)
         if self.rule:
-            yield "RRULE:" + rule_written(self.rule)
-        for name, times in (("RDATE", self.added), ("EXDATE", self.taken)):
-            if times:
-                yield f"{name}:" + ",".join(utc(it) for it in sorted(set(times)))
+            yield "RRULE:" + rule_written(self.rule, None if self.form == "fixed" else self.local)
+        for name, times in self.lists.items():
+            # in UTC, without zone, and dates
+            for form, size in (("fixed", 16), ("floating", 15), ("date", 8)):
+                texts = sorted({utc(at)[:size] for its, at in times if its == form})
+                if texts:
+                    yield f"{name}{';VALUE=DATE' * (form == 'date')}:" + ",".join(texts)
 
 
-def rule_written(text):
-    """A rule in the one form that is written. The rules here have no BYSETPOS, WKST or UNTIL by local clocks."""
+def rule_written(text, unfixed):
+    """A rule in the one form that is written, beside a start that isn't fixed, if any. The rules here have no BYSETPOS or WKST, and UNTIL by local
+    clocks only beside such a start."""
     parts = dict(it.split("=") for it in text.split(";"))
+    if unfixed and len(parts.get("UNTIL", "")) > 8:
+        until = local_of(parts["UNTIL"])
+        parts["UNTIL"] = f"{until - timedelta(days=until.time() < unfixed.time()):%Y%m%d}"
     if parts.get("INTERVAL") == "1":
         del parts["INTERVAL"]
     if "BYDAY" in parts:
@@ -199,6 +225,7 @@ class Message:
         slots = [it.slot for it in self.components]
         refused = any((it.uid, it.organiser) != (self.uid, self.organiser) for it in self.components) or len(set(slots)) < len(slots)
         refused |= any(it.rule and it.slot is not None for it in self.components)
+        refused |= not all(it.suits and (it.fixed_slot or self.method not in ("", "REPLY")) for it in self.components)
         self.method = None if refused or self.method == "PUBLISH" else self.method
 
 
@@ -511,6 +538,9 @@ def address(name):
 class Drawing:
     """One random schedule: who is hosted, and its steps, drawn beside the world that they lead to."""
 
+    # whether whole days and times without zone are drawn
+    with_days = True
+
     def __init__(self, seed):
         self.draw = draw = random.Random(f"schedule {seed}")
         self.rooms = ["r1", "r2", "r3"][: draw.choice([1, 1, 2, 2, 3])]
@@ -546,6 +576,9 @@ class Drawing:
         """An object to store, with faults now and then."""
         draw, uid = self.draw, self.draw.choice(self.uids)
         start = FIRST_DAY + timedelta(days=draw.randrange(2), minutes=30 * draw.randrange(18, 21))
+        if Drawing.with_days and draw.random() < 0.25:
+            # so that dates and times are at one instant
+            start = start.replace(hour=0, minute=0)
         slots = [start + timedelta(days=it) for it in draw.sample(range(3), draw.choice([0, 0, 0, 1, 1, 2]))]
         slots = ([None] if draw.random() < 0.85 or not slots else []) + slots
         draw.shuffle(slots)
@@ -566,18 +599,28 @@ class Drawing:
         draw = self.draw
         own = (start if slot is None else slot) + timedelta(minutes=draw.choice([0, 0, 0, 30, 60]) if slot else 0)
         zone = draw.choice([None, None, None, *ZONES])
-        lines = [f"UID:{uid}", "DTSTAMP:20250101T000000Z", f"ORGANIZER:{draw.choice([organiser, organiser.upper()])}", self.timed("DTSTART", own, zone)]
+        form = draw.choice(["fixed"] * 4 + ["date", "floating"]) if Drawing.with_days else "fixed"
+        if form != "fixed":
+            zone = None
+        if form == "date":
+            own = own.replace(hour=0, minute=0)
+        lines = [f"UID:{uid}", "DTSTAMP:20250101T000000Z", f"ORGANIZER:{draw.choice([organiser, organiser.upper()])}", self.timed("DTSTART", own, zone, form)]
         seconds, days = draw.choice([1800, 3600, 3600, 5400, 0]), draw.random() < 0.08
-        if days:
+        if form == "date":
+            lines += draw.choice([[], [], ["DURATION:P1D"], ["DURATION:P2D"], ["DURATION:PT0S"], *([self.timed("DTEND", own + timedelta(days=it), None, form)] for it in range(3))])
+        elif days:
             lines.append(draw.choice(["DURATION:P1D", "DURATION:P1DT1H", "DURATION:P1W"]))
         elif draw.random() < 0.3:
-            lines.append(self.timed("DTEND", own + timedelta(seconds=seconds), zone))
+            # one of another form is refused
+            other = Drawing.with_days and draw.random() < 0.03
+            lines.append(self.timed("DTEND", own + timedelta(seconds=seconds), zone, ("floating" if form == "fixed" else "fixed") if other else form))
         elif seconds or draw.random() < 0.5:
             lines.append(draw.choice([f"DURATION:PT{seconds // 60}M", f"DURATION:PT{seconds}S"]))
         if slot is None:
-            lines += self.recurring(own, zone, days)
+            lines += self.recurring(own, zone, form)
         else:
-            lines.append(self.timed("RECURRENCE-ID", slot, draw.choice([None, zone])))
+            unfixed = Drawing.with_days and draw.random() < 0.03
+            lines.append(self.timed("RECURRENCE-ID", slot, None if unfixed else draw.choice([None, zone]), draw.choice(["date", "floating"]) if unfixed else "fixed"))
         if draw.random() < 0.4:
             lines.append(f"SEQUENCE:{draw.choice([0, 1, 2, 3, 5, 9])}" if draw.random() < 0.97 else f"SEQUENCE:{draw.choice([MOST, MOST - 1])}")
         if draw.random() < 0.12:
@@ -589,27 +632,34 @@ class Drawing:
         lines += [f"ATTENDEE{';SCHEDULE-AGENT=' + agent if agent else ''};CN=x:{address(name)}" for name, agent in named]
         return ["BEGIN:VEVENT", *lines, "END:VEVENT"]
 
-    def timed(self, name, at, zone):
-        """A property whose value is an instant, in UTC or by the clocks of a zone."""
+    def timed(self, name, at, zone, form="fixed"):
+        """A property whose value is an instant, in UTC or by the clocks of a zone; or a time without zone, or a date."""
+        if form == "date":
+            return f"{name}{self.draw.choice([';VALUE=DATE', ';VALUE=DATE', ''])}:{at:%Y%m%d}"
+        if form == "floating":
+            return f"{name}:{at:%Y%m%dT%H%M%S}"
         if zone is None:
             return f"{name}:{at:%Y%m%dT%H%M%SZ}"
         self.zone_names[zone] = zone.split("/")[1]
         return f"{name};TZID={self.zone_names[zone]}:{clock(instant(at, None), zone):%Y%m%dT%H%M%S}"
 
-    def recurring(self, start, zone, days):
+    def recurring(self, start, zone, form):
         """RRULE, RDATE and EXDATE of a whole meeting."""
         draw, lines = self.draw, []
         if draw.random() < 0.45:
-            lines.append("RRULE:" + self.rule(clock(instant(start, None), zone), start))
+            lines.append("RRULE:" + self.rule(clock(instant(start, None), zone), start, form))
         near = [start + timedelta(days=it, minutes=draw.choice([0, 0, 60])) for it in range(5)]
         for name, chance in (("RDATE", 0.25), ("EXDATE", 0.25)):
             if draw.random() < chance:
                 dates = draw.sample(near, draw.choice([1, 1, 2]))
                 apart = draw.random() < 0.5
+                if Drawing.with_days and draw.random() < 0.5:
+                    lines += [self.timed(name, it, None, draw.choice(["fixed", "date", "date", "floating"])) for it in dates]
+                    continue
                 lines += [self.timed(name, it, draw.choice([None, zone])) for it in dates] if apart else [f"{name}:" + ",".join(f"{it:%Y%m%dT%H%M%SZ}" for it in dates)]
         return lines
 
-    def rule(self, local, start):
+    def rule(self, local, start, form_of_start):
         draw, own, other = self.draw, WEEKDAYS[local.weekday()], self.draw.choice(WEEKDAYS)
         weekly = ["FREQ=WEEKLY", f"FREQ=WEEKLY;BYDAY={other},{own}"]
         if draw.random() < 0.25:
@@ -619,6 +669,8 @@ class Drawing:
         form = draw.choice([*daily, *weekly, *monthly])
         if "MONTHLY" not in form and draw.random() < 0.3:
             until = start + timedelta(days=draw.randrange(0, 12))
+            if form_of_start != "fixed" and draw.random() < 0.5:
+                return f"{form};UNTIL={until + timedelta(seconds=draw.choice([0, 0, 1, 3600, 80_000])):%Y%m%dT%H%M%S}" + draw.choice(["", "Z"])
             return f"{form};UNTIL=" + draw.choice([f"{until:%Y%m%dT%H%M%SZ}", f"{until + timedelta(days=1):%Y%m%d}"])
         return f"COUNT={draw.choice([1, 2, 3, 3, 4, 5])};{form}"
 
@@ -782,10 +834,12 @@ def main():
     parser.add_argument("--tables", type=Path)
     parser.add_argument("--answers", type=Path)
     parser.add_argument("--table", type=int)
+    parser.add_argument("--days", action="store_true")
     words = parser.parse_args()
     if words.table:
+        Drawing.with_days = words.days
         for number in range(words.table):
-            case = Case(f"table {number}", 16, at_end=True)
+            case = Case(f"{'days' if words.days else 'table'} {number}", 16, at_end=True)
             print(case.line())
             print(f"schedule {case.seed}: " + " | ".join(said(it) for _, _, it in case.wanted), file=sys.stderr)
         return 0

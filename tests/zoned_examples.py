@@ -1,7 +1,8 @@
 #!/usr/bin/env python3
-"""Makes the cases of crates/worked_examples of times with TZID, nominal days, RDATE, EXDATE and RECURRENCE-ID: files `zone-*` and
-`zoned-*` of its `data` (those without an ending), the lines of `commands.txt` after the line `# times in zones`, and the lines of `stdout`
-for all of `commands.txt`, which are there one after another. It is run by hand, in the top folder: `python3 tests/zoned_examples.py`.
+"""Makes the cases of crates/worked_examples of times with TZID, nominal days, RDATE, EXDATE and RECURRENCE-ID, and those of whole days and of times
+without zone in the zone of a room, which are in room_zone_cases.py: files `zone-*`, `placed-*` and
+`zoned-*` of its `data` (those without an ending), the lines of `commands.txt` from the line `# times in zones` to the next empty one, and the lines of
+`stdout` for all of `commands.txt`, which are there one after another. It is run by hand, in the top folder: `python3 tests/zoned_examples.py`.
 
 What must come out is written here by hand, or is what Python's zoneinfo says of the local times (with fold=0: the first of
 two, and in a gap the offset before it).
@@ -9,6 +10,8 @@ two, and in a gap the offset before it).
 import datetime as dt
 import pathlib
 import zoneinfo
+
+import room_zone_cases
 
 CRATE = pathlib.Path("crates/worked_examples")
 DATA = CRATE / "data"
@@ -52,6 +55,7 @@ ZONES = {
     "lord-howe": zone("Australia/Lord_Howe",
                       part("STANDARD", "20080406T020000", "BYMONTH=4;BYDAY=1SU", "+1100", "+1030"),
                       part("DAYLIGHT", "20081005T020000", "BYMONTH=10;BYDAY=1SU", "+1030", "+1100")),
+    "of-a-room": ["X-ROOM-ZONE:" + room_zone_cases.NEW_YORK],
 }
 
 
@@ -144,12 +148,12 @@ CASES = [
     ("an hour more than 366 days", NY, ["DTSTART;" + IN + "20241027T120000", "DTEND;" + IN + "20251028T130000"], 51),
     ("TZID beside a UTC time", NY, ["DTSTART;" + IN + "20250310T090000Z", HOUR], 11),
     ("TZID beside no time", NY, ["DTSTART;" + IN + "20250310T250000", HOUR], 11),
-    ("TZID beside a date", NY, ["DTSTART;" + IN + "20250310", HOUR], 55),
-    ("TZID beside VALUE=DATE", NY, ["DTSTART;VALUE=DATE;" + IN + "20250310", HOUR], 55),
+    ("TZID beside a date", NY, ["DTSTART;" + IN + "20250310", HOUR], 11),
+    ("TZID beside VALUE=DATE", NY, ["DTSTART;VALUE=DATE;" + IN + "20250310", HOUR], 11),
     ("TZID beside VALUE=DATE and a UTC time", NY, ["DTSTART;VALUE=DATE;" + IN + "20250310T090000Z", HOUR], 11),
     ("TZID beside VALUE=PERIOD", NY, ["DTSTART;VALUE=PERIOD;" + IN + "20250310T090000", HOUR], 56),
     ("TZID beside VALUE=TEXT", NY, ["DTSTART;VALUE=TEXT;" + IN + "20250310T090000", HOUR], 11),
-    ("the text is judged before the zone", [], ["DTSTART;" + IN + "20250310", HOUR], 55),
+    ("the text is judged before the zone", [], ["DTSTART;" + IN + "20250310", HOUR], 11),
     ("the zone of a start before the text of an end", [], ["DTSTART;" + IN + "20250310T090000", "DTEND:2025"], 43),
     ("a nominal day over a gap", NY, ["DTSTART;" + IN + "20250308T120000", "DURATION:P1D"],
      at("20250308T170000Z", length=82800)),
@@ -181,7 +185,7 @@ CASES = [
     ("the times together are judged before the rule's days", NY,
      ["DTSTART:20250310T090000Z", "DTEND:20250309T090000Z", "RRULE:FREQ=WEEKLY;BYDAY=SU"], 50),
     ("UID is judged before RRULE", [], ["UID:b", "DTSTART:20250310T090000Z", "RRULE:FREQ=HOURLY"], 61),
-    ("DTSTART is judged before RRULE", [], ["DTSTART:20250310", "RRULE:FREQ=HOURLY"], 55),
+    ("DTSTART is judged before RRULE", [], ["DTSTART:202503", "RRULE:FREQ=HOURLY"], 11),
 ]
 
 NINE = ["DTSTART:20250101T090000Z", HOUR]
@@ -335,30 +339,35 @@ def ok_lines(names):
     return ["ok %s\n" % name for name in names]
 
 
+def rows(word, cases):
+    """The lines of the table for these cases, whose files are written."""
+    table = []
+    for number, (name, words, zones, lines, outcome) in enumerate(cases, 1):
+        event = "%s-%02d" % (word, number)
+        write(event, ["BEGIN:VEVENT", "UID:a"] + lines + ["END:VEVENT", "END:VCALENDAR"])
+        files = " ".join(["zoned-begin"] + ["zone-" + z for z in zones] + [event])
+        output, errors, status = "nothing", "nothing", 0
+        if isinstance(outcome, int):
+            errors, status = "said-refused-%d" % outcome, 3
+            (DATA / errors).write_text("roombox: refused %d\n" % outcome)
+        elif outcome:
+            output = event + "-days"
+            write(output, outcome, "\n")
+        table.append("%s | expand | %s | %s | %s | %s | %d" % (name, files, words, output, errors, status))
+    return table
+
+
 def main():
-    for old in list(DATA.glob("zone-*")) + list(DATA.glob("zoned-*")):
+    for old in list(DATA.glob("zone-*")) + list(DATA.glob("zoned-*")) + list(DATA.glob("placed-*")):
         if not old.suffix:
             old.unlink()
     write("zoned-begin", BEGIN)
     for name, lines in ZONES.items():
         write("zone-" + name, lines)
-    table = []
-    for number, (name, zones, lines, outcome) in enumerate(CASES, 1):
-        event = "zoned-%02d" % number
-        write(event, ["BEGIN:VEVENT", "UID:a"] + lines + ["END:VEVENT", "END:VCALENDAR"])
-        files = " ".join(["zoned-begin"] + ["zone-" + z for z in zones] + [event])
-        if isinstance(outcome, int):
-            said = "said-refused-%d" % outcome
-            (DATA / said).write_text("roombox: refused %d\n" % outcome)
-            table.append("%s | expand | %s |  | nothing | %s | 3" % (name, files, said))
-        else:
-            output = "nothing"
-            if outcome:
-                output = event + "-days"
-                write(output, outcome, "\n")
-            table.append("%s | expand | %s |  | %s | nothing | 0" % (name, files, output))
+    table = rows("zoned", [(name, "", *case) for name, *case in CASES]) + rows("placed", room_zone_cases.CASES)
     before = TABLE.read_text()
-    after = before.split(MARK)[0] + MARK + "\n" + "\n".join(table) + "\n"
+    head, _, rest = before.partition(MARK + "\n")
+    after = head + MARK + "\n" + "\n".join(table) + "\n\n" + rest.partition("\n\n")[2]
     names = names_of(after)
     assert len(names) == len(set(names)), sorted(n for n in names if names.count(n) > 1)
     told, old = (CRATE / "stdout").read_text().splitlines(keepends=True), ok_lines(names_of(before))

@@ -22,3 +22,6 @@ pub mod HiddenLemmas
 pub mod WholeLists
 pub mod PlaceLemmas
 pub mod Overlaps
+pub mod RoomClocks
+pub mod Placing
+pub mod MeetingInstances

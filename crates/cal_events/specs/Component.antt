@@ -1,5 +1,5 @@
 -- What the types of a VEVENT that was read represent.
-use Rattle.std.specs.Prelude.{ℕ, Bool, List, length, map, filter, option_map, Option, codes, Contains, ◌≡◌, ◌≢◌, ◌/◌, ◌<◌, ℤ, pos, unsigned_abs, ◌<ℤ◌}
+use Rattle.std.specs.Prelude.{ℕ, Bool, List, length, map, filter, option_map, Option, codes, Contains, ◌≡◌, ◌≢◌, ◌+◌, ◌*◌, ◌<◌, ℤ, pos, ◌≤ℤ◌, ◌<ℤ◌}
 use Rattle.ical_values.specs.Octets.{address_octets, text_octets}
 use Rattle.ical_values.specs.declared.duration.Duration.{Duration}
 use Rattle.profile.specs.events.EventComponents as profile
@@ -66,17 +66,24 @@ component_of e = record {
 abbrev pub meeting_with : Option EventComponent → List EventComponent → meetings.Event
 meeting_with master overrides = record { master = option_map component_of master; overrides = map component_of overrides }
 
--- the length to an end of this form, so many seconds later, of a date in whole days
+-- the length to an end of this form, so many seconds later: up to a date the whole days
 abbrev pub IsLengthTo : Form → ℤ → Length → Type 0
 IsLengthTo Fixed seconds length = (length.days ≡ 0) × (seconds ≡ pos length.seconds)
 IsLengthTo Floating seconds length = (length.days ≡ 0) × (seconds ≡ pos length.seconds)
-IsLengthTo WholeDay seconds length = (length.seconds ≡ 0) × (length.days ≡ unsigned_abs seconds / 86_400)
+IsLengthTo WholeDay seconds length =
+    (length.seconds ≡ 0) × (pos (86_400 * length.days) ≤ℤ seconds) × (seconds <ℤ pos (86_400 * length.days + 86_400))
 
 -- the length that an extent gives beside a start of this form
 abbrev pub GivesLength : Form → Extent → Length → Type 0
 GivesLength form (To end) length = (form_of end.form ≡ form) × IsLengthTo form end.seconds length
 GivesLength form (For duration) length = (length ≡ length_of duration) × SuitsForm form length
 GivesLength form Open length = length ≡ length_alone form
+
+-- the length that an extent gives without a start
+abbrev pub GivesAlone : Extent → Length → Type 0
+GivesAlone (To end) length = length ≡ length_alone Fixed
+GivesAlone (For duration) length = length ≡ length_of duration
+GivesAlone Open length = length ≡ length_alone Fixed
 
 -- what is wrong with an extent beside such a start: another form, it ends before the start, or lasts longer than 366 days
 pub data ExtentFault (form : Form) : Extent → ℕ → Type 0 where
@@ -85,6 +92,12 @@ pub data ExtentFault (form : Form) : Extent → ℕ → Type 0 where
   ends_early : (end : SaidEnd) → form_of end.form ≡ form → end.seconds <ℤ pos 0 → ExtentFault form (To end) 50
   ends_late : (end : SaidEnd) → form_of end.form ≡ form → pos 31_622_400 <ℤ end.seconds → ExtentFault form (To end) 51
   lasts_long : (duration : Duration) → 31_622_400 < length_seconds (length_of duration) → ExtentFault form (For duration) 51
+
+-- and without a start
+abbrev pub AloneFault : Extent → ℕ → Type 0
+AloneFault (To end) number = ⊥
+AloneFault (For duration) number = ExtentFault Fixed (For duration) number
+AloneFault Open number = ⊥
 
 -- the VEVENTs of an object, each as its lines
 abbrev pub is_vevent : Component → Bool

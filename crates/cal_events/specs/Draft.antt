@@ -4,7 +4,10 @@ use Rattle.std.specs.Ordering.{is_eq}
 use Rattle.std.specs.List.{list_any, filter_map}
 use Rattle.std.specs.List.Sorted.{IsPermutation, IsSortedByKey}
 use Rattle.profile.specs.checker.Instances.{Key, Instance, key_cmp}
-use Rattle.profile.specs.events.EventComponents.{EventComponent, SaysEventComponent, meeting_said}
+use Rattle.profile.specs.events.EventComponents.{EventComponent, meeting_said}
+use Rattle.profile.specs.events.Placed.{SaysPlaced}
+use Rattle.profile.specs.series.Zones.{Zone}
+use Rattle.profile.specs.series.RoomZones.{IsRoomZone}
 use Rattle.profile.specs.text.Lines.{reads_as_lines}
 use Rattle.profile.specs.text.Trees.{Tree}
 use Rattle.profile.specs.checker.Calendars.{SayEvents, IsCalendarText}
@@ -18,9 +21,14 @@ use Rattle.cal_events.specs.declared.calendar.PlacedSingle.{PlacedSingle as Sing
 use Rattle.cal_events.specs.declared.draft.Draft.{Draft}
 use Rattle.cal_events.specs.declared.instance.InstanceKey.{InstanceKey}
 
--- some VEVENT says the event
-abbrev pub IsSaid : EventComponent → Type 0
-IsSaid event = (object : Tree) × (lines : List (List ℕ)) × SaysEventComponent object None lines event
+-- some VEVENT says the event, in a room of a zone that words mean
+pub record IsSaid (event : EventComponent) : Type 0 where
+  pub words : List ℕ
+  pub room : Option Zone
+  pub named : IsRoomZone words room
+  pub object : Tree
+  pub lines : List (List ℕ)
+  pub says : SaysPlaced room object None lines event
 
 -- ---- singles, without a look at what overrides hide
 

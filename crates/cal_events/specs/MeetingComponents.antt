@@ -4,7 +4,9 @@ use Rattle.std.specs.List.{AllZip}
 use Rattle.profile.specs.checker.Instances.{horizon}
 use Rattle.profile.specs.text.Trees.{Tree}
 use Rattle.profile.specs.events.Properties.{first_second}
+use Rattle.profile.specs.series.Zones.{Zone}
 use Rattle.profile.specs.events.EventComponents as profile
+use Rattle.profile.specs.events.Placed.{SaysPlaced}
 use Rattle.profile.specs.events.Events.{AreOfOne, InstancesDiffer, is_master, is_override, taken_by}
 
 -- which instances events are for
@@ -24,7 +26,18 @@ SharesSlot events n =
 abbrev pub IsInEventDates : ℤ → Type 0
 IsInEventDates instant = (first_second ≤ℤ instant) × (instant <ℤ horizon)
 
--- these are the events of an object's VEVENTs, as METHOD takes them: of one meeting, at most one for the whole of it, and no two for the same instance
+-- these are the events of an object's VEVENTs in a room of this zone, as METHOD takes them: of one meeting, at most one for the whole of it, and no two
+-- for the same instance
+pub record AreOfObjectIn (room : Option Zone) (object : Tree) (method : Option profile.Method) (vevents : List (List (List ℕ))) (events : List profile.EventComponent) : Type 0 where
+  pub said : List profile.EventComponent
+  pub says : AllZip (SaysPlaced room object method) vevents said
+  pub taken : events ≡ taken_by method said
+  pub some : 0 < length events
+  pub one : AreOfOne events
+  pub masters : length (filter is_master events) ≤ 1
+  pub differ : InstancesDiffer (filter is_override events)
+
+-- the same of the events as they are written
 pub record AreOfObject (object : Tree) (method : Option profile.Method) (vevents : List (List (List ℕ))) (events : List profile.EventComponent) : Type 0 where
   pub said : List profile.EventComponent
   pub says : AllZip (profile.SaysEventComponent object method) vevents said

@@ -7,7 +7,7 @@ use Rattle.profile.specs.series.Zones.{Zone}
 use Rattle.cal_zones.specs.Kinds.{zone_of}
 use Rattle.cal_events.specs.declared.event_times.EventTimes.{EventTimes}
 use Rattle.profile.specs.events.Occurrences as occurrences
-use Rattle.cal_events.specs.declared.occurrences.Time.{Time}
+use Rattle.cal_events.specs.declared.time.Time.{Time}
 use Rattle.cal_events.specs.declared.occurrences.WrittenTimes.{WrittenTimes}
 use Rattle.cal_events.specs.declared.when.Form.{Form}
 use Rattle.cal_events.specs.declared.when.Form.TheVariants as forms

@@ -1,18 +1,18 @@
 -- What the readers of times in zones see of components.
-use Rattle.std.specs.Prelude.{◌≡◌, ◌↔◌, ◌⊎◌, ℕ, Bool, true, false, IsTrue, List, codes, Option, Some, None, ℤ, pos, negsuc, ◌≤ℤ◌, ◌+ℤ◌}
+use Rattle.std.specs.Prelude.{◌≡◌, ◌↔◌, ℕ, Bool, true, false, IsTrue, List, codes, Option, Some, None, ℤ, pos, negsuc, ◌≤ℤ◌, ◌+ℤ◌}
 use Rattle.profile.specs.text.Trees.{Tree}
 use Rattle.profile.specs.series.Zones.{Zone, Means}
 use Rattle.profile.specs.events.EventRules.{IsRuleText}
-use Rattle.profile.specs.events.Properties.{Length, LastsFor, OccursAtMostOnce, IsMissing, Says}
+use Rattle.profile.specs.events.Properties.{LastsFor, OccursAtMostOnce, IsMissing, Says}
 use Rattle.profile.specs.events.ZonedTimes.{is_in_zone, IsInDates, SaysZonedTime, clock_of}
 use Rattle.cal_events.specs.Component.{length_of, form_of, form_said, zone_said, local_said}
 use Rattle.cal_events.specs.declared.event_rule.SaidRule.{SaidRule}
 use Rattle.cal_events.specs.declared.event_times.Extent.{Extent}
 use Rattle.cal_events.specs.declared.event_times.Extent.TheVariants.{To, For, Open}
 use Rattle.cal_events.specs.declared.event_times.SaidEnd.{SaidEnd}
-use Rattle.cal_events.specs.declared.event_times.SaidStart.{SaidStart}
 use Rattle.cal_events.specs.declared.event_times.SaidTimes.{SaidTimes}
 use Rattle.cal_events.specs.declared.event_times.SaidTimes.TheVariants.{From, Alone}
+use Rattle.cal_events.specs.declared.when.When.{When}
 
 -- whether an end is in the dates that an event may name; also without one
 abbrev pub ends_in : Extent → Bool
@@ -38,18 +38,18 @@ IsExtentIn object lines start (For duration) =
 IsExtentIn object lines start Open =
     OccursAtMostOnce (codes "DTEND") lines None × OccursAtMostOnce (codes "DURATION") lines None
 
--- the line says this start
-pub record IsStartSaid (object : Tree) (line : List ℕ) (start : SaidStart) : Type 0 where
-  pub says : SaysZonedTime object line (form_said start.when) (zone_said start.when) (local_said start.when)
-  pub means : Means (clock_of (zone_said start.when)) (local_said start.when) start.instant
-  pub in_dates : IsTrue start.in_dates ↔ IsInDates false (form_said start.when) (is_in_zone line) (local_said start.when) start.instant
+-- the line says this start, at an instant in the dates that an event may name, or not
+pub record IsStartSaid (object : Tree) (line : List ℕ) (start : When) (instant : ℤ) (in_dates : Bool) : Type 0 where
+  pub says : SaysZonedTime object line (form_said start) (zone_said start) (local_said start)
+  pub means : Means (clock_of (zone_said start)) (local_said start) instant
+  pub dates : IsTrue in_dates ↔ IsInDates false (form_said start) (is_in_zone line) (local_said start) instant
 
 -- what DTSTART, DTEND and DURATION say
-pub record AreSaid (object : Tree) (lines : List (List ℕ)) (start : SaidStart) (extent : Extent) : Type 0 where
+pub record AreSaid (object : Tree) (lines : List (List ℕ)) (start : When) (instant : ℤ) (in_dates : Bool) (extent : Extent) : Type 0 where
   pub line : List ℕ
   pub once : OccursAtMostOnce (codes "DTSTART") lines (Some line)
-  pub start_said : IsStartSaid object line start
-  pub extent_in : IsExtentIn object lines start.instant extent
+  pub start_said : IsStartSaid object line start instant in_dates
+  pub extent_in : IsExtentIn object lines instant extent
 
 -- what DTEND and DURATION say without DTSTART
 pub record AreSaidAlone (object : Tree) (lines : List (List ℕ)) (extent : Extent) : Type 0 where
@@ -58,7 +58,7 @@ pub record AreSaidAlone (object : Tree) (lines : List (List ℕ)) (extent : Exte
 
 -- what the three say, where DTSTART may be missing or not
 abbrev pub AreSaidBy : Bool → Tree → List (List ℕ) → SaidTimes → Type 0
-AreSaidBy may_lack object lines (From start extent) = AreSaid object lines start extent
+AreSaidBy may_lack object lines (From start instant in_dates extent) = AreSaid object lines start instant in_dates extent
 AreSaidBy may_lack object lines (Alone extent) = (may_lack ≡ true) × AreSaidAlone object lines extent
 
 -- what RRULE says by itself

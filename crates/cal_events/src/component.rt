@@ -112,9 +112,10 @@ impl EventComponent {
     /// Reads the properties of a VEVENT of an object of this METHOD, or of one whose METHOD is ignored; its times may name these zones.
     /// Refused, in this order: of UID, ORGANIZER, DTSTAMP, SEQUENCE and STATUS 10 and 14 to 16 for a value, 61 and 63 for one that
     /// is missing or occurs twice; as by `SaidInstant::read_recurrence` for RECURRENCE-ID; as by `SaidTimes::read` for DTSTART,
-    /// DTEND and DURATION; 61 and 30 to 33 for RRULE; as by `SaidInstants::read` for RDATE and EXDATE; 15 for an ATTENDEE; 57 for a
-    /// RECURRENCE-ID that isn't fixed in what is stored or answered; as by `SaidTimes::judge` for the times together; 52 for a RECURRENCE-ID or an RDATE outside of the dates that an event may name;
-    /// 67 for RRULE or RDATE in a single instance; 34 for a DTSTART that isn't one of the rule's days.
+    /// DTEND and DURATION; 61 and 30 to 33 for RRULE; as by `SaidInstants::read` for RDATE and EXDATE; 15 for an ATTENDEE;
+    /// 57 for a RECURRENCE-ID that isn't fixed, in what is stored or answered; as by `SaidTimes::judge` for the times together;
+    /// 52 for a RECURRENCE-ID or an RDATE outside of the dates that an event may name; 67 for RRULE or RDATE in a single instance;
+    /// 34 for a DTSTART that isn't one of the rule's days.
     pub(crate) fn read(
         alloc: Global,
         zones: &ZonesOfObject<'_, '_>,

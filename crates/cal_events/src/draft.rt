@@ -20,7 +20,7 @@ use crate::calendar::{Calendar, PlacedSingle};
 use crate::component::{EventComponent, PartStat};
 use crate::entries::Entries;
 use crate::instance::InstanceKey;
-use crate::reading::read_event;
+use crate::reading::{read_placed, read_room_zone};
 use crate::series::Series;
 use crate::single_starts::single_starts;
 use crate::zones::ZonesOfObject;
@@ -62,7 +62,7 @@ impl Draft {
     }
 
     /// That of an object that was read.
-    /// Refused: as by `EventComponent::read` for a VEVENT.
+    /// Refused: 44 for the zone of the room; as by `EventComponent::read` for a VEVENT.
     pub(crate) fn of_object(
         alloc: Global,
         object: &Component,
@@ -72,11 +72,14 @@ impl Draft {
         ensures refuses { IfErr result (RefusesOnly is_calendar_fault) }
         ensures fault { IfErr result (RefusesBy (CalendarFault (tree_of object.now))) }
     {
+        let zone = read_room_zone(alloc, object)?;
+        // Only for the proof: its words mean it.
+        zone.words_mean();
         let zones = ZonesOfObject::of(alloc, object)?;
         let mut draft = Draft::new(alloc);
         for component in object.children() {
             if component.is_named("VEVENT") {
-                let event = read_event(alloc, &zones, component, None)?;
+                let event = read_placed(alloc, &zones, component, None, &zone)?;
                 draft.add(alloc, event, room)?;
             }
         }

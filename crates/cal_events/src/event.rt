@@ -1,6 +1,6 @@
 //! An event with its instances: its master and its overrides (RFC 5545 3.8.4.4), read from one object whatever its METHOD.
 
-ghost use Rattle.std.specs.Prelude.{◌≡◌, ◌≢◌, ◌↔◌, ◌<◌, ◌≤ℤ◌, ◌⊎◌, ◌++◌, ℕ, List, [], Some, None, map, option_map, ℤ, IfOk, IfErr};
+ghost use Rattle.std.specs.Prelude.{◌≡◌, ◌≢◌, ◌↔◌, ◌<◌, ◌≤ℤ◌, ◌⊎◌, ◌++◌, ℕ, List, [], Option, Some, None, map, option_map, ℤ, IfOk, IfErr};
 ghost use Rattle.std.specs.Option.{option_to_list};
 ghost use Rattle.std.specs.List.{list_all};
 ghost use Rattle.std.specs.List.Sorted.{IsPermutation};
@@ -8,6 +8,9 @@ ghost use Rattle.ical_lines.specs.Fault.{RefusesOnly, RefusesBy};
 ghost use Rattle.ical_tree.specs.Tree.{tree_of};
 ghost use Rattle.profile.specs.checker.Instances.{Instance as SaidInstance};
 ghost use Rattle.profile.specs.events.Events.{Event as SaidEvent, is_master, is_override, AreOfOne, SaysEvent, SpellsEvent, EventFault, EventTextFault, is_meeting_fault};
+ghost use Rattle.profile.specs.series.Zones as zones;
+ghost use Rattle.profile.specs.series.RoomZones.{IsRoomZone};
+ghost use Rattle.cal_zones.specs.RoomZones.{room_of};
 ghost use Rattle.cal_events.specs.Clocks.{HasGoodClock};
 ghost use Rattle.cal_events.specs.Component.{component_of, meeting_with};
 ghost use Rattle.cal_events.specs.MeetingComponents.{instants_said, IsNotOne, IsInEventDates};
@@ -24,6 +27,7 @@ use crate::instants::Instants;
 use crate::meeting_components::MeetingComponents;
 use crate::overlapping::first_overlapping;
 use crate::places::Places;
+use cal_zones::RoomZone;
 use crate::sweep::Span;
 use ical_lines::{Fault, Limits, Unfolded};
 use ical_tree::{Component, one_tree, read_object};
@@ -73,26 +77,28 @@ impl Event {
         first_overlapping(self, span)
     }
 
-    /// The event that octets spell: an object of one UID and one ORGANIZER, whose METHOD is ignored.
+    /// The event that octets spell in a room of this zone: an object of one UID and one ORGANIZER, whose METHOD is ignored.
     /// Refused: 1 to 6 and 20 to 25 for the object, and as by `of_object`.
-    pub fn read(alloc: Global, bytes: &[u8]) -> Result<Event, Fault>
-        ensures spells { IfOk result (λ event. SpellsEvent bytes.now (said_meeting event)) }
+    pub fn read(alloc: Global, bytes: &[u8], room: &RoomZone) -> Result<Event, Fault>
+        ensures spells { IfOk result (λ event. SpellsEvent (room_of room.now) bytes.now (said_meeting event)) }
         ensures refuses { IfErr result (RefusesOnly is_meeting_fault) }
-        ensures fault { IfErr result (RefusesBy (EventTextFault bytes.now)) }
+        ensures fault { IfErr result (RefusesBy (EventTextFault (room_of room.now) bytes.now)) }
     {
         let text = Unfolded::read(alloc, bytes, Limits::Message)?;
         let object = read_object(alloc, &text, Limits::Message)?;
-        Event::of_object(alloc, &object)
+        Event::of_object(alloc, &object, room)
     }
 
-    /// The event of an object that was read.
+    /// The event of an object that was read, in a room of this zone.
     /// Refused: as by `MeetingComponents::read`.
-    pub fn of_object(alloc: Global, object: &Component) -> Result<Event, Fault>
-        ensures says { IfOk result (λ event. SaysEvent (tree_of object.now) None (said_meeting event)) }
+    pub fn of_object(alloc: Global, object: &Component, room: &RoomZone) -> Result<Event, Fault>
+        ensures says { IfOk result (λ event. SaysEvent (room_of room.now) (tree_of object.now) None (said_meeting event)) }
         ensures refuses { IfErr result (RefusesOnly is_meeting_fault) }
-        ensures fault { IfErr result (RefusesBy (EventFault (tree_of object.now) None)) }
+        ensures fault { IfErr result (RefusesBy (EventFault (room_of room.now) (tree_of object.now) None)) }
     {
-        let components = MeetingComponents::read(alloc, object)?;
+        // Only for the proof: the words of the room mean its zone.
+        room.words_mean();
+        let components = MeetingComponents::read(alloc, object, room)?;
         Ok(components.into_event(alloc)?)
     }
 
@@ -139,21 +145,23 @@ impl MeetingComponents {
     }
 }
 
-/// Octets spell at most one event with its instances, and none where they have a fault.
+/// Octets spell at most one event with its instances in a room of a zone that words mean, and none where they have a fault.
 pub fn one_meeting()
-    ensures one { (octets : List ℕ) (a b : SaidEvent) → SpellsEvent octets a → SpellsEvent octets b → a ≡ b }
-    ensures or_a_fault { (octets : List ℕ) (a : SaidEvent) (n : ℕ) → SpellsEvent octets a → EventTextFault octets n → ⊥ }
+    ensures one { (words : List ℕ) (room : Option zones.Zone) (octets : List ℕ) (a b : SaidEvent) → IsRoomZone words room → SpellsEvent room octets a → SpellsEvent room octets b → a ≡ b }
+    ensures or_a_fault { (words : List ℕ) (room : Option zones.Zone) (octets : List ℕ) (a : SaidEvent) (n : ℕ) → IsRoomZone words room → SpellsEvent room octets a → EventTextFault room octets n → ⊥ }
 {
     one_tree();
     one_event();
 }
 
-/// The instances of an event that octets spell differ in their places, by start and slot, which are in the dates that an event may name.
+/// The instances of an event that octets spell in a room of a zone that words mean differ in their places, by start and slot, which are in the dates that an event may name.
 /// None ends before it starts.
 pub fn one_instance()
-    ensures one { (octets : List ℕ) (meeting : SaidEvent) (a b : SaidInstance) → SpellsEvent octets meeting → IsInstance meeting a → IsInstance meeting b
+    ensures one { (words : List ℕ) (room : Option zones.Zone) (octets : List ℕ) (meeting : SaidEvent) (a b : SaidInstance)
+        → IsRoomZone words room → SpellsEvent room octets meeting → IsInstance meeting a → IsInstance meeting b
         → a.start ≡ b.start → a.key.slot ≡ b.key.slot → a ≡ b }
-    ensures dates { (octets : List ℕ) (meeting : SaidEvent) (a : SaidInstance) → SpellsEvent octets meeting → IsInstance meeting a
+    ensures dates { (words : List ℕ) (room : Option zones.Zone) (octets : List ℕ) (meeting : SaidEvent) (a : SaidInstance)
+        → IsRoomZone words room → SpellsEvent room octets meeting → IsInstance meeting a
         → IsInEventDates a.key.slot × IsInEventDates a.start × (a.start ≤ℤ a.end) }
 {}
 

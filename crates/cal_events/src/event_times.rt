@@ -7,14 +7,13 @@ ghost use Rattle.profile.specs.text.Trees.{Tree};
 ghost use Rattle.profile.specs.series.Zones.{IsNearEpoch, Means};
 ghost use Rattle.profile.specs.events.Starts.{IsDaysLater, EndsAt, IsWidth};
 ghost use Rattle.cal_zones.specs.Kinds.{zone_of};
-ghost use Rattle.profile.specs.faults.Faults.{is_event_fault};
-ghost use Rattle.profile.specs.events.Properties.{length_seconds, OccursAtMostOnce, IsMissing};
+ghost use Rattle.profile.specs.events.Properties.{length_seconds, OccursAtMostOnce};
 ghost use Rattle.profile.specs.events.ZonedTimes.{is_in_zone, past_locals, IsInDates, SuitsForm, length_alone, ZonedTimeFault, SaysEventTimes, SaysNoStart, SaysTimes, EventTimesFault};
-ghost use Rattle.cal_events.specs.Component.{times_of, length_of, form_of, form_said, local_said, IsLengthTo, GivesLength, ExtentFault};
-ghost use Rattle.cal_events.specs.declared.event_times.Extent.TheVariants.{For};
+ghost use Rattle.cal_events.specs.Component.{times_of, length_of, form_of, form_said, local_said, IsLengthTo, GivesLength, GivesAlone, ExtentFault, AloneFault};
+ghost use Rattle.cal_events.specs.declared.event_times.Extent.TheVariants.{To, For};
 ghost use Rattle.cal_events.specs.Zones.{object_of, AreRead};
 ghost use Rattle.cal_events.specs.Overlapping.{LastAtMost};
-ghost use Rattle.cal_events.specs.Zoned.{ends_in, EndsSo, IsStartSaid, IsExtentIn, AreSaid, AreSaidAlone, AreSaidBy, IsInYears};
+ghost use Rattle.cal_events.specs.Zoned.{ends_in, EndsSo, IsExtentIn, AreSaid, AreSaidAlone, AreSaidBy, IsInYears};
 
 use crate::instance::HORIZON;
 use crate::properties::optional;
@@ -139,19 +138,17 @@ impl Extent {
     }
 }
 
-/// DTSTART as it is said.
-#[derive(Clone, Copy)]
-pub(crate) struct SaidStart {
-    when: When,
-    instant: i64,
-    /// Whether it is in the dates that an event may name.
-    in_dates: bool,
-}
-
 /// What DTSTART, DTEND and DURATION say, each judged alone.
 #[derive(Clone, Copy)]
 pub(crate) enum SaidTimes {
-    From(SaidStart, Extent),
+    From {
+        start: When,
+        /// The instant that it means.
+        instant: i64,
+        /// Whether it is in the dates that an event may name.
+        in_dates: bool,
+        extent: Extent,
+    },
     /// Without DTSTART: an end gives no length.
     Alone(Extent),
 }
@@ -188,9 +185,16 @@ impl SaidTimes {
         ensures said { (may_lack : Bool) → IfOk result (AreSaidBy may_lack (object_of zones.now) properties.now) }
         ensures fault { (may_lack : Bool) → IfErr result (λ e. EventTimesFault may_lack (object_of zones.now) properties.now e.number) }
     {
-        let start = read_start(line, zones)?;
-        let extent = read_extent(zones, properties, start.instant)?;
-        Ok(SaidTimes::From(start, extent))
+        let start = When::read(line, zones)?;
+        let instant = start.instant();
+        let in_dates = is_in_dates(&start, false, is_in_zone(line), instant);
+        let extent = read_extent(zones, properties, instant)?;
+        Ok(SaidTimes::From {
+            start,
+            instant,
+            in_dates,
+            extent,
+        })
     }
 
     /// Judges the times together.
@@ -204,26 +208,15 @@ impl SaidTimes {
             → IfErr result (λ e. EventTimesFault may_lack object lines e.number) }
     {
         match self {
-            SaidTimes::From(start, extent) => judge_from(start, extent),
+            SaidTimes::From {
+                start,
+                instant,
+                in_dates,
+                extent,
+            } => judge_from(start, instant, in_dates, extent),
             SaidTimes::Alone(extent) => judge_alone(extent),
         }
     }
-}
-
-/// DTSTART as a line says it.
-fn read_start(line: Line<'_>, zones: &ZonesOfObject<'_, '_>) -> Result<SaidStart, Refusal>
-    requires zones { AreRead zones.now }
-    ensures says { IfOk result (IsStartSaid (object_of zones.now) (line_text line.entry)) }
-    ensures near { IfOk result (λ start. IsNearEpoch start.instant) }
-    ensures fault { IfErr result (λ e. ZonedTimeFault (object_of zones.now) (line_text line.entry) e.number) }
-{
-    let when = When::read(line, zones)?;
-    let instant = when.instant();
-    Ok(SaidStart {
-        when,
-        instant,
-        in_dates: is_in_dates(&when, false, is_in_zone(line), instant),
-    })
 }
 
 /// Whether an event may name a time, as an end or not, of a line with TZID or without, which means this instant.
@@ -244,7 +237,11 @@ pub(crate) fn is_in_dates(when: &When, is_end: bool, in_zone: bool, instant: i64
 fn past_locals(is_end: bool) -> i64
     ensures { result ≡ past_locals is_end }
 {
-    if is_end { HORIZON } else { HORIZON - DAY_SECONDS }
+    if is_end {
+        HORIZON
+    } else {
+        HORIZON - DAY_SECONDS
+    }
 }
 
 /// What DTEND or DURATION say of an event that starts at an instant.
@@ -269,11 +266,7 @@ fn read_extent(
 }
 
 /// The end that a line says, of an event that starts at an instant.
-fn read_end(
-    line: Line<'_>,
-    zones: &ZonesOfObject<'_, '_>,
-    start: i64,
-) -> Result<SaidEnd, Refusal>
+fn read_end(line: Line<'_>, zones: &ZonesOfObject<'_, '_>, start: i64) -> Result<SaidEnd, Refusal>
     requires zones { AreRead zones.now }
     requires start { IsNearEpoch start }
     ensures says { IfOk result (EndsSo (object_of zones.now) (line_text line.entry) start) }
@@ -290,21 +283,26 @@ fn read_end(
 
 /// The times of an event with DTSTART.
 /// Refused: as by `SaidTimes::judge`.
-fn judge_from(start: SaidStart, extent: Extent) -> Result<EventTimes, Refusal>
-    ensures says { (object : Tree) (lines : List (List ℕ)) → AreSaid object lines start extent
+fn judge_from(
+    start: When,
+    instant: i64,
+    in_dates: bool,
+    extent: Extent,
+) -> Result<EventTimes, Refusal>
+    ensures says { (object : Tree) (lines : List (List ℕ)) → AreSaid object lines start instant in_dates extent
         → IfOk result (λ times. SaysEventTimes object lines (times_of times)) }
-    ensures fault { (may_lack : Bool) (object : Tree) (lines : List (List ℕ)) → AreSaid object lines start extent
+    ensures fault { (may_lack : Bool) (object : Tree) (lines : List (List ℕ)) → AreSaid object lines start instant in_dates extent
         → IfErr result (λ e. EventTimesFault may_lack object lines e.number) }
 {
-    let length = length_from(start.when.form(), extent)?;
-    if !start.in_dates || !extent.ends_in() {
+    let length = length_from(start.form(), extent)?;
+    if !in_dates || !extent.ends_in() {
         return Err(Refusal::OUT_OF_DATES);
     }
-    let Some(instant) = Stamp::of_instant(start.instant) else {
+    let Some(instant) = Stamp::of_instant(instant) else {
         return Err(Refusal::OUT_OF_DATES);
     };
     Ok(EventTimes {
-        start: start.when,
+        start,
         instant,
         length,
     })
@@ -318,10 +316,7 @@ fn judge_alone(extent: Extent) -> Result<EventTimes, Refusal>
     ensures fault { (may_lack : Bool) (object : Tree) (lines : List (List ℕ)) → AreSaidAlone object lines extent
         → IfErr result (λ e. EventTimesFault may_lack object lines e.number) }
 {
-    let length = match extent {
-        Extent::For(duration) => judge_duration(duration, Form::Fixed)?,
-        Extent::To(_) | Extent::Open => length_alone(Form::Fixed),
-    };
+    let length = length_without_start(extent)?;
     if !extent.ends_in() {
         return Err(Refusal::OUT_OF_DATES);
     }
@@ -330,6 +325,20 @@ fn judge_alone(extent: Extent) -> Result<EventTimes, Refusal>
         instant: Stamp::of_instant(0).unwrap(),
         length,
     })
+}
+
+/// How long an event lasts without DTSTART: an end gives no length.
+/// Refused: 51 for a DURATION past 366 days.
+fn length_without_start(extent: Extent) -> Result<Duration, Refusal>
+    ensures length { IfOk result (λ length. GivesAlone extent (length_of length)) }
+    ensures most { IfOk result (λ length. length_seconds (length_of length) ≤ 31_622_400) }
+    ensures fault { IfErr result (λ e. AloneFault extent e.number) }
+{
+    match extent {
+        Extent::For(duration) => judge_duration(duration, Form::Fixed),
+        Extent::To(_) => Ok(length_alone(Form::Fixed)),
+        Extent::Open => Ok(length_alone(Form::Fixed)),
+    }
 }
 
 /// How long an event lasts whose DTSTART has this form.
@@ -341,11 +350,23 @@ fn length_from(form: Form, extent: Extent) -> Result<Duration, Refusal>
     ensures fault { IfErr result (λ e. ExtentFault (form_of form) extent e.number) }
 {
     match extent {
-        Extent::To(end) if end.form != form => Err(Refusal::OTHER_FORM),
-        Extent::To(end) => length_to(form, end.seconds),
+        Extent::To(end) => judge_end(end, form),
         Extent::For(duration) => judge_duration(duration, form),
         Extent::Open => Ok(length_alone(form)),
     }
+}
+
+/// The length up to a DTEND beside a DTSTART of this form.
+/// Refused: 57 where it has another form, 50 where the event ends before it starts, 51 past 366 days.
+fn judge_end(end: SaidEnd, form: Form) -> Result<Duration, Refusal>
+    ensures length { IfOk result (λ length. GivesLength (form_of form) (To end) (length_of length)) }
+    ensures most { IfOk result (λ length. length_seconds (length_of length) ≤ 31_622_400) }
+    ensures fault { IfErr result (λ e. ExtentFault (form_of form) (To end) e.number) }
+{
+    if end.form != form {
+        return Err(Refusal::OTHER_FORM);
+    }
+    length_to(form, end.seconds)
 }
 
 /// The length up to a DTEND of this form, so many seconds after DTSTART: whole days up to a date, which are 86,400 seconds each.

@@ -17,6 +17,7 @@ mod method;
 mod occurrences;
 mod overlapping;
 mod own_instances;
+mod place;
 mod places;
 mod properties;
 mod reading;
@@ -26,6 +27,7 @@ mod series;
 mod single_starts;
 pub mod sweep;
 mod texts;
+mod time;
 mod when;
 mod whole;
 mod with_zone;
@@ -46,7 +48,8 @@ pub use reading::{
 };
 pub use series::Series;
 pub use sweep::{Overlap, Span, first_overlap};
-pub use occurrences::{Time, WrittenTimes};
+pub use time::Time;
+pub use occurrences::WrittenTimes;
 pub use when::{Form, When, judge_time, one_zoned_time};
 pub use whole::{
     all_instances, all_starts, instances_last, known_by_start, listed_series, series_are_said,

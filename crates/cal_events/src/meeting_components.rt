@@ -1,6 +1,6 @@
 //! The VEVENTs of one meeting (RFC 5545 3.8.4.4, RFC 5546 3.2): of one UID and one ORGANIZER, and each of another slot of it.
 
-ghost use Rattle.std.specs.Prelude.{◌≡◌, ◌<◌, ◌≤◌, Some, length, map, filter, option_map, IfOk, IfErr, OnOk};
+ghost use Rattle.std.specs.Prelude.{◌≡◌, ◌<◌, ◌≤◌, None, Some, length, map, filter, option_map, IfOk, IfErr, OnOk};
 ghost use Rattle.std.specs.Option.{option_to_list};
 ghost use Rattle.std.specs.List.{list_all};
 ghost use Rattle.ical_lines.specs.Fault.{RefusesOnly, RefusesBy};
@@ -8,13 +8,15 @@ ghost use Rattle.ical_tree.specs.Tree.{tree_of};
 ghost use Rattle.profile.specs.events.Events.{as_added, is_same_meeting, is_master, is_override, taken_by, AreOfOne, InstancesDiffer, SaysEvent, EventFault};
 ghost use Rattle.cal_events.specs.Component.{component_of, method_read, vevents_of};
 ghost use Rattle.cal_events.specs.OneMeeting.{is_components_fault};
-ghost use Rattle.cal_events.specs.MeetingComponents.{instants_said, AreOfObject, IsNotOne, SharesSlot};
+ghost use Rattle.cal_zones.specs.RoomZones.{room_of};
+ghost use Rattle.cal_events.specs.MeetingComponents.{instants_said, AreOfObject, AreOfObjectIn, IsNotOne, SharesSlot};
 
 use crate::component::EventComponent;
 use crate::instants::Instants;
 use crate::method::{Method, adds_instances};
-use crate::occurrences::Time;
 use crate::reading::read_events;
+use cal_zones::RoomZone;
+use crate::time::Time;
 use ical_lines::{Fault, Refusal};
 use ical_tree::Component;
 use std::alloc::{AllocError, Global};
@@ -33,15 +35,19 @@ pub(crate) struct MeetingComponents {
 impl MeetingComponents {
     ghost use Rattle.cal_events.specs.OneMeeting.{meeting_of, is_components_fault};
 
-    /// The VEVENTs of an object whose METHOD is ignored.
+    /// The VEVENTs of an object whose METHOD is ignored, in a room of this zone.
     /// Refused: as by `read_meeting`.
-    pub(crate) fn read(alloc: Global, object: &Component) -> Result<MeetingComponents, Fault>
-        ensures says { IfOk result (λ meeting. SaysEvent (tree_of object.now) None (meeting_of meeting)) }
+    pub(crate) fn read(
+        alloc: Global,
+        object: &Component,
+        room: &RoomZone,
+    ) -> Result<MeetingComponents, Fault>
+        ensures says { IfOk result (λ meeting. SaysEvent (room_of room.now) (tree_of object.now) None (meeting_of meeting)) }
         ensures instants { IfOk result (λ meeting. map Some meeting.instants.items ≡ instants_said (map component_of meeting.overrides.items)) }
         ensures refuses { IfErr result (RefusesOnly is_components_fault) }
-        ensures fault { IfErr result (RefusesBy (EventFault (tree_of object.now) None)) }
+        ensures fault { IfErr result (RefusesBy (EventFault (room_of room.now) (tree_of object.now) None)) }
     {
-        let components = read_meeting(alloc, object, None)?;
+        let components = read_meeting_in(alloc, object, None, room)?;
         let divided = MeetingComponents::of(alloc, components)?;
         Ok(divided)
     }
@@ -84,9 +90,24 @@ pub fn read_meeting(
 ) -> Result<Vec<EventComponent>, Fault>
     ensures says { IfOk result (λ events. AreOfObject (tree_of object.now) (method_read method) (vevents_of object.now) (map component_of events.items)) }
     ensures refuses { IfErr result (RefusesOnly is_components_fault) }
-    ensures fault { IfErr result (RefusesBy (EventFault (tree_of object.now) (method_read method))) }
+    ensures fault { IfErr result (RefusesBy (EventFault None (tree_of object.now) (method_read method))) }
 {
-    let components = read_events(alloc, object, method)?;
+    let utc = RoomZone::utc();
+    read_meeting_in(alloc, object, method, &utc)
+}
+
+/// The same in a room of this zone.
+fn read_meeting_in(
+    alloc: Global,
+    object: &Component,
+    method: Option<Method>,
+    room: &RoomZone,
+) -> Result<Vec<EventComponent>, Fault>
+    ensures says { IfOk result (λ events. AreOfObjectIn (room_of room.now) (tree_of object.now) (method_read method) (vevents_of object.now) (map component_of events.items)) }
+    ensures refuses { IfErr result (RefusesOnly is_components_fault) }
+    ensures fault { IfErr result (RefusesBy (EventFault (room_of room.now) (tree_of object.now) (method_read method))) }
+{
+    let components = read_events(alloc, object, method, room)?;
     judge_meeting(&components)?;
     let taken = taken_for(alloc, method, components)?;
     judge_slots(alloc, &taken)?;

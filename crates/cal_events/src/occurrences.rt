@@ -6,16 +6,17 @@ ghost use Rattle.std.specs.List.{AllZip, list_any};
 ghost use Rattle.ical_lines.specs.Fault.{RefusesBy};
 ghost use Rattle.ical_lines.specs.Text.{line_text};
 ghost use Rattle.profile.specs.text.Trees.{Tree};
-ghost use Rattle.profile.specs.events.Properties.{is_of, Says};
+ghost use Rattle.profile.specs.events.Properties.{is_fixed, is_of, Says};
 ghost use Rattle.profile.specs.events.ZonedTimes.{ZonedTextFault};
 ghost use Rattle.profile.specs.events.Occurrences.{ListedTime, IsRecurrenceLine, is_period, entries_of, entries_named, Lists, IsInside, EntriesFault, OccurrenceFault, IsFixedWhere, recurs_as_instance};
 ghost use Rattle.profile.specs.events.EventComponents.{instants_of};
-ghost use Rattle.cal_events.specs.Times.{none_written, time_of, written_of};
+ghost use Rattle.cal_events.specs.Times.{form_of, none_written, time_of, written_of};
 ghost use Rattle.cal_events.specs.Zones.{object_of, AreRead};
 ghost use Rattle.cal_events.specs.Occurrences.{name_of, time_said, SaysSo, IsRecurrenceSaid, AreListed};
 
 use crate::event_times::is_in_dates;
 use crate::properties::optional;
+use crate::time::Time;
 use crate::when::{Form, When, is_in_zone};
 use crate::zones::ZonesOfObject;
 use ical_lines::{Fault, Line, Refusal};
@@ -61,14 +62,6 @@ fn has_slash(text: &str) -> bool
     text.bytes().any(|octet| octet == b'/')
 }
 
-/// A time as it is written.
-#[derive(Clone, Copy)]
-pub struct Time {
-    pub form: Form,
-    /// In seconds from 1970-01-01T00:00:00Z; of a time that isn't fixed what it is in UTC.
-    pub instant: i64,
-}
-
 /// Which instance a VEVENT is for, and what it adds and takes away, as they are written.
 #[derive(Drop)]
 pub struct WrittenTimes {
@@ -94,7 +87,7 @@ impl WrittenTimes {
 
     /// The instant of RECURRENCE-ID.
     pub(crate) fn instant(&self) -> Option<i64>
-        ensures { result ≡ option_map (λ time. time.instant) self.now.recurrence }
+        ensures { result ≡ option_map (λ time. time.instant) (written_of self.now).recurrence }
     {
         match self.recurrence {
             Some(time) => Some(time.instant),
@@ -152,6 +145,12 @@ impl SaidInstant {
         }
         Ok(Some(SaidInstant::read(line, line.value(), zones)?))
     }
+
+    fn is_fixed(self) -> bool
+        ensures { result ≡ is_fixed (form_of self.time.form) }
+    {
+        matches!(self.time.form, Form::Fixed)
+    }
 }
 
 /// Refuses a RECURRENCE-ID that isn't fixed where only a fixed time can name an instance.
@@ -162,7 +161,7 @@ pub(crate) fn refuse_unfixed(said: Option<SaidInstant>, fixed: bool) -> Result<(
         → (added : Bool) → IfErr result (λ e. OccurrenceFault added fixed object lines e.number) }
 {
     match said {
-        Some(said) if fixed && said.time.form != Form::Fixed => Err(Refusal::OTHER_FORM),
+        Some(said) if fixed && !said.is_fixed() => Err(Refusal::OTHER_FORM),
         _ => Ok(()),
     }
 }

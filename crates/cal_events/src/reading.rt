@@ -6,11 +6,14 @@ ghost use Rattle.ical_values.specs.Octets.{address_octets};
 ghost use Rattle.profile.specs.faults.Faults.{is_calendar_fault, is_meeting_event_fault};
 ghost use Rattle.profile.specs.checker.Instances.{Instance};
 ghost use Rattle.profile.specs.checker.Calendars.{SaysCalendar, SpellsCalendar, IsConfirmedIn, CalendarFault, CalendarTextFault};
-ghost use Rattle.profile.specs.events.EventComponents.{EventComponent as SaidComponent, EventComponentFault, SaysEventComponent};
+ghost use Rattle.profile.specs.events.EventComponents.{EventComponentFault, SaysEventComponent};
+ghost use Rattle.profile.specs.events.Placed.{SaysPlaced};
+ghost use Rattle.profile.specs.series.RoomZones.{NamesRoomZone, RoomZoneFault};
 ghost use Rattle.profile.specs.events.Spans.{AreSaidSeries};
 ghost use Rattle.profile.specs.events.Confirmed.{Confirmed, IsConfirmed, IsInSeries, AreConfirmed};
 ghost use Rattle.profile.specs.text.Trees.{Tree};
 ghost use Rattle.ical_tree.specs.Tree.{component_lines, tree_of};
+ghost use Rattle.cal_zones.specs.RoomZones.{room_of};
 ghost use Rattle.cal_events.specs.Zones.{object_of, AreRead};
 ghost use Rattle.cal_events.specs.Component.{IsFaultAmong, method_read, component_of, vevents_of};
 
@@ -18,8 +21,9 @@ use crate::calendar::Calendar;
 use crate::component::{EventComponent, one_event};
 use crate::draft::Draft;
 use crate::method::Method;
+use cal_zones::RoomZone;
 use crate::zones::ZonesOfObject;
-use ical_lines::Fault;
+use ical_lines::{Fault, Refusal};
 use ical_tree::{Component, Properties, one_tree};
 use ical_values::Address;
 use std::alloc::Global;
@@ -38,8 +42,8 @@ impl Calendar {
     }
 
     /// The calendar of an object that was read. In time n log n.
-    /// Refused: as by `EventComponent::read` for a VEVENT; 53 for two VEVENTs of one meeting without RECURRENCE-ID; 54 for two of one meeting
-    /// for the same instance.
+    /// Refused: 44 for the zone of the room that X-ROOM-ZONE names; as by `EventComponent::read` for a VEVENT; 53 for two VEVENTs of one meeting
+    /// without RECURRENCE-ID; 54 for two of one meeting for the same instance.
     pub fn of_object(alloc: Global, object: &Component, room: &Address) -> Result<Calendar, Fault>
         ensures says { IfOk result (SaysCalendar (address_octets room.now) (tree_of object.now)) }
         ensures refuses { IfErr result (RefusesOnly is_calendar_fault) }
@@ -125,14 +129,32 @@ pub(crate) fn read_event(
     EventComponent::read(alloc, zones, &properties, method)
 }
 
-/// What the VEVENTs of an object of this METHOD say, or of one whose METHOD is ignored, in the order of the text.
+/// The same in a room of this zone.
+pub(crate) fn read_placed(
+    alloc: Global,
+    zones: &ZonesOfObject<'_, '_>,
+    component: &Component,
+    method: Option<Method>,
+    room: &RoomZone,
+) -> Result<EventComponent, Fault>
+    requires zones { AreRead zones.now }
+    ensures says { IfOk result (λ event. SaysPlaced (room_of room.now) (object_of zones.now) (method_read method) (component_lines component.now) (component_of event)) }
+    ensures refuses { IfErr result (RefusesOnly is_meeting_event_fault) }
+    ensures fault { IfErr result (RefusesBy (EventComponentFault (object_of zones.now) (method_read method) (component_lines component.now))) }
+{
+    let event = read_event(alloc, zones, component, method)?;
+    Ok(event.placed(alloc, room)?)
+}
+
+/// What the VEVENTs of an object of this METHOD say in a room of this zone, or of one whose METHOD is ignored, in the order of the text.
 /// Refused: as by `EventComponent::read`.
-pub fn read_events(
+pub(crate) fn read_events(
     alloc: Global,
     object: &Component,
     method: Option<Method>,
+    room: &RoomZone,
 ) -> Result<Vec<EventComponent>, Fault>
-    ensures says { IfOk result (λ events. AllZip (SaysEventComponent (tree_of object.now) (method_read method)) (vevents_of object.now) (map component_of events.items)) }
+    ensures says { IfOk result (λ events. AllZip (SaysPlaced (room_of room.now) (tree_of object.now) (method_read method)) (vevents_of object.now) (map component_of events.items)) }
     ensures refuses { IfErr result (RefusesOnly is_meeting_event_fault) }
     ensures fault { IfErr result (RefusesBy (IsFaultAmong (tree_of object.now) (method_read method) (vevents_of object.now))) }
 {
@@ -140,8 +162,21 @@ pub fn read_events(
     let mut events = Vec::new(alloc);
     for component in object.children() {
         if component.is_named("VEVENT") {
-            events.push(read_event(alloc, &zones, component, method)?)?;
+            events.push(read_placed(alloc, &zones, component, method, room)?)?;
         }
     }
     Ok(events)
+}
+
+/// The zone of the room of a calendar, which its own lines name by X-ROOM-ZONE; UTC where that is missing.
+/// Refused: 44 where it occurs twice, or its words mean no zone.
+pub(crate) fn read_room_zone(alloc: Global, object: &Component) -> Result<RoomZone, Fault>
+    ensures names { IfOk result (λ room. NamesRoomZone (component_lines object.now) (room_of room)) }
+    ensures fault { IfErr result (RefusesBy (λ n. (n ≡ 44) × RoomZoneFault (component_lines object.now))) }
+{
+    let properties = Properties::of(alloc, object)?;
+    match properties.optional("X-ROOM-ZONE", Refusal::ROOM_ZONE)? {
+        Some(line) => RoomZone::read(alloc, line.value()),
+        None => Ok(RoomZone::utc()),
+    }
 }

@@ -166,7 +166,6 @@ pub fn one_zoned_time()
     one_stamp();
     one_local_time();
     one_zone();
-    cal_days::one_date();
 }
 
 /// Judges a text of a time of a line by itself: except for the VTIMEZONE that TZID names, which only its object has.

@@ -1,7 +1,9 @@
 //! What the instances of an event are when they are taken to their end.
 
-ghost use Rattle.std.specs.Prelude.{ℕ, List, Contains, ℤ, ◌≡◌, ◌↔◌, ◌+ℤ◌, ◌-ℤ◌, ◌≤ℤ◌};
+ghost use Rattle.std.specs.Prelude.{ℕ, List, Option, Contains, ℤ, ◌≡◌, ◌↔◌, ◌+ℤ◌, ◌-ℤ◌, ◌≤ℤ◌};
 ghost use Rattle.profile.specs.checker.Instances.{Instance};
+ghost use Rattle.profile.specs.series.Zones as zones;
+ghost use Rattle.profile.specs.series.RoomZones.{IsRoomZone};
 ghost use Rattle.profile.specs.events.Events.{Event as SaidEvent, SpellsEvent};
 ghost use Rattle.profile.specs.events.Spans.{IsSaidSeries, IsWidthOf};
 ghost use Rattle.profile.specs.events.Starts.{IsInstance, AreInstancesFrom};
@@ -52,10 +54,11 @@ pub fn listed_series()
     ensures { (series : Series) → (all : List Instance) × ((b : Instance) → Contains all b ↔ IsInstance (series_said series) b) }
 {}
 
-/// Of an event that octets spell, `Event::instances` gives all instances that start at an instant or later, by start and then by slot, each
+/// Of an event that octets spell in a room of a zone that words mean, `Event::instances` gives all instances that start at an instant or later, by start and then by slot, each
 /// once, if it is taken to its end.
 pub fn all_instances()
-    ensures { (octets : List ℕ) (from : ℤ) (instances : Instances) (all : List Instance) → SpellsEvent octets (said_meeting instances.event.now)
+    ensures { (words : List ℕ) (room : Option zones.Zone) (octets : List ℕ) (from : ℤ) (instances : Instances) (all : List Instance)
+        → IsRoomZone words room → SpellsEvent room octets (said_meeting instances.event.now)
         → ((b : Instance) → IsLeft instances b ↔ (IsInstance (said_meeting instances.event.now) b × (from ≤ℤ b.start)))
         → GivesAll instances all → AreInstancesFrom (said_meeting instances.event.now) from all }
 {

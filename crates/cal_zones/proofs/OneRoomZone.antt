@@ -1,15 +1,14 @@
 -- The words of a room mean at most one zone.
-use Rattle.std.proofs.Common.{◌≡◌, ◌∙◌, ap, sym, subst, refl, arith, inl, inr, ◌⊎◌, ℕ, ◌+◌, ◌<◌, ◌≤◌, List, [], ◌∷◌, ◌++◌, length, codes, Option, Some, None, ℤ, pos}
+use Rattle.std.proofs.Common.{◌≡◌, ◌∙◌, ap, sym, subst, refl, arith, inl, inr, ℕ, List, [], ◌++◌, length, codes, Option, Some, None, ℤ, pos}
 use Rattle.std.specs.Prelude.{get_or}
-use Rattle.std.specs.List.{slice_split}
 use Rattle.profile.specs.text.Values.{WritesOffset}
 use Rattle.profile.specs.series.Zones.{Observance, Zone, Constant, Pair, local_time}
 use Rattle.profile.specs.series.ZoneTexts.{YearRule, year_pattern}
-use Rattle.profile.specs.series.RoomZones.{IsRoomZone, IsTwoOffsets, WritesHourMinute}
+use Rattle.profile.specs.series.RoomZones.{IsRoomZone, WritesHourMinute}
 use Rattle.ical_values.proofs.Readings.{clock_same, offset_same, offset_written}
-use Rattle.cal_zones.specs.RoomWords.{offset_octets, WritesYear, BeginsBy, AreWords}
+use Rattle.cal_zones.specs.RoomWords.{WritesYear, BeginsBy, AreWords}
 use Rattle.cal_zones.proofs.RoomZoneLemmas.{offset_said}
-use Rattle.cal_zones.proofs.RoomReads.{is_gap, one_word, cut, Cut, year_spelled, year_same, start_spelled, same_second, second_small}
+use Rattle.cal_zones.proofs.RoomReads.{one_word, cut, Cut, year_spelled, year_same, start_spelled, same_second, second_small}
 
 one_offset : (text : List ℕ) (a b : ℤ) → WritesOffset text a → WritesOffset text b → a ≡ b
 one_offset text a b w v = offset_same text a b (offset_written text a w) (offset_written text b v)

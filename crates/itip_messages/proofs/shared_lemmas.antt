@@ -21,3 +21,4 @@ pub mod ZonesOnce
 pub mod BodyContents
 pub mod MeetingLines
 pub mod MessageLemmas
+pub mod PlacedUtc

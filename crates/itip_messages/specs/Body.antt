@@ -1,14 +1,14 @@
 -- What the octets of a body are.
-use Rattle.std.specs.Prelude.{◌≡◌, ℕ, ◌≤◌, ◌-◌, Bool, ◌&&◌, ◌==◌, nat_lt, get_or, if◌then◌else◌, Contains, List, [], ◌∷◌, ◌++◌, codes, take, drop, length, option_map, unwrap_or, Option, Some, ℤ, pos, ◌≤ℤ◌}
+use Rattle.std.specs.Prelude.{◌≡◌, ℕ, ◌≤◌, ◌-◌, Bool, ◌&&◌, ◌==◌, nat_lt, get_or, if◌then◌else◌, Contains, List, [], ◌∷◌, ◌++◌, codes, take, drop, length, option_map, unwrap_or, filter, Option, Some, None, ℤ, pos, ◌*ℤ◌, ◌≤ℤ◌}
 use Rattle.std.specs.List.{flat_map, AllZip, position_or_len}
-use Rattle.profile.specs.text.Values.{WritesStamp}
-use Rattle.profile.specs.events.Properties.{BothOrNeither}
-use Rattle.profile.specs.events.ZonedTimes.{EventTimes}
-use Rattle.profile.specs.series.Rules.{Rule, Until, UntilDay, UntilLocal, UntilInstant}
+use Rattle.profile.specs.text.Values.{IsClockSeconds, WritesLocal, WritesStamp}
+use Rattle.profile.specs.events.Properties.{BothOrNeither, Form, Fixed, Floating, WholeDay}
+use Rattle.profile.specs.events.ZonedTimes.{EventTimes, SpellsMidnight}
+use Rattle.profile.specs.events.Occurrences.{Time}
+use Rattle.profile.specs.series.Rules.{Rule, Until, UntilDay, UntilLocal, UntilInstant, last_rule_day}
 use Rattle.profile.specs.series.Zones.{Zone}
 use Rattle.profile.specs.events.EventComponents.{EventComponent}
-use Rattle.profile.specs.rooms.Messages.{Content, IsContent, IsZoneRest, StartsIn, WritesRule, WritesTimes, canonical, zone_text}
-use Rattle.cal_events.specs.MeetingComponents.{IsInEventDates}
+use Rattle.profile.specs.rooms.Messages.{Content, IsContent, IsZoneRest, StartsIn, WritesListed, WritesRule, WritesTimes, canonical, may_take, zone_text}
 use Rattle.cal_events.specs.OwnInstances.{IsTimely}
 
 -- these lines, unfolded and each ended by CRLF
@@ -31,21 +31,39 @@ pub record IsCanonical (octets : List ℕ) (event : EventComponent) : Type 0 whe
   pub when : IsContent content event
   pub is : octets ≡ canonical content
 
--- new is old and a property that lists these instants after it
-abbrev pub AppendsTimes : List ℕ → List ℤ → List ℕ → List ℕ → Type 0
-AppendsTimes name instants old new = (lines : List (List ℕ)) × WritesTimes name instants lines × (new ≡ old ++ crlf_lines lines)
+-- how a time of this form is written, by its instant in UTC
+abbrev pub writes_as : Form → List ℕ → ℤ → Type 0
+writes_as Fixed = WritesStamp
+writes_as Floating = WritesLocal
+writes_as WholeDay = SpellsMidnight
 
--- new is old and these instants after it, each after a comma
-abbrev pub AppendsOthers : List ℤ → List ℕ → List ℕ → Type 0
-AppendsOthers instants old new = (texts : List (List ℕ)) × AllZip WritesStamp texts instants × (new ≡ old ++ flat_map (λ other. codes "," ++ other) texts)
+-- a property's name, with VALUE where it lists dates
+abbrev pub name_as : Form → List ℕ → List ℕ
+name_as Fixed name = name
+name_as Floating name = name
+name_as WholeDay name = name ++ codes ";VALUE=DATE"
+
+-- new is old and a property that lists these instants after it, as times of this form
+abbrev pub AppendsTimes : Form → List ℕ → List ℤ → List ℕ → List ℕ → Type 0
+AppendsTimes form name instants old new =
+    (lines : List (List ℕ)) × WritesTimes (writes_as form) (name_as form name) instants lines × (new ≡ old ++ crlf_lines lines)
+
+-- new is old and a property that lists these times after it
+abbrev pub AppendsListed : List ℕ → List Time → List ℕ → List ℕ → Type 0
+AppendsListed name times old new = (lines : List (List ℕ)) × WritesListed name times lines × (new ≡ old ++ crlf_lines lines)
+
+-- new is old and these instants after it, as times of this form, each after a comma
+abbrev pub AppendsOthers : Form → List ℤ → List ℕ → List ℕ → Type 0
+AppendsOthers form instants old new =
+    (texts : List (List ℕ)) × AllZip (writes_as form) texts instants × (new ≡ old ++ flat_map (λ other. codes "," ++ other) texts)
 
 -- new is old and DTSTART after it
 abbrev pub AppendsStart : EventTimes → List ℕ → List ℕ → Type 0
-AppendsStart times old new = (line : List ℕ) × StartsIn times.zone times line × (new ≡ old ++ crlf_lines (line ∷ []))
+AppendsStart times old new = (line : List ℕ) × StartsIn times.form times.zone times line × (new ≡ old ++ crlf_lines (line ∷ []))
 
 -- new is old and RRULE after it, where there is a rule
-abbrev pub AppendsRule : Zone → Option Rule → List ℕ → List ℕ → Type 0
-AppendsRule clock rule old new = (lines : List (List ℕ)) × WritesRule clock rule lines × (new ≡ old ++ crlf_lines lines)
+abbrev pub AppendsRule : Form → Zone → Option Rule → List ℕ → List ℕ → Type 0
+AppendsRule form clock rule old new = (lines : List (List ℕ)) × WritesRule form clock rule lines × (new ≡ old ++ crlf_lines lines)
 
 -- new is old and the VTIMEZONE after it, where there is a zone
 abbrev pub AppendsZone : EventTimes → List ℕ → List ℕ → Type 0
@@ -64,18 +82,47 @@ abbrev pub zone_place : List ℕ → ℕ
 zone_place octets = if begins_zone octets then before_g octets - 2 else length octets
 
 -- an end of a rule that can be written: a date is at most 9999-12-31
-abbrev pub IsTold : Until → Type 0
-IsTold (UntilDay number) = number ≤ℤ pos 2_932_896
-IsTold (UntilLocal local) = Unit {0}
-IsTold (UntilInstant instant) = Unit {0}
+abbrev pub IsFixedTold : Until → Type 0
+IsFixedTold (UntilDay number) = number ≤ℤ pos 2_932_896
+IsFixedTold (UntilLocal local) = Unit {0}
+IsFixedTold (UntilInstant instant) = Unit {0}
+
+-- beside a start of this form: where it isn't fixed the last day is written, which is one up to 9999-12-31
+abbrev pub IsTold : Form → ℕ → Until → Type 0
+IsTold Fixed last until = IsFixedTold until
+IsTold Floating last until = last ≤ last_rule_day
+IsTold WholeDay last until = last ≤ last_rule_day
 
 -- the end of a rule, where it has one
-abbrev pub EndIsTold : Option Rule → Type 0
-EndIsTold rule = (said : Rule) → rule ≡ Some said → (end : Until) → said.until ≡ Some end → IsTold end
+abbrev pub EndIsTold : Form → Option Rule → Type 0
+EndIsTold form rule = (said : Rule) → rule ≡ Some said → (end : Until) → said.until ≡ Some end → IsTold form said.last end
 
--- what a message's VEVENT says of when its event is: the end of its rule can be written, and its start and all that is added are in the
--- dates that an event may name
+-- a local time of the years 1 to 9999 with which a day begins
+abbrev pub IsMidnight : ℤ → Type 0
+IsMidnight local = IsClockSeconds local × ((day : ℤ) × (local ≡ day *ℤ pos 86_400))
+
+-- a time of this form that can be written, by its instant in UTC
+abbrev pub IsShowable : Form → ℤ → Type 0
+IsShowable Fixed instant = IsClockSeconds instant
+IsShowable Floating instant = IsClockSeconds instant
+IsShowable WholeDay instant = IsMidnight instant
+
+abbrev pub AreShowable : List Time → Type 0
+AreShowable times = (time : Time) → Contains times time → IsShowable time.form time.instant
+
+-- what isn't fixed is of no zone, and a whole day begins with its midnight
+abbrev pub IsWholeIn : Form → Option Zone → ℤ → Type 0
+IsWholeIn Fixed _ local = Unit {0}
+IsWholeIn Floating zone local = zone ≡ None
+IsWholeIn WholeDay zone local = (zone ≡ None) × IsMidnight local
+
+abbrev pub StartIsWhole : EventTimes → Type 0
+StartIsWhole times = IsWholeIn times.form times.zone times.local
+
+-- what a message's VEVENT says of when its event is: its start, the end of its rule, and all that is added and taken away can be written
 pub record IsReady (event : EventComponent) : Type 0 where
-  pub ends : EndIsTold event.rule
+  pub ends : EndIsTold event.times.form event.rule
   pub timely : IsTimely event
-  pub listed : (instant : ℤ) → Contains event.additions instant → IsInEventDates instant
+  pub start : StartIsWhole event.times
+  pub added : AreShowable event.written.additions
+  pub taken : AreShowable (filter may_take event.written.exceptions)

@@ -1,5 +1,5 @@
 -- What octets of a reply or a refresh read back as, and which texts can be in them.
-use Rattle.std.specs.Prelude.{◌≡◌, ℕ, ◌<◌, ◌^◌, not, ◌||◌, ◌==◌, true, false, List, [], ◌∷◌, ◌++◌, codes, Contains, Option, None, Some, ℤ, pos}
+use Rattle.std.specs.Prelude.{◌≡◌, ℕ, ◌<◌, ◌^◌, not, ◌||◌, ◌==◌, true, false, List, [], ◌∷◌, ◌++◌, codes, Contains, Option, None, Some, option_map, ℤ, pos}
 use Rattle.std.specs.List.{flat_map, list_all, AllZip}
 use Rattle.std.specs.Str.{IsUtf8}
 use Rattle.profile.specs.text.Lines.{is_control, logical_lines, reads_as_lines}
@@ -7,7 +7,8 @@ use Rattle.profile.specs.text.Objects.{IsObject}
 use Rattle.profile.specs.text.Trees.{Tree, tree_own, vevents}
 use Rattle.profile.specs.text.Values.{IsAddress, lower_case}
 use Rattle.profile.specs.events.EventComponents.{EventComponent, IsAttendee, Participation, NeedsAction, Accepted, Declined, Reply, Refresh}
-use Rattle.profile.specs.events.Properties.{Says, IsUidLine, IsAddressLine, IsSequenceLine, IsStampLine, lines_named}
+use Rattle.profile.specs.events.Occurrences.{WrittenTimes}
+use Rattle.profile.specs.events.Properties.{Fixed, Says, IsUidLine, IsAddressLine, IsSequenceLine, IsStampLine, lines_named}
 use Rattle.profile.specs.events.ZonedTimes.{EventTimes}
 use Rattle.profile.specs.events.Messages.{SpellsMessage}
 use Rattle.profile.specs.organisers.Organisers.{Heard, heard_in}
@@ -112,7 +113,11 @@ pub record SaysRefresh (room organiser uid : List ℕ) (moment : ℤ) (own : Lis
 
 -- the times of what says none
 abbrev pub no_times : EventTimes
-no_times = record { zone = None; local = pos 0; start = pos 0; length = record { days = 0; seconds = 0 } }
+no_times = record { form = Fixed; zone = None; local = pos 0; start = pos 0; length = record { days = 0; seconds = 0 } }
+
+-- nothing is written but this instant, which RECURRENCE-ID names
+abbrev pub none_written : Option ℤ → WrittenTimes
+none_written recurrence = record { recurrence = option_map (λ t. record { form = Fixed; instant = t }) recurrence; additions = []; exceptions = [] }
 
 -- the event of a REPLY: a room's answer to a part, decided at a moment
 abbrev pub answer_event : List ℕ → Part → ℤ → Outcome → EventComponent
@@ -127,6 +132,7 @@ answer_event room part moment outcome = record {
   rule = None;
   additions = [];
   exceptions = [];
+  written = none_written (instant_of_slot part.slot);
   summary = [];
   attendees = record { address = room; participation = participation_answered outcome; scheduled = true } ∷ [];
 }
@@ -154,6 +160,7 @@ refresh_event room organiser uid moment = record {
   rule = None;
   additions = [];
   exceptions = [];
+  written = none_written None;
   summary = [];
   attendees = record { address = room; participation = NeedsAction; scheduled = true } ∷ [];
 }

@@ -1,5 +1,5 @@
 -- What octets that an organiser wrote read back as: the message that they spell, and its parts.
-use Rattle.std.specs.Prelude.{◌≡◌, ◌↔◌, ◌∷◌, filter, ℕ, ◌<◌, ◌^◌, Bool, true, false, List, [], map, Option, Some, None}
+use Rattle.std.specs.Prelude.{◌≡◌, ◌↔◌, ◌∷◌, ◌++◌, filter, ℕ, ℤ, ◌<◌, ◌^◌, Bool, true, false, List, [], map, Option, Some, None}
 use Rattle.std.specs.List.{AllZip}
 use Rattle.std.specs.Str.{IsUtf8}
 use Rattle.profile.specs.checker.Calendars.{IsCalendarText, SayEvents}
@@ -7,13 +7,15 @@ use Rattle.profile.specs.series.Rules.{Rule, is_rule_day}
 use Rattle.profile.specs.text.Lines.{reads_as_lines}
 use Rattle.profile.specs.text.Trees.{Tree}
 use Rattle.profile.specs.text.Values.{IsUid}
-use Rattle.profile.specs.events.EventComponents.{Attendee, EventComponent, Participation, Request, Cancel, NeedsAction}
+use Rattle.profile.specs.events.EventComponents.{AreOfWritten, Attendee, EventComponent, Participation, Request, Cancel, NeedsAction}
+use Rattle.profile.specs.events.Occurrences.{Time}
+use Rattle.profile.specs.events.Properties.{Form, Fixed, Floating, WholeDay}
 use Rattle.profile.specs.events.Events.{Event, SpellsEvent, is_master, is_override}
 use Rattle.profile.specs.events.Messages.{counted, Message, SpellsMessage}
 use Rattle.profile.specs.organisers.Organisers.{IsSeenOf, OrganiserBook, Stored}
-use Rattle.profile.specs.rooms.Messages.{AreAscending, AreParts, Content, IsContent, is_in_dates, slot_of}
+use Rattle.profile.specs.rooms.Messages.{AreAscending, AreParts, Content, IsContent, instants_in, may_take, slot_of}
 use Rattle.profile.specs.rooms.Revisions.{Part, Slot, Whole, Cancelled, Revision}
-use Rattle.itip_messages.specs.Law.{IsReadAddress, IsTextValue, no_times}
+use Rattle.itip_messages.specs.Law.{IsReadAddress, IsTextValue, no_times, none_written}
 
 -- ---- texts
 
@@ -48,6 +50,7 @@ cancel_event organiser uid revision called_off to = record {
   rule = None;
   additions = [];
   exceptions = [];
+  written = none_written None;
   summary = [];
   attendees = map attendee_at to;
 }
@@ -70,8 +73,26 @@ IsSameRule (Some rule) (Some back) = (day : ℕ) → is_rule_day back day ≡ is
 IsSameRule None (Some back) = ⊥
 IsSameRule (Some rule) None = ⊥
 
+-- a time of this form
+abbrev pub time_as : Form → ℤ → Time
+time_as form instant = record { form = form; instant = instant }
+
+-- those of each form together
+abbrev pub times_again : (fixed floating days : List ℤ) → List Time
+times_again fixed floating days = map (time_as Fixed) fixed ++ map (time_as Floating) floating ++ map (time_as WholeDay) days
+
+-- the same times by their forms, of each form ascending and each once
+pub record AreListedAgain (times again : List Time) : Type 0 where
+  pub fixed : List ℤ
+  pub floating : List ℤ
+  pub days : List ℤ
+  pub in_utc : AreAscending (instants_in Fixed times) fixed
+  pub local : AreAscending (instants_in Floating times) floating
+  pub dates : AreAscending (instants_in WholeDay times) days
+  pub are : again ≡ times_again fixed floating days
+
 -- the event that is said of an event of a store, in this revision: what is added and taken away is ascending, and of what is taken away that
--- counts which is where a start may be; each attendee occurs once, as such a one
+-- counts which may be a start; each attendee occurs once, as such a one
 pub record IsSaidAgain (IsSuch : Slot → Attendee → Attendee → Type 0) (revision : Revision) (event said : EventComponent) : Type 0 where
   pub uid : said.uid ≡ event.uid
   pub organiser : said.organiser ≡ event.organiser
@@ -81,8 +102,10 @@ pub record IsSaidAgain (IsSuch : Slot → Attendee → Attendee → Type 0) (rev
   pub recurrence : said.recurrence ≡ event.recurrence
   pub times : said.times ≡ event.times
   pub rule : IsSameRule event.rule said.rule
-  pub additions : AreAscending event.additions said.additions
-  pub exceptions : AreAscending (filter is_in_dates event.exceptions) said.exceptions
+  pub slot : said.written.recurrence ≡ event.written.recurrence
+  pub additions : AreListedAgain event.written.additions said.written.additions
+  pub exceptions : AreListedAgain (filter may_take event.written.exceptions) said.written.exceptions
+  pub instants : AreOfWritten said.written said.recurrence said.additions said.exceptions
   pub summary : said.summary ≡ event.summary
   pub attendees : AllZip (IsSuch (slot_of event)) (counted event.attendees) said.attendees
   -- and the same lines say when both are
@@ -134,7 +157,7 @@ HasAnswered book stored slot attendee said =
 pub record SpellsShown (book : OrganiserBook) (stored : Stored) (octets : List ℕ) : Type 0 where
   pub shown : List EventComponent
   pub each : AllZip (IsSaidAgain (HasAnswered book stored) stored.revision) stored.events shown
-  pub spells : SpellsEvent octets (meeting_of shown)
+  pub spells : SpellsEvent None octets (meeting_of shown)
 
 -- the octets are a calendar whose VEVENTs are those of the store, with the answers that are seen
 pub record SpellsShownCalendar (book : OrganiserBook) (stored : Stored) (octets : List ℕ) : Type 0 where

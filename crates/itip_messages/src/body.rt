@@ -1,25 +1,27 @@
 //! The body of a VEVENT in its one form: the lines that say when it is, DTSTART, DURATION, RRULE, RDATE and EXDATE, unfolded and each ended
 //! by CRLF (RFC 5545 3.6.1), and then the VTIMEZONE that DTSTART is in, under the name `Z` (RFC 5545 3.6.5). Two bodies are the same where
 //! these octets are.
-ghost use Rattle.std.specs.Prelude.{◌≡◌, ◌≤◌, ◌≤ℤ◌, pos, ◌++◌, [], ◌∷◌, Contains, List, ℕ, ℤ, Some, option_copied, option_map, filter, codes, length, string_bytes, IfOk, OnOk};
+ghost use Rattle.std.specs.Prelude.{◌≡◌, ◌≤◌, ◌≤ℤ◌, pos, ◌++◌, [], ◌∷◌, Contains, List, ℕ, ℤ, Some, option_copied, option_map, map, filter, codes, length, string_bytes, IfOk, OnOk};
 ghost use Rattle.std.specs.List.{AllZip};
 ghost use Rattle.ical_values.specs.Written.{Appends};
 ghost use Rattle.profile.specs.text.Values.{IsClockSeconds, SpellsDate, WritesStamp, duration_text};
 ghost use Rattle.profile.specs.events.EventComponents.{EventComponent as SaidComponent};
 ghost use Rattle.profile.specs.series.Rules as rules;
 ghost use Rattle.profile.specs.events.Properties.{BothOrNeither};
-ghost use Rattle.profile.specs.rooms.Messages.{AreAscending, Content, IsContent, WritesEnd, canonical, is_in_dates, list_lines};
+ghost use Rattle.profile.specs.events.ZonedTimes.{SpellsMidnight, clock_of};
+ghost use Rattle.profile.specs.series.Days.{day_index};
+ghost use Rattle.profile.specs.rooms.Messages.{AreAscending, Content, IsContent, WritesEnd, WritesFixedEnd, canonical, instants_in, is_in_dates, list_lines, may_take};
 ghost use Rattle.cal_rules.specs.Views.{until_of};
 ghost use Rattle.cal_zones.specs.Kinds.{zone_of};
-ghost use Rattle.cal_events.specs.Component.{component_of, times_of};
-ghost use Rattle.itip_messages.specs.Body.{AppendsOthers, AppendsRule, AppendsStart, AppendsTimes, AppendsZone, EndIsTold, IsCanonical, IsCutAtZone, IsReady, IsTold, crlf_lines, zone_place};
+ghost use Rattle.cal_events.specs.Component.{component_of, form_of, form_said, time_of, times_of, zone_said};
+ghost use Rattle.itip_messages.specs.Body.{AppendsListed, AppendsOthers, AppendsRule, AppendsStart, AppendsTimes, AppendsZone, AreShowable, EndIsTold, IsCanonical, IsCutAtZone, IsFixedTold, IsMidnight, IsReady, IsShowable, IsTold, StartIsWhole, crlf_lines, name_as, writes_as, zone_place};
 
 use cal_days::Day;
-use cal_events::{EventComponent, EventTimes, FIRST_SECOND, HORIZON, When, as_end};
+use cal_events::{EventComponent, EventTimes, FIRST_SECOND, Form, HORIZON, Time, When, as_end};
 use cal_rules::{Rule, Until};
 use cal_zones::Zone;
 use ical_values::shown::{date_text, stamp_text};
-use ical_values::{Duration, Stamp};
+use ical_values::{Duration, LocalTime, Stamp};
 use memchr::memchr;
 use std::alloc::{AllocError, Global};
 
@@ -49,16 +51,17 @@ pub(crate) fn canonical_body(alloc: Global, event: &EventComponent) -> Result<Ve
     let mut body = Vec::new(alloc);
     write_start(&mut body, &event.times)?;
     write_duration(&mut body, event.times.length)?;
-    write_rule(&mut body, &event.times.start.clock(), event.rule.as_ref())?;
-    write_times(&mut body, "RDATE", &event.additions)?;
-    let exceptions = in_dates(alloc, &event.exceptions)?;
-    write_times(&mut body, "EXDATE", &exceptions)?;
+    write_rule(&mut body, &event.times.start, event.rule.as_ref())?;
+    write_listed(&mut body, "RDATE", &event.written.additions)?;
+    let exceptions = that_may_take(alloc, &event.written.exceptions)?;
+    write_listed(&mut body, "EXDATE", &exceptions)?;
     write_zone(&mut body, &event.times)?;
     Ok(body)
 }
 
-/// DTSTART: the instant in UTC, or the local time in the zone `Z`.
+/// DTSTART: the instant in UTC, the local time in the zone `Z` or without zone, or the date.
 fn write_start(body: &mut Vec<u8>, times: &EventTimes) -> Result<(), AllocError>
+    requires { StartIsWhole (times_of times.now) }
     ensures { OnOk result (AppendsStart (times_of times.now) body.old.items body.new.items) }
 {
     match times.start {
@@ -69,6 +72,14 @@ fn write_start(body: &mut Vec<u8>, times: &EventTimes) -> Result<(), AllocError>
         When::Zoned(local, _) => {
             body.extend_from_slice(b"DTSTART;TZID=Z:")?;
             local.write(body)?;
+        }
+        When::Floating(local, _) => {
+            body.extend_from_slice(b"DTSTART:")?;
+            local.write(body)?;
+        }
+        When::WholeDay(local, _) => {
+            body.extend_from_slice(b"DTSTART;VALUE=DATE:")?;
+            write_date(body, local)?;
         }
     }
     body.extend_from_slice(b"\r\n")?;
@@ -85,15 +96,15 @@ fn write_duration(body: &mut Vec<u8>, length: Duration) -> Result<(), AllocError
     Ok(())
 }
 
-/// RRULE, where there is a rule, on the clocks of DTSTART.
-fn write_rule(body: &mut Vec<u8>, clock: &Zone, rule: Option<&Rule>) -> Result<(), AllocError>
-    requires { EndIsTold (option_copied rule) }
-    ensures { OnOk result (AppendsRule (zone_of clock.now) (option_copied rule.entry) body.old.items body.new.items) }
+/// RRULE, where there is a rule, beside a DTSTART, on its clocks.
+fn write_rule(body: &mut Vec<u8>, start: &When, rule: Option<&Rule>) -> Result<(), AllocError>
+    requires { EndIsTold (form_said start.now) (option_copied rule) }
+    ensures { OnOk result (AppendsRule (form_said start.now) (clock_of (zone_said start.now)) (option_copied rule.entry) body.old.items body.new.items) }
 {
     let Some(rule) = rule else {
         return Ok(());
     };
-    let end = end_text(*body.allocator(), clock, rule.text().until())?;
+    let end = end_text(*body.allocator(), start, rule)?;
     body.extend_from_slice(b"RRULE:")?;
     rule.write(end.as_deref(), body)?;
     body.extend_from_slice(b"\r\n")?;
@@ -101,22 +112,33 @@ fn write_rule(body: &mut Vec<u8>, clock: &Zone, rule: Option<&Rule>) -> Result<(
 }
 
 /// The text of UNTIL; None where it is absent.
-fn end_text(alloc: Global, clock: &Zone, until: Option<Until>) -> Result<Option<String>, AllocError>
-    requires { (end : rules.Until) → option_map until_of until ≡ Some end → IsTold end }
+fn end_text(alloc: Global, start: &When, rule: &Rule) -> Result<Option<String>, AllocError>
+    requires { (end : rules.Until) → rule.now.until ≡ Some end → IsTold (form_said start.now) rule.now.last end }
     ensures { IfOk result (λ text.
-        BothOrNeither (WritesEnd (zone_of clock.now)) (option_map until_of until) (option_map string_bytes text)) }
+        BothOrNeither (WritesEnd (form_said start.now) (clock_of (zone_said start.now)) rule.now.last) rule.now.until (option_map string_bytes text)) }
 {
-    let Some(until) = until else {
+    let Some(until) = rule.text().until() else {
         return Ok(None);
     };
-    let text = until_text(alloc, clock, &until)?;
+    let text = until_text(alloc, start, rule.last(), &until)?;
     Ok(Some(text))
 }
 
+/// Beside a fixed start what UNTIL says, else the last day that it allows.
+fn until_text(alloc: Global, start: &When, last: Day, until: &Until) -> Result<String, AllocError>
+    requires { IsTold (form_said start.now) (day_index last) (until_of until.now) }
+    ensures { IfOk result (λ text. WritesEnd (form_said start.now) (clock_of (zone_said start.now)) (day_index last) (until_of until.now) (string_bytes text)) }
+{
+    match start.form() {
+        Form::Fixed => fixed_text(alloc, &start.clock(), until),
+        Form::Floating | Form::WholeDay => day_text(alloc, last),
+    }
+}
+
 /// A date, or else the instant in UTC.
-fn until_text(alloc: Global, clock: &Zone, until: &Until) -> Result<String, AllocError>
-    requires { IsTold (until_of until.now) }
-    ensures { IfOk result (λ text. WritesEnd (zone_of clock.now) (until_of until.now) (string_bytes text)) }
+fn fixed_text(alloc: Global, clock: &Zone, until: &Until) -> Result<String, AllocError>
+    requires { IsFixedTold (until_of until.now) }
+    ensures { IfOk result (λ text. WritesFixedEnd (zone_of clock.now) (until_of until.now) (string_bytes text)) }
 {
     match until {
         Until::Date(day) => day_text(alloc, *day),
@@ -147,13 +169,38 @@ fn instant_text(alloc: Global, instant: i64) -> Result<String, AllocError>
     stamp_text(alloc, stamp)
 }
 
-/// A property that lists instants in UTC, ascending and each once; no line where there are none. In time n log n.
-fn write_times(body: &mut Vec<u8>, name: &str, instants: &[i64]) -> Result<(), AllocError>
-    requires { (instant : ℤ) → Contains instants.now instant → IsClockSeconds instant }
-    ensures { OnOk result (AppendsTimes name.now instants.now body.old.items body.new.items) }
+/// A property that lists times, in up to three lines: in UTC, without zone, and as dates; no line where there are none.
+fn write_listed(body: &mut Vec<u8>, name: &str, times: &[Time]) -> Result<(), AllocError>
+    requires { AreShowable (map time_of times.now) }
+    ensures { OnOk result (AppendsListed name.now (map time_of times.now) body.old.items body.new.items) }
 {
-    let ascending = ascending(*body.allocator(), instants)?;
-    write_list(body, name, &ascending)
+    write_times(body, name, times, Form::Fixed)?;
+    write_times(body, name, times, Form::Floating)?;
+    write_times(body, name, times, Form::WholeDay)?;
+    Ok(())
+}
+
+/// A property that lists those of this form, ascending and each once. In time n log n.
+fn write_times(body: &mut Vec<u8>, name: &str, times: &[Time], form: Form) -> Result<(), AllocError>
+    requires { AreShowable (map time_of times.now) }
+    ensures { OnOk result (AppendsTimes (form_of form) name.now (instants_in (form_of form) (map time_of times.now)) body.old.items body.new.items) }
+{
+    let instants = instants_in(*body.allocator(), times, form)?;
+    let ascending = ascending(*body.allocator(), &instants)?;
+    write_list(body, name, form, &ascending)
+}
+
+/// The instants of those of this form.
+fn instants_in(alloc: Global, times: &[Time], form: Form) -> Result<Vec<i64>, AllocError>
+    ensures { IfOk result (λ within. within.items ≡ instants_in (form_of form) (map time_of times.now)) }
+{
+    let mut within = Vec::new(alloc);
+    for time in times {
+        if time.form == form {
+            within.push(time.instant)?;
+        }
+    }
+    Ok(within)
 }
 
 /// These instants in order, each once.
@@ -166,32 +213,64 @@ fn ascending(alloc: Global, instants: &[i64]) -> Result<Vec<i64>, AllocError>
     Ok(ascending)
 }
 
-/// A property that lists these instants as they are.
-fn write_list(body: &mut Vec<u8>, name: &str, instants: &[i64]) -> Result<(), AllocError>
-    requires { (instant : ℤ) → Contains instants.now instant → IsClockSeconds instant }
-    ensures { OnOk result ((texts : List (List ℕ)) × AllZip WritesStamp texts instants.now × (body.new.items ≡ body.old.items ++ crlf_lines (list_lines name.now texts))) }
+/// A property that lists these instants as they are, as times of this form.
+fn write_list(
+    body: &mut Vec<u8>,
+    name: &str,
+    form: Form,
+    instants: &[i64],
+) -> Result<(), AllocError>
+    requires { (instant : ℤ) → Contains instants.now instant → IsShowable (form_of form) instant }
+    ensures { OnOk result ((texts : List (List ℕ)) × AllZip (writes_as (form_of form)) texts instants.now
+        × (body.new.items ≡ body.old.items ++ crlf_lines (list_lines (name_as (form_of form) name.now) texts))) }
 {
     let Some((first, others)) = instants.split_first() else {
         return Ok(());
     };
-    body.extend_from_slice(name.as_bytes())?;
-    body.extend_from_slice(b":")?;
-    write_stamp(body, *first)?;
-    write_others(body, others)?;
+    write_name(body, name, form)?;
+    write_time(body, form, *first)?;
+    write_others(body, form, others)?;
     body.extend_from_slice(b"\r\n")?;
     Ok(())
 }
 
+/// What comes before the first: the name, and VALUE where they are dates.
+fn write_name(body: &mut Vec<u8>, name: &str, form: Form) -> Result<(), AllocError>
+    ensures { OnOk result (body.new.items ≡ body.old.items ++ (name_as (form_of form) name.now ++ codes ":")) }
+{
+    body.extend_from_slice(name.as_bytes())?;
+    match form {
+        Form::Fixed | Form::Floating => body.extend_from_slice(b":")?,
+        Form::WholeDay => body.extend_from_slice(b";VALUE=DATE:")?,
+    }
+    Ok(())
+}
+
 /// Further instants of a list, each after a comma.
-fn write_others(body: &mut Vec<u8>, instants: &[i64]) -> Result<(), AllocError>
-    requires { (instant : ℤ) → Contains instants.now instant → IsClockSeconds instant }
-    ensures { OnOk result (AppendsOthers instants.now body.old.items body.new.items) }
+fn write_others(body: &mut Vec<u8>, form: Form, instants: &[i64]) -> Result<(), AllocError>
+    requires { (instant : ℤ) → Contains instants.now instant → IsShowable (form_of form) instant }
+    ensures { OnOk result (AppendsOthers (form_of form) instants.now body.old.items body.new.items) }
 {
     for instant in instants {
         body.extend_from_slice(b",")?;
-        write_stamp(body, *instant)?;
+        write_time(body, form, *instant)?;
     }
     Ok(())
+}
+
+/// A time of this form, by its instant in UTC.
+fn write_time(body: &mut Vec<u8>, form: Form, instant: i64) -> Result<(), AllocError>
+    requires { IsShowable (form_of form) instant }
+    ensures { OnOk result (Appends body.old.items body.new.items (λ text. writes_as (form_of form) text instant)) }
+{
+    let Some(local) = LocalTime::of_seconds(instant) else {
+        unreachable!()
+    };
+    match form {
+        Form::Fixed => write_stamp(body, instant),
+        Form::Floating => local.write(body),
+        Form::WholeDay => write_date(body, local),
+    }
 }
 
 fn write_stamp(body: &mut Vec<u8>, instant: i64) -> Result<(), AllocError>
@@ -204,17 +283,34 @@ fn write_stamp(body: &mut Vec<u8>, instant: i64) -> Result<(), AllocError>
     stamp.write(body)
 }
 
-/// Those instants that are where a start may be.
-fn in_dates(alloc: Global, instants: &[i64]) -> Result<Vec<i64>, AllocError>
-    ensures { IfOk result (λ within. within.items ≡ filter is_in_dates instants.now) }
+/// The date whose day begins at this local time.
+fn write_date(body: &mut Vec<u8>, midnight: LocalTime) -> Result<(), AllocError>
+    requires { IsMidnight midnight }
+    ensures { OnOk result (Appends body.old.items body.new.items (λ text. SpellsMidnight text midnight)) }
 {
-    let mut within = Vec::new(alloc);
-    for instant in instants {
-        if is_in_dates(*instant) {
-            within.push(*instant)?;
+    let (day, _) = midnight.day_and_second();
+    let text = day_text(*body.allocator(), day)?;
+    body.extend_from_slice(text.as_bytes())
+}
+
+/// Those times that may take a start away.
+fn that_may_take(alloc: Global, times: &[Time]) -> Result<Vec<Time>, AllocError>
+    ensures { IfOk result (λ kept. map time_of kept.items ≡ filter may_take (map time_of times.now)) }
+{
+    let mut kept = Vec::new(alloc);
+    for time in times {
+        if may_take(time) {
+            kept.push(*time)?;
         }
     }
-    Ok(within)
+    Ok(kept)
+}
+
+/// Whether it is fixed where a start may be, or isn't fixed.
+fn may_take(time: &Time) -> bool
+    ensures { result ≡ may_take (time_of time.now) }
+{
+    time.form != Form::Fixed || is_in_dates(time.instant)
 }
 
 fn is_in_dates(instant: i64) -> bool
@@ -223,12 +319,13 @@ fn is_in_dates(instant: i64) -> bool
     instant < HORIZON && instant >= FIRST_SECOND
 }
 
-/// The VTIMEZONE that DTSTART is in, under the name `Z`; nothing in UTC.
+/// The VTIMEZONE that DTSTART is in, under the name `Z`; nothing where it is in none.
 fn write_zone(body: &mut Vec<u8>, times: &EventTimes) -> Result<(), AllocError>
+    requires { StartIsWhole (times_of times.now) }
     ensures { OnOk result (AppendsZone (times_of times.now) body.old.items body.new.items) }
 {
     match times.start {
         When::Zoned(_, zone) => zone.write("Z", body),
-        When::Utc(_) => Ok(()),
+        When::Utc(_) | When::Floating(_, _) | When::WholeDay(_, _) => Ok(()),
     }
 }

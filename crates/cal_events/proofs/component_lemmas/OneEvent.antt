@@ -1,7 +1,7 @@
 -- The lines of a VEVENT of an object say at most one event, and none where they have a fault.
 -- Cited by one_event.
-use Rattle.std.proofs.Common.{◌≡◌, ℕ, Bool, true, false, List, [], codes, subst, sym, refl, ap, ◌∙◌, inl, inr, arith, ℤ}
-use Rattle.std.specs.Prelude.{Option, Some, None, is_some, unwrap_or, All, ◌⊎◌}
+use Rattle.std.proofs.Common.{◌≡◌, ℕ, Bool, true, false, List, [], codes, subst, sym, refl, ap, ◌∙◌, arith, ℤ}
+use Rattle.std.specs.Prelude.{Option, Some, None, is_some, unwrap_or, All}
 use Rattle.std.specs.Option.{option_to_list}
 use Rattle.std.proofs.lemmas.Bool.{true≢false}
 use Rattle.std.proofs.lemmas.List.Elements.{All-from_recursion, All-contains}
@@ -10,11 +10,11 @@ use Rattle.profile.specs.text.Lines.{line_value}
 use Rattle.profile.specs.text.Values.{SpellsStamp, SpellsSequence, IsUid, unescaped}
 use Rattle.profile.specs.text.Trees.{Tree}
 use Rattle.profile.specs.events.EventComponents.{Method, SaysEventComponent, EventComponent, Attendee, IsAttendee, EventComponentFault, single_names, in_times, in_rule, in_occurrences, bad_stamp, bad_uid, bad_organiser, bad_attendee, bad_sequence, no_uid, no_stamp_given, twice, no_organiser}
-use Rattle.profile.specs.events.Properties.{lines_named, IsMissing, Says, IsUidLine, IsAddressLine, IsStampLine, IsSequenceLine, IsNoStamp, IsNoAddress, IsNoSequence, TimeKind, DateTime, Date, Period, Other, time_kind, IsDateText, IsLocalText, UnfixedOrMalformed, KindFault, TimeFault}
+use Rattle.profile.specs.events.Properties.{lines_named, IsMissing, Says, IsUidLine, IsAddressLine, IsStampLine, IsSequenceLine, IsNoStamp, IsNoAddress, IsNoSequence, TimeKind, Unsaid, DateTime, Date, Period, Other, time_kind, KindFault, TimeFault}
 use Rattle.ical_tree.proofs.OneLine.{IsFunctional}
 use Rattle.cal_events.proofs.component_lemmas.Said.{same_said, said_by}
 use Rattle.cal_events.proofs.shared_lemmas.Zips.{zip_one, zip_at}
-use Rattle.cal_events.proofs.component_lemmas.OneOccurrences.{one_status, one_occurrences, no_occurrence_fault}
+use Rattle.cal_events.proofs.component_lemmas.OneOccurrences.{one_status, one_occurrences, one_of_written, no_occurrence_fault}
 use Rattle.cal_events.proofs.component_lemmas.OneEventRule.{OneRule, NoRuleFault, one_event_rule, no_rule_fault_by}
 use Rattle.cal_events.proofs.shared_lemmas.OneTimes.{Lines, OneZonedTime, NoTimeFault, OneDuration, NotBoth, IsLone, at_most_one, one_times_by, no_times_fault_by}
 
@@ -45,8 +45,8 @@ attendee_one : IsFunctional IsAttendee
 attendee_one line a b h k = attendee_same a b (h.address.1 ∙ sym k.address.1) (h.participation ∙ sym k.participation) (h.scheduled ∙ sym k.scheduled)
 
 event_same : (a b : EventComponent) → a.uid ≡ b.uid → a.organiser ≡ b.organiser → a.stamp ≡ b.stamp → a.sequence ≡ b.sequence → a.cancelled ≡ b.cancelled → a.recurrence ≡ b.recurrence
-    → a.times ≡ b.times → a.rule ≡ b.rule → a.additions ≡ b.additions → a.exceptions ≡ b.exceptions → a.summary ≡ b.summary → a.attendees ≡ b.attendees → a ≡ b
-event_same a b p q r s c o t w x y z u = λ i. record {
+    → a.times ≡ b.times → a.rule ≡ b.rule → a.additions ≡ b.additions → a.exceptions ≡ b.exceptions → a.written ≡ b.written → a.summary ≡ b.summary → a.attendees ≡ b.attendees → a ≡ b
+event_same a b p q r s c o t w x y v z u = λ i. record {
   uid = p i;
   organiser = q i;
   stamp = r i;
@@ -57,13 +57,15 @@ event_same a b p q r s c o t w x y z u = λ i. record {
   rule = w i;
   additions = x i;
   exceptions = y i;
+  written = v i;
   summary = z i;
   attendees = u i;
 }
 
 pub one_event : OneStamp → OneDuration → OneSequence → OneZonedTime → OneRule → (object : Tree) (m : Option Method) (lines : Lines) (a b : EventComponent) → SaysEventComponent object m lines a → SaysEventComponent object m lines b → a ≡ b
 one_event one two three zoned rules object m lines a b s t =
-    let same = one_occurrences zoned object lines a.recurrence b.recurrence a.additions b.additions a.exceptions b.exceptions s.occurrences t.occurrences in
+    let written = one_occurrences zoned object lines a.written b.written s.occurrences t.occurrences in
+    let same = one_of_written a.written b.written a.recurrence b.recurrence a.additions b.additions a.exceptions b.exceptions written s.instants t.instants in
     let given = same_said IsSequenceLine (codes "SEQUENCE") false lines s.sequence.0 t.sequence.0 (sequence_one three) s.sequence.1 t.sequence.1 in
     event_same a b
     (same_Some a.uid b.uid (same_said IsUidLine (codes "UID") true lines (Some a.uid) (Some b.uid) uid_one s.uid t.uid))
@@ -76,20 +78,16 @@ one_event one two three zoned rules object m lines a b s t =
     (one_event_rule zoned two rules object lines a.times b.times a.rule b.rule s.times t.times s.rule t.rule)
     same.1
     same.2
+    written
     (s.summary ∙ sym t.summary)
     (zip_one IsAttendee attendee_one (lines_named (codes "ATTENDEE") lines) a.attendees b.attendees s.attendees t.attendees)
 
 -- ---- a start or an end has at most one fault
 
-one_case : (P : Type 0) (text : List ℕ) (m n : ℕ) → UnfixedOrMalformed P text m → UnfixedOrMalformed P text n → m ≡ n
-one_case P text m n (inl (p, h)) (inl (q, k)) = h ∙ sym k
-one_case P text m n (inl (p, h)) (inr (never, k)) = absurd (never p)
-one_case P text m n (inr (never, h)) (inl (q, k)) = absurd (never q)
-one_case P text m n (inr (never, h)) (inr (none, k)) = h ∙ sym k
-
 kind_number : (kind : TimeKind) (text : List ℕ) (m n : ℕ) → KindFault kind text m → KindFault kind text n → m ≡ n
-kind_number DateTime text m n h k = one_case (IsDateText text ⊎ IsLocalText text) text m n h.1 k.1
-kind_number Date text m n h k = one_case (IsDateText text) text m n h k
+kind_number Unsaid text m n h k = h.1.2 ∙ sym k.1.2
+kind_number DateTime text m n h k = h.2 ∙ sym k.2
+kind_number Date text m n h k = h.1 ∙ sym k.1
 kind_number Period text m n h k = h ∙ sym k
 kind_number Other text m n h k = h ∙ sym k
 
@@ -125,7 +123,7 @@ module _ (two : OneDuration) (apart : NotBoth) (zoned : OneZonedTime) (sound : N
   pub no_fault : (n : ℕ) → EventComponentFault object m lines n → ⊥
   no_fault n (in_times f) = no_times_fault_by zoned sound two apart object lines event.times s.times n f
   no_fault n (in_rule f) = no_rule_fault_by zoned rules faultless object lines event.times event.rule s.times s.rule n f
-  no_fault n (in_occurrences f) = no_occurrence_fault zoned sound object lines event.recurrence event.additions event.exceptions s.occurrences n f
+  no_fault n (in_occurrences f) = no_occurrence_fault zoned sound object lines event.written s.occurrences n f
   no_fault n (bad_stamp l) = let f = said_by IsStampLine (λ line. IsNoStamp (line_value line)) (codes "DTSTAMP") (is_some m) lines event.stamp s.stamp l in l.2 f.0 f.1
   no_fault n (bad_uid l) =
       let f = said_by IsUidLine (λ line. IsUid (unescaped (line_value line)) → ⊥) (codes "UID") true lines (Some event.uid) s.uid l in l.2 (subst IsUid f.1.0 f.1.1)

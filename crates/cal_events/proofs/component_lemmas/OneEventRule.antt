@@ -1,6 +1,6 @@
 -- The lines of a VEVENT say at most one rule, and none where it has a fault.
 -- Behind one_event.
-use Rattle.std.proofs.Common.{◌≡◌, ◌∙◌, ℕ, ◌<◌, ◌≤◌, Bool, true, false, List, [], ◌∷◌, codes, subst, sym, ap, refl, inl, inr, arith, ℤ, ◌≤ℤ◌}
+use Rattle.std.proofs.Common.{◌≡◌, ◌∙◌, ℕ, ◌<◌, ◌≤◌, Bool, true, false, List, [], ◌∷◌, codes, subst, sym, ap, refl, inl, inr, arith, ℤ, negsuc, ◌≤ℤ◌}
 use Rattle.std.specs.Prelude.{Option, Some, None}
 use Rattle.std.proofs.lemmas.Bool.{true≢false, cases_order}
 use Rattle.std.proofs.lemmas.Bool.Decides.{nat_tests}
@@ -11,8 +11,8 @@ use Rattle.profile.specs.text.Trees.{Tree}
 use Rattle.profile.specs.series.Rules.{Rule, RuleText, Until, UntilDay, UntilLocal, UntilInstant, rule_of, is_rule_day, is_counted}
 use Rattle.profile.specs.series.RuleTexts.{SpellsRule, RuleFault, IsLeastRuleFault}
 use Rattle.profile.specs.series.Zones.{Zone, IsOneMeaning, NoneFrom, IsLastDay}
-use Rattle.profile.specs.events.Properties.{BothOrNeither, SomeLine, lines_named}
-use Rattle.profile.specs.events.ZonedTimes.{SaysZonedTime, clock_of, is_in_zone, first_local, EventTimes, SaysEventTimes, SaysTimes}
+use Rattle.profile.specs.events.Properties.{Form, Fixed, Floating, WholeDay, BothOrNeither, SomeLine, lines_named}
+use Rattle.profile.specs.events.ZonedTimes.{SaysZonedTime, clock_of, is_in_zone, IsInDates, EventTimes, SaysEventTimes, SaysTimes}
 use Rattle.profile.specs.events.EventRules.{as_end, IsLastAllowed, AllowsNone, IsOnDay, GivesRule, IsRuleText, GivesBeside, SaysEventRule, IsOutsideRule, EventRuleFault, bad_rule, starts_outside, two_rules}
 use Rattle.ical_tree.proofs.OneLine.{IsFunctional, only_line}
 use Rattle.cal_events.proofs.shared_lemmas.OneTimes.{Lines, OneZonedTime, OneDuration, at_most_one, clock_one, one_times_by, clock_by, none_there}
@@ -94,17 +94,20 @@ no_text_fault : OneRule → NoRuleFault → (lines : Lines) (times : EventTimes)
 no_text_fault rules none lines times rule r n l =
     let f = said_by IsRuleText _ (codes "RRULE") false lines r.text r.spells l in none (line_value l.0) n f.0 l.2.fault f.1
 
+-- a time in the dates that an event may name is from 1969-12-31 on
+since_1969 : (form : Form) (in_zone : Bool) (local t : ℤ) → IsInDates false form in_zone local t → negsuc 86_399 ≤ℤ local
+since_1969 Fixed true local t h = omega (arith, ints, h.0)
+since_1969 Fixed false local t h = h.0
+since_1969 Floating in_zone local t h = omega (arith, ints, h.0)
+since_1969 WholeDay in_zone local t h = omega (arith, ints, h.0)
+
 module _ (zoned : OneZonedTime) (rules : OneRule) (none : NoRuleFault) (object : Tree) (lines : Lines) (times : EventTimes) (rule : Option Rule) (s : SaysEventTimes object lines times) (r : SaysEventRule lines times rule) where
   the_clock : IsOneMeaning (clock_of times.zone)
-  the_clock = clock_one object s.line (line_value s.line) times.zone times.local s.says
+  the_clock = clock_one object s.line (line_value s.line) times.form times.zone times.local s.says
 
   -- the local times of an event are in the years from 1969 on
   late : (day second : ℕ) → IsOnDay times.local day second → 366 ≤ day
-  late day second on = go (is_in_zone s.line) s.in_dates.0
-    where
-      go : (b : Bool) → first_local b ≤ℤ times.local → 366 ≤ day
-      go true h = omega (arith, ints, h, on.0, on.1)
-      go false h = omega (arith, ints, h, on.0, on.1)
+  late day second on = let h = since_1969 times.form (is_in_zone s.line) times.local times.start s.in_dates in omega (arith, ints, h, on.0, on.1)
 
   not_outside : (text : RuleText) (x : Rule) → GivesRule (clock_of times.zone) times.local text x → IsOutsideRule (clock_of times.zone) times.local text → ⊥
   not_outside text x g out =
@@ -139,11 +142,11 @@ module _ (zoned : OneZonedTime) (rules : OneRule) (none : NoRuleFault) (object :
       let g = given f.0 f.2 in
       let out = l.2 in
       let line = same_Some s.line start (only_line (codes "DTSTART") lines (Some s.line) start s.once there) in
-      let z = zoned object start (line_value start) out.zone times.zone out.local times.local out.says (subst (λ (x : List ℕ). SaysZonedTime object x times.zone times.local) line s.says) in
+      let z = zoned object start (line_value start) out.form times.form out.zone times.zone out.local times.local out.says (subst (λ (x : List ℕ). SaysZonedTime object x times.form times.zone times.local) line s.says) in
       let text = rules (line_value l.0) out.text f.0 out.spelled f.1 in
       not_outside f.0 g.0 g.1
       (subst (λ (t : RuleText). IsOutsideRule (clock_of times.zone) times.local t) text
-      (subst (λ (x : ℤ). IsOutsideRule (clock_of times.zone) x out.text) z.1 (subst (λ (x : Option Zone). IsOutsideRule (clock_of x) out.local out.text) z.0 out.outside)))
+      (subst (λ (x : ℤ). IsOutsideRule (clock_of times.zone) x out.text) z.2 (subst (λ (x : Option Zone). IsOutsideRule (clock_of x) out.local out.text) z.1 out.outside)))
   no_rule_fault n (two_rules h) = let l = at_most_one (codes "RRULE") lines r.spells.line r.spells.once in absurd (omega (arith, l, h))
 
 pub no_rule_fault_by : OneZonedTime → OneRule → NoRuleFault → {may : Bool} (object : Tree) (lines : Lines) (times : EventTimes) (rule : Option Rule) → SaysTimes may object lines times → SaysEventRule lines times rule

@@ -137,4 +137,4 @@ outside_refuses object lines times said text n e s t (is, out) =
     let once = subst (λ (o : Option (List ℕ)). OccursAtMostOnce (codes "RRULE") lines o) l.1 s.once in
     subst (EventRuleFault object lines) (sym is)
     (starts_outside (some_line (codes "DTSTART") _ lines t.line t.once (some_line (codes "RRULE") (StartsOutside object t.line) lines l.0 once
-    (record { zone = times.zone; local = times.local; says = t.says; text = text; spelled = l.2; outside = out }))))
+    (record { form = times.form; zone = times.zone; local = times.local; says = t.says; text = text; spelled = l.2; outside = out }))))

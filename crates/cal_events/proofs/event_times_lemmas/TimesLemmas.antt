@@ -1,218 +1,306 @@
 -- What DTSTART, DTEND and DURATION say, put together.
--- Cited by SaidTimes::judge, read_extent.
-use Rattle.std.proofs.Common.{◌≡◌, ◌∙◌, ℕ, ◌<◌, ◌≤◌, ◌^◌, Bool, false, true≢false, List, codes, subst, sym, ap, refl, inl, inr, arith, ℤ, pos, ◌+ℤ◌, ◌<ℤ◌}
-use Rattle.std.specs.Prelude.{Option, Some, None, ◌⊎◌, IsTrue}
+-- Cited by SaidTimes::judge, judge_from, judge_alone, read_extent.
+use Rattle.std.proofs.Common.{◌≡◌, ◌∙◌, ℕ, ◌<◌, ◌≤◌, ◌^◌, Bool, true, false, not, List, codes, subst, sym, ap, refl, inl, inr, arith, ℤ, pos, ◌+ℤ◌, ◌*ℤ◌, ◌<ℤ◌}
+use Rattle.std.specs.Prelude.{Option, Some, None, Result, Ok, Err, IfOk, IfErr, ◌⊎◌, ◌≢◌, ◌↔◌, IsTrue}
+use Rattle.std.proofs.lemmas.Bool.{true≢false}
+use denote.Enum.Bare.{sameb, same_true, differs_true, differs_false}
 use Rattle.std.proofs.lemmas.Int.{ints}
 use Rattle.profile.specs.text.Trees.{Tree}
 use Rattle.profile.specs.text.Lines.{line_value}
 use Rattle.profile.specs.text.Values.{IsClockSeconds, SpellsDuration, SpellsNegative, SpellsLong}
-use Rattle.profile.specs.events.Properties.{Length, OccursAtMostOnce, SomeLine, length_seconds, IsNoDuration, IsNegativeOrLong}
-use Rattle.profile.specs.events.ZonedTimes.{EventTimes, LastsSo, LastsAlone, SaysNoStart, SaysInstant, SaysInDates, SaysOutOfDates, SaysEventTimes, SaysTimes, EventTimesFault, bad_duration, ends_early, ends_late, ends_out, lasts_long, starts_out}
+use Rattle.profile.specs.series.Zones.{Zone, Means}
+use Rattle.profile.specs.events.Properties.{Form, Fixed, Floating, WholeDay, is_whole_day, Length, OccursAtMostOnce, SomeLine, length_seconds, LastsFor, IsNoDuration, IsNegativeOrLong}
+use Rattle.profile.specs.events.ZonedTimes.{is_in_zone, clock_of, SaysZonedTime, HasForm, EventTimes, IsInDates, IsCountedBy, LastsUntil, SaysNoStart, SaysInstant, SaysInDates, SaysOutOfDates, SaysEventTimes, EventTimesFault, bad_duration, ends_early, ends_late, ends_out, lasts_long, starts_out, other_form, part_of_day}
 use Rattle.cal_events.specs.declared.event_times.Extent.{Extent}
-use Rattle.cal_events.specs.declared.event_times.Extent.TheVariants.{ToEnd, For}
-use Rattle.cal_events.specs.declared.event_times.SaidTimes.{SaidTimes}
+use Rattle.cal_events.specs.declared.event_times.Extent.TheVariants.{To, For, Open}
+use Rattle.cal_events.specs.declared.event_times.SaidEnd.{SaidEnd}
+use Rattle.cal_events.specs.contracts.when.Form.{the_type}
+use Rattle.cal_events.specs.declared.when.Form.{Form as Kept}
+use Rattle.cal_events.specs.declared.when.Form.TheVariants as forms
+use Rattle.cal_events.specs.declared.when.When.{When}
+use Rattle.ical_lines.specs.declared.fault.Refusal.{Refusal}
 use Rattle.ical_values.specs.declared.duration.Duration.{Duration}
-use Rattle.cal_events.specs.Component.{length_of, zone_said, local_said, GivesLength, ExtentFault, ends_early as lies_before, ends_late as lies_late, lasts_long as is_long}
-use Rattle.cal_events.specs.Zoned.{LastsGiven, EndsSo, IsExtentIn, IsAlone, AreSaid, AreSaidAlone, AreSaidBy}
+use Rattle.cal_events.specs.Component.{length_of, form_of, form_said, zone_said, local_said, IsLengthTo, GivesLength, GivesAlone, ExtentFault, AloneFault, other_form as is_other, part_of_day as is_part, ends_early as lies_before, ends_late as lies_late, lasts_long as is_long}
+use Rattle.cal_events.specs.Zoned.{ends_in, EndsSo, IsExtentIn, AreSaid, AreSaidAlone}
 use Rattle.cal_events.proofs.shared_lemmas.EventLemmas.{some_line, IsNone, long_length}
+use Rattle.cal_events.proofs.shared_lemmas.Meanings.{utc_instant}
 
 abbrev Lines : Type 0
 Lines = List (List ℕ)
 
--- DURATION, or nothing
-long_given : {may : Bool} (object : Tree) (lines : Lines) (start : ℤ) (d : Duration) (line : Option (List ℕ)) → OccursAtMostOnce (codes "DURATION") lines line
-    → LastsGiven line (length_of d) → 31_622_400 < length_seconds (length_of d) → EventTimesFault may object lines 51
-long_given object lines start d None once is h =
-    let zero' : length_seconds (length_of d) ≡ 0 = ap length_seconds is in
-    absurd (omega arith)
-long_given object lines start d (Some line) once is h =
-    lasts_long (some_line (codes "DURATION") IsNegativeOrLong lines line once (inr (length_of d, is, h)))
+-- ---- forms
+
+-- what `==` and `!=` of two forms say
+form_from : Form → Kept
+form_from Fixed = forms.Fixed
+form_from Floating = forms.Floating
+form_from WholeDay = forms.WholeDay
+
+from_of : (a : Kept) → form_from (form_of a) ≡ a
+unfolding form_from
+from_of forms.Fixed = refl
+from_of forms.Floating = refl
+from_of forms.WholeDay = refl
+
+pub forms_differ : (a b : Kept) → not (sameb the_type a b) ≡ true → form_of a ≢ form_of b
+forms_differ a b h e = differs_true the_type a b h (sym (from_of a) ∙ ap form_from e ∙ from_of b)
+
+pub forms_same : (a b : Kept) → not (sameb the_type a b) ≡ false → form_of a ≡ form_of b
+forms_same a b h = ap form_of (differs_false the_type tt a b h)
+
+pub same_form : (a b : Kept) → sameb the_type a b ≡ true → form_of a ≡ form_of b
+same_form a b h = ap form_of (same_true the_type tt a b h)
+
+-- ---- an end, and the length up to it
+
+-- the line says an end of this form, so many seconds after a start, in the dates or not
+abbrev Ends : Tree → List ℕ → Form → ℤ → ℤ → Bool → Type 0
+Ends object line form start seconds in_dates =
+    (zone : Option Zone) × (local : ℤ) × SaysZonedTime object line form zone local × Means (clock_of zone) local (start +ℤ seconds)
+    × (IsTrue in_dates ↔ IsInDates true form (is_in_zone line) local (start +ℤ seconds))
+
+-- as it is said of a start of the same form
+ends_alike : (object : Tree) (line : List ℕ) (form : Form) (start : ℤ) (end : SaidEnd) → form_of end.form ≡ form → EndsSo object line start end → Ends object line form start end.seconds end.in_dates
+ends_alike object line form start end same h = subst (λ (f : Form). Ends object line f start end.seconds end.in_dates) same h
+
+-- in the dates
+ends_within : (object : Tree) (line : List ℕ) (form : Form) (start seconds : ℤ) (in_dates : Bool) → Ends object line form start seconds in_dates → IsTrue in_dates
+    → SaysInDates true object line form (start +ℤ seconds)
+ends_within object line form start seconds in_dates (zone, local, says, means, dates) within = (zone, local, says, means, dates.0 within)
+
+-- an instant
+ends_at : (object : Tree) (line : List ℕ) (form : Form) (start seconds : ℤ) (in_dates : Bool) → Ends object line form start seconds in_dates → SaysInstant object line form (start +ℤ seconds)
+ends_at object line form start seconds in_dates (zone, local, says, means, dates) = (zone, local, says, means)
+
+-- a date begins at a midnight, which by the clocks of UTC is the instant
+midnight : (object : Tree) (line : List ℕ) (t : ℤ) → SaysInstant object line WholeDay t → (day : ℤ) × (t ≡ day *ℤ pos 86_400)
+midnight object line t (_, local, (allowed, (name, alone, (day, date, is))), means) =
+    (day, utc_instant local t (subst (λ (z : Option Zone). Means (clock_of z) local t) alone means) ∙ is)
+
+-- the length is the seconds up to the end
+between : (object : Tree) (first line : List ℕ) (form : Form) (start seconds : ℤ) (length : Length) → SaysInstant object first form start → SaysInstant object line form (start +ℤ seconds)
+    → IsLengthTo form seconds length → IsCountedBy form length × (seconds ≡ pos (length_seconds length))
+between object first line Fixed start seconds length a b (days, is) = (days, omega (arith, ints, days, is))
+between object first line Floating start seconds length a b (days, is) = (days, omega (arith, ints, days, is))
+between object first line WholeDay start seconds length a b (none, least, most) =
+    let (d, p) = midnight object first start a in
+    let (e, q) = midnight object line (start +ℤ seconds) b in
+    (none, omega (arith, ints, none, least, most, p, q))
+
+until : (object : Tree) (first line : List ℕ) (form : Form) (start seconds : ℤ) (in_dates : Bool) (length : Length) → SaysInstant object first form start
+    → Ends object line form start seconds in_dates → IsLengthTo form seconds length → IsTrue in_dates → LastsUntil object form start line length
+until object first line form start seconds in_dates length a ends is within =
+    let h = between object first line form start seconds length a (ends_at object line form start seconds in_dates ends) is in
+    (h.0, subst (λ (x : ℤ). SaysInDates true object line form (start +ℤ x)) h.1 (ends_within object line form start seconds in_dates ends within))
 
 -- ---- the times together
 
-lasted : (object : Tree) (start : ℤ) (d : Duration) (line : Option (List ℕ)) → LastsGiven line (length_of d) → LastsSo object start None line (length_of d)
-lasted object start d None is = is
-lasted object start d (Some line) is = is
+abbrev pub judged : When → ℤ → Duration → EventTimes
+judged start instant length = record { form = form_said start; zone = zone_said start; local = local_said start; start = instant; length = length_of length }
 
-abbrev pub judged : SaidTimes → ℤ → Duration → EventTimes
-judged said start length = record { zone = zone_said said.start; local = local_said said.start; start = start; length = length_of length }
+module _ (object : Tree) (lines : Lines) (start : When) (instant : ℤ) (in_dates : Bool) where
+  -- the instant that DTSTART says
+  instant_said : (extent : Extent) (a : AreSaid object lines start instant in_dates extent) → SaysInstant object a.line (form_said start) instant
+  instant_said extent a = (zone_said start, local_said start, a.start_said.says, a.start_said.means)
 
--- the line says that instant, and it is in the dates
-pub ends_within : (object : Tree) (line : List ℕ) (instant : ℤ) (ends_in : Bool) → EndsSo object line instant ends_in → IsTrue ends_in → SaysInDates object line instant
-ends_within object line instant ends_in (zone, local, says, means, dates) within = (zone, local, says, means, dates.0 within)
+  begins : (extent : Extent) → AreSaid object lines start instant in_dates extent → SomeLine (codes "DTSTART") (λ line. SaysInstant object line (form_said start) instant) lines
+  begins extent a = some_line (codes "DTSTART") (λ line. SaysInstant object line (form_said start) instant) lines a.line a.once (instant_said extent a)
 
-pub times_said : (object : Tree) (lines : Lines) (said : SaidTimes) (length : Duration) (start : ℤ) → start ≡ said.instant → AreSaid object lines said → GivesLength said.extent length
-    → length_seconds (length_of length) ≤ 31_622_400 → IsTrue said.starts_in → IsTrue said.ends_in → SaysEventTimes object lines (judged said start length)
-times_said object lines said length start same a gives most starts_in ends_in =
-    subst (λ (t : ℤ). SaysEventTimes object lines (judged said t length)) (sym same) (go said.extent a.extent gives)
-  where
-    go : (extent : Extent) → IsExtentIn object lines said.instant said.ends_in extent → GivesLength extent length → SaysEventTimes object lines (judged said said.instant length)
-    go (ToEnd s) (line, once, none, time) (days, seconds) = record {
-      line = a.line;
-      once = a.once;
-      says = a.says;
-      means = a.means;
-      end_line = Some line;
-      duration_line = None;
-      end_once = once;
-      duration_once = none;
-      lasts = (days, subst (λ (x : ℤ). SaysInDates object line (said.instant +ℤ x)) seconds (ends_within object line (said.instant +ℤ s) said.ends_in time ends_in));
-      most = most;
-      in_dates = a.starts.0 starts_in;
-    }
-    go (For d) (line, none, once, is, no_end) e = record {
-      line = a.line;
-      once = a.once;
-      says = a.says;
-      means = a.means;
-      end_line = None;
-      duration_line = line;
-      end_once = none;
-      duration_once = once;
-      lasts = subst (λ (x : Duration). LastsSo object said.instant None line (length_of x)) (sym e) (lasted object said.instant d line is);
-      most = most;
-      in_dates = a.starts.0 starts_in;
-    }
+  -- its form
+  formed : (extent : Extent) → AreSaid object lines start instant in_dates extent → SomeLine (codes "DTSTART") (λ line. HasForm object line (form_said start)) lines
+  formed extent a = some_line (codes "DTSTART") (λ line. HasForm object line (form_said start)) lines a.line a.once (zone_said start, local_said start, a.start_said.says)
 
--- the instant that DTSTART says
-begins : (object : Tree) (lines : Lines) (said : SaidTimes) → AreSaid object lines said → SomeLine (codes "DTSTART") (λ line. SaysInstant object line said.instant) lines
-begins object lines said a =
-    some_line (codes "DTSTART") (λ line. SaysInstant object line said.instant) lines a.line a.once (zone_said said.start, local_said said.start, a.says, a.means)
+  pub times_said : (extent : Extent) (length : Duration) (stamp : ℤ) → stamp ≡ instant → AreSaid object lines start instant in_dates extent → GivesLength (form_said start) extent (length_of length)
+      → length_seconds (length_of length) ≤ 31_622_400 → IsTrue in_dates → IsTrue (ends_in extent) → SaysEventTimes object lines (judged start stamp length)
+  times_said extent length stamp same a gives most starts ends = subst (λ (t : ℤ). SaysEventTimes object lines (judged start t length)) (sym same) (go extent a gives ends)
+    where
+      go : (extent : Extent) → AreSaid object lines start instant in_dates extent → GivesLength (form_said start) extent (length_of length) → IsTrue (ends_in extent)
+          → SaysEventTimes object lines (judged start instant length)
+      go (To end) a (alike, is) within =
+          let (line, once, none, time) = a.extent_in in
+          let ends = ends_alike object line (form_said start) instant end alike time in
+          record {
+            line = a.line;
+            once = a.once;
+            says = a.start_said.says;
+            means = a.start_said.means;
+            end_line = Some line;
+            duration_line = None;
+            end_once = once;
+            duration_once = none;
+            lasts = until object a.line line (form_said start) instant end.seconds end.in_dates (length_of length) (instant_said (To end) a) ends is within;
+            most = most;
+            in_dates = a.start_said.dates.0 starts;
+          }
+      go (For duration) a (is, suits) within =
+          let (line, none, once, lasts) = a.extent_in in
+          record {
+            line = a.line;
+            once = a.once;
+            says = a.start_said.says;
+            means = a.start_said.means;
+            end_line = None;
+            duration_line = Some line;
+            end_once = none;
+            duration_once = once;
+            lasts = (subst (λ (x : Length). LastsFor line x) (sym is) lasts, suits);
+            most = most;
+            in_dates = a.start_said.dates.0 starts;
+          }
+      go Open a is within =
+          let (none, nothing) = a.extent_in in
+          record {
+            line = a.line;
+            once = a.once;
+            says = a.start_said.says;
+            means = a.start_said.means;
+            end_line = None;
+            duration_line = None;
+            end_once = none;
+            duration_once = nothing;
+            lasts = is;
+            most = most;
+            in_dates = a.start_said.dates.0 starts;
+          }
 
-ends_at : (object : Tree) (line : List ℕ) (instant : ℤ) (ends_in : Bool) → EndsSo object line instant ends_in → SaysInstant object line instant
-ends_at object line instant ends_in (zone, local, says, means, dates) = (zone, local, says, means)
-
-extent_fault : {may : Bool} (object : Tree) (lines : Lines) (start : ℤ) (ends_in : Bool) (extent : Extent) (n : ℕ) → SomeLine (codes "DTSTART") (λ line. SaysInstant object line start) lines
-    → ExtentFault extent n → IsExtentIn object lines start ends_in extent → EventTimesFault may object lines n
-extent_fault object lines start ends_in extent n first (lies_before s h) (line, once, none, time) =
-    let early : (start +ℤ s) <ℤ start = omega (arith, ints) in
-    ends_early (start, start +ℤ s, first, some_line (codes "DTEND") (λ l. SaysInstant object l (start +ℤ s)) lines line once (ends_at object line (start +ℤ s) ends_in time), early)
-extent_fault object lines start ends_in extent n first (lies_late s h) (line, once, none, time) =
-    let late : (start +ℤ pos 31_622_400) <ℤ (start +ℤ s) = omega (arith, ints) in
-    ends_late (start, start +ℤ s, first, some_line (codes "DTEND") (λ l. SaysInstant object l (start +ℤ s)) lines line once (ends_at object line (start +ℤ s) ends_in time), late)
-extent_fault object lines start ends_in extent n first (is_long d h) (line, none, once, is, within) = long_given object lines start d line once is h
-
-pub extent_judged : {may : Bool} (object : Tree) (lines : Lines) (said : SaidTimes) (n : ℕ) → AreSaid object lines said → ExtentFault said.extent n → EventTimesFault may object lines n
-extent_judged object lines said n a h = extent_fault object lines said.instant said.ends_in said.extent n (begins object lines said a) h a.extent
+  -- what is wrong with the length
+  pub extent_judged : {may : Bool} (extent : Extent) (n : ℕ) → AreSaid object lines start instant in_dates extent → ExtentFault (form_said start) extent n → EventTimesFault may object lines n
+  extent_judged extent n a (is_other end differ) =
+      let (line, once, none, (zone, local, says, means, dates)) = a.extent_in in
+      let last = some_line (codes "DTEND") (λ l. HasForm object l (form_of end.form)) lines line once (zone, local, says) in
+      other_form (form_said start, form_of end.form, formed extent a, last, λ e. differ (sym e))
+  extent_judged extent n a (is_part duration whole part) =
+      let (line, none, once, lasts) = a.extent_in in
+      let first = subst (λ (f : Form). SomeLine (codes "DTSTART") (λ l. HasForm object l f) lines) whole (formed extent a) in
+      part_of_day (length_of duration, first, some_line (codes "DURATION") (λ l. LastsFor l (length_of duration)) lines line once lasts, part)
+  extent_judged extent n a (lies_before end alike h) =
+      let (line, once, none, time) = a.extent_in in
+      let at = ends_at object line (form_said start) instant end.seconds end.in_dates (ends_alike object line (form_said start) instant end alike time) in
+      let early : (instant +ℤ end.seconds) <ℤ instant = omega (arith, ints, h) in
+      ends_early (form_said start, instant, instant +ℤ end.seconds, begins extent a, some_line (codes "DTEND") (λ l. SaysInstant object l (form_said start) (instant +ℤ end.seconds)) lines line once at, early)
+  extent_judged extent n a (lies_late end alike h) =
+      let (line, once, none, time) = a.extent_in in
+      let at = ends_at object line (form_said start) instant end.seconds end.in_dates (ends_alike object line (form_said start) instant end alike time) in
+      let late : (instant +ℤ pos 31_622_400) <ℤ (instant +ℤ end.seconds) = omega (arith, ints, h) in
+      ends_late (form_said start, instant, instant +ℤ end.seconds, begins extent a, some_line (codes "DTEND") (λ l. SaysInstant object l (form_said start) (instant +ℤ end.seconds)) lines line once at, late)
+  extent_judged extent n a (is_long duration h) =
+      let (line, none, once, lasts) = a.extent_in in
+      lasts_long (some_line (codes "DURATION") IsNegativeOrLong lines line once (inr (length_of duration, lasts, h)))
 
 -- one of the two is outside
 
 not_true : (b : Bool) → b ≡ false → IsTrue b → ⊥
 not_true b is h = true≢false (sym h ∙ is)
 
-end_out : {may : Bool} (object : Tree) (lines : Lines) (start : ℤ) (ends_in : Bool) (extent : Extent) → IsExtentIn object lines start ends_in extent → ends_in ≡ false → EventTimesFault may object lines 52
-end_out object lines start ends_in (ToEnd s) (line, once, none, (zone, local, says, means, dates)) outside =
-    ends_out (some_line (codes "DTEND") (SaysOutOfDates object) lines line once (zone, local, start +ℤ s, says, means, λ h. not_true ends_in outside (dates.1 h)))
-end_out object lines start ends_in (For d) (line, none, once, is, within) outside = absurd (true≢false (sym within ∙ outside))
+end_out : {may : Bool} (object : Tree) (lines : Lines) (start : ℤ) (extent : Extent) → IsExtentIn object lines start extent → ends_in extent ≡ false → EventTimesFault may object lines 52
+end_out object lines start (To end) (line, once, none, (zone, local, says, means, dates)) outside =
+    ends_out (some_line (codes "DTEND") (SaysOutOfDates true object) lines line once
+    (form_of end.form, zone, local, start +ℤ end.seconds, says, means, λ h. not_true end.in_dates outside (dates.1 h)))
+end_out object lines start (For duration) r outside = absurd (true≢false outside)
+end_out object lines start Open r outside = absurd (true≢false outside)
 
-pub start_judged : {may : Bool} (object : Tree) (lines : Lines) (said : SaidTimes) → AreSaid object lines said → said.starts_in ≡ false → EventTimesFault may object lines 52
-start_judged object lines said a outside =
-    starts_out (some_line (codes "DTSTART") (SaysOutOfDates object) lines a.line a.once
-    (zone_said said.start, local_said said.start, said.instant, a.says, a.means, λ w. not_true said.starts_in outside (a.starts.1 w)))
+module _ {may : Bool} (object : Tree) (lines : Lines) (start : When) (instant : ℤ) (in_dates : Bool) (extent : Extent) (a : AreSaid object lines start instant in_dates extent) where
+  pub start_judged : in_dates ≡ false → EventTimesFault may object lines 52
+  start_judged outside =
+      starts_out (some_line (codes "DTSTART") (SaysOutOfDates false object) lines a.line a.once
+      (form_said start, zone_said start, local_said start, instant, a.start_said.says, a.start_said.means, λ w. not_true in_dates outside (a.start_said.dates.1 w)))
 
-pub end_judged : {may : Bool} (object : Tree) (lines : Lines) (said : SaidTimes) → AreSaid object lines said → said.ends_in ≡ false → EventTimesFault may object lines 52
-end_judged object lines said a outside = end_out object lines said.instant said.ends_in said.extent a.extent outside
+  pub end_judged : ends_in extent ≡ false → EventTimesFault may object lines 52
+  end_judged outside = end_out object lines instant extent a.extent_in outside
+
+-- a start in the dates is an instant that a stamp can have
+clocked : (object : Tree) (line : List ℕ) (form : Form) (zone : Option Zone) (local t : ℤ) → SaysZonedTime object line form zone local → Means (clock_of zone) local t
+    → IsInDates false form (is_in_zone line) local t → IsClockSeconds t
+clocked object line Fixed _ local t says means dates = (omega (arith, ints, dates.1), omega (arith, ints, dates.2))
+clocked object line Floating _ local t (allowed, (name, alone, spells)) means dates =
+    let e = utc_instant local t (subst (λ (z : Option Zone). Means (clock_of z) local t) alone means) in
+    (omega (arith, ints, e, dates.0), omega (arith, ints, e, dates.1))
+clocked object line WholeDay _ local t (allowed, (name, alone, spells)) means dates =
+    let e = utc_instant local t (subst (λ (z : Option Zone). Means (clock_of z) local t) alone means) in
+    (omega (arith, ints, e, dates.0), omega (arith, ints, e, dates.1))
+
+pub within_clock : (object : Tree) (lines : Lines) (start : When) (instant : ℤ) (in_dates : Bool) (extent : Extent) → AreSaid object lines start instant in_dates extent → IsTrue in_dates → IsClockSeconds instant
+within_clock object lines start instant in_dates extent a within =
+    clocked object a.line (form_said start) (zone_said start) (local_said start) instant a.start_said.says a.start_said.means (a.start_said.dates.0 within)
 
 -- ---- without a start
 
-lasted_alone : (object : Tree) (d : Duration) (line : Option (List ℕ)) → LastsGiven line (length_of d) → LastsAlone object None line (length_of d)
-lasted_alone object d None is = is
-lasted_alone object d (Some line) is = is
-
-module _ (object : Tree) (lines : Lines) (said : SaidTimes) (a : AreSaidAlone object lines said) where
-  pub alone_said : (length : Duration) (times : EventTimes) → GivesLength said.extent length → length_seconds (length_of length) ≤ 31_622_400 → IsTrue said.ends_in → times.length ≡ length_of length
-      → times.zone ≡ None → times.local ≡ pos 0 → times.start ≡ pos 0 → SaysNoStart object lines times
-  alone_said length times gives most ends_in e z l t = go a.read a.extent (subst (λ (x : Extent). IsAlone a.read x) refl a.alone)
-    where
-      gives_zero : said.extent ≡ For (record { days = 0; seconds = 0 }) → times.length ≡ record { days = 0; seconds = 0 }
-      gives_zero is = e ∙ ap length_of (subst (λ (x : Extent). GivesLength x length) is gives)
-
-      fits : length_seconds times.length ≤ 31_622_400
-      fits = subst (λ (x : Length). length_seconds x ≤ 31_622_400) (sym e) most
-
-      go : (read : Extent) → IsExtentIn object lines (pos 0) said.ends_in read → IsAlone read said.extent → SaysNoStart object lines times
-      go (ToEnd s) (line, once, none, time) is = record {
+module _ (object : Tree) (lines : Lines) (times : EventTimes) where
+  pub alone_said : (extent : Extent) → AreSaidAlone object lines extent → GivesAlone extent times.length → length_seconds times.length ≤ 31_622_400 → IsTrue (ends_in extent)
+      → times.form ≡ Fixed → times.zone ≡ None → times.local ≡ pos 0 → times.start ≡ pos 0 → SaysNoStart object lines times
+  alone_said (To end) a is most within f z l t =
+      let (line, once, none, time) = a.extent_in in
+      record {
         missing = a.missing;
         end_line = Some line;
         duration_line = None;
         end_once = once;
         duration_once = none;
-        lasts = (gives_zero is, (pos 0 +ℤ s, ends_within object line (pos 0 +ℤ s) said.ends_in time ends_in));
-        most = fits;
+        lasts = (is, (form_of end.form, pos 0 +ℤ end.seconds, ends_within object line (form_of end.form) (pos 0) end.seconds end.in_dates time within));
+        most = most;
+        form = f;
         zone = z;
         local = l;
         start = t;
       }
-      go (For d) (line, none, once, given, no_end) is = record {
+  alone_said (For duration) a is most within f z l t =
+      let (line, none, once, lasts) = a.extent_in in
+      record {
         missing = a.missing;
         end_line = None;
-        duration_line = line;
+        duration_line = Some line;
         end_once = none;
         duration_once = once;
-        lasts = subst (λ (x : Length). LastsAlone object None line x) (sym (e ∙ ap length_of (subst (λ (x : Extent). GivesLength x length) is gives))) (lasted_alone object d line given);
-        most = fits;
+        lasts = subst (λ (x : Length). LastsFor line x) (sym is) lasts;
+        most = most;
+        form = f;
+        zone = z;
+        local = l;
+        start = t;
+      }
+  alone_said Open a is most within f z l t =
+      let (none, nothing) = a.extent_in in
+      record {
+        missing = a.missing;
+        end_line = None;
+        duration_line = None;
+        end_once = none;
+        duration_once = nothing;
+        lasts = is;
+        most = most;
+        form = f;
         zone = z;
         local = l;
         start = t;
       }
 
-  pub alone_judged : {may : Bool} (n : ℕ) → ExtentFault said.extent n → EventTimesFault may object lines n
-  alone_judged {may} number h = go a.read a.extent a.alone
-    where
-      too_long : (d : Duration) (line : Option (List ℕ)) → OccursAtMostOnce (codes "DURATION") lines line → LastsGiven line (length_of d) → (x : Extent) (n : ℕ) → x ≡ For d → ExtentFault x n → EventTimesFault may object lines n
-      too_long d line once given (ToEnd s) n is f = cc
-      too_long d line once given (For o) n is (is_long x l) = long_given object lines (pos 0) o line once (subst (λ (x : Duration). LastsGiven line (length_of x)) (sym (same_For o d is)) given) l
-        where
-          of_extent : Extent → Duration
-          of_extent (ToEnd s) = d
-          of_extent (For x) = x
+pub alone_judged : {may : Bool} (object : Tree) (lines : Lines) (extent : Extent) (n : ℕ) → AreSaidAlone object lines extent → AloneFault extent n → EventTimesFault may object lines n
+alone_judged object lines (To end) n a h = absurd h
+alone_judged object lines Open n a h = absurd h
+alone_judged object lines (For duration) n a (is_part d whole part) = absurd (true≢false (sym (ap is_whole_day whole)))
+alone_judged object lines (For duration) n a (is_long d h) =
+    let (line, none, once, lasts) = a.extent_in in
+    lasts_long (some_line (codes "DURATION") IsNegativeOrLong lines line once (inr (length_of duration, lasts, h)))
 
-          same_For : (o d : Duration) → For o ≡ For d → o ≡ d
-          same_For o d e = ap of_extent e
+pub alone_out : {may : Bool} (object : Tree) (lines : Lines) (extent : Extent) → AreSaidAlone object lines extent → ends_in extent ≡ false → EventTimesFault may object lines 52
+alone_out object lines extent a outside = end_out object lines (pos 0) extent a.extent_in outside
 
-      no_fault : (x : Extent) (n : ℕ) → x ≡ For (record { days = 0; seconds = 0 }) → ExtentFault x n → EventTimesFault may object lines n
-      no_fault (ToEnd s) n is f = cc
-      no_fault (For o) n is (is_long d l) = let none : length_seconds (length_of o) ≡ 0 = ap (λ x. length_seconds (length_of x)) (of_extent_is is) in absurd (omega (arith, none, l))
-        where
-          of_extent : Extent → Duration
-          of_extent (ToEnd s) = o
-          of_extent (For x) = x
+-- ---- an end of the start's form
 
-          of_extent_is : For o ≡ For (record { days = 0; seconds = 0 }) → o ≡ record { days = 0; seconds = 0 }
-          of_extent_is e = ap of_extent e
-
-      go : (read : Extent) → IsExtentIn object lines (pos 0) said.ends_in read → IsAlone read said.extent → EventTimesFault may object lines number
-      go (ToEnd s) r is = no_fault said.extent number is h
-      go (For d) (line, none, once, given, no_end) is = too_long d line once given said.extent number is h
-
-  pub alone_out : {may : Bool} → said.ends_in ≡ false → EventTimesFault may object lines 52
-  alone_out outside = end_out object lines (pos 0) said.ends_in a.read a.extent outside
+pub end_faulty : (r : Result Duration Refusal) (end : SaidEnd) (form : Form) → form_of end.form ≡ form
+    → IfErr r (λ e. ((e.number ≡ 50) × (end.seconds <ℤ pos 0)) ⊎ ((e.number ≡ 51) × (pos 31_622_400 <ℤ end.seconds))) → IfErr r (λ e. ExtentFault form (To end) e.number)
+end_faulty (Ok d) end form alike h = tt
+end_faulty (Err e) end form alike h = go e.number h
+  where
+    go : (n : ℕ) → ((n ≡ 50) × (end.seconds <ℤ pos 0)) ⊎ ((n ≡ 51) × (pos 31_622_400 <ℤ end.seconds)) → ExtentFault form (To end) n
+    go n (inl (k, early)) = subst (ExtentFault form (To end)) (sym k) (lies_before end alike early)
+    go n (inr (k, late)) = subst (ExtentFault form (To end)) (sym k) (lies_late end alike late)
 
 -- ---- with a start or without
 
-module _ (may : Bool) (object : Tree) (lines : Lines) (said : SaidTimes) where
-  pub extent_judged_by : (n : ℕ) → AreSaidBy may object lines said → ExtentFault said.extent n → EventTimesFault may object lines n
-  extent_judged_by n (inl s) h = extent_judged object lines said n s h
-  extent_judged_by n (inr (_, alone)) h = alone_judged object lines said alone n h
-
-  pub start_judged_by : AreSaidBy may object lines said → said.starts_in ≡ false → EventTimesFault may object lines 52
-  start_judged_by (inl s) outside = start_judged object lines said s outside
-  start_judged_by (inr (_, alone)) outside = absurd (true≢false (sym alone.starts ∙ outside))
-
-  pub end_judged_by : AreSaidBy may object lines said → said.ends_in ≡ false → EventTimesFault may object lines 52
-  end_judged_by (inl s) outside = end_judged object lines said s outside
-  end_judged_by (inr (_, alone)) outside = alone_out object lines said alone outside
-
-  -- what is in the dates has a stamp
-  pub within_clock : AreSaidBy may object lines said → IsTrue said.starts_in → IsClockSeconds said.instant
-  within_clock (inl s) starts = let dates = s.starts.0 starts in (omega (arith, ints, dates.1), omega (arith, ints, dates.2))
-  within_clock (inr (_, alone)) starts = subst IsClockSeconds (sym alone.instant) (omega (arith, ints), omega (arith, ints))
-
-  pub times_said_by : (length : Duration) (start : ℤ) → start ≡ said.instant → AreSaidBy may object lines said → GivesLength said.extent length → length_seconds (length_of length) ≤ 31_622_400
-      → IsTrue said.starts_in → IsTrue said.ends_in → SaysTimes may object lines (judged said start length)
-  times_said_by length start same (inl s) gives most starts ends = inl (times_said object lines said length start same s gives most starts ends)
-  times_said_by length start same (inr (m, alone)) gives most starts ends =
-      inr (m, alone_said object lines said alone length (judged said start length) gives most ends refl alone.zone alone.local (same ∙ alone.instant))
+pub ok_so : {A E : Type 0} (r : Result A E) (P Q : A → Type 0) → ((a : A) → P a → Q a) → IfOk r P → IfOk r Q
+ok_so (Ok a) P Q so h = so a h
+ok_so (Err e) P Q so h = tt
 
 -- ---- DURATION alone
 

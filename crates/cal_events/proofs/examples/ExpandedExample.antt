@@ -9,7 +9,9 @@ use Rattle.std.proofs.lemmas.List.Elements.{All-nil, All-cons}
 use Rattle.profile.specs.series.Days.{days_before_year, days_of_months}
 use Rattle.profile.specs.text.Values.{WritesStamp}
 use Rattle.profile.specs.checker.Instances.{Key, Instance}
+use Rattle.profile.specs.events.Properties.{Fixed}
 use Rattle.profile.specs.events.ZonedTimes.{EventTimes}
+use Rattle.profile.specs.events.Occurrences.{Time}
 use Rattle.profile.specs.events.EventComponents.{EventComponent}
 use Rattle.profile.specs.events.Events.{Event}
 use Rattle.profile.specs.events.Starts.{EndsAt, IsStart, IsInstance, IsOfMaster, IsOfOverride, ComesBefore, AreFirst, key_at}
@@ -23,7 +25,11 @@ abbrev second : ℤ
 second = pos 1_735_808_400
 
 abbrev nine_seconds_from : ℤ → EventTimes
-nine_seconds_from start = record { zone = None; local = start; start = start; length = record { days = 0; seconds = 9 } }
+nine_seconds_from start = record { form = Fixed; zone = None; local = start; start = start; length = record { days = 0; seconds = 9 } }
+
+-- a time in UTC
+abbrev in_utc : ℤ → Time
+in_utc instant = record { form = Fixed; instant = instant }
 
 abbrev master : EventComponent
 master = record {
@@ -37,6 +43,7 @@ master = record {
   rule = None;
   additions = second ∷ [];
   exceptions = [];
+  written = record { recurrence = None; additions = in_utc second ∷ []; exceptions = [] };
   summary = [];
   attendees = [];
 }
@@ -53,6 +60,7 @@ moved = record {
   rule = None;
   additions = [];
   exceptions = [];
+  written = record { recurrence = Some (in_utc first); additions = []; exceptions = [] };
   summary = [];
   attendees = [];
 }

@@ -1,6 +1,7 @@
 -- What the clocks that an iterator keeps say of DTSTART's zone.
 -- Cited by clock_of, first_on_rule.
 use Rattle.std.proofs.Common.{◌≡◌, subst, ℤ, pos}
+use Rattle.std.specs.Prelude.{Some, None}
 use Rattle.profile.specs.series.Zones.{Zone, Constant, Means, IsOneMeaning}
 use Rattle.profile.specs.events.ZonedTimes.{clock_of}
 use Rattle.cal_zones.specs.Kinds.{zone_of}
@@ -11,13 +12,20 @@ use Rattle.cal_events.specs.Component.{component_of, zone_said}
 use Rattle.cal_events.specs.Instances.{IsOfClock}
 use Rattle.cal_events.specs.declared.component.EventComponent.{EventComponent}
 use Rattle.cal_events.specs.declared.when.When.{When}
-use Rattle.cal_events.specs.declared.when.When.TheVariants.{Utc, Zoned}
+use Rattle.cal_events.specs.declared.when.When.TheVariants.{Utc, Zoned, Floating, WholeDay}
 use Rattle.cal_events.proofs.shared_lemmas.Meanings.{utc_means}
+
+utc_there : (local r : ℤ) → ((u : ℤ) → Means (Constant (pos 0)) local u → u ≡ r) → Means (Constant (pos 0)) local r
+utc_there local r f = subst (Means (Constant (pos 0)) local) (f local (utc_means local)) (utc_means local)
 
 -- what they say a local time means is what it means there
 pub means_there : (time : When) (local r : ℤ) → ((u : ℤ) → Means (clock_of (zone_said time)) local u → u ≡ r) → Means (clock_of (zone_said time)) local r
-means_there (Utc shown) local r f = subst (Means (Constant (pos 0)) local) (f local (utc_means local)) (utc_means local)
+means_there (Utc shown) local r f = utc_there local r f
 means_there (Zoned shown zone) local r f = meant_alone zone local r f
+means_there (Floating shown None) local r f = utc_there local r f
+means_there (Floating shown (Some zone)) local r f = meant_alone zone local r f
+means_there (WholeDay shown None) local r f = utc_there local r f
+means_there (WholeDay shown (Some zone)) local r f = meant_alone zone local r f
 
 pub means_by : (master : EventComponent) (clock : Clock) (local r : ℤ) → IsOfClock (component_of master) clock → Means (zone_of clock.zone) local r → Means (clock_of (component_of master).times.zone) local r
 means_by master clock local r same means = means_there master.times.start local r (λ u m. same local r u means m)

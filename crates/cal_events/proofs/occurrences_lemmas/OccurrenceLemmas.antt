@@ -4,7 +4,7 @@ use Rattle.std.proofs.Common.{◌≡◌, ◌≢◌, ◌∙◌, ℕ, ◌+◌, ◌
 use Rattle.std.specs.Prelude.{◌⊎◌}
 use Rattle.std.specs.List.{AllZip, slice_split, flat_map}
 use Rattle.std.proofs.lemmas.Bool.{true≢false}
-use Rattle.std.proofs.lemmas.List.{map-append}
+use Rattle.std.proofs.lemmas.List.{map-append, length-map}
 use Rattle.std.proofs.lemmas.List.Elements.{Contains-append_left, Contains-push}
 use Rattle.ical_lines.specs.Fault.{RefusesBy}
 use Rattle.ical_lines.specs.declared.fault.Fault.{Fault}
@@ -14,6 +14,7 @@ use Rattle.profile.specs.text.Trees.{Tree}
 use Rattle.profile.specs.events.Properties.{is_of}
 use Rattle.profile.specs.events.ZonedTimes.{ZonedTextFault}
 use Rattle.profile.specs.events.Occurrences.{ListedTime, entries_of, entries_named, is_period, IsListed, IsInside, Lists, EntriesFault, in_entry, too_many}
+use Rattle.cal_events.specs.Times.{time_of}
 use Rattle.cal_events.specs.Occurrences.{SaysSo, AreListed}
 use Rattle.cal_events.specs.declared.occurrences.SaidInstant.{SaidInstant}
 use Rattle.cal_events.specs.declared.occurrences.SaidInstants.{SaidInstants}
@@ -33,35 +34,40 @@ module _ (object : Tree) (name line text : List ℕ) (done : List ListedTime) (o
   abbrev pub grown : List ListedTime
   grown = done ++ (line, text) ∷ []
 
-  module _ (said : SaidInstant) (new : SaidInstants) (few : length old.instants.items ≢ 366) (plain : is_period name text ≡ false) (says : SaysSo object line text said)
-      (more : new.instants.items ≡ old.instants.items ++ said.instant ∷ []) where
-    listed : Lists object name grown new.instants.items
+  module _ (said : SaidInstant) (new : SaidInstants) (few : length old.times.items ≢ 366) (plain : is_period name text ≡ false) (says : SaysSo object line text said)
+      (more : new.times.items ≡ old.times.items ++ said.time ∷ []) where
+    more_said : map time_of new.times.items ≡ map time_of old.times.items ++ time_of said.time ∷ []
+    more_said = ap (map time_of) more ∙ map-append time_of old.times.items (said.time ∷ [])
+
+    listed : Lists object name grown (map time_of new.times.items)
     listed = (
-      subst (AllZip (IsListed object name) grown) (sym more)
-          (push_zip (IsListed object name) done old.instants.items (line, text) said.instant a.lists.0 (plain, (says.0, says.1, says.2, says.3))),
-      let l : length new.instants.items ≡ length old.instants.items + 1 = ap length more ∙ length-append old.instants.items (said.instant ∷ []) in
-          let most : length old.instants.items ≤ 366 = a.lists.1 in
-          omega (arith, l, most, few),
+      subst (AllZip (IsListed object name) grown) (sym more_said)
+          (push_zip (IsListed object name) done (map time_of old.times.items) (line, text) (time_of said.time) a.lists.0 (plain, (says.0, says.1, says.2, says.3))),
+      let l : length new.times.items ≡ length old.times.items + 1 = ap length more ∙ length-append old.times.items (said.time ∷ []) in
+          let k = length-map new.times.items time_of in
+          let most : length old.times.items ≤ 366 = subst (λ n. n ≤ 366) (length-map old.times.items time_of) a.lists.1 in
+          omega (arith, l, k, most, few),
     )
 
     pub one_listed : IsKept old said new → AreListed object name grown new
     one_listed (inl (is, same)) = record {
       lists = listed;
-      inside = λ h. subst (AllZip (IsInside object) grown) (sym more)
-          (push_zip (IsInside object) done old.instants.items (line, text) said.instant (a.inside (sym same ∙ h)) (says.0, says.1, says.2, says.3, says.4.0 is));
+      inside = λ h. subst (AllZip (IsInside object) grown) (sym more_said)
+          (push_zip (IsInside object) done (map time_of old.times.items) (line, text) (time_of said.time) (a.inside (sym same ∙ h)) (says.0, says.1, says.2, says.3, says.4.0 is));
       outside = λ h. let o = a.outside (sym same ∙ h) in (o.0, Contains-append_left done ((line, text) ∷ []) o.0 o.1, o.2);
     }
     one_listed (inr (not, now)) = record {
       lists = listed;
       inside = λ h. absurd (true≢false (sym h ∙ now));
-      outside = λ h. ((line, text), Contains-push done (line, text), (says.0, says.1, said.instant, says.2, says.3, λ d. true≢false (sym (says.4.1 d) ∙ not)));
+      outside = λ h. ((line, text), Contains-push done (line, text), (time_of said.time, says.0, says.1, says.2, says.3, λ d. true≢false (sym (says.4.1 d) ∙ not)));
     }
 
-  pub full : length old.instants.items ≡ 366 → EntriesFault object name grown 56
+  pub full : length old.times.items ≡ 366 → EntriesFault object name grown 56
   full h =
-      let l = zip_length (IsListed object name) done old.instants.items a.lists.0 in
+      let l = zip_length (IsListed object name) done (map time_of old.times.items) a.lists.0 in
+      let m = length-map old.times.items time_of in
       let k = length-append done ((line, text) ∷ []) in
-      too_many (omega (arith, l, k, h))
+      too_many (omega (arith, l, m, k, h))
 
   pub period : is_period name text ≡ true → EntriesFault object name grown 56
   period h = in_entry (line, text) (Contains-push done (line, text)) (inl (h, refl))

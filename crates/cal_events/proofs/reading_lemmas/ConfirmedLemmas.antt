@@ -8,10 +8,12 @@ use Rattle.std.proofs.lemmas.Int.{ints}
 use Rattle.std.proofs.lemmas.List.{get_or_default, append_assoc, length-append, get_or-append_right}
 use Rattle.std.proofs.lemmas.List.Elements.{All-from_recursion, All-contains}
 use Rattle.profile.specs.text.Lines.{logical_lines}
-use Rattle.profile.specs.text.Trees.{Tree, vevents}
+use Rattle.profile.specs.text.Trees.{Tree, tree_own, vevents}
+use Rattle.profile.specs.series.RoomZones.{IsRoomZone}
+use Rattle.profile.specs.events.Placed.{SaysPlaced}
 use Rattle.profile.specs.checker.Instances.{Key, Instance}
 use Rattle.profile.specs.checker.Calendars.{SpellsCalendar, IsConfirmedIn, SayEvents}
-use Rattle.profile.specs.events.EventComponents.{EventComponent, SaysEventComponent, meeting_said}
+use Rattle.profile.specs.events.EventComponents.{EventComponent, meeting_said}
 use Rattle.profile.specs.events.Events.{Event as Whole, is_master}
 use Rattle.profile.specs.events.Starts.{ComesBefore}
 use Rattle.profile.specs.events.Spans.{AreSaidSeries}
@@ -20,7 +22,7 @@ use Rattle.profile.specs.events.Confirmed.{by_its_rule, Confirmed, is_kept, is_s
 use Rattle.cal_events.specs.Calendar.{HaveDifferentKeys}
 use Rattle.cal_events.specs.Draft.{IsSaid}
 use Rattle.cal_events.proofs.shared_lemmas.InOneOrder.{later, none_in, in_filtered, of_filtered, head_pairs, tail_pairs, cons_pairs, append_pairs}
-use Rattle.cal_events.proofs.reading_lemmas.OneCalendar.{OneEvent, same_events}
+use Rattle.cal_events.proofs.reading_lemmas.OneCalendar.{OneEvent, OneRoomZone, room_words, same_events}
 use Rattle.cal_events.proofs.reading_lemmas.OneText.{OneTree}
 use Rattle.cal_events.proofs.shared_lemmas.SeriesLemmas.{of_its_series, in_its_series, zip_with, zip_back}
 use Rattle.cal_events.proofs.shared_lemmas.OwnSingles.{of_both, is_a_master, master_alone, override_alone, one_of_key}
@@ -174,20 +176,23 @@ module _ (events : List EventComponent) (masters : MastersDiffer events) (overri
 -- ---- calendars
 
 all_said : (object : Tree) (events : List EventComponent) → SayEvents object events → All IsSaid events
-all_said object events z = All-from_recursion IsSaid events (go (vevents object) events z)
+all_said object events s = All-from_recursion IsSaid events (go (vevents object) events s.each)
   where
-    go : (vs : List (List (List ℕ))) (es : List EventComponent) → AllZip (SaysEventComponent object None) vs es → AllByRecursion IsSaid es
+    named : (words : List ℕ) × IsRoomZone words s.zone
+    named = room_words (tree_own object) s.zone s.names
+
+    go : (vs : List (List (List ℕ))) (es : List EventComponent) → AllZip (SaysPlaced s.zone object None) vs es → AllByRecursion IsSaid es
     go [] [] z = tt
     go [] (e ∷ es) z = absurd z
     go (v ∷ vs) [] z = absurd z
-    go (v ∷ vs) (e ∷ es) z = ((object, v, z.0), go vs es z.1)
+    go (v ∷ vs) (e ∷ es) z = (record { words = named.0; room = s.zone; named = named.1; object = object; lines = v; says = z.0 }, go vs es z.1)
 
-module _ (tree : OneTree) (one : OneEvent) (room octets : List ℕ) (all : Confirmed) (s : SpellsCalendar room octets all) where
+module _ (tree : OneTree) (one : OneEvent) (words : OneRoomZone) (room octets : List ℕ) (all : Confirmed) (s : SpellsCalendar room octets all) where
   -- the octets say one list of events
   same_as : {b : Instance} (h : IsConfirmedIn room octets b) → h.events ≡ s.says.events
   same_as h =
       let same : h.tree ≡ s.tree = tree 7 7 (logical_lines octets) h.tree s.tree h.object.spelled s.object.spelled in
-      same_events one s.tree h.events s.says.events (subst (λ (t : Tree). SayEvents t h.events) same h.says) s.says.says
+      same_events one words s.tree h.events s.says.events (subst (λ (t : Tree). SayEvents t h.events) same h.says) s.says.says
 
   of_events : (b : Instance) → IsConfirmedIn room octets b → IsConfirmed room s.says.events b
   of_events b h = subst (λ (es : List EventComponent). IsConfirmed room es b) (same_as h) h.is
@@ -240,11 +245,14 @@ module _ (tree : OneTree) (one : OneEvent) (room octets : List ℕ) (all : Confi
       let m = master_of series c in
       let said = All-contains IsSaid s.says.events m.master (all_said s.tree s.says.events s.says.says) m.among in
       merely (record {
-        object = said.0;
+        words = said.words;
+        room = said.room;
+        named = said.named;
+        object = said.object;
         method = None;
-        lines = said.1;
+        lines = said.lines;
         event = m.master;
-        says = said.2;
+        says = said.says;
         master = by_its_rule m.master m.of.replaced;
         is = m.of.is;
         times = refl;

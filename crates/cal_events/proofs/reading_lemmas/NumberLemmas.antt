@@ -1,7 +1,7 @@
 -- The numbers of the faults of a VEVENT, and which of them are left where no time names a zone.
 -- Cited by read_event.
 use Rattle.std.proofs.Common.{eqb, ◌≡◌, ◌∙◌, ap, refl, inl, inr, ℕ, Bool, true, false, cond, ◌||◌, List, codes}
-use Rattle.std.specs.Prelude.{Option, Some, None, ◌⊎◌}
+use Rattle.std.specs.Prelude.{Option, Some, None}
 use Rattle.ical_lines.specs.Fault.{RefusesOnly, RefusesBy}
 use Rattle.ical_lines.specs.declared.fault.Fault.{Fault}
 use Rattle.ical_lines.specs.declared.fault.Fault.TheVariants.{Refused, Memory}
@@ -9,11 +9,11 @@ use Rattle.profile.specs.faults.Faults.{is_event_fault, is_zoned_event_fault, is
 use Rattle.profile.specs.text.Lines.{line_param, line_value}
 use Rattle.profile.specs.text.Trees.{Tree}
 use Rattle.profile.specs.series.ZoneTexts.{PartsFault, no_part, in_part, ruled, other_parts, unruled, unmatched, close, TimesFault, dates, missing, twice as part_twice, fixed, bad_start as bad_part, bad_from, bad_to}
-use Rattle.profile.specs.events.Properties.{TimeKind, DateTime, Date, Period, Other, time_kind, UnfixedOrMalformed, IsDateText, IsLocalText, KindFault, ends_in_z}
-use Rattle.profile.specs.events.ZonedTimes.{zone_named, DateOrMalformed, LocalFault, NamedFault, FaultIn, ZonedTimeFault, EventTimesFault, bad_start, bad_end, bad_duration, ends_early, ends_late, lasts_long, starts_out, ends_out, no_start, twice as times_twice, end_and_duration}
+use Rattle.profile.specs.events.Properties.{TimeKind, Unsaid, DateTime, Date, Period, Other, time_kind, NoTimeFault, KindFault, ends_in_z}
+use Rattle.profile.specs.events.ZonedTimes.{zone_named, LocalFault, NamedFault, FaultIn, ZonedTimeFault, EventTimesFault, bad_start, bad_end, bad_duration, ends_early, ends_late, lasts_long, starts_out, ends_out, other_form, part_of_day, no_start, twice as times_twice, end_and_duration}
 use Rattle.profile.specs.series.RuleTexts.{RuleFault, unknown, bad_value, no_frequency, two_frequencies, twice as rule_twice, apart, two_ends}
 use Rattle.profile.specs.events.EventRules.{EventRuleFault, bad_rule, starts_outside, two_rules}
-use Rattle.profile.specs.events.Occurrences.{ListedTime, EntryFault, entries_named, EntriesFault, in_entry, too_many, OccurrenceFault, bad_recurrence, bad_additions, bad_exceptions, recurrence_out, additions_out, two_recurrences, ranged, recurs}
+use Rattle.profile.specs.events.Occurrences.{ListedTime, EntryFault, entries_named, EntriesFault, in_entry, too_many, OccurrenceFault, bad_recurrence, bad_additions, bad_exceptions, recurrence_out, additions_out, unfixed, two_recurrences, ranged, recurs}
 use Rattle.profile.specs.events.EventComponents.{EventComponentFault, in_times, in_rule, in_occurrences, bad_stamp, bad_uid, bad_organiser, bad_attendee, bad_sequence, no_uid, no_stamp_given, twice, no_organiser, Method}
 
 abbrev Lines : Type 0
@@ -25,23 +25,20 @@ malformed_is : (b : Bool) → is_event_fault (cond b 10 11) ≡ true
 malformed_is true = refl
 malformed_is false = refl
 
-unfixed_number : (P : Type 0) (text : List ℕ) (n : ℕ) → UnfixedOrMalformed P text n → is_event_fault n ≡ true
-unfixed_number P text n (inl (_, e)) = ap is_event_fault e
-unfixed_number P text n (inr (_, e)) = ap is_event_fault e ∙ malformed_is (ends_in_z text)
+no_time_number : (text : List ℕ) (n : ℕ) → NoTimeFault text n → is_event_fault n ≡ true
+no_time_number text n f = ap is_event_fault f.2 ∙ malformed_is (ends_in_z text)
 
 kind_number : (kind : TimeKind) (text : List ℕ) (n : ℕ) → KindFault kind text n → is_event_fault n ≡ true
-kind_number DateTime text n f = unfixed_number (IsDateText text ⊎ IsLocalText text) text n f.1
-kind_number Date text n f = unfixed_number (IsDateText text) text n f
+kind_number Unsaid text n f = no_time_number text n f.1
+kind_number DateTime text n f = no_time_number text n f
+kind_number Date text n f = ap is_event_fault f.1
 kind_number Period text n f = ap is_event_fault f
 kind_number Other text n f = ap is_event_fault f
 
-date_number : (text : List ℕ) (n : ℕ) → DateOrMalformed text n → is_event_fault n ≡ true
-date_number text n (inl (_, e)) = ap is_event_fault e
-date_number text n (inr (_, e)) = ap is_event_fault e
-
 local_number : (kind : TimeKind) (text : List ℕ) (n : ℕ) → LocalFault kind text n → is_event_fault n ≡ true
-local_number DateTime text n f = date_number text n f.1
-local_number Date text n f = date_number text n f
+local_number Unsaid text n f = ap is_event_fault f.1
+local_number DateTime text n f = ap is_event_fault f.1
+local_number Date text n f = ap is_event_fault f
 local_number Period text n f = ap is_event_fault f
 local_number Other text n f = ap is_event_fault f
 
@@ -89,6 +86,8 @@ times_number object lines n (ends_late x) = refl
 times_number object lines n (lasts_long l) = refl
 times_number object lines n (starts_out l) = refl
 times_number object lines n (ends_out l) = refl
+times_number object lines n (other_form x) = refl
+times_number object lines n (part_of_day x) = refl
 times_number object lines n (no_start _ h) = refl
 times_number object lines n (times_twice name c h) = refl
 times_number object lines n (end_and_duration e d) = refl
@@ -129,12 +128,13 @@ entries_number : (object : Tree) (name : List ℕ) (es : List ListedTime) (n : �
 entries_number object name es n (in_entry e c f) = entry_number object name e n f
 entries_number object name es n (too_many more) = refl
 
-occurrence_number : {added : Bool} (object : Tree) (lines : Lines) (n : ℕ) → OccurrenceFault added object lines n → is_meeting_event_fault n ≡ true
+occurrence_number : {added by_fixed : Bool} (object : Tree) (lines : Lines) (n : ℕ) → OccurrenceFault added by_fixed object lines n → is_meeting_event_fault n ≡ true
 occurrence_number object lines n (bad_recurrence l) = meeting_wider n (series_wider n (line_number object l.0 n l.2))
 occurrence_number object lines n (bad_additions f) = entries_number object (codes "RDATE") (entries_named (codes "RDATE") lines) n f
 occurrence_number object lines n (bad_exceptions f) = entries_number object (codes "EXDATE") (entries_named (codes "EXDATE") lines) n f
 occurrence_number object lines n (recurrence_out l) = refl
 occurrence_number object lines n (additions_out e c out) = refl
+occurrence_number object lines n (unfixed u l) = refl
 occurrence_number object lines n (two_recurrences t) = refl
 occurrence_number object lines n (ranged l) = refl
 occurrence_number object lines n (recurs t) = refl

@@ -1,15 +1,25 @@
 -- The VEVENTs of an object say at most one calendar for a room, and none where they have a fault.
 -- Cited by one_calendar.
-use Rattle.std.proofs.Common.{◌≡◌, ◌∙◌, ℕ, List, filter, subst, sym, ap, inl, inr, arith, Option, None}
+use Rattle.std.proofs.Common.{◌≡◌, ◌∙◌, ℕ, false, List, codes, filter, subst, sym, ap, refl, inl, inr, arith, Option, None, Some}
+use Rattle.std.specs.Prelude.{unwrap_or}
 use Rattle.std.specs.List.{AllZip, flat_map}
-use Rattle.profile.specs.text.Trees.{Tree, vevents}
+use Rattle.profile.specs.text.Lines.{line_value}
+use Rattle.profile.specs.text.Trees.{Tree, tree_own, vevents}
+use Rattle.profile.specs.series.Zones.{Zone}
+use Rattle.profile.specs.series.RoomZones.{IsRoomZone, IsNoRoomZone, IsRoomZoneLine, NamesRoomZone, RoomZoneFault}
+use Rattle.profile.specs.events.Properties.{BothOrNeither}
+use Rattle.profile.specs.events.Placed.{SaysPlaced}
 use Rattle.profile.specs.checker.Instances.{Instance}
 use Rattle.profile.specs.events.EventComponents.{EventComponent, SaysEventComponent, EventComponentFault, Method}
 use Rattle.profile.specs.events.Confirmed.{Confirmed, IsSingle, AreSingles, IsSeries, is_series, MastersDiffer, OverridesDiffer}
-use Rattle.profile.specs.checker.Calendars.{SaysCalendar, CalendarFault, in_event, two_masters, two_overrides}
+use Rattle.profile.specs.checker.Calendars.{SayEvents, SaysCalendar, CalendarFault, in_zone, in_event, two_masters, two_overrides}
 use Rattle.std.proofs.lemmas.Int.{ints}
 use Rattle.std.proofs.lemmas.List.Elements.{All-contains}
 use Rattle.profile.specs.events.Starts.{ComesBefore}
+use Rattle.ical_tree.proofs.OneLine.{IsFunctional}
+use Rattle.cal_events.proofs.component_lemmas.Said.{same_said, said_by}
+use Rattle.cal_events.proofs.shared_lemmas.OneTimes.{at_most_one}
+use Rattle.cal_events.proofs.shared_lemmas.Placing.{one_said_placed}
 use Rattle.cal_events.proofs.shared_lemmas.InOneOrder.{one_order}
 use Rattle.cal_events.proofs.shared_lemmas.SeriesLemmas.{one_series}
 use Rattle.cal_events.proofs.shared_lemmas.Zips.{zip_one, zip_at}
@@ -20,8 +30,37 @@ OneEvent = (object : Tree) (m : Option Method) (lines : List (List ℕ)) (a b : 
 abbrev pub NoFault : Type 0
 NoFault = (object : Tree) (m : Option Method) (lines : List (List ℕ)) (a : EventComponent) (n : ℕ) → SaysEventComponent object m lines a → EventComponentFault object m lines n → ⊥
 
-pub same_events : OneEvent → (object : Tree) (a b : List EventComponent) → AllZip (SaysEventComponent object None) (vevents object) a → AllZip (SaysEventComponent object None) (vevents object) b → a ≡ b
-same_events one object a b s t = zip_one (SaysEventComponent object None) (λ lines x y h k. one object None lines x y h k) (vevents object) a b s t
+-- words of a room mean one zone
+abbrev pub OneRoomZone : Type 0
+OneRoomZone = (words : List ℕ) (a b : Option Zone) → IsRoomZone words a → IsRoomZone words b → a ≡ b
+
+zone_given : OneRoomZone → IsFunctional IsRoomZoneLine
+zone_given one line a b h k = one (line_value line) a b h k
+
+pub one_room : OneRoomZone → (own : List (List ℕ)) (a b : Option Zone) → NamesRoomZone own a → NamesRoomZone own b → a ≡ b
+one_room one own a b (x, s, p) (y, t, q) =
+    p ∙ ap (λ (g : Option (Option Zone)). unwrap_or g None) (same_said IsRoomZoneLine (codes "X-ROOM-ZONE") false own x y (zone_given one) s t) ∙ sym q
+
+-- which words mean, as no words are those of UTC
+pub room_words : (own : List (List ℕ)) (zone : Option Zone) → NamesRoomZone own zone → (words : List ℕ) × IsRoomZone words zone
+room_words own zone (None, s, is) = (codes "+0000", subst (IsRoomZone (codes "+0000")) (sym is) refl)
+room_words own zone (Some given, s, is) = go s.line s.is
+  where
+    go : (l : Option (List ℕ)) → BothOrNeither IsRoomZoneLine l (Some given) → (words : List ℕ) × IsRoomZone words zone
+    go None h = absurd h
+    go (Some l) h = (line_value l, subst (IsRoomZone (line_value l)) (sym is) h)
+
+pub no_room_fault : (own : List (List ℕ)) (zone : Option Zone) → NamesRoomZone own zone → RoomZoneFault own → ⊥
+no_room_fault own zone (x, s, is) (inl twice) = let few = at_most_one (codes "X-ROOM-ZONE") own s.line s.once in absurd (omega (arith, few, twice))
+no_room_fault own zone (x, s, is) (inr l) =
+    let f = said_by IsRoomZoneLine (λ line. IsNoRoomZone (line_value line)) (codes "X-ROOM-ZONE") false own x s l in l.2 f.0 f.1
+
+pub same_events : OneEvent → OneRoomZone → (object : Tree) (a b : List EventComponent) → SayEvents object a → SayEvents object b → a ≡ b
+same_events one words object a b s t =
+    let zone : s.zone ≡ t.zone = one_room words (tree_own object) s.zone t.zone s.names t.names in
+    let named = room_words (tree_own object) t.zone t.names in
+    zip_one (SaysPlaced t.zone object None) (λ lines x y h k. one_said_placed one named.0 t.zone named.1 object None lines x y h k) (vevents object) a b
+    (subst (λ (z : Option Zone). AllZip (SaysPlaced z object None) (vevents object) a) zone s.each) t.each
 
 never_first : (x : Instance) → ComesBefore x x → ⊥
 never_first x (inl l) = absurd (omega (arith, ints, l))
@@ -42,9 +81,9 @@ one_list room events event a b s t =
 confirmed_same : (a b : Confirmed) → a.series ≡ b.series → a.singles ≡ b.singles → a ≡ b
 confirmed_same a b p q = λ i. record { series = p i; singles = q i }
 
-pub one_calendar : OneEvent → (room : List ℕ) (object : Tree) (a b : Confirmed) → SaysCalendar room object a → SaysCalendar room object b → a ≡ b
-one_calendar one room object a b s t =
-    let same : s.events ≡ t.events = same_events one object s.events t.events s.says t.says in
+pub one_calendar : OneEvent → OneRoomZone → (room : List ℕ) (object : Tree) (a b : Confirmed) → SaysCalendar room object a → SaysCalendar room object b → a ≡ b
+one_calendar one words room object a b s t =
+    let same : s.events ≡ t.events = same_events one words object s.events t.events s.says t.says in
     let lists : s.are.lists ≡ t.are.lists =
     zip_one (AreSingles room t.events) (one_list room t.events) t.events s.are.lists t.are.lists (subst (λ (es : List EventComponent). AllZip (AreSingles room es) es s.are.lists) same s.are.each) t.are.each in
     let series : a.series ≡ b.series =
@@ -52,8 +91,9 @@ one_calendar one room object a b s t =
     (subst (λ (es : List EventComponent). AllZip (IsSeries es) (filter (is_series room) es) a.series) same s.are.series) t.are.series in
     confirmed_same a b series (s.are.singles ∙ ap (flat_map (λ own. own)) lists ∙ sym t.are.singles)
 
-pub no_fault : OneEvent → NoFault → (room : List ℕ) (object : Tree) (a : Confirmed) (n : ℕ) → SaysCalendar room object a → CalendarFault object n → ⊥
-no_fault one sound room object a n s (in_event lines at fault) =
-    let e = zip_at (SaysEventComponent object None) (vevents object) s.events lines s.says at in sound object None lines e.0 n e.1 fault
-no_fault one sound room object a n s (two_masters events says twins) = twins (subst MastersDiffer (same_events one object s.events events s.says says) s.masters)
-no_fault one sound room object a n s (two_overrides events says twins) = twins (subst OverridesDiffer (same_events one object s.events events s.says says) s.overrides)
+pub no_fault : OneEvent → NoFault → OneRoomZone → (room : List ℕ) (object : Tree) (a : Confirmed) (n : ℕ) → SaysCalendar room object a → CalendarFault object n → ⊥
+no_fault one sound words room object a n s (in_zone fault) = no_room_fault (tree_own object) s.says.zone s.says.names fault
+no_fault one sound words room object a n s (in_event lines at fault) =
+    let e = zip_at (SaysPlaced s.says.zone object None) (vevents object) s.events lines s.says.each at in sound object None lines e.1.0 n e.1.1 fault
+no_fault one sound words room object a n s (two_masters events says twins) = twins (subst MastersDiffer (same_events one words object s.events events s.says says) s.masters)
+no_fault one sound words room object a n s (two_overrides events says twins) = twins (subst OverridesDiffer (same_events one words object s.events events s.says says) s.overrides)

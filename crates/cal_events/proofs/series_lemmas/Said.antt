@@ -11,6 +11,9 @@ use Rattle.cal_events.proofs.shared_lemmas.OwnSingles.{of_master}
 
 pub series_is_said : (series : Event) (own : EventComponent) → series ≡ of_master own → is_some own.rule ≡ true → own.additions ≡ [] → ∥ AreSaidWith own.times own.rule ∥₁ → ∥ IsSaidSeries series ∥₁
 series_is_said series own is recurs none said = ∥∥₁_map said (λ s. record {
+  words = s.words;
+  room = s.room;
+  named = s.named;
   object = s.object;
   method = s.method;
   lines = s.lines;

@@ -11,6 +11,7 @@ use Rattle.profile.specs.text.Lines.{line_value, line_param}
 use Rattle.profile.specs.text.Trees.{Tree}
 use Rattle.profile.specs.series.Zones.{Zone, Constant, Single, Pair, Observance, IsZoneOnset, InForce, Since, Until, IsOneMeaning, Means}
 use Rattle.profile.specs.series.ZoneTexts.{AreMatched}
+use Rattle.profile.specs.events.Properties.{Form, Fixed, Floating, WholeDay}
 use Rattle.profile.specs.events.ZonedTimes.{zone_named, SaysZoneOf, SpellsZoned, SaysZonedText, clock_of}
 use Rattle.profile.specs.events.EventComponents.{Method, EventComponent as SaidComponent, SaysEventComponent}
 use Rattle.profile.specs.events.Events.{is_master}
@@ -73,9 +74,11 @@ ascends (Pair o s) m a b t u p q w = later o.offset_from o.offset_to a b t u (ne
 
 -- ---- the clocks of an event
 
-clock_ascends : (object : Tree) (line text : List ℕ) (zone : Option Zone) (local : ℤ) → SaysZonedText object line text zone local → IsAscending (clock_of zone)
-clock_ascends object line text None local h = ascends (Constant (pos 0)) tt
-clock_ascends object line text (Some zone) local h = spelled (line_param (codes "TZID") line) h.1
+clock_ascends : (object : Tree) (line text : List ℕ) (form : Form) (zone : Option Zone) (local : ℤ) → SaysZonedText object line text form zone local → IsAscending (clock_of zone)
+clock_ascends object line text form None local h = ascends (Constant (pos 0)) tt
+clock_ascends object line text Floating (Some zone) local (_, (_, e, _)) = cc
+clock_ascends object line text WholeDay (Some zone) local (_, (_, e, _)) = cc
+clock_ascends object line text Fixed (Some zone) local h = spelled (line_param (codes "TZID") line) h.1
   where
     named : (o : Option Tree) → SaysZoneOf o zone → IsAscending zone
     named None says = absurd says
@@ -87,8 +90,10 @@ clock_ascends object line text (Some zone) local h = spelled (line_param (codes 
 
 pub clock_good : (object : Tree) {m : Option Method} (lines : Lines) (event : SaidComponent) → SaysEventComponent object m lines event → HasGoodClock event
 clock_good object lines event s = elim s.times [
-  | inl t ↦
-      (clock_one object t.line (line_value t.line) event.times.zone event.times.local t.says, clock_ascends object t.line (line_value t.line) event.times.zone event.times.local t.says)
+  | inl t ↦ (
+    clock_one object t.line (line_value t.line) event.times.form event.times.zone event.times.local t.says,
+    clock_ascends object t.line (line_value t.line) event.times.form event.times.zone event.times.local t.says,
+  )
   | inr (_, t) ↦ subst (λ (z : Option Zone). IsOneMeaning (clock_of z) × IsAscending (clock_of z)) (sym t.zone) (one_meaning (Constant (pos 0)) tt, ascends (Constant (pos 0)) tt)
 ]
 

@@ -1,11 +1,10 @@
 -- What the readers of a VEVENT's properties say, put together.
 -- Cited by EventComponent::status_of of component, read_attendees of component_values, read_organiser of component_values, read_sequence of component_values, read_stamp of component_values, read_summary of component_values and 10 more.
-use Rattle.std.proofs.Common.{◌≡◌, ℕ, zero, suc, ◌+◌, ◌<◌, Bool, true, false, eqb, List, [], ◌∷◌, ◌++◌, length, get_or, drop, drop-cons, add-one, append_assoc, cond, map, codes, subst, sym, refl, ap, ◌∙◌, inl, inr, arith, ℤ, Option}
-use Rattle.std.specs.Prelude.{Option, Some, None, option_map, unwrap_or, Result, Ok, Err, is_ok, is_some, IfOk, OnOk, OnErr, IfSome, IfNone, Contains, IsTrue, ◌↔◌}
+use Rattle.std.proofs.Common.{◌≡◌, ℕ, zero, suc, ◌+◌, ◌<◌, Bool, true, false, eqb, List, [], ◌∷◌, ◌++◌, length, get_or, drop, drop-cons, add-one, append_assoc, cond, map, codes, subst, sym, refl, ap, ◌∙◌, inl, inr, arith, Option}
+use Rattle.std.specs.Prelude.{Option, Some, option_map, unwrap_or, Result, Ok, Err, IfOk, OnOk, Contains, IsTrue}
 use Rattle.std.specs.List.{AllZip, find}
 use Rattle.std.proofs.lemmas.List.{map-append}
 use Rattle.std.proofs.lemmas.List.Elements.{Contains-append_right}
-use Rattle.std.proofs.lemmas.Bool.{true≢false}
 use Rattle.std.proofs.lemmas.Bool.Decides.{nat_tests}
 use Rattle.ical_lines.specs.Fault.{RefusesOnly, RefusesBy}
 use Rattle.ical_lines.specs.declared.fault.Fault.{Fault}
@@ -16,10 +15,10 @@ use Rattle.ical_values.specs.Octets.{text_octets}
 use Rattle.ical_values.specs.declared.text.Text.{Text}
 use Rattle.cal_events.specs.declared.component.Attendee.{Attendee}
 use Rattle.profile.specs.text.Lines.{line_value}
-use Rattle.profile.specs.text.Values.{SpellsDate, SpellsLocal, SpellsSequence, SpellsDuration, SpellsLong, IsUid, unescaped}
+use Rattle.profile.specs.text.Values.{SpellsSequence, SpellsDuration, SpellsLong, IsUid, unescaped}
 use Rattle.profile.specs.text.Trees.{Tree}
 use Rattle.profile.specs.events.EventComponents.{SaysSequence, EventComponentFault, IsAttendee, bad_attendee, Method, first_text, summary_of}
-use Rattle.profile.specs.events.Properties.{is_of, lines_named, OccursAtMostOnce, SomeLine, Says, IsUidLine, IsDateText, IsLocalText, IsNegativeOrLong, IsNoAddress}
+use Rattle.profile.specs.events.Properties.{is_of, lines_named, OccursAtMostOnce, SomeLine, Says, IsUidLine, IsNegativeOrLong, IsNoAddress}
 use Rattle.cal_events.specs.Component.{attendee_of}
 use Rattle.ical_tree.proofs.OneLine.{the_line}
 
@@ -59,18 +58,6 @@ sequence_said (Ok n) lines line value once v h = (
   refl,
 )
 sequence_said (Err e) lines line value once v h = tt
-
--- ---- times
-
--- a text is a local time where it is read as one
-pub local_test : (r : Result ℤ Refusal) (text : List ℕ) (b : Bool) → b ≡ is_ok r → IfOk r (SpellsLocal text) → OnErr r ((t : ℤ) → SpellsLocal text t → ⊥) → ((b ≡ true) ↔ IsLocalText text)
-local_test (Ok t) text b e h none = (λ _. (t, h), λ _. e)
-local_test (Err x) text b e h none = (λ is. absurd (true≢false (sym is ∙ e)), λ l. absurd (none l.0 l.1))
-
--- and a date where it is read as one
-pub date_test : (o : Option ℤ) (text : List ℕ) (b : Bool) → b ≡ is_some o → IfSome o (SpellsDate text) → IfNone o ((number : ℤ) → SpellsDate text number → ⊥) → ((b ≡ true) ↔ IsDateText text)
-date_test (Some number) text b e h none = (λ _. (number, h), λ _. e)
-date_test None text b e h none = (λ is. absurd (true≢false (sym is ∙ e)), λ d. absurd (none d.0 d.1))
 
 -- ---- durations
 

@@ -1,8 +1,8 @@
 -- The event with its instances that an object says, or the fault that it has.
 -- Cited by Event::read of event, MeetingComponents::of of meeting_components, MeetingComponents::read of meeting_components, judge_meeting of meeting_components, read_meeting of meeting_components.
-use Rattle.std.proofs.Common.{◌≡◌, ◌∙◌, ℕ, zero, suc, ◌<◌, ◌≤◌, Bool, true, false, ◌&&◌, cond, List, [], ◌∷◌, ◌++◌, length, map, filter, append-nil, sym, ap, subst, refl, inl, inr, arith, ℤ, ◌||◌}
+use Rattle.std.proofs.Common.{◌≡◌, ◌∙◌, ℕ, zero, suc, ◌<◌, ◌≤◌, Global, Bool, true, false, ◌&&◌, cond, List, [], ◌∷◌, ◌++◌, length, map, filter, append-nil, sym, ap, subst, refl, inl, inr, arith, ℤ, ◌||◌}
 use Rattle.std.specs.Option.{option_to_list}
-use Rattle.std.specs.Prelude.{Option, Some, None, Contains, unwrap_or, Result, Ok, Err, IfOk, IfErr}
+use Rattle.std.specs.Prelude.{Option, Some, None, Contains, unwrap_or, Result, Ok, Err, IfOk, IfErr, Vec}
 use Rattle.std.specs.List.{AllZip, list_all}
 use Rattle.std.proofs.lemmas.List.Folds.{list_all-map}
 use Rattle.std.specs.Str.{bytes_eq}
@@ -22,15 +22,18 @@ use Rattle.ical_tree.proofs.TreeOfLemmas.{object_tree}
 use Rattle.ical_values.proofs.Exits.{err_exit}
 use Rattle.profile.specs.text.Lines.{logical_lines, reads_as_lines}
 use Rattle.profile.specs.text.Trees.{Tree, vevents}
-use Rattle.profile.specs.events.EventComponents.{EventComponent as SaidComponent, SaysEventComponent, meeting_said, Method, Store, Request, Add, Cancel, Reply, Refresh}
+use Rattle.profile.specs.series.Zones.{Zone}
+use Rattle.profile.specs.events.Placed.{SaysPlaced}
+use Rattle.profile.specs.events.EventComponents.{EventComponent as SaidComponent, meeting_said, Method, Store, Request, Add, Cancel, Reply, Refresh}
 use Rattle.profile.specs.events.Events.{Event, as_added, taken_by, is_same_meeting, is_master, is_override, is_meeting_fault, AreOfOne, InstancesDiffer, SaysEvent, SpellsEvent, EventFault, in_event, two_masters, two_overrides, no_event, two_meetings, EventTextFault, in_lines, in_tree, no_version, many_events, in_vevents}
 use Rattle.cal_events.specs.Component.{component_of, IsFaultAmong}
 use Rattle.cal_events.specs.declared.component.EventComponent.{EventComponent}
-use Rattle.cal_events.specs.MeetingComponents.{instants_said, AreOfObject, IsNotOne, SharesSlot}
+use Rattle.cal_events.specs.MeetingComponents.{instants_said, AreOfObject, AreOfObjectIn, IsNotOne, SharesSlot}
 use Rattle.cal_events.specs.Event.{said_meeting}
 use Rattle.cal_events.specs.declared.event.Event as declared
 use Rattle.cal_events.proofs.shared_lemmas.InOneOrder.{of_mapped}
 use Rattle.cal_events.proofs.shared_lemmas.ObjectFaults.{no_object}
+use Rattle.cal_events.proofs.shared_lemmas.Placing.{all_written}
 
 -- ---- one meeting
 
@@ -107,9 +110,9 @@ as_many_taken (Some Cancel) events = refl
 as_many_taken (Some Reply) events = refl
 as_many_taken (Some Refresh) events = refl
 
-pub object_there : (object : Tree) (m : Option Method) (vs : List (List (List ℕ))) (said taken : List SaidComponent) → AllZip (SaysEventComponent object m) vs said → taken ≡ taken_by m said
-    → 0 < length said → AreOfOne said → length (filter is_master taken) ≤ 1 → InstancesDiffer (filter is_override taken) → AreOfObject object m vs taken
-object_there object m vs said taken says is some one masters differ = record {
+pub object_there : (room : Option Zone) (object : Tree) (m : Option Method) (vs : List (List (List ℕ))) (said taken : List SaidComponent) → AllZip (SaysPlaced room object m) vs said → taken ≡ taken_by m said
+    → 0 < length said → AreOfOne said → length (filter is_master taken) ≤ 1 → InstancesDiffer (filter is_override taken) → AreOfObjectIn room object m vs taken
+object_there room object m vs said taken says is some one masters differ = record {
   said = said;
   says = says;
   taken = is;
@@ -145,29 +148,29 @@ instant_pushed ts more os new t x r e m n =
 
 -- ---- an object
 
-none_said : (object : Tree) (m : Option Method) (vs : List (List (List ℕ))) → AllZip (SaysEventComponent object m) vs [] → vs ≡ []
-none_said object m [] z = refl
-none_said object m (v ∷ vs) z = absurd z
+none_said : (room : Option Zone) (object : Tree) (m : Option Method) (vs : List (List (List ℕ))) → AllZip (SaysPlaced room object m) vs [] → vs ≡ []
+none_said room object m [] z = refl
+none_said room object m (v ∷ vs) z = absurd z
 
-module _ (object : Tree) (vs : List (List (List ℕ))) (same : vevents object ≡ vs) where
-  pub among_there : (m : Option Method) (n : ℕ) → IsFaultAmong object m vs n → EventFault object m n
+module _ (room : Option Zone) (object : Tree) (vs : List (List (List ℕ))) (same : vevents object ≡ vs) where
+  pub among_there : (m : Option Method) (n : ℕ) → IsFaultAmong object m vs n → EventFault room object m n
   among_there m n (lines, c, f) = in_event lines (subst (λ (x : List (List (List ℕ))). Contains x lines) (sym same) c) f
 
-  module _ (m : Option Method) (events : List SaidComponent) (zip : AllZip (SaysEventComponent object m) vs events) where
-    pub said : AllZip (SaysEventComponent object m) (vevents object) events
-    said = subst (λ (x : List (List (List ℕ))). AllZip (SaysEventComponent object m) x events) (sym same) zip
+  module _ (m : Option Method) (events : List SaidComponent) (zip : AllZip (SaysPlaced room object m) vs events) where
+    pub said : AllZip (SaysPlaced room object m) (vevents object) events
+    said = subst (λ (x : List (List (List ℕ))). AllZip (SaysPlaced room object m) x events) (sym same) zip
 
-    pub not_one_there : (n : ℕ) → IsNotOne events n → EventFault object m n
+    pub not_one_there : (n : ℕ) → IsNotOne events n → EventFault room object m n
     not_one_there n (inl (is, none)) =
-        subst (EventFault object m) (sym is) (no_event (none_said object m (vevents object) (subst (λ (es : List SaidComponent). AllZip (SaysEventComponent object m) (vevents object) es) none said)))
-    not_one_there n (inr (is, not)) = subst (EventFault object m) (sym is) (two_meetings events said not)
+        subst (EventFault room object m) (sym is) (no_event (none_said room object m (vevents object) (subst (λ (es : List SaidComponent). AllZip (SaysPlaced room object m) (vevents object) es) none said)))
+    not_one_there n (inr (is, not)) = subst (EventFault room object m) (sym is) (two_meetings events said not)
 
-    pub slot_there : (n : ℕ) → SharesSlot (taken_by m events) n → EventFault object m n
-    slot_there n (inl (is, more)) = subst (EventFault object m) (sym is) (two_masters events said more)
-    slot_there n (inr (is, twins)) = subst (EventFault object m) (sym is) (two_overrides events said twins)
+    pub slot_there : (n : ℕ) → SharesSlot (taken_by m events) n → EventFault room object m n
+    slot_there n (inl (is, more)) = subst (EventFault room object m) (sym is) (two_masters events said more)
+    slot_there n (inr (is, twins)) = subst (EventFault room object m) (sym is) (two_overrides events said twins)
 
     pub meeting_there : (whole : Event) → 0 < length events → AreOfOne events → filter is_master (taken_by m events) ≡ option_to_list whole.master
-        → filter is_override (taken_by m events) ≡ whole.overrides → InstancesDiffer (filter is_override (taken_by m events)) → SaysEvent object m whole
+        → filter is_override (taken_by m events) ≡ whole.overrides → InstancesDiffer (filter is_override (taken_by m events)) → SaysEvent room object m whole
     meeting_there whole some one master overrides differ = record {
       events = events;
       says = said;
@@ -192,18 +195,37 @@ component_wider (Refused r) h = wider (is_object_fault r.number) (is_meeting_eve
     wider false true c d e h = refl
     wider a false c d e h = absurd (cc)
 
+-- ---- as they are written
+
+pub object_written : (object : Tree) (m : Option Method) (vs : List (List (List ℕ))) (room : Option Zone) (events : List SaidComponent) → room ≡ None → AreOfObjectIn room object m vs events
+    → AreOfObject object m vs events
+object_written object m vs room events utc h = record {
+  said = h.said;
+  says = all_written object m vs h.said (subst (λ (r : Option Zone). AllZip (SaysPlaced r object m) vs h.said) utc h.says);
+  taken = h.taken;
+  some = h.some;
+  one = h.one;
+  masters = h.masters;
+  differ = h.differ;
+}
+
+pub meeting_written : (r : Result (Vec EventComponent Global) Fault) (object : Tree) (m : Option Method) (vs : List (List (List ℕ))) (room : Option Zone) → room ≡ None
+    → IfOk r (λ events. AreOfObjectIn room object m vs (map component_of events.items)) → IfOk r (λ events. AreOfObject object m vs (map component_of events.items))
+meeting_written (Ok events) object m vs room utc h = object_written object m vs room (map component_of events.items) utc h
+meeting_written (Err f) object m vs room utc h = tt
+
 -- ---- octets
 
-pub meeting_spelled : (r : Result declared.Event Fault) (octets : List ℕ) (c : Component) → reads_as_lines true octets ≡ true → IsObjectOf true c (logical_lines octets)
-    → IfOk r (λ event. SaysEvent (tree_of c) None (said_meeting event)) → IfOk r (λ event. SpellsEvent octets (said_meeting event))
-meeting_spelled (Ok event) octets c lines object says = record { lines = lines; tree = tree_of c; object = object_tree true c (logical_lines octets) object; says = says }
-meeting_spelled (Err f) octets c lines object says = tt
+pub meeting_spelled : (r : Result declared.Event Fault) (room : Option Zone) (octets : List ℕ) (c : Component) → reads_as_lines true octets ≡ true → IsObjectOf true c (logical_lines octets)
+    → IfOk r (λ event. SaysEvent room (tree_of c) None (said_meeting event)) → IfOk r (λ event. SpellsEvent room octets (said_meeting event))
+meeting_spelled (Ok event) room octets c lines object says = record { lines = lines; tree = tree_of c; object = object_tree true c (logical_lines octets) object; says = says }
+meeting_spelled (Err f) room octets c lines object says = tt
 
-pub fault_there : (octets : List ℕ) (c : Component) → IsObjectOf true c (logical_lines octets) → (f : Fault) → RefusesBy (EventFault (tree_of c) None) f → RefusesBy (EventTextFault octets) f
-fault_there octets c object Memory h = tt
-fault_there octets c object (Refused r) h = in_vevents (tree_of c) (object_tree true c (logical_lines octets) object) h
+pub fault_there : (room : Option Zone) (octets : List ℕ) (c : Component) → IsObjectOf true c (logical_lines octets) → (f : Fault) → RefusesBy (EventFault room (tree_of c) None) f → RefusesBy (EventTextFault room octets) f
+fault_there room octets c object Memory h = tt
+fault_there room octets c object (Refused r) h = in_vevents (tree_of c) (object_tree true c (logical_lines octets) object) h
 
-pub object_refused : (r : Result declared.Event Fault) (octets : List ℕ) (f : Fault) → IsErrAnd r (λ e. e ≡ f) → IsRefusalOf true octets f → IfErr r (RefusesBy (EventTextFault octets))
-object_refused r octets f e h =
-    err_exit r (RefusesBy (EventTextFault octets)) f e
-    (no_object octets (EventTextFault octets) (λ t x. no_version t x.0 x.1) (λ t x. many_events t x.0 x.1) (λ n x. in_lines x) (λ n x. in_tree x) f h)
+pub object_refused : (r : Result declared.Event Fault) (room : Option Zone) (octets : List ℕ) (f : Fault) → IsErrAnd r (λ e. e ≡ f) → IsRefusalOf true octets f → IfErr r (RefusesBy (EventTextFault room octets))
+object_refused r room octets f e h =
+    err_exit r (RefusesBy (EventTextFault room octets)) f e
+    (no_object octets (EventTextFault room octets) (λ t x. no_version t x.0 x.1) (λ t x. many_events t x.0 x.1) (λ n x. in_lines x) (λ n x. in_tree x) f h)

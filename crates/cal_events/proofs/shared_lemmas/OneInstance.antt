@@ -1,7 +1,7 @@
 -- The instances of an event that octets spell: one at each place, in the dates that an event may name. None ends before it starts.
 -- Cited by EventComponent::read of component, Event::of_object of event, one_instance of event.
-use Rattle.std.proofs.Common.{◌≡◌, ◌∙◌, ℕ, zero, suc, ◌*◌, ◌<◌, ◌≤◌, true, ◌&&◌, nat_le, List, [], ◌∷◌, codes, map, filter, get_or, length, sym, ap, subst, refl, inl, inr, ◌⊎◌, arith, ℤ, pos, ◌+ℤ◌, ◌-ℤ◌, ◌≤ℤ◌, unsigned_abs, Bool}
-use Rattle.std.specs.Prelude.{Option, Some, None, All, Contains}
+use Rattle.std.proofs.Common.{◌≡◌, ◌∙◌, ℕ, zero, suc, ◌*◌, ◌<◌, ◌≤◌, true, false, ◌&&◌, nat_le, List, [], ◌∷◌, codes, map, filter, get_or, length, sym, ap, subst, refl, inl, inr, ◌⊎◌, arith, ℤ, pos, ◌+ℤ◌, ◌-ℤ◌, ◌≤ℤ◌, unsigned_abs, Bool}
+use Rattle.std.specs.Prelude.{Option, Some, None, All, Contains, option_map}
 use Rattle.std.specs.Option.{option_to_list}
 use Rattle.std.specs.List.{AllZip, AllByRecursion}
 use Rattle.std.proofs.lemmas.Int.{ints}
@@ -14,17 +14,17 @@ use Rattle.profile.specs.series.Rules.{Pattern, is_base}
 use Rattle.profile.specs.series.Zones.{Zone, Constant, Single, Pair, Observance, Onset, IsOnset, IsOffsetAt, IsOneOffset, Means}
 use Rattle.profile.specs.series.ZoneTexts.{AreMatched, AreSpaced, HasForm, pair, IsRuleOnset, PartsSay, year_pattern}
 use Rattle.profile.specs.checker.Instances.{Key, Instance}
-use Rattle.profile.specs.events.Properties.{BothOrNeither}
-use Rattle.profile.specs.events.ZonedTimes.{zone_named, SaysZoneOf, SpellsZoned, SaysZonedText, clock_of, EventTimes, SaysTimes}
-use Rattle.profile.specs.events.Occurrences.{IsRecurrenceLine}
+use Rattle.profile.specs.events.Properties.{BothOrNeither, Form, Fixed, Floating, WholeDay}
+use Rattle.profile.specs.events.ZonedTimes.{zone_named, is_in_zone, SaysZoneOf, SpellsZoned, SaysZonedText, SaysZonedTime, clock_of, IsInDates, EventTimes, SaysTimes}
+use Rattle.profile.specs.events.Occurrences.{Time, IsRecurrenceLine}
 use Rattle.profile.specs.events.EventComponents.{Method, EventComponent, SaysEventComponent}
 use Rattle.profile.specs.events.Events.{Event, is_master, is_override, InstancesDiffer, SaysEvent}
 use Rattle.profile.specs.events.Starts.{IsDaysLater, EndsAt, IsOfMaster, IsOfOverride, IsInstance, key_at}
 use Rattle.cal_events.specs.Clocks.{IsSteady}
 use Rattle.cal_events.specs.MeetingComponents.{IsInEventDates}
 use Rattle.cal_zones.proofs.Zones.{unique, once_constant, once_single, once_pair}
-use Rattle.cal_events.proofs.shared_lemmas.Meanings.{one_meaning}
-use Rattle.cal_events.proofs.shared_lemmas.OneTimes.{Lines}
+use Rattle.cal_events.proofs.shared_lemmas.Meanings.{one_meaning, utc_instant}
+use Rattle.cal_events.proofs.shared_lemmas.OneTimes.{Lines, some_zone}
 use Rattle.cal_events.proofs.shared_lemmas.Clocks.{ReadsWith, near, single_in_force, pair_in_force, single_reads, pair_reads, constant_reads, ascends}
 
 -- ---- the clocks of a zone
@@ -35,7 +35,7 @@ stays x y offset local u n (inl e) (inr p) = omega (arith, ints, n.0, n.1, e, p)
 stays x y offset local u n (inr e) (inl p) = omega (arith, ints, n.0, n.1, e, p)
 stays x y offset local u n (inr e) (inr p) = omega (arith, ints, e, p)
 
-keeps_near : (z : Zone) → AreMatched z → (t offset local u : ℤ) → IsOffsetAt z t offset → Means z local u → (local -ℤ offset) ≤ℤ (u +ℤ pos 43_200)
+pub keeps_near : (z : Zone) → AreMatched z → (t offset local u : ℤ) → IsOffsetAt z t offset → Means z local u → (local -ℤ offset) ≤ℤ (u +ℤ pos 43_200)
 keeps_near (Constant k) m t offset local u o h = omega (arith, ints, o, constant_reads k local u h)
 keeps_near (Single a) m t offset local u o h =
     stays a.offset_from a.offset_to offset local u (near a.offset_from a.offset_to m) (single_in_force a t offset o) (single_reads a local u h)
@@ -47,7 +47,7 @@ rule_onset o parts x e h =
     let t : (nat_le o.day h.day && is_base parts h.day) ≡ true = rw e at h.begins in
     record { parts = parts; rule = e; day = h.day; on = (and_parts (nat_le o.day h.day) (is_base parts h.day) t).1; read = h.read }
 
-never_at_once : (a b : Observance) (p q : Pattern) → a.rule ≡ Some p → b.rule ≡ Some q → AreSpaced (Pair a b) → (x y : Onset) → IsOnset a x → IsOnset b y → x.instant ≡ y.instant → ⊥
+pub never_at_once : (a b : Observance) (p q : Pattern) → a.rule ≡ Some p → b.rule ≡ Some q → AreSpaced (Pair a b) → (x y : Onset) → IsOnset a x → IsOnset b y → x.instant ≡ y.instant → ⊥
 never_at_once a b p q e f spaced x y h j same =
     let far = spaced x.instant y.instant (rule_onset a p x e h) (rule_onset b q y f j) in
     let none : x.instant -ℤ y.instant ≡ pos 0 = omega (arith, ints, same) in
@@ -63,7 +63,7 @@ one_offset_of z parts standards daylights s = go z s.form s.spaced
     go (Pair a b) (pair standard daylight _ _ differ one other x y) spaced t p q h j =
         unique (Pair a b) t p q (once_pair a b (never_at_once a b (year_pattern x.each a.day) (year_pattern y.each b.day) x.is y.is spaced)) h j
 
-utc_steady : IsSteady (Constant (pos 0))
+pub utc_steady : IsSteady (Constant (pos 0))
 utc_steady = record {
   offset = λ t p q h j. unique (Constant (pos 0)) t p q (once_constant (pos 0)) h j;
   meaning = one_meaning (Constant (pos 0)) tt;
@@ -71,9 +71,11 @@ utc_steady = record {
   ascends = ascends (Constant (pos 0)) tt;
 }
 
-clock_steady : (object : Tree) (line text : List ℕ) (zone : Option Zone) (local : ℤ) → SaysZonedText object line text zone local → IsSteady (clock_of zone)
-clock_steady object line text None local h = utc_steady
-clock_steady object line text (Some zone) local h = spelled (line_param (codes "TZID") line) h.1
+clock_steady : (object : Tree) (line text : List ℕ) (form : Form) (zone : Option Zone) (local : ℤ) → SaysZonedText object line text form zone local → IsSteady (clock_of zone)
+clock_steady object line text form None local h = utc_steady
+clock_steady object line text Floating (Some zone) local h = absurd (some_zone zone h.1)
+clock_steady object line text WholeDay (Some zone) local h = absurd (some_zone zone h.1)
+clock_steady object line text Fixed (Some zone) local h = spelled (line_param (codes "TZID") line) h.1
   where
     named : (o : Option Tree) → SaysZoneOf o zone → IsSteady zone
     named None says = absurd says
@@ -90,38 +92,42 @@ pub record IsSound (event : EventComponent) : Type 0 where
   pub starts : IsInEventDates event.times.start
   pub names : (slot : ℤ) → event.recurrence ≡ Some slot → IsInEventDates slot
 
-pub recurrence_named : (object : Tree) (line : Option (List ℕ)) (r : Option ℤ) (slot : ℤ) → BothOrNeither (IsRecurrenceLine object) line r → r ≡ Some slot → IsInEventDates slot
-recurrence_named object line r slot h e = go line (subst (BothOrNeither (IsRecurrenceLine object) line) e h)
-  where
-    go : (l : Option (List ℕ)) → BothOrNeither (IsRecurrenceLine object) l (Some slot) → IsInEventDates slot
-    go None h = absurd h
-    go (Some l) (_, (_, _, _, _, dates)) = (dates.1, dates.2)
+-- a start is in the dates that an event may name: one that isn't fixed is an instant by the clocks of UTC
+pub start_dated : (object : Tree) (line : List ℕ) (form : Form) (zone : Option Zone) (local t : ℤ) → SaysZonedTime object line form zone local → Means (clock_of zone) local t
+    → IsInDates false form (is_in_zone line) local t → IsInEventDates t
+start_dated object line Fixed _ local t says means dates = (dates.1, dates.2)
+start_dated object line Floating None local t says means dates = let e = utc_instant local t means in (omega (arith, ints, e, dates.0), omega (arith, ints, e, dates.1))
+start_dated object line WholeDay None local t says means dates = let e = utc_instant local t means in (omega (arith, ints, e, dates.0), omega (arith, ints, e, dates.1))
+start_dated object line Floating (Some zone) local t says means dates = absurd (some_zone zone says.1)
+start_dated object line WholeDay (Some zone) local t says means dates = absurd (some_zone zone says.1)
 
 -- its clocks, and where it starts
 pub times_sound : {may : Bool} (object : Tree) (lines : Lines) (times : EventTimes) → SaysTimes may object lines times → IsSteady (clock_of times.zone) × IsInEventDates times.start
-times_sound object lines times (inl t) = (clock_steady object t.line (line_value t.line) times.zone times.local t.says, (t.in_dates.1, t.in_dates.2))
+times_sound object lines times (inl t) = (
+  clock_steady object t.line (line_value t.line) times.form times.zone times.local t.says,
+  start_dated object t.line times.form times.zone times.local times.start t.says t.means t.in_dates,
+)
 times_sound object lines times (inr (_, t)) = (
   subst (λ (z : Option Zone). IsSteady (clock_of z)) (sym t.zone) utc_steady,
   subst IsInEventDates (sym t.start) (omega (arith, ints), omega (arith, ints)),
 )
 
+pub recurrence_named : (object : Tree) (line : Option (List ℕ)) (w : Option Time) (slot : ℤ) → BothOrNeither (IsRecurrenceLine object) line w → option_map (λ time. time.instant) w ≡ Some slot → IsInEventDates slot
+recurrence_named object None None slot h e = cc
+recurrence_named object None (Some w) slot h e = absurd h
+recurrence_named object (Some l) None slot h e = absurd h
+recurrence_named object (Some l) (Some w) slot (_, (zone, local, says, means, dates)) e =
+    subst IsInEventDates (same_Some w.instant slot e) (start_dated object l w.form zone local w.instant says means dates)
+
+-- an event as it is written
 pub event_sound : (object : Tree) {m : Option Method} (lines : Lines) (event : EventComponent) → SaysEventComponent object m lines event → IsSound event
 event_sound object lines event s =
     let t = times_sound object lines event.times s.times in
     record {
       steady = t.0;
       starts = t.1;
-      names = λ slot e. recurrence_named object s.occurrences.is.line event.recurrence slot s.occurrences.is.is e;
+      names = λ slot e. recurrence_named object s.occurrences.is.line event.written.recurrence slot s.occurrences.is.is (sym s.instants.slot ∙ e);
     }
-
-pub all_sound : (object : Tree) (m : Option Method) (vs : List Lines) (es : List EventComponent) → AllZip (SaysEventComponent object m) vs es → All IsSound es
-all_sound object m vs es z = All-from_recursion IsSound es (go vs es z)
-  where
-    go : (vs : List Lines) (es : List EventComponent) → AllZip (SaysEventComponent object m) vs es → AllByRecursion IsSound es
-    go [] [] z = tt
-    go [] (e ∷ es) z = absurd z
-    go (v ∷ vs) [] z = absurd z
-    go (v ∷ vs) (e ∷ es) z = (event_sound object v e z.0, go vs es z.1)
 
 -- an instance of it ends at one instant
 later_one : (z : Zone) (days : ℕ) (t u v : ℤ) → IsSteady z → IsDaysLater z days t u → IsDaysLater z days t v → u ≡ v
@@ -166,7 +172,7 @@ apart o os y d (k, w, e) same =
 rest_differ : (o : EventComponent) (os : List EventComponent) → InstancesDiffer (o ∷ os) → InstancesDiffer os
 rest_differ o os d i j x l w = d (suc i) (suc j) x (omega (arith, l)) (omega (arith, w))
 
-same_override : (os : List EventComponent) (a b : EventComponent) → InstancesDiffer os → Contains os a → Contains os b → a.recurrence ≡ b.recurrence → a ≡ b
+pub same_override : (os : List EventComponent) (a b : EventComponent) → InstancesDiffer os → Contains os a → Contains os b → a.recurrence ≡ b.recurrence → a ≡ b
 same_override [] a b d (k, w, e) c same = absurd (omega (arith, w))
 same_override (o ∷ os) a b d (zero, w, e) (zero, v, f) same = sym e ∙ f
 same_override (o ∷ os) a b d (zero, w, e) (suc k, v, f) same =
@@ -180,46 +186,3 @@ same_override (o ∷ os) a b d (suc k, w, e) (suc j, v, f) same =
 
 pub booked_same : (a b : Instance) → a.key ≡ b.key → a.start ≡ b.start → a.end ≡ b.end → a ≡ b
 booked_same a b p q r = λ i. record { key = p i; start = q i; end = r i }
-
-module _ (object : Tree) (meeting : Event) (s : SaysEvent object None meeting) where
-  sound : All IsSound s.events
-  sound = all_sound object None (vevents object) s.events s.says
-
-  master_sound : (m : EventComponent) → meeting.master ≡ Some m → IsSound m
-  master_sound m is =
-      let one : filter is_master s.events ≡ m ∷ [] = s.master ∙ ap (λ (x : Option EventComponent). option_to_list x) is in
-      subst (All IsSound) one (All-filter is_master IsSound s.events sound) 0 m (omega arith)
-
-  override_sound : (o : EventComponent) → Contains meeting.overrides o → IsSound o
-  override_sound o c = All-contains IsSound meeting.overrides o (subst (All IsSound) s.overrides (All-filter is_override IsSound s.events sound)) c
-
-  -- a start of the master isn't an override's
-  not_both : (a b : Instance) → IsOfMaster meeting a → IsOfOverride meeting b → a.key.slot ≡ b.key.slot → ⊥
-  not_both a b h k same =
-      let slot : b.key.slot ≡ a.start = sym same ∙ ap (λ (x : Key). x.slot) h.key in
-      h.starts.not_replaced (record { override = k.override; among = k.is; is = k.recurrence ∙ ap Some slot })
-
-  pub one_at : (a b : Instance) → IsInstance meeting a → IsInstance meeting b → a.start ≡ b.start → a.key.slot ≡ b.key.slot → a ≡ b
-  one_at a b (inl h) (inl k) start slot =
-      let m : k.master ≡ h.master = same_Some k.master h.master (sym k.is ∙ h.is) in
-      booked_same a b
-      (h.key ∙ ap (key_at h.master) start ∙ ap (λ (x : EventComponent). key_at x b.start) (sym m) ∙ sym k.key)
-      start
-      (end_one h.master.times b.start a.end b.end (master_sound h.master h.is).steady (subst (λ (t : ℤ). EndsAt h.master.times t a.end) start h.ends)
-      (subst (λ (x : EventComponent). EndsAt x.times b.start b.end) m k.ends))
-  one_at a b (inl h) (inr k) start slot = absurd (not_both a b h k slot)
-  one_at a b (inr h) (inl k) start slot = absurd (not_both b a k h (sym slot))
-  one_at a b (inr h) (inr k) start slot =
-      let o : k.override ≡ h.override = same_override meeting.overrides k.override h.override s.differ k.is h.is (k.recurrence ∙ ap Some (sym slot) ∙ sym h.recurrence) in
-      booked_same a b
-      (h.key ∙ ap (key_at h.override) slot ∙ ap (λ (x : EventComponent). key_at x b.key.slot) (sym o) ∙ sym k.key)
-      start
-      (end_one h.override.times b.start a.end b.end (override_sound h.override h.is).steady (subst (λ (t : ℤ). EndsAt h.override.times t a.end) start h.ends)
-      (subst (λ (x : EventComponent). EndsAt x.times b.start b.end) o k.ends))
-
-  pub dated : (a : Instance) → IsInstance meeting a → IsInEventDates a.key.slot × IsInEventDates a.start × (a.start ≤ℤ a.end)
-  dated a (inl h) =
-      (subst IsInEventDates (sym (ap (λ (x : Key). x.slot) h.key)) h.starts.in_dates, h.starts.in_dates, ends_after h.master.times a.start a.end (master_sound h.master h.is).steady h.ends)
-  dated a (inr h) =
-      let o = override_sound h.override h.is in
-      (o.names a.key.slot h.recurrence, subst IsInEventDates (sym h.starts) o.starts, ends_after h.override.times a.start a.end o.steady h.ends)

@@ -18,7 +18,8 @@ use Rattle.cal_events.specs.Draft.{IsSaid, IsOwnInstance, AreOwnAt, IsMadeAt}
 use Rattle.cal_events.specs.SingleStarts.{IsSingleStart, AreSingleStarts}
 use Rattle.cal_events.specs.declared.calendar.PlacedSingle.{PlacedSingle as Single}
 use Rattle.cal_events.proofs.shared_lemmas.InOneOrder.{first_or_later, later, none_in, head_pairs, tail_pairs, cons_pairs}
-use Rattle.cal_events.proofs.shared_lemmas.OneInstance.{event_sound, end_one, booked_same}
+use Rattle.cal_events.proofs.shared_lemmas.OneInstance.{end_one, booked_same}
+use Rattle.cal_events.proofs.shared_lemmas.Placing.{placed_sound}
 
 -- ---- an event by itself
 
@@ -104,7 +105,7 @@ pub not_a_master : (event : EventComponent) (slot : ℤ) → event.recurrence �
 not_a_master event slot e h = true≢false (sym h ∙ ap (λ (r : Option ℤ). not (is_some r)) e)
 
 pub steady : (event : EventComponent) → IsSaid event → IsSteady (clock_of event.times.zone)
-steady event (object, lines, says) = (event_sound object lines event says).steady
+steady event s = (placed_sound s.words s.room s.named s.object s.lines event s.says).steady
 
 -- two instances of one event with one key are one
 pub one_by_key : (event : EventComponent) (a b : Instance) → IsSteady (clock_of event.times.zone) → IsInstance (alone event) a → IsInstance (alone event) b → a.key ≡ b.key → a ≡ b

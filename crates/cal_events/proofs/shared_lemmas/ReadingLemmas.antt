@@ -1,19 +1,24 @@
 -- An object's VEVENTs, what they say, and the calendar's entries.
 -- Cited by Draft::of_object of draft, read_events of reading.
 use Rattle.std.proofs.Common.{◌≡◌, ℕ, zero, ◌+◌, ◌<◌, true, false, cond, List, [], ◌∷◌, ◌++◌, length, map, filter, get_or, take, drop, subst, sym, refl, ap, ◌∙◌, arith, Option, None}
-use Rattle.ical_lines.specs.Fault.{RefusesBy}
+use Rattle.ical_lines.specs.Fault.{RefusesBy, RefusesOnly}
 use Rattle.std.specs.Prelude.{Contains}
 use Rattle.std.specs.List.{AllZip}
 use Rattle.std.proofs.lemmas.List.{map-append, take-append-drop, append-nil}
 use Rattle.std.proofs.lemmas.List.Elements.{Contains-append_right, filter_more, filter-append}
 use Rattle.ical_lines.specs.declared.fault.Fault.{Fault}
 use Rattle.ical_lines.specs.declared.fault.Fault.TheVariants.{Refused, Memory}
-use Rattle.ical_tree.specs.Tree.{component_lines}
+use Rattle.ical_tree.specs.Tree.{component_lines, tree_of}
+use Rattle.ical_tree.proofs.TreeOfLemmas.{tree_of-own}
+use Rattle.profile.specs.faults.Faults.{is_calendar_fault}
+use Rattle.profile.specs.series.RoomZones.{RoomZoneFault}
 use Rattle.ical_tree.specs.declared.component.Component.{Component}
 use Rattle.ical_tree.proofs.OneLine.{at_place}
 use Rattle.profile.specs.text.Trees.{Tree, vevents}
-use Rattle.profile.specs.events.EventComponents.{EventComponent as SaidComponent, EventComponentFault, SaysEventComponent, Method}
-use Rattle.profile.specs.checker.Calendars.{CalendarFault, in_event}
+use Rattle.profile.specs.events.EventComponents.{EventComponent as SaidComponent, EventComponentFault, Method}
+use Rattle.profile.specs.events.Placed.{SaysPlaced}
+use Rattle.profile.specs.series.Zones.{Zone}
+use Rattle.profile.specs.checker.Calendars.{CalendarFault, in_event, in_zone}
 use Rattle.cal_events.specs.declared.component.EventComponent.{EventComponent}
 use Rattle.cal_events.specs.Component.{component_of, is_vevent}
 use Rattle.cal_events.proofs.shared_lemmas.EventLemmas.{push_zip}
@@ -64,15 +69,25 @@ is_among cs i c w e h =
 
 -- ---- events, and entries
 
-pub event_pushed : (object : Tree) (m : Option Method) (vs : List Lines) (lines : Lines) (old new : List EventComponent) (event : EventComponent)
-    → AllZip (SaysEventComponent object m) vs (map component_of old) → SaysEventComponent object m lines (component_of event) → new ≡ old ++ event ∷ []
-    → AllZip (SaysEventComponent object m) (vs ++ lines ∷ []) (map component_of new)
-event_pushed object m vs lines old new event zip says n =
-    subst (λ (es : List SaidComponent). AllZip (SaysEventComponent object m) (vs ++ lines ∷ []) es) (sym (ap (map component_of) n ∙ map-append component_of old (event ∷ [])))
-    (push_zip (SaysEventComponent object m) vs (map component_of old) lines (component_of event) zip says)
+pub event_pushed : (room : Option Zone) (object : Tree) (m : Option Method) (vs : List Lines) (lines : Lines) (old new : List EventComponent) (event : EventComponent)
+    → AllZip (SaysPlaced room object m) vs (map component_of old) → SaysPlaced room object m lines (component_of event) → new ≡ old ++ event ∷ []
+    → AllZip (SaysPlaced room object m) (vs ++ lines ∷ []) (map component_of new)
+event_pushed room object m vs lines old new event zip says n =
+    subst (λ (es : List SaidComponent). AllZip (SaysPlaced room object m) (vs ++ lines ∷ []) es) (sym (ap (map component_of) n ∙ map-append component_of old (event ∷ [])))
+    (push_zip (SaysPlaced room object m) vs (map component_of old) lines (component_of event) zip says)
 
 -- a VEVENT that is refused has a fault, which the object has
 pub event_refuses : (object : Tree) (vs : List Lines) (lines : Lines) (f : Fault) → vevents object ≡ vs → Contains vs lines → RefusesBy (EventComponentFault object None lines) f
     → RefusesBy (CalendarFault object) f
 event_refuses object vs lines Memory e h s = tt
 event_refuses object vs lines (Refused r) e h s = in_event lines (subst (λ (xs : List Lines). Contains xs lines) (sym e) h) s
+
+-- so has a zone of its room that is refused
+pub zone_refuses : (object : Component) (f : Fault) → RefusesBy (λ n. (n ≡ 44) × RoomZoneFault (component_lines object)) f → RefusesBy (CalendarFault (tree_of object)) f
+zone_refuses object Memory h = tt
+zone_refuses object (Refused r) (n, fault) =
+    subst (CalendarFault (tree_of object)) (sym n) (in_zone (subst RoomZoneFault (sym (tree_of-own object)) fault))
+
+pub zone_number : (object : Component) (f : Fault) → RefusesBy (λ n. (n ≡ 44) × RoomZoneFault (component_lines object)) f → RefusesOnly is_calendar_fault f
+zone_number object Memory h = tt
+zone_number object (Refused r) (n, fault) = ap is_calendar_fault n

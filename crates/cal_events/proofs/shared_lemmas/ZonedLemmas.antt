@@ -14,9 +14,9 @@ use Rattle.ical_tree.proofs.TreeOfLemmas.{tree_of-name, tree_of-own, tree_of-ins
 use Rattle.profile.specs.text.Lines.{line_param, is_same_name}
 use Rattle.profile.specs.text.Trees.{Tree, tree_name, tree_own}
 use Rattle.profile.specs.series.Zones as zones
-use Rattle.profile.specs.text.Values.{SpellsStamp}
-use Rattle.profile.specs.events.Properties.{BothOrNeither, DateTime, time_kind, KindFault}
-use Rattle.profile.specs.events.ZonedTimes.{has_zone_name, zone_named, SaysZoneOf, SpellsZoned, SaysZonedText, NamedFault, InZoneFault, FaultIn, ZonedTextFault}
+use Rattle.profile.specs.events.Properties.{BothOrNeither, Form, Fixed, Floating, WholeDay, allows, time_kind, KindFault}
+use Rattle.profile.specs.events.ZonedTimes.{has_zone_name, zone_named, SaysZoneOf, SpellsForm, SaysZonedText, NamedFault, InZoneFault, FaultIn, ZonedTextFault}
+use Rattle.cal_events.specs.Forms.{IsAlone}
 use Rattle.cal_events.specs.Zones.{is_zone_called, IsZoneRead}
 
 -- ---- the first component of a name
@@ -69,17 +69,25 @@ weaker_fault (Refused e) P Q g h = g e.number h
 -- ---- a text of a line
 
 -- of a line with TZID
-pub zoned_said : (object : Tree) (line text name : List ℕ) (zone : Option zones.Zone) (local : ℤ) → line_param (codes "TZID") line ≡ Some name
-    → (time_kind line ≡ DateTime) × SpellsZoned object (Some name) text zone local → SaysZonedText object line text zone local
-zoned_said object line text name zone local e h = (h.0, subst (λ (o : Option (List ℕ)). SpellsZoned object o text zone local) (sym e) h.1)
+pub zoned_said : (object : Tree) (line text name : List ℕ) (form : Form) (zone : Option zones.Zone) (local : ℤ) → line_param (codes "TZID") line ≡ Some name
+    → allows (time_kind line) form ≡ true → SpellsForm object (Some name) text form zone local → SaysZonedText object line text form zone local
+zoned_said object line text name form zone local e a h = (a, subst (λ (o : Option (List ℕ)). SpellsForm object o text form zone local) (sym e) h)
 
 pub zoned_fault : (object : Tree) (line text name : List ℕ) (n : ℕ) → line_param (codes "TZID") line ≡ Some name → InZoneFault object name (time_kind line) text n
     → ZonedTextFault object line text n
 zoned_fault object line text name n e h = subst (λ (o : Option (List ℕ)). FaultIn object o (time_kind line) text n) (sym e) h
 
 -- of one without
-pub utc_said : (object : Tree) (line text : List ℕ) (local : ℤ) → line_param (codes "TZID") line ≡ None → time_kind line ≡ DateTime → SpellsStamp text local → SaysZonedText object line text None local
-utc_said object line text local e k h = (k, subst (λ (o : Option (List ℕ)). SpellsZoned object o text None local) (sym e) h)
+alone_spelled : (object : Tree) (text : List ℕ) (form : Form) (zone : Option zones.Zone) (local : ℤ) → zone ≡ None → IsAlone text form local → SpellsForm object None text form zone local
+alone_spelled object text Fixed None local e h = h
+alone_spelled object text Fixed (Some zone) local e h = cc
+alone_spelled object text Floating a local e h = (refl, e, h)
+alone_spelled object text WholeDay a local e h = (refl, e, h)
 
-pub utc_fault : (object : Tree) (line text : List ℕ) (n : ℕ) → line_param (codes "TZID") line ≡ None → KindFault (time_kind line) text n → ZonedTextFault object line text n
-utc_fault object line text n e h = subst (λ (o : Option (List ℕ)). FaultIn object o (time_kind line) text n) (sym e) h
+pub alone_said : (object : Tree) (line text : List ℕ) (form : Form) (zone : Option zones.Zone) (local : ℤ) → line_param (codes "TZID") line ≡ None
+    → allows (time_kind line) form ≡ true → (zone ≡ None) × IsAlone text form local → SaysZonedText object line text form zone local
+alone_said object line text form zone local e a h =
+    (a, subst (λ (o : Option (List ℕ)). SpellsForm object o text form zone local) (sym e) (alone_spelled object text form zone local h.0 h.1))
+
+pub alone_fault : (object : Tree) (line text : List ℕ) (n : ℕ) → line_param (codes "TZID") line ≡ None → KindFault (time_kind line) text n → ZonedTextFault object line text n
+alone_fault object line text n e h = subst (λ (o : Option (List ℕ)). FaultIn object o (time_kind line) text n) (sym e) h

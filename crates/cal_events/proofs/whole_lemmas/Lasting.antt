@@ -6,20 +6,25 @@ use Rattle.std.proofs.Math.Logic.{∥∥₁_map}
 use Rattle.std.proofs.lemmas.Grind.{not_there}
 use Rattle.std.proofs.lemmas.Int.{ints, by_lt_z}
 use Rattle.profile.specs.checker.Instances.{Instance}
-use Rattle.profile.specs.events.EventComponents.{EventComponent}
+use Rattle.profile.specs.events.EventComponents.{Method, EventComponent}
+use Rattle.profile.specs.events.Properties.{Form, Fixed, Floating, WholeDay}
+use Rattle.profile.specs.events.Placed.{zone_in, SaysPlaced}
+use Rattle.profile.specs.series.RoomZones.{IsRoomZone}
 use Rattle.profile.specs.events.Events.{Event}
 use Rattle.profile.specs.text.Lines.{line_value, line_param}
 use Rattle.profile.specs.text.Trees.{Tree}
 use Rattle.profile.specs.series.Zones.{Zone, Constant, IsBounds}
 use Rattle.profile.specs.series.ZoneTexts.{SaysZone}
-use Rattle.profile.specs.events.ZonedTimes.{EventTimes, clock_of, zone_named, SaysZoneOf, SpellsZoned, SaysZonedText, SaysTimes}
+use Rattle.profile.specs.events.ZonedTimes.{EventTimes, clock_of, zone_named, SaysZoneOf, SpellsZoned, SpellsForm, SaysTimes}
 use Rattle.cal_zones.specs.Repeats.{IsRegular, AreOffsetsOf}
 use Rattle.profile.specs.events.Starts.{IsInstance, IsWidth, EndsAt}
 use Rattle.profile.specs.events.Spans.{IsSaidSeries, IsWidthOf}
 use Rattle.std.proofs.lemmas.Option.{same_Some}
 use Rattle.cal_events.specs.Clocks.{IsSteady}
 use Rattle.cal_events.specs.Overlapping.{LastAtMost}
-use Rattle.cal_events.proofs.shared_lemmas.OneInstance.{event_sound, ends_after}
+use Rattle.cal_events.proofs.shared_lemmas.OneInstance.{ends_after}
+use Rattle.cal_events.proofs.shared_lemmas.Placing.{placed_sound}
+use Rattle.cal_events.proofs.shared_lemmas.RoomClocks.{room_clock}
 use Rattle.cal_events.proofs.shared_lemmas.OwnSingles.{at_start}
 use Rattle.cal_events.proofs.shared_lemmas.Overlaps.{lasts, lasts_so_long}
 
@@ -32,7 +37,7 @@ last_at_most times width (inr (some, (least, greatest, bounds, is))) = lasts tim
 pub said_lasts : (series : Event) (width : ℤ) (b : Instance) → IsSaidSeries series → IsWidthOf series width → IsInstance series b → (b.start ≤ℤ b.end) × (b.end ≤ℤ (b.start +ℤ width))
 said_lasts series width b said w h =
     let x = at_start said.master b (subst (λ (m : Event). IsInstance m b) said.is h) in
-    let sound = event_sound said.object said.lines said.event said.says in
+    let sound = placed_sound said.words said.room said.named said.object said.lines said.event said.says in
     let steady : IsSteady (clock_of said.master.times.zone) = subst (λ (t : EventTimes). IsSteady (clock_of t.zone)) (sym said.times) sound.steady in
     let same : w.0 ≡ said.master = same_Some w.0 said.master (sym w.1 ∙ ap (λ (m : Event). m.master) said.is) in
     let most = last_at_most said.master.times width (subst (λ (m : EventComponent). IsWidth m.times width) same w.2) in
@@ -58,9 +63,11 @@ module _ (regular : (tree : Tree) (z : Zone) → SaysZone tree z → IsRegular z
   utc_regular : IsRegular (Constant (pos 0))
   utc_regular = search rules
 
-  text_regular : (object : Tree) (line text : List ℕ) (zone : Option Zone) (local : ℤ) → SaysZonedText object line text zone local → IsRegular (clock_of zone)
-  text_regular object line text None local h = utc_regular
-  text_regular object line text (Some zone) local h = spelled (line_param (codes "TZID") line) h.1
+  form_regular : (object : Tree) (name : Option (List ℕ)) (text : List ℕ) (form : Form) (zone : Option Zone) (local : ℤ) → SpellsForm object name text form zone local → IsRegular (clock_of zone)
+  form_regular object name text form None local h = utc_regular
+  form_regular object name text Floating (Some zone) local (_, e, _) = cc
+  form_regular object name text WholeDay (Some zone) local (_, e, _) = cc
+  form_regular object name text Fixed (Some zone) local h = spelled name h
     where
       named : (o : Option Tree) → SaysZoneOf o zone → IsRegular zone
       named None says = absurd says
@@ -71,8 +78,19 @@ module _ (regular : (tree : Tree) (z : Zone) → SaysZone tree z → IsRegular z
       spelled (Some name) says = named (zone_named name object) says.1
 
   times_regular : {may : Bool} (object : Tree) (lines : List (List ℕ)) (times : EventTimes) → SaysTimes may object lines times → IsRegular (clock_of times.zone)
-  times_regular object lines times (inl t) = text_regular object t.line (line_value t.line) times.zone times.local t.says
+  times_regular object lines times (inl t) = form_regular object (line_param (codes "TZID") t.line) (line_value t.line) times.form times.zone times.local t.says.1
   times_regular object lines times (inr (_, t)) = subst (λ (z : Option Zone). IsRegular (clock_of z)) (sym t.zone) utc_regular
+
+  there_regular : (room : Option Zone) (form : Form) (zone : Option Zone) → IsRegular (clock_of zone) → IsRegular (clock_of room) → IsRegular (clock_of (zone_in room form zone))
+  there_regular room Fixed zone own here = own
+  there_regular room Floating zone own here = here
+  there_regular room WholeDay zone own here = here
+
+  placed_regular : (words : List ℕ) (room : Option Zone) → IsRoomZone words room → (object : Tree) {m : Option Method} (lines : List (List ℕ)) (event : EventComponent) → SaysPlaced room object m lines event
+      → IsRegular (clock_of event.times.zone)
+  placed_regular words room named object lines event (e, s, p) =
+      subst (λ (x : EventComponent). IsRegular (clock_of x.times.zone)) (sym p.is)
+      (there_regular room e.times.form e.times.zone (times_regular object lines e.times s.times) (room_clock words room named).regular)
 
   -- its offsets are half a day apart at most
   near_bounds : (z : Zone) (least greatest : ℤ) → IsRegular z → IsBounds z least greatest → greatest ≤ℤ (least +ℤ pos 43_200)
@@ -98,9 +116,9 @@ module _ (regular : (tree : Tree) (z : Zone) → SaysZone tree z → IsRegular z
   pub said_lasts_a_third : (series : Event) (width : ℤ) (b : Instance) → IsSaidSeries series → IsWidthOf series width → IsInstance series b → width ≤ℤ thrice (b.end -ℤ b.start)
   said_lasts_a_third series width b said w h =
       let x = at_start said.master b (subst (λ (m : Event). IsInstance m b) said.is h) in
-      let sound = event_sound said.object said.lines said.event said.says in
+      let sound = placed_sound said.words said.room said.named said.object said.lines said.event said.says in
       let steady : IsSteady (clock_of said.master.times.zone) = subst (λ (t : EventTimes). IsSteady (clock_of t.zone)) (sym said.times) sound.steady in
-      let zone = times_regular said.object said.lines said.event.times said.says.times in
+      let zone = placed_regular said.words said.room said.named said.object said.lines said.event said.says in
       let same : w.0 ≡ said.master = same_Some w.0 said.master (sym w.1 ∙ ap (λ (m : Event). m.master) said.is) in
       lasts_a_third said.master.times width b.start b.end (subst (λ (t : EventTimes). IsRegular (clock_of t.zone)) (sym said.times) zone) steady
       (subst (λ (m : EventComponent). IsWidth m.times width) same w.2) x.ends

@@ -1,7 +1,7 @@
 -- All instances of a series as a list, in no order: what its rule gives before year 10000.
 -- Cited by listed_series.
-use Rattle.std.proofs.Common.{◌≡◌, ◌∙◌, ℕ, zero, suc, ◌*◌, ◌/◌, ◌%◌, ◌<◌, Bool, true, false, List, [], ◌∷◌, length, map, refl, sym, ap, subst, inl, inr, ◌⊎◌, arith, ℤ, pos, negsuc, ◌+ℤ◌}
-use Rattle.std.specs.Prelude.{Option, Some, is_some, Contains, ◌&&◌, ◌↔◌}
+use Rattle.std.proofs.Common.{◌≡◌, ◌∙◌, ℕ, zero, suc, ◌*◌, ◌/◌, ◌%◌, ◌<◌, Bool, true, false, List, [], ◌∷◌, codes, length, map, refl, sym, ap, subst, inl, inr, ◌⊎◌, arith, ℤ, pos, negsuc, ◌+ℤ◌}
+use Rattle.std.specs.Prelude.{Option, None, Some, is_some, Contains, ◌&&◌, ◌↔◌}
 use Rattle.std.specs.Ordering.{int_eq}
 use Rattle.std.specs.List.{list_any}
 use Rattle.std.proofs.lemmas.Bool.{cases_order, true≢false}
@@ -20,7 +20,7 @@ use Rattle.profile.specs.events.Confirmed.{alone, has_series, IsOfSeries, AreOfR
 use Rattle.cal_zones.proofs.Meant.{meant, in_force}
 use Rattle.cal_events.specs.Component.{component_of, times_of, zone_said, local_said}
 use Rattle.cal_events.specs.declared.when.When.{When}
-use Rattle.cal_events.specs.declared.when.When.TheVariants.{Utc, Zoned}
+use Rattle.cal_events.specs.declared.when.When.TheVariants.{Utc, Zoned, Floating, WholeDay}
 use Rattle.cal_events.specs.MeetingComponents.{IsInEventDates}
 use Rattle.cal_events.specs.OwnInstances.{IsTimely}
 use Rattle.cal_events.specs.Series.{series_said, IsSeriesOf, IsSeriesWithout}
@@ -32,7 +32,7 @@ use Rattle.cal_events.proofs.shared_lemmas.HiddenLemmas.{has_at, has_from}
 use Rattle.cal_events.proofs.shared_lemmas.InOneOrder.{first_or_later, later, none_in, in_mapped, of_mapped}
 use Rattle.cal_events.proofs.shared_lemmas.InstanceLemmas.{last_of_rule, one_second}
 use Rattle.cal_events.proofs.shared_lemmas.Meanings.{utc_means}
-use Rattle.cal_events.proofs.shared_lemmas.OneInstance.{event_sound}
+use Rattle.cal_events.proofs.shared_lemmas.Placing.{placed_in_utc, placed_sound}
 use Rattle.cal_events.proofs.shared_lemmas.OwnSingles.{IsAtStart, of_master, at_start, from_start}
 use Rattle.cal_events.proofs.shared_lemmas.SeriesLemmas.{rule_gives, own_master, empty_list, one_start, at_its_start}
 
@@ -41,10 +41,18 @@ use Rattle.cal_events.proofs.shared_lemmas.SeriesLemmas.{rule_gives, own_master,
 meant_on : (time : When) (local : ℤ) → (t : ℤ) × Means (clock_of (zone_said time)) local t
 meant_on (Utc shown) local = (local, utc_means local)
 meant_on (Zoned shown zone) local = meant zone local
+meant_on (Floating shown None) local = (local, utc_means local)
+meant_on (Floating shown (Some zone)) local = meant zone local
+meant_on (WholeDay shown None) local = (local, utc_means local)
+meant_on (WholeDay shown (Some zone)) local = meant zone local
 
 offset_on : (time : When) (t : ℤ) → (offset : ℤ) × IsOffsetAt (clock_of (zone_said time)) t offset
 offset_on (Utc shown) t = (pos 0, refl)
 offset_on (Zoned shown zone) t = in_force zone.kind t
+offset_on (Floating shown None) t = (pos 0, refl)
+offset_on (Floating shown (Some zone)) t = in_force zone.kind t
+offset_on (WholeDay shown None) t = (pos 0, refl)
+offset_on (WholeDay shown (Some zone)) t = in_force zone.kind t
 
 -- what starts ends
 end_on : (times : declared.EventTimes) (start : ℤ) → (end : ℤ) × EndsAt (times_of times) start end
@@ -253,7 +261,8 @@ of_its_rule event series is = (is.has, is.instances)
 -- ---- the times of what was read
 
 pub said_timely : (object : Tree) {m : Option Method} (lines : List (List ℕ)) (event : SaidComponent) → SaysEventComponent object m lines event → IsTimely event
-said_timely object lines event s = let x = event_sound object lines event s in record { steady = x.steady; starts = x.starts }
+said_timely object {m} lines event s =
+    let x = placed_sound (codes "+0000") None refl object lines event (placed_in_utc object m lines event s) in record { steady = x.steady; starts = x.starts }
 
 -- ---- each instance of an event is of its series, or apart from it
 

@@ -1,6 +1,6 @@
 -- What a body is made of: instants in order, and the zone after its lines.
 -- Cited by ascending, canonical_body, write_list, write_others, write_rule, write_start and 1 more.
-use Rattle.std.proofs.Common.{◌≡◌, ◌∙◌, ℕ, ◌<◌, ◌+◌, List, [], ◌∷◌, ◌++◌, take, length, get_or, codes, refl, sym, ap, subst, arith, append_assoc, append-nil, ℤ, pos, ◌<ℤ◌}
+use Rattle.std.proofs.Common.{◌≡◌, ◌∙◌, ℕ, ◌<◌, ◌+◌, List, [], ◌∷◌, ◌++◌, take, length, get_or, codes, refl, sym, ap, subst, arith, append_assoc, append-nil, ℤ, pos, negsuc, unsigned_abs, ◌≤◌, ◌≤ℤ◌, ◌*ℤ◌, ◌+ℤ◌, ◌<ℤ◌}
 use Rattle.std.specs.Prelude.{AllPairs, Contains}
 use Rattle.std.specs.List.{dedup, flat_map, AllZip}
 use Rattle.std.specs.List.Sorted.{IsPermutation, IsSorted, IsStrictlySortedBy}
@@ -15,12 +15,15 @@ use Rattle.std.proofs.lemmas.List.{take_more}
 use Rattle.std.proofs.lemmas.Map.Keys.{Less-from_sorted}
 use Rattle.profile.specs.series.Zones.{Zone}
 use Rattle.profile.specs.text.Lines.{folded, written}
-use Rattle.profile.specs.rooms.Messages.{AreAscending, IsZoneRest, zone_text}
+use Rattle.profile.specs.rooms.Messages.{AreAscending, IsZoneRest, instants_in, zone_text}
+use Rattle.profile.specs.series.Days.{day_index}
+use Rattle.profile.specs.events.Occurrences.{Time}
+use Rattle.profile.specs.events.Properties.{Form, Fixed, Floating, WholeDay}
+use Rattle.itip_messages.proofs.body_lemmas.TimeLists.{of_form}
 use Rattle.profile.specs.written.WrittenZones.{IsZoneText}
-use Rattle.profile.specs.text.Values.{IsClockSeconds, WritesStamp}
-use Rattle.cal_events.specs.MeetingComponents.{IsInEventDates}
+use Rattle.profile.specs.text.Values.{IsClockSeconds}
 use Rattle.cal_events.proofs.shared_lemmas.EventLemmas.{push_zip}
-use Rattle.itip_messages.specs.Body.{AppendsOthers, crlf_lines}
+use Rattle.itip_messages.specs.Body.{AppendsListed, AppendsOthers, AppendsTimes, AreShowable, IsMidnight, IsShowable, crlf_lines, writes_as}
 use Rattle.itip_messages.proofs.shared_lemmas.CleanBodies.{Lines, crlf_both}
 
 -- instants in order, each once
@@ -57,23 +60,57 @@ joined_more [] text = append-nil (codes "," ++ text)
 joined_more (x ∷ xs) text = ap (λ l. (codes "," ++ x) ++ l) (joined_more xs text) ∙ sym (append_assoc (codes "," ++ x) (joined xs) (codes "," ++ text))
 
 -- one more instant
-pub others_more : (xs : List ℤ) (k : ℕ) (start old comma new : List ℕ) → k < length xs → AppendsOthers (take k xs) start old → comma ≡ old ++ codes ","
-    → (text : List ℕ) → WritesStamp text (get_or xs k (pos 0)) → new ≡ comma ++ text → AppendsOthers (take (k + 1) xs) start new
-others_more xs k start old comma new w (texts, z, is) after text stamp n = (
+pub others_more : (form : Form) (xs : List ℤ) (k : ℕ) (start old comma new : List ℕ) → k < length xs → AppendsOthers form (take k xs) start old → comma ≡ old ++ codes ","
+    → (text : List ℕ) → writes_as form text (get_or xs k (pos 0)) → new ≡ comma ++ text → AppendsOthers form (take (k + 1) xs) start new
+others_more form xs k start old comma new w (texts, z, is) after text stamp n = (
   texts ++ text ∷ [],
-  subst (λ (l : List ℤ). AllZip WritesStamp (texts ++ text ∷ []) l) (sym (take_more xs k (pos 0) w)) (push_zip WritesStamp texts (take k xs) text (get_or xs k (pos 0)) z stamp),
+  subst (λ (l : List ℤ). AllZip (writes_as form) (texts ++ text ∷ []) l) (sym (take_more xs k (pos 0) w)) (push_zip (writes_as form) texts (take k xs) text (get_or xs k (pos 0)) z stamp),
   n ∙ ap (λ l. l ++ text) (after ∙ ap (λ l. l ++ codes ",") is) ∙ append_assoc (start ++ joined texts) (codes ",") text ∙ append_assoc start (joined texts) (codes "," ++ text) ∙ ap (λ l. start ++ l) (sym (joined_more texts text)),
 )
 
 -- ---- lines, as they are appended
 
-pub list_written : (body name text more i1 i2 i3 i4 i5 : List ℕ) → i1 ≡ body ++ name → i2 ≡ i1 ++ codes ":" → i3 ≡ i2 ++ text → i4 ≡ i3 ++ more → i5 ≡ i4 ++ codes "\r\n"
+pub list_written : (body name text more i2 i3 i4 i5 : List ℕ) → i2 ≡ body ++ (name ++ codes ":") → i3 ≡ i2 ++ text → i4 ≡ i3 ++ more → i5 ≡ i4 ++ codes "\r\n"
     → i5 ≡ body ++ crlf_lines ((name ++ codes ":" ++ text ++ more) ∷ [])
-list_written body name text more i1 i2 i3 i4 i5 a b c d e =
-    e ∙ ap (λ l. l ++ codes "\r\n") (d ∙ ap (λ l. l ++ more) (c ∙ ap (λ l. l ++ text) (b ∙ ap (λ l. l ++ codes ":") a))) ∙ regroup body name (codes ":") text more (codes "\r\n")
+list_written body name text more i2 i3 i4 i5 b c d e =
+    e ∙ ap (λ l. l ++ codes "\r\n") (d ∙ ap (λ l. l ++ more) (c ∙ ap (λ l. l ++ text) b)) ∙ regroup body name (codes ":") text more (codes "\r\n")
   where
-    regroup : (a b c d e f : List ℕ) → ((((a ++ b) ++ c) ++ d) ++ e) ++ f ≡ a ++ (((b ++ c ++ d ++ e) ++ f) ++ [])
+    regroup : (a b c d e f : List ℕ) → (((a ++ (b ++ c)) ++ d) ++ e) ++ f ≡ a ++ (((b ++ c ++ d ++ e) ++ f) ++ [])
     regroup a b c d e f = simp (append_assoc, append-nil)
+
+-- the name, with VALUE where it lists dates
+pub name_written : (body name i1 i2 : List ℕ) → i1 ≡ body ++ name → i2 ≡ i1 ++ codes ":" → i2 ≡ body ++ (name ++ codes ":")
+name_written body name i1 i2 a b = b ∙ ap (λ l. l ++ codes ":") a ∙ append_assoc body name (codes ":")
+
+pub dated_written : (body name i1 i2 : List ℕ) → i1 ≡ body ++ name → i2 ≡ i1 ++ codes ";VALUE=DATE:" → i2 ≡ body ++ ((name ++ codes ";VALUE=DATE") ++ codes ":")
+dated_written body name i1 i2 a b =
+    b ∙ ap (λ l. l ++ codes ";VALUE=DATE:") a ∙ append_assoc body name (codes ";VALUE=DATE:") ∙ ap (λ l. body ++ l) (sym (append_assoc name (codes ";VALUE=DATE") (codes ":")))
+
+-- three lists in turn
+pub listed_written : (name : List ℕ) (times : List Time) (i0 i1 i2 i3 : List ℕ) → AppendsTimes Fixed name (instants_in Fixed times) i0 i1 → AppendsTimes Floating name (instants_in Floating times) i1 i2
+    → AppendsTimes WholeDay name (instants_in WholeDay times) i2 i3 → AppendsListed name times i0 i3
+listed_written name times i0 i1 i2 i3 (a, v, p) (b, w, q) (d, x, r) = (
+  a ++ b ++ d,
+  record { fixed = a; floating = b; days = d; in_utc = v; local = w; dates = x; are = refl },
+  r ∙ ap (λ l. l ++ crlf_lines d) (q ∙ ap (λ l. l ++ crlf_lines b) p) ∙ regroup i0 (crlf_lines a) (crlf_lines b) (crlf_lines d)
+      ∙ ap (λ l. i0 ++ l) (sym (crlf_both (a ++ b) d ∙ ap (λ l. l ++ crlf_lines d) (crlf_both a b))),
+)
+  where
+    regroup : (o a b c : List ℕ) → ((o ++ a) ++ b) ++ c ≡ o ++ ((a ++ b) ++ c)
+    regroup o a b c = simp (append_assoc)
+
+-- ---- whole days
+
+-- the day with which a local time begins is its own
+pub midnight_day : (local day : ℤ) (second : ℕ) → IsMidnight local → second < 86_400 → local ≡ (day *ℤ pos 86_400) +ℤ pos second → local ≡ day *ℤ pos 86_400
+midnight_day local day second (clock, (own, e)) h sum = omega (arith, ints, e, h, sum)
+
+pub last_high : (day : ℤ) → day_index day ≤ 3_652_424 → day ≤ℤ pos 2_932_896
+last_high day h = by (day +ℤ pos 719_528) refl h
+  where
+    by : (x : ℤ) → x ≡ day +ℤ pos 719_528 → unsigned_abs x ≤ 3_652_424 → day ≤ℤ pos 2_932_896
+    by (pos n) e h = let m : n ≤ 3_652_424 = h in omega (arith, ints, e, m)
+    by (negsuc n) e h = omega (arith, ints, e)
 
 pub line_written : (body head text i1 i2 i3 : List ℕ) → i1 ≡ body ++ head → i2 ≡ i1 ++ text → i3 ≡ i2 ++ codes "\r\n" → i3 ≡ body ++ crlf_lines ((head ++ text) ∷ [])
 line_written body head text i1 i2 i3 a b c = c ∙ ap (λ l. l ++ codes "\r\n") (b ∙ ap (λ l. l ++ text) a) ∙ regroup body head text (codes "\r\n")
@@ -94,7 +131,13 @@ body_written start duration r a e zone i0 i1 i2 i3 i4 i5 i6 h0 h1 h2 h3 h4 h5 h6
     regroup : (s d r a e z : List ℕ) → (((((s ++ []) ++ (d ++ [])) ++ r) ++ a) ++ e) ++ z ≡ (s ++ (d ++ (r ++ (a ++ e)))) ++ z
     regroup s d r a e z = simp (append_assoc, append-nil)
 
--- ---- instants that a stamp writes
+-- ---- which times there are
 
-pub clock_named : (t : ℤ) → IsInEventDates t → IsClockSeconds t
-clock_named t n = (omega (arith, ints, n.0), omega (arith, ints, n.1))
+-- those of one form can be written as such
+pub form_shown : (form : Form) (times : List Time) → AreShowable times → (i : ℤ) → Contains (instants_in form times) i → IsShowable form i
+form_shown form times f i c = of_form form times IsShowable f i c
+
+pub showable_clock : (form : Form) (t : ℤ) → IsShowable form t → IsClockSeconds t
+showable_clock Fixed t h = h
+showable_clock Floating t h = h
+showable_clock WholeDay t h = h.0

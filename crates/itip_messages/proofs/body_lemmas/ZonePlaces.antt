@@ -12,8 +12,9 @@ use Rattle.std.proofs.lemmas.List.Sums.{position_or_len_is}
 use Rattle.std.proofs.lemmas.Str.{IsUtf8-append}
 use Rattle.memchr.specs.Find.{IsFirstByte, is_byte}
 use Rattle.profile.specs.events.EventComponents.{EventComponent}
-use Rattle.profile.specs.events.Properties.{BothOrNeither}
-use Rattle.profile.specs.events.ZonedTimes.{EventTimes, clock_of}
+use Rattle.profile.specs.events.Occurrences.{Time}
+use Rattle.profile.specs.events.Properties.{BothOrNeither, Form, Fixed, Floating, WholeDay}
+use Rattle.profile.specs.events.ZonedTimes.{EventTimes, SpellsMidnight, clock_of}
 use Rattle.profile.specs.series.Rules.{Rule, text_in}
 use Rattle.profile.specs.series.RuleTexts.{rule_text}
 use Rattle.profile.specs.series.Zones.{Zone, Observance, Constant, Single, Pair, local_time}
@@ -21,12 +22,12 @@ use Rattle.profile.specs.text.Lines.{folded}
 use Rattle.ical_lines.proofs.FoldLemmas.{part_written}
 use Rattle.profile.specs.text.Values.{WritesLocal, WritesStamp, duration_text}
 use Rattle.profile.specs.written.WrittenZones.{WritesPart, WritesParts, lines_around, keeping, rule_lines}
-use Rattle.profile.specs.rooms.Messages.{Content, IsContent, IsZoneRest, StartsIn, WritesRule, WritesTimes, list_lines, canonical, zone_text}
+use Rattle.profile.specs.rooms.Messages.{Content, IsContent, IsZoneRest, StartsIn, WritesListed, WritesRule, WritesTimes, instants_in, list_lines, canonical, zone_text}
 use Rattle.profile.specs.rooms.Kept.{renamed}
 use Rattle.ical_lines.proofs.CleanLines.{is_shown, shown_append, clean_shown}
 use Rattle.ical_values.proofs.ShownValues.{shown_local, shown_offset}
-use Rattle.itip_messages.proofs.shared_lemmas.WrittenOctets.{both_pass, stamp_passes, local_passes, duration_passes, is_early, early_time, early_shown, rule_text_early, rule_lines_shown}
-use Rattle.itip_messages.specs.Body.{IsCutAtZone, before_g, begins_zone, crlf_lines, zone_octets, zone_place}
+use Rattle.itip_messages.proofs.shared_lemmas.WrittenOctets.{both_pass, date_passes, stamp_passes, local_passes, duration_passes, is_early, early_time, early_shown, rule_text_early, rule_lines_shown}
+use Rattle.itip_messages.specs.Body.{IsCutAtZone, before_g, begins_zone, crlf_lines, writes_as, zone_octets, zone_place}
 use Rattle.itip_messages.proofs.shared_lemmas.CleanBodies.{Lines, AreClean, clean_each_shown, clean_take, written_utf8, utf8_ended, IsBodyOf, body_ended}
 
 -- ---- the lines of a content
@@ -34,26 +35,40 @@ use Rattle.itip_messages.proofs.shared_lemmas.CleanBodies.{Lines, AreClean, clea
 abbrev are_early : Lines → Bool
 are_early = list_all (list_all is_early)
 
-early_start : (zone : Option Zone) (times : EventTimes) (line : List ℕ) → StartsIn zone times line → list_all is_early line ≡ true
-early_start None times line (text, w, e) = ap (list_all is_early) e ∙ both_pass is_early (codes "DTSTART:") text refl (stamp_passes is_early early_time text times.start w)
-early_start (Some zone) times line (text, w, e) = ap (list_all is_early) e ∙ both_pass is_early (codes "DTSTART;TZID=Z:") text refl (local_passes is_early early_time text times.local w)
+early_start : (form : Form) (zone : Option Zone) (times : EventTimes) (line : List ℕ) → StartsIn form zone times line → list_all is_early line ≡ true
+early_start Fixed None times line (text, w, e) = ap (list_all is_early) e ∙ both_pass is_early (codes "DTSTART:") text refl (stamp_passes is_early early_time text times.start w)
+early_start Fixed (Some zone) times line (text, w, e) = ap (list_all is_early) e ∙ both_pass is_early (codes "DTSTART;TZID=Z:") text refl (local_passes is_early early_time text times.local w)
+early_start Floating _ times line (text, w, e) = ap (list_all is_early) e ∙ both_pass is_early (codes "DTSTART:") text refl (local_passes is_early early_time text times.local w)
+early_start WholeDay _ times line (text, (day, d, _), e) = ap (list_all is_early) e ∙ both_pass is_early (codes "DTSTART;VALUE=DATE:") text refl (date_passes is_early early_time text day d)
 
-early_texts : (texts : List (List ℕ)) (instants : List ℤ) → AllZip WritesStamp texts instants → list_all is_early (flat_map (λ other. codes "," ++ other) texts) ≡ true
-early_texts [] instants z = refl
-early_texts (t ∷ ts) [] z = absurd z
-early_texts (t ∷ ts) (i ∷ is) z =
-    both_pass is_early (codes "," ++ t) (flat_map (λ other. codes "," ++ other) ts) (both_pass is_early (codes ",") t refl (stamp_passes is_early early_time t i z.0)) (early_texts ts is z.1)
+early_time_text : (form : Form) (text : List ℕ) (instant : ℤ) → writes_as form text instant → list_all is_early text ≡ true
+early_time_text Fixed text instant w = stamp_passes is_early early_time text instant w
+early_time_text Floating text instant w = local_passes is_early early_time text instant w
+early_time_text WholeDay text instant (day, d, _) = date_passes is_early early_time text day d
 
-early_list : (name : List ℕ) → list_all is_early name ≡ true → (texts : List (List ℕ)) (instants : List ℤ) → AllZip WritesStamp texts instants → are_early (list_lines name texts) ≡ true
-early_list name h [] instants z = refl
-early_list name h (t ∷ ts) [] z = absurd z
-early_list name h (t ∷ ts) (i ∷ is) z =
+early_texts : (form : Form) (texts : List (List ℕ)) (instants : List ℤ) → AllZip (writes_as form) texts instants → list_all is_early (flat_map (λ other. codes "," ++ other) texts) ≡ true
+early_texts form [] instants z = refl
+early_texts form (t ∷ ts) [] z = absurd z
+early_texts form (t ∷ ts) (i ∷ is) z =
+    both_pass is_early (codes "," ++ t) (flat_map (λ other. codes "," ++ other) ts) (both_pass is_early (codes ",") t refl (early_time_text form t i z.0)) (early_texts form ts is z.1)
+
+early_list : (form : Form) (name : List ℕ) → list_all is_early name ≡ true → (texts : List (List ℕ)) (instants : List ℤ) → AllZip (writes_as form) texts instants → are_early (list_lines name texts) ≡ true
+early_list form name h [] instants z = refl
+early_list form name h (t ∷ ts) [] z = absurd z
+early_list form name h (t ∷ ts) (i ∷ is) z =
     let more = flat_map (λ other. codes "," ++ other) ts in
-    let line = both_pass is_early (name ++ codes ":" ++ t) more (both_pass is_early (name ++ codes ":") t (both_pass is_early name (codes ":") h refl) (stamp_passes is_early early_time t i z.0)) (early_texts ts is z.1) in
+    let line = both_pass is_early (name ++ codes ":" ++ t) more (both_pass is_early (name ++ codes ":") t (both_pass is_early name (codes ":") h refl) (early_time_text form t i z.0)) (early_texts form ts is z.1) in
     and_from _ _ line refl
 
-early_times : (name : List ℕ) → list_all is_early name ≡ true → (instants : List ℤ) (lines : Lines) → WritesTimes name instants lines → are_early lines ≡ true
-early_times name h instants lines w = ap are_early w.is ∙ early_list name h w.texts w.ascending w.each
+early_times : (form : Form) (name : List ℕ) → list_all is_early name ≡ true → (instants : List ℤ) (lines : Lines) → WritesTimes (writes_as form) name instants lines → are_early lines ≡ true
+early_times form name h instants lines w = ap are_early w.is ∙ early_list form name h w.texts w.ascending w.each
+
+early_listed : (name : List ℕ) → list_all is_early name ≡ true → (times : List Time) (lines : Lines) → WritesListed name times lines → are_early lines ≡ true
+early_listed name h times lines w =
+    let dated : list_all is_early (name ++ codes ";VALUE=DATE") ≡ true = both_pass is_early name (codes ";VALUE=DATE") h refl in
+    let first = list_all-append (list_all is_early) w.fixed w.floating ∙ and_from _ _ (early_times Fixed name h (instants_in Fixed times) w.fixed w.in_utc) (early_times Floating name h (instants_in Floating times) w.floating w.local) in
+    ap are_early w.are ∙ list_all-append (list_all is_early) (w.fixed ++ w.floating) w.days
+    ∙ and_from _ _ first (early_times WholeDay (name ++ codes ";VALUE=DATE") dated (instants_in WholeDay times) w.days w.dates)
 
 -- what says the duration
 abbrev pub duration_line : EventComponent → List ℕ
@@ -65,18 +80,18 @@ early_duration event =
     let seconds = event.times.length.seconds in
     both_pass is_early (codes "DURATION:") (duration_text days seconds) refl (duration_passes is_early early_time.digit refl days seconds)
 
-early_rule : (clock : Zone) (rule : Option Rule) (lines : Lines) → WritesRule clock rule lines → are_early lines ≡ true
-early_rule clock None lines w = ap are_early w
-early_rule clock (Some rule) lines (end, told, e) =
-    ap are_early e ∙ and_from _ _ (both_pass is_early (codes "RRULE:") (rule_text (text_in rule) end) refl (rule_text_early clock (text_in rule) end told)) refl
+early_rule : (form : Form) (clock : Zone) (rule : Option Rule) (lines : Lines) → WritesRule form clock rule lines → are_early lines ≡ true
+early_rule form clock None lines w = ap are_early w
+early_rule form clock (Some rule) lines (end, told, e) =
+    ap are_early e ∙ and_from _ _ (both_pass is_early (codes "RRULE:") (rule_text (text_in rule) end) refl (rule_text_early form clock rule.last (text_in rule) end told)) refl
 
 -- each octet of the lines is printable, and no `G`
 pub early_lines : (content : Content) (event : EventComponent) → IsContent content event → list_all (list_all is_early) content.lines ≡ true
 early_lines content event c =
     ap are_early c.are
-    ∙ and_from _ _ (early_start event.times.zone event.times c.start c.starts) (and_from _ _ (early_duration event)
-    (list_all-append (list_all is_early) c.rule (c.additions ++ c.exceptions) ∙ and_from _ _ (early_rule (clock_of event.times.zone) event.rule c.rule c.recurs)
-    (list_all-append (list_all is_early) c.additions c.exceptions ∙ and_from _ _ (early_times (codes "RDATE") refl event.additions c.additions c.adds) (early_times (codes "EXDATE") refl _ c.exceptions c.takes))))
+    ∙ and_from _ _ (early_start event.times.form event.times.zone event.times c.start c.starts) (and_from _ _ (early_duration event)
+    (list_all-append (list_all is_early) c.rule (c.additions ++ c.exceptions) ∙ and_from _ _ (early_rule event.times.form (clock_of event.times.zone) event.rule c.rule c.recurs)
+    (list_all-append (list_all is_early) c.additions c.exceptions ∙ and_from _ _ (early_listed (codes "RDATE") refl event.written.additions c.additions c.adds) (early_listed (codes "EXDATE") refl _ c.exceptions c.takes))))
 
 all_early_shown : (lines : Lines) → are_early lines ≡ true → list_all (list_all is_shown) lines ≡ true
 all_early_shown [] h = refl
@@ -256,45 +271,71 @@ content_utf8 content event c = IsUtf8-append (crlf_lines content.lines) (zone_oc
 
 -- ---- under the name of its zone
 
--- DTSTART in UTC, or in a zone of this name
-abbrev pub StartsAs : List ℕ → Option Zone → EventTimes → List ℕ → Type 0
-StartsAs name None times line = (text : List ℕ) × WritesStamp text times.start × (line ≡ codes "DTSTART:" ++ text)
-StartsAs name (Some zone) times line = (text : List ℕ) × WritesLocal text times.local × (line ≡ codes "DTSTART;TZID=" ++ name ++ codes ":" ++ text)
+-- DTSTART by its form, in UTC, in a zone of this name, without zone, or as a date
+abbrev pub StartsAs : List ℕ → Form → Option Zone → EventTimes → List ℕ → Type 0
+StartsAs name Fixed None times line = (text : List ℕ) × WritesStamp text times.start × (line ≡ codes "DTSTART:" ++ text)
+StartsAs name Fixed (Some zone) times line = (text : List ℕ) × WritesLocal text times.local × (line ≡ codes "DTSTART;TZID=" ++ name ++ codes ":" ++ text)
+StartsAs name Floating _ times line = (text : List ℕ) × WritesLocal text times.local × (line ≡ codes "DTSTART:" ++ text)
+StartsAs name WholeDay _ times line = (text : List ℕ) × SpellsMidnight text times.local × (line ≡ codes "DTSTART;VALUE=DATE:" ++ text)
 
 -- the lines, with the start under that name
 pub record AreNamed (name : List ℕ) (content : Content) (event : EventComponent) (c : IsContent content event) : Type 0 where
   pub start : List ℕ
-  pub starts : StartsAs name event.times.zone event.times start
+  pub starts : StartsAs name event.times.form event.times.zone event.times start
   pub are : map (renamed (codes "DTSTART;TZID=Z") (codes "DTSTART;TZID=" ++ name)) content.lines ≡ start ∷ duration_line event ∷ (c.rule ++ (c.additions ++ c.exceptions))
 
 abbrev named : List ℕ → List ℕ → List ℕ
 named name = renamed (codes "DTSTART;TZID=Z") (codes "DTSTART;TZID=" ++ name)
 
-start_named : (name : List ℕ) (zone : Option Zone) (times : EventTimes) (line : List ℕ) → StartsIn zone times line → StartsAs name zone times (named name line)
-start_named name None times line (text, w, e) = (text, w, ap (named name) e)
-start_named name (Some zone) times line (text, w, e) = (text, w, ap (named name) e ∙ sym (append_assoc (codes "DTSTART;TZID=" ++ name) (codes ":") text))
+start_named : (name : List ℕ) (form : Form) (zone : Option Zone) (times : EventTimes) (line : List ℕ) → StartsIn form zone times line → StartsAs name form zone times (named name line)
+start_named name Fixed None times line (text, w, e) = (text, w, ap (named name) e)
+start_named name Fixed (Some zone) times line (text, w, e) = (text, w, ap (named name) e ∙ sym (append_assoc (codes "DTSTART;TZID=" ++ name) (codes ":") text))
+start_named name Floating _ times line (text, w, e) = (text, w, ap (named name) e)
+start_named name WholeDay _ times line (text, w, e) = (text, w, ap (named name) e)
 
-named_additions : (name : List ℕ) (texts : List (List ℕ)) → map (named name) (list_lines (codes "RDATE") texts) ≡ list_lines (codes "RDATE") texts
-named_additions name [] = refl
-named_additions name (t ∷ ts) = refl
+-- a line of another name stays
+abbrev StaysNamed : List ℕ → List ℕ → Type 0
+StaysNamed name head = (texts : List (List ℕ)) → map (named name) (list_lines head texts) ≡ list_lines head texts
 
-named_exceptions : (name : List ℕ) (texts : List (List ℕ)) → map (named name) (list_lines (codes "EXDATE") texts) ≡ list_lines (codes "EXDATE") texts
-named_exceptions name [] = refl
-named_exceptions name (t ∷ ts) = refl
+additions_named : (name : List ℕ) → StaysNamed name (codes "RDATE")
+additions_named name [] = refl
+additions_named name (t ∷ ts) = refl
 
-named_rule : (name : List ℕ) (clock : Zone) (rule : Option Rule) (lines : Lines) → WritesRule clock rule lines → map (named name) lines ≡ lines
-named_rule name clock None lines w = ap (map (named name)) w ∙ sym w
-named_rule name clock (Some rule) lines (end, told, e) = ap (map (named name)) e ∙ sym e
+added_dates_named : (name : List ℕ) → StaysNamed name (codes "RDATE" ++ codes ";VALUE=DATE")
+added_dates_named name [] = refl
+added_dates_named name (t ∷ ts) = refl
+
+exceptions_named : (name : List ℕ) → StaysNamed name (codes "EXDATE")
+exceptions_named name [] = refl
+exceptions_named name (t ∷ ts) = refl
+
+excepted_dates_named : (name : List ℕ) → StaysNamed name (codes "EXDATE" ++ codes ";VALUE=DATE")
+excepted_dates_named name [] = refl
+excepted_dates_named name (t ∷ ts) = refl
+
+part_named : (name head : List ℕ) → StaysNamed name head → (Writes : List ℕ → ℤ → Type 0) (instants : List ℤ) (lines : Lines) → WritesTimes Writes head instants lines → map (named name) lines ≡ lines
+part_named name head stays Writes instants lines w = ap (map (named name)) w.is ∙ stays w.texts ∙ sym w.is
+
+listed_named : (name head : List ℕ) → StaysNamed name head → StaysNamed name (head ++ codes ";VALUE=DATE") → (times : List Time) (lines : Lines) → WritesListed head times lines → map (named name) lines ≡ lines
+listed_named name head stays dated times lines w =
+    ap (map (named name)) w.are ∙ map-append (named name) (w.fixed ++ w.floating) w.days ∙ ap (λ l. l ++ map (named name) w.days) (map-append (named name) w.fixed w.floating)
+    ∙ (λ i. part_named name head stays WritesStamp (instants_in Fixed times) w.fixed w.in_utc i ++ part_named name head stays WritesLocal (instants_in Floating times) w.floating w.local i
+    ++ part_named name (head ++ codes ";VALUE=DATE") dated SpellsMidnight (instants_in WholeDay times) w.days w.dates i)
+    ∙ sym w.are
+
+named_rule : (name : List ℕ) (form : Form) (clock : Zone) (rule : Option Rule) (lines : Lines) → WritesRule form clock rule lines → map (named name) lines ≡ lines
+named_rule name form clock None lines w = ap (map (named name)) w ∙ sym w
+named_rule name form clock (Some rule) lines (end, told, e) = ap (map (named name)) e ∙ sym e
 
 pub named_lines : (name : List ℕ) (content : Content) (event : EventComponent) (c : IsContent content event) → AreNamed name content event c
 named_lines name content event c =
-    let adds : map (named name) c.additions ≡ c.additions = ap (map (named name)) c.adds.is ∙ named_additions name c.adds.texts ∙ sym c.adds.is in
-    let takes : map (named name) c.exceptions ≡ c.exceptions = ap (map (named name)) c.takes.is ∙ named_exceptions name c.takes.texts ∙ sym c.takes.is in
-    let recurs : map (named name) c.rule ≡ c.rule = named_rule name (clock_of event.times.zone) event.rule c.rule c.recurs in
+    let adds = listed_named name (codes "RDATE") (additions_named name) (added_dates_named name) event.written.additions c.additions c.adds in
+    let takes = listed_named name (codes "EXDATE") (exceptions_named name) (excepted_dates_named name) _ c.exceptions c.takes in
+    let recurs : map (named name) c.rule ≡ c.rule = named_rule name event.times.form (clock_of event.times.zone) event.rule c.rule c.recurs in
     let lists : map (named name) (c.additions ++ c.exceptions) ≡ c.additions ++ c.exceptions = map-append (named name) c.additions c.exceptions ∙ (λ i. adds i ++ takes i) in
     let rest : map (named name) (c.rule ++ (c.additions ++ c.exceptions)) ≡ c.rule ++ (c.additions ++ c.exceptions) = map-append (named name) c.rule (c.additions ++ c.exceptions) ∙ (λ i. recurs i ++ lists i) in
     record {
       start = named name c.start;
-      starts = start_named name event.times.zone event.times c.start c.starts;
+      starts = start_named name event.times.form event.times.zone event.times c.start c.starts;
       are = ap (map (named name)) c.are ∙ ap (λ l. named name c.start ∷ duration_line event ∷ l) rest;
     }

@@ -1,5 +1,6 @@
 -- Worked examples of the definitions of messages and replies, computed.
 use Rattle.std.proofs.Common.{◌≡◌, ℕ, pos, true, false, List, [], ◌∷◌, Some, None, refl, codes}
+use Rattle.profile.specs.events.Properties.{Fixed}
 use Rattle.profile.specs.events.EventComponents.{EventComponent, NeedsAction}
 use Rattle.profile.specs.events.Events.{is_same_meeting}
 use Rattle.profile.specs.rooms.Messages.{word, object_lines, names_room}
@@ -60,10 +61,11 @@ meeting uid organiser = record {
   sequence = 0;
   cancelled = false;
   recurrence = None;
-  times = record { zone = None; local = pos 1_741_597_200; start = pos 1_741_597_200; length = record { days = 0; seconds = 3600 } };
+  times = record { form = Fixed; zone = None; local = pos 1_741_597_200; start = pos 1_741_597_200; length = record { days = 0; seconds = 3600 } };
   rule = None;
   additions = [];
   exceptions = [];
+  written = record { recurrence = None; additions = []; exceptions = [] };
   summary = [];
   attendees = record { address = codes "mailto:r1@example.com"; participation = NeedsAction; scheduled = true } ∷ [];
 }

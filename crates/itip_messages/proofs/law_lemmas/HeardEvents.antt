@@ -1,21 +1,22 @@
 -- The VEVENT of a reply, and that of a refresh, each say one event.
 -- Behind refreshes_are_heard, replies_are_heard.
-use Rattle.std.proofs.Common.{◌≡◌, ◌∙◌, ℕ, ℤ, false, ◌&&◌, ◌||◌, List, [], ◌∷◌, ◌++◌, codes, decimal, Option, None, Some, refl, sym, ap, subst, arith, inr}
+use Rattle.std.proofs.Common.{◌≡◌, ◌∙◌, ℕ, ℤ, Bool, true, false, ◌&&◌, ◌||◌, List, [], ◌∷◌, ◌++◌, codes, decimal, Option, None, Some, refl, sym, ap, subst, arith, inr}
 use Rattle.std.specs.List.{AllZip, flat_map, list_any}
-use Rattle.std.specs.Prelude.{option_to_list}
-use Rattle.std.proofs.lemmas.Bool.{false≢true}
+use Rattle.std.specs.Prelude.{option_to_list, option_map}
+use Rattle.std.proofs.lemmas.Option.{same_Some}
+use Rattle.std.proofs.lemmas.Bool.{false≢true, true≢false}
 use Rattle.std.proofs.Math.Bool.{and-false}
 use Rattle.profile.specs.text.Trees.{Tree}
 use Rattle.profile.specs.text.Values.{IsUid, SpellsStamp, escaped}
 use Rattle.profile.specs.events.EventComponents.{SaysEventComponent, Reply, Refresh, first_text}
 use Rattle.profile.specs.events.EventRules.{GivesBeside}
-use Rattle.profile.specs.events.Occurrences.{IsInside, IsRecurrenceLine, Lists, entries_of}
+use Rattle.profile.specs.events.Occurrences.{Time, IsFixedWhere, IsInside, IsRecurrenceLine, Lists, entries_of}
 use Rattle.profile.specs.events.Properties.{Says, is_of, lines_named}
 use Rattle.profile.specs.rooms.Messages.{Outcome, Accept, Busy, SeriesLimit, SinglesLimit, TellsSlot, TellsOutcome}
 use Rattle.profile.specs.rooms.Revisions.{Part, Slot, Whole, At}
 use Rattle.ical_values.proofs.Escapes.{read_back}
 use Rattle.ical_values.proofs.Readings.{stamp_written}
-use Rattle.itip_messages.specs.Law.{IsReadAddress, SaysAnswer, answer_event, instant_of_slot, no_times, refresh_event}
+use Rattle.itip_messages.specs.Law.{IsReadAddress, SaysAnswer, answer_event, instant_of_slot, no_times, none_written, refresh_event}
 use Rattle.itip_messages.proofs.law_lemmas.AnswerReads.{both_named, room_line}
 use Rattle.itip_messages.proofs.shared_lemmas.ObjectTree.{Lines}
 use Rattle.itip_messages.proofs.shared_lemmas.OwnLines.{none_of_both}
@@ -63,7 +64,19 @@ abbrev pub IsInstance : Slot → Type 0
 IsInstance Whole = Unit {0}
 IsInstance (At t) = IsStart t
 
-slot_said : (object : Tree) (slot : Slot) (lines : Lines) → TellsSlot slot lines → IsInstance slot → Says (codes "RECURRENCE-ID") false (IsRecurrenceLine object) lines (instant_of_slot slot)
+-- it is named by a fixed time
+abbrev fixed_time : Option ℤ → Option Time
+fixed_time recurrence = (none_written recurrence).recurrence
+
+fixed_named : (fixed : Bool) (recurrence : Option ℤ) → IsFixedWhere fixed (fixed_time recurrence)
+fixed_named fixed None h time e = absurd (true≢false (ap (λ (o : Option Time). elim o [ None ↦ true | Some _ ↦ false ]) e))
+fixed_named fixed (Some t) h time e = sym (ap (λ (x : Time). x.form) (same_Some _ time e))
+
+fixed_instant : (recurrence : Option ℤ) → recurrence ≡ option_map (λ (time : Time). time.instant) (fixed_time recurrence)
+fixed_instant None = refl
+fixed_instant (Some t) = refl
+
+slot_said : (object : Tree) (slot : Slot) (lines : Lines) → TellsSlot slot lines → IsInstance slot → Says (codes "RECURRENCE-ID") false (IsRecurrenceLine object) lines (fixed_time (instant_of_slot slot))
 slot_said object Whole lines e d = record { line = None; once = ap (lines_named (codes "RECURRENCE-ID")) e; present = λ h. absurd (false≢true h); is = tt }
 slot_said object (At t) lines (text, w, e) d = record {
   line = Some (codes "RECURRENCE-ID:" ++ text);
@@ -93,8 +106,8 @@ module _ (room : List ℕ) (part : Part) (outcome : Outcome) (slot status : Line
     status = both_named (codes "STATUS") slot after [] [] s.status r.status;
   }
 
-  own_instance : (object : Tree) → Says (codes "RECURRENCE-ID") false (IsRecurrenceLine object) slot (instant_of_slot part.slot) → lines_named (codes "RECURRENCE-ID") (room_line outcome room ∷ status) ≡ []
-      → Says (codes "RECURRENCE-ID") false (IsRecurrenceLine object) answer_own (instant_of_slot part.slot)
+  own_instance : (object : Tree) → Says (codes "RECURRENCE-ID") false (IsRecurrenceLine object) slot (fixed_time (instant_of_slot part.slot)) → lines_named (codes "RECURRENCE-ID") (room_line outcome room ∷ status) ≡ []
+      → Says (codes "RECURRENCE-ID") false (IsRecurrenceLine object) answer_own (fixed_time (instant_of_slot part.slot))
   own_instance object s r = record {
     line = s.line;
     once = both_named (codes "RECURRENCE-ID") slot after (option_to_list s.line) [] s.once r ∙ none_after s.line;
@@ -114,7 +127,7 @@ alone lines l =
     ap (λ x. (false || list_any (is_of (codes "RECURRENCE-ID")) lines) && x) none ∙ and-false (false || list_any (is_of (codes "RECURRENCE-ID")) lines)
 
 event_says : (room : List ℕ) (part : Part) (moment : ℤ) (outcome : Outcome) (own : Lines) (object : Tree) → SaysAnswer room part moment outcome own → Silent own
-    → Says (codes "RECURRENCE-ID") false (IsRecurrenceLine object) own (instant_of_slot part.slot) → SaysEventComponent object (Some Reply) own (answer_event room part moment outcome)
+    → Says (codes "RECURRENCE-ID") false (IsRecurrenceLine object) own (fixed_time (instant_of_slot part.slot)) → SaysEventComponent object (Some Reply) own (answer_event room part moment outcome)
 event_says room part moment outcome own object a l is = record {
   uid = a.uid;
   organiser = a.organiser;
@@ -131,6 +144,7 @@ event_says room part moment outcome own object a l is = record {
       duration_once = l.duration;
       lasts = refl;
       most = omega arith;
+      form = refl;
       zone = refl;
       local = refl;
       start = refl;
@@ -143,11 +157,13 @@ event_says room part moment outcome own object a l is = record {
   };
   occurrences = record {
     is = is;
+    fixed_recurrence = fixed_named true (instant_of_slot part.slot);
     adds = subst (λ (lines : Lines). Lists object (codes "RDATE") (flat_map entries_of lines) []) (sym l.additions) (tt, omega arith);
     inside = subst (λ (lines : Lines). AllZip (IsInside object) (flat_map entries_of lines) []) (sym l.additions) tt;
     takes = subst (λ (lines : Lines). Lists object (codes "EXDATE") (flat_map entries_of lines) []) (sym l.exceptions) (tt, omega arith);
     alone = alone own l;
   };
+  instants = record { slot = fixed_instant (instant_of_slot part.slot); added = refl; taken = refl };
   summary = sym (ap first_text l.summary);
   attendees = a.attendees;
 }
@@ -184,6 +200,7 @@ refresh_says room organiser uid stamp moment home of_it is_uid at object = recor
       duration_once = refl;
       lasts = refl;
       most = omega arith;
+      form = refl;
       zone = refl;
       local = refl;
       start = refl;
@@ -196,11 +213,13 @@ refresh_says room organiser uid stamp moment home of_it is_uid at object = recor
   };
   occurrences = record {
     is = record { line = None; once = refl; present = λ e. absurd (false≢true e); is = tt };
+    fixed_recurrence = fixed_named false None;
     adds = (tt, omega arith);
     inside = tt;
     takes = (tt, omega arith);
     alone = refl;
   };
+  instants = record { slot = refl; added = refl; taken = refl };
   summary = refl;
   attendees = (record { address = (home.address, sym home.lower); participation = refl; scheduled = refl }, tt);
 }

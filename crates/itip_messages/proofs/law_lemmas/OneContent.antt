@@ -8,9 +8,11 @@ use Rattle.std.proofs.lemmas.List.{append_cancel_right}
 use Rattle.profile.specs.events.EventComponents.{EventComponent}
 use Rattle.profile.specs.events.EventRules.{as_end}
 use Rattle.profile.specs.events.Messages.{Message, SpellsMessage}
-use Rattle.profile.specs.events.Properties.{BothOrNeither}
-use Rattle.profile.specs.events.ZonedTimes.{EventTimes, clock_of}
-use Rattle.profile.specs.rooms.Messages.{Content, IsContent, IsZoneRest, StartsIn, WritesEnd, WritesRule, WritesTimes, is_in_dates, list_lines}
+use Rattle.profile.specs.events.Occurrences.{Time}
+use Rattle.profile.specs.events.Properties.{BothOrNeither, Form, Fixed, Floating, WholeDay}
+use Rattle.profile.specs.events.ZonedTimes.{EventTimes, SpellsMidnight, clock_of}
+use Rattle.profile.specs.rooms.Messages.{Content, IsContent, IsZoneRest, StartsIn, WritesDay, WritesEnd, WritesFixedEnd, WritesListed, WritesRule, WritesTimes, instants_in, list_lines, may_take}
+use Rattle.profile.specs.series.Days.{day_index}
 use Rattle.profile.specs.series.Rules.{Rule, Until, UntilDay, UntilLocal, UntilInstant, text_in}
 use Rattle.profile.specs.series.RuleTexts.{rule_text}
 use Rattle.profile.specs.series.Zones.{IsOneMeaning, Observance, Zone, Constant, Single, Pair}
@@ -19,6 +21,7 @@ use Rattle.profile.specs.text.Values.{SpellsDate, WritesLocal, WritesOffset, Wri
 use Rattle.profile.specs.written.WrittenZones.{WritesPart, WritesParts, keeping, lines_around, rule_lines}
 use Rattle.cal_events.proofs.shared_lemmas.InOneOrder.{one_order}
 use Rattle.itip_messages.proofs.law_lemmas.PartTexts.{message_of}
+use Rattle.itip_messages.proofs.shared_lemmas.RuleBack.{date_index}
 
 abbrev Lines : Type 0
 Lines = List (List ℕ)
@@ -46,20 +49,6 @@ both_same R one (Some a) (Some x) (Some y) p q = ap Some (one a x y p q)
 module _ (stamp : HasOneForm WritesStamp) (local : HasOneForm WritesLocal) (offset : HasOneForm WritesOffset) where
   -- ---- DTSTART, RDATE and EXDATE
 
-  one_start : (zone : Option Zone) (times : EventTimes) (x y : List ℕ) → StartsIn zone times x → StartsIn zone times y → x ≡ y
-  one_start None times x y (t, v, e) (u, w, f) = e ∙ ap (λ (s : List ℕ). codes "DTSTART:" ++ s) (stamp t u times.start v w) ∙ sym f
-  one_start (Some zone) times x y (t, v, e) (u, w, f) = e ∙ ap (λ (s : List ℕ). codes "DTSTART;TZID=Z:" ++ s) (local t u times.local v w) ∙ sym f
-
-  one_times : (name : List ℕ) (instants : List ℤ) (x y : Lines) → WritesTimes name instants x → WritesTimes name instants y → x ≡ y
-  one_times name instants x y v w =
-      let ascending : v.ascending ≡ w.ascending =
-      one_order ◌<ℤ◌ (λ i h. absurd (omega (arith, ints, h))) (λ i j k h l. omega (arith, ints, h, l)) v.ascending w.ascending v.are.order w.are.order
-      (λ i c. (w.are.exact i).1 ((v.are.exact i).0 c)) (λ i c. (v.are.exact i).1 ((w.are.exact i).0 c)) in
-      let texts : v.texts ≡ w.texts = all_same WritesStamp stamp v.texts w.texts w.ascending (subst (AllZip WritesStamp v.texts) ascending v.each) w.each in
-      v.is ∙ ap (list_lines name) texts ∙ sym w.is
-
-  -- ---- RRULE
-
   -- a date, as the local time at which it begins
   beginning : (text : List ℕ) (number : ℤ) → SpellsDate text number → WritesLocal (text ++ codes "T" ++ codes "000000") ((number *ℤ pos 86_400) +ℤ pos 0)
   beginning text number s = record {
@@ -78,15 +67,56 @@ module _ (stamp : HasOneForm WritesStamp) (local : HasOneForm WritesLocal) (offs
       append_cancel_right x y (codes "T")
       (append_cancel_right (x ++ codes "T") (y ++ codes "T") (codes "000000") (local (x ++ codes "T" ++ codes "000000") (y ++ codes "T" ++ codes "000000") ((number *ℤ pos 86_400) +ℤ pos 0) (beginning x number s) (beginning y number t)))
 
-  one_end : (clock : Zone) → IsOneMeaning clock → (until : Until) (x y : List ℕ) → WritesEnd clock until x → WritesEnd clock until y → x ≡ y
-  one_end clock meaning (UntilDay number) x y v w = one_date x y number v w
-  one_end clock meaning (UntilLocal at) x y (t, m, v) (u, n, w) = stamp x y (as_end t) v (subst (λ (z : ℤ). WritesStamp y (as_end z)) (meaning at u t n m) w)
-  one_end clock meaning (UntilInstant t) x y v w = stamp x y (as_end t) v w
+  one_midnight : HasOneForm SpellsMidnight
+  one_midnight x y t (n, d, e) (m, f, g) = let same : m ≡ n = omega (arith, ints, e, g) in one_date x y n d (subst (SpellsDate y) same f)
 
-  one_rule : (clock : Zone) → IsOneMeaning clock → (rule : Option Rule) (x y : Lines) → WritesRule clock rule x → WritesRule clock rule y → x ≡ y
-  one_rule clock meaning None x y v w = v ∙ sym w
-  one_rule clock meaning (Some rule) x y (end, v, e) (other, w, f) =
-      e ∙ ap (λ (o : Option (List ℕ)). (codes "RRULE:" ++ rule_text (text_in rule) o) ∷ []) (both_same (WritesEnd clock) (one_end clock meaning) rule.until end other v w) ∙ sym f
+  -- ---- DTSTART, RDATE and EXDATE
+
+  one_start : (form : Form) (zone : Option Zone) (times : EventTimes) (x y : List ℕ) → StartsIn form zone times x → StartsIn form zone times y → x ≡ y
+  one_start Fixed None times x y (t, v, e) (u, w, f) = e ∙ ap (λ (s : List ℕ). codes "DTSTART:" ++ s) (stamp t u times.start v w) ∙ sym f
+  one_start Fixed (Some zone) times x y (t, v, e) (u, w, f) = e ∙ ap (λ (s : List ℕ). codes "DTSTART;TZID=Z:" ++ s) (local t u times.local v w) ∙ sym f
+  one_start Floating zone times x y (t, v, e) (u, w, f) = e ∙ ap (λ (s : List ℕ). codes "DTSTART:" ++ s) (local t u times.local v w) ∙ sym f
+  one_start WholeDay zone times x y (t, v, e) (u, w, f) = e ∙ ap (λ (s : List ℕ). codes "DTSTART;VALUE=DATE:" ++ s) (one_midnight t u times.local v w) ∙ sym f
+
+  one_times : (Writes : List ℕ → ℤ → Type 0) → HasOneForm Writes → (name : List ℕ) (instants : List ℤ) (x y : Lines) → WritesTimes Writes name instants x → WritesTimes Writes name instants y → x ≡ y
+  one_times Writes one name instants x y v w =
+      let ascending : v.ascending ≡ w.ascending =
+      one_order ◌<ℤ◌ (λ i h. absurd (omega (arith, ints, h))) (λ i j k h l. omega (arith, ints, h, l)) v.ascending w.ascending v.are.order w.are.order
+      (λ i c. (w.are.exact i).1 ((v.are.exact i).0 c)) (λ i c. (v.are.exact i).1 ((w.are.exact i).0 c)) in
+      let texts : v.texts ≡ w.texts = all_same Writes one v.texts w.texts w.ascending (subst (AllZip Writes v.texts) ascending v.each) w.each in
+      v.is ∙ ap (list_lines name) texts ∙ sym w.is
+
+  one_listed : (name : List ℕ) (times : List Time) (x y : Lines) → WritesListed name times x → WritesListed name times y → x ≡ y
+  one_listed name times x y v w =
+      let fixed = one_times WritesStamp stamp name (instants_in Fixed times) v.fixed w.fixed v.in_utc w.in_utc in
+      let floating = one_times WritesLocal local name (instants_in Floating times) v.floating w.floating v.local w.local in
+      let days = one_times SpellsMidnight one_midnight (name ++ codes ";VALUE=DATE") (instants_in WholeDay times) v.days w.days v.dates w.dates in
+      v.are ∙ (λ i. fixed i ++ floating i ++ days i) ∙ sym w.are
+
+  -- ---- RRULE
+
+  one_day : (last : ℕ) (x y : List ℕ) → WritesDay last x → WritesDay last y → x ≡ y
+  one_day last x y (n, d, e) (m, f, g) =
+      let a = date_index x n d in
+      let b = date_index y m f in
+      let at : day_index n ≡ day_index m = sym e ∙ g in
+      let same : m ≡ n = omega (arith, ints, a, b, at) in
+      one_date x y n d (subst (SpellsDate y) same f)
+
+  one_fixed_end : (clock : Zone) → IsOneMeaning clock → (until : Until) (x y : List ℕ) → WritesFixedEnd clock until x → WritesFixedEnd clock until y → x ≡ y
+  one_fixed_end clock meaning (UntilDay number) x y v w = one_date x y number v w
+  one_fixed_end clock meaning (UntilLocal at) x y (t, m, v) (u, n, w) = stamp x y (as_end t) v (subst (λ (z : ℤ). WritesStamp y (as_end z)) (meaning at u t n m) w)
+  one_fixed_end clock meaning (UntilInstant t) x y v w = stamp x y (as_end t) v w
+
+  one_end : (form : Form) (clock : Zone) → IsOneMeaning clock → (last : ℕ) (until : Until) (x y : List ℕ) → WritesEnd form clock last until x → WritesEnd form clock last until y → x ≡ y
+  one_end Fixed clock meaning last until x y v w = one_fixed_end clock meaning until x y v w
+  one_end Floating clock meaning last until x y v w = one_day last x y v w
+  one_end WholeDay clock meaning last until x y v w = one_day last x y v w
+
+  one_rule : (form : Form) (clock : Zone) → IsOneMeaning clock → (rule : Option Rule) (x y : Lines) → WritesRule form clock rule x → WritesRule form clock rule y → x ≡ y
+  one_rule form clock meaning None x y v w = v ∙ sym w
+  one_rule form clock meaning (Some rule) x y (end, v, e) (other, w, f) =
+      e ∙ ap (λ (o : Option (List ℕ)). (codes "RRULE:" ++ rule_text (text_in rule) o) ∷ []) (both_same (WritesEnd form clock rule.last) (one_end form clock meaning rule.last) rule.until end other v w) ∙ sym f
 
   -- ---- the zone
 
@@ -112,10 +142,10 @@ module _ (stamp : HasOneForm WritesStamp) (local : HasOneForm WritesLocal) (offs
 
   one_content_of : (event : EventComponent) → IsOneMeaning (clock_of event.times.zone) → (a b : Content) → IsContent a event → IsContent b event → a ≡ b
   one_content_of event meaning a b v w =
-      let start = one_start event.times.zone event.times v.start w.start v.starts w.starts in
-      let rule = one_rule (clock_of event.times.zone) meaning event.rule v.rule w.rule v.recurs w.recurs in
-      let additions = one_times (codes "RDATE") event.additions v.additions w.additions v.adds w.adds in
-      let exceptions = one_times (codes "EXDATE") (filter is_in_dates event.exceptions) v.exceptions w.exceptions v.takes w.takes in
+      let start = one_start event.times.form event.times.zone event.times v.start w.start v.starts w.starts in
+      let rule = one_rule event.times.form (clock_of event.times.zone) meaning event.rule v.rule w.rule v.recurs w.recurs in
+      let additions = one_listed (codes "RDATE") event.written.additions v.additions w.additions v.adds w.adds in
+      let exceptions = one_listed (codes "EXDATE") (filter may_take event.written.exceptions) v.exceptions w.exceptions v.takes w.takes in
       let lines : a.lines ≡ b.lines =
       v.are
       ∙ (λ i. start i ∷ (codes "DURATION:" ++ duration_text event.times.length.days event.times.length.seconds) ∷ (rule i ++ (additions i ++ exceptions i)))

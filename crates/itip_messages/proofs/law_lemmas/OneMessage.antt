@@ -2,7 +2,6 @@
 -- Cited by one_message.
 use Rattle.std.proofs.Common.{◌≡◌, ◌∙◌, ℕ, ◌<◌, ◌≤◌, true, false, List, [], ◌∷◌, length, filter, get_or, refl, sym, ap, subst, arith, inl, inr}
 use Rattle.std.specs.Prelude.{Contains, codes, Option, Some, None}
-use Rattle.std.specs.Option.{option_to_list}
 use Rattle.std.specs.List.{AllZip, list_all}
 use Rattle.std.specs.Str.{str_to_ascii_lowercase}
 use Rattle.std.proofs.lemmas.Bool.{true≢false}
@@ -15,14 +14,15 @@ use Rattle.profile.specs.text.Objects.{IsObject}
 use Rattle.profile.specs.text.Trees.{Tree, tree_own, vevents}
 use Rattle.profile.specs.events.EventComponents.{Method, Store, Request, Add, Cancel, Reply, Refresh, NamesWord, EventComponent, SaysEventComponent, meeting_said}
 use Rattle.profile.specs.events.Properties.{IsMissing}
-use Rattle.profile.specs.events.Events.{AreOfOne, SaysEvent, EventFault, as_added, taken_by, is_master, is_override}
+use Rattle.profile.specs.events.Events.{AreOfOne, EventFault, InstancesDiffer, as_added, taken_by, is_master, is_override, in_event, two_masters, two_overrides, two_meetings, no_event}
+use Rattle.profile.specs.events.Placed.{SaysPlaced}
+use Rattle.itip_messages.proofs.shared_lemmas.PlacedUtc.{all_said}
 use Rattle.profile.specs.events.Messages.{NamesMethod, has_one_attendee, is_of_attendee, Message, SaysMessage, MethodFault, two_methods, bad_method, MessageFault, in_method, in_meeting, not_one, is_method, SpellsMessage}
 use Rattle.profile.specs.streams.Streams.{ObjectFault}
 use Rattle.cal_events.proofs.reading_lemmas.OneCalendar.{OneEvent, NoFault}
 use Rattle.cal_events.proofs.reading_lemmas.OneText.{OneTree, PairsUp}
 use Rattle.cal_events.proofs.shared_lemmas.ObjectFaults.{has_version_only, has_few_events}
-use Rattle.cal_events.proofs.event_lemmas.OneMeeting.{no_meeting_fault}
-use Rattle.cal_events.proofs.shared_lemmas.Zips.{zip_one}
+use Rattle.cal_events.proofs.shared_lemmas.Zips.{zip_at, zip_length, zip_one}
 use Rattle.cal_events.proofs.shared_lemmas.InOneOrder.{in_mapped}
 use Rattle.itip_messages.proofs.message_events_lemmas.EventsRead.{as_they_are}
 
@@ -131,56 +131,58 @@ one_said one object a b s t =
     let uid : a.uid ≡ b.uid = ap (λ p. p.1) names in
     λ i. record { method = method i; organiser = organiser i; uid = uid i; events = events i }
 
--- of a list of one or none the element
-only : (events : List EventComponent) → length events ≤ 1 → (one : Option EventComponent) × (events ≡ option_to_list one)
-only [] h = (None, refl)
-only (e ∷ []) h = (Some e, refl)
-only (e ∷ f ∷ rest) h = absurd (omega (arith, h))
-
--- its VEVENTs are those of a meeting
-module _ (object : Tree) (a : Message) (s : SaysMessage object a) where
+-- the VEVENTs of a message are those of one meeting
+module _ (one : OneEvent) (sound : NoFault) (object : Tree) (a : Message) (s : SaysMessage object a) where
   abbrev taken : List EventComponent
   taken = taken_by (Some a.method) s.events
-
-  master : (one : Option EventComponent) × (filter is_master a.events ≡ option_to_list one)
-  master = only (filter is_master a.events) s.are.masters
 
   same_meeting : (x y : EventComponent) → Contains taken x → Contains taken y → meeting_said x ≡ meeting_said y
   same_meeting x y c d =
       s.are.of_it x (subst (λ (l : List EventComponent). Contains l x) (sym s.taken) c) ∙ sym (s.are.of_it y (subst (λ (l : List EventComponent). Contains l y) (sym s.taken) d))
 
-  a_meeting : SaysEvent object (Some a.method) (record { master = master.0; overrides = filter is_override a.events })
-  a_meeting = record {
-    events = s.events;
-    says = s.says;
-    some = some_of a.method s.events (subst (λ (l : List EventComponent). 0 < length l) s.taken s.are.some);
-    one = one_of a.method s.events same_meeting;
-    master = ap (filter is_master) (sym s.taken) ∙ master.1;
-    overrides = ap (filter is_override) (sym s.taken);
-    differ = s.are.differ;
-  }
-    where
-      some_of : (m : Method) (es : List EventComponent) → 0 < length (taken_by (Some m) es) → 0 < length es
-      some_of Store es h = h
-      some_of Request es h = h
-      some_of Add es h = omega (arith, h, length-map es as_added)
-      some_of Cancel es h = h
-      some_of Reply es h = h
-      some_of Refresh es h = h
+  one_of : (m : Method) (es : List EventComponent) → AreOfOne (taken_by (Some m) es) → AreOfOne es
+  one_of Store es h = h
+  one_of Request es h = h
+  one_of Add es h = λ x y c d. h (as_added x) (as_added y) (in_mapped as_added es x c) (in_mapped as_added es y d)
+  one_of Cancel es h = h
+  one_of Reply es h = h
+  one_of Refresh es h = h
 
-      one_of : (m : Method) (es : List EventComponent) → AreOfOne (taken_by (Some m) es) → AreOfOne es
-      one_of Store es h = h
-      one_of Request es h = h
-      one_of Add es h = λ x y c d. h (as_added x) (as_added y) (in_mapped as_added es x c) (in_mapped as_added es y d)
-      one_of Cancel es h = h
-      one_of Reply es h = h
-      one_of Refresh es h = h
+  some_of : (m : Method) (es : List EventComponent) → 0 < length (taken_by (Some m) es) → 0 < length es
+  some_of Store es h = h
+  some_of Request es h = h
+  some_of Add es h = omega (arith, h, length-map es as_added)
+  some_of Cancel es h = h
+  some_of Reply es h = h
+  some_of Refresh es h = h
+
+  some_said : 0 < length s.events
+  some_said = some_of a.method s.events (subst (λ (l : List EventComponent). 0 < length l) s.taken s.are.some)
+
+  -- what its VEVENTs say in UTC
+  these : (events : List EventComponent) → AllZip (SaysPlaced None object (Some a.method)) (vevents object) events → events ≡ s.events
+  these events says = one_list one object (Some a.method) events s.events (all_said object (Some a.method) (vevents object) events says) s.says
+
+  taken_these : (events : List EventComponent) → AllZip (SaysPlaced None object (Some a.method)) (vevents object) events → taken_by (Some a.method) events ≡ a.events
+  taken_these events says = ap (taken_by (Some a.method)) (these events says) ∙ sym s.taken
+
+  no_meeting_fault : (n : ℕ) → EventFault None object (Some a.method) n → ⊥
+  no_meeting_fault n (in_event lines c f) = let x = zip_at (SaysEventComponent object (Some a.method)) (vevents object) s.events lines s.says c in sound object (Some a.method) lines x.0 n x.1 f
+  no_meeting_fault n (two_masters events says more) =
+      let few : length (filter is_master (taken_by (Some a.method) events)) ≤ 1 = subst (λ (l : List EventComponent). length (filter is_master l) ≤ 1) (sym (taken_these events says)) s.are.masters in
+      omega (arith, few, more)
+  no_meeting_fault n (two_overrides events says not) = not (subst (λ (l : List EventComponent). InstancesDiffer (filter is_override l)) (sym (taken_these events says)) s.are.differ)
+  no_meeting_fault n (two_meetings events says not) = not (subst AreOfOne (sym (these events says)) (one_of a.method s.events same_meeting))
+  no_meeting_fault n (no_event h) =
+      let l = zip_length (SaysEventComponent object (Some a.method)) (vevents object) s.events s.says in
+      let e = ap length h in
+      omega (arith, l, e, some_said)
 
 no_message_fault : OneEvent → NoFault → (object : Tree) (a : Message) (n : ℕ) → SaysMessage object a → MessageFault object n → ⊥
 no_message_fault one sound object a n s (in_method h) = no_method_fault (tree_own object) a.method n s.method h
 no_message_fault one sound object a n s (in_meeting method named h) =
     let same = same_method (tree_own object) method a.method named s.method in
-    no_meeting_fault one sound object (Some a.method) _ n (a_meeting object a s) (subst (λ (m : Method). EventFault object (Some m) n) same h)
+    no_meeting_fault one sound object a s n (subst (λ (m : Method). EventFault None object (Some m) n) same h)
 no_message_fault one sound object a n s (not_one method named speaks events says h) =
     let same = same_method (tree_own object) method a.method named s.method in
     let spoken = subst (λ (m : Method). AllZip (SaysEventComponent object (Some m)) (vevents object) events) same says in

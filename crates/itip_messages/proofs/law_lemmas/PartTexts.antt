@@ -12,9 +12,8 @@ use Rattle.profile.specs.text.Trees.{Tree, vevents}
 use Rattle.profile.specs.text.Values.{IsAddress, IsUid, lower_case}
 use Rattle.profile.specs.events.EventComponents.{Method, Store, Request, Add, Cancel, Reply, Refresh, EventComponent, SaysEventComponent, SaysSequence, IsAttendee, adds_instances}
 use Rattle.profile.specs.events.Events.{as_added, taken_by, is_master}
-use Rattle.profile.specs.events.ZonedTimes.{SaysTimes, SpellsZoned, SaysZoneOf, EventTimes, clock_of, zone_named}
-use Rattle.profile.specs.series.Zones.{IsOneMeaning, Zone}
-use Rattle.profile.specs.series.ZoneTexts.{SaysZone}
+use Rattle.profile.specs.events.ZonedTimes.{SaysTimes, EventTimes, clock_of}
+use Rattle.profile.specs.series.Zones.{IsOneMeaning}
 use Rattle.std.proofs.lemmas.Option.{same_Some}
 use Rattle.profile.specs.events.Properties.{Says, BothOrNeither, OccursAtMostOnce, IsAddressLine, IsUidLine, IsSequenceLine, is_of, lines_named}
 use Rattle.profile.specs.events.Messages as events
@@ -36,7 +35,7 @@ use Rattle.itip_messages.proofs.shared_lemmas.CleanUids.{text_value}
 use Rattle.itip_messages.proofs.shared_lemmas.EventLines.{clean_value, vevent_among}
 use Rattle.itip_messages.proofs.shared_lemmas.ObjectTree.{Lines}
 use Rattle.itip_messages.proofs.shared_lemmas.OwnWhen.{EventFacts, event_facts}
-use Rattle.itip_messages.proofs.shared_lemmas.ZonedStarts.{IsSaid}
+use Rattle.itip_messages.proofs.shared_lemmas.ZonedStarts.{IsSaid, form_said}
 
 -- octets ask the room for the part, with this content: they spell a message to rooms, and it is that of one of its events
 pub record IsAsked (room : List ℕ) (content : Content) (part : Part) : Type 0 where
@@ -85,18 +84,8 @@ pub record SaysTaken (object : Tree) (method : Method) (lines : Lines) (event : 
   -- a local time means one instant on its clocks
   pub meaning : IsOneMeaning (clock_of event.times.zone)
 
-zone_there : (object : Tree) (name : Option (List ℕ)) (text : List ℕ) (zone : Option Zone) (local : ℤ) → SpellsZoned object name text zone local → IsSaid zone
-zone_there object None text None local s = tt
-zone_there object (Some n) text (Some z) local s = of_part (zone_named n object) s.1
-  where
-    of_part : (o : Option Tree) → SaysZoneOf o z → (t : Tree) × SaysZone t z
-    of_part None s = absurd s
-    of_part (Some t) s = (t, s)
-zone_there object None text (Some z) local s = absurd s
-zone_there object (Some n) text None local s = absurd s
-
 zone_said : (may_lack : Bool) (object : Tree) (lines : Lines) (times : EventTimes) → SaysTimes may_lack object lines times → IsSaid times.zone
-zone_said may_lack object lines times (inl t) = zone_there object (line_param (codes "TZID") t.line) (line_value t.line) times.zone times.local t.says.1
+zone_said may_lack object lines times (inl t) = form_said object (line_param (codes "TZID") t.line) (line_value t.line) times.form times.zone times.local t.says.1
 zone_said may_lack object lines times (inr lacks) = subst IsSaid (sym lacks.1.zone) tt
 
 as_said : (object : Tree) (method : Method) (lines : Lines) (event : EventComponent) → SaysEventComponent object (Some method) lines event → SaysTaken object method lines event
@@ -113,7 +102,7 @@ as_said object method lines event s = record {
 
 -- what is known of an event is known of it as an instance that is added
 facts_added : (event : EventComponent) → EventFacts event true → EventFacts (as_added event) true
-facts_added event f = record { local = f.local; means = f.means; dated = f.dated; most = f.most; added_in = f.added_in; few_added = f.few_added; few_taken = f.few_taken; single = λ h. f.single refl; once = λ h. f.once refl; recurs = f.recurs }
+facts_added event f = record { unzoned = f.unzoned; means = f.means; dated = f.dated; suits = f.suits; most = f.most; added_in = f.added_in; few_added = f.few_added; few_taken = f.few_taken; single = λ h. f.single refl; once = λ h. f.once refl; recurs = f.recurs }
 
 when_added : (object : Tree) (lines : Lines) (event : EventComponent) → SaysEventComponent object (Some Add) lines event → SaysTaken object Add lines (as_added event)
 when_added object lines event s = record {

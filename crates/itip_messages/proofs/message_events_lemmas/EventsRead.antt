@@ -1,6 +1,6 @@
 -- What is read of the VEVENTs of an object by its METHOD: the message that they say, and which fault they have.
 -- Cited by has_one_attendee, judge_attendees, method_of, read_events.
-use Rattle.std.proofs.Common.{◌≡◌, ℕ, Bool, true, List, [], ◌∷◌, map, sym, ap, subst, refl, Some, unwrap_or, arith, ◌∙◌}
+use Rattle.std.proofs.Common.{◌≡◌, ℕ, Bool, true, List, [], ◌∷◌, map, sym, ap, subst, refl, None, Some, unwrap_or, arith, ◌∙◌}
 use Rattle.std.specs.List.{AllZip, list_all}
 use Rattle.std.specs.Str.{bytes_eq}
 use Rattle.std.proofs.lemmas.Bool.{false≢true}
@@ -65,7 +65,7 @@ module _ (object : Component) (method : Method) (named : NamesMethod (tree_own (
   )
 
   -- what is wrong with them
-  pub meeting_wrong : (f : Fault) → RefusesBy (EventFault (tree_of object) (Some method)) f → RefusesBy (MessageFault (tree_of object)) f
+  pub meeting_wrong : (f : Fault) → RefusesBy (EventFault None (tree_of object) (Some method)) f → RefusesBy (MessageFault (tree_of object)) f
   meeting_wrong Memory h = tt
   meeting_wrong (Refused r) h = in_meeting method named h
 

@@ -1,6 +1,6 @@
 -- The events of a message: what is known of each, and their order by slots.
 -- Cited by Message::of.
-use Rattle.std.proofs.Common.{◌≡◌, ◌≢◌, ◌∙◌, ℕ, zero, suc, ◌≤◌, Bool, true, false, not, cond, List, [], ◌∷◌, length, map, filter, get_or, refl, sym, ap, subst, arith, ℤ, Option, Some, None, is_some, Ordering}
+use Rattle.std.proofs.Common.{◌≡◌, ◌≢◌, ◌∙◌, ℕ, ◌≤◌, Bool, true, false, not, cond, List, [], ◌∷◌, length, map, filter, get_or, refl, sym, ap, subst, inl, inr, codes, arith, pos, ◌*ℤ◌, ◌+ℤ◌, ◌<◌, ℤ, Option, Some, None, is_some, Ordering}
 use Rattle.std.specs.Prelude.{Contains, All, AllPairs, unwrap_or}
 use Rattle.std.specs.List.{AllZip}
 use Rattle.std.specs.List.Sorted.{IsPermutation, IsSortedByKey}
@@ -12,24 +12,32 @@ use Rattle.std.proofs.lemmas.List.Elements.{All-contains, All-map, All-cons, All
 use Rattle.std.proofs.lemmas.List.Kept.{AllPairs-filter}
 use Rattle.std.proofs.lemmas.List.Sorted.{IsPermutation-map, IsPermutation-sym, Contains-permutation, ranks_by, sorted_far}
 use Rattle.profile.specs.text.Trees.{Tree, vevents}
-use Rattle.profile.specs.events.EventComponents.{Method, Store, Request, Add, Cancel, Reply, Refresh, EventComponent as SaidComponent, SaysEventComponent}
-use Rattle.profile.specs.events.Properties.{BothOrNeither}
-use Rattle.profile.specs.events.Occurrences.{ListedTime, IsInside}
+use Rattle.profile.specs.events.EventComponents.{Method, Store, Request, Add, Cancel, Reply, Refresh, EventComponent as SaidComponent, SaysEventComponent, may_lack_start}
+use Rattle.profile.specs.events.Properties.{BothOrNeither, Form, Fixed, Floating, WholeDay}
+use Rattle.profile.specs.events.Occurrences.{ListedTime, Time, IsInside, IsListed}
+use Rattle.profile.specs.events.ZonedTimes.{EventTimes, SaysTimes, SpellsForm, SpellsMidnight, IsInDates, clock_of, is_in_zone}
+use Rattle.profile.specs.series.Zones.{Means, Zone}
+use Rattle.profile.specs.text.Lines.{line_param, line_value}
+use Rattle.profile.specs.text.Values.{IsClockSeconds, SpellsDate, SpellsLocal}
 use Rattle.profile.specs.events.Events.{as_added, taken_by, is_master, is_override, InstancesDiffer}
 use Rattle.profile.specs.events.Messages.{Message, SaysMessage}
-use Rattle.profile.specs.rooms.Messages.{AreBySlot, slot_of, slot_named}
+use Rattle.profile.specs.rooms.Messages.{AreBySlot, may_take, slot_of, slot_named}
 use Rattle.profile.specs.rooms.Revisions.{Slot, Whole, At, slot_cmp}
 use Rattle.itip_order.proofs.Order.{slot_total}
 use Rattle.std.specs.FinMap.{int_cmp-IsAntisymmetric}
-use Rattle.cal_events.proofs.shared_lemmas.InOneOrder.{none_in, of_mapped, in_filtered, of_filtered, cons_pairs, head_pairs, tail_pairs, pairs_mapped, mapped_pairs}
+use Rattle.cal_events.proofs.shared_lemmas.InOneOrder.{of_mapped, in_filtered, of_filtered, cons_pairs, head_pairs, tail_pairs, pairs_mapped, mapped_pairs}
 use Rattle.cal_events.proofs.draft_lemmas.KeyLemmas.{pairs_permutation}
 use Rattle.cal_events.specs.Component.{component_of}
 use Rattle.cal_events.specs.declared.component.EventComponent.{EventComponent}
 use Rattle.std.proofs.lemmas.Int.{ints}
 use Rattle.cal_events.specs.MeetingComponents.{IsInEventDates}
 use Rattle.cal_events.proofs.shared_lemmas.OneInstance.{event_sound}
-use Rattle.itip_messages.specs.Body.{IsReady}
-use Rattle.itip_messages.proofs.shared_lemmas.RuleBack.{rule_told}
+use Rattle.cal_events.proofs.shared_lemmas.Meanings.{utc_instant}
+use Rattle.cal_events.proofs.shared_lemmas.SeriesLemmas.{zip_back}
+use Rattle.itip_messages.specs.Body.{IsMidnight, IsReady, IsShowable, IsWholeIn, StartIsWhole}
+use Rattle.itip_messages.specs.SentLaw.{time_as}
+use Rattle.itip_messages.proofs.body_lemmas.TimeLists.{dates_start, start_dates}
+use Rattle.itip_messages.proofs.shared_lemmas.RuleBack.{clock_second, date_count, date_low, rule_told}
 use Rattle.itip_messages.specs.Components.{AreInOrder, AreMessageEvents, IsDated, event_slot}
 
 abbrev Lines : Type 0
@@ -79,16 +87,56 @@ starts_dated object m (v ∷ vs) [] z = absurd z
 starts_dated object m (v ∷ vs) (e ∷ es) z =
     All-cons (λ (e : SaidComponent). IsDated (slot_of (as_added e))) e es (in_stamps (Some e.times.start) (λ t is. subst IsInEventDates (same_Some e.times.start t is) (event_sound object v e z.0).starts)) (starts_dated object m vs es z.1)
 
--- and says only instants that a stamp writes
-inside_named : (object : Tree) (entry : ListedTime) (t : ℤ) → IsInside object entry t → IsInEventDates t
-inside_named object (line, text) t (_, _, _, _, dates) = (dates.1, dates.2)
+-- ---- what can be written
 
-listed : (object : Tree) (entries : List ListedTime) (instants : List ℤ) → AllZip (IsInside object) entries instants → (t : ℤ) → Contains instants t → IsInEventDates t
-listed object [] [] z t c = absurd (none_in t c)
-listed object [] (x ∷ xs) z t c = absurd z
-listed object (e ∷ es) [] z t c = absurd z
-listed object (e ∷ es) (x ∷ xs) z t (zero, w, same) = subst IsInEventDates same (inside_named object e x z.0)
-listed object (e ∷ es) (x ∷ xs) z t (suc k, w, same) = listed object es xs z.1 t (k, omega (arith, w), same)
+-- what is read in UTC, or in the years 1 to 9999 without zone
+date_clock : (text : List ℕ) (day : ℤ) → SpellsDate text day → IsClockSeconds (day *ℤ pos 86_400)
+date_clock text day d = let (n, few, is) = date_count text day d in let low = date_low text day d in (omega (arith, ints, low), omega (arith, ints, few, is))
+
+local_clock : (text : List ℕ) (local : ℤ) → SpellsLocal text local → IsClockSeconds local
+local_clock text local s =
+    let (n, few, is) = date_count s.date s.number s.on in
+    let low = date_low s.date s.number s.on in
+    let second : s.second < 86_400 = clock_second s.time s.second s.at_second in
+    let counted : local ≡ (s.number *ℤ pos 86_400) +ℤ pos s.second = s.counted in
+    (omega (arith, ints, low, counted), omega (arith, ints, few, is, second, counted))
+
+midnight_clock : (text : List ℕ) (local : ℤ) → SpellsMidnight text local → IsMidnight local
+midnight_clock text local (day, d, e) = (subst IsClockSeconds (sym e) (date_clock text day d), (day, e))
+
+-- a time that isn't fixed is of no zone
+unzoned_clock : (object : Tree) (name : Option (List ℕ)) (text : List ℕ) (form : Form) (zone : Option Zone) (local : ℤ) → SpellsForm object name text form zone local → IsWholeIn form zone local
+unzoned_clock object name text Fixed _ local s = tt
+unzoned_clock object name text Floating _ local s = s.1
+unzoned_clock object name text WholeDay _ local s = (s.1, midnight_clock text local s.2)
+
+-- a listed time: a fixed one where a start may be
+shown_from : (object : Tree) (name : Option (List ℕ)) (text : List ℕ) (form : Form) (zone : Option Zone) (local t : ℤ) → SpellsForm object name text form zone local → Means (clock_of zone) local t → may_take (time_as form t) ≡ true
+    → IsShowable form t
+shown_from object name text Fixed _ local t s m h = let d = dates_start t h in (omega (arith, ints, d.0), omega (arith, ints, d.1))
+shown_from object name text Floating _ local t s m h =
+    subst IsClockSeconds (sym (utc_instant local t (subst (λ (z : Option Zone). Means (clock_of z) local t) s.1 m))) (local_clock text local s.2)
+shown_from object name text WholeDay _ local t s m h =
+    subst IsMidnight (sym (utc_instant local t (subst (λ (z : Option Zone). Means (clock_of z) local t) s.1 m))) (midnight_clock text local s.2)
+
+listed_shown : (object : Tree) (name : List ℕ) (entry : ListedTime) (time : Time) → IsListed object name entry time → may_take time ≡ true → IsShowable time.form time.instant
+listed_shown object name (line, text) time (_, (zone, local, says, means)) h = shown_from object (line_param (codes "TZID") line) text time.form zone local time.instant says.1 means h
+
+all_shown : (object : Tree) (name : List ℕ) (entries : List ListedTime) (times : List Time) → AllZip (IsListed object name) entries times → (time : Time) → Contains times time → may_take time ≡ true → IsShowable time.form time.instant
+all_shown object name entries times z time c h = let back = zip_back (IsListed object name) entries times time z c in listed_shown object name back.0 time back.2 h
+
+-- what is in the dates of an event may be taken away
+inside_takes : (form : Form) (in_zone : Bool) (local t : ℤ) → IsInDates false form in_zone local t → may_take (time_as form t) ≡ true
+inside_takes Fixed in_zone local t d = start_dates t (d.1, d.2)
+inside_takes Floating in_zone local t d = refl
+inside_takes WholeDay in_zone local t d = refl
+
+entry_takes : (object : Tree) (entry : ListedTime) (time : Time) → IsInside object entry time → may_take time ≡ true
+entry_takes object (line, text) time (_, local, says, means, dates) = inside_takes time.form (is_in_zone line) local time.instant dates
+
+start_whole : (may_lack : Bool) (object : Tree) (lines : Lines) (times : EventTimes) → SaysTimes may_lack object lines times → StartIsWhole times
+start_whole may_lack object lines times (inl t) = unzoned_clock object (line_param (codes "TZID") t.line) (line_value t.line) times.form times.zone times.local t.says.1
+start_whole may_lack object lines times (inr (_, t)) = subst (λ (form : Form). IsWholeIn form times.zone times.local) (sym t.form) tt
 
 event_ready : (object : Tree) (m : Method) (lines : Lines) (event : SaidComponent) → SaysEventComponent object (Some m) lines event → IsReady event
 event_ready object m lines event s =
@@ -96,7 +144,13 @@ event_ready object m lines event s =
     record {
       ends = rule_told lines event.times event.rule s.rule;
       timely = record { steady = sound.steady; starts = sound.starts };
-      listed = listed object _ event.additions s.occurrences.inside;
+      start = start_whole (may_lack_start (Some m)) object lines event.times s.times;
+      added = λ time c.
+          let inside = zip_back (IsInside object) _ event.written.additions time s.occurrences.inside c in
+          all_shown object (codes "RDATE") _ event.written.additions s.occurrences.adds.0 time c (entry_takes object inside.0 time inside.2);
+      taken = λ time c.
+          let among = of_filtered may_take event.written.exceptions time c in
+          all_shown object (codes "EXDATE") _ event.written.exceptions s.occurrences.takes.0 time among.0 among.1;
     }
 
 pub ready : (object : Tree) (m : Method) (vs : List Lines) (es : List SaidComponent) → AllZip (SaysEventComponent object (Some m)) vs es → All IsReady es
@@ -108,7 +162,7 @@ ready object m (v ∷ vs) (e ∷ es) z = All-cons IsReady e es (event_ready obje
 -- also as an instance that is added
 ready_added : (es : List SaidComponent) → All IsReady es → All (λ e. IsReady (as_added e)) es
 ready_added es a k e w =
-    let r = a k e w in record { ends = r.ends; timely = record { steady = r.timely.steady; starts = r.timely.starts }; listed = r.listed }
+    let r = a k e w in record { ends = r.ends; timely = record { steady = r.timely.steady; starts = r.timely.starts }; start = r.start; added = r.added; taken = r.taken }
 
 -- ---- as a method takes them
 

@@ -169,6 +169,7 @@ module _ (organiser uid : List ℕ) (revision : Revision) (to : List (List ℕ))
             duration_once = l.duration;
             lasts = refl;
             most = omega arith;
+            form = refl;
             zone = refl;
             local = refl;
             start = refl;
@@ -181,11 +182,13 @@ module _ (organiser uid : List ℕ) (revision : Revision) (to : List (List ℕ))
         };
         occurrences = record {
           is = record { line = None; once = l.recurrence; present = λ e. absurd (false≢true e); is = tt };
+          fixed_recurrence = λ h. absurd (false≢true h);
           adds = subst (λ (lines : Lines). Lists object (codes "RDATE") (flat_map entries_of lines) []) (sym l.additions) (tt, omega arith);
           inside = subst (λ (lines : Lines). AllZip (IsInside object) (flat_map entries_of lines) []) (sym l.additions) tt;
           takes = subst (λ (lines : Lines). Lists object (codes "EXDATE") (flat_map entries_of lines) []) (sym l.exceptions) (tt, omega arith);
           alone = ap (λ b. (false || b) && list_any (λ line. is_of (codes "RRULE") line || is_of (codes "RDATE") line) (own called_off)) (none_passes (is_of (codes "RECURRENCE-ID")) (own called_off) l.recurrence);
         };
+        instants = record { slot = refl; added = refl; taken = refl };
         summary = sym (ap first_text l.summary);
         attendees = subst (λ (lines : Lines). AllZip IsAttendee lines (map attendee_at to)) (sym h.attendees) (all_say to f);
       }

@@ -1,13 +1,13 @@
 -- A VEVENT that is sent of a stored event says it again.
 -- Behind requests_read_back, shown_reads_back.
 use Rattle.std.proofs.Common.{◌≡◌, ◌∙◌, refl, sym, ap, subst, ℕ, ℤ, ◌<◌, ◌^◌, false, List, [], ◌∷◌, ◌++◌, codes, decimal, Option, Some, None, inl, inr, arith, append_assoc, not}
-use Rattle.std.specs.Prelude.{Contains}
+use Rattle.std.specs.Prelude.{Contains, filter, option_map}
 use Rattle.std.specs.List.{AllZip}
 use Rattle.std.specs.Str.{bytes_eq}
 use Rattle.profile.specs.events.EventComponents.{Attendee, EventComponent, Request, SaysEventComponent}
 use Rattle.profile.specs.events.Messages.{counted}
 use Rattle.profile.specs.organisers.Sent.{Component, IsComponentOf, IsComponentText, status_lines}
-use Rattle.profile.specs.rooms.Messages.{Content, IsContent, TellsSlot, slot_named, slot_of}
+use Rattle.profile.specs.rooms.Messages.{Content, IsContent, WritesListed, may_take, TellsSlot, slot_named, slot_of}
 use Rattle.profile.specs.rooms.Revisions.{Revision, Slot}
 use Rattle.profile.specs.text.Values.{IsUid, escaped}
 use Rattle.cal_events.specs.MeetingComponents.{IsInEventDates}
@@ -17,7 +17,10 @@ use Rattle.ical_values.proofs.Escapes.{read_back}
 use Rattle.ical_values.proofs.Readings.{sequence_written, stamp_written}
 use Rattle.ical_values.proofs.ShownValues.{shown_stamp}
 use Rattle.itip_order.proofs.Lists.{in_cons, in_head, in_tail}
-use Rattle.itip_messages.specs.SentLaw.{IsSaidAgain, IsSentAddress}
+use Rattle.itip_messages.specs.SentLaw.{AreListedAgain, IsSaidAgain, IsSentAddress, time_as}
+use Rattle.itip_messages.proofs.body_lemmas.TimeLists.{back_times}
+use Rattle.profile.specs.events.Occurrences.{Time}
+use Rattle.profile.specs.events.Properties.{Fixed}
 use Rattle.itip_messages.proofs.shared_lemmas.CleanText.{clean_address}
 use Rattle.itip_messages.proofs.shared_lemmas.CleanUids.{clean_text}
 use Rattle.itip_messages.proofs.shared_lemmas.ObjectTree.{Lines, vevent_lines}
@@ -29,7 +32,7 @@ use Rattle.itip_messages.proofs.shared_lemmas.SentTexts.{text_of}
 use Rattle.itip_messages.proofs.shared_lemmas.OwnWhen.{IsCleanSlot, are_own, duration_clean, duration_of, when_of, written_rule}
 use Rattle.itip_messages.proofs.sent_law_lemmas.StoredEvents.{IsStored}
 use Rattle.itip_messages.proofs.shared_lemmas.ZonedObjects.{IsZonedTree}
-use Rattle.itip_messages.proofs.shared_lemmas.ZonedStarts.{local_written, name_means, name_plain}
+use Rattle.itip_messages.proofs.shared_lemmas.ZonedStarts.{name_means, name_plain}
 use Rattle.itip_messages.proofs.body_lemmas.ZonePlaces.{named_lines}
 
 -- ---- RECURRENCE-ID
@@ -73,6 +76,23 @@ counted_among (b ∷ more) a c = elim (in_cons b _ a c) [
   | inr there ↦ in_tail b more a (counted_among more a (of_filtered (λ other. not (bytes_eq b.address other.address)) (counted more) a there).0)
 ]
 
+-- ---- what is listed
+
+listed_again : (name : List ℕ) (times : List Time) (lines : Lines) (w : WritesListed name times lines) → AreListedAgain times (back_times name times lines w)
+listed_again name times lines w = record {
+  fixed = w.in_utc.ascending;
+  floating = w.local.ascending;
+  days = w.dates.ascending;
+  in_utc = w.in_utc.are;
+  local = w.local.are;
+  dates = w.dates.are;
+  are = refl;
+}
+
+instant_back : (recurrence : Option ℤ) → recurrence ≡ option_map (λ (time : Time). time.instant) (option_map (time_as Fixed) recurrence)
+instant_back None = refl
+instant_back (Some t) = refl
+
 -- ---- one VEVENT
 
 pub record OneBack (word : Option (List ℕ)) (IsSuch : Slot → Attendee → Attendee → Type 0) (zones : List (List ℕ)) (revision : Revision) (event : EventComponent) (lines : Lines) : Type 0 where
@@ -90,7 +110,7 @@ module _ (word : Option (List ℕ)) (IsLine : Slot → Attendee → List ℕ →
       let told = slot_told event.recurrence t.slot t.tells_slot f.dated in
       let plain = name_plain zones content event c t.name t.named in
       let l = named_lines t.name content event c in
-      let rule = written_rule event.times (local_written event.times.zone event.times) f.facts.local f.meaning event.rule c.rule f.facts.recurs c.recurs in
+      let rule = written_rule event.times f.meaning event.rule c.rule f.facts.recurs c.recurs in
       let w = when_of t.name content event c l plain false f.facts rule event.recurrence (λ h. h) in
       let a = attendees_back IsLine IsSuch back (slot_of event) (counted event.attendees) t.attendees (λ x k. f.attendees x (counted_among event.attendees x k)) t.each in
       let sequence = decimal revision.sequence in
@@ -98,7 +118,7 @@ module _ (word : Option (List ℕ)) (IsLine : Slot → Attendee → List ℕ →
       let tail = (codes "SUMMARY:" ++ escaped event.summary) ∷ (codes "ORGANIZER:" ++ organiser) ∷ t.attendees in
       let front = own_front told.text (escaped uid) sequence d.stamp in
       let behind = own_back event.cancelled (escaped event.summary) organiser t.attendees in
-      let said = event_again event event.recurrence organiser revision rule.back w.adds.ascending w.takes.ascending event.cancelled event.summary a.0 in
+      let said = event_again event event.recurrence organiser revision rule.back (back_times (codes "RDATE") event.written.additions c.additions w.adds) (back_times (codes "EXDATE") (filter may_take event.written.exceptions) c.exceptions w.takes) event.cancelled event.summary a.0 in
       let spell : SpellPart event.uid revision (escaped uid) sequence d.stamp organiser = record {
         uid_there = f.named ∙ sym (read_back uid);
         is_uid = subst (λ (u : List ℕ). IsUid u) (sym f.named) f.is_uid;
@@ -107,7 +127,6 @@ module _ (word : Option (List ℕ)) (IsLine : Slot → Attendee → List ℕ →
         organised = f.address.read.address;
         lower = f.address.read.lower;
       } in
-      let same_times : said.times ≡ event.times = ap (λ (n : ℤ). record { zone = event.times.zone; local = n; start = event.times.start; length = event.times.length }) f.facts.local in
       record {
         own = own_lines told.text (escaped uid) sequence d.stamp when behind;
         said = said;
@@ -116,11 +135,11 @@ module _ (word : Option (List ℕ)) (IsLine : Slot → Attendee → List ℕ →
             ∙ (λ i. (codes "BEGIN:VEVENT" ∷ (codes "UID:" ++ escaped uid) ∷ told.are i) ++ d.is i ++ l.are i ++ status_lines event.cancelled ++ tail ++ codes "END:VEVENT" ∷ [])
             ∙ ap (λ (x : Lines). codes "BEGIN:VEVENT" ∷ (x ++ codes "END:VEVENT" ∷ [])) (append_assoc (front ++ when) (status_lines event.cancelled) tail);
         good =
-            are_own t.name event event.recurrence l.start (duration_of event) c.rule c.additions c.exceptions rule.back event.additions _ w told.text (escaped uid) sequence d.stamp behind told.clean (clean_text uid f.text)
+            are_own t.name event event.recurrence l.start (duration_of event) c.rule c.additions c.exceptions rule.back event.written.additions _ w told.text (escaped uid) sequence d.stamp behind told.clean (clean_text uid f.text)
             (clean_shown sequence (shown_decimal revision.sequence (omega (arith, small)))) (clean_shown d.stamp (shown_stamp d.stamp revision.stamp d.tells)) (duration_clean event)
             (behind_own event.cancelled (escaped event.summary) organiser t.attendees a.0 (clean_text event.summary f.summary) (clean_address organiser (text_of organiser f.address)) a.1);
         says = λ all k.
-            own_says t.name event told.text event.recurrence revision (escaped uid) sequence d.stamp l.start (duration_of event) organiser behind event.cancelled event.summary a.0 c.rule c.additions c.exceptions rule.back event.additions _ spell
+            own_says t.name event told.text event.recurrence revision (escaped uid) sequence d.stamp l.start (duration_of event) organiser behind event.cancelled event.summary a.0 c.rule c.additions c.exceptions rule.back event.written.additions _ spell
             (behind_says event.cancelled event.summary organiser t.attendees a.0 a.1) w told.spells k.whole (name_means word zones all k content event c f.zone t.name t.named);
         is = record {
           uid = refl;
@@ -129,13 +148,15 @@ module _ (word : Option (List ℕ)) (IsLine : Slot → Attendee → List ℕ →
           sequence = refl;
           cancelled = refl;
           recurrence = refl;
-          times = same_times;
+          times = refl;
           rule = rule.same;
-          additions = w.adds.are;
-          exceptions = w.takes.are;
+          slot = sym f.slot;
+          additions = listed_again (codes "RDATE") event.written.additions c.additions w.adds;
+          exceptions = listed_again (codes "EXDATE") (filter may_take event.written.exceptions) c.exceptions w.takes;
+          instants = record { slot = instant_back event.recurrence; added = refl; taken = refl };
           summary = refl;
           attendees = a.2;
-          content = same_content event said same_times w.adds.are w.takes.are rule.writes;
+          content = same_content event said refl (listed_again (codes "RDATE") event.written.additions c.additions w.adds) (listed_again (codes "EXDATE") (filter may_take event.written.exceptions) c.exceptions w.takes) rule.writes;
         };
       }
 

@@ -1,7 +1,7 @@
 -- What is known of the events of a store that was read: their texts can be in lines, and they say when they are.
 -- Cited by stored_texts_can_be_sent.
 use Rattle.std.proofs.Common.{◌≡◌, ◌∙◌, refl, sym, ap, subst, inl, inr, ℕ, ℤ, ◌<◌, ◌≤◌, ◌^◌, nat_lt, true, false, List, [], ◌∷◌, length, filter, codes, Option, Some, None, is_some, arith}
-use Rattle.std.specs.Prelude.{Contains, count_by, unwrap_or}
+use Rattle.std.specs.Prelude.{Contains, count_by, option_map, unwrap_or}
 use Rattle.std.specs.List.{AllZip}
 use Rattle.std.proofs.lemmas.Bool.{false≢true}
 use Rattle.std.proofs.lemmas.Bool.Decides.{nat_tests}
@@ -13,12 +13,12 @@ use Rattle.profile.specs.text.Objects.{most_events}
 use Rattle.profile.specs.text.Trees.{Tree, tree_inside, tree_name, tree_own, vevents}
 use Rattle.profile.specs.rooms.Revisions.{Revision}
 use Rattle.profile.specs.text.Values.{IsUid}
-use Rattle.profile.specs.series.Zones.{IsOneMeaning, Zone}
-use Rattle.profile.specs.series.ZoneTexts.{SaysZone}
+use Rattle.profile.specs.series.Zones.{IsOneMeaning}
 use Rattle.profile.specs.events.EventComponents.{Attendee, EventComponent, IsAttendee, SaysEventComponent, first_text, meeting_said, Method, Store}
 use Rattle.profile.specs.events.Events.{InstancesDiffer, is_master, is_override, taken_by}
-use Rattle.profile.specs.events.Properties.{BothOrNeither, IsAddressLine, IsUidLine, Says, OccursAtMostOnce, is_of, lines_named}
-use Rattle.profile.specs.events.ZonedTimes.{EventTimes, SaysTimes, SaysZoneOf, SpellsZoned, clock_of, zone_named}
+use Rattle.profile.specs.events.Properties.{Fixed, BothOrNeither, IsAddressLine, IsUidLine, Says, OccursAtMostOnce, is_of, lines_named}
+use Rattle.profile.specs.events.ZonedTimes.{EventTimes, SaysTimes, clock_of}
+use Rattle.profile.specs.events.Occurrences.{IsFixedWhere, Time}
 use Rattle.profile.specs.events.Messages.{Message, SpellsMessage}
 use Rattle.cal_events.specs.MeetingComponents.{IsInEventDates}
 use Rattle.cal_events.proofs.shared_lemmas.OneInstance.{event_sound}
@@ -27,13 +27,13 @@ use Rattle.ical_lines.proofs.CleanLines.{IsClean}
 use Rattle.ical_values.proofs.Addresses.{lower_address, lower_twice}
 use Rattle.itip_order.proofs.Lists.{filter_at, in_cons, in_head, in_tail, none_in_nil}
 use Rattle.itip_messages.specs.Law.{IsTextValue}
-use Rattle.itip_messages.specs.SentLaw.{IsSentAddress, IsSentName}
+use Rattle.itip_messages.specs.SentLaw.{IsSentAddress, IsSentName, time_as}
 use Rattle.itip_messages.proofs.shared_lemmas.CleanText.{text_address}
 use Rattle.itip_messages.proofs.shared_lemmas.CleanUids.{text_value}
 use Rattle.itip_messages.proofs.shared_lemmas.EventLines.{clean_value, vevent_among}
 use Rattle.itip_messages.proofs.shared_lemmas.ObjectTree.{Lines}
 use Rattle.itip_messages.proofs.shared_lemmas.OwnWhen.{EventFacts, stored_facts}
-use Rattle.itip_messages.proofs.shared_lemmas.ZonedStarts.{IsSaid}
+use Rattle.itip_messages.proofs.shared_lemmas.ZonedStarts.{IsSaid, form_said}
 
 -- one of the events, of this meeting
 pub record IsStored (organiser uid : List ℕ) (event : EventComponent) : Type 0 where
@@ -48,6 +48,8 @@ pub record IsStored (organiser uid : List ℕ) (event : EventComponent) : Type 0
   pub meaning : IsOneMeaning (clock_of event.times.zone)
   pub dated : (t : ℤ) → event.recurrence ≡ Some t → IsInEventDates t
   pub zone : IsSaid event.times.zone
+  -- an instance is named by a fixed time
+  pub slot : event.written.recurrence ≡ option_map (time_as Fixed) event.recurrence
 
 -- all of them
 pub record AreStored (organiser uid : List ℕ) (events : List EventComponent) : Type 0 where
@@ -59,19 +61,13 @@ pub record AreStored (organiser uid : List ℕ) (events : List EventComponent) :
 
 -- ---- what the lines say
 
-zone_there : (object : Tree) (name : Option (List ℕ)) (text : List ℕ) (zone : Option Zone) (local : ℤ) → SpellsZoned object name text zone local → IsSaid zone
-zone_there object None text None local s = tt
-zone_there object (Some n) text (Some z) local s = of_part (zone_named n object) s.1
-  where
-    of_part : (o : Option Tree) → SaysZoneOf o z → (t : Tree) × SaysZone t z
-    of_part None s = absurd s
-    of_part (Some t) s = (t, s)
-zone_there object None text (Some z) local s = absurd s
-zone_there object (Some n) text None local s = absurd s
-
 zone_said : (object : Tree) (lines : Lines) (times : EventTimes) → SaysTimes false object lines times → IsSaid times.zone
-zone_said object lines times (inl t) = zone_there object (line_param (codes "TZID") t.line) (line_value t.line) times.zone times.local t.says.1
+zone_said object lines times (inl t) = form_said object (line_param (codes "TZID") t.line) (line_value t.line) times.form times.zone times.local t.says.1
 zone_said object lines times (inr lacks) = absurd (false≢true lacks.0)
+
+fixed_slot : (given : Option Time) (recurrence : Option ℤ) → IsFixedWhere true given → recurrence ≡ option_map (λ time. time.instant) given → given ≡ option_map (time_as Fixed) recurrence
+fixed_slot None recurrence f e = sym (ap (option_map (time_as Fixed)) e)
+fixed_slot (Some time) recurrence f e = (λ i. Some (record { form = f refl time refl i; instant = time.instant })) ∙ sym (ap (option_map (time_as Fixed)) e)
 
 -- an address in lower case
 sent_address : (text : List ℕ) (line : List ℕ) → IsAddressLine line text → IsClean (line_value line) → IsSentAddress text
@@ -137,6 +133,7 @@ stored_one object lines event organiser uid clean s meeting =
       meaning = sound.steady.meaning;
       dated = sound.names;
       zone = zone_said object lines event.times s.times;
+      slot = fixed_slot event.written.recurrence event.recurrence s.occurrences.fixed_recurrence s.instants.slot;
     }
 
 -- ---- all of them

@@ -1,28 +1,30 @@
 -- What the lines of a VEVENT say that is written of an event: the event again, in this revision. Its start may be in a zone, and it may have lists.
 -- Behind refreshes_are_heard of law, replies_are_heard of law, requests_read_back of sent_law, shown_reads_back of sent_law, stored_texts_can_be_sent of sent_law.
-use Rattle.std.proofs.Common.{◌≡◌, ◌∙◌, inl, refl, sym, ap, subst, ℕ, ℤ, ◌≤◌, Bool, true, false, cond, ◌||◌, ◌&&◌, List, [], ◌∷◌, ◌++◌, length, codes, Option, Some, None, append-nil}
-use Rattle.std.specs.Prelude.{Contains, is_some}
+use Rattle.std.proofs.Common.{◌≡◌, ◌∙◌, inl, refl, sym, ap, subst, arith, ℕ, ℤ, ◌≤◌, Bool, true, false, cond, ◌||◌, ◌&&◌, List, [], ◌∷◌, ◌++◌, length, codes, Option, Some, None, append-nil}
+use Rattle.std.specs.Prelude.{Contains, is_some, option_map}
 use Rattle.std.specs.List.{list_all, list_any, flat_map, AllZip}
 use Rattle.std.proofs.lemmas.Bool.{false≢true}
 use Rattle.std.proofs.lemmas.List.Elements.{filter-append}
 use Rattle.std.proofs.Math.Bool.{and-false}
+use Rattle.profile.specs.text.Lines.{is_same_name}
 use Rattle.profile.specs.text.Trees.{Tree}
 use Rattle.profile.specs.text.Values.{SpellsStamp, SpellsSequence, SpellsDuration, unescaped, IsAddress, IsUid, lower_case}
 use Rattle.profile.specs.rooms.Revisions.{Revision}
-use Rattle.profile.specs.events.EventComponents.{Attendee, EventComponent, IsAttendee, Request, SaysEventComponent, first_text, summary_of}
+use Rattle.profile.specs.events.EventComponents.{Attendee, EventComponent, IsAttendee, Request, SaysEventComponent, first_text, instants_of, summary_of}
 use Rattle.itip_messages.proofs.shared_lemmas.SentTexts.{none_passes}
-use Rattle.profile.specs.events.Occurrences.{SaysStatus, IsListed, IsInside, entries_of, entries_named, most_entries}
-use Rattle.profile.specs.events.Properties.{is_of, lines_named, length_seconds, longest}
-use Rattle.profile.specs.events.ZonedTimes.{EventTimes, SaysEventTimes, IsInDates, clock_of}
-use Rattle.profile.specs.rooms.Messages.{WritesTimes}
+use Rattle.profile.specs.events.Occurrences.{Time, WrittenTimes, SaysStatus, IsListed, IsInside, entries_of, entries_named, most_entries}
+use Rattle.profile.specs.events.Properties.{Fixed, is_of, lines_named, length_seconds, longest}
+use Rattle.profile.specs.events.ZonedTimes.{SaysEventTimes, IsInDates, SuitsForm, clock_of}
+use Rattle.profile.specs.rooms.Messages.{WritesListed}
 use Rattle.profile.specs.series.Rules.{Rule, RuleText}
 use Rattle.profile.specs.series.RuleTexts.{SpellsRule}
 use Rattle.profile.specs.series.Zones.{Means, Zone}
 use Rattle.profile.specs.events.EventRules.{GivesBeside, GivesRule, SaysEventRule}
 use Rattle.ical_lines.proofs.CleanLines.{is_shown}
-use Rattle.itip_messages.proofs.body_lemmas.TimeLists.{IsStart, rdate_name, exdate_name, times_back, times_inside, times_named, times_unnamed, utc_means}
+use Rattle.itip_messages.specs.SentLaw.{time_as}
+use Rattle.itip_messages.proofs.body_lemmas.TimeLists.{IsPlainStart, IsStart, back_times, rdate_name, exdate_name, times_back, times_inside, times_named, times_short, times_unnamed, utc_means}
 use Rattle.itip_messages.proofs.body_lemmas.ZonePlaces.{StartsAs}
-use Rattle.itip_messages.proofs.shared_lemmas.ZonedStarts.{IsPlainFor, MeansZone, local_written, start_says, start_named, start_in_zone}
+use Rattle.itip_messages.proofs.shared_lemmas.ZonedStarts.{IsPlainFor, IsUnzoned, MeansZone, start_says, start_named, start_in_zone}
 
 abbrev Lines : Type 0
 Lines = List (List ℕ)
@@ -44,18 +46,22 @@ when_lines start duration rules additions exceptions = start ∷ (codes "DURATIO
 abbrev pub own_lines : (recurrence : Option (List ℕ)) (uid sequence stamp : List ℕ) (when behind : Lines) → Lines
 own_lines recurrence uid sequence stamp when behind = own_front recurrence uid sequence stamp ++ when ++ behind
 
--- the event that is said of an event, in this revision, with its instants ascending; in UTC the local time is the instant
-abbrev pub event_again : EventComponent → Option ℤ → List ℕ → Revision → Option Rule → List ℤ → List ℤ → Bool → List ℕ → List Attendee → EventComponent
+-- the times of an instance that is named in UTC, and of what is listed
+abbrev pub written_again : Option ℤ → List Time → List Time → WrittenTimes
+written_again recurrence additions exceptions = record { recurrence = option_map (time_as Fixed) recurrence; additions = additions; exceptions = exceptions }
+
+-- the event that is said of an event, in this revision, with its instance in UTC and with these times
+abbrev pub event_again : EventComponent → Option ℤ → List ℕ → Revision → Option Rule → List Time → List Time → Bool → List ℕ → List Attendee → EventComponent
 event_again event recurrence organiser revision rule additions exceptions cancelled summary attendees = record event {
   organiser = Some organiser;
   stamp = Some revision.stamp;
   sequence = revision.sequence;
   cancelled = cancelled;
   recurrence = recurrence;
-  times = record { zone = event.times.zone; local = local_written event.times.zone event.times; start = event.times.start; length = event.times.length };
   rule = rule;
-  additions = additions;
-  exceptions = exceptions;
+  additions = instants_of additions;
+  exceptions = instants_of exceptions;
+  written = written_again recurrence additions exceptions;
   summary = summary;
   attendees = attendees;
 }
@@ -101,24 +107,26 @@ SpellRule clock local rules (Some back) =
     (value : List ℕ) × (rules ≡ (codes "RRULE:" ++ value) ∷ []) × (list_all is_shown value ≡ true) × ((text : RuleText) × SpellsRule value text × GivesRule clock local text back)
 
 -- when it is
-pub record SpellWhen (name : List ℕ) (event : EventComponent) (slot : Option ℤ) (start duration : List ℕ) (rules additions exceptions : Lines) (back : Option Rule) (added taken : List ℤ) : Type 0 where
-  pub starts : StartsAs name event.times.zone event.times start
+pub record SpellWhen (name : List ℕ) (event : EventComponent) (slot : Option ℤ) (start duration : List ℕ) (rules additions exceptions : Lines) (back : Option Rule) (added taken : List Time) : Type 0 where
+  pub starts : StartsAs name event.times.form event.times.zone event.times start
+  pub unzoned : IsUnzoned event.times.form event.times.zone
   pub plain : IsPlainFor name event.times.zone
-  pub means : Means (clock_of event.times.zone) (local_written event.times.zone event.times) event.times.start
-  pub dated : IsInDates (is_some event.times.zone) (local_written event.times.zone event.times) event.times.start
+  pub means : Means (clock_of event.times.zone) event.times.local event.times.start
+  pub dated : IsInDates false event.times.form (is_some event.times.zone) event.times.local event.times.start
   pub lasts : SpellsDuration duration event.times.length.days event.times.length.seconds
+  pub suits : SuitsForm event.times.form event.times.length
   pub most : length_seconds event.times.length ≤ longest
-  pub recurs : SpellRule (clock_of event.times.zone) (local_written event.times.zone event.times) rules back
-  pub adds : WritesTimes (codes "RDATE") added additions
-  pub added_in : (i : ℤ) → Contains added i → IsStart i
-  pub few_added : length adds.ascending ≤ most_entries
-  pub takes : WritesTimes (codes "EXDATE") taken exceptions
-  pub few_taken : length takes.ascending ≤ most_entries
+  pub recurs : SpellRule (clock_of event.times.zone) event.times.local rules back
+  pub adds : WritesListed (codes "RDATE") added additions
+  pub added_in : (time : Time) → Contains added time → IsPlainStart time.form time.instant
+  pub few_added : length added ≤ most_entries
+  pub takes : WritesListed (codes "EXDATE") taken exceptions
+  pub few_taken : length taken ≤ most_entries
   pub alone : IsAlone slot rules additions
 
 -- ---- what is named in the lines
 
-module _ (name : List ℕ) (event : EventComponent) (slot : Option ℤ) (start duration : List ℕ) (rules additions exceptions : Lines) (back : Option Rule) (added taken : List ℤ)
+module _ (name : List ℕ) (event : EventComponent) (slot : Option ℤ) (start duration : List ℕ) (rules additions exceptions : Lines) (back : Option Rule) (added taken : List Time)
     (w : SpellWhen name event slot start duration rules additions exceptions back added taken) (front back_lines : Lines) where
   abbrev whole : Lines
   whole = front ++ when_lines start duration rules additions exceptions ++ back_lines
@@ -133,14 +141,14 @@ module _ (name : List ℕ) (event : EventComponent) (slot : Option ℤ) (start d
   rules_unnamed : (other : List ℕ) → ((v : List ℕ) → is_of other (codes "RRULE:" ++ v) ≡ false) → lines_named other rules ≡ []
   rules_unnamed other u = go back w.recurs
     where
-      go : (b : Option Rule) → SpellRule (clock_of event.times.zone) (local_written event.times.zone event.times) rules b → lines_named other rules ≡ []
+      go : (b : Option Rule) → SpellRule (clock_of event.times.zone) event.times.local rules b → lines_named other rules ≡ []
       go None none = ap (lines_named other) none
       go (Some b) (value, are, _, _) = ap (lines_named other) are ∙ ap (λ (t : Bool). cond t ((codes "RRULE:" ++ value) ∷ []) []) (u value)
 
   rules_same : lines_named (codes "RRULE") rules ≡ rules
   rules_same = go back w.recurs
     where
-      go : (b : Option Rule) → SpellRule (clock_of event.times.zone) (local_written event.times.zone event.times) rules b → lines_named (codes "RRULE") rules ≡ rules
+      go : (b : Option Rule) → SpellRule (clock_of event.times.zone) event.times.local rules b → lines_named (codes "RRULE") rules ≡ rules
       go None none = ap (lines_named (codes "RRULE")) none ∙ sym none
       go (Some b) (value, are, _, _) = ap (lines_named (codes "RRULE")) are ∙ sym are
 
@@ -150,7 +158,7 @@ module _ (name : List ℕ) (event : EventComponent) (slot : Option ℤ) (start d
       → lines_named other whole ≡ (lines_named other front ++ (durations ++ (rules_named ++ (additions_named ++ exceptions_named)))) ++ lines_named other back_lines
   plain_named other durations lacks rules_named additions_named exceptions_named r a x d =
       let rest = lines_named other ((codes "DURATION:" ++ duration) ∷ (rules ++ (additions ++ exceptions))) in
-      let not_it : is_of other start ≡ false = start_named other name event.times.zone event.times start w.starts w.plain ∙ lacks in
+      let not_it : is_of other start ≡ false = start_named other name event.times.form event.times.zone event.times start w.starts w.plain ∙ lacks in
       let lists : lines_named other (additions ++ exceptions) ≡ additions_named ++ exceptions_named = filter-append (is_of other) additions exceptions ∙ (λ i. a i ++ x i) in
       let all : lines_named other (rules ++ (additions ++ exceptions)) ≡ rules_named ++ (additions_named ++ exceptions_named) = filter-append (is_of other) rules (additions ++ exceptions) ∙ (λ i. r i ++ lists i) in
       named_parts other
@@ -158,19 +166,19 @@ module _ (name : List ℕ) (event : EventComponent) (slot : Option ℤ) (start d
       ∙ ap (λ l. (lines_named other front ++ l) ++ lines_named other back_lines) (d (rules ++ (additions ++ exceptions)) ∙ ap (λ l. durations ++ l) all)
 
   -- where no rule and no list has the name
-  no_list : (other : List ℕ) (durations : Lines) → is_of other (codes "DTSTART:") ≡ false → ((v : List ℕ) → is_of other (codes "RRULE:" ++ v) ≡ false) → ((v : List ℕ) → is_of other ((codes "RDATE" ++ codes ":") ++ v) ≡ false)
-      → ((v : List ℕ) → is_of other ((codes "EXDATE" ++ codes ":") ++ v) ≡ false) → ((rest : Lines) → lines_named other ((codes "DURATION:" ++ duration) ∷ rest) ≡ durations ++ lines_named other rest)
+  no_list : (other : List ℕ) (durations : Lines) → is_of other (codes "DTSTART:") ≡ false → ((v : List ℕ) → is_of other (codes "RRULE:" ++ v) ≡ false) → is_same_name (codes "RDATE") other ≡ false
+      → is_same_name (codes "EXDATE") other ≡ false → ((rest : Lines) → lines_named other ((codes "DURATION:" ++ duration) ∷ rest) ≡ durations ++ lines_named other rest)
       → lines_named other whole ≡ (lines_named other front ++ (durations ++ [])) ++ lines_named other back_lines
   no_list other durations lacks u r x d =
-      plain_named other durations lacks [] [] [] (rules_unnamed other u) (times_unnamed other (codes "RDATE") r added additions w.adds) (times_unnamed other (codes "EXDATE") x taken exceptions w.takes) d
+      plain_named other durations lacks [] [] [] (rules_unnamed other u) (times_unnamed (codes "RDATE") rdate_name added additions w.adds other r) (times_unnamed (codes "EXDATE") exdate_name taken exceptions w.takes other x) d
 
   start_once : lines_named (codes "DTSTART") whole ≡ (lines_named (codes "DTSTART") front ++ (start ∷ [])) ++ lines_named (codes "DTSTART") back_lines
   start_once =
       let rest = lines_named (codes "DTSTART") ((codes "DURATION:" ++ duration) ∷ (rules ++ (additions ++ exceptions))) in
-      let it : is_of (codes "DTSTART") start ≡ true = start_named (codes "DTSTART") name event.times.zone event.times start w.starts w.plain in
+      let it : is_of (codes "DTSTART") start ≡ true = start_named (codes "DTSTART") name event.times.form event.times.zone event.times start w.starts w.plain in
       let lists : lines_named (codes "DTSTART") (additions ++ exceptions) ≡ [] =
       filter-append (is_of (codes "DTSTART")) additions exceptions
-      ∙ (λ i. times_unnamed (codes "DTSTART") (codes "RDATE") (λ v. refl) added additions w.adds i ++ times_unnamed (codes "DTSTART") (codes "EXDATE") (λ v. refl) taken exceptions w.takes i) in
+      ∙ (λ i. times_unnamed (codes "RDATE") rdate_name added additions w.adds (codes "DTSTART") refl i ++ times_unnamed (codes "EXDATE") exdate_name taken exceptions w.takes (codes "DTSTART") refl i) in
       let none : rest ≡ [] = filter-append (is_of (codes "DTSTART")) rules (additions ++ exceptions) ∙ (λ i. rules_unnamed (codes "DTSTART") (λ v. refl) i ++ lists i) in
       named_parts (codes "DTSTART")
       ∙ ap (λ b. (lines_named (codes "DTSTART") front ++ cond b (start ∷ rest) rest) ++ lines_named (codes "DTSTART") back_lines) it
@@ -178,15 +186,15 @@ module _ (name : List ℕ) (event : EventComponent) (slot : Option ℤ) (start d
 
   additions_named : lines_named (codes "RDATE") whole ≡ (lines_named (codes "RDATE") front ++ ([] ++ ([] ++ (additions ++ [])))) ++ lines_named (codes "RDATE") back_lines
   additions_named =
-      plain_named (codes "RDATE") [] refl [] additions [] (rules_unnamed (codes "RDATE") (λ v. refl)) (times_named (codes "RDATE") rdate_name added additions w.adds) (times_unnamed (codes "RDATE") (codes "EXDATE") (λ v. refl) taken exceptions w.takes) (λ rest. refl)
+      plain_named (codes "RDATE") [] refl [] additions [] (rules_unnamed (codes "RDATE") (λ v. refl)) (times_named (codes "RDATE") rdate_name added additions w.adds) (times_unnamed (codes "EXDATE") exdate_name taken exceptions w.takes (codes "RDATE") refl) (λ rest. refl)
 
   exceptions_named : lines_named (codes "EXDATE") whole ≡ (lines_named (codes "EXDATE") front ++ ([] ++ ([] ++ ([] ++ exceptions)))) ++ lines_named (codes "EXDATE") back_lines
   exceptions_named =
-      plain_named (codes "EXDATE") [] refl [] [] exceptions (rules_unnamed (codes "EXDATE") (λ v. refl)) (times_unnamed (codes "EXDATE") (codes "RDATE") (λ v. refl) added additions w.adds) (times_named (codes "EXDATE") exdate_name taken exceptions w.takes) (λ rest. refl)
+      plain_named (codes "EXDATE") [] refl [] [] exceptions (rules_unnamed (codes "EXDATE") (λ v. refl)) (times_unnamed (codes "RDATE") rdate_name added additions w.adds (codes "EXDATE") refl) (times_named (codes "EXDATE") exdate_name taken exceptions w.takes) (λ rest. refl)
 
   rules_named : lines_named (codes "RRULE") whole ≡ (lines_named (codes "RRULE") front ++ ([] ++ (rules ++ ([] ++ [])))) ++ lines_named (codes "RRULE") back_lines
   rules_named =
-      plain_named (codes "RRULE") [] refl rules [] [] rules_same (times_unnamed (codes "RRULE") (codes "RDATE") (λ v. refl) added additions w.adds) (times_unnamed (codes "RRULE") (codes "EXDATE") (λ v. refl) taken exceptions w.takes) (λ rest. refl)
+      plain_named (codes "RRULE") [] refl rules [] [] rules_same (times_unnamed (codes "RDATE") rdate_name added additions w.adds (codes "RRULE") refl) (times_unnamed (codes "EXDATE") exdate_name taken exceptions w.takes (codes "RRULE") refl) (λ rest. refl)
 
 -- ---- after what says when it is
 
@@ -239,7 +247,7 @@ elsewhere_recurrence = record { status = refl; summary = λ v. refl; organiser =
 
 -- the lines whose names occur nowhere but in front, after, or as the duration
 module _ (name : List ℕ) (event : EventComponent) (recurrence : Option (List ℕ)) (slot : Option ℤ) (revision : Revision) (uid sequence stamp start duration organiser : List ℕ) (behind : Lines) (is_cancelled : Bool) (about : List ℕ) (said : List Attendee)
-    (rules additions exceptions : Lines) (back : Option Rule) (added taken : List ℤ) (s : SpellPart event.uid revision uid sequence stamp organiser) (b : IsBehind behind organiser is_cancelled about said)
+    (rules additions exceptions : Lines) (back : Option Rule) (added taken : List Time) (s : SpellPart event.uid revision uid sequence stamp organiser) (b : IsBehind behind organiser is_cancelled about said)
     (w : SpellWhen name event slot start duration rules additions exceptions back added taken) where
   none_behind : (other : List ℕ) → IsElsewhere other → lines_named other behind ≡ []
   none_behind other e = b.elsewhere other e
@@ -247,7 +255,7 @@ module _ (name : List ℕ) (event : EventComponent) (recurrence : Option (List �
   abbrev own : Option (List ℕ) → Lines
   own r = own_lines r uid sequence stamp (when_lines start duration rules additions exceptions) behind
 
-  named_of : (r : Option (List ℕ)) (other : List ℕ) → is_of other (codes "DTSTART:") ≡ false → ((v : List ℕ) → is_of other (codes "RRULE:" ++ v) ≡ false) → ((v : List ℕ) → is_of other ((codes "RDATE" ++ codes ":") ++ v) ≡ false) → ((v : List ℕ) → is_of other ((codes "EXDATE" ++ codes ":") ++ v) ≡ false)
+  named_of : (r : Option (List ℕ)) (other : List ℕ) → is_of other (codes "DTSTART:") ≡ false → ((v : List ℕ) → is_of other (codes "RRULE:" ++ v) ≡ false) → is_same_name (codes "RDATE") other ≡ false → is_same_name (codes "EXDATE") other ≡ false
       → ((rest : Lines) → lines_named other ((codes "DURATION:" ++ duration) ∷ rest) ≡ lines_named other rest)
       → (there : Lines) → lines_named other behind ≡ there → lines_named other (own r) ≡ (lines_named other (own_front r uid sequence stamp) ++ []) ++ there
   named_of r other lacks u a x d there e =
@@ -256,21 +264,21 @@ module _ (name : List ℕ) (event : EventComponent) (recurrence : Option (List �
 
   -- what is beside the recurrence
   times_of : (r : Option (List ℕ)) (object : Tree) → MeansZone object name event.times.zone → lines_named (codes "DTSTART") (own_front r uid sequence stamp) ≡ [] → lines_named (codes "DTEND") (own_front r uid sequence stamp) ≡ []
-      → lines_named (codes "DURATION") (own_front r uid sequence stamp) ≡ [] → SaysEventTimes object (own r) (record { zone = event.times.zone; local = local_written event.times.zone event.times; start = event.times.start; length = event.times.length })
+      → lines_named (codes "DURATION") (own_front r uid sequence stamp) ≡ [] → SaysEventTimes object (own r) event.times
   times_of r object m no_start no_end no_duration = record {
     line = start;
     once = start_once name event slot start duration rules additions exceptions back added taken w (own_front r uid sequence stamp) behind ∙ (λ i. (no_start i ++ start ∷ []) ++ none_behind (codes "DTSTART") elsewhere_start i);
-    says = start_says object name event.times.zone event.times start w.starts w.plain m;
+    says = start_says object name event.times.form event.times.zone event.times start w.starts w.unzoned w.means w.plain m;
     means = w.means;
     end_line = None;
     duration_line = Some (codes "DURATION:" ++ duration);
-    end_once = named_of r (codes "DTEND") refl (λ v. refl) (λ v. refl) (λ v. refl) (λ rest. refl) [] (none_behind (codes "DTEND") elsewhere_end) ∙ ap (λ (l : Lines). (l ++ []) ++ []) no_end;
+    end_once = named_of r (codes "DTEND") refl (λ v. refl) refl refl (λ rest. refl) [] (none_behind (codes "DTEND") elsewhere_end) ∙ ap (λ (l : Lines). (l ++ []) ++ []) no_end;
     duration_once =
-        no_list name event slot start duration rules additions exceptions back added taken w (own_front r uid sequence stamp) behind (codes "DURATION") ((codes "DURATION:" ++ duration) ∷ []) refl (λ v. refl) (λ v. refl) (λ v. refl) (λ rest. refl)
+        no_list name event slot start duration rules additions exceptions back added taken w (own_front r uid sequence stamp) behind (codes "DURATION") ((codes "DURATION:" ++ duration) ∷ []) refl (λ v. refl) refl refl (λ rest. refl)
         ∙ (λ i. (no_duration i ++ (codes "DURATION:" ++ duration) ∷ []) ++ none_behind (codes "DURATION") elsewhere_duration i);
-    lasts = w.lasts;
+    lasts = (w.lasts, w.suits);
     most = w.most;
-    in_dates = subst (λ (b : Bool). IsInDates b (local_written event.times.zone event.times) event.times.start) (sym (start_in_zone name event.times.zone event.times start w.starts w.plain)) w.dated;
+    in_dates = subst (λ (b : Bool). IsInDates false event.times.form b event.times.local event.times.start) (sym (start_in_zone name event.times.form event.times.zone event.times start w.starts w.unzoned w.plain)) w.dated;
   }
 
   adds_of : (r : Option (List ℕ)) → lines_named (codes "RDATE") (own_front r uid sequence stamp) ≡ [] → lines_named (codes "RDATE") (own r) ≡ additions
@@ -279,26 +287,35 @@ module _ (name : List ℕ) (event : EventComponent) (recurrence : Option (List �
   takes_of : (r : Option (List ℕ)) → lines_named (codes "EXDATE") (own_front r uid sequence stamp) ≡ [] → lines_named (codes "EXDATE") (own r) ≡ exceptions
   takes_of r lacks = exceptions_named name event slot start duration rules additions exceptions back added taken w (own_front r uid sequence stamp) behind ∙ (λ i. (lacks i ++ exceptions) ++ none_behind (codes "EXDATE") elsewhere_exceptions i) ∙ append-nil exceptions
 
-  entries_added : (r : Option (List ℕ)) (object : Tree) → lines_named (codes "RDATE") (own_front r uid sequence stamp) ≡ [] → AllZip (IsListed object (codes "RDATE")) (entries_named (codes "RDATE") (own r)) w.adds.ascending
+  abbrev back_added : List Time
+  back_added = back_times (codes "RDATE") added additions w.adds
+
+  abbrev back_taken : List Time
+  back_taken = back_times (codes "EXDATE") taken exceptions w.takes
+
+  entries_added : (r : Option (List ℕ)) (object : Tree) → lines_named (codes "RDATE") (own_front r uid sequence stamp) ≡ [] → AllZip (IsListed object (codes "RDATE")) (entries_named (codes "RDATE") (own r)) back_added
   entries_added r object lacks =
-      subst (λ (l : Lines). AllZip (IsListed object (codes "RDATE")) (flat_map entries_of l) w.adds.ascending) (times_named (codes "RDATE") rdate_name added additions w.adds ∙ sym (adds_of r lacks)) (times_back object (codes "RDATE") rdate_name added additions w.adds)
+      subst (λ (l : Lines). AllZip (IsListed object (codes "RDATE")) (flat_map entries_of l) back_added) (times_named (codes "RDATE") rdate_name added additions w.adds ∙ sym (adds_of r lacks)) (times_back (codes "RDATE") rdate_name added additions w.adds object)
 
-  entries_inside : (r : Option (List ℕ)) (object : Tree) → lines_named (codes "RDATE") (own_front r uid sequence stamp) ≡ [] → AllZip (IsInside object) (entries_named (codes "RDATE") (own r)) w.adds.ascending
+  entries_inside : (r : Option (List ℕ)) (object : Tree) → lines_named (codes "RDATE") (own_front r uid sequence stamp) ≡ [] → AllZip (IsInside object) (entries_named (codes "RDATE") (own r)) back_added
   entries_inside r object lacks =
-      subst (λ (l : Lines). AllZip (IsInside object) (flat_map entries_of l) w.adds.ascending) (times_named (codes "RDATE") rdate_name added additions w.adds ∙ sym (adds_of r lacks)) (times_inside object (codes "RDATE") rdate_name added additions w.adds w.added_in)
+      subst (λ (l : Lines). AllZip (IsInside object) (flat_map entries_of l) back_added) (times_named (codes "RDATE") rdate_name added additions w.adds ∙ sym (adds_of r lacks)) (times_inside (codes "RDATE") rdate_name added additions w.adds object w.added_in)
 
-  entries_taken : (r : Option (List ℕ)) (object : Tree) → lines_named (codes "EXDATE") (own_front r uid sequence stamp) ≡ [] → AllZip (IsListed object (codes "EXDATE")) (entries_named (codes "EXDATE") (own r)) w.takes.ascending
+  entries_taken : (r : Option (List ℕ)) (object : Tree) → lines_named (codes "EXDATE") (own_front r uid sequence stamp) ≡ [] → AllZip (IsListed object (codes "EXDATE")) (entries_named (codes "EXDATE") (own r)) back_taken
   entries_taken r object lacks =
-      subst (λ (l : Lines). AllZip (IsListed object (codes "EXDATE")) (flat_map entries_of l) w.takes.ascending) (times_named (codes "EXDATE") exdate_name taken exceptions w.takes ∙ sym (takes_of r lacks)) (times_back object (codes "EXDATE") exdate_name taken exceptions w.takes)
+      subst (λ (l : Lines). AllZip (IsListed object (codes "EXDATE")) (flat_map entries_of l) back_taken) (times_named (codes "EXDATE") exdate_name taken exceptions w.takes ∙ sym (takes_of r lacks)) (times_back (codes "EXDATE") exdate_name taken exceptions w.takes object)
+
+  few_back : length back_added ≤ most_entries
+  few_back = let short = times_short (codes "RDATE") rdate_name added additions w.adds in let few : length added ≤ 366 = w.few_added in omega (arith, short, few)
+
+  few_gone : length back_taken ≤ most_entries
+  few_gone = let short = times_short (codes "EXDATE") exdate_name taken exceptions w.takes in let few : length taken ≤ 366 = w.few_taken in omega (arith, short, few)
 
   rules_of : (r : Option (List ℕ)) → lines_named (codes "RRULE") (own_front r uid sequence stamp) ≡ [] → lines_named (codes "RRULE") (own r) ≡ rules
   rules_of r lacks = rules_named name event slot start duration rules additions exceptions back added taken w (own_front r uid sequence stamp) behind ∙ (λ i. (lacks i ++ (rules ++ [])) ++ none_behind (codes "RRULE") elsewhere_rule i) ∙ append-nil (rules ++ []) ∙ append-nil rules
 
   -- the rule that they say
-  abbrev times : EventTimes
-  times = record { zone = event.times.zone; local = local_written event.times.zone event.times; start = event.times.start; length = event.times.length }
-
-  rule_of_lines : (r : Option (List ℕ)) → lines_named (codes "RRULE") (own_front r uid sequence stamp) ≡ [] → lines_named (codes "DTSTART") (own_front r uid sequence stamp) ≡ [] → SaysEventRule (own r) times back
+  rule_of_lines : (r : Option (List ℕ)) → lines_named (codes "RRULE") (own_front r uid sequence stamp) ≡ [] → lines_named (codes "DTSTART") (own_front r uid sequence stamp) ≡ [] → SaysEventRule (own r) event.times back
   rule_of_lines r lacks no_start = go back w.recurs
     where
       starts : start ∷ [] ≡ lines_named (codes "DTSTART") (own r)
@@ -306,63 +323,67 @@ module _ (name : List ℕ) (event : EventComponent) (recurrence : Option (List �
           sym (start_once name event slot start duration rules additions exceptions back added taken w (own_front r uid sequence stamp) behind
           ∙ (λ i. (no_start i ++ start ∷ []) ++ none_behind (codes "DTSTART") elsewhere_start i))
 
-      go : (o : Option Rule) → SpellRule (clock_of event.times.zone) (local_written event.times.zone event.times) rules o → SaysEventRule (own r) times o
+      go : (o : Option Rule) → SpellRule (clock_of event.times.zone) event.times.local rules o → SaysEventRule (own r) event.times o
       go None none = record {
         text = None;
         spells = record { line = None; once = rules_of r lacks ∙ none; present = λ h. absurd (false≢true h); is = tt };
-        gives = subst (λ (l : Lines). GivesBeside l times None None) starts tt;
+        gives = subst (λ (l : Lines). GivesBeside l event.times None None) starts tt;
       }
       go (Some o) (value, are, shown, (text, spelled, gives)) = record {
         text = Some text;
         spells = record { line = Some (codes "RRULE:" ++ value); once = rules_of r lacks ∙ are; present = λ h. absurd (false≢true h); is = spelled };
-        gives = subst (λ (l : Lines). GivesBeside l times (Some text) (Some o)) starts gives;
+        gives = subst (λ (l : Lines). GivesBeside l event.times (Some text) (Some o)) starts gives;
       }
 
   pub own_says : SpellSlot recurrence slot → (object : Tree) → MeansZone object name event.times.zone
-      → SaysEventComponent object (Some Request) (own_lines recurrence uid sequence stamp (when_lines start duration rules additions exceptions) behind) (event_again event slot organiser revision back w.adds.ascending w.takes.ascending is_cancelled about said)
+      → SaysEventComponent object (Some Request) (own_lines recurrence uid sequence stamp (when_lines start duration rules additions exceptions) behind) (event_again event slot organiser revision back back_added back_taken is_cancelled about said)
   own_says spells object m = go recurrence slot spells w.alone
     where
-      go : (r : Option (List ℕ)) (o : Option ℤ) → SpellSlot r o → IsAlone o rules additions → SaysEventComponent object (Some Request) (own r) (event_again event o organiser revision back w.adds.ascending w.takes.ascending is_cancelled about said)
+      go : (r : Option (List ℕ)) (o : Option ℤ) → SpellSlot r o → IsAlone o rules additions → SaysEventComponent object (Some Request) (own r) (event_again event o organiser revision back back_added back_taken is_cancelled about said)
       go None (Some i) q a = absurd q
       go (Some text) None q a = absurd q
       go None None q a = record {
-        uid = record { line = Some (codes "UID:" ++ uid); once = named_of None (codes "UID") refl (λ v. refl) (λ v. refl) (λ v. refl) (λ rest. refl) [] (none_behind (codes "UID") elsewhere_uid); present = λ _. refl; is = (s.uid_there, s.is_uid) };
-        organiser = record { line = Some (codes "ORGANIZER:" ++ organiser); once = named_of None (codes "ORGANIZER") refl (λ v. refl) (λ v. refl) (λ v. refl) (λ rest. refl) _ b.organised; present = λ _. refl; is = (s.organised, sym s.lower) };
-        stamp = record { line = Some (codes "DTSTAMP:" ++ stamp); once = named_of None (codes "DTSTAMP") refl (λ v. refl) (λ v. refl) (λ v. refl) (λ rest. refl) [] (none_behind (codes "DTSTAMP") elsewhere_stamp); present = λ _. refl; is = s.stamped_is };
-        sequence = (Some revision.sequence, record { line = Some (codes "SEQUENCE:" ++ sequence); once = named_of None (codes "SEQUENCE") refl (λ v. refl) (λ v. refl) (λ v. refl) (λ rest. refl) [] (none_behind (codes "SEQUENCE") elsewhere_sequence); present = λ _. refl; is = s.numbered }, refl);
-        status = (b.status.0, named_of None (codes "STATUS") refl (λ v. refl) (λ v. refl) (λ v. refl) (λ rest. refl) _ b.status.1, b.status.2);
+        uid = record { line = Some (codes "UID:" ++ uid); once = named_of None (codes "UID") refl (λ v. refl) refl refl (λ rest. refl) [] (none_behind (codes "UID") elsewhere_uid); present = λ _. refl; is = (s.uid_there, s.is_uid) };
+        organiser = record { line = Some (codes "ORGANIZER:" ++ organiser); once = named_of None (codes "ORGANIZER") refl (λ v. refl) refl refl (λ rest. refl) _ b.organised; present = λ _. refl; is = (s.organised, sym s.lower) };
+        stamp = record { line = Some (codes "DTSTAMP:" ++ stamp); once = named_of None (codes "DTSTAMP") refl (λ v. refl) refl refl (λ rest. refl) [] (none_behind (codes "DTSTAMP") elsewhere_stamp); present = λ _. refl; is = s.stamped_is };
+        sequence = (Some revision.sequence, record { line = Some (codes "SEQUENCE:" ++ sequence); once = named_of None (codes "SEQUENCE") refl (λ v. refl) refl refl (λ rest. refl) [] (none_behind (codes "SEQUENCE") elsewhere_sequence); present = λ _. refl; is = s.numbered }, refl);
+        status = (b.status.0, named_of None (codes "STATUS") refl (λ v. refl) refl refl (λ rest. refl) _ b.status.1, b.status.2);
         times = inl (times_of None object m refl refl refl);
         rule = rule_of_lines None refl refl;
         occurrences = record {
-          is = record { line = None; once = named_of None (codes "RECURRENCE-ID") refl (λ v. refl) (λ v. refl) (λ v. refl) (λ rest. refl) [] (none_behind (codes "RECURRENCE-ID") elsewhere_recurrence); present = λ h. absurd (false≢true h); is = tt };
-          adds = (entries_added None object refl, w.few_added);
+          is = record { line = None; once = named_of None (codes "RECURRENCE-ID") refl (λ v. refl) refl refl (λ rest. refl) [] (none_behind (codes "RECURRENCE-ID") elsewhere_recurrence); present = λ h. absurd (false≢true h); is = tt };
+          fixed_recurrence = λ h. absurd (false≢true h);
+          adds = (entries_added None object refl, few_back);
           inside = entries_inside None object refl;
-          takes = (entries_taken None object refl, w.few_taken);
-          alone = ap (λ x. (false || x) && list_any (λ line. is_of (codes "RRULE") line || is_of (codes "RDATE") line) (own None)) (none_passes (is_of (codes "RECURRENCE-ID")) (own None) (named_of None (codes "RECURRENCE-ID") refl (λ v. refl) (λ v. refl) (λ v. refl) (λ rest. refl) [] (none_behind (codes "RECURRENCE-ID") elsewhere_recurrence)));
+          takes = (entries_taken None object refl, few_gone);
+          alone = ap (λ x. (false || x) && list_any (λ line. is_of (codes "RRULE") line || is_of (codes "RDATE") line) (own None)) (none_passes (is_of (codes "RECURRENCE-ID")) (own None) (named_of None (codes "RECURRENCE-ID") refl (λ v. refl) refl refl (λ rest. refl) [] (none_behind (codes "RECURRENCE-ID") elsewhere_recurrence)));
         };
-        summary = b.summary ∙ sym (ap first_text (named_of None (codes "SUMMARY") refl (λ v. refl) (λ v. refl) (λ v. refl) (λ rest. refl) _ refl));
-        attendees = subst (λ (l : Lines). AllZip IsAttendee l said) (sym (named_of None (codes "ATTENDEE") refl (λ v. refl) (λ v. refl) (λ v. refl) (λ rest. refl) _ refl)) b.attendees;
+        instants = record { slot = refl; added = refl; taken = refl };
+        summary = b.summary ∙ sym (ap first_text (named_of None (codes "SUMMARY") refl (λ v. refl) refl refl (λ rest. refl) _ refl));
+        attendees = subst (λ (l : Lines). AllZip IsAttendee l said) (sym (named_of None (codes "ATTENDEE") refl (λ v. refl) refl refl (λ rest. refl) _ refl)) b.attendees;
       }
       go (Some text) (Some i) q a = record {
-        uid = record { line = Some (codes "UID:" ++ uid); once = named_of (Some text) (codes "UID") refl (λ v. refl) (λ v. refl) (λ v. refl) (λ rest. refl) [] (none_behind (codes "UID") elsewhere_uid); present = λ _. refl; is = (s.uid_there, s.is_uid) };
-        organiser = record { line = Some (codes "ORGANIZER:" ++ organiser); once = named_of (Some text) (codes "ORGANIZER") refl (λ v. refl) (λ v. refl) (λ v. refl) (λ rest. refl) _ b.organised; present = λ _. refl; is = (s.organised, sym s.lower) };
-        stamp = record { line = Some (codes "DTSTAMP:" ++ stamp); once = named_of (Some text) (codes "DTSTAMP") refl (λ v. refl) (λ v. refl) (λ v. refl) (λ rest. refl) [] (none_behind (codes "DTSTAMP") elsewhere_stamp); present = λ _. refl; is = s.stamped_is };
-        sequence = (Some revision.sequence, record { line = Some (codes "SEQUENCE:" ++ sequence); once = named_of (Some text) (codes "SEQUENCE") refl (λ v. refl) (λ v. refl) (λ v. refl) (λ rest. refl) [] (none_behind (codes "SEQUENCE") elsewhere_sequence); present = λ _. refl; is = s.numbered }, refl);
-        status = (b.status.0, named_of (Some text) (codes "STATUS") refl (λ v. refl) (λ v. refl) (λ v. refl) (λ rest. refl) _ b.status.1, b.status.2);
+        uid = record { line = Some (codes "UID:" ++ uid); once = named_of (Some text) (codes "UID") refl (λ v. refl) refl refl (λ rest. refl) [] (none_behind (codes "UID") elsewhere_uid); present = λ _. refl; is = (s.uid_there, s.is_uid) };
+        organiser = record { line = Some (codes "ORGANIZER:" ++ organiser); once = named_of (Some text) (codes "ORGANIZER") refl (λ v. refl) refl refl (λ rest. refl) _ b.organised; present = λ _. refl; is = (s.organised, sym s.lower) };
+        stamp = record { line = Some (codes "DTSTAMP:" ++ stamp); once = named_of (Some text) (codes "DTSTAMP") refl (λ v. refl) refl refl (λ rest. refl) [] (none_behind (codes "DTSTAMP") elsewhere_stamp); present = λ _. refl; is = s.stamped_is };
+        sequence = (Some revision.sequence, record { line = Some (codes "SEQUENCE:" ++ sequence); once = named_of (Some text) (codes "SEQUENCE") refl (λ v. refl) refl refl (λ rest. refl) [] (none_behind (codes "SEQUENCE") elsewhere_sequence); present = λ _. refl; is = s.numbered }, refl);
+        status = (b.status.0, named_of (Some text) (codes "STATUS") refl (λ v. refl) refl refl (λ rest. refl) _ b.status.1, b.status.2);
         times = inl (times_of (Some text) object m refl refl refl);
         rule = rule_of_lines (Some text) refl refl;
         occurrences = record {
-          is = record { line = Some (codes "RECURRENCE-ID:" ++ text); once = named_of (Some text) (codes "RECURRENCE-ID") refl (λ v. refl) (λ v. refl) (λ v. refl) (λ rest. refl) [] (none_behind (codes "RECURRENCE-ID") elsewhere_recurrence); present = λ h. absurd (false≢true h); is = (refl, (None, i, (refl, q.0), utc_means i, (q.1.0, q.1.0, q.1.1))) };
-          adds = (entries_added (Some text) object refl, w.few_added);
+          is = record { line = Some (codes "RECURRENCE-ID:" ++ text); once = named_of (Some text) (codes "RECURRENCE-ID") refl (λ v. refl) refl refl (λ rest. refl) [] (none_behind (codes "RECURRENCE-ID") elsewhere_recurrence); present = λ h. absurd (false≢true h); is = (refl, (None, i, (refl, q.0), utc_means i, (q.1.0, q.1.0, q.1.1))) };
+          fixed_recurrence = λ h. absurd (false≢true h);
+          adds = (entries_added (Some text) object refl, few_back);
           inside = entries_inside (Some text) object refl;
-          takes = (entries_taken (Some text) object refl, w.few_taken);
+          takes = (entries_taken (Some text) object refl, few_gone);
           alone =
               let none : list_any (λ line. is_of (codes "RRULE") line || is_of (codes "RDATE") line) (own (Some text)) ≡ false =
               none_of_both (is_of (codes "RRULE")) (is_of (codes "RDATE")) (own (Some text)) (none_passes (is_of (codes "RRULE")) (own (Some text)) (rules_of (Some text) refl ∙ a.0)) (none_passes (is_of (codes "RDATE")) (own (Some text)) (adds_of (Some text) refl ∙ a.1)) in
               ap (λ x. (false || list_any (is_of (codes "RECURRENCE-ID")) (own (Some text))) && x) none ∙ and-false (false || list_any (is_of (codes "RECURRENCE-ID")) (own (Some text)));
         };
-        summary = b.summary ∙ sym (ap first_text (named_of (Some text) (codes "SUMMARY") refl (λ v. refl) (λ v. refl) (λ v. refl) (λ rest. refl) _ refl));
-        attendees = subst (λ (l : Lines). AllZip IsAttendee l said) (sym (named_of (Some text) (codes "ATTENDEE") refl (λ v. refl) (λ v. refl) (λ v. refl) (λ rest. refl) _ refl)) b.attendees;
+        instants = record { slot = refl; added = refl; taken = refl };
+        summary = b.summary ∙ sym (ap first_text (named_of (Some text) (codes "SUMMARY") refl (λ v. refl) refl refl (λ rest. refl) _ refl));
+        attendees = subst (λ (l : Lines). AllZip IsAttendee l said) (sym (named_of (Some text) (codes "ATTENDEE") refl (λ v. refl) refl refl (λ rest. refl) _ refl)) b.attendees;
       }
 
 -- an object without METHOD needs no more than a REQUEST does
@@ -375,7 +396,8 @@ as_event object lines event s = record {
   status = s.status;
   times = s.times;
   rule = s.rule;
-  occurrences = s.occurrences;
+  occurrences = record { is = s.occurrences.is; fixed_recurrence = λ h. absurd (false≢true h); adds = s.occurrences.adds; inside = s.occurrences.inside; takes = s.occurrences.takes; alone = s.occurrences.alone };
+  instants = s.instants;
   summary = s.summary;
   attendees = s.attendees;
 }

@@ -12,10 +12,10 @@ use Rattle.profile.specs.series.Rules.{Pattern, RuleText, Until, UntilDay, Until
 use Rattle.profile.specs.series.RuleTexts.{count_text, entries_from, weekday_number_text, frequency_word, listed, months_from, numbers_from, rule_text, until_text, weekday_word}
 use Rattle.profile.specs.series.Zones.{Zone}
 use Rattle.profile.specs.text.Values.{two_digits, four_digits, duration_text, SpellsDate, SpellsTime, WritesLocal, WritesStamp}
-use Rattle.profile.specs.events.Properties.{BothOrNeither}
+use Rattle.profile.specs.events.Properties.{BothOrNeither, Form, Fixed, Floating, WholeDay}
 use Rattle.profile.specs.written.WrittenZones.{rule_lines}
 use Rattle.profile.specs.events.EventRules.{as_end}
-use Rattle.profile.specs.rooms.Messages.{WritesEnd}
+use Rattle.profile.specs.rooms.Messages.{WritesEnd, WritesFixedEnd}
 use Rattle.ical_lines.proofs.CleanLines.{is_shown}
 
 -- ---- a test that the octets of written times pass
@@ -187,19 +187,24 @@ count_early : (count : Option ℕ) → list_all is_early (count_text count) ≡ 
 count_early None = refl
 count_early (Some count) = both_pass is_early (codes ";COUNT=") (decimal count) refl (decimal_early count)
 
-end_early : (clock : Zone) (until : Until) (text : List ℕ) → WritesEnd clock until text → list_all is_early text ≡ true
-end_early clock (UntilDay number) text w = date_passes is_early early_time text number w
-end_early clock (UntilLocal local) text w = stamp_passes is_early early_time text (as_end w.0) w.2
-end_early clock (UntilInstant instant) text w = stamp_passes is_early early_time text (as_end instant) w
+fixed_early : (clock : Zone) (until : Until) (text : List ℕ) → WritesFixedEnd clock until text → list_all is_early text ≡ true
+fixed_early clock (UntilDay number) text w = date_passes is_early early_time text number w
+fixed_early clock (UntilLocal local) text w = stamp_passes is_early early_time text (as_end w.0) w.2
+fixed_early clock (UntilInstant instant) text w = stamp_passes is_early early_time text (as_end instant) w
 
-until_early : (clock : Zone) (until : Option Until) (text : Option (List ℕ)) → BothOrNeither (WritesEnd clock) until text → list_all is_early (until_text until text) ≡ true
-until_early clock None None w = refl
-until_early clock (Some until) (Some text) w = both_pass is_early (codes ";UNTIL=") text refl (end_early clock until text w)
-until_early clock None (Some text) w = absurd w
-until_early clock (Some until) None w = absurd w
+end_early : (form : Form) (clock : Zone) (last : ℕ) (until : Until) (text : List ℕ) → WritesEnd form clock last until text → list_all is_early text ≡ true
+end_early Fixed clock last until text w = fixed_early clock until text w
+end_early Floating clock last until text (number, d, e) = date_passes is_early early_time text number d
+end_early WholeDay clock last until text (number, d, e) = date_passes is_early early_time text number d
 
-pub rule_text_early : (clock : Zone) (rule : RuleText) (text : Option (List ℕ)) → BothOrNeither (WritesEnd clock) rule.until text → list_all is_early (rule_text rule text) ≡ true
-rule_text_early clock rule text w =
+until_early : (form : Form) (clock : Zone) (last : ℕ) (until : Option Until) (text : Option (List ℕ)) → BothOrNeither (WritesEnd form clock last) until text → list_all is_early (until_text until text) ≡ true
+until_early form clock last None None w = refl
+until_early form clock last (Some until) (Some text) w = both_pass is_early (codes ";UNTIL=") text refl (end_early form clock last until text w)
+until_early form clock last None (Some text) w = absurd w
+until_early form clock last (Some until) None w = absurd w
+
+pub rule_text_early : (form : Form) (clock : Zone) (last : ℕ) (rule : RuleText) (text : Option (List ℕ)) → BothOrNeither (WritesEnd form clock last) rule.until text → list_all is_early (rule_text rule text) ≡ true
+rule_text_early form clock last rule text w =
     let interval = codes ";INTERVAL=" ++ decimal rule.interval in
     let start = codes ";WKST=" ++ weekday_word rule.week_start in
     let r1 = codes "FREQ=" ++ frequency_word rule.frequency in
@@ -212,7 +217,7 @@ rule_text_early clock rule text w =
     let r8 = r7 ++ listed (codes ";BYSETPOS=") (map signed_decimal (numbers_from 0 rule.positions)) in
     let p1 : list_all is_early r1 ≡ true = both_pass is_early (codes "FREQ=") (frequency_word rule.frequency) refl (frequency_early rule.frequency) in
     let p2 : list_all is_early r2 ≡ true = both_pass is_early r1 (count_text rule.count) p1 (count_early rule.count) in
-    let p3 : list_all is_early r3 ≡ true = both_pass is_early r2 (until_text rule.until text) p2 (until_early clock rule.until text w) in
+    let p3 : list_all is_early r3 ≡ true = both_pass is_early r2 (until_text rule.until text) p2 (until_early form clock last rule.until text w) in
     let p4 : list_all is_early r4 ≡ true = both_pass is_early r3 (cond (rule.interval == 1) [] interval) p3 (unless_early (rule.interval == 1) interval (both_pass is_early (codes ";INTERVAL=") (decimal rule.interval) refl (decimal_early rule.interval))) in
     let p5 : list_all is_early r5 ≡ true = both_pass is_early r4 (listed (codes ";BYMONTH=") (map decimal (months_from 1 rule.months))) p4 (months_early (months_from 1 rule.months)) in
     let p6 : list_all is_early r6 ≡ true = both_pass is_early r5 (listed (codes ";BYMONTHDAY=") (map signed_decimal (numbers_from 0 rule.month_days))) p5 (days_early (numbers_from 0 rule.month_days)) in

@@ -8,12 +8,14 @@ use Rattle.std.proofs.lemmas.Bool.Decides.{nat_tests}
 use Rattle.std.proofs.lemmas.List.{length-append, take_at, drop_at}
 use Rattle.std.proofs.Math.Bool.{and-false}
 use Rattle.std.proofs.Math.Seq.{take-length}
-use Rattle.profile.specs.events.Properties.{BothOrNeither, is_of, time_kind, kind_named, DateTime}
-use Rattle.profile.specs.events.ZonedTimes.{EventTimes, is_in_zone, zone_named, SaysZoneOf, SpellsZoned, SaysZonedTime}
+use Rattle.profile.specs.events.Properties.{BothOrNeither, Form, Fixed, Floating, WholeDay, allows, is_of, time_kind, kind_named, Unsaid}
+use Rattle.profile.specs.events.ZonedTimes.{EventTimes, clock_of, is_in_zone, zone_named, SaysZoneOf, SpellsForm, SpellsZoned, SaysZonedTime}
 use Rattle.profile.specs.events.EventComponents.{EventComponent}
 use Rattle.profile.specs.rooms.Messages.{Content, IsContent, IsZoneRest}
 use Rattle.profile.specs.rooms.Kept.{kept_zone_name, IsNamed}
-use Rattle.profile.specs.series.Zones.{Zone}
+use Rattle.profile.specs.series.Zones.{Means, Zone}
+use Rattle.profile.specs.text.Values.{WritesStamp}
+use Rattle.cal_events.proofs.shared_lemmas.Meanings.{utc_instant}
 use Rattle.profile.specs.series.ZoneTexts.{SaysZone}
 use Rattle.profile.specs.text.Lines.{is_content, is_name, is_same_name, is_quote, is_item, is_badly_quoted, lacks_name, has_bad_name, has_bad_quote, has_stop, outside_from, front, back, pieces_from, line_head, line_name, line_value, line_params, line_param, first_value, param_name, unquoted}
 use Rattle.profile.specs.text.Objects.{is_property}
@@ -21,7 +23,7 @@ use Rattle.profile.specs.text.Trees.{Tree}
 use Rattle.ical_lines.proofs.CleanLines.{is_shown, clean_shown, shown_append, valued, start_line}
 use Rattle.ical_values.proofs.Readings.{stamp_written, clock_written}
 use Rattle.ical_values.proofs.ShownValues.{shown_local, shown_stamp}
-use Rattle.itip_messages.proofs.shared_lemmas.WrittenOctets.{decimal_passes}
+use Rattle.itip_messages.proofs.shared_lemmas.WrittenOctets.{date_passes, decimal_passes, early_shown, early_time, is_early}
 use Rattle.itip_messages.proofs.shared_lemmas.ZoneNames.{name_shown}
 use Rattle.itip_messages.proofs.body_lemmas.ZonePlaces.{StartsAs}
 use Rattle.itip_messages.proofs.shared_lemmas.ObjectTree.{Lines}
@@ -121,7 +123,7 @@ pub record IsZonedStart (name text : List ℕ) : Type 0 where
   pub value : line_value (zoned_start name text) ≡ text
   pub zone : line_param (codes "TZID") (zoned_start name text) ≡ Some name
   pub in_zone : is_in_zone (zoned_start name text) ≡ true
-  pub kind : time_kind (zoned_start name text) ≡ DateTime
+  pub kind : time_kind (zoned_start name text) ≡ Unsaid
   pub property : is_property (zoned_start name text) ≡ true
   pub named : (other : List ℕ) → is_of other (zoned_start name text) ≡ is_of other (codes "DTSTART:")
   pub content : list_all is_shown text ≡ true → is_content (zoned_start name text) ≡ true
@@ -178,7 +180,7 @@ module _ (name text : List ℕ) (plain : is_plain_name name ≡ true) where
     value = value_is;
     zone = ap (λ ps. option_map first_value (find (λ param. is_same_name (param_name param) (codes "TZID")) ps)) params_are ∙ ap Some value_of_name;
     in_zone = ap (λ ps. is_some (option_map first_value (find (λ param. is_same_name (param_name param) (codes "TZID")) ps))) params_are;
-    kind = ap (λ ps. unwrap_or (option_map kind_named (option_map first_value (find (λ param. is_same_name (param_name param) (codes "VALUE")) ps))) DateTime) params_are;
+    kind = ap (λ ps. unwrap_or (option_map kind_named (option_map first_value (find (λ param. is_same_name (param_name param) (codes "VALUE")) ps))) Unsaid) params_are;
     property = ap (λ n. not (is_same_name n (codes "BEGIN")) && not (is_same_name n (codes "END"))) name_is;
     named = λ other. ap (λ n. is_same_name n other) name_is;
     content = λ h.
@@ -199,39 +201,60 @@ abbrev pub MeansZone : Tree → List ℕ → Option Zone → Type 0
 MeansZone object name None = Unit {0}
 MeansZone object name (Some zone) = SaysZoneOf (zone_named name object) zone
 
--- the local time that is written: in UTC the instant
-abbrev pub local_written : Option Zone → EventTimes → ℤ
-local_written None times = times.start
-local_written (Some zone) times = times.local
+-- what isn't fixed is of no zone
+abbrev pub IsUnzoned : Form → Option Zone → Type 0
+IsUnzoned Fixed _ = Unit {0}
+IsUnzoned Floating zone = zone ≡ None
+IsUnzoned WholeDay zone = zone ≡ None
 
-pub start_says : (object : Tree) (name : List ℕ) (zone : Option Zone) (times : EventTimes) (line : List ℕ) → StartsAs name zone times line → IsPlainFor name zone → MeansZone object name zone
-    → SaysZonedTime object line zone (local_written zone times)
-start_says object name None times line (text, w, e) plain m =
-    subst (λ (l : List ℕ). SaysZonedTime object l None times.start) (sym e) (refl, stamp_written text times.start w)
-start_says object name (Some zone) times line (text, w, e) plain m =
+-- DTSTART as a date
+abbrev day_start : List ℕ → List ℕ
+day_start text = codes "DTSTART;VALUE=DATE:" ++ text
+
+-- it says what the clocks of DTSTART show, in UTC the instant
+pub start_says : (object : Tree) (name : List ℕ) (form : Form) (zone : Option Zone) (times : EventTimes) (line : List ℕ) → StartsAs name form zone times line → IsUnzoned form zone → Means (clock_of zone) times.local times.start
+    → IsPlainFor name zone → MeansZone object name zone → SaysZonedTime object line form zone times.local
+start_says object name Fixed None times line (text, w, e) u means plain m =
+    subst (λ (l : List ℕ). SaysZonedTime object l Fixed None times.local) (sym e)
+    (refl, stamp_written text times.local (subst (WritesStamp text) (utc_instant times.local times.start means) w))
+start_says object name Fixed (Some zone) times line (text, w, e) u means plain m =
     let z = zoned_start_is name text plain in
     let spelled : SpellsZoned object (Some name) text (Some zone) times.local = (clock_written text times.local w, m) in
-    subst (λ (l : List ℕ). SaysZonedTime object l (Some zone) times.local) (sym e) (
-      z.kind,
+    subst (λ (l : List ℕ). SaysZonedTime object l Fixed (Some zone) times.local) (sym e) (
+      ap (λ k. allows k Fixed) z.kind,
       subst (λ (o : Option (List ℕ)). SpellsZoned object o (line_value (zoned_start name text)) (Some zone) times.local) (sym z.zone)
           (subst (λ (v : List ℕ). SpellsZoned object (Some name) v (Some zone) times.local) (sym z.value) spelled),
     )
+start_says object name Floating zone times line (text, w, e) u means plain m =
+    subst (λ (l : List ℕ). SaysZonedTime object l Floating zone times.local) (sym e) (refl, (refl, u, clock_written text times.local w))
+start_says object name WholeDay zone times line (text, w, e) u means plain m =
+    subst (λ (l : List ℕ). SaysZonedTime object l WholeDay zone times.local) (sym e) (refl, (refl, u, w))
 
-pub start_content : (name : List ℕ) (zone : Option Zone) (times : EventTimes) (line : List ℕ) → StartsAs name zone times line → IsPlainFor name zone → is_content line ≡ true
-start_content name None times line (text, w, e) plain = ap is_content e ∙ start_line text (clean_shown text (shown_stamp text times.start w))
-start_content name (Some zone) times line (text, w, e) plain = ap is_content e ∙ (zoned_start_is name text plain).content (shown_local text times.local w)
+pub start_content : (name : List ℕ) (form : Form) (zone : Option Zone) (times : EventTimes) (line : List ℕ) → StartsAs name form zone times line → IsPlainFor name zone → is_content line ≡ true
+start_content name Fixed None times line (text, w, e) plain = ap is_content e ∙ start_line text (clean_shown text (shown_stamp text times.start w))
+start_content name Fixed (Some zone) times line (text, w, e) plain = ap is_content e ∙ (zoned_start_is name text plain).content (shown_local text times.local w)
+start_content name Floating _ times line (text, w, e) plain = ap is_content e ∙ start_line text (clean_shown text (shown_local text times.local w))
+start_content name WholeDay _ times line (text, (day, d, _), e) plain =
+    let clean = clean_shown text (early_shown text (date_passes is_early early_time text day d)) in
+    ap is_content e ∙ valued (codes "DTSTART;VALUE=DATE:") text (lt-ltb 18 (length (day_start text)) (omega arith)) refl refl refl clean
 
-pub start_property : (name : List ℕ) (zone : Option Zone) (times : EventTimes) (line : List ℕ) → StartsAs name zone times line → IsPlainFor name zone → is_property line ≡ true
-start_property name None times line (text, w, e) plain = ap is_property e
-start_property name (Some zone) times line (text, w, e) plain = ap is_property e ∙ (zoned_start_is name text plain).property
+pub start_property : (name : List ℕ) (form : Form) (zone : Option Zone) (times : EventTimes) (line : List ℕ) → StartsAs name form zone times line → IsPlainFor name zone → is_property line ≡ true
+start_property name Fixed None times line (text, w, e) plain = ap is_property e
+start_property name Fixed (Some zone) times line (text, w, e) plain = ap is_property e ∙ (zoned_start_is name text plain).property
+start_property name Floating _ times line (text, w, e) plain = ap is_property e
+start_property name WholeDay _ times line (text, w, e) plain = ap is_property e
 
-pub start_named : (other name : List ℕ) (zone : Option Zone) (times : EventTimes) (line : List ℕ) → StartsAs name zone times line → IsPlainFor name zone → is_of other line ≡ is_of other (codes "DTSTART:")
-start_named other name None times line (text, w, e) plain = ap (is_of other) e
-start_named other name (Some zone) times line (text, w, e) plain = ap (is_of other) e ∙ (zoned_start_is name text plain).named other
+pub start_named : (other name : List ℕ) (form : Form) (zone : Option Zone) (times : EventTimes) (line : List ℕ) → StartsAs name form zone times line → IsPlainFor name zone → is_of other line ≡ is_of other (codes "DTSTART:")
+start_named other name Fixed None times line (text, w, e) plain = ap (is_of other) e
+start_named other name Fixed (Some zone) times line (text, w, e) plain = ap (is_of other) e ∙ (zoned_start_is name text plain).named other
+start_named other name Floating _ times line (text, w, e) plain = ap (is_of other) e
+start_named other name WholeDay _ times line (text, w, e) plain = ap (is_of other) e
 
-pub start_in_zone : (name : List ℕ) (zone : Option Zone) (times : EventTimes) (line : List ℕ) → StartsAs name zone times line → IsPlainFor name zone → is_in_zone line ≡ is_some zone
-start_in_zone name None times line (text, w, e) plain = ap is_in_zone e
-start_in_zone name (Some zone) times line (text, w, e) plain = ap is_in_zone e ∙ (zoned_start_is name text plain).in_zone
+pub start_in_zone : (name : List ℕ) (form : Form) (zone : Option Zone) (times : EventTimes) (line : List ℕ) → StartsAs name form zone times line → IsUnzoned form zone → IsPlainFor name zone → is_in_zone line ≡ is_some zone
+start_in_zone name Fixed None times line (text, w, e) u plain = ap is_in_zone e
+start_in_zone name Fixed (Some zone) times line (text, w, e) u plain = ap is_in_zone e ∙ (zoned_start_is name text plain).in_zone
+start_in_zone name Floating _ times line (text, w, e) u plain = ap is_in_zone e ∙ sym (ap is_some u)
+start_in_zone name WholeDay _ times line (text, w, e) u plain = ap is_in_zone e ∙ sym (ap is_some u)
 
 -- ---- in an object with its zones
 
@@ -239,6 +262,22 @@ start_in_zone name (Some zone) times line (text, w, e) plain = ap is_in_zone e �
 abbrev pub IsSaid : Option Zone → Type 0
 IsSaid None = Unit {0}
 IsSaid (Some zone) = (t : Tree) × SaysZone t zone
+
+-- a VTIMEZONE says the zone that a line names
+zone_said : (object : Tree) (name : Option (List ℕ)) (text : List ℕ) (zone : Option Zone) (local : ℤ) → SpellsZoned object name text zone local → IsSaid zone
+zone_said object None text None local s = tt
+zone_said object (Some n) text (Some z) local s = of_part (zone_named n object) s.1
+  where
+    of_part : (o : Option Tree) → SaysZoneOf o z → (t : Tree) × SaysZone t z
+    of_part None s = absurd s
+    of_part (Some t) s = (t, s)
+zone_said object None text (Some z) local s = absurd s
+zone_said object (Some n) text None local s = absurd s
+
+pub form_said : (object : Tree) (name : Option (List ℕ)) (text : List ℕ) (form : Form) (zone : Option Zone) (local : ℤ) → SpellsForm object name text form zone local → IsSaid zone
+form_said object name text Fixed zone local s = zone_said object name text zone local s
+form_said object name text Floating _ local s = subst IsSaid (sym s.1) tt
+form_said object name text WholeDay _ local s = subst IsSaid (sym s.1) tt
 
 -- the name that is given to the zone of a content is plain
 pub name_plain : (zones : List (List ℕ)) (content : Content) (event : EventComponent) → IsContent content event → (name : List ℕ) → IsNamed zones content.zone name → IsPlainFor name event.times.zone

@@ -5,13 +5,13 @@ use Rattle.profile.specs.events.Starts.{EndsAt}
 use Rattle.cal_events.specs.Component.{component_of}
 use Rattle.cal_events.specs.Draft.{IsMadeAt}
 use Rattle.cal_events.specs.SingleStarts.{AreSingleStarts}
-use Rattle.cal_events.proofs.shared_lemmas.Clocks.{clock_good}
+use Rattle.cal_events.proofs.shared_lemmas.Placing.{placed_good}
 use Rattle.cal_events.proofs.shared_lemmas.DraftLemmas.{made_more}
 use Rattle.cal_events.proofs.shared_lemmas.OwnSingles.{master_own, override_own}
 use Rattle.cal_events.proofs.draft.add_singles.Goals as goal
 
 pub single_starts-requires : goal.single_starts-requires
-single_starts-requires c = λ _. clock_good c.requires.0 c.requires.1 (component_of c.args.event.now) c.requires.2
+single_starts-requires c = λ _. let s = c.requires in placed_good s.words s.room s.named s.object s.lines (component_of c.args.event.now) s.says
 
 pub loop-start-preserved : goal.loop-start-preserved
 loop-start-preserved c =

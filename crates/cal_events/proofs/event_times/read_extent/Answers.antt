@@ -1,4 +1,4 @@
-use Rattle.std.proofs.Common.{◌≡◌, codes, sym, ap, subst, refl, ◌∙◌, ◌+ℤ◌, ℤ, FitsSigned, to_z, of_z, w64, arith, rules}
+use Rattle.std.proofs.Common.{◌≡◌, codes, sym, ap, subst, refl, ◌∙◌, to_z, of_z, w64, arith}
 use Rattle.std.specs.Prelude.{option_map}
 use Rattle.std.specs.Option.{option_to_list}
 use Rattle.std.proofs.lemmas.Int.{ints}
@@ -6,7 +6,6 @@ use Rattle.ical_lines.specs.Text.{line_text}
 use Rattle.profile.specs.events.ZonedTimes.{EventTimesFault, ZonedTimeFault, twice, bad_end, end_and_duration}
 use Rattle.ical_values.proofs.Exits.{refusal_exit}
 use Rattle.cal_events.specs.Zones.{object_of}
-use Rattle.cal_events.specs.Zoned.{EndsSo}
 use Rattle.cal_events.proofs.shared_lemmas.EventLemmas.{some_line}
 use Rattle.cal_events.proofs.event_times_lemmas.TimesLemmas.{duration_fault}
 use Rattle.cal_events.proofs.event_times.read_extent.Goals as goal
@@ -22,15 +21,15 @@ returns-in_err-duration-clause-fault c may =
     refusal_exit _ P _ c.from_residual-in_err-duration.ensures.1
     (subst P (sym c.in_err-duration.ensures.refuses) (twice (codes "DURATION") (2, omega arith, refl) c.in_err-duration.ensures.twice))
 
-pub returns-in_err-seconds-in-Some-None-clause-fault : goal.returns-in_err-seconds-in-Some-None-clause-fault
-returns-in_err-seconds-in-Some-None-clause-fault c may =
+pub returns-in_err-read_end-in-Some-None-clause-fault : goal.returns-in_err-read_end-in-Some-None-clause-fault
+returns-in_err-read_end-in-Some-None-clause-fault c may =
     let object = object_of c.args.zones.now in
     let lines = c.args.properties.now in
     let P = EventTimesFault may object lines in
     let line = line_text c.in-Some-None.line in
     let once = c.in_ok-end.ensures.found ∙ ap (λ l. option_to_list (option_map line_text l)) c.in-Some-None.is-0 in
-    refusal_exit _ P _ c.from_residual-in_err-seconds-in-Some-None.ensures.1
-    (bad_end (some_line (codes "DTEND") (λ l. ZonedTimeFault object l _) lines line once c.in_err-seconds-in-Some-None.ensures.fault))
+    refusal_exit _ P _ c.from_residual-in_err-read_end-in-Some-None.ensures.1
+    (bad_end (some_line (codes "DTEND") (λ l. ZonedTimeFault object l _) lines line once c.in_err-read_end-in-Some-None.ensures.fault))
 
 pub returns-in_err-read-in-None-Some-clause-fault : goal.returns-in_err-read-in-None-Some-clause-fault
 returns-in_err-read-in-None-Some-clause-fault c may =
@@ -50,13 +49,9 @@ returns-in-Some-Some-clause-fault c may =
     (some_line (codes "DTEND") (λ _. Unit {0}) lines (line_text c.in-Some-Some.field-0-0) end_once tt)
     (some_line (codes "DURATION") (λ _. Unit {0}) lines (line_text c.in-Some-Some.field-0-1) once tt)
 
-pub returns-in_ok-seconds-in-Some-None-clause-reads : goal.returns-in_ok-seconds-in-Some-None-clause-reads
-returns-in_ok-seconds-in-Some-None-clause-reads c =
+pub returns-in_ok-read_end-in-Some-None-clause-reads : goal.returns-in_ok-read_end-in-Some-None-clause-reads
+returns-in_ok-read_end-in-Some-None-clause-reads c =
     let once = c.in_ok-end.ensures.found ∙ ap (λ l. option_to_list (option_map line_text l)) c.in-Some-None.is-0 in
     let none = c.in_ok-duration.ensures.found ∙ ap (λ l. option_to_list (option_map line_text l)) c.in-Some-None.is-1 in
     let same : to_z w64 (of_z w64 c.args.start) ≡ c.args.start = omega (arith, ints, c.requires) in
-    let seconds = c.in_ok-seconds-in-Some-None.seconds in
-    let fits : FitsSigned w64 seconds = search rules in
-    let kept : to_z w64 (of_z w64 seconds) ≡ seconds = omega (arith, ints) in
-    let line = line_text c.in-Some-None.line in
-    (line, once, none, subst (λ (x : ℤ). EndsSo (object_of c.args.zones.now) line (c.args.start +ℤ x) c.in_ok-seconds-in-Some-None.ends_in) (sym kept) (rw same at (c.in_ok-seconds-in-Some-None.ensures.says)))
+    (line_text c.in-Some-None.line, once, none, rw same at (c.in_ok-read_end-in-Some-None.ensures.says))

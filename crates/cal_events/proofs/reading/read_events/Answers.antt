@@ -4,16 +4,18 @@ use Rattle.ical_lines.specs.Fault.{RefusesBy}
 use Rattle.ical_tree.specs.Tree.{component_lines, component_children, tree_of}
 use Rattle.ical_tree.specs.declared.component.Component.{Component}
 use Rattle.profile.specs.text.Trees.{Tree}
-use Rattle.profile.specs.events.EventComponents.{EventComponentFault, SaysEventComponent}
+use Rattle.profile.specs.events.EventComponents.{EventComponentFault}
+use Rattle.profile.specs.events.Placed.{SaysPlaced}
+use Rattle.cal_zones.specs.RoomZones.{room_of}
 use Rattle.cal_events.specs.Component.{component_of, vevents_of, IsFaultAmong, method_read}
 use Rattle.cal_events.proofs.shared_lemmas.ReadingLemmas.{events_in, is_among, take_event, take_other, event_pushed}
 use Rattle.cal_events.proofs.shared_lemmas.ZonedLemmas.{weaker_fault}
 use Rattle.ical_values.proofs.Exits.{err_exit}
 use Rattle.cal_events.proofs.reading.read_events.Goals as goal
-use Rattle.cal_events.proofs.reading.read_events.Goals.{then-is_named+in_ok-read_event+in_ok-push, else-is_named}
+use Rattle.cal_events.proofs.reading.read_events.Goals.{then-is_named+in_ok-read_placed+in_ok-push, else-is_named}
 
-pub returns-in_err-read_event-clause-fault : goal.returns-in_err-read_event-clause-fault
-returns-in_err-read_event-clause-fault c =
+pub returns-in_err-read_placed-clause-fault : goal.returns-in_err-read_placed-clause-fault
+returns-in_err-read_placed-clause-fault c =
     let object = c.args.object.now in
     let all = component_children object in
     let i = c.loop-component.component-index in
@@ -22,16 +24,18 @@ returns-in_err-read_event-clause-fault c =
     let within = subst (λ (l : List Component). i < length l) same c.loop-component-test.true in
     let here = subst (λ (l : List Component). x ≡ get_or l i x) same c.component-item.is in
     let m = method_read c.args.method in
+    let room = room_of c.args.room.now in
     let P = IsFaultAmong (tree_of object) m (vevents_of object) in
-    err_exit _ (RefusesBy P) _ c.from_residual-in_err-read_event.ensures.1
+    err_exit _ (RefusesBy P) _ c.from_residual-in_err-read_placed.ensures.1
     (weaker_fault _ (EventComponentFault (tree_of object) m (component_lines x)) P
     (λ n h. (component_lines x, is_among all i x within here (sym c.if-is_named.ensures), h))
-    (subst (λ (t : Tree). RefusesBy (EventComponentFault t m (component_lines x)) c.in_err-read_event.field-0.0) (ap tree_of c.in_ok-zones.ensures.object) c.in_err-read_event.ensures.fault))
+    (subst (λ (t : Tree). RefusesBy (EventComponentFault t m (component_lines x)) c.in_err-read_placed.field-0.0) (ap tree_of c.in_ok-zones.ensures.object) c.in_err-read_placed.ensures.fault))
 
 pub loop-component-preserved : goal.loop-component-preserved
 loop-component-preserved c =
     let object = tree_of c.args.object.now in
     let m = method_read c.args.method in
+    let room = room_of c.args.room.now in
     let all = component_children c.args.object.now in
     let i = c.loop-component.component-index in
     let x = c.component-item.result in
@@ -40,12 +44,12 @@ loop-component-preserved c =
     let here = subst (λ (l : List Component). x ≡ get_or l i x) same c.component-item.is in
     let new = c.if-is_named.events.items in
     elim c.if-is_named.branch [
-      | then-is_named+in_ok-read_event+in_ok-push w ↦
-          subst (λ vs. AllZip (SaysEventComponent object m) vs (map component_of new)) (sym (take_event all i x within here (sym w.if-is_named.ensures)))
-          (event_pushed object m (events_in (take i all)) (component_lines x) c.loop-component.events.items new w.in_ok-read_event.field-0 c.loop-component.invariant
-          (subst (λ (t : Tree). SaysEventComponent t m (component_lines x) (component_of w.in_ok-read_event.field-0)) (ap tree_of c.in_ok-zones.ensures.object) w.in_ok-read_event.ensures.says)
+      | then-is_named+in_ok-read_placed+in_ok-push w ↦
+          subst (λ vs. AllZip (SaysPlaced room object m) vs (map component_of new)) (sym (take_event all i x within here (sym w.if-is_named.ensures)))
+          (event_pushed room object m (events_in (take i all)) (component_lines x) c.loop-component.events.items new w.in_ok-read_placed.field-0 c.loop-component.invariant
+          (subst (λ (t : Tree). SaysPlaced room t m (component_lines x) (component_of w.in_ok-read_placed.field-0)) (ap tree_of c.in_ok-zones.ensures.object) w.in_ok-read_placed.ensures.says)
           (ap (λ v. v.items) w.events-is ∙ w.in_ok-push.ensures.items))
       | else-is_named w ↦
-          subst (λ vs. AllZip (SaysEventComponent object m) vs (map component_of new)) (sym (take_other all i x within here (sym w.if-is_named.ensures)))
-          (subst (λ es. AllZip (SaysEventComponent object m) (events_in (take i all)) (map component_of es)) (sym (ap (λ v. v.items) w.events-is)) c.loop-component.invariant)
+          subst (λ vs. AllZip (SaysPlaced room object m) vs (map component_of new)) (sym (take_other all i x within here (sym w.if-is_named.ensures)))
+          (subst (λ es. AllZip (SaysPlaced room object m) (events_in (take i all)) (map component_of es)) (sym (ap (λ v. v.items) w.events-is)) c.loop-component.invariant)
     ]

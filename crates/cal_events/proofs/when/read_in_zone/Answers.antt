@@ -16,7 +16,7 @@ pub returns-in_err-zone-clause-fault : goal.returns-in_err-zone-clause-fault
 returns-in_err-zone-clause-fault c =
     let line = line_text c.args.line in
     refusal_exit _ (InZoneFault (object_of c.args.zones.now) c.args.name.now (time_kind line) c.args.text.now) _ c.from_residual-in_err-zone.ensures.1
-    (inr (c.in_ok-local.ensures.kind, (c.in_ok-local.local, c.in_ok-local.ensures.reads), c.in_err-zone.ensures.fault))
+    (inr (c.in_ok-local.ensures.allowed, (c.in_ok-local.local, c.in_ok-local.ensures.reads), c.in_err-zone.ensures.fault))
 
 pub returns-clause-says : goal.returns-clause-says
-returns-clause-says c = (c.in_ok-local.ensures.kind, (c.in_ok-local.ensures.reads, c.in_ok-zone.ensures.says))
+returns-clause-says c = (c.in_ok-local.ensures.reads, c.in_ok-zone.ensures.says)

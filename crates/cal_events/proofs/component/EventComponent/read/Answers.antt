@@ -1,19 +1,22 @@
-use Rattle.std.proofs.Common.{◌∙◌, Bool, codes, map, sym, ap, subst, refl, arith}
+use Rattle.std.proofs.Common.{◌∙◌, Bool, List, ℤ, codes, map, sym, ap, subst, refl, arith}
 use Rattle.std.specs.Prelude.{option_map}
 use Rattle.std.proofs.lemmas.Grind.{merely}
 use Rattle.ical_values.specs.Octets.{address_octets, text_octets}
-use Rattle.profile.specs.events.EventComponents.{EventComponent as SaidComponent, SaysEventComponent}
+use Rattle.profile.specs.events.EventComponents.{EventComponent as SaidComponent, SaysEventComponent, instants_of}
 use Rattle.cal_events.specs.Component.{attendee_of}
 use Rattle.ical_lines.specs.Fault.{RefusesBy}
-use Rattle.profile.specs.events.EventComponents.{EventComponentFault, adds_instances, may_lack_start, in_times, in_rule, in_occurrences, twice}
-use Rattle.profile.specs.events.Occurrences.{entries_named, EntriesFault, bad_additions, bad_exceptions, recurs, recurs_as_instance}
+use Rattle.profile.specs.events.EventComponents.{EventComponentFault, adds_instances, may_lack_start, names_by_fixed, in_times, in_rule, in_occurrences, twice}
+use Rattle.profile.specs.events.Occurrences.{OccurrenceFault, entries_named, EntriesFault, bad_additions, bad_exceptions, recurs, recurs_as_instance}
 use Rattle.profile.specs.events.EventRules.{EventRuleFault}
 use Rattle.profile.specs.events.ZonedTimes.{EventTimesFault}
-use Rattle.cal_events.specs.Component.{method_read, times_of}
+use Rattle.cal_events.specs.Component.{method_read, times_of, time_of, written_of}
+use Rattle.cal_events.specs.declared.occurrences.Time.{Time}
 use Rattle.cal_events.specs.Zoned.{AreSaidBy}
 use Rattle.cal_events.specs.Zones.{object_of}
 use Rattle.cal_events.proofs.shared_lemmas.OneInstance.{times_sound}
+use Rattle.cal_events.proofs.shared_lemmas.Placing.{said_as_written}
 use Rattle.cal_events.proofs.shared_lemmas.ZonedLemmas.{weaker_fault}
+use Rattle.cal_events.proofs.occurrences_lemmas.RecurrenceLemmas.{fixed_as_said}
 use Rattle.ical_values.proofs.Exits.{err_exit}
 use Rattle.cal_events.proofs.component.EventComponent.read.Goals as goal
 
@@ -40,7 +43,7 @@ returns-in_err-said_recurrence-clause-fault c =
     let object = object_of c.args.zones.now in
     let m = method_read c.args.method in
     err_exit _ (RefusesBy (EventComponentFault object m c.args.properties.now)) _ c.from_residual-in_err-said_recurrence.ensures.1
-    (in_occurrences (c.in_err-said_recurrence.ensures.fault (adds_instances m)))
+    (in_occurrences (c.in_err-said_recurrence.ensures.fault (adds_instances m) (names_by_fixed m)))
 
 pub returns-in_err-said_additions-clause-fault : goal.returns-in_err-said_additions-clause-fault
 returns-in_err-said_additions-clause-fault c =
@@ -60,21 +63,31 @@ returns-in_err-said_exceptions-clause-fault c =
     (weaker_fault _ (EntriesFault object (codes "EXDATE") (entries_named (codes "EXDATE") lines)) (EventComponentFault object m lines) (λ n h. in_occurrences (bad_exceptions h))
     c.in_err-said_exceptions.ensures.fault)
 
-pub returns-in_err-recurrence-clause-fault : goal.returns-in_err-recurrence-clause-fault
-returns-in_err-recurrence-clause-fault c =
+pub returns-in_err-refuse_unfixed-clause-fault : goal.returns-in_err-refuse_unfixed-clause-fault
+returns-in_err-refuse_unfixed-clause-fault c =
     let object = object_of c.args.zones.now in
     let m = method_read c.args.method in
     let lines = c.args.properties.now in
-    err_exit _ (RefusesBy (EventComponentFault object m lines)) _ c.from_residual-in_err-recurrence.ensures.1
-    (in_occurrences (c.in_err-recurrence.ensures.fault object lines c.in_ok-said_recurrence.ensures.said (adds_instances m)))
+    err_exit _ (RefusesBy (EventComponentFault object m lines)) _ c.from_residual-in_err-refuse_unfixed.ensures.1
+    (in_occurrences
+    (subst (λ (b : Bool). OccurrenceFault (adds_instances m) b object lines c.in_err-refuse_unfixed.field-0.0.number) c.names_by_fixed.ensures
+    (c.in_err-refuse_unfixed.ensures.fault object lines c.in_ok-said_recurrence.ensures.said (adds_instances m))))
 
-pub returns-in_err-additions-clause-fault : goal.returns-in_err-additions-clause-fault
-returns-in_err-additions-clause-fault c =
+pub returns-in_err-judge_recurrence-clause-fault : goal.returns-in_err-judge_recurrence-clause-fault
+returns-in_err-judge_recurrence-clause-fault c =
     let object = object_of c.args.zones.now in
     let m = method_read c.args.method in
     let lines = c.args.properties.now in
-    err_exit _ (RefusesBy (EventComponentFault object m lines)) _ c.from_residual-in_err-additions.ensures.1
-    (in_occurrences (c.in_err-additions.ensures.fault object lines c.in_ok-said_additions.ensures.listed (adds_instances m)))
+    err_exit _ (RefusesBy (EventComponentFault object m lines)) _ c.from_residual-in_err-judge_recurrence.ensures.1
+    (in_occurrences (c.in_err-judge_recurrence.ensures.fault object lines c.in_ok-said_recurrence.ensures.said (adds_instances m) (names_by_fixed m)))
+
+pub returns-in_err-judge-clause-fault : goal.returns-in_err-judge-clause-fault
+returns-in_err-judge-clause-fault c =
+    let object = object_of c.args.zones.now in
+    let m = method_read c.args.method in
+    let lines = c.args.properties.now in
+    err_exit _ (RefusesBy (EventComponentFault object m lines)) _ c.from_residual-in_err-judge.ensures.1
+    (in_occurrences (c.in_err-judge.ensures.fault object lines c.in_ok-said_additions.ensures.listed (adds_instances m) (names_by_fixed m)))
 
 pub returns-in_err-refuse_recurring_instance-clause-fault : goal.returns-in_err-refuse_recurring_instance-clause-fault
 returns-in_err-refuse_recurring_instance-clause-fault c =
@@ -125,6 +138,10 @@ returns-in_err-rule-clause-fault c =
     (c.in_err-rule.ensures.fault (may_lack_start m) object lines c.in_ok-said_rule.ensures.said c.has.ensures
     (c.in_ok-times.ensures.says (may_lack_start m) object lines (subst (λ (b : Bool). AreSaidBy b object lines c.in_ok-said.said) c.may_lack_start.ensures c.in_ok-said.ensures.said))))
 
+-- the instants of times as they were read
+abbrev instants_in : List Time → List ℤ
+instants_in times = instants_of (map time_of times)
+
 pub returns-clause-says : goal.returns-clause-says
 returns-clause-says c = record {
   uid = c.in_ok-uid.ensures.reads;
@@ -141,14 +158,17 @@ returns-clause-says c = record {
   occurrences =
       let object = object_of c.args.zones.now in
       let lines = c.args.properties.now in
-      let added = c.in_ok-additions.ensures.says object lines c.in_ok-said_additions.ensures.listed in
+      let m = method_read c.args.method in
+      let added = c.in_ok-judge.ensures.says object lines c.in_ok-said_additions.ensures.listed in
       record {
-        is = c.in_ok-recurrence.ensures.says object lines c.in_ok-said_recurrence.ensures.said;
+        is = c.in_ok-judge_recurrence.ensures.says object lines c.in_ok-said_recurrence.ensures.said;
+        fixed_recurrence = fixed_as_said (names_by_fixed m) _ _ _ c.in_ok-judge_recurrence.ensures.is c.names_by_fixed.ensures c.in_ok-refuse_unfixed.ensures.is;
         adds = added.0;
         inside = added.1;
         takes = c.in_ok-said_exceptions.ensures.listed.lists;
         alone = ap (λ b. recurs_as_instance b lines) (sym c.adds_instances.ensures) ∙ c.in_ok-refuse_recurring_instance.ensures.alone;
       };
+  instants = record { slot = c.instant.ensures; added = c.in_ok-additions.ensures ∙ ap instants_in c.deref.ensures.value; taken = c.in_ok-exceptions.ensures ∙ ap instants_in c.deref-2.ensures.value };
   summary = c.in_ok-summary.ensures;
   attendees = c.in_ok-attendees.ensures.reads;
 }
@@ -157,21 +177,23 @@ pub invariant_of-result : goal.invariant_of-result
 invariant_of-result c =
     let object = object_of c.args.zones.now in
     let lines = c.args.properties.now in
-    let may = may_lack_start (method_read c.args.method) in
+    let m = method_read c.args.method in
+    let may = may_lack_start m in
     let says = c.in_ok-times.ensures.says may object lines (subst (λ (b : Bool). AreSaidBy b object lines c.in_ok-said.said) c.may_lack_start.ensures c.in_ok-said.ensures.said) in
     let t = times_sound {may = may} object lines (times_of c.in_ok-times.times) says in
-    let added = c.in_ok-additions.ensures.says object lines c.in_ok-said_additions.ensures.listed in
+    let added = c.in_ok-judge.ensures.says object lines c.in_ok-said_additions.ensures.listed in
     let event : SaidComponent = record {
       uid = text_octets c.in_ok-uid.uid;
       organiser = option_map address_octets c.in_ok-organiser.organiser;
       stamp = c.in_ok-stamp.stamp;
       sequence = c.in_ok-sequence.sequence;
       cancelled = c.in_ok-cancelled.cancelled;
-      recurrence = c.in_ok-recurrence.recurrence;
+      recurrence = c.instant.result;
       times = times_of c.in_ok-times.times;
       rule = c.in_ok-rule.rule;
       additions = c.in_ok-additions.additions.items;
-      exceptions = c.in_ok-said_exceptions.said_exceptions.instants.items;
+      exceptions = c.in_ok-exceptions.exceptions.items;
+      written = written_of (record { recurrence = c.in_ok-judge_recurrence.field-0; additions = c.in_ok-judge.field-0; exceptions = c.in_ok-said_exceptions.said_exceptions.times });
       summary = text_octets c.in_ok-summary.summary;
       attendees = map attendee_of c.in_ok-attendees.attendees.items;
     } in
@@ -184,17 +206,19 @@ invariant_of-result c =
       times = says;
       rule = c.in_ok-rule.ensures.says lines c.in_ok-said_rule.ensures.said c.has.ensures;
       occurrences = record {
-        is = c.in_ok-recurrence.ensures.says object lines c.in_ok-said_recurrence.ensures.said;
+        is = c.in_ok-judge_recurrence.ensures.says object lines c.in_ok-said_recurrence.ensures.said;
+        fixed_recurrence = fixed_as_said (names_by_fixed m) _ _ _ c.in_ok-judge_recurrence.ensures.is c.names_by_fixed.ensures c.in_ok-refuse_unfixed.ensures.is;
         adds = added.0;
         inside = added.1;
         takes = c.in_ok-said_exceptions.ensures.listed.lists;
         alone = ap (λ b. recurs_as_instance b lines) (sym c.adds_instances.ensures) ∙ c.in_ok-refuse_recurring_instance.ensures.alone;
       };
+      instants = record { slot = c.instant.ensures; added = c.in_ok-additions.ensures ∙ ap instants_in c.deref.ensures.value; taken = c.in_ok-exceptions.ensures ∙ ap instants_in c.deref-2.ensures.value };
       summary = c.in_ok-summary.ensures;
       attendees = c.in_ok-attendees.ensures.reads;
     } in
     record {
       steady = t.0;
       named = t.1;
-      said = merely (record { object = object; method = method_read c.args.method; lines = lines; event = event; says = said; times_are = refl; rule_is = refl });
+      said = merely (said_as_written object lines event said);
     }

@@ -1,4 +1,4 @@
-use Rattle.std.proofs.Common.{◌≡◌, ◌∙◌, ◌<◌, ◌≤◌, ◌++◌, ◌∷◌, [], List, length, get_or, take, sym, ap, subst, None}
+use Rattle.std.proofs.Common.{◌≡◌, ◌∙◌, ◌<◌, ◌≤◌, ◌++◌, ◌∷◌, [], List, ℕ, length, get_or, take, sym, ap, subst, None}
 use Rattle.std.specs.List.{AllZip}
 use Rattle.std.proofs.lemmas.List.{take_all}
 use Rattle.ical_lines.specs.Fault.{RefusesBy, RefusesOnly}
@@ -9,11 +9,16 @@ use Rattle.ical_tree.specs.declared.component.Component.{Component}
 use Rattle.profile.specs.text.Trees.{Tree}
 use Rattle.profile.specs.faults.Faults.{is_calendar_fault}
 use Rattle.profile.specs.checker.Calendars.{CalendarFault}
-use Rattle.profile.specs.events.EventComponents.{EventComponentFault, SaysEventComponent}
+use Rattle.profile.specs.events.EventComponents.{EventComponentFault}
+use Rattle.profile.specs.events.Placed.{SaysPlaced}
+use Rattle.profile.specs.series.RoomZones.{NamesRoomZone, RoomZoneFault}
+use Rattle.ical_tree.proofs.TreeOfLemmas.{tree_of-own}
+use Rattle.cal_zones.specs.RoomZones.{words_of, room_of}
 use Rattle.cal_events.specs.Component.{component_of, vevents_of}
 use Rattle.cal_events.specs.Draft.{IsDraft}
+use Rattle.cal_events.specs.Zones.{object_of}
 use Rattle.cal_events.proofs.shared_lemmas.EventLemmas.{push_zip}
-use Rattle.cal_events.proofs.shared_lemmas.ReadingLemmas.{events_in, is_among, take_other, take_event, event_refuses}
+use Rattle.cal_events.proofs.shared_lemmas.ReadingLemmas.{events_in, is_among, take_other, take_event, event_refuses, zone_refuses, zone_number}
 use Rattle.cal_events.proofs.shared_lemmas.TreeLemmas.{vevents_tree, only_calendar}
 use Rattle.cal_events.proofs.draft.Draft.of_object.Goals as goal
 use Rattle.cal_events.proofs.draft.Draft.of_object.Goals.{then-is_named+in_ok-event+in_ok-add, else-is_named}
@@ -45,17 +50,18 @@ loop-component-preserved c =
     let within = subst (λ (l : List Component). i < length l) same c.loop-component-test.true in
     let here = subst (λ (l : List Component). x ≡ get_or l i x) same c.component-item.is in
     let before = c.loop-component.invariant in
+    let zone = room_of c.in_ok-zone.zone in
     elim c.if-is_named.branch [
       | then-is_named+in_ok-event+in_ok-add w ↦ (
         before.0 ++ component_of w.in_ok-event.event ∷ [],
-        subst (λ vs. AllZip (SaysEventComponent object None) vs (before.0 ++ component_of w.in_ok-event.event ∷ [])) (sym (take_event all i x within here (sym w.if-is_named.ensures)))
-            (push_zip (SaysEventComponent object None) (events_in (take i all)) before.0 (component_lines x) (component_of w.in_ok-event.event) before.1
-            (subst (λ (t : Tree). SaysEventComponent t None (component_lines x) (component_of w.in_ok-event.event)) (ap tree_of c.in_ok-zones.ensures.object) w.in_ok-event.ensures.says)),
+        subst (λ vs. AllZip (SaysPlaced zone object None) vs (before.0 ++ component_of w.in_ok-event.event ∷ [])) (sym (take_event all i x within here (sym w.if-is_named.ensures)))
+            (push_zip (SaysPlaced zone object None) (events_in (take i all)) before.0 (component_lines x) (component_of w.in_ok-event.event) before.1
+            (subst (λ (t : Tree). SaysPlaced zone t None (component_lines x) (component_of w.in_ok-event.event)) (ap tree_of c.in_ok-zones.ensures.object) w.in_ok-event.ensures.says)),
         subst (IsDraft room (before.0 ++ component_of w.in_ok-event.event ∷ [])) (sym w.draft-is) (w.in_ok-add.ensures before.0 before.2),
       )
       | else-is_named w ↦ (
         before.0,
-        subst (λ vs. AllZip (SaysEventComponent object None) vs before.0) (sym (take_other all i x within here (sym w.if-is_named.ensures))) before.1,
+        subst (λ vs. AllZip (SaysPlaced zone object None) vs before.0) (sym (take_other all i x within here (sym w.if-is_named.ensures))) before.1,
         subst (IsDraft room before.0) (sym w.draft-is) before.2,
       )
     ]
@@ -64,9 +70,29 @@ pub returns-clause-says : goal.returns-clause-says
 returns-clause-says c =
     let object = tree_of c.args.object.now in
     let h = c.loop-component.invariant in
+    let zone = room_of c.in_ok-zone.zone in
     let all = take_all c.loop-component.component-index (component_children c.args.object.now) (subst (λ (l : List Component). length l ≤ c.loop-component.component-index) c.children-component-items.ensures c.loop-component-test.false) in
-    let says = subst (λ vs. AllZip (SaysEventComponent object None) vs h.0) (ap events_in all ∙ sym (vevents_tree c.args.object.now)) h.1 in
-    record { events = h.0; says = says; is = h.2 }
+    let says = subst (λ vs. AllZip (SaysPlaced zone object None) vs h.0) (ap events_in all ∙ sym (vevents_tree c.args.object.now)) h.1 in
+    let names = subst (λ (own : List (List ℕ)). NamesRoomZone own zone) (sym (tree_of-own c.args.object.now)) c.in_ok-zone.ensures.names in
+    record { events = h.0; says = record { zone = zone; names = names; each = says }; is = h.2 }
 
 pub returns-in_err-event-clause-refuses : goal.returns-in_err-event-clause-refuses
 returns-in_err-event-clause-refuses c = err_exit _ (RefusesOnly is_calendar_fault) _ c.from_residual-in_err-event.ensures.1 (only_calendar _ c.in_err-event.ensures.refuses)
+
+pub returns-in_err-zone-clause-fault : goal.returns-in_err-zone-clause-fault
+returns-in_err-zone-clause-fault c =
+    err_exit _ (RefusesBy (CalendarFault (tree_of c.args.object.now))) _ c.from_residual.ensures.1 (zone_refuses c.args.object.now _ c.in_err-zone.ensures.fault)
+
+pub returns-in_err-zone-clause-refuses : goal.returns-in_err-zone-clause-refuses
+returns-in_err-zone-clause-refuses c =
+    err_exit _ (RefusesOnly is_calendar_fault) _ c.from_residual.ensures.1 (zone_number c.args.object.now _ c.in_err-zone.ensures.fault)
+
+pub add-requires : goal.add-requires
+add-requires c = record {
+  words = words_of c.in_ok-zone.zone;
+  room = room_of c.in_ok-zone.zone;
+  named = c.words_mean.ensures;
+  object = object_of c.in_ok-zones.zones;
+  lines = component_lines c.component-item.result;
+  says = c.in_ok-event.ensures.says;
+}

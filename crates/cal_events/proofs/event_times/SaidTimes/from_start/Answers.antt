@@ -1,4 +1,4 @@
-use Rattle.std.proofs.Common.{◌≡◌, Bool, codes, sym, subst, arith, to_z, of_z, w64, ℤ}
+use Rattle.std.proofs.Common.{◌≡◌, Bool, false, codes, sym, subst, arith, to_z, of_z, w64, ℤ}
 use Rattle.std.proofs.lemmas.Int.{ints}
 use Rattle.profile.specs.series.Zones.{Means}
 use Rattle.ical_lines.specs.Text.{line_text}
@@ -8,7 +8,7 @@ use Rattle.cal_events.proofs.shared_lemmas.EventLemmas.{some_line}
 use Rattle.std.specs.Prelude.{◌↔◌, IsTrue}
 use Rattle.profile.specs.events.ZonedTimes.{IsInDates, clock_of}
 use Rattle.cal_events.specs.Zones.{object_of}
-use Rattle.cal_events.specs.Component.{zone_said, local_said}
+use Rattle.cal_events.specs.Component.{form_said, zone_said, local_said}
 use Rattle.cal_events.proofs.event_times.SaidTimes.from_start.Goals as goal
 
 pub returns-in_err-start-clause-fault : goal.returns-in_err-start-clause-fault
@@ -25,16 +25,17 @@ returns-in_err-extent-clause-fault c may =
     refusal_exit _ (EventTimesFault may (object_of c.args.zones.now) c.args.properties.now) _ c.from_residual-in_err-extent.ensures.1 (c.in_err-extent.ensures.fault may)
 
 pub returns-clause-said : goal.returns-clause-said
-returns-clause-said c =
+returns-clause-said c may =
     let start = c.in_ok-start.start in
     let same : to_z w64 (of_z w64 c.instant-instant.result) ≡ c.instant-instant.result = omega (arith, ints, c.instant-instant.ensures.range) in
-    let P : Bool → ℤ → Type 0 = λ b l. IsTrue c.is_in_dates-starts_in.result ↔ IsInDates b l (to_z w64 (of_z w64 c.instant-instant.result)) in
-    let dates = subst (λ b. P b (local_said start)) c.is_in_zone-in_zone.ensures (subst (λ (l : ℤ). P c.is_in_zone-in_zone.result l) c.local.ensures c.is_in_dates-starts_in.ensures) in
+    let P : Bool → Type 0 = λ b. IsTrue c.is_in_dates-in_dates.result ↔ IsInDates false (form_said start) b (local_said start) (to_z w64 (of_z w64 c.instant-instant.result)) in
     record {
       line = line_text c.args.line;
       once = c.requires.once;
-      says = c.in_ok-start.ensures.says;
-      means = subst (λ (x : ℤ). Means (clock_of (zone_said start)) (local_said start) x) (sym same) c.instant-instant.ensures.meaning;
-      starts = dates;
-      extent = c.in_ok-extent.ensures.reads;
+      start_said = record {
+        says = c.in_ok-start.ensures.says;
+        means = subst (λ (x : ℤ). Means (clock_of (zone_said start)) (local_said start) x) (sym same) c.instant-instant.ensures.meaning;
+        dates = subst P c.is_in_zone.ensures c.is_in_dates-in_dates.ensures;
+      };
+      extent_in = c.in_ok-extent.ensures.reads;
     }

@@ -1,36 +1,31 @@
-use Rattle.std.proofs.Common.{◌≡◌, ◌∙◌, arith, to_z, of_z, w64, rules}
-use Rattle.std.proofs.lemmas.Bool.{false≢true}
-use Rattle.std.proofs.lemmas.Int.{ints}
-use Rattle.profile.specs.events.ZonedTimes.{EventTimesFault}
-use Rattle.ical_values.proofs.Exits.{refusal_exit}
-use Rattle.cal_events.proofs.event_times_lemmas.TimesLemmas.{extent_judged_by, start_judged_by, end_judged_by, within_clock, times_said_by}
+use Rattle.std.proofs.Common.{◌≡◌, subst, inl, inr, to_z, of_z, w64, FitsSigned, to_z-of_z, rules}
+use Rattle.profile.specs.events.ZonedTimes.{SaysEventTimes, SaysNoStart, SaysTimes}
+use Rattle.cal_events.specs.Component.{times_of}
+use Rattle.cal_events.specs.declared.event_times.SaidTimes.{SaidTimes}
+use Rattle.cal_events.specs.declared.event_times.SaidTimes.TheVariants.{From}
+use Rattle.cal_events.specs.Zoned.{AreSaidBy}
+use Rattle.cal_events.proofs.event_times_lemmas.TimesLemmas.{ok_so}
 use Rattle.cal_events.proofs.event_times.SaidTimes.judge.Goals as goal
-use Rattle.cal_events.proofs.event_times.SaidTimes.judge.Goals.{then-not-self-via-then-not-self, then-not-self-via-else-not-self+then-not-self-2}
 
-pub returns-in_err-length-clause-fault : goal.returns-in_err-length-clause-fault
-returns-in_err-length-clause-fault c may object lines a =
-    refusal_exit _ (EventTimesFault may object lines) _ c.from_residual.ensures.1 (extent_judged_by may object lines c.args.self _ a c.in_err-length.ensures.fault)
+pub returns-in-From-clause-says : goal.returns-in-From-clause-says
+returns-in-From-clause-says c may object lines a =
+    let fits : FitsSigned w64 c.in-From.instant = search rules in
+    let kept : to_z w64 (of_z w64 c.in-From.instant) ≡ c.in-From.instant = to_z-of_z fits in
+    let said : AreSaidBy may object lines (From c.in-From.start c.in-From.instant c.in-From.in_dates c.in-From.extent) = subst (λ (x : SaidTimes). AreSaidBy may object lines x) c.in-From.is a in
+    ok_so _ (λ times. SaysEventTimes object lines (times_of times)) (λ times. SaysTimes may object lines (times_of times)) (λ times h. inl h) (c.judge_from.ensures.says object lines (rw kept said))
 
-pub returns-then-not-self-clause-fault : goal.returns-then-not-self-clause-fault
-returns-then-not-self-clause-fault c may object lines a =
-    elim c.then-not-self.branch [
-      | then-not-self-via-then-not-self x ↦ start_judged_by may object lines c.args.self a (search rules)
-      | then-not-self-via-else-not-self+then-not-self-2 x ↦ end_judged_by may object lines c.args.self a (search rules)
-    ]
+pub returns-in-From-clause-fault : goal.returns-in-From-clause-fault
+returns-in-From-clause-fault c may object lines a =
+    let fits : FitsSigned w64 c.in-From.instant = search rules in
+    let kept : to_z w64 (of_z w64 c.in-From.instant) ≡ c.in-From.instant = to_z-of_z fits in
+    let said : AreSaidBy may object lines (From c.in-From.start c.in-From.instant c.in-From.in_dates c.in-From.extent) = subst (λ (x : SaidTimes). AreSaidBy may object lines x) c.in-From.is a in
+    c.judge_from.ensures.fault may object lines (rw kept said)
 
--- what is in the dates has a stamp
-pub returns-in_default-clause-fault : goal.returns-in_default-clause-fault
-returns-in_default-clause-fault c may object lines a =
-    let instant = c.args.self.instant in
-    let within = within_clock may object lines c.args.self a (search rules) in
-    let same : to_z w64 (of_z w64 instant) ≡ instant = omega (arith, ints, within.0, within.1) in
-    let found = rw same at (c.in_default.ensures.found) in
-    absurd (false≢true (found.1 within))
+pub returns-in-Alone-clause-says : goal.returns-in-Alone-clause-says
+returns-in-Alone-clause-says c may object lines a =
+    let said = subst (λ (x : SaidTimes). AreSaidBy may object lines x) c.in-Alone.is a in
+    ok_so _ (λ times. SaysNoStart object lines (times_of times)) (λ times. SaysTimes may object lines (times_of times)) (λ times h. inr (said.0, h)) (c.judge_alone.ensures.says object lines said.1)
 
-pub returns-clause-says : goal.returns-clause-says
-returns-clause-says c may object lines a =
-    let said = c.args.self in
-    let within = within_clock may object lines said a (search rules) in
-    let kept : to_z w64 (of_z w64 said.instant) ≡ said.instant = omega (arith, ints, within.0, within.1) in
-    let same : c.in-Some.instant ≡ said.instant = c.in-Some.ensures.value ∙ kept in
-    times_said_by may object lines said c.in_ok-length.length c.in-Some.instant same a c.in_ok-length.ensures.length c.in_ok-length.ensures.most (search rules) (search rules)
+pub returns-in-Alone-clause-fault : goal.returns-in-Alone-clause-fault
+returns-in-Alone-clause-fault c may object lines a =
+    c.judge_alone.ensures.fault may object lines (subst (λ (x : SaidTimes). AreSaidBy may object lines x) c.in-Alone.is a).1

@@ -15,3 +15,6 @@ returns-in_err-line-clause-fault c =
 
 pub returns-in-None-2-clause-fault : goal.returns-in-None-2-clause-fault
 returns-in-None-2-clause-fault c = no_start c.if-may_lack.false (c.in_ok-line.ensures.found ∙ ap (λ l. option_to_list (option_map line_text l)) c.in-None-2.is)
+
+pub returns-in-Some-clause-said : goal.returns-in-Some-clause-said
+returns-in-Some-clause-said c = c.from_start.ensures.said c.args.may_lack

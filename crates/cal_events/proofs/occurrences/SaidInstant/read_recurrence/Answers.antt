@@ -11,24 +11,24 @@ use Rattle.cal_events.proofs.occurrences_lemmas.RecurrenceLemmas.{shows_range}
 use Rattle.cal_events.proofs.occurrences.SaidInstant.read_recurrence.Goals as goal
 
 pub returns-in_err-line-clause-fault : goal.returns-in_err-line-clause-fault
-returns-in_err-line-clause-fault c added =
-    let P = OccurrenceFault added (object_of c.args.zones.now) c.args.properties.now in
+returns-in_err-line-clause-fault c added fixed =
+    let P = OccurrenceFault added fixed (object_of c.args.zones.now) c.args.properties.now in
     refusal_exit _ P _ c.from_residual.ensures.1 (subst P (sym c.in_err-line.ensures.refuses) (two_recurrences c.in_err-line.ensures.twice))
 
 pub returns-then-is_some-clause-fault : goal.returns-then-is_some-clause-fault
-returns-then-is_some-clause-fault c added =
+returns-then-is_some-clause-fault c added fixed =
     let lines = c.args.properties.now in
     let line = line_text c.in-Some.line in
     let once = c.in_ok-line.ensures.found ∙ ap (λ l. option_to_list (option_map line_text l)) c.in-Some.is in
     ranged (some_line (codes "RECURRENCE-ID") (λ l. has_range l ≡ true) lines line once (shows_range line c.param.result c.param.ensures (sym c.is_some.ensures ∙ c.if-is_some.true)))
 
 pub returns-in_err-read-clause-fault : goal.returns-in_err-read-clause-fault
-returns-in_err-read-clause-fault c added =
+returns-in_err-read-clause-fault c added fixed =
     let object = object_of c.args.zones.now in
     let lines = c.args.properties.now in
     let line = line_text c.in-Some.line in
     let once = c.in_ok-line.ensures.found ∙ ap (λ l. option_to_list (option_map line_text l)) c.in-Some.is in
     let n = c.in_err-read.field-0.0.number in
-    refusal_exit _ (OccurrenceFault added object lines) _ c.from_residual-in_err-read.ensures.1
+    refusal_exit _ (OccurrenceFault added fixed object lines) _ c.from_residual-in_err-read.ensures.1
     (bad_recurrence (some_line (codes "RECURRENCE-ID") (λ l. ZonedTimeFault object l n) lines line once
     (subst (λ (text : List ℕ). ZonedTextFault object line text n) c.value.ensures c.in_err-read.ensures.fault)))

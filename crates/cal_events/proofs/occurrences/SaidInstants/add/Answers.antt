@@ -1,5 +1,4 @@
-use Rattle.std.proofs.Common.{◌≡◌, ◌≢◌, ◌∙◌, ◌++◌, ◌∷◌, [], length, ap, sym, refl, inl, inr, arith, rules, ℤ, FitsSigned, to_z, of_z, w64}
-use Rattle.std.proofs.lemmas.Int.{ints}
+use Rattle.std.proofs.Common.{◌≡◌, ◌≢◌, ◌∙◌, ◌++◌, ◌∷◌, [], length, sym, refl, inl, inr, arith, rules}
 use Rattle.std.proofs.lemmas.Bool.Decides.{nat_tests}
 use Rattle.ical_lines.specs.Fault.{RefusesBy}
 use Rattle.ical_lines.specs.Text.{line_text}
@@ -19,7 +18,7 @@ returns-then-len-eq-MOST-clause-fault c done a =
     let text = c.args.text.now in
     elim c.then-len-eq-MOST.branch [
       | then-len-eq-MOST-via-then-len-eq-MOST w ↦
-          full object name line text done c.args.self.now a (let l : length c.args.self.now.instants.items ≡ 366 = grind (arith, nat_tests, c.len.ensures, w.if-len-eq-MOST) in l)
+          full object name line text done c.args.self.now a (let l : length c.args.self.now.times.items ≡ 366 = grind (arith, nat_tests, c.len.ensures, w.if-len-eq-MOST) in l)
       | then-len-eq-MOST-via-else-len-eq-MOST+then-is_period w ↦
           period object name line text done c.args.self.now a (sym w.is_period.ensures ∙ w.if-is_period.true)
     ]
@@ -35,20 +34,14 @@ returns-in_err-said-clause-fault c done a =
 
 pub returns-then-not-said-clause-adds : goal.returns-then-not-said-clause-adds
 returns-then-not-said-clause-adds c done a =
-    let few : length c.args.self.now.instants.items ≢ 366 = λ e. grind (arith, nat_tests, c.len.ensures, c.if-len-eq-MOST.false, e) in
-    let t = c.in_ok-said.said.instant in
-    let fits : FitsSigned w64 t = search rules in
-    let kept : to_z w64 (of_z w64 t) ≡ t = omega (arith, ints) in
-    let more : c.push.new.self.items ≡ c.args.self.now.instants.items ++ t ∷ [] = c.in_ok-push.ensures.items ∙ ap (λ (x : ℤ). c.args.self.now.instants.items ++ x ∷ []) kept in
+    let few : length c.args.self.now.times.items ≢ 366 = λ e. grind (arith, nat_tests, c.len.ensures, c.if-len-eq-MOST.false, e) in
+    let more : c.push.new.self.items ≡ c.args.self.now.times.items ++ c.in_ok-said.said.time ∷ [] = c.in_ok-push.ensures.items in
     one_listed (object_of c.args.zones.now) (name_of c.args.listing) (line_text c.args.line) c.args.text.now done c.args.self.now a c.in_ok-said.said _ few
     (sym c.is_period.ensures ∙ c.if-is_period.false) c.in_ok-said.ensures.says more (inr (search rules, refl))
 
 pub returns-else-not-said-clause-adds : goal.returns-else-not-said-clause-adds
 returns-else-not-said-clause-adds c done a =
-    let few : length c.args.self.now.instants.items ≢ 366 = λ e. grind (arith, nat_tests, c.len.ensures, c.if-len-eq-MOST.false, e) in
-    let t = c.in_ok-said.said.instant in
-    let fits : FitsSigned w64 t = search rules in
-    let kept : to_z w64 (of_z w64 t) ≡ t = omega (arith, ints) in
-    let more : c.push.new.self.items ≡ c.args.self.now.instants.items ++ t ∷ [] = c.in_ok-push.ensures.items ∙ ap (λ (x : ℤ). c.args.self.now.instants.items ++ x ∷ []) kept in
+    let few : length c.args.self.now.times.items ≢ 366 = λ e. grind (arith, nat_tests, c.len.ensures, c.if-len-eq-MOST.false, e) in
+    let more : c.push.new.self.items ≡ c.args.self.now.times.items ++ c.in_ok-said.said.time ∷ [] = c.in_ok-push.ensures.items in
     one_listed (object_of c.args.zones.now) (name_of c.args.listing) (line_text c.args.line) c.args.text.now done c.args.self.now a c.in_ok-said.said _ few
     (sym c.is_period.ensures ∙ c.if-is_period.false) c.in_ok-said.ensures.says more (inl (search rules, refl))
