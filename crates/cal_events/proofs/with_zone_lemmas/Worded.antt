@@ -1,8 +1,8 @@
 -- The words of a room's zone are printable, so that the line of X-ROOM-ZONE is a content line.
 -- Cited by zone_named_keeps and Calendar::with_zone of with_zone.
-use Rattle.std.proofs.Common.{◌≡◌, ℕ, ℤ, ◌+◌, ◌/◌, ◌%◌, ◌<◌, ◌≤◌, inl, inr, Bool, true, false, not, ◌&&◌, cond, nat_eq, List, [], ◌∷◌, ◌++◌, Option, Some, None, length, codes, decimal, refl, ap, arith, lt-ltb}
+use Rattle.std.proofs.Common.{◌≡◌, ℕ, ℤ, ◌<◌, ◌≤◌, inl, inr, Bool, true, false, not, ◌&&◌, cond, nat_eq, List, [], ◌∷◌, ◌++◌, Option, Some, None, length, codes, decimal, refl, ap, arith, lt-ltb}
 use Rattle.std.specs.List.{list_all, list_any}
-use Rattle.std.proofs.lemmas.Bool.{and_from, and_parts}
+use Rattle.std.proofs.lemmas.Bool.{and_parts}
 use Rattle.std.proofs.lemmas.Bool.Decides.{nat_tests}
 use Rattle.profile.specs.text.Lines.{is_content}
 use Rattle.profile.specs.text.Values.{two_digits}
@@ -12,11 +12,8 @@ use Rattle.profile.specs.series.ZoneTexts.{MonthDays, OnDay, FromStart, FromEnd,
 use Rattle.profile.specs.series.RoomZones.{WritesMonthDay, WritesHourMinute, BeginsSo, IsTwoOffsets, IsRoomZone}
 use Rattle.profile.specs.faults.Faults.{is_between}
 use Rattle.ical_lines.specs.Breaks.{is_break, is_one_line}
-use Rattle.ical_lines.proofs.CleanLines.{is_shown, clean_shown, shown_append, shown_digit, shown_decimal, valued}
-use Rattle.ical_values.proofs.ShownValues.{shown_offset}
-
-shown_two : (n : ℕ) → n < 100 → list_all is_shown (two_digits n) ≡ true
-shown_two n h = and_from _ _ (shown_digit (48 + n / 10) (omega arith, omega arith)) (and_from _ _ (shown_digit (48 + n % 10) (omega arith, omega arith)) refl)
+use Rattle.ical_lines.proofs.CleanLines.{is_shown, clean_shown, shown_append, shown_decimal, valued}
+use Rattle.ical_values.proofs.ShownValues.{shown_two, shown_offset}
 
 word_by : (a b c d e f : Bool) → list_all is_shown (cond a (codes "MO") (cond b (codes "TU") (cond c (codes "WE") (cond d (codes "TH") (cond e (codes "FR") (cond f (codes "SA") (codes "SU"))))))) ≡ true
 word_by true b c d e f = refl
