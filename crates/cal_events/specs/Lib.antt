@@ -33,4 +33,4 @@ pub mod Masters
 pub mod OwnInstances
 pub mod LastStarts
 pub mod Seconds
-pub mod RoomZones
+pub mod WithZone

@@ -22,7 +22,6 @@ mod places;
 mod properties;
 mod reading;
 mod regular;
-mod room_zone;
 mod rule_days;
 mod series;
 mod single_starts;
@@ -31,6 +30,7 @@ mod texts;
 mod time;
 mod when;
 mod whole;
+mod with_zone;
 mod zones;
 
 pub use calendar::{Calendar, Singles};
@@ -54,3 +54,4 @@ pub use when::{Form, When, judge_time, one_zoned_time};
 pub use whole::{
     all_instances, all_starts, instances_last, known_by_start, listed_series, series_are_said,
 };
+pub use with_zone::zone_named_keeps;

@@ -8,14 +8,14 @@ ghost use Rattle.ical_tree.specs.Tree.{tree_of};
 ghost use Rattle.profile.specs.events.Events.{as_added, is_same_meeting, is_master, is_override, taken_by, AreOfOne, InstancesDiffer, SaysEvent, EventFault};
 ghost use Rattle.cal_events.specs.Component.{component_of, method_read, vevents_of};
 ghost use Rattle.cal_events.specs.OneMeeting.{is_components_fault};
-ghost use Rattle.cal_events.specs.RoomZones.{room_of};
+ghost use Rattle.cal_zones.specs.RoomZones.{room_of};
 ghost use Rattle.cal_events.specs.MeetingComponents.{instants_said, AreOfObject, AreOfObjectIn, IsNotOne, SharesSlot};
 
 use crate::component::EventComponent;
 use crate::instants::Instants;
 use crate::method::{Method, adds_instances};
 use crate::reading::read_events;
-use crate::room_zone::RoomZone;
+use cal_zones::RoomZone;
 use crate::time::Time;
 use ical_lines::{Fault, Refusal};
 use ical_tree::Component;

@@ -8,14 +8,13 @@ ghost use Rattle.profile.specs.events.Placed.{IsAt, IsPlaced};
 ghost use Rattle.cal_zones.specs.Kinds.{zone_of};
 ghost use Rattle.cal_events.specs.Component.{component_of, time_of};
 ghost use Rattle.cal_events.specs.Said.{IsWritten};
-ghost use Rattle.cal_events.specs.RoomZones.{room_of};
+ghost use Rattle.cal_zones.specs.RoomZones.{room_of};
 
 use crate::component::EventComponent;
 use crate::event_times::{EventTimes, resolve};
-use crate::room_zone::RoomZone;
 use crate::time::Time;
 use crate::when::Form;
-use cal_zones::Zone;
+use cal_zones::{RoomZone, Zone};
 use ical_values::Stamp;
 use std::alloc::{AllocError, Global};
 

@@ -13,7 +13,7 @@ ghost use Rattle.profile.specs.events.Spans.{AreSaidSeries};
 ghost use Rattle.profile.specs.events.Confirmed.{Confirmed, IsConfirmed, IsInSeries, AreConfirmed};
 ghost use Rattle.profile.specs.text.Trees.{Tree};
 ghost use Rattle.ical_tree.specs.Tree.{component_lines, tree_of};
-ghost use Rattle.cal_events.specs.RoomZones.{room_of};
+ghost use Rattle.cal_zones.specs.RoomZones.{room_of};
 ghost use Rattle.cal_events.specs.Zones.{object_of, AreRead};
 ghost use Rattle.cal_events.specs.Component.{IsFaultAmong, method_read, component_of, vevents_of};
 
@@ -21,7 +21,7 @@ use crate::calendar::Calendar;
 use crate::component::{EventComponent, one_event};
 use crate::draft::Draft;
 use crate::method::Method;
-use crate::room_zone::{RoomZone, one_room_zone};
+use cal_zones::RoomZone;
 use crate::zones::ZonesOfObject;
 use ical_lines::{Fault, Refusal};
 use ical_tree::{Component, Properties, one_tree};
@@ -62,7 +62,6 @@ pub fn one_calendar()
         → SaysCalendar room object a → CalendarFault object n → ⊥ }
 {
     one_event();
-    one_room_zone();
 }
 
 /// Octets spell at most one calendar for a room, and none where they have a fault.
@@ -87,7 +86,6 @@ pub fn singles_are_confirmed()
 {
     one_tree();
     one_event();
-    one_room_zone();
 }
 
 /// Series and singles divide what is confirmed: each instance of a series is confirmed, and no single; each other one that is confirmed is a
@@ -103,7 +101,6 @@ pub fn series_and_singles_divide()
 {
     one_tree();
     one_event();
-    one_room_zone();
 }
 
 /// Of each series of a calendar that octets spell some VEVENT says the times and the rule.
@@ -112,7 +109,6 @@ pub fn calendar_series_are_said()
 {
     one_tree();
     one_event();
-    one_room_zone();
 }
 
 /// What a VEVENT of an object of this METHOD says, or of one whose METHOD is ignored; its times may name these zones. Its lines are parsed

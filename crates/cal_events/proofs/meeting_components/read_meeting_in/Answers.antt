@@ -7,7 +7,7 @@ use Rattle.ical_values.proofs.Exits.{err_exit}
 use Rattle.cal_events.specs.declared.component.EventComponent.{EventComponent}
 use Rattle.cal_events.specs.Component.{component_of, method_read, vevents_of, IsFaultAmong}
 use Rattle.cal_events.specs.MeetingComponents.{IsNotOne, SharesSlot}
-use Rattle.cal_events.specs.RoomZones.{room_of}
+use Rattle.cal_zones.specs.RoomZones.{room_of}
 use Rattle.cal_events.proofs.shared_lemmas.TreeLemmas.{vevents_tree}
 use Rattle.cal_events.proofs.shared_lemmas.ZonedLemmas.{weaker_fault}
 use Rattle.cal_events.proofs.shared_lemmas.MeetingLemmas.{among_there, not_one_there, slot_there, object_there}

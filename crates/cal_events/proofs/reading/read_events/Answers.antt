@@ -6,7 +6,7 @@ use Rattle.ical_tree.specs.declared.component.Component.{Component}
 use Rattle.profile.specs.text.Trees.{Tree}
 use Rattle.profile.specs.events.EventComponents.{EventComponentFault}
 use Rattle.profile.specs.events.Placed.{SaysPlaced}
-use Rattle.cal_events.specs.RoomZones.{room_of}
+use Rattle.cal_zones.specs.RoomZones.{room_of}
 use Rattle.cal_events.specs.Component.{component_of, vevents_of, IsFaultAmong, method_read}
 use Rattle.cal_events.proofs.shared_lemmas.ReadingLemmas.{events_in, is_among, take_event, take_other, event_pushed}
 use Rattle.cal_events.proofs.shared_lemmas.ZonedLemmas.{weaker_fault}

@@ -13,7 +13,7 @@ use Rattle.profile.specs.events.Placed.{IsInstantIn, IsAt, IsPlaced}
 use Rattle.cal_zones.specs.Kinds.{zone_of}
 use Rattle.cal_events.specs.Clocks.{IsSteady}
 use Rattle.cal_events.specs.Component.{component_of, form_of, form_said, zone_said, local_said, times_of, time_of}
-use Rattle.cal_events.specs.RoomZones.{words_of, room_of}
+use Rattle.cal_zones.specs.RoomZones.{words_of, room_of}
 use Rattle.cal_events.specs.declared.time.Time.{Time}
 use Rattle.cal_events.proofs.shared_lemmas.Placing.{started, placed_at, placed_so, placed_sound, written_start, as_written}
 use Rattle.cal_events.proofs.component.EventComponent.placed.Goals as goal

@@ -4,7 +4,7 @@ use Rattle.ical_tree.specs.Tree.{component_children, tree_of}
 use Rattle.ical_values.specs.Octets.{address_octets}
 use Rattle.profile.specs.events.EventComponents.{EventComponent}
 use Rattle.profile.specs.events.Placed.{SaysPlaced}
-use Rattle.cal_events.specs.RoomZones.{room_of}
+use Rattle.cal_zones.specs.RoomZones.{room_of}
 use Rattle.cal_events.specs.Draft.{IsDraft}
 use Rattle.cal_events.proofs.shared_lemmas.ReadingLemmas.{events_in}
 use Rattle.cal_events.proofs.draft.Draft.of_object.Given as goal

@@ -8,7 +8,7 @@ use Rattle.ical_values.proofs.Exits.{err_exit}
 use Rattle.cal_events.specs.Component.{component_of}
 use Rattle.cal_events.specs.OneMeeting.{meeting_of}
 use Rattle.cal_events.specs.Event.{said_meeting}
-use Rattle.cal_events.specs.RoomZones.{words_of, room_of}
+use Rattle.cal_zones.specs.RoomZones.{words_of, room_of}
 use Rattle.cal_events.proofs.shared_lemmas.MeetingInstances.{one_at, dated, clock}
 use Rattle.cal_events.proofs.event.Event.of_object.Goals as goal
 

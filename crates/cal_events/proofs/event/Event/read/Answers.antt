@@ -5,7 +5,7 @@ use Rattle.ical_lines.specs.Fault.{RefusesBy}
 use Rattle.ical_tree.specs.Tree.{IsObjectOf, tree_of}
 use Rattle.ical_tree.proofs.RefusalLemmas.{text_refuses, tree_refuses}
 use Rattle.profile.specs.events.Events.{EventFault, EventTextFault}
-use Rattle.cal_events.specs.RoomZones.{room_of}
+use Rattle.cal_zones.specs.RoomZones.{room_of}
 use Rattle.cal_events.proofs.shared_lemmas.MeetingLemmas.{meeting_spelled, fault_there, object_refused}
 use Rattle.cal_events.proofs.event.Event.read.Goals as goal
 

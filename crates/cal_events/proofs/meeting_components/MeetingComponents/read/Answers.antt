@@ -3,7 +3,7 @@ use Rattle.std.specs.List.{AllZip}
 use Rattle.std.specs.Prelude.{None}
 use Rattle.profile.specs.events.EventComponents.{EventComponent as SaidComponent}
 use Rattle.profile.specs.events.Placed.{SaysPlaced}
-use Rattle.cal_events.specs.RoomZones.{room_of}
+use Rattle.cal_zones.specs.RoomZones.{room_of}
 use Rattle.ical_tree.specs.Tree.{tree_of}
 use Rattle.cal_events.specs.Component.{component_of, vevents_of}
 use Rattle.cal_events.specs.OneMeeting.{meeting_of}
