@@ -1,5 +1,5 @@
 -- The times of a kept VEVENT that are added and taken away are those of the event that it is kept of, as far as they count.
--- Behind kept_texts_pass, kept_texts_spell, served_texts_pass.
+-- Behind answers_stay, kept_texts_pass, kept_texts_spell, served_texts_pass.
 use Rattle.std.proofs.Common.{◌≡◌, ◌∙◌, refl, ap, subst, ℕ, ℤ, Bool, true, false, not, ◌||◌, List, Some}
 use Rattle.std.specs.Prelude.{◌↔◌, Contains, filter}
 use Rattle.std.specs.List.{AllZip}
