@@ -44,9 +44,9 @@ def seconds(moment):
 
 
 def moment(text):
-    """The local time of a text, in seconds from 1970-01-01T00:00:00."""
+    """The local time of a text, in seconds from 1970-01-01T00:00:00; of a date its first."""
     digits = text.rstrip("Z")
-    return seconds(datetime.strptime(digits, "%Y%m%dT%H%M%S"))
+    return seconds(datetime.strptime(digits, "%Y%m%dT%H%M%S" if "T" in digits else "%Y%m%d"))
 
 
 def stamp(instant):
@@ -82,6 +82,17 @@ def components(lines):
                 stack[-1][2].append(done)
         elif stack:
             stack[-1][1].append((name, params, value))
+    return found
+
+
+def own_lines(lines):
+    """Those of the VCALENDAR that are in no component."""
+    found, depth = [], 0
+    for line in lines:
+        name, params, value = parted(line)
+        depth += {"BEGIN": 1, "END": -1}.get(name, 0)
+        if depth == 1 and name not in ("BEGIN", "END"):
+            found.append((name, params, value))
     return found
 
 
@@ -186,7 +197,24 @@ class Zone:
         return next(local - before for onset, before, after in self.onsets(local) if onset + before <= local < onset + after)
 
 
+def zone_of_words(words):
+    """The clocks of a room, by the words of X-ROOM-ZONE."""
+    offsets = words.split(" ")[:2]
+    rules = words.split(" ")[2:]
+    if not rules:
+        lines = [("DTSTART", {}, "19700101T000000"), ("TZOFFSETFROM", {}, words), ("TZOFFSETTO", {}, words)]
+        return Zone([Part(lines)])
+    parts = []
+    for before, after, (month, day, time) in ((offsets[1], offsets[0], rules[:3]), (offsets[0], offsets[1], rules[3:])):
+        parts.append(Part([("DTSTART", {}, f"19700101T{time}00"), ("RRULE", {}, f"FREQ=YEARLY;BYMONTH={month};BYDAY={day}"), ("TZOFFSETFROM", {}, before), ("TZOFFSETTO", {}, after)]))
+    return Zone(parts)
+
+
 # ---- events
+
+
+def is_date(value):
+    return len(value) == 8
 
 
 def lasting(text):
@@ -196,10 +224,11 @@ def lasting(text):
 
 
 class Event:
-    def __init__(self, own, zones, room):
-        self.own = own
+    def __init__(self, own, zones, room, clocks):
+        self.own, self.clocks = own, clocks
         params, value = first(own, "DTSTART")
-        self.zone = zones[params["TZID"]] if "TZID" in params else Zone()
+        self.is_fixed, self.is_date = "TZID" in params or value.endswith("Z"), is_date(value)
+        self.zone = self.zone_of(params, value, zones)
         self.local = moment(value)
         self.start = self.zone.means(self.local)
         self.days, self.seconds = self.length(zones)
@@ -213,16 +242,23 @@ class Event:
         status = first(own, "STATUS")
         self.kept = bool(asked) and asked[0].get("PARTSTAT", "").upper() == "ACCEPTED" and not (status and status[1].upper() == "CANCELLED")
 
+    def zone_of(self, params, value, zones):
+        """That of TZID, UTC, or of what isn't fixed the clocks of the room."""
+        return zones[params["TZID"]] if "TZID" in params else Zone() if value.endswith("Z") else self.clocks
+
     def instant(self, said, zones):
         params, value = said
-        return (zones[params["TZID"]] if "TZID" in params else Zone()).means(moment(value))
+        return self.zone_of(params, value, zones).means(moment(value))
 
     def length(self, zones):
         if end := first(self.own, "DTEND"):
-            return 0, self.instant(end, zones) - self.start
+            if self.is_fixed:
+                return 0, self.instant(end, zones) - self.start
+            later = moment(end[1]) - self.local
+            return (later // DAY, 0) if self.is_date else (0, later)
         if said := first(self.own, "DURATION"):
             return lasting(said[1])
-        return 0, 0
+        return (1 if self.is_date else 0), 0
 
     def listed(self, name, zones):
         return [self.instant((params, it), zones) for own, params, value in self.own if own == name for it in value.split(",")]
@@ -245,7 +281,11 @@ class Event:
         text = "RRULE:" + ";".join(f"{name}={value}" for name, value in parts.items())
         for local in rrulestr(text, dtstart=EPOCH + timedelta(seconds=self.local)):
             start = self.zone.means(seconds(local))
-            if until and (start > moment(until) if until.endswith("Z") else local > datetime.strptime(until[:8] + "235959", "%Y%m%d%H%M%S")):
+            if until and not self.is_fixed and "T" in until and seconds(local) > moment(until):
+                return
+            if until and self.is_fixed and until.endswith("Z") and start > moment(until):
+                return
+            if until and (is_date(until) or self.is_fixed and not until.endswith("Z")) and local > datetime.strptime(until[:8] + "235959", "%Y%m%d%H%M%S"):
                 return
             if start >= HORIZON:
                 return
@@ -358,8 +398,10 @@ class Series:
 class Calendar:
     def __init__(self, text, room):
         found = components(lines_of(text))
+        named = first(own_lines(lines_of(text)), "X-ROOM-ZONE")
+        clocks = zone_of_words(named[1]) if named else Zone()
         zones = {first(own, "TZID")[1]: Zone([Part(it[1]) for it in inner]) for kind, own, inner in found if kind == "VTIMEZONE"}
-        events = [Event(own, zones, room) for kind, own, inner in found if kind == "VEVENT"]
+        events = [Event(own, zones, room, clocks) for kind, own, inner in found if kind == "VEVENT"]
         replaced = {}
         for event in events:
             if event.slot is not None:
@@ -546,9 +588,13 @@ def vevent(number, sequence, *lines):
     return ["BEGIN:VEVENT", f"UID:m{number}", f"SEQUENCE:{sequence}", "DTSTAMP:20250101T000000Z", "ORGANIZER:mailto:ann@example.com", f"ATTENDEE:{ROOM}", *lines, "END:VEVENT"]
 
 
+# Of rooms in calendars.
+ROOM_ZONES = ("-0500 -0400 11 1SU 0200 3 2SU 0200", "+0100 +0200 10 -1SU 0300 3 -1SU 0200", "+1030 +1100 4 1SU 0200 10 1SU 0200", "+0530", "+0000")
+
+
 def timed(chance, number, zone):
-    """The lines of a series' times: with a zone those by which the series of a room are one behind the other by its clocks; else any zone, at an hour of its
-    own where that is so."""
+    """The lines of a series' times: with a zone those by which the series of a room are one behind the other by its clocks; else any zone or none, at an hour
+    of its own where that is so, or whole days."""
     rule, day = chance.choice(RULES)
     end = chance.choice(["", "", "", "", f";COUNT={chance.randint(1, 40)}", f";UNTIL={chance.randint(2026, 2600)}0131T000000Z"])
     hour, minute, length = number, 0, "PT1H"
@@ -557,8 +603,11 @@ def timed(chance, number, zone):
         hour, minute = chance.choice([number, 1, 2]), chance.choice([0, 30])
         length = chance.choice(DAYS if "DAILY" not in rule and chance.random() < 0.3 else LENGTHS)
     local = datetime(2025, 1, 6 + day, hour, minute) + timedelta(weeks=52 * chance.randint(0, 1) * (rule in ("FREQ=DAILY", "FREQ=WEEKLY")))
-    start = f"DTSTART;TZID={zone}:{local:%Y%m%dT%H%M%S}" if zone else f"DTSTART:{local:%Y%m%dT%H%M%S}Z"
-    excepted = [f"EXDATE:{chance.randint(1965, 2700)}{chance.randint(1, 12):02}01T{number:02}0000Z"] if chance.random() < 0.3 else []
+    start = f"DTSTART;TZID={zone}:{local:%Y%m%dT%H%M%S}" if zone else f"DTSTART:{local:%Y%m%dT%H%M%S}{chance.choice(['Z', 'Z', ''])}"
+    if zone is None and chance.random() < 0.25:
+        start, length = f"DTSTART;VALUE=DATE:{local:%Y%m%d}", chance.choice(["P1D", "P1D", "P2D", "PT0S"])
+    taken = f"{chance.randint(1965, 2700)}{chance.randint(1, 12):02}01"
+    excepted = [chance.choice([f"EXDATE:{taken}T{number:02}0000Z", f"EXDATE:{taken}T{number:02}0000", f"EXDATE;VALUE=DATE:{taken}"])] if chance.random() < 0.3 else []
     return zone, [start, f"DURATION:{length}", f"RRULE:{rule}{end}", *excepted]
 
 
@@ -621,9 +670,10 @@ def calendar_text(chance):
         zones |= {named: vtimezone(named)} if named else {}
         events.append(vevent(number, 0, *lines))
     for number in range(chance.choice([0, 0, 2])):
-        start = f"{chance.randint(2025, 2027)}{chance.randint(1, 12):02}{chance.randint(1, 28):02}T{chance.randint(0, 23):02}{chance.choice(['00', '30'])}00Z"
+        start = f"{chance.randint(2025, 2027)}{chance.randint(1, 12):02}{chance.randint(1, 28):02}T{chance.randint(0, 23):02}{chance.choice(['00', '30'])}00{chance.choice(['Z', ''])}"
         events.append(vevent(100 + number, 0, f"DTSTART:{start}", f"DURATION:{chance.choice(['PT30M', 'PT1H', 'PT0S', 'P2D'])}"))
-    lines = ["BEGIN:VCALENDAR", "VERSION:2.0", "PRODID:-//test//EN", *(it for zone in zones.values() for it in zone), *(it for event in events for it in event), "END:VCALENDAR", ""]
+    named = [f"X-ROOM-ZONE:{chance.choice(ROOM_ZONES)}"] if chance.random() < 0.6 else []
+    lines = ["BEGIN:VCALENDAR", "VERSION:2.0", "PRODID:-//test//EN", *named, *(it for zone in zones.values() for it in zone), *(it for event in events for it in event), "END:VCALENDAR", ""]
     return "\r\n".join(lines).replace(f"ATTENDEE:{ROOM}", f"ATTENDEE;PARTSTAT=ACCEPTED:{ROOM}")
 
 

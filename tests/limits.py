@@ -17,10 +17,13 @@ from pathlib import Path
 from guide import PREAMBLE, R1, Cases, request, run, unfolded
 
 DATA = Path(__file__).resolve().parent.parent / "crates" / "worked_examples" / "data"
-# Objects that are cut short: a series in New York, and what an organiser stores; each with its preamble and what is answered to the whole.
+# Objects that are cut short: a series in New York, what an organiser stores, and both with whole days; each with its preamble and what is answered to the
+# whole.
 CUT = (
     ("a series", "preamble", "request-series-d", "accepted-series-d"),
     ("a store", "preamble-organiser", "store-s", "sent-s-0"),
+    ("whole days", "preamble", "request-lists-of-days", "accepted-a"),
+    ("a store of a whole day", "preamble-organiser", "store-s-whole-day", "sent-s-whole-day-0"),
 )
 BREAK = b"\r\n"
 FIRST = datetime(2025, 1, 1)

@@ -59,6 +59,7 @@ void *aligned_alloc(size_t align, size_t size) {
 """
 
 
+NEW_YORK = "-0500 -0400 11 1SU 0200 3 2SU 0200"
 # An object whose METHOD isn't read, and that has no VEVENT.
 REFUSED = b"BEGIN:VCALENDAR\r\nVERSION:2.0\r\nMETHOD:PUBLISH\r\nEND:VCALENDAR\r\n"
 
@@ -175,6 +176,9 @@ def main():
         kept, certificate = os.path.join(folder, "kept.ics"), os.path.join(folder, "kept.cert")
         open(kept, "wb").write(read("calendar-a"))
         open(certificate, "wb").write(read("certificate-1"))
+        days, days_certificate = os.path.join(folder, "days.ics"), os.path.join(folder, "days.cert")
+        open(days, "wb").write(read("calendar-day-of-new-york"))
+        open(days_certificate, "wb").write(read("certificate-3"))
         rows = [
             ("an accepted request", [program, "serve"], read("preamble", "request-a"), [b"", accepted]),
             ("a declined request", [program, "serve"], decline, [b"", accepted, accepted + declined]),
@@ -194,6 +198,12 @@ def main():
             ("a meeting that is called off", [program, "serve"], read("preamble-organiser", "store-s-cancelled"), [b"", read("called-off-s-0")]),
             ("a series in a zone that is stored", [program, "serve"], read("preamble-organiser", "store-s-series"), [b"", read("sent-s-series-3")]),
             ("a check", [program, "check", kept, certificate, room], b"", [b"", b"yes\n"]),
+            ("lists of whole days", [program, "serve"], read("preamble", "request-lists-of-days", "request-b-busy"), [b"", accepted, read("accepted-a", "declined-b-within-the-day")]),
+            ("their calendar", [program, "keep", room], read("preamble", "request-lists-of-days"), [b"", read("calendar-lists-of-days")]),
+            ("a store of times without zone", [program, "serve"], read("preamble-organiser", "store-s-without-zone"), [b"", read("sent-s-without-zone-0")]),
+            ("whole days of New York", [program, "expand", f"--zone={NEW_YORK}"], read("zoned-begin", "placed-11"), [b"", read("placed-11-days")]),
+            ("a check of whole days of New York", [program, "check", days, days_certificate, room], b"", [b"", b"yes\n"]),
+            ("words of no zone", [program, "expand", "--zone=noon"], b"", [b""], 2),
             ("a report", [program, "serve", "--report"], read("preamble", "request-a"), [b"", accepted]),
             ("an object that isn't refused", [program, "explain"], read("request-a"), [b"", b"not refused: a REQUEST\n"]),
             ("an object that is refused", [program, "explain"], REFUSED, [b"", b"refused 60 at line 3: METHOD\n" + meaning_of(program, 60)], 1),
