@@ -20,4 +20,5 @@ pub mod sweep_lemmas
 pub mod texts_lemmas
 pub mod when_lemmas
 pub mod whole_lemmas
+pub mod with_zone_lemmas
 pub mod zones_lemmas

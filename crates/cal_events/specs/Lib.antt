@@ -33,3 +33,4 @@ pub mod Masters
 pub mod OwnInstances
 pub mod LastStarts
 pub mod Seconds
+pub mod WithZone

@@ -30,6 +30,7 @@ mod texts;
 mod time;
 mod when;
 mod whole;
+mod with_zone;
 mod zones;
 
 pub use calendar::{Calendar, Singles};
@@ -53,3 +54,4 @@ pub use when::{Form, When, judge_time, one_zoned_time};
 pub use whole::{
     all_instances, all_starts, instances_last, known_by_start, listed_series, series_are_said,
 };
+pub use with_zone::zone_named_keeps;

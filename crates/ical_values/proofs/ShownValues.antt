@@ -8,7 +8,7 @@ use Rattle.profile.specs.series.Days.{IsDate, is_leap_year}
 use Rattle.profile.specs.text.Values.{two_digits, four_digits, SpellsDate, SpellsTime, WritesLocal, WritesStamp, WritesOffset}
 use Rattle.ical_lines.proofs.CleanLines.{is_shown, clean_shown, shown_append, shown_digit}
 
-shown_two : (n : ℕ) → n < 100 → list_all is_shown (two_digits n) ≡ true
+pub shown_two : (n : ℕ) → n < 100 → list_all is_shown (two_digits n) ≡ true
 shown_two n h = and_from _ _ (shown_digit (48 + n / 10) (omega arith, omega arith)) (and_from _ _ (shown_digit (48 + n % 10) (omega arith, omega arith)) refl)
 
 shown_four : (n : ℕ) → n ≤ 9999 → list_all is_shown (four_digits n) ≡ true

@@ -1,5 +1,5 @@
 -- What octets that an organiser wrote read back as: the message that they spell, and its parts.
-use Rattle.std.specs.Prelude.{◌≡◌, ◌↔◌, ◌∷◌, ◌++◌, filter, ℕ, ℤ, ◌<◌, ◌^◌, Bool, true, false, List, [], map, Option, Some, None}
+use Rattle.std.specs.Prelude.{◌≡◌, ◌↔◌, Contains, ◌∷◌, ◌++◌, filter, ℕ, ℤ, ◌<◌, ◌^◌, Bool, true, false, List, [], map, Option, Some, None}
 use Rattle.std.specs.List.{AllZip}
 use Rattle.std.specs.Str.{IsUtf8}
 use Rattle.profile.specs.checker.Calendars.{IsCalendarText, SayEvents}
@@ -13,7 +13,7 @@ use Rattle.profile.specs.events.Properties.{Form, Fixed, Floating, WholeDay}
 use Rattle.profile.specs.events.Events.{Event, SpellsEvent, is_master, is_override}
 use Rattle.profile.specs.events.Messages.{counted, Message, SpellsMessage}
 use Rattle.profile.specs.organisers.Organisers.{IsSeenOf, OrganiserBook, Stored}
-use Rattle.profile.specs.rooms.Messages.{AreAscending, AreParts, Content, IsContent, instants_in, may_take, slot_of}
+use Rattle.profile.specs.rooms.Messages.{AreAscending, AreParts, Content, IsContent, instants_in, is_in_dates, may_take, slot_of}
 use Rattle.profile.specs.rooms.Revisions.{Part, Slot, Whole, Cancelled, Revision}
 use Rattle.itip_messages.specs.Law.{IsReadAddress, IsTextValue, no_times, none_written}
 
@@ -106,6 +106,9 @@ pub record IsSaidAgain (IsSuch : Slot → Attendee → Attendee → Type 0) (rev
   pub additions : AreListedAgain event.written.additions said.written.additions
   pub exceptions : AreListedAgain (filter may_take event.written.exceptions) said.written.exceptions
   pub instants : AreOfWritten said.written said.recurrence said.additions said.exceptions
+  -- so it adds the same instants, and takes the same away where a start may be
+  pub added : (instant : ℤ) → Contains said.additions instant ↔ Contains event.additions instant
+  pub taken : (instant : ℤ) → Contains (filter is_in_dates said.exceptions) instant ↔ Contains (filter is_in_dates event.exceptions) instant
   pub summary : said.summary ≡ event.summary
   pub attendees : AllZip (IsSuch (slot_of event)) (counted event.attendees) said.attendees
   -- and the same lines say when both are

@@ -1,8 +1,8 @@
 -- An object's VEVENTs, what they say, and the calendar's entries.
 -- Cited by Draft::of_object of draft, read_events of reading.
-use Rattle.std.proofs.Common.{◌≡◌, ℕ, zero, ◌+◌, ◌<◌, true, false, cond, List, [], ◌∷◌, ◌++◌, length, map, filter, get_or, take, drop, subst, sym, refl, ap, ◌∙◌, arith, Option, None}
+use Rattle.std.proofs.Common.{◌≡◌, ℕ, zero, ◌+◌, ◌<◌, true, false, cond, codes, inr, List, [], ◌∷◌, ◌++◌, length, map, filter, get_or, take, drop, subst, sym, refl, ap, ◌∙◌, arith, Option, None}
 use Rattle.ical_lines.specs.Fault.{RefusesBy, RefusesOnly}
-use Rattle.std.specs.Prelude.{Contains}
+use Rattle.std.specs.Prelude.{Contains, Some, Result, Ok, Err, IfOk, IfErr}
 use Rattle.std.specs.List.{AllZip}
 use Rattle.std.proofs.lemmas.List.{map-append, take-append-drop, append-nil}
 use Rattle.std.proofs.lemmas.List.Elements.{Contains-append_right, filter_more, filter-append}
@@ -11,7 +11,11 @@ use Rattle.ical_lines.specs.declared.fault.Fault.TheVariants.{Refused, Memory}
 use Rattle.ical_tree.specs.Tree.{component_lines, tree_of}
 use Rattle.ical_tree.proofs.TreeOfLemmas.{tree_of-own}
 use Rattle.profile.specs.faults.Faults.{is_calendar_fault}
-use Rattle.profile.specs.series.RoomZones.{RoomZoneFault}
+use Rattle.profile.specs.series.RoomZones.{IsRoomZone, IsNoRoomZone, NamesRoomZone, RoomZoneFault}
+use Rattle.profile.specs.text.Lines.{line_value}
+use Rattle.profile.specs.events.Properties.{OccursAtMostOnce}
+use Rattle.cal_zones.specs.RoomZones.{room_of}
+use Rattle.cal_zones.specs.declared.room_zone.RoomZone.{RoomZone}
 use Rattle.ical_tree.specs.declared.component.Component.{Component}
 use Rattle.ical_tree.proofs.OneLine.{at_place}
 use Rattle.profile.specs.text.Trees.{Tree, vevents}
@@ -21,7 +25,7 @@ use Rattle.profile.specs.series.Zones.{Zone}
 use Rattle.profile.specs.checker.Calendars.{CalendarFault, in_event, in_zone}
 use Rattle.cal_events.specs.declared.component.EventComponent.{EventComponent}
 use Rattle.cal_events.specs.Component.{component_of, is_vevent}
-use Rattle.cal_events.proofs.shared_lemmas.EventLemmas.{push_zip}
+use Rattle.cal_events.proofs.shared_lemmas.EventLemmas.{push_zip, some_line}
 
 -- ---- the VEVENTs among some components
 
@@ -91,3 +95,17 @@ zone_refuses object (Refused r) (n, fault) =
 pub zone_number : (object : Component) (f : Fault) → RefusesBy (λ n. (n ≡ 44) × RoomZoneFault (component_lines object)) f → RefusesOnly is_calendar_fault f
 zone_number object Memory h = tt
 zone_number object (Refused r) (n, fault) = ap is_calendar_fault n
+
+-- the zone that its one line names
+pub room_named : (r : Result RoomZone Fault) (own : Lines) (line value : List ℕ) → OccursAtMostOnce (codes "X-ROOM-ZONE") own (Some line) → value ≡ line_value line
+    → IfOk r (λ x. IsRoomZone value (room_of x)) → IfOk r (λ x. NamesRoomZone own (room_of x))
+room_named (Ok x) own line value once is h =
+    (Some (room_of x), record { line = Some line; once = once; present = λ e. refl; is = subst (λ (v : List ℕ). IsRoomZone v (room_of x)) is h }, refl)
+room_named (Err f) own line value once is h = tt
+
+pub room_unnamed : (r : Result RoomZone Fault) (own : Lines) (line value : List ℕ) → OccursAtMostOnce (codes "X-ROOM-ZONE") own (Some line) → value ≡ line_value line
+    → IfErr r (RefusesBy (λ n. (n ≡ 44) × IsNoRoomZone value)) → IfErr r (RefusesBy (λ n. (n ≡ 44) × RoomZoneFault own))
+room_unnamed (Ok x) own line value once is h = tt
+room_unnamed (Err Memory) own line value once is h = tt
+room_unnamed (Err (Refused x)) own line value once is (n, none) =
+    (n, inr (some_line (codes "X-ROOM-ZONE") (λ l. IsNoRoomZone (line_value l)) own line once (subst IsNoRoomZone is none)))

@@ -58,7 +58,7 @@ version_wrong octets n c s h =
     let v : has_version (component_lines c) ≡ false = grind (arith, nat_tests) in
     subst (CalendarTextFault octets) (sym e) (no_version (tree_of c) (spells_tree 7 c (logical_lines octets) s) (ap has_version (tree_of-own c) ∙ v))
 
-no_object : (octets : List ℕ) (f : Fault) → IsRefusalOf false octets f → RefusesBy (CalendarTextFault octets) f
+pub no_object : (octets : List ℕ) (f : Fault) → IsRefusalOf false octets f → RefusesBy (CalendarTextFault octets) f
 no_object octets Memory h = tt
 no_object octets (Refused x) (inl h) = in_lines h
 no_object octets (Refused x) (inr (inl h)) = in_tree h

@@ -22,6 +22,7 @@ use Rattle.profile.specs.events.Properties.{Form, Fixed, Floating, WholeDay}
 use Rattle.itip_messages.proofs.body_lemmas.TimeLists.{of_form}
 use Rattle.profile.specs.written.WrittenZones.{IsZoneText}
 use Rattle.profile.specs.text.Values.{IsClockSeconds}
+use Rattle.cal_events.specs.MeetingComponents.{IsInEventDates}
 use Rattle.cal_events.proofs.shared_lemmas.EventLemmas.{push_zip}
 use Rattle.itip_messages.specs.Body.{AppendsListed, AppendsOthers, AppendsTimes, AreShowable, IsMidnight, IsShowable, crlf_lines, writes_as}
 use Rattle.itip_messages.proofs.shared_lemmas.CleanBodies.{Lines, crlf_both}
@@ -141,3 +142,7 @@ pub showable_clock : (form : Form) (t : ℤ) → IsShowable form t → IsClockSe
 showable_clock Fixed t h = h
 showable_clock Floating t h = h
 showable_clock WholeDay t h = h.0
+
+-- an instant that an event may name can be written as a stamp
+pub clock_named : (t : ℤ) → IsInEventDates t → IsClockSeconds t
+clock_named t n = (omega (arith, ints, n.0), omega (arith, ints, n.1))

@@ -1,16 +1,16 @@
 -- An event that is said again has the same content.
 -- Behind requests_read_back, shown_reads_back.
-use Rattle.std.proofs.Common.{◌≡◌, ◌∙◌, refl, sym, ap, subst, inl, inr, arith, ℤ, zero, suc, Bool, true, false, cond, List, [], ◌∷◌, ◌++◌, ℕ, codes, filter, map, append-nil}
+use Rattle.std.proofs.Common.{◌≡◌, ◌∙◌, refl, sym, ap, subst, inl, inr, arith, ℤ, zero, suc, Bool, true, false, not, ◌||◌, cond, List, [], ◌∷◌, ◌++◌, ℕ, codes, filter, map, append-nil}
 use Rattle.std.specs.Prelude.{◌↔◌, Contains}
 use Rattle.std.proofs.lemmas.List.{map-append}
 use Rattle.std.proofs.lemmas.List.Elements.{Contains-append_cases, filter-append}
-use Rattle.profile.specs.events.EventComponents.{EventComponent}
-use Rattle.profile.specs.events.Properties.{BothOrNeither, Form, Fixed, Floating, WholeDay}
+use Rattle.profile.specs.events.EventComponents.{EventComponent, instants_of}
+use Rattle.profile.specs.events.Properties.{BothOrNeither, Form, Fixed, Floating, WholeDay, is_fixed, is_floating, is_whole_day}
 use Rattle.profile.specs.events.Occurrences.{Time}
 use Rattle.profile.specs.events.ZonedTimes.{EventTimes, SpellsMidnight, clock_of}
-use Rattle.profile.specs.rooms.Messages.{AreAscending, Content, IsContent, IsZoneRest, StartsIn, WritesListed, WritesRule, WritesTimes, instants_in, is_of_form, may_take}
+use Rattle.profile.specs.rooms.Messages.{AreAscending, Content, IsContent, IsZoneRest, StartsIn, WritesListed, WritesRule, WritesTimes, instants_in, is_in_dates, is_of_form, may_take}
 use Rattle.profile.specs.text.Values.{WritesLocal, WritesStamp, duration_text}
-use Rattle.cal_events.proofs.shared_lemmas.InOneOrder.{of_filtered, of_mapped}
+use Rattle.cal_events.proofs.shared_lemmas.InOneOrder.{in_filtered, in_mapped, of_filtered, of_mapped}
 use Rattle.itip_messages.specs.SentLaw.{AreListedAgain, time_as, times_again}
 use Rattle.itip_messages.proofs.body_lemmas.TimeLists.{of_form}
 
@@ -93,6 +93,45 @@ again_same times again a Fixed = ascending_same (instants_in Fixed times) a.fixe
 again_same times again a Floating = ascending_same (instants_in Floating times) a.floating (instants_in Floating again) a.local (ap (instants_in Floating) a.are ∙ floating_again a.fixed a.floating a.days)
 again_same times again a WholeDay = ascending_same (instants_in WholeDay times) a.days (instants_in WholeDay again) a.dates (ap (instants_in WholeDay) a.are ∙ days_again a.fixed a.floating a.days)
 
+-- ---- their instants, whatever the form
+
+form_itself : (time : Time) → is_of_form time.form time ≡ true
+form_itself time = by time.form refl
+  where
+    by : (form : Form) → time.form ≡ form → is_of_form form time ≡ true
+    by Fixed e = ap is_fixed e
+    by Floating e = ap is_floating e
+    by WholeDay e = ap is_whole_day e
+
+in_some_form : (xs ys : List Time) → SameTimes xs ys → (t : ℤ) → Contains (instants_of xs) t → Contains (instants_of ys) t
+in_some_form xs ys same t c =
+    let at = of_mapped (λ (time : Time). time.instant) xs t c in
+    let form = at.0.form in
+    let own = in_mapped (λ (time : Time). time.instant) (filter (is_of_form form) xs) at.0 (in_filtered (is_of_form form) xs at.0 at.1 (form_itself at.0)) in
+    let other = of_mapped (λ (time : Time). time.instant) (filter (is_of_form form) ys) t ((same form t).0 (subst (Contains (instants_in form xs)) at.2 own)) in
+    subst (Contains (instants_of ys)) other.2 (in_mapped (λ (time : Time). time.instant) ys other.0 (of_filtered (is_of_form form) ys other.0 other.1).0)
+
+-- those that are said again have the same instants
+pub same_instants : (times again : List Time) → AreListedAgain times again → (t : ℤ) → Contains (instants_of times) t ↔ Contains (instants_of again) t
+same_instants times again a t =
+    let same = again_same times again a in (in_some_form times again same t, in_some_form again times (swapped times again same) t)
+
+-- those that may take a start away are among all, and those where a start may be are among them
+pub takes_some : (times : List Time) (t : ℤ) → Contains (instants_of (filter may_take times)) t → Contains (instants_of times) t
+takes_some times t c =
+    let at = of_mapped (λ (time : Time). time.instant) (filter may_take times) t c in
+    subst (Contains (instants_of times)) at.2 (in_mapped (λ (time : Time). time.instant) times at.0 (of_filtered may_take times at.0 at.1).0)
+
+pub takes_dated : (times : List Time) (t : ℤ) → Contains (instants_of times) t → is_in_dates t ≡ true → Contains (instants_of (filter may_take times)) t
+takes_dated times t c h =
+    let at = of_mapped (λ (time : Time). time.instant) times t c in
+    let takes : may_take at.0 ≡ true = either (not (is_fixed at.0.form)) (is_in_dates at.0.instant) (ap is_in_dates at.2 ∙ h) in
+    subst (Contains (instants_of (filter may_take times))) at.2 (in_mapped (λ (time : Time). time.instant) (filter may_take times) at.0 (in_filtered may_take times at.0 at.1 takes))
+  where
+    either : (a b : Bool) → b ≡ true → a || b ≡ true
+    either true b e = refl
+    either false b e = e
+
 -- what was cut to those that may take a start away, and is cut to them again
 all_kept : {X : Type 0} (p : X → Bool) (xs : List X) → ((x : X) → Contains xs x → p x ≡ true) → filter p xs ≡ xs
 all_kept p [] f = refl
@@ -119,6 +158,28 @@ dates_same xs ys a =
     (λ time c. of_again a.fixed a.floating a.days (λ t. may_take t ≡ true) (λ i d. may_each Fixed xs i ((a.in_utc.exact i).0 d)) (λ i d. may_each Floating xs i ((a.local.exact i).0 d)) (λ i d. may_each WholeDay xs i ((a.dates.exact i).0 d))
     time (subst (λ (l : List Time). Contains l time) a.are c)) in
     subst (SameTimes (filter may_take xs)) (sym kept) (again_same (filter may_take xs) ys a)
+
+-- so an event that is said again adds the same instants, and takes the same away where a start may be
+pub added_same : (times again : List Time) (added back : List ℤ) → AreListedAgain times again → added ≡ instants_of times → back ≡ instants_of again → (t : ℤ) → Contains back t ↔ Contains added t
+added_same times again added back a e f t =
+    let same = same_instants times again a t in (
+      λ c. subst (λ (l : List ℤ). Contains l t) (sym e) (same.1 (subst (λ (l : List ℤ). Contains l t) f c)),
+      λ c. subst (λ (l : List ℤ). Contains l t) (sym f) (same.0 (subst (λ (l : List ℤ). Contains l t) e c)),
+    )
+
+pub taken_same : (times again : List Time) (taken back : List ℤ) → AreListedAgain (filter may_take times) again → taken ≡ instants_of times → back ≡ instants_of again
+    → (t : ℤ) → Contains (filter is_in_dates back) t ↔ Contains (filter is_in_dates taken) t
+taken_same times again taken back a e f t =
+    let same = same_instants (filter may_take times) again a t in (
+      λ c.
+          let at = of_filtered is_in_dates back t c in
+          let among = takes_some times t (same.1 (subst (λ (l : List ℤ). Contains l t) f at.0)) in
+          in_filtered is_in_dates taken t (subst (λ (l : List ℤ). Contains l t) (sym e) among) at.1,
+      λ c.
+          let at = of_filtered is_in_dates taken t c in
+          let among = same.0 (takes_dated times t (subst (λ (l : List ℤ). Contains l t) e at.0) at.1) in
+          in_filtered is_in_dates back t (subst (λ (l : List ℤ). Contains l t) (sym f) among) at.1,
+    )
 
 abbrev WritesSame : EventComponent → EventComponent → Type 0
 WritesSame event other = (lines : Lines) → WritesRule event.times.form (clock_of event.times.zone) event.rule lines → WritesRule event.times.form (clock_of event.times.zone) other.rule lines

@@ -25,7 +25,7 @@ use Rattle.itip_messages.proofs.shared_lemmas.CleanText.{clean_address}
 use Rattle.itip_messages.proofs.shared_lemmas.CleanUids.{clean_text}
 use Rattle.itip_messages.proofs.shared_lemmas.ObjectTree.{Lines, vevent_lines}
 use Rattle.itip_messages.proofs.shared_lemmas.ReplyLines.{AreOwn}
-use Rattle.itip_messages.proofs.sent_law_lemmas.SentContents.{same_content}
+use Rattle.itip_messages.proofs.sent_law_lemmas.SentContents.{added_same, same_content, taken_same}
 use Rattle.itip_messages.proofs.shared_lemmas.OwnLines.{SpellPart, SpellSlot, event_again, own_front, own_lines, own_says, slot_lines, when_lines}
 use Rattle.itip_messages.proofs.sent_law_lemmas.SentBehind.{IsAttendeeText, behind_own, behind_says, own_back}
 use Rattle.itip_messages.proofs.shared_lemmas.SentTexts.{text_of}
@@ -78,7 +78,7 @@ counted_among (b ∷ more) a c = elim (in_cons b _ a c) [
 
 -- ---- what is listed
 
-listed_again : (name : List ℕ) (times : List Time) (lines : Lines) (w : WritesListed name times lines) → AreListedAgain times (back_times name times lines w)
+pub listed_again : (name : List ℕ) (times : List Time) (lines : Lines) (w : WritesListed name times lines) → AreListedAgain times (back_times name times lines w)
 listed_again name times lines w = record {
   fixed = w.in_utc.ascending;
   floating = w.local.ascending;
@@ -154,6 +154,12 @@ module _ (word : Option (List ℕ)) (IsLine : Slot → Attendee → List ℕ →
           additions = listed_again (codes "RDATE") event.written.additions c.additions w.adds;
           exceptions = listed_again (codes "EXDATE") (filter may_take event.written.exceptions) c.exceptions w.takes;
           instants = record { slot = instant_back event.recurrence; added = refl; taken = refl };
+          added =
+              added_same event.written.additions (back_times (codes "RDATE") event.written.additions c.additions w.adds) event.additions said.additions (listed_again (codes "RDATE") event.written.additions c.additions w.adds) f.instants.added
+              refl;
+          taken =
+              taken_same event.written.exceptions (back_times (codes "EXDATE") (filter may_take event.written.exceptions) c.exceptions w.takes) event.exceptions said.exceptions
+              (listed_again (codes "EXDATE") (filter may_take event.written.exceptions) c.exceptions w.takes) f.instants.taken refl;
           summary = refl;
           attendees = a.2;
           content = same_content event said refl (listed_again (codes "RDATE") event.written.additions c.additions w.adds) (listed_again (codes "EXDATE") (filter may_take event.written.exceptions) c.exceptions w.takes) rule.writes;

@@ -14,7 +14,7 @@ use Rattle.profile.specs.text.Trees.{Tree, tree_inside, tree_name, tree_own, vev
 use Rattle.profile.specs.rooms.Revisions.{Revision}
 use Rattle.profile.specs.text.Values.{IsUid}
 use Rattle.profile.specs.series.Zones.{IsOneMeaning}
-use Rattle.profile.specs.events.EventComponents.{Attendee, EventComponent, IsAttendee, SaysEventComponent, first_text, meeting_said, Method, Store}
+use Rattle.profile.specs.events.EventComponents.{AreOfWritten, Attendee, EventComponent, IsAttendee, SaysEventComponent, first_text, meeting_said, Method, Store}
 use Rattle.profile.specs.events.Events.{InstancesDiffer, is_master, is_override, taken_by}
 use Rattle.profile.specs.events.Properties.{Fixed, BothOrNeither, IsAddressLine, IsUidLine, Says, OccursAtMostOnce, is_of, lines_named}
 use Rattle.profile.specs.events.ZonedTimes.{EventTimes, SaysTimes, clock_of}
@@ -50,6 +50,7 @@ pub record IsStored (organiser uid : List ℕ) (event : EventComponent) : Type 0
   pub zone : IsSaid event.times.zone
   -- an instance is named by a fixed time
   pub slot : event.written.recurrence ≡ option_map (time_as Fixed) event.recurrence
+  pub instants : AreOfWritten event.written event.recurrence event.additions event.exceptions
 
 -- all of them
 pub record AreStored (organiser uid : List ℕ) (events : List EventComponent) : Type 0 where
@@ -134,6 +135,7 @@ stored_one object lines event organiser uid clean s meeting =
       dated = sound.names;
       zone = zone_said object lines event.times s.times;
       slot = fixed_slot event.written.recurrence event.recurrence s.occurrences.fixed_recurrence s.instants.slot;
+      instants = s.instants;
     }
 
 -- ---- all of them

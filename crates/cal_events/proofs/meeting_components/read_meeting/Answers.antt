@@ -12,8 +12,8 @@ use Rattle.cal_events.proofs.meeting_components.read_meeting.Goals as goal
 pub returns-clause-says : goal.returns-clause-says
 returns-clause-says c =
     let object = c.args.object.now in
-    meeting_written _ (tree_of object) (method_read c.args.method) (vevents_of object) (room_of c.utc-2.utc) c.utc-2.ensures.zone c.read_meeting_in.ensures.says
+    meeting_written _ (tree_of object) (method_read c.args.method) (vevents_of object) (room_of c.utc-utc.result) c.utc-utc.ensures.zone c.read_meeting_in.ensures.says
 
 pub returns-clause-fault : goal.returns-clause-fault
 returns-clause-fault c =
-    subst (λ (r : Option Zone). IfErr c.read_meeting_in.result (RefusesBy (EventFault r (tree_of c.args.object.now) (method_read c.args.method)))) c.utc-2.ensures.zone c.read_meeting_in.ensures.fault
+    subst (λ (r : Option Zone). IfErr c.read_meeting_in.result (RefusesBy (EventFault r (tree_of c.args.object.now) (method_read c.args.method)))) c.utc-utc.ensures.zone c.read_meeting_in.ensures.fault

@@ -1,6 +1,6 @@
 use Rattle.std.proofs.Common.{◌∙◌, sym, subst, refl, Option, List, ℕ, Bor, arith}
 use Rattle.std.proofs.lemmas.Bool.Decides.{nat_tests}
-use Rattle.ical_lines.proofs.FirstLineLemmas.{IsBefore, before_start, before_step, before_end, before_none}
+use Rattle.ical_lines.proofs.FirstLineLemmas.{IsBefore, before_start, before_step, before_end}
 use Rattle.ical_lines.proofs.first_line.first_line_end.Goals as goal
 
 pub loop-left-init : goal.loop-left-init

@@ -10,7 +10,7 @@ use Rattle.profile.specs.events.Occurrences.{OccurrenceFault, entries_named, Ent
 use Rattle.profile.specs.events.EventRules.{EventRuleFault}
 use Rattle.profile.specs.events.ZonedTimes.{EventTimesFault}
 use Rattle.cal_events.specs.Component.{method_read, times_of, time_of, written_of}
-use Rattle.cal_events.specs.declared.occurrences.Time.{Time}
+use Rattle.cal_events.specs.declared.time.Time.{Time}
 use Rattle.cal_events.specs.Zoned.{AreSaidBy}
 use Rattle.cal_events.specs.Zones.{object_of}
 use Rattle.cal_events.proofs.shared_lemmas.OneInstance.{times_sound}

@@ -1,0 +1,31 @@
+use Rattle.std.proofs.Common.{false, subst, List, ℕ}
+use Rattle.ical_lines.specs.Fault.{RefusesBy}
+use Rattle.ical_tree.specs.Tree.{IsObjectOf}
+use Rattle.ical_tree.proofs.RefusalLemmas.{text_refuses, tree_refuses}
+use Rattle.ical_values.proofs.Exits.{err_exit}
+use Rattle.cal_events.specs.WithZone.{WithZoneFault}
+use Rattle.cal_events.proofs.with_zone_lemmas.Places.{no_text, line_object, named_object, unnamed_object}
+use Rattle.cal_events.proofs.with_zone.zone_place.Goals as goal
+
+pub returns-in_err-text-clause-fault : goal.returns-in_err-text-clause-fault
+returns-in_err-text-clause-fault c =
+    let octets = c.args.bytes.now in
+    err_exit c.from_residual.result (RefusesBy (WithZoneFault octets)) c.in_err-text.field-0.0 c.from_residual.ensures.1 (no_text octets c.in_err-text.field-0.0 (text_refuses false octets _ c.in_err-text.ensures.fault) (line_object c.in_err-text.field-0.0 c.in_err-text.ensures.refuses))
+
+pub returns-in_err-object-clause-fault : goal.returns-in_err-object-clause-fault
+returns-in_err-object-clause-fault c =
+    let octets = c.args.bytes.now in
+    err_exit c.from_residual-in_err-object.result (RefusesBy (WithZoneFault octets)) c.in_err-object.field-0.0 c.from_residual-in_err-object.ensures.1
+    (no_text octets c.in_err-object.field-0.0 (tree_refuses false octets _ _ c.in_ok-text.ensures.lines c.in_err-object.ensures.fault) c.in_err-object.ensures.refuses)
+
+pub returns-in_err-judge_unnamed-clause-fault : goal.returns-in_err-judge_unnamed-clause-fault
+returns-in_err-judge_unnamed-clause-fault c =
+    let octets = c.args.bytes.now in
+    let object = subst (λ (ls : List (List ℕ)). IsObjectOf false c.in_ok-object.object ls) c.in_ok-text.ensures.lines c.in_ok-object.ensures.spelled in
+    err_exit c.from_residual-in_err-judge_unnamed.result (RefusesBy (WithZoneFault octets)) c.in_err-judge_unnamed.field-0.0 c.from_residual-in_err-judge_unnamed.ensures.1
+    (named_object octets c.in_ok-object.object c.in_err-judge_unnamed.field-0.0 object c.in_err-judge_unnamed.ensures.fault)
+
+pub returns-clause-unnamed : goal.returns-clause-unnamed
+returns-clause-unnamed c =
+    let object = subst (λ (ls : List (List ℕ)). IsObjectOf false c.in_ok-object.object ls) c.in_ok-text.ensures.lines c.in_ok-object.ensures.spelled in
+    unnamed_object c.one_tree.ensures.one c.args.bytes.now c.in_ok-object.object object c.in_ok-judge_unnamed.ensures.unnamed

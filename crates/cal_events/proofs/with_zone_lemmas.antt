@@ -1,0 +1,4 @@
+pub mod OtherTree
+pub mod Worded
+pub mod Named
+pub mod Places
