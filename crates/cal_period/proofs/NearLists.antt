@@ -7,7 +7,7 @@ use Rattle.std.proofs.lemmas.Bool.{cases_lt}
 use Rattle.std.proofs.lemmas.List.Elements.{Contains-push, Contains-append_left}
 use Rattle.std.specs.Prelude.{Contains, Option, Some, None, option_map, is_some}
 use Rattle.profile.specs.checker.Instances.{Instance as SaidInstance}
-use Rattle.profile.specs.series.Zones.{Zone, Onset, IsZoneOnset}
+use Rattle.profile.specs.series.Zones.{Zone, IsZoneOnset}
 use Rattle.profile.specs.events.Events.{Event}
 use Rattle.profile.specs.events.Properties.{first_second}
 use Rattle.profile.specs.events.Starts.{IsInstance, IsFirstSharer, SharesInstant}
