@@ -75,8 +75,8 @@ module _ (stamp : HasOneForm WritesStamp) (local : HasOneForm WritesLocal) (offs
   one_start : (form : Form) (zone : Option Zone) (times : EventTimes) (x y : List ℕ) → StartsIn form zone times x → StartsIn form zone times y → x ≡ y
   one_start Fixed None times x y (t, v, e) (u, w, f) = e ∙ ap (λ (s : List ℕ). codes "DTSTART:" ++ s) (stamp t u times.start v w) ∙ sym f
   one_start Fixed (Some zone) times x y (t, v, e) (u, w, f) = e ∙ ap (λ (s : List ℕ). codes "DTSTART;TZID=Z:" ++ s) (local t u times.local v w) ∙ sym f
-  one_start Floating zone times x y (t, v, e) (u, w, f) = e ∙ ap (λ (s : List ℕ). codes "DTSTART:" ++ s) (local t u times.local v w) ∙ sym f
-  one_start WholeDay zone times x y (t, v, e) (u, w, f) = e ∙ ap (λ (s : List ℕ). codes "DTSTART;VALUE=DATE:" ++ s) (one_midnight t u times.local v w) ∙ sym f
+  one_start Floating _ times x y (t, v, e) (u, w, f) = e ∙ ap (λ (s : List ℕ). codes "DTSTART:" ++ s) (local t u times.local v w) ∙ sym f
+  one_start WholeDay _ times x y (t, v, e) (u, w, f) = e ∙ ap (λ (s : List ℕ). codes "DTSTART;VALUE=DATE:" ++ s) (one_midnight t u times.local v w) ∙ sym f
 
   one_times : (Writes : List ℕ → ℤ → Type 0) → HasOneForm Writes → (name : List ℕ) (instants : List ℤ) (x y : Lines) → WritesTimes Writes name instants x → WritesTimes Writes name instants y → x ≡ y
   one_times Writes one name instants x y v w =

@@ -51,9 +51,9 @@ all_once (time ∷ times) (t ∷ instants) z = let first = at_once time.form tim
 -- ---- the start
 
 form_zone : (object : Tree) (name : Option (List ℕ)) (text : List ℕ) (form : Form) (zone : Option Zone) (local : ℤ) → SpellsForm object name text form zone local → zone_in None form zone ≡ zone
-form_zone object name text Fixed zone local s = refl
-form_zone object name text Floating zone local s = sym s.1
-form_zone object name text WholeDay zone local s = sym s.1
+form_zone object name text Fixed _ local s = refl
+form_zone object name text Floating _ local s = sym s.1
+form_zone object name text WholeDay _ local s = sym s.1
 
 fixed_zone : (form : Form) (zone : Option Zone) → form ≡ Fixed → zone_in None form zone ≡ zone
 fixed_zone form zone e = ap (λ (f : Form). zone_in None f zone) e
