@@ -1,9 +1,9 @@
 -- An event that is said again takes place as the event does: the instances of one are those of the other, those of its series too. Behind
 -- schedules_hold.
-use Rattle.std.proofs.Common.{◌≡◌, ◌∙◌, ℤ, Bool, true, false, not, ◌||◌, List, [], filter, Option, Some, None, inl, inr, refl, sym, ap, subst, ◌⊎◌}
+use Rattle.std.proofs.Common.{◌≡◌, ◌∙◌, ℤ, true, not, List, [], filter, Option, Some, None, inl, inr, refl, sym, ap, subst, ◌⊎◌}
 use Rattle.std.specs.Prelude.{◌↔◌, Contains, is_some, unwrap_or}
 use Rattle.profile.specs.checker.Instances.{Instance}
-use Rattle.profile.specs.events.EventComponents.{AreOfWritten, Attendee, EventComponent, instants_of, meeting_said}
+use Rattle.profile.specs.events.EventComponents.{Attendee, EventComponent, instants_of, meeting_said}
 use Rattle.profile.specs.events.Events.{is_master}
 use Rattle.profile.specs.events.Confirmed.{IsOfSeries, alone}
 use Rattle.profile.specs.events.Occurrences.{Time}
@@ -18,6 +18,7 @@ use Rattle.cal_events.proofs.shared_lemmas.OwnSingles.{IsAtStart, IsItself, mast
 use Rattle.itip_messages.proofs.body_lemmas.TimeLists.{start_dates}
 use Rattle.itip_messages.proofs.sent_law_lemmas.SentContents.{again_same}
 use Rattle.itip_messages.specs.SentLaw.{IsSaidAgain, IsSameRule}
+use Rattle.room_books.proofs.laws_lemmas.KeptTimes.{IsAsWritten, SameInstants, taken_in, taken_of}
 
 -- ---- rules of the same days
 
@@ -57,30 +58,16 @@ in_form times t c =
     let one = in_filtered (is_of_form time.form) times time among (own_form time.form time refl) in
     (time.form, subst (Contains (instants_in time.form times)) is (in_mapped (λ (w : Time). w.instant) (filter (is_of_form time.form) times) time one))
 
--- those that pass a test are among all
-of_passing : (test : Time → Bool) (times : List Time) (t : ℤ) → Contains (instants_of (filter test times)) t → Contains (instants_of times) t
-of_passing test times t c =
-    let (time, among, is) = of_mapped (λ (w : Time). w.instant) (filter test times) t c in
-    subst (Contains (instants_of times)) is (in_mapped (λ (w : Time). w.instant) times time (of_filtered test times time among).0)
+of_form : (form : Form) (times : List Time) (t : ℤ) → Contains (instants_in form times) t → Contains (instants_of times) t
+of_form form times t c =
+    let (time, among, is) = of_mapped (λ (w : Time). w.instant) (filter (is_of_form form) times) t c in
+    subst (Contains (instants_of times)) is (in_mapped (λ (w : Time). w.instant) times time (of_filtered (is_of_form form) times time among).0)
 
-same_instants : (xs ys : List Time) → ((form : Form) (t : ℤ) → Contains (instants_in form xs) t ↔ Contains (instants_in form ys) t) → (t : ℤ)
-    → Contains (instants_of xs) t ↔ Contains (instants_of ys) t
+same_instants : (xs ys : List Time) → ((form : Form) (t : ℤ) → Contains (instants_in form xs) t ↔ Contains (instants_in form ys) t) → SameInstants xs ys
 same_instants xs ys same t = (
-  λ c. let (form, d) = in_form xs t c in of_passing (is_of_form form) ys t ((same form t).0 d),
-  λ c. let (form, d) = in_form ys t c in of_passing (is_of_form form) xs t ((same form t).1 d),
+  λ c. let (form, d) = in_form xs t c in of_form form ys t ((same form t).0 d),
+  λ c. let (form, d) = in_form ys t c in of_form form xs t ((same form t).1 d),
 )
-
-or_true : (b : Bool) → (b || true) ≡ true
-or_true true = refl
-or_true false = refl
-
--- each where a start may be may take one away
-may_in_dates : (times : List Time) (t : ℤ) → is_in_dates t ≡ true → Contains (instants_of times) t → Contains (instants_of (filter may_take times)) t
-may_in_dates times t dated c =
-    let (time, among, is) = of_mapped (λ (w : Time). w.instant) times t c in
-    let there = ap (λ b. not (is_fixed time.form) || b) (ap is_in_dates is ∙ dated) ∙ or_true (not (is_fixed time.form)) in
-    subst (Contains (instants_of (filter may_take times))) is
-    (in_mapped (λ (w : Time). w.instant) (filter may_take times) time (in_filtered may_take times time among there))
 
 -- ---- an event, and the same said again
 
@@ -114,7 +101,7 @@ module _ (IsSuch : Slot → Attendee → Attendee → Type 0) (revision : Revisi
 
   -- ---- where its instants are those of what is written
 
-  module _ (w : AreOfWritten event.written event.recurrence event.additions event.exceptions) where
+  module _ (w : IsAsWritten event) where
     -- what one adds the other adds
     added : (t : ℤ) → Contains event.additions t ↔ Contains said.additions t
     added t =
@@ -126,18 +113,18 @@ module _ (IsSuch : Slot → Attendee → Attendee → Type 0) (revision : Revisi
     abbrev kept : List Time
     kept = filter may_take event.written.exceptions
 
-    taken : (t : ℤ) → Contains (instants_of kept) t ↔ Contains (instants_of said.written.exceptions) t
-    taken t = same_instants kept said.written.exceptions (again_same kept said.written.exceptions s.exceptions) t
+    taken : SameInstants kept said.written.exceptions
+    taken = same_instants kept said.written.exceptions (again_same kept said.written.exceptions s.exceptions)
 
     still_taken : (t : ℤ) → Contains said.exceptions t → Contains event.exceptions t
     still_taken t c =
         let there = (taken t).1 (subst (λ (l : List ℤ). Contains l t) s.instants.taken c) in
-        subst (λ (l : List ℤ). Contains l t) (sym w.taken) (of_passing may_take event.written.exceptions t there)
+        subst (λ (l : List ℤ). Contains l t) (sym w.taken) (taken_of event.written.exceptions t there)
 
     -- where a start may be
     taken_again : (t : ℤ) → is_in_dates t ≡ true → Contains event.exceptions t → Contains said.exceptions t
     taken_again t dated c =
-        let there = may_in_dates event.written.exceptions t dated (subst (λ (l : List ℤ). Contains l t) w.taken c) in
+        let there = taken_in event.written.exceptions t dated (subst (λ (l : List ℤ). Contains l t) w.taken c) in
         subst (λ (l : List ℤ). Contains l t) (sym s.instants.taken) ((taken t).0 there)
 
     start_to : (t : ℤ) → IsStart event [] t → IsStart said [] t

@@ -8,8 +8,7 @@ use Rattle.std.proofs.lemmas.Bool.{true≢false}
 use Rattle.std.proofs.lemmas.Slice.Eq.{bytes_eq-Decides}
 use Rattle.profile.specs.checker.Calendars.{IsCalendarText, SayEvents}
 use Rattle.profile.specs.events.Confirmed.{AreApart, AreOfRule}
-use Rattle.profile.specs.events.EventComponents.{Accepted, AreOfWritten, Attendee, Declined, Delegated, EventComponent, Method, NeedsAction, Participation, SaysEventComponent, Tentative, has_accepted, is_accepted}
-use Rattle.profile.specs.events.Events.{taken_by}
+use Rattle.profile.specs.events.EventComponents.{Accepted, Attendee, Declined, Delegated, EventComponent, NeedsAction, Participation, Tentative, has_accepted, is_accepted}
 use Rattle.profile.specs.events.Messages.{AreOfMeeting, counted}
 use Rattle.profile.specs.organisers.Organisers.{IsSeenOf, ShowsSeen, Stored, is_attendee, last_store}
 use Rattle.profile.specs.organisers.Sent.{IsMeetingText}
@@ -25,6 +24,7 @@ use Rattle.cal_zones.proofs.OneRoomZone.{one_room_zone}
 use Rattle.itip_messages.specs.SentLaw.{HasAnswered, IsSaidAgain, IsSentAs}
 use Rattle.itip_messages.proofs.sent_law_lemmas.SentEvents.{counted_among}
 use Rattle.itip_order.proofs.Lists.{any_from}
+use Rattle.room_books.proofs.laws_lemmas.KeptTimes.{IsAsWritten, taken_written}
 use Rattle.sched_laws.proofs.law_lemmas.Booked.{IsBookedFor, booked_for}
 use Rattle.sched_laws.proofs.law_lemmas.ClaimFacts.{claim_facts, found_among}
 use Rattle.sched_laws.proofs.law_lemmas.Invariant.{IsSound}
@@ -120,7 +120,7 @@ seen_accepting world octets text room event said among again accepted =
 pub record IsOfBooked (world : World) (octets : List ℕ) (text : IsShownText world octets) (room : Hosted) (said : EventComponent) : Type 0 where
   pub event : EventComponent
   pub among : Contains text.stored.events event
-  pub written : AreOfWritten event.written event.recurrence event.additions event.exceptions
+  pub written : IsAsWritten event
   pub again : IsSaidAgain (HasAnswered text.host.book text.stored) text.stored.revision event said
   pub named : is_attendee room.address text.stored.events ≡ true
   pub booked : IsBookedFor text.host.address text.stored room (slot_of event)
@@ -134,7 +134,7 @@ pub record IsOfStored (stored : Stored) : Type 0 where
   pub organiser : List ℕ
   pub uid : List ℕ
   pub are : AreOfMeeting organiser uid stored.events
-  pub written : (event : EventComponent) → Contains stored.events event → AreOfWritten event.written event.recurrence event.additions event.exceptions
+  pub written : (event : EventComponent) → Contains stored.events event → IsAsWritten event
 
 pub stored_meeting : (rooms organisers : List (List ℕ)) (world : World) → IsSound rooms organisers world → (octets : List ℕ) (text : IsShownText world octets) → IsOfStored text.stored
 stored_meeting rooms organisers world sound octets text =
@@ -145,10 +145,8 @@ stored_meeting rooms organisers world sound octets text =
       are = subst (AreOfMeeting store.said.organiser store.said.uid) (sym store.events) store.spells.says.are;
       written = λ event c.
           let m = store.spells.says in
-          let same : text.stored.events ≡ m.events = store.events ∙ m.taken ∙ ap (λ (method : Method). taken_by (Some method) m.events) store.store in
-          let SaysOne : List (List ℕ) → EventComponent → Type 0 = SaysEventComponent store.spells.tree (Some store.said.method) in
-          let (lines, there, says) = zip_back SaysOne (vevents store.spells.tree) m.events event m.says (subst (λ (l : List EventComponent). Contains l event) same c) in
-          says.instants;
+          taken_written store.spells.tree store.said.method (vevents store.spells.tree) m.events event m.says
+          (subst (λ (l : List EventComponent). Contains l event) (store.events ∙ m.taken) c);
     }
 
 pub of_booked : Laws → (rooms organisers : List (List ℕ)) (world : World) → IsSound rooms organisers world → (octets : List ℕ) (text : IsShownText world octets)
