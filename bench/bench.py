@@ -175,6 +175,15 @@ def requests(count, rooms=1):
         yield crlf(REQUEST.format(number=number, room=room, start=stamp(number), extra=""))
 
 
+def whole_days(count):
+    """A stream of requests of one room, each of a whole day, one day after another."""
+    yield preamble(1)
+    for number in range(count):
+        day = (FIRST + timedelta(days=number)).strftime("%Y%m%d")
+        text = REQUEST.replace("DTSTART:{start}\nDURATION:PT1H", "DTSTART;VALUE=DATE:{start}")
+        yield crlf(text.format(number=number, room=ROOM.format(0), start=day, extra=""))
+
+
 def declines(count):
     """A request that is accepted, and so many others onto its time."""
     yield preamble(1)
@@ -552,6 +561,7 @@ def main():
     grown("requests for one room", (1_000, 10_000), lambda count: serve(program, requests(count), count), None)
     for rooms in (16, 50):
         grown(f"the same requests over {rooms} rooms", (1_000, 10_000), lambda count: serve(program, requests(count, rooms), count), None)
+    grown("requests of a whole day each", (1_000, 10_000), lambda count: serve(program, whole_days(count), count), None)
     grown("requests onto one busy time", (6_000, 60_000), lambda count: serve(program, declines(count), 1), None)
     revised = lambda count: serve(program, revisions(count), MEETINGS + count // 2)
     grown(f"revisions of {MEETINGS:,} meetings", (10_000, 100_000), revised, None)

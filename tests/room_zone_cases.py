@@ -12,6 +12,8 @@ SYDNEY = "+1000 +1100 4 1SU 0300 10 1SU 0200"
 LORD_HOWE = "+1030 +1100 4 1SU 0200 10 1SU 0200"
 # what is called standard there is an hour more, and holds in summer
 DUBLIN = "+0100 +0000 3 -1SU 0100 10 -1SU 0200"
+# the clocks skip the midnight of a day in March
+HAVANA = "-0500 -0400 11 1SU 0100 3 2SU 0000"
 KOLKATA = "+0530"
 UTC = ""
 
@@ -243,4 +245,8 @@ CASES = [
     ("the first dates of the zone are before its rules begin", NEW_YORK, [], [whole("19700101")], at("19700101T050000Z", length=DAY)),
     ("south of the equator they are in summer", SYDNEY, [], [whole("19700101")], at("19691231T130000Z", length=DAY)),
     ("an object's own X-ROOM-ZONE has no meaning here", UTC, ["of-a-room"], [whole("20250310")], at("20250310T000000Z", length=DAY)),
+    ("a whole day whose midnight is skipped ends at the next midnight", HAVANA, [], [whole("20260308"), "RRULE:FREQ=DAILY;COUNT=3"],
+     days("America/Havana", "20260308", "20260309", "20260310")),
+    ("a time without zone at that midnight and a day, which ends at the hour that the clocks show", HAVANA, [], ["DTSTART:20260308T000000", "DURATION:P1D"],
+     at("20260308T050000Z", length=DAY)),
 ]

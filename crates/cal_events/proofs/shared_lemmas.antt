@@ -17,6 +17,7 @@ pub mod DraftLemmas
 pub mod Distinct
 pub mod InstanceLemmas
 pub mod Clocks
+pub mod CountedFrom
 pub mod Walks
 pub mod HiddenLemmas
 pub mod WholeLists

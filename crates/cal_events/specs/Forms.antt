@@ -1,8 +1,7 @@
 -- What a text of a time spells by its form (RFC 5545 3.3.4, 3.3.5).
-use Rattle.std.specs.Prelude.{◌≡◌, ℕ, true, List, codes, Option, None, MatchOption, ℤ}
+use Rattle.std.specs.Prelude.{◌≡◌, ℕ, true, List, codes, None, MatchOption, ℤ}
 use Rattle.profile.specs.text.Lines.{line_param}
 use Rattle.profile.specs.text.Values.{SpellsStamp, SpellsLocal}
-use Rattle.profile.specs.series.Zones.{Zone}
 use Rattle.profile.specs.events.Properties as properties
 use Rattle.profile.specs.events.Properties.{Form, Fixed, Floating, WholeDay, allows, time_kind, IsLocalText}
 use Rattle.profile.specs.events.ZonedTimes.{SpellsMidnight}

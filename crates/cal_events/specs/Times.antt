@@ -1,5 +1,5 @@
 -- What the times of a VEVENT that were read represent.
-use Rattle.std.specs.Prelude.{Option, Some, None, option_map, List, [], map, ℤ}
+use Rattle.std.specs.Prelude.{Option, Some, None, option_map, [], map, ℤ}
 use Rattle.ical_values.specs.declared.duration.Duration.{Duration}
 use Rattle.profile.specs.events.Properties as properties
 use Rattle.profile.specs.events.ZonedTimes as zoned

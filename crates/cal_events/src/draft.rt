@@ -8,7 +8,7 @@ ghost use Rattle.profile.specs.checker.Calendars.{CalendarFault, CalendarTextFau
 ghost use Rattle.profile.specs.events.EventComponents.{EventComponent as SaidComponent};
 ghost use Rattle.profile.specs.events.Events.{is_master};
 ghost use Rattle.profile.specs.events.Starts.{EndsAt};
-ghost use Rattle.profile.specs.series.Zones.{IsNearEpoch};
+ghost use Rattle.profile.specs.text.Values.{IsClockSeconds};
 ghost use Rattle.profile.specs.events.Confirmed.{is_kept, AreConfirmed, MastersDiffer, OverridesDiffer};
 ghost use Rattle.cal_events.specs.Component.{component_of};
 ghost use Rattle.cal_events.specs.Calendar.{key_of, AreWithin};
@@ -244,7 +244,7 @@ fn add_singles(
 
 /// The instance of an event at a start, with that slot.
 fn single_at(entry: usize, event: &EventComponent, slot: i64, start: i64) -> PlacedSingle
-    requires { IsNearEpoch start }
+    requires { IsClockSeconds start }
     ensures place { (result.entry ≡ entry) × (result.slot ≡ slot) × (result.start ≡ start) }
     ensures ends { EndsAt (component_of event.now).times start result.end }
 {

@@ -4,10 +4,11 @@
 ghost use Rattle.std.specs.Prelude.{◌≡◌, ◌↔◌, ◌⊎◌, ◌≤◌, ◌^◌, ℕ, Bool, List, Some, codes, pos, ◌+ℤ◌, ◌-ℤ◌, ◌<ℤ◌, ◌≤ℤ◌, IfOk, IfErr, OnOk, IsTrue};
 ghost use Rattle.ical_lines.specs.Text.{line_text};
 ghost use Rattle.profile.specs.text.Trees.{Tree};
-ghost use Rattle.profile.specs.series.Zones.{IsNearEpoch, Means};
-ghost use Rattle.profile.specs.events.Starts.{IsDaysLater, EndsAt, IsWidth};
+ghost use Rattle.profile.specs.text.Values.{IsClockSeconds};
+ghost use Rattle.profile.specs.series.Zones.{IsNearEpoch, Shows, Means};
+ghost use Rattle.profile.specs.events.Starts.{IsCountedFrom, IsDaysLater, EndsAt, IsWidth};
 ghost use Rattle.cal_zones.specs.Kinds.{zone_of};
-ghost use Rattle.profile.specs.events.Properties.{length_seconds, OccursAtMostOnce};
+ghost use Rattle.profile.specs.events.Properties.{WholeDay, length_seconds, OccursAtMostOnce};
 ghost use Rattle.profile.specs.events.ZonedTimes.{is_in_zone, past_locals, IsInDates, SuitsForm, length_alone, ZonedTimeFault, SaysEventTimes, SaysNoStart, SaysTimes, EventTimesFault};
 ghost use Rattle.cal_events.specs.Component.{times_of, length_of, form_of, form_said, local_said, IsLengthTo, GivesLength, GivesAlone, ExtentFault, AloneFault};
 ghost use Rattle.cal_events.specs.declared.event_times.Extent.TheVariants.{To, For};
@@ -67,25 +68,59 @@ impl EventTimes {
     /// When an instance ends that starts at an instant: after the days of the length, in the zone of DTSTART, and its seconds (RFC 5545
     /// 3.3.6).
     pub(crate) fn end_from(&self, start: i64) -> i64
-        requires { IsNearEpoch start }
+        requires { IsClockSeconds start }
         ensures { EndsAt (times_of self.now) start result }
     {
-        let later = days_later(&self.start.clock(), start, self.length.days);
+        let form = self.start.form();
+        let later = days_later(form, &self.start.clock(), start, self.length.days);
         later + i64::from(self.length.seconds)
     }
 }
 
-/// The instant that comes this many days later by the clocks of a zone: the days are added to the local time that they show.
-fn days_later(clock: &Zone, instant: i64, days: u32) -> i64
-    requires { IsNearEpoch instant }
-    ensures later { IsDaysLater (zone_of clock.now) days instant result }
+/// The instant that comes this many days later by the clocks of a zone: the days are added to the local time from which they are counted.
+fn days_later(form: Form, clock: &Zone, instant: i64, days: u32) -> i64
+    requires { IsClockSeconds instant }
+    ensures later { IsDaysLater (form_of form) (zone_of clock.now) days instant result }
     ensures range { IsInYears result }
 {
     if days == 0 {
         return instant;
     }
-    let local = instant + i64::from(clock.offset(instant)) + i64::from(days) * DAY_SECONDS;
+    let local = counted_from(form, clock, instant) + i64::from(days) * DAY_SECONDS;
     resolve(clock, local)
+}
+
+/// The local time from which the days of an event are counted that starts at an instant: what the clocks show, or of a whole day its midnight where
+/// that means the instant, also where they skip it.
+fn counted_from(form: Form, clock: &Zone, instant: i64) -> i64
+    requires { IsClockSeconds instant }
+    ensures counted { IsCountedFrom (form_of form) (zone_of clock.now) instant result }
+    ensures near { ((instant -ℤ pos 172_800) ≤ℤ result) × (result ≤ℤ (instant +ℤ pos 86_400)) }
+{
+    let shown = instant + i64::from(clock.offset(instant));
+    match form {
+        Form::Fixed => shown,
+        Form::Floating => shown,
+        Form::WholeDay => day_from(clock, instant, shown),
+    }
+}
+
+/// The same of a whole day whose start the clocks show as this local time.
+fn day_from(clock: &Zone, instant: i64, shown: i64) -> i64
+    requires start { IsClockSeconds instant }
+    requires shown { Shows (zone_of clock.now) instant shown }
+    requires near { ((instant -ℤ pos 86_400) ≤ℤ shown) × (shown ≤ℤ (instant +ℤ pos 86_400)) }
+    ensures counted { IsCountedFrom WholeDay (zone_of clock.now) instant result }
+    ensures near { ((shown -ℤ pos 86_400) ≤ℤ result) × (result ≤ℤ shown) }
+{
+    let midnight = shown - shown.rem_euclid(DAY_SECONDS);
+    // Only for the proof: a local time means one instant.
+    clock.one_meaning();
+    let meant = resolve(clock, midnight);
+    if meant == instant {
+        return midnight;
+    }
+    shown
 }
 
 /// The instant that a local time means, in seconds, as by `Zone::resolve`, in years past 9999 too.

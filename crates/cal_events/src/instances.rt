@@ -3,6 +3,7 @@
 
 ghost use Rattle.std.specs.Prelude.{◌≡◌, ◌↔◌, ◌<◌, ◌≤ℤ◌, ◌<ℤ◌, ℤ, pos, IsTrue, Some, None, map, option_map, Contains, IfSome, IfNone};
 ghost use Rattle.profile.specs.series.Days.{day_index};
+ghost use Rattle.profile.specs.text.Values.{IsClockSeconds};
 ghost use Rattle.profile.specs.series.Zones.{IsOneMeaning, IsNearEpoch, Means, local_time};
 ghost use Rattle.profile.specs.events.ZonedTimes.{clock_of};
 ghost use Rattle.profile.specs.checker.Instances.{Instance as SaidInstance, horizon};
@@ -429,7 +430,7 @@ fn instance_at<'a>(event: &'a Event, place: InstancePlace) -> Instance<'a>
 
 /// The instance of a VEVENT at a start, with that slot.
 fn instance_from<'a>(component: &'a EventComponent, start: i64, slot: i64) -> Instance<'a>
-    requires { IsNearEpoch start }
+    requires { IsClockSeconds start }
     ensures key { key_of result.key ≡ key_at (component_of component.now) slot }
     ensures start { result.start ≡ start }
     ensures ends { EndsAt (component_of component.now).times start result.end }

@@ -42,6 +42,7 @@ pub use instance::{HORIZON, Instance, InstanceKey, OwnedKey, Single};
 pub use instances::Instances;
 pub use meeting_components::read_meeting;
 pub use method::Method;
+pub use occurrences::WrittenTimes;
 pub use reading::{
     calendar_series_are_said, one_calendar, one_calendar_text, series_and_singles_divide,
     singles_are_confirmed,
@@ -49,7 +50,6 @@ pub use reading::{
 pub use series::Series;
 pub use sweep::{Overlap, Span, first_overlap};
 pub use time::Time;
-pub use occurrences::WrittenTimes;
 pub use when::{Form, When, judge_time, one_zoned_time};
 pub use whole::{
     all_instances, all_starts, instances_last, known_by_start, listed_series, series_are_said,

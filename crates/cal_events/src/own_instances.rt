@@ -1,7 +1,7 @@
 //! The instances of a VEVENT by itself that no rule gives (RFC 5545 3.8.5.2, 3.8.5.1, 3.8.4.4).
 ghost use Rattle.std.specs.Prelude.{◌≡◌, ◌∷◌, [], None, map, Contains, IfOk};
 ghost use Rattle.std.specs.List.{AllZip};
-ghost use Rattle.profile.specs.series.Zones.{IsNearEpoch};
+ghost use Rattle.profile.specs.text.Values.{IsClockSeconds};
 ghost use Rattle.profile.specs.events.Properties.{first_second};
 ghost use Rattle.profile.specs.events.Starts.{AreInstancesFrom};
 ghost use Rattle.profile.specs.events.Confirmed.{alone, AreApart};
@@ -41,7 +41,7 @@ impl EventComponent {
 
     /// The instances at these starts.
     fn singles_at(&self, alloc: Global, starts: &[i64]) -> Result<Vec<Single>, AllocError>
-        requires { (start : _) → Contains starts.now start → IsNearEpoch start }
+        requires { (start : _) → Contains starts.now start → IsClockSeconds start }
         ensures { IfOk result (λ singles. AllZip (λ start single. IsInstanceAt (component_of self.now) start start single) starts.now singles.items) }
     {
         let mut singles = Vec::new(alloc);
@@ -53,7 +53,7 @@ impl EventComponent {
 
     /// The instance of that slot at a start.
     fn single_at(&self, slot: i64, start: i64) -> Single
-        requires { IsNearEpoch start }
+        requires { IsClockSeconds start }
         ensures { IsInstanceAt (component_of self.now) slot start result }
     {
         Single {

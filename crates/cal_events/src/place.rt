@@ -20,11 +20,7 @@ use std::alloc::{AllocError, Global};
 
 impl EventComponent {
     /// An event that was read as it is in a room of this zone. It fails only when out of memory.
-    pub(crate) fn placed(
-        self,
-        alloc: Global,
-        room: &RoomZone,
-    ) -> Result<EventComponent, AllocError>
+    pub(crate) fn placed(self, alloc: Global, room: &RoomZone) -> Result<EventComponent, AllocError>
         requires { IsWritten (component_of self) }
         ensures { IfOk result (λ placed. IsPlaced (room_of room.now) (component_of self) (component_of placed)) }
     {

@@ -5,10 +5,12 @@ use Rattle.std.specs.Int.{saturate_signed, int_max}
 use Rattle.std.proofs.lemmas.Bool.{cases_lt}
 use Rattle.std.proofs.lemmas.Int.{ints, by_lt_z}
 use Rattle.profile.specs.checker.Instances.{Instance as SaidInstance, horizon}
+use Rattle.profile.specs.series.Zones.{Zone, IsOffsetAt, IsBounds, Onset, IsZoneOnset}
 use Rattle.profile.specs.events.ZonedTimes.{EventTimes, clock_of}
 use Rattle.profile.specs.events.EventComponents.{EventComponent as Said}
 use Rattle.profile.specs.events.Events.{Event as SaidEvent}
 use Rattle.profile.specs.events.Starts.{IsInstance, EndsAt, IsWidth}
+use Rattle.profile.proofs.SeriesRepeats.{meant, counted_within}
 use Rattle.cal_events.specs.Calendar.{instance_of}
 use Rattle.cal_events.specs.Component.{component_of}
 use Rattle.cal_events.specs.Left.{IsLeft, GivesFirst}
@@ -17,7 +19,6 @@ use Rattle.cal_events.specs.declared.instance.Instance.{Instance}
 use Rattle.cal_events.specs.declared.instances.Instances.{Instances}
 use Rattle.cal_events.specs.declared.series.Series.{Series}
 use Rattle.cal_events.proofs.shared_lemmas.DraftKeys.{some_there}
-use Rattle.cal_events.proofs.shared_lemmas.InstanceLemmas as instances
 use Rattle.cal_events.proofs.shared_lemmas.OwnSingles.{at_start}
 use Rattle.cal_events.proofs.shared_lemmas.SeriesLemmas.{alone_said}
 use Rattle.cal_period.specs.Walks.{AreAllLeft, AreLeftFrom}
@@ -26,13 +27,29 @@ use Rattle.cal_period.proofs.Going.{at_first, not_less}
 
 -- ---- how long instances last
 
+-- the offsets of a zone, and those before its onsets, are within its bounds
+offsets_within : (z : Zone) (least greatest : ℤ) → IsBounds z least greatest → (t p : ℤ) → IsOffsetAt z t p → (least ≤ℤ p) × (p ≤ℤ greatest)
+offsets_within z least greatest b t p at =
+    let o = b.ordered in elim (b.one t p at) [ inl e ↦ (omega (arith, ints, e), omega (arith, ints, e, o)) | inr e ↦ (omega (arith, ints, e, o), omega (arith, ints, e)) ]
+
+befores_within : (z : Zone) (least greatest : ℤ) → IsBounds z least greatest → (x : Onset) → IsZoneOnset z x → (least ≤ℤ x.before) × (x.before ≤ℤ greatest)
+befores_within z least greatest b x is =
+    let o = b.ordered in
+    elim (b.sides x is) [
+      | inl e ↦ let l = e.0 in (omega (arith, ints, l), omega (arith, ints, l, o))
+      | inr e ↦ let g = e.0 in (omega (arith, ints, g, o), omega (arith, ints, g))
+    ]
+
 within_width : (times : EventTimes) (n : ℤ) → IsWidth times n → (start end : ℤ) → EndsAt times start end → end ≤ℤ (start +ℤ n)
 within_width times n (inl (none, is)) start end (later, inl (z, same), e) = omega (arith, ints, none, is, same, e)
 within_width times n (inl (none, is)) start end (later, inr (some, x), e) = absurd (omega (arith, none, some))
 within_width times n (inr (some, w)) start end (later, inl (none, x), e) = absurd (omega (arith, none, some))
-within_width times n (inr (some, (least, greatest, b, is))) start end (later, inr (days, (offset, at, means)), e) =
-    let l = instances.not_less (clock_of times.zone) least greatest ((start +ℤ offset) +ℤ pos (86_400 * times.length.days)) later b means in
-    elim (b.one start offset at) [ inl o ↦ omega (arith, ints, b.ordered, is, l, e, o) | inr o ↦ omega (arith, ints, b.ordered, is, l, e, o) ]
+within_width times n (inr (some, (least, greatest, b, is))) start end (later, inr (days, (local, from_there, means)), e) =
+    let z = clock_of times.zone in
+    let means_in = meant z least greatest (offsets_within z least greatest b) (befores_within z least greatest b) in
+    let first = (counted_within z least greatest (offsets_within z least greatest b) means_in times.form start local from_there).1 in
+    let last = (means_in (local +ℤ pos (86_400 * times.length.days)) later means).0 in
+    omega (arith, ints, is, first, last, e)
 
 pub no_less : (times : EventTimes) (n : ℤ) → IsWidth times n → pos 0 ≤ℤ n
 no_less times n (inl (none, is)) = omega (arith, ints, is)

@@ -144,7 +144,7 @@ module _ (a : Event) (h : HasSaid a) where
       earlier start end l is =
           let low = offsets.2.low in
           let was = series.repeats m.times r days offsets.0 offsets.1 (from -ℤ pos 43_201) from said.second said.on said.means meant offsets.2.close (omega (arith, ints, low)) offsets.2.offsets
-          (λ local t l. repeats.earlier local t (omega (arith, ints, l))) (λ t q l. repeats.offset_earlier t q l) days_earlier (omega (arith, ints)) past.start in_dates (Contains m.exceptions) before
+          (λ local t l. repeats.earlier local t (omega (arith, ints, l))) (λ local t l. repeats.later local t (omega (arith, ints, l))) (λ t q l. repeats.offset_earlier t q l) days_earlier (omega (arith, ints)) past.start in_dates (Contains m.exceptions) before
           start end l (record { given = is.given; dated = is.dated; shown = is.shown; lasts = is.lasts }) in
           record { given = was.given; dated = was.dated; shown = was.shown; lasts = was.lasts }
 
@@ -189,21 +189,19 @@ module _ (a : Event) (h : HasSaid a) where
       ends_later : (x end : ℤ) → from ≤ℤ x → EndsAt m.times x end → EndsAt m.times (x +ℤ d) (end +ℤ d)
       ends_later x end l (later, inl (none, same), e) =
           (later +ℤ d, inl (none, int_same (omega (arith, ints, same)) (omega (arith, ints, same))), int_same (omega (arith, ints, e)) (omega (arith, ints, e)))
-      ends_later x end l (later, inr (many, (offset, at, means)), e) =
+      ends_later x end l (later, inr (many, (local, from_there, means)), e) =
           let n = m.times.length.days in
-          let b = offsets.2.offsets x offset at in
+          let own = series.counted_later z days x (λ q at. repeats.offset_later x q (omega (arith, ints, l)) at) (λ t is. repeats.later t x l is) (λ t is. repeats.earlier t x l is) m.times.form local from_there in
+          let b = series.counted_within z offsets.0 offsets.1 offsets.2.offsets meant m.times.form x local from_there in
           let b0 = b.0 in
           let b1 = b.1 in
           let close = offsets.2.close in
-          let p = meant ((x +ℤ offset) +ℤ pos (86_400 * n)) later means in
+          let p = meant (local +ℤ pos (86_400 * n)) later means in
           let p0 = p.0 in
           let p1 = p.1 in
-          let local : ((x +ℤ offset) +ℤ pos (86_400 * n)) +ℤ d ≡ ((x +ℤ d) +ℤ offset) +ℤ pos (86_400 * n) = int_same (omega (arith, ints)) (omega (arith, ints)) in
-          let there : Means z (((x +ℤ offset) +ℤ pos (86_400 * n)) +ℤ d) (later +ℤ d) = repeats.later ((x +ℤ offset) +ℤ pos (86_400 * n)) later (omega (arith, ints, l, b0, b1, close, p0, p1, many)) means in (
-            later +ℤ d,
-            inr (many, (offset, repeats.offset_later x offset (omega (arith, ints, l)) at, subst (λ t. Means z t (later +ℤ d)) local there)),
-            int_same (omega (arith, ints, e)) (omega (arith, ints, e)),
-          )
+          let same : (local +ℤ pos (86_400 * n)) +ℤ d ≡ (local +ℤ d) +ℤ pos (86_400 * n) = int_same (omega (arith, ints)) (omega (arith, ints)) in
+          let there : Means z ((local +ℤ pos (86_400 * n)) +ℤ d) (later +ℤ d) = repeats.later (local +ℤ pos (86_400 * n)) later (omega (arith, ints, l, b0, b1, close, p0, p1, many)) means in
+          (later +ℤ d, inr (many, (local +ℤ d, own, subst (λ t. Means z t (later +ℤ d)) same there)), int_same (omega (arith, ints, e)) (omega (arith, ints, e)))
 
       later : (start end : ℤ) → from ≤ℤ start → IsListedStart a (start +ℤ d) → ByRule start end → ByRule (start +ℤ d) (end +ℤ d)
       later start end l listed is =

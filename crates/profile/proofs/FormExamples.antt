@@ -107,8 +107,13 @@ lasts_to_the_eleventh object = record {
 
 -- a day and a time don't go together
 day_and_time : (object : Tree) → EventTimesFault false object (codes "DTSTART:20250310" ∷ codes "DTEND:20250310T090000" ∷ []) 57
-day_and_time object = other_form (WholeDay, Floating, (codes "DTSTART:20250310", (0, omega arith, refl), (None, pos 1_741_564_800, a_whole_day object)),
-  (codes "DTEND:20250310T090000", (0, omega arith, refl), (None, pos 1_741_597_200, (refl, (refl, refl, nine_local)))), λ e. true≢false (ap is_whole_day e))
+day_and_time object = other_form (
+  WholeDay,
+  Floating,
+  (codes "DTSTART:20250310", (0, omega arith, refl), (None, pos 1_741_564_800, a_whole_day object)),
+  (codes "DTEND:20250310T090000", (0, omega arith, refl), (None, pos 1_741_597_200, (refl, (refl, refl, nine_local)))),
+  λ e. true≢false (ap is_whole_day e),
+)
 
 -- the last day is no start, but an end
 not_the_last_day : IsInDates false WholeDay false (pos 253_402_214_400) (pos 253_402_214_400) → ⊥

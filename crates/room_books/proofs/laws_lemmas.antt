@@ -14,3 +14,4 @@ pub mod KeptEntries
 pub mod KeptReplaced
 pub mod Members
 pub mod KeptLines
+pub mod KeptTimes

@@ -10,6 +10,8 @@ use Rattle.std.proofs.lemmas.List.Quantifiers.{all_pairs_push}
 use Rattle.std.proofs.KnownBytes.{Appends-nil, Appends-trans}
 use Rattle.profile.specs.text.Values.{WritesStamp}
 use Rattle.profile.specs.checker.Instances.{Instance as SaidInstance}
+use Rattle.profile.specs.series.Zones.{Zone}
+use Rattle.profile.specs.series.RoomZones.{IsRoomZone}
 use Rattle.profile.specs.events.Events.{Event, SpellsEvent}
 use Rattle.profile.specs.events.Starts.{IsInstance, ComesBefore}
 use Rattle.profile.specs.events.Expanding.{IsInstanceLine}
@@ -222,10 +224,10 @@ finished meeting limit a b c text so_far q =
 -- ---- of the event that octets spell
 
 abbrev OneInstance : Type 0
-OneInstance = (room : Option Zone) (octets : List ℕ) (meeting : Event) (a b : SaidInstance) → SpellsEvent room octets meeting → IsInstance meeting a → IsInstance meeting b → a.start ≡ b.start → a.key.slot ≡ b.key.slot → a ≡ b
+OneInstance = (words : List ℕ) (room : Option Zone) (octets : List ℕ) (meeting : Event) (a b : SaidInstance) → IsRoomZone words room → SpellsEvent room octets meeting → IsInstance meeting a → IsInstance meeting b → a.start ≡ b.start → a.key.slot ≡ b.key.slot → a ≡ b
 
 abbrev AreDated : Type 0
-AreDated = (room : Option Zone) (octets : List ℕ) (meeting : Event) (a : SaidInstance) → SpellsEvent room octets meeting → IsInstance meeting a → IsInEventDates a.key.slot × IsInEventDates a.start × (a.start ≤ℤ a.end)
+AreDated = (words : List ℕ) (room : Option Zone) (octets : List ℕ) (meeting : Event) (a : SaidInstance) → IsRoomZone words room → SpellsEvent room octets meeting → IsInstance meeting a → IsInEventDates a.key.slot × IsInEventDates a.start × (a.start ≤ℤ a.end)
 
 pub lines_there : (instances : List SaidInstance) (lines : List (List ℕ)) → ((b : SaidInstance) → Contains instances b → HasLine b) → AllZip IsPrintedLine instances lines → AllZip IsInstanceLine instances lines
 lines_there [] [] has h = tt
@@ -234,8 +236,8 @@ lines_there (b ∷ bs) [] has h = absurd h
 lines_there (b ∷ bs) (l ∷ ls) has h =
     (h.0 (has b (0, omega arith, refl)), lines_there bs ls (λ a c. has a (suc c.0, omega (arith, c.1), c.2)) h.1)
 
-pub expanded : OneInstance → AreDated → (octets : List ℕ) (meeting : Event) (limit : ℕ) (a b : Option (List ℕ)) → SpellsEvent octets meeting → PrintsFirst meeting limit a b [] → ExpandsTo octets limit a b
-expanded one dated octets meeting limit a b spelled p = (
+pub expanded : OneInstance → AreDated → (words : List ℕ) (room : Option Zone) (octets : List ℕ) (meeting : Event) (limit : ℕ) (a b : Option (List ℕ)) → IsRoomZone words room → SpellsEvent room octets meeting → PrintsFirst meeting limit a b [] → ExpandsTo room octets limit a b
+expanded one dated words room octets meeting limit a b named spelled p = (
   written,
   record {
     meeting = meeting;
@@ -246,7 +248,7 @@ expanded one dated octets meeting limit a b spelled p = (
       ordered = p.first.ordered;
       short = p.first.short;
       others = λ x is. elim (p.first.others x is (has x is)) [
-        | inl (y, c, q, r) ↦ inl (subst (Contains p.instances) (one octets meeting y x spelled (its y c) is q r) c)
+        | inl (y, c, q, r) ↦ inl (subst (Contains p.instances) (one words room octets meeting y x named spelled (its y c) is q r) c)
         | inr h ↦ inr h
       ];
     };
@@ -265,5 +267,5 @@ expanded one dated octets meeting limit a b spelled p = (
 
     has : (x : SaidInstance) → IsInstance meeting x → HasLine x
     has x is =
-        let d = dated octets meeting x spelled is in
+        let d = dated words room octets meeting x named spelled is in
         record { slot = (omega (arith, ints, d.0), omega (arith, ints, d.0)); start = (omega (arith, ints, d.1), omega (arith, ints, d.1)); ends = d.2 }

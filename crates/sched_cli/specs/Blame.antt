@@ -1,12 +1,11 @@
 -- What a content line has to do with a fault, by the number of its refusal.
-use Rattle.std.specs.Prelude.{◌≡◌, ◌≢◌, ◌⊎◌, ◌==◌, ◌||◌, ℕ, ℤ, Bool, true, false, IsTrue, List, codes, is_some, MatchOption, if◌then◌else◌, Contains}
-use Rattle.std.specs.List.{slice_split}
+use Rattle.std.specs.Prelude.{◌≡◌, ◌≢◌, ◌⊎◌, ◌==◌, ◌||◌, ℕ, ℤ, Bool, true, false, IsTrue, List, codes, is_some, if◌then◌else◌}
 use Rattle.cal_events.specs.Forms.{IsReadable}
 use Rattle.profile.specs.events.ZonedTimes.{ZonedTextFault}
 use Rattle.profile.specs.faults.Faults.{is_uid_fault, is_address_fault}
 use Rattle.profile.specs.series.RuleTexts.{SpellsRule, IsLeastRuleFault}
 use Rattle.profile.specs.series.Rules as rules
-use Rattle.profile.specs.text.Lines.{is_same_name, line_name, line_param, line_value, text_has}
+use Rattle.profile.specs.text.Lines.{is_same_name, line_name, line_param, line_value}
 use Rattle.profile.specs.text.Trees.{Tree}
 use Rattle.profile.specs.text.Values.{IsAddress, IsUid, SpellsDuration, SpellsLocal, SpellsOffset, SpellsSequence, SpellsStamp, unescaped}
 use Rattle.sched_cli.specs.declared.blame.Blame as blame

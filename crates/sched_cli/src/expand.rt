@@ -44,7 +44,8 @@ pub fn run_expand<W: Output, E: Output>(
         Ok(event) => event,
         Err(fault) => return report_read(errors, fault),
     };
-    // For the proof alone: each of its instances has a place of its own, and a line.
+    // For the proof alone: the words of the room mean its zone, so each of the instances has a place of its own, and a line.
+    zone.words_mean();
     one_instance();
     match print_event(alloc, &event, limit, writer) {
         Ok(()) => DONE,

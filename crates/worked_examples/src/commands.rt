@@ -1,12 +1,14 @@
 //! Cases of the commands: `name | command | input | certificate | output | errors | status`. The middle columns are names of files, put one
-//! after another; the fourth of `expand` is the words of a zone. A command runs on them with a reader and writers in memory.
+//! after another; the fourth of `expand` and of `name-zone` is the words of a zone. A command runs on them with a reader and writers in memory.
 
 use crate::files::read_all;
 use crate::names::ROOM;
+use cal_events::Calendar;
 use cal_zones::RoomZone;
 use example_cases::Case;
 use ical_values::Address;
 use sched_cli::commands::{KeptText, run_check, run_keep, run_serve};
+use sched_cli::status::{DONE, report_read};
 use sched_cli::{run_expand, run_explain};
 use std::alloc::Global;
 use std::io::{self, ErrorKind};
@@ -52,6 +54,10 @@ fn run<R: Files + AllocGlobal>(rt: &R, case: Case<'_>) -> io::Result<Outcome> {
             let zone = zone_of(alloc, case.column(3))?;
             run_expand(alloc, reader, &zone, 100, &mut output, &mut errors)
         }
+        "name-zone" => {
+            let zone = zone_of(alloc, case.column(3))?;
+            name_zone(alloc, reader, &zone, &mut output, &mut errors)?
+        }
         "check" => {
             let certificate = read_all(rt, case.column(3))?;
             let certificate = certificate.as_slice();
@@ -65,6 +71,23 @@ fn run<R: Files + AllocGlobal>(rt: &R, case: Case<'_>) -> io::Result<Outcome> {
         output,
         errors,
     })
+}
+
+/// Names the zone of its room in a calendar: what comes out is the calendar with that line.
+fn name_zone(
+    alloc: Global,
+    calendar: &[u8],
+    zone: &RoomZone,
+    output: &mut Vec<u8>,
+    errors: &mut Vec<u8>,
+) -> io::Result<u8> {
+    match Calendar::with_zone(alloc, calendar, zone) {
+        Ok(octets) => {
+            output.extend_from_slice(octets.as_slice())?;
+            Ok(DONE)
+        }
+        Err(fault) => Ok(report_read(errors, fault)),
+    }
 }
 
 /// The zone that the words of a column mean; UTC where there are none.

@@ -1,30 +1,28 @@
 -- The instances of an event that octets spell: one at each place, in the dates that an event may name. None ends before it starts.
 -- Cited by EventComponent::read of component, Event::of_object of event, one_instance of event.
-use Rattle.std.proofs.Common.{◌≡◌, ◌∙◌, ℕ, zero, suc, ◌*◌, ◌<◌, ◌≤◌, true, false, ◌&&◌, nat_le, List, [], ◌∷◌, codes, map, filter, get_or, length, sym, ap, subst, refl, inl, inr, ◌⊎◌, arith, ℤ, pos, ◌+ℤ◌, ◌-ℤ◌, ◌≤ℤ◌, unsigned_abs, Bool}
-use Rattle.std.specs.Prelude.{Option, Some, None, All, Contains, option_map}
-use Rattle.std.specs.Option.{option_to_list}
-use Rattle.std.specs.List.{AllZip, AllByRecursion}
+use Rattle.std.proofs.Common.{◌≡◌, ◌∙◌, ℕ, zero, suc, ◌*◌, ◌<◌, ◌≤◌, true, false, ◌&&◌, nat_le, List, [], ◌∷◌, codes, map, get_or, length, sym, ap, subst, refl, inl, inr, ◌⊎◌, arith, ℤ, pos, ◌+ℤ◌, ◌-ℤ◌, ◌≤ℤ◌, unsigned_abs, Bool}
+use Rattle.std.specs.Prelude.{Option, Some, None, Contains, option_map}
 use Rattle.std.proofs.lemmas.Int.{ints}
 use Rattle.std.proofs.lemmas.Bool.{and_parts}
 use Rattle.std.proofs.lemmas.Option.{same_Some}
-use Rattle.std.proofs.lemmas.List.Elements.{All-from_recursion, All-filter, All-contains}
 use Rattle.profile.specs.text.Lines.{line_value, line_param}
-use Rattle.profile.specs.text.Trees.{Tree, vevents}
+use Rattle.profile.specs.text.Trees.{Tree}
 use Rattle.profile.specs.series.Rules.{Pattern, is_base}
 use Rattle.profile.specs.series.Zones.{Zone, Constant, Single, Pair, Observance, Onset, IsOnset, IsOffsetAt, IsOneOffset, Means}
 use Rattle.profile.specs.series.ZoneTexts.{AreMatched, AreSpaced, HasForm, pair, IsRuleOnset, PartsSay, year_pattern}
-use Rattle.profile.specs.checker.Instances.{Key, Instance}
+use Rattle.profile.specs.checker.Instances.{Instance}
 use Rattle.profile.specs.events.Properties.{BothOrNeither, Form, Fixed, Floating, WholeDay}
 use Rattle.profile.specs.events.ZonedTimes.{zone_named, is_in_zone, SaysZoneOf, SpellsZoned, SaysZonedText, SaysZonedTime, clock_of, IsInDates, EventTimes, SaysTimes}
 use Rattle.profile.specs.events.Occurrences.{Time, IsRecurrenceLine}
 use Rattle.profile.specs.events.EventComponents.{Method, EventComponent, SaysEventComponent}
-use Rattle.profile.specs.events.Events.{Event, is_master, is_override, InstancesDiffer, SaysEvent}
-use Rattle.profile.specs.events.Starts.{IsDaysLater, EndsAt, IsOfMaster, IsOfOverride, IsInstance, key_at}
+use Rattle.profile.specs.events.Events.{InstancesDiffer}
+use Rattle.profile.specs.events.Starts.{IsDaysLater, EndsAt}
 use Rattle.cal_events.specs.Clocks.{IsSteady}
 use Rattle.cal_events.specs.MeetingComponents.{IsInEventDates}
 use Rattle.cal_zones.proofs.Zones.{unique, once_constant, once_single, once_pair}
 use Rattle.cal_events.proofs.shared_lemmas.Meanings.{one_meaning, utc_instant}
 use Rattle.cal_events.proofs.shared_lemmas.OneTimes.{Lines, some_zone}
+use Rattle.cal_events.proofs.shared_lemmas.CountedFrom.{counted_one, counted_later}
 use Rattle.cal_events.proofs.shared_lemmas.Clocks.{ReadsWith, near, single_in_force, pair_in_force, single_reads, pair_reads, constant_reads, ascends}
 
 -- ---- the clocks of a zone
@@ -130,27 +128,25 @@ event_sound object lines event s =
     }
 
 -- an instance of it ends at one instant
-later_one : (z : Zone) (days : ℕ) (t u v : ℤ) → IsSteady z → IsDaysLater z days t u → IsDaysLater z days t v → u ≡ v
-later_one z days t u v s (inl (n, e)) (inl (m, f)) = e ∙ sym f
-later_one z days t u v s (inl (n, e)) (inr (m, f)) = absurd (omega (arith, n, m))
-later_one z days t u v s (inr (n, e)) (inl (m, f)) = absurd (omega (arith, n, m))
-later_one z days t u v s (inr (n, (o, at, means))) (inr (m, (p, there, other))) =
-    let same : p ≡ o = s.offset t p o there at in
-    s.meaning ((t +ℤ o) +ℤ pos (86_400 * days)) u v means (subst (λ (x : ℤ). Means z ((t +ℤ x) +ℤ pos (86_400 * days)) v) same other)
+later_one : (form : Form) (z : Zone) (days : ℕ) (t u v : ℤ) → IsSteady z → IsDaysLater form z days t u → IsDaysLater form z days t v → u ≡ v
+later_one form z days t u v s (inl (n, e)) (inl (m, f)) = e ∙ sym f
+later_one form z days t u v s (inl (n, e)) (inr (m, f)) = absurd (omega (arith, n, m))
+later_one form z days t u v s (inr (n, e)) (inl (m, f)) = absurd (omega (arith, n, m))
+later_one form z days t u v s (inr (n, (a, counted, means))) (inr (m, (b, again, other))) =
+    let same : b ≡ a = counted_one form z t b a s.offset again counted in
+    s.meaning (a +ℤ pos (86_400 * days)) u v means (subst (λ (x : ℤ). Means z (x +ℤ pos (86_400 * days)) v) same other)
 
 pub end_one : (times : EventTimes) (t e f : ℤ) → IsSteady (clock_of times.zone) → EndsAt times t e → EndsAt times t f → e ≡ f
 end_one times t e f s (u, h, p) (v, k, q) =
-    p ∙ ap (λ (x : ℤ). x +ℤ pos times.length.seconds) (later_one (clock_of times.zone) times.length.days t u v s h k) ∙ sym q
+    p ∙ ap (λ (x : ℤ). x +ℤ pos times.length.seconds) (later_one times.form (clock_of times.zone) times.length.days t u v s h k) ∙ sym q
 
 -- and not before it starts
-not_earlier : (z : Zone) (days : ℕ) (t u : ℤ) → IsSteady z → IsDaysLater z days t u → t ≤ℤ u
-not_earlier z days t u s (inl (n, e)) = omega (arith, ints, e)
-not_earlier z days t u s (inr (n, (o, at, means))) =
-    let k = s.keeps t o ((t +ℤ o) +ℤ pos (86_400 * days)) u at means in
-    omega (arith, ints, n, k)
+not_earlier : (form : Form) (z : Zone) (days : ℕ) (t u : ℤ) → IsSteady z → IsDaysLater form z days t u → t ≤ℤ u
+not_earlier form z days t u s (inl (n, e)) = omega (arith, ints, e)
+not_earlier form z days t u s (inr (n, (local, counted, means))) = counted_later form z days t u local s n counted means
 
 pub ends_after : (times : EventTimes) (t e : ℤ) → IsSteady (clock_of times.zone) → EndsAt times t e → t ≤ℤ e
-ends_after times t e s (u, h, p) = let k = not_earlier (clock_of times.zone) times.length.days t u s h in omega (arith, ints, k, p)
+ends_after times t e s (u, h, p) = let k = not_earlier times.form (clock_of times.zone) times.length.days t u s h in omega (arith, ints, k, p)
 
 -- ---- overrides
 

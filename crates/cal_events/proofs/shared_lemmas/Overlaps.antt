@@ -28,6 +28,7 @@ use Rattle.cal_events.specs.declared.instances.Instances.{Instances}
 use Rattle.cal_events.specs.declared.sweep.Span.{Span}
 use Rattle.cal_events.specs.Sweep.{IsBeforeHorizon}
 use Rattle.cal_events.specs.Overlapping.{HaveOneEnd, AreDated, LastAtMost, slots_left, places_left}
+use Rattle.cal_events.proofs.shared_lemmas.CountedFrom.{counted_within}
 use Rattle.cal_events.proofs.shared_lemmas.InstanceLemmas.{not_less, of_option, of_list}
 use Rattle.cal_events.proofs.shared_lemmas.WholeLists.{placed, after_later}
 
@@ -35,12 +36,10 @@ use Rattle.cal_events.proofs.shared_lemmas.WholeLists.{placed, after_later}
 
 pub lasts : (times : EventTimes) (least greatest n : ℤ) → IsBounds (clock_of times.zone) least greatest → n ≡ pos (length_seconds times.length) +ℤ (greatest -ℤ least) → LastAtMost times n
 lasts times least greatest n b is start end (later, inl (none, same), e) = omega (arith, ints, b.ordered, is, same, e)
-lasts times least greatest n b is start end (later, inr (some, (offset, at, means)), e) =
-    let l = not_less (clock_of times.zone) least greatest ((start +ℤ offset) +ℤ pos (86_400 * times.length.days)) later b means in
-    elim (b.one start offset at) [
-      | inl o ↦ omega (arith, ints, b.ordered, is, l, e, o)
-      | inr o ↦ omega (arith, ints, b.ordered, is, l, e, o)
-    ]
+lasts times least greatest n b is start end (later, inr (some, (local, counted, means)), e) =
+    let l = not_less (clock_of times.zone) least greatest (local +ℤ pos (86_400 * times.length.days)) later b means in
+    let w = (counted_within times.form (clock_of times.zone) least greatest start local b counted).1 in
+    omega (arith, ints, is, l, e, w)
 
 pub lasts_longer : (times : EventTimes) (m n : ℤ) → m ≤ℤ n → LastAtMost times m → LastAtMost times n
 lasts_longer times m n le h start end e = let l = h start end e in omega (arith, ints, l, le)

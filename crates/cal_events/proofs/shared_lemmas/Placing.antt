@@ -1,18 +1,17 @@
 -- Events in a room: there is one, and in a room that goes by UTC it is as it is written.
 -- Behind EventComponent::placed of place, one_meeting and one_instance of event, one_calendar of reading.
-use Rattle.std.proofs.Common.{◌≡◌, ◌∙◌, ℕ, ◌+◌, ◌<◌, Bool, false, List, [], ◌∷◌, ◌++◌, length, get_or, take, map, codes, subst, sym, refl, ap, inl, inr, ◌⊎◌, arith, ℤ, pos}
+use Rattle.std.proofs.Common.{◌≡◌, ◌∙◌, ℕ, ◌+◌, ◌<◌, Bool, false, List, [], ◌∷◌, ◌++◌, length, get_or, take, map, codes, subst, sym, refl, ap, inl, inr, arith, ℤ}
 use Rattle.std.specs.Prelude.{Option, Some, None, All, option_map}
 use Rattle.std.specs.List.{AllZip, AllByRecursion}
 use Rattle.std.proofs.lemmas.Int.{ints}
-use Rattle.std.proofs.lemmas.Option.{same_Some}
 use Rattle.std.proofs.lemmas.List.{take_more, map-append}
 use Rattle.std.proofs.lemmas.List.Elements.{All-from_recursion}
 use Rattle.profile.specs.text.Lines.{line_value, line_param}
 use Rattle.profile.specs.text.Trees.{Tree}
-use Rattle.profile.specs.series.Zones.{Zone, Constant, IsOneMeaning, Means}
+use Rattle.profile.specs.series.Zones.{Zone, IsOneMeaning, Means}
 use Rattle.profile.specs.series.RoomZones.{IsRoomZone}
 use Rattle.profile.specs.events.Properties.{Form, Fixed, Floating, WholeDay, BothOrNeither}
-use Rattle.profile.specs.events.ZonedTimes.{clock_of, SpellsForm, SaysZonedTime, IsInDates, is_in_zone, EventTimes, SaysTimes}
+use Rattle.profile.specs.events.ZonedTimes.{clock_of, SpellsForm, IsInDates, is_in_zone, EventTimes, SaysTimes}
 use Rattle.profile.specs.events.Occurrences.{Time, IsRecurrenceLine}
 use Rattle.profile.specs.events.EventComponents.{Method, EventComponent, SaysEventComponent, instants_of}
 use Rattle.profile.specs.events.Placed.{IsInstantIn, IsAt, zone_in, IsPlaced, SaysPlaced}

@@ -1,12 +1,12 @@
 -- The clocks of a room whose zone words mean.
 -- Behind EventComponent::placed of place, one_meeting and one_instance of event.
-use Rattle.std.proofs.Common.{◌≡◌, ℕ, ◌<◌, List, subst, sym, refl, inl, inr, ◌⊎◌, arith, ℤ, pos, negsuc, ◌+ℤ◌, ◌-ℤ◌, ◌≤ℤ◌, unsigned_abs}
+use Rattle.std.proofs.Common.{ℕ, ◌<◌, List, subst, sym, inl, inr, arith, ℤ, pos, negsuc, ◌+ℤ◌, ◌-ℤ◌, ◌≤ℤ◌, unsigned_abs}
 use Rattle.std.specs.Prelude.{Option, Some, None}
 use Rattle.std.proofs.lemmas.Int.{ints}
 use Rattle.profile.specs.text.Values.{WritesOffset}
-use Rattle.profile.specs.series.Zones.{Zone, Constant, Pair, Observance, IsOneOffset, Means}
+use Rattle.profile.specs.series.Zones.{Zone, Constant, Pair, Means}
 use Rattle.profile.specs.series.ZoneTexts.{AreMatched, AreSpaced, year_pattern}
-use Rattle.profile.specs.series.RoomZones.{IsRoomZone, IsTwoOffsets, BeginsSo}
+use Rattle.profile.specs.series.RoomZones.{IsRoomZone, IsTwoOffsets}
 use Rattle.profile.specs.events.ZonedTimes.{clock_of}
 use Rattle.cal_zones.specs.Repeats.{IsRegular}
 use Rattle.cal_zones.proofs.Zones.{unique, once_constant, once_pair}

@@ -22,6 +22,7 @@ use Rattle.profile.specs.events.Spans.{IsSaidSeries, IsWidthOf}
 use Rattle.std.proofs.lemmas.Option.{same_Some}
 use Rattle.cal_events.specs.Clocks.{IsSteady}
 use Rattle.cal_events.specs.Overlapping.{LastAtMost}
+use Rattle.cal_events.proofs.shared_lemmas.CountedFrom.{counted_within, means_within}
 use Rattle.cal_events.proofs.shared_lemmas.OneInstance.{ends_after}
 use Rattle.cal_events.proofs.shared_lemmas.Placing.{placed_sound}
 use Rattle.cal_events.proofs.shared_lemmas.RoomClocks.{room_clock}
@@ -104,23 +105,22 @@ module _ (regular : (tree : Tree) (z : Zone) → SaysZone tree z → IsRegular z
       omega (arith, ints, l, h, close)
 
   -- days are nominal: they are half a day shorter or longer at most
-  lasts_a_third : (times : EventTimes) (width start end : ℤ) → IsRegular (clock_of times.zone) → IsSteady (clock_of times.zone) → IsWidth times width → EndsAt times start end → width ≤ℤ thrice (end -ℤ start)
-  lasts_a_third times width start end r steady (inl (none, is)) (later, inl (z, same), e) = omega (arith, ints, none, is, same, e)
-  lasts_a_third times width start end r steady (inl (none, is)) (later, inr (some, x), e) = absurd (omega (arith, none, some))
-  lasts_a_third times width start end r steady (inr (some, x)) (later, inl (z, same), e) = absurd (omega (arith, z, some))
-  lasts_a_third times width start end r steady (inr (some, (least, greatest, bounds, is))) (later, inr (some', (offset, at, means)), e) =
+  lasts_a_third : (times : EventTimes) (width start end : ℤ) → IsRegular (clock_of times.zone) → IsWidth times width → EndsAt times start end → width ≤ℤ thrice (end -ℤ start)
+  lasts_a_third times width start end r (inl (none, is)) (later, inl (z, same), e) = omega (arith, ints, none, is, same, e)
+  lasts_a_third times width start end r (inl (none, is)) (later, inr (some, x), e) = absurd (omega (arith, none, some))
+  lasts_a_third times width start end r (inr (some, x)) (later, inl (z, same), e) = absurd (omega (arith, z, some))
+  lasts_a_third times width start end r (inr (some, (least, greatest, bounds, is))) (later, inr (some', (local, counted, means)), e) =
       let near = near_bounds (clock_of times.zone) least greatest r bounds in
-      let keeps = steady.keeps start offset ((start +ℤ offset) +ℤ pos (86_400 * times.length.days)) later at means in
-      omega (arith, ints, some, is, e, near, keeps)
+      let from = (counted_within times.form (clock_of times.zone) least greatest start local bounds counted).0 in
+      let to = (means_within (clock_of times.zone) least greatest (local +ℤ pos (86_400 * times.length.days)) later bounds means).1 in
+      omega (arith, ints, some, is, e, near, from, to)
 
   pub said_lasts_a_third : (series : Event) (width : ℤ) (b : Instance) → IsSaidSeries series → IsWidthOf series width → IsInstance series b → width ≤ℤ thrice (b.end -ℤ b.start)
   said_lasts_a_third series width b said w h =
       let x = at_start said.master b (subst (λ (m : Event). IsInstance m b) said.is h) in
-      let sound = placed_sound said.words said.room said.named said.object said.lines said.event said.says in
-      let steady : IsSteady (clock_of said.master.times.zone) = subst (λ (t : EventTimes). IsSteady (clock_of t.zone)) (sym said.times) sound.steady in
       let zone = placed_regular said.words said.room said.named said.object said.lines said.event said.says in
       let same : w.0 ≡ said.master = same_Some w.0 said.master (sym w.1 ∙ ap (λ (m : Event). m.master) said.is) in
-      lasts_a_third said.master.times width b.start b.end (subst (λ (t : EventTimes). IsRegular (clock_of t.zone)) (sym said.times) zone) steady
+      lasts_a_third said.master.times width b.start b.end (subst (λ (t : EventTimes). IsRegular (clock_of t.zone)) (sym said.times) zone)
       (subst (λ (m : EventComponent). IsWidth m.times width) same w.2) x.ends
 
   pub merely_lasts_a_third : (series : Event) (width : ℤ) (b : Instance) → ∥ IsSaidSeries series ∥₁ → IsWidthOf series width → IsInstance series b → width ≤ℤ thrice (b.end -ℤ b.start)

@@ -1,6 +1,6 @@
 -- All instances of a series as a list, in no order: what its rule gives before year 10000.
 -- Cited by listed_series.
-use Rattle.std.proofs.Common.{◌≡◌, ◌∙◌, ℕ, zero, suc, ◌*◌, ◌/◌, ◌%◌, ◌<◌, Bool, true, false, List, [], ◌∷◌, codes, length, map, refl, sym, ap, subst, inl, inr, ◌⊎◌, arith, ℤ, pos, negsuc, ◌+ℤ◌}
+use Rattle.std.proofs.Common.{◌≡◌, ◌∙◌, ℕ, zero, suc, ◌*◌, ◌/◌, ◌%◌, ◌<◌, Bool, true, false, List, [], ◌∷◌, codes, length, map, refl, sym, ap, subst, inl, inr, ◌⊎◌, arith, ℤ, pos, negsuc, ◌+ℤ◌, ◌≤ℤ◌, unsigned_abs}
 use Rattle.std.specs.Prelude.{Option, None, Some, is_some, Contains, ◌&&◌, ◌↔◌}
 use Rattle.std.specs.Ordering.{int_eq}
 use Rattle.std.specs.List.{list_any}
@@ -9,7 +9,7 @@ use Rattle.std.proofs.lemmas.Int.{ints, by_lt_z}
 use Rattle.profile.specs.checker.Instances.{Instance, horizon}
 use Rattle.profile.specs.text.Trees.{Tree}
 use Rattle.profile.specs.series.Rules.{Rule, is_rule_day}
-use Rattle.profile.specs.series.Zones.{IsOffsetAt, Means, IsOneMeaning, local_time}
+use Rattle.profile.specs.series.Zones.{Zone, Constant, Since, Until, IsOffsetAt, Means, IsOneMeaning, local_time}
 use Rattle.profile.specs.events.EventRules.{IsOnDay}
 use Rattle.profile.specs.events.EventComponents.{Method, EventComponent as SaidComponent, SaysEventComponent}
 use Rattle.profile.specs.events.Events.{Event as Whole, is_master}
@@ -17,8 +17,12 @@ use Rattle.profile.specs.events.Properties.{first_second}
 use Rattle.profile.specs.events.ZonedTimes.{clock_of}
 use Rattle.profile.specs.events.Starts.{key_at, IsGiven, IsRuleStart, IsInstance, IsDaysLater, EndsAt}
 use Rattle.profile.specs.events.Confirmed.{alone, has_series, IsOfSeries, AreOfRule}
+use Rattle.cal_zones.specs.Kinds.{zone_of, zone_of_form}
+use Rattle.cal_zones.specs.declared.zone.Form as kinds
+use Rattle.cal_zones.specs.declared.zone.Form.TheVariants as kind
+use Rattle.cal_zones.specs.declared.zone.Zone as declared_zone
 use Rattle.cal_zones.proofs.Meant.{meant, in_force}
-use Rattle.cal_events.specs.Component.{component_of, times_of, zone_said, local_said}
+use Rattle.cal_events.specs.Component.{component_of, times_of, form_said, zone_said, local_said}
 use Rattle.cal_events.specs.declared.when.When.{When}
 use Rattle.cal_events.specs.declared.when.When.TheVariants.{Utc, Zoned, Floating, WholeDay}
 use Rattle.cal_events.specs.MeetingComponents.{IsInEventDates}
@@ -27,6 +31,7 @@ use Rattle.cal_events.specs.Series.{series_said, IsSeriesOf, IsSeriesWithout}
 use Rattle.cal_events.specs.declared.component.EventComponent.{EventComponent}
 use Rattle.cal_events.specs.declared.event_times.EventTimes as declared
 use Rattle.cal_events.specs.declared.series.Series.{Series}
+use Rattle.cal_events.proofs.shared_lemmas.CountedFrom.{counted_there}
 use Rattle.cal_events.proofs.shared_lemmas.DraftKeys.{some_there}
 use Rattle.cal_events.proofs.shared_lemmas.HiddenLemmas.{has_at, has_from}
 use Rattle.cal_events.proofs.shared_lemmas.InOneOrder.{first_or_later, later, none_in, in_mapped, of_mapped}
@@ -46,24 +51,52 @@ meant_on (Floating shown (Some zone)) local = meant zone local
 meant_on (WholeDay shown None) local = (local, utc_means local)
 meant_on (WholeDay shown (Some zone)) local = meant zone local
 
-offset_on : (time : When) (t : ℤ) → (offset : ℤ) × IsOffsetAt (clock_of (zone_said time)) t offset
-offset_on (Utc shown) t = (pos 0, refl)
-offset_on (Zoned shown zone) t = in_force zone.kind t
-offset_on (Floating shown None) t = (pos 0, refl)
-offset_on (Floating shown (Some zone)) t = in_force zone.kind t
-offset_on (WholeDay shown None) t = (pos 0, refl)
-offset_on (WholeDay shown (Some zone)) t = in_force zone.kind t
+-- an offset is less than a day
+not_far : (offset : ℤ) → unsigned_abs offset < 86_400 → negsuc 86_398 ≤ℤ offset
+not_far (pos n) less = omega (arith, ints)
+not_far (negsuc n) less = omega (arith, ints, less)
 
--- what starts ends
-end_on : (times : declared.EventTimes) (start : ℤ) → (end : ℤ) × EndsAt (times_of times) start end
-end_on times start = let l = later_on times.length.days in (l.0 +ℤ pos times.length.seconds, (l.0, l.1, refl))
+offset_far : (k : kinds.Form) (t offset : ℤ) → IsOffsetAt (zone_of_form k) t offset → negsuc 86_398 ≤ℤ offset
+offset_far (kind.Constant f) t offset e = not_far offset (subst (λ (x : ℤ). unsigned_abs x < 86_400) (sym e) f.range)
+offset_far (kind.Single a) t offset (Since x h e) = not_far offset (subst (λ (y : ℤ). unsigned_abs y < 86_400) (sym (e ∙ h.listed.after)) a.observance.to)
+offset_far (kind.Single a) t offset (Until x h e) = not_far offset (subst (λ (y : ℤ). unsigned_abs y < 86_400) (sym (e ∙ h.listed.before)) a.observance.from)
+offset_far (kind.Pair p) t offset (Since x h e) = not_far offset (elim h.listed [
+  | inl i ↦ subst (λ (y : ℤ). unsigned_abs y < 86_400) (sym (e ∙ i.after)) p.standard.to
+  | inr i ↦ subst (λ (y : ℤ). unsigned_abs y < 86_400) (sym (e ∙ i.after)) p.daylight.to
+])
+offset_far (kind.Pair p) t offset (Until x h e) = not_far offset (elim h.listed [
+  | inl i ↦ subst (λ (y : ℤ). unsigned_abs y < 86_400) (sym (e ∙ i.before)) p.standard.from
+  | inr i ↦ subst (λ (y : ℤ). unsigned_abs y < 86_400) (sym (e ∙ i.before)) p.daylight.from
+])
+
+abbrev HasOffset : Zone → ℤ → Type 0
+HasOffset zone t = (offset : ℤ) × IsOffsetAt zone t offset × (negsuc 86_398 ≤ℤ offset)
+
+offset_in : (zone : declared_zone.Zone) (t : ℤ) → HasOffset (zone_of zone) t
+offset_in zone t = let o = in_force zone.kind t in (o.0, o.1, offset_far zone.kind t o.0 o.1)
+
+offset_in_utc : (t : ℤ) → HasOffset (Constant (pos 0)) t
+offset_in_utc t = (pos 0, refl, omega (arith, ints))
+
+offset_on : (time : When) (t : ℤ) → HasOffset (clock_of (zone_said time)) t
+offset_on (Utc shown) t = offset_in_utc t
+offset_on (Zoned shown zone) t = offset_in zone t
+offset_on (Floating shown None) t = offset_in_utc t
+offset_on (Floating shown (Some zone)) t = offset_in zone t
+offset_on (WholeDay shown None) t = offset_in_utc t
+offset_on (WholeDay shown (Some zone)) t = offset_in zone t
+
+-- what starts in the dates of an event ends
+end_on : (times : declared.EventTimes) → IsOneMeaning (clock_of (zone_said times.start)) → (start : ℤ) → (end : ℤ) × (IsInEventDates start → EndsAt (times_of times) start end)
+end_on times one start = let l = later_on times.length.days in (l.0 +ℤ pos times.length.seconds, λ dates. (l.0, l.1 dates, refl))
   where
-    later_on : (days : ℕ) → (later : ℤ) × IsDaysLater (clock_of (times_of times).zone) days start later
-    later_on zero = (start, inl (refl, refl))
+    later_on : (days : ℕ) → (later : ℤ) × (IsInEventDates start → IsDaysLater (form_said times.start) (clock_of (zone_said times.start)) days start later)
+    later_on zero = (start, λ _. inl (refl, refl))
     later_on (suc n) =
         let o = offset_on times.start start in
-        let m = meant_on times.start ((start +ℤ o.0) +ℤ pos (86_400 * suc n)) in
-        (m.0, inr (omega arith, (o.0, o.1, m.1)))
+        let c = counted_there (form_said times.start) (clock_of (zone_said times.start)) start o.0 one (meant_on times.start) o.1 in
+        let m = meant_on times.start (c.0 +ℤ pos (86_400 * suc n)) in
+        (m.0, λ dates. inr (omega arith, (c.0, c.1 (omega (arith, ints, dates.0, o.2)), m.1)))
 
 -- ---- the starts that a rule gives
 
@@ -140,7 +173,7 @@ module _ (master : EventComponent) (rule : Rule) (one : IsOneMeaning (clock_of (
 
 -- ---- the instances
 
-module _ (master : EventComponent) (one : (a b : Instance) → IsInstance (of_master (component_of master)) a → IsInstance (of_master (component_of master)) b → a.start ≡ b.start → a ≡ b) where
+module _ (master : EventComponent) (clock : IsOneMeaning (clock_of (component_of master).times.zone)) (one : (a b : Instance) → IsInstance (of_master (component_of master)) a → IsInstance (of_master (component_of master)) b → a.start ≡ b.start → a ≡ b) where
   abbrev IsOwn : Instance → Type 0
   IsOwn b = IsInstance (of_master (component_of master)) b
 
@@ -159,13 +192,13 @@ module _ (master : EventComponent) (one : (a b : Instance) → IsInstance (of_ma
       listed false e named = inl (named, λ c. true≢false (sym (has_from master.exceptions.items t c) ∙ e))
 
   abbrev booked : ℤ → Instance
-  booked t = record { key = key_at (component_of master) t; start = t; end = (end_on master.times t).0 }
+  booked t = record { key = key_at (component_of master) t; start = t; end = (end_on master.times clock t).0 }
 
   own : (t : ℤ) → IsGiven (component_of master).times (component_of master).rule t → IsShown t → IsOwn (booked t)
   own t given s = from_start (component_of master) (booked t) (record {
     starts = record { given = inl given; in_dates = s.0; not_excepted = s.1; not_replaced = λ r. none_in _ r.among };
     key = refl;
-    ends = (end_on master.times t).1;
+    ends = (end_on master.times clock t).1 s.0;
   })
 
   own_shown : (b : Instance) → IsOwn b → IsShown b.start
@@ -211,14 +244,15 @@ listed_instances series =
     let master = m.0 in
     let ruled = some_there master.rule (series.ruled.1.0 master m.1).0 in
     let rule = ruled.0 in
-    let starts = rule_starts master rule (event.clock master m.1).0 3_652_425 (omega arith) in
+    let clock = (event.clock master m.1).0 in
+    let starts = rule_starts master rule clock 3_652_425 (omega arith) in
     let given : (t : ℤ) → Contains starts.0 t → IsGiven (component_of master).times (component_of master).rule t = λ t c. rule_gives (component_of master).times (component_of master).rule rule t ruled.1 ((starts.1 t).0 c) in
     let one : (a b : Instance) → IsInstance (of_master (component_of master)) a → IsInstance (of_master (component_of master)) b → a.start ≡ b.start → a ≡ b =
     λ a b h k start.
     let x = subst (λ (w : Whole). IsInstance w a) (sym m.2) h in
     let y = subst (λ (w : Whole). IsInstance w b) (sym m.2) k in
     one_start event series.ruled a b x y start ((at_its_start event series.ruled a x).0 ∙ start ∙ sym (at_its_start event series.ruled b y).0) in
-    let all = picked master one starts.0 given in (
+    let all = picked master clock one starts.0 given in (
       all.0,
       λ b. (
         (λ c. subst (λ (w : Whole). IsInstance w b) (sym m.2) ((all.1 b).0 c).1),

@@ -3,8 +3,8 @@
 use Rattle.std.specs.Prelude.{◌≡◌, ◌⊎◌, true, ℕ, ◌*◌, ◌<◌, ◌≤◌, Contains, AllPairs, All, List, [], length, MatchOption, Option, Some, None, unwrap_or, ℤ, pos, ◌+ℤ◌, ◌-ℤ◌, ◌≤ℤ◌, ◌<ℤ◌}
 use Rattle.profile.specs.checker.Instances.{Key, Instance, IsWithin, horizon}
 use Rattle.profile.specs.series.Rules.{Rule, is_rule_day}
-use Rattle.profile.specs.series.Zones.{Zone, IsOffsetAt, IsBounds, Means, local_time}
-use Rattle.profile.specs.events.Properties.{first_second, length_seconds}
+use Rattle.profile.specs.series.Zones.{Zone, IsBounds, Shows, Means, local_time}
+use Rattle.profile.specs.events.Properties.{Form, Fixed, Floating, WholeDay, first_second, length_seconds}
 use Rattle.profile.specs.events.ZonedTimes.{EventTimes, clock_of}
 use Rattle.profile.specs.events.EventRules.{IsOnDay}
 use Rattle.profile.specs.events.EventComponents.{EventComponent}
@@ -12,18 +12,31 @@ use Rattle.profile.specs.events.Events.{Event}
 
 -- ---- when an instance ends
 
--- this many days later by the clocks of a zone: the days are added to the local time that they show. Without days it is the
--- instant itself, also where the clocks show its local time twice
-abbrev pub IsDaysLater : Zone → ℕ → ℤ → ℤ → Type 0
-IsDaysLater zone days instant later =
+-- the midnight of a local time
+abbrev pub IsMidnightOf : ℤ → ℤ → Type 0
+IsMidnightOf midnight local = (day : ℕ) × (second : ℕ) × IsOnDay local day second × (midnight ≡ local_time day 0)
+
+-- the local time from which the days of an event are counted that starts at an instant: the one that the clocks show; of a whole day whose midnight
+-- they skip that midnight, as the day is over at the next one
+abbrev pub IsCountedFrom : Form → Zone → ℤ → ℤ → Type 0
+IsCountedFrom Fixed zone instant local = Shows zone instant local
+IsCountedFrom Floating zone instant local = Shows zone instant local
+IsCountedFrom WholeDay zone instant local =
+    (shown : ℤ) × (midnight : ℤ) × Shows zone instant shown × IsMidnightOf midnight shown
+    × ((Means zone midnight instant × (local ≡ midnight)) ⊎ ((Means zone midnight instant → ⊥) × (local ≡ shown)))
+
+-- this many days later by the clocks of a zone: the days are added to that local time. Without days it is the instant itself, also where the
+-- clocks show its local time twice
+abbrev pub IsDaysLater : Form → Zone → ℕ → ℤ → ℤ → Type 0
+IsDaysLater form zone days instant later =
     ((days ≡ 0) × (later ≡ instant))
-    ⊎ ((0 < days) × ((offset : ℤ) × IsOffsetAt zone instant offset × Means zone ((instant +ℤ offset) +ℤ pos (86_400 * days)) later))
+    ⊎ ((0 < days) × ((local : ℤ) × IsCountedFrom form zone instant local × Means zone (local +ℤ pos (86_400 * days)) later))
 
 -- an instance that starts then, of an event with these times, ends then: the days of its length are nominal and come first, in the zone of
--- DTSTART, then its seconds exactly (RFC 5545 3.3.6). DTEND gives only seconds, so all instances last equally long
+-- DTSTART, then its seconds exactly (RFC 5545 3.3.6). DTEND gives only seconds, but for dates, so all instances last equally long
 abbrev pub EndsAt : EventTimes → ℤ → ℤ → Type 0
 EndsAt times start end =
-    (later : ℤ) × IsDaysLater (clock_of times.zone) times.length.days start later × (end ≡ later +ℤ pos times.length.seconds)
+    (later : ℤ) × IsDaysLater times.form (clock_of times.zone) times.length.days start later × (end ≡ later +ℤ pos times.length.seconds)
 
 -- no instance of an event with these times lasts longer, in exact seconds: its days are 86,400 seconds each, and where there
 -- are days, the difference between the bounds of the offsets of DTSTART's zone is added

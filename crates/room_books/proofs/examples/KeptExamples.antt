@@ -10,7 +10,7 @@ use Rattle.std.proofs.lemmas.List.Elements.{All-from_recursion, All-nil}
 use Rattle.std.specs.Fmt.{digits}
 use lib.Utf8.{encode}
 use Rattle.profile.specs.text.Lines.{logical_lines, reads_as_lines, written}
-use Rattle.profile.specs.text.Values.{SpellsDate, SpellsDuration, WritesStamp, IsAddress, unescaped}
+use Rattle.profile.specs.text.Values.{SpellsDate, SpellsDuration, WritesLocal, WritesStamp, IsAddress, unescaped}
 use Rattle.profile.specs.text.Trees.{Tree, tree, none, more}
 use Rattle.profile.specs.text.Objects.{IsObject}
 use Rattle.profile.specs.text.Objects.SpellsBody.{nothing, property}
@@ -19,14 +19,15 @@ use Rattle.profile.specs.series.Days.{Daily, days_before_year, days_of_months, g
 use Rattle.profile.specs.series.Rules.{Rule, RuleText, UntilDay, rule_of, is_rule_day, is_within_count, is_counted, is_placed, mates_before, mates_after, is_mate, count_days, is_base, is_in_step, passes, passes_month, passes_month_day, passes_weekday, go_together}
 use Rattle.profile.specs.series.RuleTexts.{rule_parts, after_key, months_from, numbers_from, entries_from, SpellsRule, IsKnownPart, EndsAt as UntilKey}
 use Rattle.profile.specs.series.Zones.{Constant, Means, local_time}
-use Rattle.profile.specs.events.ZonedTimes.{EventTimes}
+use Rattle.profile.specs.events.Properties.{Fixed}
+use Rattle.profile.specs.events.ZonedTimes.{EventTimes, SpellsMidnight}
 use Rattle.profile.specs.events.EventRules.{GivesRule, SaysEventRule}
 use Rattle.profile.specs.events.EventComponents.{EventComponent, NeedsAction, Cancel, Request, SaysEventComponent, meeting_said}
 use Rattle.profile.specs.events.Events.{Event}
 use Rattle.profile.specs.events.Starts.{ComesBefore, EndsAt, IsInstance, IsRuleStart, key_at}
 use Rattle.profile.specs.events.Confirmed.{AreApart, AreOfRule, IsOfSeries, alone}
 use Rattle.profile.specs.rooms.Messages as messages
-use Rattle.profile.specs.rooms.Messages.{Content, IsContent, IsPart, WritesTimes, Accept, no_content, opening_lines}
+use Rattle.profile.specs.rooms.Messages.{Content, IsContent, IsPart, WritesListed, WritesTimes, Accept, no_content, opening_lines}
 use Rattle.profile.specs.events.Messages.{Message, SpellsMessage}
 use Rattle.profile.specs.rooms.Revisions.{Part, Whole, At, Cancelled, Set, is_whole, slot_cmp}
 use Rattle.profile.specs.rooms.Rooms.{PartAnswer, Book, Claim, Confirms, Delivery, IsShownInSeries, Recurring, Runs, empty_book, confirmed_series, is_hidden, answered}
@@ -40,6 +41,7 @@ use Rattle.itip_order.proofs.Lists.{in_cons, in_head, in_tail, none_in_nil}
 use Rattle.ical_values.proofs.Readings.{stamp_written}
 use Rattle.itip_messages.proofs.examples.ReplyExamples.{stamp, start}
 use Rattle.itip_messages.specs.Body.{crlf_lines}
+use Rattle.itip_messages.specs.Law.{none_written}
 use Rattle.itip_messages.proofs.shared_lemmas.ObjectTree.{Lines, vevent_lines, parts_more}
 use Rattle.room_books.proofs.shared_lemmas.Pairs.{pairs_from}
 
@@ -102,7 +104,7 @@ own_lines =
     ∷ codes "ORGANIZER:mailto:ann@example.com" ∷ codes "ATTENDEE:mailto:r1@example.com" ∷ []
 
 abbrev times : EventTimes
-times = record { zone = None; local = pos 1_741_597_200; start = pos 1_741_597_200; length = record { days = 0; seconds = 3600 } }
+times = record { form = Fixed; zone = None; local = pos 1_741_597_200; start = pos 1_741_597_200; length = record { days = 0; seconds = 3600 } }
 
 abbrev two_days : RuleText
 two_days = record {
@@ -132,6 +134,7 @@ event = record {
   rule = Some rule;
   additions = [];
   exceptions = [];
+  written = none_written None;
   summary = [];
   attendees = record { address = codes "mailto:r1@example.com"; participation = NeedsAction; scheduled = true } ∷ [];
 }
@@ -190,18 +193,20 @@ says object = record {
     duration_line = Some (codes "DURATION:PT1H");
     end_once = refl;
     duration_once = refl;
-    lasts = an_hour;
+    lasts = (an_hour, tt);
     most = omega arith;
     in_dates = (omega (arith, ints), omega (arith, ints), omega (arith, ints));
   });
   rule = says_rule;
   occurrences = record {
     is = record { line = None; once = refl; present = λ h. absurd (false≢true h); is = tt };
+    fixed_recurrence = λ h. absurd (false≢true h);
     adds = (tt, omega arith);
     inside = tt;
     takes = (tt, omega arith);
     alone = refl;
   };
+  instants = record { slot = refl; added = refl; taken = refl };
   summary = refl;
   attendees = (record { address = (the_room, refl); participation = refl; scheduled = refl }, tt);
 }
@@ -269,13 +274,24 @@ part = record {
   body = Set (codes "DTSTART:20250310T090000Z\r\nDURATION:PT3600S\r\nRRULE:FREQ=DAILY;UNTIL=20250311\r\n");
 }
 
-none_listed : (name : List ℕ) → WritesTimes name [] []
-none_listed name = record {
+none_of : (Writes : List ℕ → ℤ → Type 0) (name : List ℕ) → WritesTimes Writes name [] []
+none_of Writes name = record {
   ascending = [];
   are = record { exact = λ t. (λ c. c, λ c. c); order = pairs_from ◌<ℤ◌ [] tt };
   texts = [];
   each = tt;
   is = refl;
+}
+
+none_listed : (name : List ℕ) → WritesListed name [] []
+none_listed name = record {
+  fixed = [];
+  floating = [];
+  days = [];
+  in_utc = none_of WritesStamp name;
+  local = none_of WritesLocal name;
+  dates = none_of SpellsMidnight (name ++ codes ";VALUE=DATE");
+  are = refl;
 }
 
 is_content : IsContent content event
@@ -405,10 +421,11 @@ gone = record {
   sequence = 1;
   cancelled = false;
   recurrence = Some (pos 1_741_683_600);
-  times = record { zone = None; local = pos 0; start = pos 0; length = record { days = 0; seconds = 0 } };
+  times = record { form = Fixed; zone = None; local = pos 0; start = pos 0; length = record { days = 0; seconds = 0 } };
   rule = None;
   additions = [];
   exceptions = [];
+  written = none_written (Some (pos 1_741_683_600));
   summary = [];
   attendees = record { address = codes "mailto:r1@example.com"; participation = NeedsAction; scheduled = true } ∷ [];
 }
@@ -452,6 +469,7 @@ says_gone object = record {
       duration_once = refl;
       lasts = refl;
       most = omega arith;
+      form = refl;
       zone = refl;
       local = refl;
       start = refl;
@@ -468,11 +486,13 @@ says_gone object = record {
         (None, pos 1_741_683_600, (refl, stamp_written _ _ second_start), utc_means (pos 1_741_683_600), (omega (arith, ints), omega (arith, ints), omega (arith, ints))),
       );
     };
+    fixed_recurrence = λ h. absurd (false≢true h);
     adds = (tt, omega arith);
     inside = tt;
     takes = (tt, omega arith);
     alone = refl;
   };
+  instants = record { slot = refl; added = refl; taken = refl };
   summary = refl;
   attendees = (record { address = (the_room, refl); participation = refl; scheduled = refl }, tt);
 }

@@ -2,15 +2,16 @@
 -- Behind answers_stay, kept_texts_pass, kept_texts_spell, served_texts_pass.
 use Rattle.std.proofs.Common.{◌≡◌, ◌∙◌, ℕ, ℤ, Bool, true, false, ◌&&◌, ◌||◌, not, List, [], ◌∷◌, ◌++◌, codes, decimal, Option, Some, None, refl, sym, ap, ap₂, subst, arith, append_assoc}
 use Rattle.std.proofs.lemmas.Bool.{true≢false}
-use Rattle.std.specs.List.{list_all}
+use Rattle.std.specs.Prelude.{filter}
+use Rattle.std.specs.List.{list_all, Contains}
 use Rattle.profile.specs.text.Lines.{is_content}
-use Rattle.profile.specs.text.Trees.{Tree}
+use Rattle.profile.specs.text.Trees.{Tree, vevents}
 use Rattle.profile.specs.text.Objects.{is_property}
 use Rattle.profile.specs.text.Values.{WritesStamp, escaped}
 use Rattle.profile.specs.events.EventComponents.{Method, EventComponent, SaysEventComponent, has_accepted, meeting_said, adds_instances}
 use Rattle.profile.specs.events.Confirmed.{is_kept}
 use Rattle.profile.specs.rooms.Messages as messages
-use Rattle.profile.specs.rooms.Messages.{Content, IsBody, IsContent, TellsSlot, cancels, slot_named, names_room}
+use Rattle.profile.specs.rooms.Messages.{Content, IsBody, IsContent, TellsSlot, cancels, may_take, slot_named, names_room}
 use Rattle.profile.specs.rooms.Revisions.{Part, Slot, Whole, At, Body, Set, Absent, Cancelled}
 use Rattle.profile.specs.rooms.Rooms.{Claim, is_set, is_set_body}
 use Rattle.profile.specs.rooms.Kept.{IsEventOf, IsKeptEvent, HidesSlot, Shown}
@@ -22,14 +23,16 @@ use Rattle.ical_values.proofs.ShownValues.{shown_stamp}
 use Rattle.itip_messages.proofs.law_lemmas.PartTexts.{IsAsked, IsRoom, asked_room, message_of, named}
 use Rattle.itip_messages.proofs.shared_lemmas.CleanText.{clean_address}
 use Rattle.itip_messages.proofs.shared_lemmas.CleanUids.{clean_text}
+use Rattle.itip_messages.proofs.body_lemmas.TimeLists.{back_times}
 use Rattle.itip_messages.proofs.body_lemmas.ZonePlaces.{named_lines}
 use Rattle.cal_events.specs.MeetingComponents.{IsInEventDates}
 use Rattle.itip_messages.proofs.shared_lemmas.OwnLines.{SpellSlot, slot_lines, own_front, when_lines}
 use Rattle.room_books.proofs.laws_lemmas.KeptOwn.{SpellPart, own_back, own_lines, zoned_event, zoned_own, zoned_says}
 use Rattle.itip_messages.proofs.shared_lemmas.OwnWhen.{IsCleanSlot, duration_clean, duration_of, when_of, written_rule}
-use Rattle.itip_messages.proofs.shared_lemmas.ZonedStarts.{local_written, IsSaid, name_means, name_plain}
+use Rattle.itip_messages.proofs.shared_lemmas.ZonedStarts.{IsSaid, name_means, name_plain}
 use Rattle.room_books.proofs.laws_lemmas.KeptEvents.{hidden_own, hidden_event, hidden_says, kept_confirmed}
 use Rattle.room_books.proofs.laws_lemmas.KeptInstances.{kept_asks}
+use Rattle.room_books.proofs.laws_lemmas.KeptTimes.{IsAsWritten, back_same, taken_written}
 use Rattle.room_books.proofs.laws_lemmas.KeptLines.{hidden_content, hidden_properties}
 use Rattle.itip_messages.proofs.shared_lemmas.ObjectTree.{Lines, vevent_lines}
 use Rattle.itip_messages.proofs.shared_lemmas.ZonedObjects.{IsZonedTree}
@@ -84,6 +87,12 @@ set_body room method event content Cancelled b set = absurd (true≢false (sym s
 pub set_zone : (room : List ℕ) (content : Content) (part : Part) (a : IsAsked room content part) → IsSaid a.event.times.zone
 set_zone room content part a = (message_of a.octets a.given a.spells a.event a.among).says.zone
 
+-- the instants of the event are those of what is written
+as_written : (room : List ℕ) (content : Content) (part : Part) (a : IsAsked room content part) → IsAsWritten a.event
+as_written room content part a =
+    let said = a.spells.says in
+    taken_written a.spells.tree a.given.method (vevents a.spells.tree) said.events a.event said.says (subst (λ (l : List EventComponent). Contains l a.event) said.taken a.among)
+
 -- it says a confirmed event, of the same instances
 pub record ShowsBack (room : List ℕ) (zones : List (List ℕ)) (claim : Claim) (lines : Lines) : Type 0 where
   pub back : ReadsBack zones lines claim.part.organiser claim.part.uid claim.part.slot
@@ -119,19 +128,21 @@ shows_back room zones claim lines f set (name, given_name, k) =
     let plain = name_plain zones claim.content event c name given_name in
     let l = named_lines name claim.content event c in
     let facts = m.says.facts a.to_rooms b.stays in
-    let rule = written_rule event.times (local_written event.times.zone event.times) facts.local m.ready.timely.steady.meaning event.rule c.rule facts.recurs c.recurs in
+    let rule = written_rule event.times m.says.meaning event.rule c.rule facts.recurs c.recurs in
     let w = when_of name claim.content event c l plain (adds_instances (Some a.given.method)) facts rule event.recurrence (or_from_right (adds_instances (Some a.given.method))) in
+    let additions = back_times (codes "RDATE") event.written.additions c.additions w.adds in
+    let exceptions = back_times (codes "EXDATE") (filter may_take event.written.exceptions) c.exceptions w.takes in
     let duration = duration_of event in
     let uid = escaped part.uid in
     let sequence = decimal part.revision.sequence in
     let number = part.revision.sequence in
     let spell = part_spelled room claim.content part a k.stamp k.written_stamp r in
     let spell_event : SpellPart event.uid number uid sequence k.stamp part.organiser room part.revision.stamp = subst (λ (u : List ℕ). SpellPart u number uid sequence k.stamp part.organiser room part.revision.stamp) a.is_part.uid spell in
-    let said = zoned_event event event.recurrence number part.organiser part.revision.stamp room rule.back w.adds.ascending w.takes.ascending in
+    let said = zoned_event event event.recurrence number part.organiser part.revision.stamp room rule.back additions exceptions in
     let when = when_lines l.start duration c.rule c.additions c.exceptions in
     let own = own_lines told.text uid sequence k.stamp when part.organiser room in
     let good =
-    zoned_own name event told.text event.recurrence number uid sequence k.stamp l.start duration part.organiser room part.revision.stamp c.rule c.additions c.exceptions rule.back event.additions _ spell_event w told.clean (clean_text part.uid n.uid)
+    zoned_own name event told.text event.recurrence number uid sequence k.stamp l.start duration part.organiser room part.revision.stamp c.rule c.additions c.exceptions rule.back event.written.additions _ spell_event w told.clean (clean_text part.uid n.uid)
     (clean_shown sequence (shown_decimal part.revision.sequence (omega arith))) (clean_shown k.stamp (shown_stamp k.stamp part.revision.stamp k.written_stamp)) (duration_clean event) (clean_address part.organiser n.organiser) (clean_address room r.text) in
     record {
       back = record {
@@ -142,13 +153,14 @@ shows_back room zones claim lines f set (name, given_name, k) =
             ∙ ap (λ (x : Lines). codes "BEGIN:VEVENT" ∷ x) (sym (append_assoc (own_front told.text uid sequence k.stamp ++ when) (own_back part.organiser room) (codes "END:VEVENT" ∷ [])));
         properties = good.properties;
         content = good.content;
-        says = λ owns t. zoned_says name event told.text event.recurrence number uid sequence k.stamp l.start duration part.organiser room part.revision.stamp c.rule c.additions c.exceptions rule.back event.additions _ spell_event w told.spells t.whole
+        says = λ owns t. zoned_says name event told.text event.recurrence number uid sequence k.stamp l.start duration part.organiser room part.revision.stamp c.rule c.additions c.exceptions rule.back event.written.additions _ spell_event w told.spells t.whole
             (name_means None zones owns t claim.content event c m.says.zone name given_name);
         meeting = ap (λ (u : List ℕ). (part.organiser, u)) (sym a.is_part.uid);
         slot_is = sym a.is_part.slot;
       };
-      kept = ap (λ x. x && not false) (kept_confirmed event event.recurrence number part.organiser part.revision.stamp room rule.back w.adds.ascending w.takes.ascending);
-      books = kept_asks event number part.organiser part.revision.stamp room rule.back w.adds.ascending w.takes.ascending a.is_part.organiser facts.local rule.same w.adds.are w.takes.are claim
+      kept = ap (λ x. x && not false) (kept_confirmed event event.recurrence number part.organiser part.revision.stamp room rule.back additions exceptions);
+      books = kept_asks event number part.organiser part.revision.stamp room rule.back additions exceptions a.is_part.organiser rule.same (as_written room claim.content part a)
+          (back_same (codes "RDATE") event.written.additions c.additions w.adds) (back_same (codes "EXDATE") (filter may_take event.written.exceptions) c.exceptions w.takes) claim
           (subst (λ b. AsksFor b event claim) set f.books);
     }
   where

@@ -5,11 +5,15 @@ use Rattle.std.specs.Prelude.{◌↔◌, option_map}
 use Rattle.std.specs.Option.{option_to_list}
 use Rattle.std.specs.Ordering.{is_eq}
 use Rattle.std.specs.List.{flat_map, list_all, list_any, Contains, AllZip}
-use Rattle.std.proofs.lemmas.Bool.{and_parts, and_from, true≢false, cases_Bool, both_ways}
+use Rattle.std.proofs.lemmas.Bool.{and_parts, and_from, false≢true, true≢false, cases_Bool, both_ways}
 use Rattle.std.proofs.Math.Bool.{and-false}
 use Rattle.profile.specs.text.Lines.{is_content, logical_lines, reads_as_lines, written}
 use Rattle.profile.specs.text.Objects.{is_property, IsObject}
 use Rattle.profile.specs.events.EventComponents.{EventComponent, SaysEventComponent, meeting_said}
+use Rattle.profile.specs.events.Placed.{SaysPlaced}
+use Rattle.profile.specs.events.Properties.{lines_named}
+use Rattle.profile.specs.series.RoomZones.{NamesRoomZone}
+use Rattle.profile.specs.text.Trees.{Tree, tree_own}
 use Rattle.profile.specs.events.Events.{Event, is_master}
 use Rattle.profile.specs.events.Starts.{IsInstance}
 use Rattle.profile.specs.events.Confirmed.{Confirmed, AreConfirmed, AreOfRule, AreSingles, IsOneOf, IsReplacedAmong, IsSeries, alone, by_its_rule, has_series, is_kept, is_series}
@@ -37,7 +41,8 @@ use Rattle.room_books.proofs.laws_lemmas.KeptInstances.{IsHiding, none_left, ser
 use Rattle.room_books.proofs.laws_lemmas.KeptMeetings.{meeting_trans}
 use Rattle.room_books.proofs.laws_lemmas.KeptReplaced.{replaced_by}
 use Rattle.room_books.proofs.laws_lemmas.KeptRuns.{KeepsAll, runs_keep}
-use Rattle.itip_messages.proofs.shared_lemmas.ObjectTree.{Lines, vevent_lines}
+use Rattle.itip_messages.proofs.shared_lemmas.ObjectTree.{Lines, calendar_own, vevent_lines}
+use Rattle.itip_messages.proofs.shared_lemmas.PlacedUtc.{all_placed}
 use Rattle.itip_messages.proofs.shared_lemmas.ZonedObjects.{IsZonedTree, ZoneBack, zoned_spelled}
 use Rattle.room_books.proofs.shared_lemmas.Loops.{zip_from, zip_to}
 use Rattle.room_books.proofs.shared_lemmas.Pairs.{pairs_from}
@@ -353,6 +358,10 @@ module _ (room : List ℕ) (book : Book) (k : KeepsAll room book) (entries : Lis
 
 -- ---- the calendar
 
+-- it names no zone of its room, so that its events are as they are written
+names_none : (object : Tree) → tree_own object ≡ calendar_own None → NamesRoomZone (tree_own object) None
+names_none object own = (None, record { line = None; once = ap (lines_named (codes "X-ROOM-ZONE")) own; present = λ h. absurd (false≢true h); is = tt }, refl)
+
 -- the singles one after another
 flat_of_map : (taken : List Part) (es : List KeptComponent) → flat_map (λ l. l) (map (singles_of taken) es) ≡ flat_map (singles_of_claim taken) (claims_kept es)
 flat_of_map taken [] = refl
@@ -397,7 +406,11 @@ module _ (back : LinesBack) (reads : ReadsLines) (zone_back : ZoneBack) where
           object = subst (λ (l : Lines). IsObject false t.whole l) (sym logical) t.object;
           says = record {
             events = b.saids;
-            says = subst (λ (l : List Lines). AllZip (SaysEventComponent t.whole None) l b.saids) (sym t.events) (b.says b.owns t);
+            says = record {
+              zone = None;
+              names = names_none t.whole t.own;
+              each = subst (λ (l : List Lines). AllZip (SaysPlaced None t.whole None) l b.saids) (sym t.events) (all_placed t.whole None b.owns b.saids (b.says b.owns t));
+            };
             masters = λ i j d l w m n same. differ i j d l w same (ap slot_named m ∙ sym (ap slot_named n));
             overrides = λ i j d l w slot m n same. differ i j d l w same (ap slot_named m ∙ sym (ap slot_named n));
             are = are;

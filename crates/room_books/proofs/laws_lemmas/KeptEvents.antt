@@ -10,9 +10,12 @@ use Rattle.profile.specs.text.Values.{SpellsStamp, SpellsDuration}
 use Rattle.std.proofs.lemmas.Bool.{false≢true}
 use Rattle.profile.specs.text.Trees.{Tree}
 use Rattle.profile.specs.series.Rules.{Rule}
+use Rattle.profile.specs.events.Occurrences.{Time}
+use Rattle.profile.specs.events.Properties.{Fixed}
 use Rattle.profile.specs.events.EventComponents.{EventComponent, Attendee, Accepted, Declined, SaysEventComponent, has_accepted, is_accepted}
 use Rattle.cal_events.proofs.shared_lemmas.Meanings.{utc_means}
 use Rattle.ical_values.proofs.Spans.{duration_written}
+use Rattle.itip_messages.specs.Law.{none_written}
 use Rattle.itip_messages.proofs.body_lemmas.TimeLists.{IsStart}
 use Rattle.room_books.proofs.laws_lemmas.KeptOwn.{SpellPart, zoned_event}
 
@@ -31,10 +34,11 @@ hidden_event uid instant sequence organiser stamp room = record {
   sequence = sequence;
   cancelled = true;
   recurrence = Some instant;
-  times = record { zone = None; local = instant; start = instant; length = record { days = 0; seconds = 0 } };
+  times = record { form = Fixed; zone = None; local = instant; start = instant; length = record { days = 0; seconds = 0 } };
   rule = None;
   additions = [];
   exceptions = [];
+  written = none_written (Some instant);
   summary = [];
   attendees = record { address = room; participation = Declined; scheduled = true } ∷ [];
 }
@@ -56,24 +60,26 @@ hidden_says uid_is instant number uid recurrence sequence stamp start organiser 
     duration_line = Some (codes "DURATION:PT0S");
     end_once = refl;
     duration_once = refl;
-    lasts = subst (λ (text : List ℕ). SpellsDuration text 0 0) (ap (λ (d : List ℕ). codes "PT" ++ (d ++ codes "S")) (decimal_digit 0 (lit< tt))) (duration_written 0 0 (omega arith) (omega arith));
+    lasts = (subst (λ (text : List ℕ). SpellsDuration text 0 0) (ap (λ (d : List ℕ). codes "PT" ++ (d ++ codes "S")) (decimal_digit 0 (lit< tt))) (duration_written 0 0 (omega arith) (omega arith)), tt);
     most = omega arith;
     in_dates = (dated.0, dated.0, dated.1);
   });
   rule = record { text = None; spells = record { line = None; once = refl; present = λ h. absurd (false≢true h); is = tt }; gives = tt };
   occurrences = record {
     is = record { line = Some (codes "RECURRENCE-ID:" ++ recurrence); once = refl; present = λ h. absurd (false≢true h); is = (refl, (None, instant, (refl, at), utc_means instant, (dated.0, dated.0, dated.1))) };
+    fixed_recurrence = λ h. absurd (false≢true h);
     adds = (tt, omega arith);
     inside = tt;
     takes = (tt, omega arith);
     alone = refl;
   };
+  instants = record { slot = refl; added = refl; taken = refl };
   summary = refl;
   attendees = (record { address = (s.addressed, sym s.room_lower); participation = refl; scheduled = refl }, tt);
 }
 
 -- the room has accepted what is shown
-pub kept_confirmed : (event : EventComponent) (slot : Option ℤ) (number : ℕ) (organiser : List ℕ) (stamped : ℤ) (room : List ℕ) (rule : Option Rule) (additions exceptions : List ℤ) → has_accepted room (zoned_event event slot number organiser stamped room rule additions exceptions) ≡ true
+pub kept_confirmed : (event : EventComponent) (slot : Option ℤ) (number : ℕ) (organiser : List ℕ) (stamped : ℤ) (room : List ℕ) (rule : Option Rule) (additions exceptions : List Time) → has_accepted room (zoned_event event slot number organiser stamped room rule additions exceptions) ≡ true
 kept_confirmed event slot number organiser stamped room rule additions exceptions =
     let same : bytes_eq room room ≡ true = (bytes_eq-Decides room room).1 refl in
     let attendee : Attendee = record { address = room; participation = Accepted; scheduled = true } in

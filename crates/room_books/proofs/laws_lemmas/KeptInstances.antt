@@ -10,11 +10,12 @@ use Rattle.std.proofs.lemmas.List.Elements.{All-nil, All-contains, Contains-get_
 use Rattle.std.proofs.lemmas.List.Kept.{AllPairs-filter}
 use Rattle.profile.specs.checker.Instances.{Instance, horizon}
 use Rattle.profile.specs.events.Properties.{first_second}
-use Rattle.profile.specs.events.EventComponents.{EventComponent}
+use Rattle.profile.specs.events.EventComponents.{EventComponent, instants_of}
+use Rattle.profile.specs.events.Occurrences.{Time}
 use Rattle.profile.specs.events.Events.{Event, is_master}
 use Rattle.profile.specs.events.Starts.{IsStart, IsGiven, IsInstance, IsRuleStart, ComesBefore, key_at}
 use Rattle.profile.specs.events.Confirmed.{alone, has_series, is_kept, AreApart, AreOfRule, AreSingles, IsInstanceAmong, IsOfSeries, IsReplacedAmong, IsSeries, IsSingle}
-use Rattle.profile.specs.rooms.Messages.{AreAscending, is_in_dates}
+use Rattle.profile.specs.rooms.Messages.{is_in_dates, may_take}
 use Rattle.profile.specs.rooms.Rooms.{Claim}
 use Rattle.profile.specs.streams.Streams.{AsksFor}
 use Rattle.profile.specs.series.Rules.{Rule}
@@ -23,7 +24,7 @@ use Rattle.cal_events.proofs.shared_lemmas.OwnSingles.{IsAtStart, IsItself, mast
 use Rattle.cal_events.proofs.shared_lemmas.SeriesLemmas.{in_its_series, of_its_series}
 use Rattle.itip_messages.specs.SentLaw.{IsSameRule}
 use Rattle.room_books.proofs.laws_lemmas.KeptOwn.{zoned_event}
-use Rattle.itip_messages.proofs.shared_lemmas.ZonedStarts.{local_written}
+use Rattle.room_books.proofs.laws_lemmas.KeptTimes.{IsAsWritten, SameInstants, taken_in, taken_of}
 
 lesser : (a b : ℤ) → a <ℤ b → lt_z a b ≡ true
 lesser a b h = by (lt_z a b) refl
@@ -42,9 +43,9 @@ no_lesser a b h = by (lt_z a b) refl
 in_the_dates : (t : ℤ) → first_second ≤ℤ t → t <ℤ horizon → is_in_dates t ≡ true
 in_the_dates t low high = and_from _ _ (lesser t horizon high) (ap not (no_lesser t first_second low))
 
-module _ (event : EventComponent) (number : ℕ) (organiser : List ℕ) (stamp : ℤ) (room : List ℕ) (back : Option Rule) (additions exceptions : List ℤ)
-    (organised : event.organiser ≡ Some organiser) (local_same : local_written event.times.zone event.times ≡ event.times.local) (same : IsSameRule event.rule back)
-    (adds : AreAscending event.additions additions) (takes : AreAscending (filter is_in_dates event.exceptions) exceptions) where
+module _ (event : EventComponent) (number : ℕ) (organiser : List ℕ) (stamp : ℤ) (room : List ℕ) (back : Option Rule) (additions exceptions : List Time)
+    (organised : event.organiser ≡ Some organiser) (same : IsSameRule event.rule back) (written : IsAsWritten event)
+    (adds : SameInstants event.written.additions additions) (takes : SameInstants (filter may_take event.written.exceptions) exceptions) where
   abbrev kept : EventComponent
   kept = zoned_event event event.recurrence number organiser stamp room back additions exceptions
 
@@ -56,7 +57,7 @@ module _ (event : EventComponent) (number : ℕ) (organiser : List ℕ) (stamp :
   by_rule_to (Some rule) (Some kept_rule) e t g = record {
     first = g.first;
     second = g.second;
-    on = (g.on.0, local_same ∙ g.on.1);
+    on = g.on;
     day = g.day;
     listed = e g.day ∙ g.listed;
     means = g.means;
@@ -69,7 +70,7 @@ module _ (event : EventComponent) (number : ℕ) (organiser : List ℕ) (stamp :
   by_rule_from (Some rule) (Some kept_rule) e t g = record {
     first = g.first;
     second = g.second;
-    on = (g.on.0, sym local_same ∙ g.on.1);
+    on = g.on;
     day = g.day;
     listed = sym (e g.day) ∙ g.listed;
     means = g.means;
@@ -77,19 +78,19 @@ module _ (event : EventComponent) (number : ℕ) (organiser : List ℕ) (stamp :
   by_rule_from None (Some kept_rule) e t g = absurd e
   by_rule_from (Some rule) None e t g = absurd e
 
-  given_to : (t : ℤ) → IsGiven event.times event.rule t ⊎ Contains event.additions t → IsGiven kept.times back t ⊎ Contains additions t
+  given_to : (t : ℤ) → IsGiven event.times event.rule t ⊎ Contains event.additions t → IsGiven kept.times back t ⊎ Contains (instants_of additions) t
   given_to t (inl g) = inl (by_rule_to event.rule back same t g)
-  given_to t (inr c) = inr ((adds.exact t).1 c)
+  given_to t (inr c) = inr ((adds t).0 (subst (λ (l : List ℤ). Contains l t) written.added c))
 
-  given_from : (t : ℤ) → IsGiven kept.times back t ⊎ Contains additions t → IsGiven event.times event.rule t ⊎ Contains event.additions t
+  given_from : (t : ℤ) → IsGiven kept.times back t ⊎ Contains (instants_of additions) t → IsGiven event.times event.rule t ⊎ Contains event.additions t
   given_from t (inl g) = inl (by_rule_from event.rule back same t g)
-  given_from t (inr c) = inr ((adds.exact t).0 c)
+  given_from t (inr c) = inr (subst (λ (l : List ℤ). Contains l t) (sym written.added) ((adds t).1 c))
 
   start_to : (t : ℤ) → IsStart event [] t → IsStart kept [] t
   start_to t s = record {
     given = given_to t s.given;
     in_dates = s.in_dates;
-    not_excepted = λ c. s.not_excepted (of_filtered is_in_dates event.exceptions t ((takes.exact t).0 c)).0;
+    not_excepted = λ c. s.not_excepted (subst (λ (l : List ℤ). Contains l t) (sym written.taken) (taken_of event.written.exceptions t ((takes t).1 c)));
     not_replaced = s.not_replaced;
   }
 
@@ -97,7 +98,7 @@ module _ (event : EventComponent) (number : ℕ) (organiser : List ℕ) (stamp :
   start_from t s = record {
     given = given_from t s.given;
     in_dates = s.in_dates;
-    not_excepted = λ c. s.not_excepted ((takes.exact t).1 (in_filtered is_in_dates event.exceptions t c (in_the_dates t s.in_dates.0 s.in_dates.1)));
+    not_excepted = λ c. s.not_excepted ((takes t).0 (taken_in event.written.exceptions t (in_the_dates t s.in_dates.0 s.in_dates.1) (subst (λ (l : List ℤ). Contains l t) written.taken c)));
     not_replaced = s.not_replaced;
   }
 

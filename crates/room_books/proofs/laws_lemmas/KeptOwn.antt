@@ -4,10 +4,12 @@ use Rattle.std.proofs.Common.{◌≡◌, refl, sym, ℕ, ℤ, true, false, cond,
 use Rattle.profile.specs.text.Trees.{Tree}
 use Rattle.profile.specs.text.Values.{SpellsStamp, SpellsSequence, unescaped, IsAddress, IsUid, lower_case}
 use Rattle.profile.specs.events.EventComponents.{Accepted, EventComponent, SaysEventComponent}
+use Rattle.profile.specs.events.Occurrences.{Time}
 use Rattle.profile.specs.events.Properties.{lines_named}
 use Rattle.profile.specs.rooms.Revisions.{Revision}
 use Rattle.profile.specs.series.Rules.{Rule}
 use Rattle.ical_lines.proofs.CleanLines.{IsClean}
+use Rattle.itip_messages.proofs.body_lemmas.TimeLists.{back_times}
 use Rattle.itip_messages.proofs.shared_lemmas.ContentLines.{accepted_line, organiser_line}
 use Rattle.itip_messages.proofs.shared_lemmas.ObjectTree.{Lines}
 use Rattle.itip_messages.proofs.shared_lemmas.OwnLines.{IsBehind, IsElsewhere, SpellSlot, SpellWhen, as_event, event_again, own_says, when_lines}
@@ -24,8 +26,8 @@ own_back organiser room = (codes "ORGANIZER:" ++ organiser) ∷ (codes "ATTENDEE
 abbrev pub own_lines : (recurrence : Option (List ℕ)) (uid sequence stamp : List ℕ) (when : Lines) (organiser room : List ℕ) → Lines
 own_lines recurrence uid sequence stamp when organiser room = lines.own_lines recurrence uid sequence stamp when (own_back organiser room)
 
--- the event that is kept of a message's
-abbrev pub zoned_event : EventComponent → Option ℤ → ℕ → List ℕ → ℤ → List ℕ → Option Rule → List ℤ → List ℤ → EventComponent
+-- the event that is kept of a message's, with these times
+abbrev pub zoned_event : EventComponent → Option ℤ → ℕ → List ℕ → ℤ → List ℕ → Option Rule → List Time → List Time → EventComponent
 zoned_event event recurrence sequence organiser stamp room rule additions exceptions =
     event_again event recurrence organiser (record { sequence = sequence; stamp = stamp }) rule additions exceptions false [] (record { address = room; participation = Accepted; scheduled = true } ∷ [])
 
@@ -62,10 +64,10 @@ room_own organiser room o r = own_more (codes "ORGANIZER:" ++ organiser) _ (orga
 
 -- ---- what they say, and what lines they are
 
-module _ (name : List ℕ) (event : EventComponent) (recurrence : Option (List ℕ)) (slot : Option ℤ) (number : ℕ) (uid sequence stamp start duration organiser room : List ℕ) (stamped : ℤ) (rules additions exceptions : Lines) (back : Option Rule) (added taken : List ℤ)
+module _ (name : List ℕ) (event : EventComponent) (recurrence : Option (List ℕ)) (slot : Option ℤ) (number : ℕ) (uid sequence stamp start duration organiser room : List ℕ) (stamped : ℤ) (rules additions exceptions : Lines) (back : Option Rule) (added taken : List Time)
     (s : SpellPart event.uid number uid sequence stamp organiser room stamped) (w : SpellWhen name event slot start duration rules additions exceptions back added taken) where
   pub zoned_says : SpellSlot recurrence slot → (object : Tree) → MeansZone object name event.times.zone
-      → SaysEventComponent object None (own_lines recurrence uid sequence stamp (when_lines start duration rules additions exceptions) organiser room) (zoned_event event slot number organiser stamped room back w.adds.ascending w.takes.ascending)
+      → SaysEventComponent object None (own_lines recurrence uid sequence stamp (when_lines start duration rules additions exceptions) organiser room) (zoned_event event slot number organiser stamped room back (back_times (codes "RDATE") added additions w.adds) (back_times (codes "EXDATE") taken exceptions w.takes))
   zoned_says spells object m =
       let revision : Revision = record { sequence = number; stamp = stamped } in
       let whose : lines.SpellPart event.uid revision uid sequence stamp organiser = record { uid_there = s.uid_there; is_uid = s.is_uid; numbered = s.numbered; stamped_is = s.stamped_is; organised = s.organised; lower = s.lower } in

@@ -27,7 +27,7 @@ use Rattle.cal_events.specs.Series.{series_said, IsSeriesOf}
 use Rattle.cal_events.specs.declared.series.Series.{Series}
 use Rattle.cal_events.specs.OwnInstances.{own_instance_at, IsTimely}
 use Rattle.cal_events.proofs.shared_lemmas.OwnSingles.{master_alone, of_both, one_by_key, override_alone}
-use Rattle.itip_messages.proofs.body_lemmas.BodyLemmas.{clock_named}
+use Rattle.cal_events.specs.MeetingComponents.{IsInEventDates}
 use Rattle.profile.specs.events.Events.{Event as Recurs, is_master}
 use Rattle.profile.specs.events.Messages as messages
 use Rattle.profile.specs.rooms.Messages as profile
@@ -103,6 +103,10 @@ pub record IsOwn (event : EventComponent) (b : Instance) : Type 0 where
   pub slot : IsOfSlot (profile.slot_of event) b.key.slot
   pub start : IsClockSeconds b.start
   pub slot_at : IsClockSeconds b.key.slot
+
+-- a stamp writes what an event may name
+clock_named : (t : ℤ) → IsInEventDates t → IsClockSeconds t
+clock_named t n = (omega (arith, ints, n.0), omega (arith, ints, n.1))
 
 module _ (event : EventComponent) (timely : IsTimely event) (dated : IsDated (profile.slot_of event)) where
   -- it starts at its slot, or its slot is that of the event

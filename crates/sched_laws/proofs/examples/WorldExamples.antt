@@ -1,5 +1,5 @@
 -- Worked examples of worlds and of what holds in them: what a step does, what it leaves as it is, and which part of a meeting is booked.
-use Rattle.std.proofs.Common.{◌≡◌, ◌≢◌, ◌∙◌, ℕ, zero, suc, pos, Bool, true, false, List, [], ◌∷◌, codes, length, Option, None, Some, is_some, inl, inr, refl, sym, ap, subst, lit<, arith}
+use Rattle.std.proofs.Common.{◌≡◌, ◌≢◌, ◌∙◌, ℕ, zero, suc, ℤ, pos, Bool, true, false, List, [], ◌∷◌, ◌++◌, codes, length, Option, None, Some, is_some, inl, inr, refl, sym, ap, subst, lit<, arith}
 use Rattle.std.specs.Prelude.{Contains, if◌then◌else◌}
 use Rattle.std.specs.Fmt.{digits}
 use Rattle.std.specs.List.{AllZip}
@@ -10,15 +10,17 @@ use Rattle.std.proofs.lemmas.Slice.Eq.{bytes_eq-Decides}
 use Rattle.profile.specs.checker.Instances.{Instance}
 use Rattle.profile.specs.events.EventComponents.{Accepted, EventComponent, Method, NeedsAction, Reply, Request, is_accepted}
 use Rattle.profile.specs.events.Messages.{Message, SpellsMessage, master_in}
+use Rattle.profile.specs.events.Properties.{Fixed}
+use Rattle.profile.specs.events.ZonedTimes.{SpellsMidnight}
 use Rattle.profile.specs.organisers.Organisers.{Heard, IsSeen, IsSeenOf, Stored, empty_organiser}
-use Rattle.profile.specs.rooms.Messages.{Accept, Busy, Content, IsContent, IsPart, Outcome, WritesTimes, parts_for, revision_beside}
+use Rattle.profile.specs.rooms.Messages.{Accept, Busy, Content, IsContent, IsPart, Outcome, WritesListed, WritesTimes, parts_for, revision_beside}
 use Rattle.profile.specs.rooms.Revisions.{At, Part, Revision, Set, Slot, Whole, in_view}
 use Rattle.profile.specs.rooms.Rooms.{Book, Confirms, PartAnswer, empty_book, is_accept}
 use Rattle.profile.specs.series.Days.{days_before_year, days_of_months}
 use Rattle.profile.specs.streams.Schedules.{HasBooked, IsBooked, SeenIsBooked, SeesBooked}
 use Rattle.profile.specs.streams.Streams.{Hosted, HostedOrganiser, TakesMessage}
 use Rattle.profile.specs.streams.Worlds.{Delivering, Delivers, IsWorldStep, Storing, World, new_world, no_organiser, no_room, nobody, other_organiser, refused_answer}
-use Rattle.profile.specs.text.Values.{WritesStamp}
+use Rattle.profile.specs.text.Values.{WritesLocal, WritesStamp}
 
 abbrev ann : List ℕ
 ann = codes "m:ann"
@@ -46,10 +48,11 @@ meeting sequence = record {
   sequence = sequence;
   cancelled = false;
   recurrence = None;
-  times = record { zone = None; local = pos 100; start = pos 100; length = record { days = 0; seconds = 1 } };
+  times = record { form = Fixed; zone = None; local = pos 100; start = pos 100; length = record { days = 0; seconds = 1 } };
   rule = None;
   additions = [];
   exceptions = [];
+  written = record { recurrence = None; additions = []; exceptions = [] };
   summary = [];
   attendees = record { address = r1; participation = NeedsAction; scheduled = true } ∷ [];
 }
@@ -223,13 +226,24 @@ start = (
 )
 
 -- nothing is listed where there is nothing to list
-none_listed : (name : List ℕ) → WritesTimes name [] []
-none_listed name = record {
+no_times : (Writes : List ℕ → ℤ → Type 0) (name : List ℕ) → WritesTimes Writes name [] []
+no_times Writes name = record {
   ascending = [];
   are = record { exact = λ t. (λ c. c, λ c. c); order = λ i j d l w. absurd (omega (arith, w)) };
   texts = [];
   each = tt;
   is = refl;
+}
+
+none_listed : (name : List ℕ) → WritesListed name [] []
+none_listed name = record {
+  fixed = [];
+  floating = [];
+  days = [];
+  in_utc = no_times WritesStamp name;
+  local = no_times WritesLocal name;
+  dates = no_times SpellsMidnight (name ++ codes ";VALUE=DATE");
+  are = refl;
 }
 
 -- what says when it is

@@ -71,8 +71,8 @@ module _ (laws : Laws) (rooms organisers : List (List ℕ)) (world : World) (sou
 
   asked_too : IsInstance (alone said) b → IsInstance (alone o.asked) b
   asked_too is =
-      instance_to HasNoAnswer text.stored.revision o.event o.asked o.sent b
-      (instance_from (HasAnswered text.host.book text.stored) text.stored.revision o.event said o.again b is)
+      instance_to HasNoAnswer text.stored.revision o.event o.asked o.sent o.written b
+      (instance_from (HasAnswered text.host.book text.stored) text.stored.revision o.event said o.again o.written b is)
 
   series_too : IsOfSeries said b → IsOfSeries o.asked b
   series_too is =

@@ -8,7 +8,7 @@ use Rattle.std.proofs.lemmas.Bool.{true≢false}
 use Rattle.std.proofs.lemmas.Slice.Eq.{bytes_eq-Decides}
 use Rattle.profile.specs.checker.Calendars.{IsCalendarText, SayEvents}
 use Rattle.profile.specs.events.Confirmed.{AreApart, AreOfRule}
-use Rattle.profile.specs.events.EventComponents.{Accepted, Attendee, Declined, Delegated, EventComponent, NeedsAction, Participation, SaysEventComponent, Tentative, has_accepted, is_accepted}
+use Rattle.profile.specs.events.EventComponents.{Accepted, Attendee, Declined, Delegated, EventComponent, NeedsAction, Participation, Tentative, has_accepted, is_accepted}
 use Rattle.profile.specs.events.Messages.{AreOfMeeting, counted}
 use Rattle.profile.specs.organisers.Organisers.{IsSeenOf, ShowsSeen, Stored, is_attendee, last_store}
 use Rattle.profile.specs.organisers.Sent.{IsMeetingText}
@@ -18,11 +18,13 @@ use Rattle.profile.specs.streams.Streams.{AsksFor, Hosted, HostedOrganiser}
 use Rattle.profile.specs.streams.Worlds.{World}
 use Rattle.profile.specs.text.Lines.{logical_lines}
 use Rattle.profile.specs.text.Trees.{Tree, vevents}
+use Rattle.cal_events.proofs.reading_lemmas.OneCalendar.{same_events}
 use Rattle.cal_events.proofs.shared_lemmas.SeriesLemmas.{zip_back}
-use Rattle.cal_events.proofs.shared_lemmas.Zips.{zip_one}
+use Rattle.cal_zones.proofs.OneRoomZone.{one_room_zone}
 use Rattle.itip_messages.specs.SentLaw.{HasAnswered, IsSaidAgain, IsSentAs}
 use Rattle.itip_messages.proofs.sent_law_lemmas.SentEvents.{counted_among}
 use Rattle.itip_order.proofs.Lists.{any_from}
+use Rattle.room_books.proofs.laws_lemmas.KeptTimes.{IsAsWritten, taken_written}
 use Rattle.sched_laws.proofs.law_lemmas.Booked.{IsBookedFor, booked_for}
 use Rattle.sched_laws.proofs.law_lemmas.ClaimFacts.{claim_facts, found_among}
 use Rattle.sched_laws.proofs.law_lemmas.Invariant.{IsSound}
@@ -62,9 +64,7 @@ shown_text laws rooms organisers world sound octets text =
       each = calendar.each;
       only = λ tree events object says.
           let same : tree ≡ calendar.tree = laws.tree 7 7 (logical_lines octets) tree calendar.tree object.spelled calendar.object.spelled in
-          let SaysOne : List (List ℕ) → EventComponent → Type 0 = SaysEventComponent calendar.tree None in
-          zip_one SaysOne (λ lines a b h k. laws.event calendar.tree None lines a b h k) (vevents calendar.tree) events calendar.shown
-          (subst (λ (t : Tree). SayEvents t events) same says) calendar.says;
+          same_events laws.event one_room_zone calendar.tree events calendar.shown (subst (λ (t : Tree). SayEvents t events) same says) calendar.says;
     }
 
 -- ---- who has accepted
@@ -120,6 +120,7 @@ seen_accepting world octets text room event said among again accepted =
 pub record IsOfBooked (world : World) (octets : List ℕ) (text : IsShownText world octets) (room : Hosted) (said : EventComponent) : Type 0 where
   pub event : EventComponent
   pub among : Contains text.stored.events event
+  pub written : IsAsWritten event
   pub again : IsSaidAgain (HasAnswered text.host.book text.stored) text.stored.revision event said
   pub named : is_attendee room.address text.stored.events ≡ true
   pub booked : IsBookedFor text.host.address text.stored room (slot_of event)
@@ -128,11 +129,12 @@ pub record IsOfBooked (world : World) (octets : List ℕ) (text : IsShownText wo
   pub singles : AreApart asked booked.answer.claim.singles
   pub series : AreOfRule asked booked.answer.claim.series
 
--- the events of a store are of one meeting
+-- the events of a store are of one meeting, and their instants are those of what is written
 pub record IsOfStored (stored : Stored) : Type 0 where
   pub organiser : List ℕ
   pub uid : List ℕ
   pub are : AreOfMeeting organiser uid stored.events
+  pub written : (event : EventComponent) → Contains stored.events event → IsAsWritten event
 
 pub stored_meeting : (rooms organisers : List (List ℕ)) (world : World) → IsSound rooms organisers world → (octets : List ℕ) (text : IsShownText world octets) → IsOfStored text.stored
 stored_meeting rooms organisers world sound octets text =
@@ -141,6 +143,10 @@ stored_meeting rooms organisers world sound octets text =
       organiser = store.said.organiser;
       uid = store.said.uid;
       are = subst (AreOfMeeting store.said.organiser store.said.uid) (sym store.events) store.spells.says.are;
+      written = λ event c.
+          let m = store.spells.says in
+          taken_written store.spells.tree store.said.method (vevents store.spells.tree) m.events event m.says
+          (subst (λ (l : List EventComponent). Contains l event) (store.events ∙ m.taken) c);
     }
 
 pub of_booked : Laws → (rooms organisers : List (List ℕ)) (world : World) → IsSound rooms organisers world → (octets : List ℕ) (text : IsShownText world octets)
@@ -157,6 +163,7 @@ of_booked laws rooms organisers world sound octets text room there said c accept
     record {
       event = event;
       among = among;
+      written = meeting.written event among;
       again = again;
       named = seen.named;
       booked = booked;

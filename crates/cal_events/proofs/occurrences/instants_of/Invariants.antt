@@ -1,4 +1,4 @@
-use Rattle.std.proofs.Common.{◌≡◌, ◌++◌, take, drop, map}
+use Rattle.std.proofs.Common.{◌≡◌, ◌++◌, drop, map}
 use Rattle.profile.specs.events.EventComponents.{instants_of}
 use Rattle.cal_events.specs.Times.{time_of}
 use Rattle.cal_events.proofs.occurrences.instants_of.Given as goal

@@ -1,4 +1,4 @@
-use Rattle.std.proofs.Common.{◌≡◌, ◌∙◌, true, sym, ap, subst, refl, arith, rules, ℤ, List, ℕ, FitsSigned, to_z, of_z, w64, to_z-of_z}
+use Rattle.std.proofs.Common.{◌≡◌, ◌∙◌, true, sym, ap, subst, refl, arith, rules, List, FitsSigned, to_z, of_z, w64, to_z-of_z}
 use Rattle.std.specs.Prelude.{Option, Some, None, option_map, is_some, map}
 use Rattle.std.specs.List.{AllZip}
 use Rattle.std.proofs.lemmas.Bool.{true≢false}
@@ -6,13 +6,12 @@ use Rattle.std.proofs.lemmas.Int.{ints}
 use Rattle.std.proofs.lemmas.Grind.{merely}
 use Rattle.profile.specs.series.Zones.{Zone}
 use Rattle.profile.specs.series.RoomZones.{IsRoomZone}
-use Rattle.profile.specs.events.Properties.{Form}
 use Rattle.profile.specs.events.ZonedTimes.{clock_of}
 use Rattle.profile.specs.events.EventComponents.{EventComponent as SaidComponent}
 use Rattle.profile.specs.events.Placed.{IsInstantIn, IsAt, IsPlaced}
 use Rattle.cal_zones.specs.Kinds.{zone_of}
 use Rattle.cal_events.specs.Clocks.{IsSteady}
-use Rattle.cal_events.specs.Component.{component_of, form_of, form_said, zone_said, local_said, times_of, time_of}
+use Rattle.cal_events.specs.Component.{component_of, form_of, time_of}
 use Rattle.cal_zones.specs.RoomZones.{words_of, room_of}
 use Rattle.cal_events.specs.declared.time.Time.{Time}
 use Rattle.cal_events.proofs.shared_lemmas.Placing.{started, placed_at, placed_so, placed_sound, written_start, as_written}

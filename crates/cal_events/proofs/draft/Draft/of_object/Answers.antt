@@ -11,7 +11,7 @@ use Rattle.profile.specs.faults.Faults.{is_calendar_fault}
 use Rattle.profile.specs.checker.Calendars.{CalendarFault}
 use Rattle.profile.specs.events.EventComponents.{EventComponentFault}
 use Rattle.profile.specs.events.Placed.{SaysPlaced}
-use Rattle.profile.specs.series.RoomZones.{NamesRoomZone, RoomZoneFault}
+use Rattle.profile.specs.series.RoomZones.{NamesRoomZone}
 use Rattle.ical_tree.proofs.TreeOfLemmas.{tree_of-own}
 use Rattle.cal_zones.specs.RoomZones.{words_of, room_of}
 use Rattle.cal_events.specs.Component.{component_of, vevents_of}
