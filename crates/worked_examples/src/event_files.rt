@@ -1,6 +1,7 @@
 //! What is answered about an object as an event with its instances.
 
 use cal_events::{Event, Instance, Instances, Span};
+use cal_zones::RoomZone;
 use example_cases::NoAnswer;
 use example_cases::answers::append;
 use example_cases::words::first_word;
@@ -10,13 +11,13 @@ use std::alloc::Global;
 const LISTED: u32 = 12;
 
 pub fn event(alloc: Global, octets: &[u8]) -> Result<String, NoAnswer> {
-    Event::read(alloc, octets)?;
+    Event::read(alloc, octets, &RoomZone::utc())?;
     Ok(String::from_str(alloc, "an event")?)
 }
 
 /// The first instances: of each its slot, its start and its end, in seconds.
 pub fn instances(alloc: Global, octets: &[u8]) -> Result<String, NoAnswer> {
-    let event = Event::read(alloc, octets)?;
+    let event = Event::read(alloc, octets, &RoomZone::utc())?;
     let mut instances = event.instances(i64::MIN);
     let mut list = String::new(alloc);
     for _ in 0..LISTED {
@@ -43,7 +44,7 @@ fn add_next(
 
 /// The first instance that shares an instant with a span, which is its start and its end in seconds.
 pub fn overlap(alloc: Global, octets: &[u8], span: &str) -> Result<String, NoAnswer> {
-    let event = Event::read(alloc, octets)?;
+    let event = Event::read(alloc, octets, &RoomZone::utc())?;
     let (start, end) = first_word(span);
     let (Ok(start), Ok(end)) = (start.parse::<i64>(), end.parse::<i64>()) else {
         return Err(NoAnswer::Unreadable);
