@@ -678,7 +678,7 @@ def reported(cases, program):
 def command_line(cases, program):
     """Help, usage faults, the man page and the completion."""
     for given, argument in [(("expand", "--limit", "0"), "--limit <N>"), (("expand", "--limit", "100001"), "--limit <N>"), (("expand", "--limit", "100,000"), "--limit <N>"),
-                            (("keep", "r1"), "<ROOM>"), (("check", "a", "b", "r1"), "<ROOM>"), (("explain", "44"), "[NUMBER]"), (("explain", "no"), "[NUMBER]")]:
+                            (("keep", "r1"), "<ROOM>"), (("check", "a", "b", "r1"), "<ROOM>"), (("explain", "45"), "[NUMBER]"), (("explain", "no"), "[NUMBER]")]:
         status, out, said = run(program, *given)
         cases.holds(f"a bad word: {given}", (status, out, said.startswith(f"error: invalid value '{given[-1]}' for '{argument}': "), said.endswith("\n\nFor more information, try '--help'.\n")), (2, "", True, True))
     for given in [("what",), ("keep",), ("expand", "--limt", "1"), ("explain", "43", "44"), ("serve", "--report", "x"), ("box", "config", "inbox")]:
