@@ -103,13 +103,6 @@ impl RoomZone {
     {
         self.kept.is_utc()
     }
-
-    /// Whether another is the same, in the same words: then it means the same.
-    pub fn is_same(self, other: RoomZone) -> bool
-        ensures zone { result ≡ true → room_of self ≡ room_of other }
-    {
-        self.kept.is_same(&other.kept)
-    }
 }
 
 // ---- words
