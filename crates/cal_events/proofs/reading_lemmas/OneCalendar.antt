@@ -43,16 +43,16 @@ one_room one own a b (x, s, p) (y, t, q) =
 
 -- which words mean, as no words are those of UTC
 pub room_words : (own : List (List ℕ)) (zone : Option Zone) → NamesRoomZone own zone → (words : List ℕ) × IsRoomZone words zone
-room_words own zone (None, s, is) = (codes "+0000", subst (IsRoomZone (codes "+0000")) (sym is) refl)
-room_words own zone (Some given, s, is) = go s.line s.is
+room_words own named (None, s, is) = (codes "+0000", subst (IsRoomZone (codes "+0000")) (sym is) refl)
+room_words own named (Some given, s, is) = go s.line s.is
   where
-    go : (l : Option (List ℕ)) → BothOrNeither IsRoomZoneLine l (Some given) → (words : List ℕ) × IsRoomZone words zone
+    go : (l : Option (List ℕ)) → BothOrNeither IsRoomZoneLine l (Some given) → (words : List ℕ) × IsRoomZone words named
     go None h = absurd h
     go (Some l) h = (line_value l, subst (IsRoomZone (line_value l)) (sym is) h)
 
 pub no_room_fault : (own : List (List ℕ)) (zone : Option Zone) → NamesRoomZone own zone → RoomZoneFault own → ⊥
-no_room_fault own zone (x, s, is) (inl twice) = let few = at_most_one (codes "X-ROOM-ZONE") own s.line s.once in absurd (omega (arith, few, twice))
-no_room_fault own zone (x, s, is) (inr l) =
+no_room_fault own named (x, s, is) (inl twice) = let few = at_most_one (codes "X-ROOM-ZONE") own s.line s.once in absurd (omega (arith, few, twice))
+no_room_fault own named (x, s, is) (inr l) =
     let f = said_by IsRoomZoneLine (λ line. IsNoRoomZone (line_value line)) (codes "X-ROOM-ZONE") false own x s l in l.2 f.0 f.1
 
 pub same_events : OneEvent → OneRoomZone → (object : Tree) (a b : List EventComponent) → SayEvents object a → SayEvents object b → a ≡ b

@@ -83,9 +83,9 @@ times_as_written [] = tt
 times_as_written (w ∷ ws) = (instant_as_written w.form w.instant, times_as_written ws)
 
 no_zone : (object : Tree) (name : Option (List ℕ)) (text : List ℕ) (form : Form) (zone : Option Zone) (local : ℤ) → SpellsForm object name text form zone local → zone_in None form zone ≡ zone
-no_zone object name text Fixed zone local h = refl
-no_zone object name text Floating zone local h = sym h.1
-no_zone object name text WholeDay zone local h = sym h.1
+no_zone object name text Fixed z local h = refl
+no_zone object name text Floating z local h = sym h.1
+no_zone object name text WholeDay z local h = sym h.1
 
 zone_as_written : {may : Bool} (object : Tree) (lines : Lines) (times : EventTimes) → SaysTimes may object lines times → zone_in None times.form times.zone ≡ times.zone
 zone_as_written object lines times (inl t) = no_zone object (line_param (codes "TZID") t.line) (line_value t.line) times.form times.zone times.local t.says.1
@@ -134,19 +134,19 @@ said_as_written object {m} lines event s = record {
 -- ---- its clocks, and where it starts
 
 zone_steady : (room : Option Zone) (form : Form) (zone : Option Zone) → IsSteady (clock_of zone) → IsSteady (clock_of room) → IsSteady (clock_of (zone_in room form zone))
-zone_steady room Fixed zone own here = own
-zone_steady room Floating zone own here = here
-zone_steady room WholeDay zone own here = here
+zone_steady room Fixed z own here = own
+zone_steady room Floating z own here = here
+zone_steady room WholeDay z own here = here
 
 -- a time in the dates that an event may name is so in any room
 in_dates_there : (room : Option Zone) → IsRoomClock (clock_of room) → (object : Tree) (name : Option (List ℕ)) (text : List ℕ) (in_zone : Bool) (form : Form) (zone : Option Zone) (local t u : ℤ)
     → SpellsForm object name text form zone local → Means (clock_of zone) local t → IsInDates false form in_zone local t → IsInstantIn room form t u → IsInEventDates u
-in_dates_there room clock object name text in_zone Fixed zone local t u h m d p = subst IsInEventDates (sym p) (d.1, d.2)
-in_dates_there room clock object name text in_zone Floating zone local t u h m d p =
+in_dates_there room clock object name text in_zone Fixed z local t u h m d p = subst IsInEventDates (sym p) (d.1, d.2)
+in_dates_there room clock object name text in_zone Floating z local t u h m d p =
     let same : t ≡ local = utc_instant local t (subst (λ (z : Option Zone). Means (clock_of z) local t) h.1 m) in
     let n = clock.near t u p in
     (omega (arith, ints, same, n.0, d.0), omega (arith, ints, same, n.1, d.1))
-in_dates_there room clock object name text in_zone WholeDay zone local t u h m d p =
+in_dates_there room clock object name text in_zone WholeDay z local t u h m d p =
     let same : t ≡ local = utc_instant local t (subst (λ (z : Option Zone). Means (clock_of z) local t) h.1 m) in
     let n = clock.near t u p in
     (omega (arith, ints, same, n.0, d.0), omega (arith, ints, same, n.1, d.1))

@@ -83,9 +83,9 @@ module _ (regular : (tree : Tree) (z : Zone) → SaysZone tree z → IsRegular z
   times_regular object lines times (inr (_, t)) = subst (λ (z : Option Zone). IsRegular (clock_of z)) (sym t.zone) utc_regular
 
   there_regular : (room : Option Zone) (form : Form) (zone : Option Zone) → IsRegular (clock_of zone) → IsRegular (clock_of room) → IsRegular (clock_of (zone_in room form zone))
-  there_regular room Fixed zone own here = own
-  there_regular room Floating zone own here = here
-  there_regular room WholeDay zone own here = here
+  there_regular room Fixed z own here = own
+  there_regular room Floating z own here = here
+  there_regular room WholeDay z own here = here
 
   placed_regular : (words : List ℕ) (room : Option Zone) → IsRoomZone words room → (object : Tree) {m : Option Method} (lines : List (List ℕ)) (event : EventComponent) → SaysPlaced room object m lines event
       → IsRegular (clock_of event.times.zone)
