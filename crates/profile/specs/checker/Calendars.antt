@@ -16,34 +16,55 @@ use Rattle.profile.specs.events.Confirmed.{Confirmed, IsConfirmed, AreConfirmed,
 abbrev pub IsCalendarText : Tree → List ℕ → Type 0
 IsCalendarText t octets = IsObject false t (logical_lines octets)
 
--- the VEVENTs of an object say these events, in a room of the zone that its own lines name. METHOD is ignored
+-- the VEVENTs of an object say these events, in a room of this zone. METHOD is ignored
+abbrev pub SayEventsIn : Option Zone → Tree → List EventComponent → Type 0
+SayEventsIn zone object events = AllZip (SaysPlaced zone object None) (vevents object) events
+
+-- they do in a room of the zone that its own lines name
 pub record SayEvents (object : Tree) (events : List EventComponent) : Type 0 where
   pub zone : Option Zone
   pub names : NamesRoomZone (tree_own object) zone
-  pub each : AllZip (SaysPlaced zone object None) (vevents object) events
+  pub each : SayEventsIn zone object events
 
--- they do, and of them these are confirmed for the room
-pub record SaysCalendar (room : List ℕ) (object : Tree) (confirmed : Confirmed) : Type 0 where
+-- what so says events says these, and of them these are confirmed for the room
+pub record SaysCalendarBy (Say : Tree → List EventComponent → Type 0) (room : List ℕ) (object : Tree) (confirmed : Confirmed) : Type 0 where
   pub events : List EventComponent
-  pub says : SayEvents object events
+  pub says : Say object events
   pub masters : MastersDiffer events
   pub overrides : OverridesDiffer events
   pub are : AreConfirmed room events confirmed
 
+abbrev pub SaysCalendar : List ℕ → Tree → Confirmed → Type 0
+SaysCalendar = SaysCalendarBy SayEvents
+
 -- the octets are one VCALENDAR, which says so
-pub record SpellsCalendar (room octets : List ℕ) (confirmed : Confirmed) : Type 0 where
+pub record SpellsCalendarBy (Say : Tree → List EventComponent → Type 0) (room octets : List ℕ) (confirmed : Confirmed) : Type 0 where
   pub lines : reads_as_lines false octets ≡ true
   pub tree : Tree
   pub object : IsCalendarText tree octets
-  pub says : SaysCalendar room tree confirmed
+  pub says : SaysCalendarBy Say room tree confirmed
+
+abbrev pub SpellsCalendar : (room octets : List ℕ) → Confirmed → Type 0
+SpellsCalendar = SpellsCalendarBy SayEvents
+
+-- the same, read in a room of this zone, whatever zone its own lines name
+abbrev pub SpellsCalendarIn : Option Zone → (room octets : List ℕ) → Confirmed → Type 0
+SpellsCalendarIn zone = SpellsCalendarBy (SayEventsIn zone)
 
 -- the instance is confirmed for the room by the VCALENDAR that the octets are
-pub record IsConfirmedIn (room octets : List ℕ) (instance : Instance) : Type 0 where
+pub record IsConfirmedBy (Say : Tree → List EventComponent → Type 0) (room octets : List ℕ) (instance : Instance) : Type 0 where
   pub tree : Tree
   pub object : IsCalendarText tree octets
   pub events : List EventComponent
-  pub says : SayEvents tree events
+  pub says : Say tree events
   pub is : IsConfirmed room events instance
+
+abbrev pub IsConfirmedIn : (room octets : List ℕ) → Instance → Type 0
+IsConfirmedIn = IsConfirmedBy SayEvents
+
+-- the same, read in a room of this zone
+abbrev pub IsConfirmedInZone : Option Zone → (room octets : List ℕ) → Instance → Type 0
+IsConfirmedInZone zone = IsConfirmedBy (SayEventsIn zone)
 
 -- the certificate holds for the calendar: this spells what is confirmed, the certificate is one for that, and no two instances clash
 pub record CertificateHolds (room calendar text : List ℕ) : Type 0 where
@@ -73,7 +94,7 @@ AreAllFixed octets =
 -- the VEVENTs of an object, or the zone that it names, have the fault of this number, as a calendar
 pub data CalendarFault (object : Tree) : ℕ → Type 0 where
   in_zone : RoomZoneFault (tree_own object) → CalendarFault object 44
-  -- one of them has this fault
+  -- one of its VEVENTs has this fault
   in_event : {n : ℕ} → (lines : List (List ℕ)) → Contains (vevents object) lines → EventComponentFault object None lines n → CalendarFault object n
   two_masters : (events : List EventComponent) → SayEvents object events → (MastersDiffer events → ⊥) → CalendarFault object 53
   two_overrides : (events : List EventComponent) → SayEvents object events → (OverridesDiffer events → ⊥) → CalendarFault object 54

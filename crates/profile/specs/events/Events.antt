@@ -62,6 +62,15 @@ AreOfOne events = (a b : EventComponent) → Contains events a → Contains even
 abbrev pub InstancesDiffer : List EventComponent → Type 0
 InstancesDiffer overrides = AllPairs ◌≢◌ (map (λ event. event.recurrence) overrides)
 
+-- no two name it by the same time as it is written
+abbrev pub TimesDiffer : List EventComponent → Type 0
+TimesDiffer overrides = AllPairs ◌≢◌ (map (λ event. event.written.recurrence) overrides)
+
+-- no two are for one: a message goes to rooms of several zones, so it is by how its times are written that two of them are
+abbrev pub OverridesApart : Option Method → List EventComponent → Type 0
+OverridesApart None overrides = InstancesDiffer overrides
+OverridesApart (Some method) overrides = TimesDiffer overrides
+
 -- an object says this meeting in a room of this zone: as a message of this method, or, without one, as an event with its instances
 pub record SaysEvent (room : Option Zone) (object : Tree) (method : Option Method) (meeting : Event) : Type 0 where
   pub events : List EventComponent
@@ -70,7 +79,7 @@ pub record SaysEvent (room : Option Zone) (object : Tree) (method : Option Metho
   pub one : AreOfOne events
   pub master : filter is_master (taken_by method events) ≡ option_to_list meeting.master
   pub overrides : filter is_override (taken_by method events) ≡ meeting.overrides
-  pub differ : InstancesDiffer meeting.overrides
+  pub differ : OverridesApart method meeting.overrides
 
 -- the octets are one VCALENDAR, within the limits of a message, and say this meeting in a room of this zone
 pub record SpellsEvent (room : Option Zone) (octets : List ℕ) (meeting : Event) : Type 0 where
@@ -92,7 +101,7 @@ pub data EventFault (room : Option Zone) (object : Tree) (method : Option Method
   two_masters : (events : List EventComponent) → AllZip (SaysPlaced room object method) (vevents object) events → 1 < length (filter is_master (taken_by method events))
       → EventFault room object method 53
   two_overrides : (events : List EventComponent) → AllZip (SaysPlaced room object method) (vevents object) events
-      → (InstancesDiffer (filter is_override (taken_by method events)) → ⊥) → EventFault room object method 54
+      → (OverridesApart method (filter is_override (taken_by method events)) → ⊥) → EventFault room object method 54
   -- two UIDs or two ORGANIZERs
   two_meetings : (events : List EventComponent) → AllZip (SaysPlaced room object method) (vevents object) events → (AreOfOne events → ⊥) → EventFault room object method 62
   no_event : vevents object ≡ [] → EventFault room object method 66

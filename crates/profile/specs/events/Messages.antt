@@ -8,7 +8,7 @@ use Rattle.profile.specs.text.Objects.{IsObject}
 use Rattle.profile.specs.text.Trees.{Tree, tree_own, vevents}
 use Rattle.profile.specs.events.EventComponents.{Method, Store, Request, Add, Cancel, Reply, Refresh, NamesWord, Attendee, EventComponent, SaysEventComponent, meeting_said}
 use Rattle.profile.specs.events.Properties.{IsMissing, SomeLine, OccursMoreThanOnce}
-use Rattle.profile.specs.events.Events.{is_master, is_override, taken_by, InstancesDiffer, EventFault}
+use Rattle.profile.specs.events.Events.{is_master, is_override, taken_by, TimesDiffer, EventFault}
 
 -- ---- methods
 
@@ -72,12 +72,12 @@ pub record Message : Type 0 where
   pub uid : List ℕ
   pub events : List EventComponent
 
--- these are VEVENTs of one meeting: at most one is for the whole of it, and no two are for the same instance
+-- these are VEVENTs of one meeting: at most one is for the whole of it, and no two name the same instance by the same time
 pub record AreOfMeeting (organiser uid : List ℕ) (events : List EventComponent) : Type 0 where
   pub some : 0 < length events
   pub of_it : (event : EventComponent) → Contains events event → meeting_said event ≡ (organiser, uid)
   pub masters : length (filter is_master events) ≤ 1
-  pub differ : InstancesDiffer (filter is_override events)
+  pub differ : TimesDiffer (filter is_override events)
 
 -- the event for the whole meeting, if it is among these
 abbrev pub master_in : List EventComponent → Option EventComponent

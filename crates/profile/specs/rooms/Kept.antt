@@ -160,14 +160,19 @@ IsKeptEvent room zones (Shown claim) lines =
     × IsEventOf room claim.part (map (renamed (codes "DTSTART;TZID=Z") (codes "DTSTART;TZID=" ++ name)) claim.content.lines) (codes "ACCEPTED") lines
 IsKeptEvent room zones (Hidden part) lines = (content : List (List ℕ)) × HidesSlot part.slot content × IsEventOf room part content (codes "DECLINED") lines
 
--- the octets are the room's kept calendar: its zones, and then its VEVENTs. Numbers below 2 ^ 64 name the zones
-pub record IsKeptCalendar (room : List ℕ) (book : Book) (octets : List ℕ) : Type 0 where
+-- the line that names the zone of its room, by these words; none for UTC
+abbrev pub room_zone_lines : List ℕ → List (List ℕ)
+room_zone_lines words = if bytes_eq words (codes "+0000") then [] else (codes "X-ROOM-ZONE:" ++ words) ∷ []
+
+-- the octets are the kept calendar of a room whose zone has these words: its zones, and then its VEVENTs. Numbers below 2 ^ 64 name the zones
+pub record IsKeptCalendar (room words : List ℕ) (book : Book) (octets : List ℕ) : Type 0 where
   pub entries : List KeptComponent
   pub kept : AreKept book entries
   pub few : length (zones_kept entries) < 2 ^ 64
   pub events : List (List (List ℕ))
   pub each : AllZip (IsKeptEvent room (zones_kept entries)) entries events
-  pub is : octets ≡ written (opening_lines None) ++ zone_texts 0 (zones_kept entries) ++ written (flat_map (λ lines. lines) events ++ codes "END:VCALENDAR" ∷ [])
+  pub is : octets ≡ written (opening_lines None ++ room_zone_lines words) ++ zone_texts 0 (zones_kept entries)
+      ++ written (flat_map (λ lines. lines) events ++ codes "END:VCALENDAR" ∷ [])
 
 -- the certificate for it: the one that is made for what the calendar spells
 pub record IsKeptCertificate (room calendar certificate : List ℕ) : Type 0 where

@@ -8,6 +8,7 @@ use Rattle.profile.specs.text.Lines.{written}
 use Rattle.profile.specs.text.Values.{SpellsDate, WritesStamp, WritesLocal, duration_text, escaped}
 use Rattle.profile.specs.events.Occurrences.{Time}
 use Rattle.profile.specs.events.EventComponents.{Method, Store, Request, Add, Cancel, Reply, Refresh, EventComponent, instants_of}
+use Rattle.profile.specs.events.Placed.{IsAt}
 use Rattle.profile.specs.events.Properties.{Form, Fixed, Floating, WholeDay, is_fixed, is_floating, is_whole_day, first_second, BothOrNeither}
 use Rattle.profile.specs.events.ZonedTimes.{EventTimes, SpellsMidnight, clock_of}
 use Rattle.profile.specs.series.Days.{day_index}
@@ -18,9 +19,9 @@ use Rattle.profile.specs.series.Zones.{Zone, Means}
 use Rattle.profile.specs.written.WrittenZones.{WritesParts}
 use Rattle.profile.specs.checker.Instances.{Key, horizon}
 use Rattle.std.specs.declared.cmp.Ordering.TheVariants.{Less}
-use Rattle.std.specs.Ordering.{is_lt}
+use Rattle.std.specs.Ordering.{is_le, is_lt}
 use Rattle.profile.specs.events.Messages.{Message, is_to_rooms, master_in}
-use Rattle.profile.specs.rooms.Revisions.{Part, Slot, Whole, At, Revision, Body, Set, Absent, Cancelled, revision_cmp, slot_cmp}
+use Rattle.profile.specs.rooms.Revisions.{Part, Slot, Whole, At, Revision, Body, Set, Absent, Cancelled, part_cmp, revision_cmp, slot_cmp}
 
 -- ---- the parts of a message
 
@@ -214,24 +215,31 @@ IsBody room method event content (Set octets) =
 IsBody room method event content Absent = (cancels method event ≡ false) × (names_room room event ≡ false) × (content ≡ no_content)
 IsBody room method event content Cancelled = (cancels method event ≡ true) × (content ≡ no_content)
 
--- the part that an event of a message is for a room, with this content
-pub record IsPart (room : List ℕ) (message : Message) (event : EventComponent) (content : Content) (part : Part) : Type 0 where
+-- the slot of an event in a room of this zone
+abbrev pub IsSlotIn : Option Zone → EventComponent → Slot → Type 0
+IsSlotIn zone event slot = (instant : Option ℤ) × BothOrNeither (IsAt zone) event.written.recurrence instant × (slot ≡ slot_named instant)
+
+-- the part that an event of a message is for a room of this zone, with this content
+pub record IsPart (room : List ℕ) (zone : Option Zone) (message : Message) (event : EventComponent) (content : Content) (part : Part) : Type 0 where
   pub organiser : event.organiser ≡ Some part.organiser
   pub uid : part.uid ≡ event.uid
-  pub slot : part.slot ≡ slot_of event
+  pub slot : IsSlotIn zone event part.slot
   pub revision : part.revision ≡ revision_beside (master_in message.events) event
   pub body : IsBody room message.method event content part.body
 
--- these are the events, by their slots: the whole first, and then by instant
-pub record AreBySlot (events ordered : List EventComponent) : Type 0 where
-  pub exact : (event : EventComponent) → Contains ordered event ↔ Contains events event
-  pub order : AllPairs (λ a b. slot_cmp (slot_of a) (slot_of b) ≡ Less) ordered
+-- these are of all what has the greatest part of each slot, by their slots: the whole first, and then by instant. Two events of a message may have
+-- one slot in a room, where one names it in UTC and the other on the room's clocks; this profile's choice
+pub record AreGreatest {Of : Type 0} (part : Of → Part) (all kept : List Of) : Type 0 where
+  pub among : (one : Of) → Contains kept one → Contains all one
+  pub greatest : (one : Of) → Contains all one
+      → (other : Of) × Contains kept other × ((part other).slot ≡ (part one).slot) × (is_le (part_cmp (part one) (part other)) ≡ true)
+  pub order : AllPairs (λ a b. slot_cmp (part a).slot (part b).slot ≡ Less) kept
 
--- the parts that a message has for a room, by their slots; none where it isn't addressed to it
-pub record AreParts (room : List ℕ) (message : Message) (parts : List Part) : Type 0 where
-  pub events : List EventComponent
-  pub are : AreBySlot (parts_for room message) events
-  pub each : AllZip (λ event part. (content : Content) × IsPart room message event content part) events parts
+-- the parts that a message has for a room of this zone, by their slots; none where it isn't addressed to it
+pub record AreParts (room : List ℕ) (zone : Option Zone) (message : Message) (parts : List Part) : Type 0 where
+  pub all : List Part
+  pub each : AllZip (λ event part. (content : Content) × IsPart room zone message event content part) (parts_for room message) all
+  pub are : AreGreatest (λ part. part) all parts
 
 -- ---- replies and refreshes
 

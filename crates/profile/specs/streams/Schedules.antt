@@ -1,7 +1,7 @@
 -- What holds in each world that a schedule leads to from a new one: what organisers see is so, and no two instances that they see accepted clash.
 -- Nothing is promised of what arrives: a message may be lost, repeated, late or out of order.
 use Rattle.std.specs.Prelude.{◌≡◌, ◌↔◌, ℕ, true, List, Contains, Some}
-use Rattle.profile.specs.checker.Calendars.{CertificateHolds, IsConfirmedIn, SpellsCalendar}
+use Rattle.profile.specs.checker.Calendars.{CertificateHolds, IsConfirmedInZone, SpellsCalendar, SpellsCalendarIn}
 use Rattle.profile.specs.checker.Instances.{Instance, IsClear}
 use Rattle.profile.specs.events.Confirmed.{Confirmed, IsOneOf}
 use Rattle.profile.specs.events.EventComponents.{Accepted, Request}
@@ -33,7 +33,7 @@ pub record HasBooked (organiser uid : List ℕ) (room : Hosted) (slot : Slot) (o
   pub of_organiser : message.organiser ≡ organiser
   pub of_uid : message.uid ≡ uid
   pub parts : List Part
-  pub are : AreParts room.address message parts
+  pub are : AreParts room.address room.zone message parts
   pub part : Part
   pub among : Contains parts part
   pub of_slot : part.slot ≡ slot
@@ -61,32 +61,32 @@ pub record IsText (world : World) (octets : List ℕ) : Type 0 where
   pub uid : List ℕ
   pub shown : IsShown organiser.address organiser.book uid (Some octets)
 
--- what the text of a meeting, read as a calendar, confirms for a room, the room has confirmed: by its series and its singles, as whether an addition is
--- on a start of the rule is settled where the calendar is read;
+-- what the text of a meeting, read as a calendar in the zone of a room, confirms for it, the room has confirmed: by its series and its singles, as whether
+-- an addition is on a start of the rule is settled where the calendar is read;
 abbrev pub ShownIsConfirmed : World → Type 0
 ShownIsConfirmed world =
     (room : Hosted) → Contains world.rooms room → (octets : List ℕ) → IsText world octets
-    → (calendar : Confirmed) → SpellsCalendar room.address octets calendar
+    → (calendar : Confirmed) → SpellsCalendarIn room.zone room.address octets calendar
     → (instance : Instance) → IsOneOf calendar instance → Confirms room.book instance
 
--- an instance that the text of a meeting confirms for the room of this address
-abbrev pub IsShownFor : World → List ℕ → Instance → Type 0
-IsShownFor world address instance = (octets : List ℕ) × IsText world octets × IsConfirmedIn address octets instance
+-- an instance that the text of a meeting confirms for the room, in its zone
+abbrev pub IsShownFor : World → Hosted → Instance → Type 0
+IsShownFor world room instance = (octets : List ℕ) × IsText world octets × IsConfirmedInZone room.zone room.address octets instance
 
 -- so no two instances that all meetings of all organisers show for one room clash;
 abbrev pub ShownIsClear : World → Type 0
-ShownIsClear world = (room : Hosted) → Contains world.rooms room → IsClear (IsShownFor world room.address)
+ShownIsClear world = (room : Hosted) → Contains world.rooms room → IsClear (IsShownFor world room)
 
 -- ---- and each room's kept texts pass
 
 -- the calendar of each room spells exactly what it has confirmed,
 abbrev pub KeptTextsSpell : World → Type 0
 KeptTextsSpell world =
-    (room : Hosted) → Contains world.rooms room → (calendar : List ℕ) → IsKeptCalendar room.address room.book calendar
+    (room : Hosted) → Contains world.rooms room → (calendar : List ℕ) → IsKeptCalendar room.address room.words room.book calendar
     → (all : Confirmed) × SpellsCalendar room.address calendar all × ((instance : Instance) → IsOneOf all instance ↔ Confirms room.book instance)
 
 -- and its certificate holds for it
 abbrev pub KeptTextsHold : World → Type 0
 KeptTextsHold world =
-    (room : Hosted) → Contains world.rooms room → (calendar certificate : List ℕ) → IsKeptCalendar room.address room.book calendar
+    (room : Hosted) → Contains world.rooms room → (calendar certificate : List ℕ) → IsKeptCalendar room.address room.words room.book calendar
     → IsKeptCertificate room.address calendar certificate → CertificateHolds room.address calendar certificate

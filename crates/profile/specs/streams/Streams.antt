@@ -1,8 +1,8 @@
 -- A stream: its preamble, its objects, and what is answered to them by a box, which hosts rooms and organisers. Each object is a message,
 -- or what an organiser stores, or is refused.
-use Rattle.std.specs.Prelude.{◌≡◌, ◌≢◌, ℕ, ◌+◌, ◌<◌, ◌≤◌, ◌⊎◌, Bool, true, false, IsTrue, List, [], ◌∷◌, ◌++◌, length, map, codes, decimal, None, Option, ℤ, AllPairs, Contains, Some}
+use Rattle.std.specs.Prelude.{◌≡◌, ◌≢◌, ℕ, ◌+◌, ◌<◌, ◌≤◌, ◌⊎◌, Bool, true, false, IsTrue, List, [], ◌∷◌, ◌++◌, length, map, codes, decimal, None, Option, unwrap_or, ℤ, All, AllPairs, Contains, Some}
 use Rattle.std.specs.Option.{option_to_list}
-use Rattle.std.specs.List.{flat_map, list_any, AllZip}
+use Rattle.std.specs.List.{find, flat_map, list_any, AllZip}
 use Rattle.std.specs.Str.{is_utf8, bytes_eq}
 use Rattle.profile.specs.text.Lines.{logical_lines, text_has}
 use Rattle.profile.specs.text.Objects.{SpellsTree, most_events, count_inside, has_version, lines_have, is_begun, after_object}
@@ -10,45 +10,72 @@ use Rattle.profile.specs.text.Trees.{Tree, tree_own}
 use Rattle.profile.specs.events.EventComponents.{Method, Store, Request, Add, Cancel, Reply, Refresh, EventComponent}
 use Rattle.profile.specs.events.Confirmed.{AreApart, AreOfRule}
 use Rattle.profile.specs.events.Messages.{Message, SpellsMessage, MessageTextFault, is_to_rooms}
-use Rattle.profile.specs.rooms.Messages.{IsPart, AreBySlot, parts_for, is_add, Outcome}
+use Rattle.profile.specs.events.Placed.{IsPlaced}
+use Rattle.profile.specs.rooms.Messages.{IsPart, AreGreatest, parts_for, is_add, Outcome}
 use Rattle.profile.specs.rooms.Rooms.{Claim, Book, Delivery, IsStep, Runs, empty_book, is_set}
 use Rattle.profile.specs.rooms.Kept.{Replies, Refreshes}
 use Rattle.profile.specs.organisers.Organisers.{Stored, OrganiserBook, Sent, IsStore, StateFault, after_reply, empty_organiser, last_store}
+use Rattle.profile.specs.series.RoomZones.{IsRoomZone}
+use Rattle.profile.specs.series.Zones.{Zone}
 use Rattle.profile.specs.text.Values.{SpellsStamp, IsAddress, lower_case}
 
 -- ---- the preamble. The format is roombox's own
 
--- what one line says: the moment of every decision, a room or an organiser
+-- the address of a room, and its zone, with the words for it
+pub record ZonedRoom : Type 0 where
+  pub address : List ℕ
+  pub words : List ℕ
+  pub zone : Option Zone
+
+-- what one line says: the moment of every decision, a room, the zone of a room, or an organiser
 pub data Setting : Type 0 where
   Now : ℤ → Setting
   Room : List ℕ → Setting
+  InZone : ZonedRoom → Setting
   Organiser : List ℕ → Setting
 
 -- the line is this word, a space and an address
 abbrev pub IsHostLine : List ℕ → List ℕ → List ℕ → Type 0
 IsHostLine word line address = (text : List ℕ) × (line ≡ word ++ codes " " ++ text) × IsAddress text × (address ≡ lower_case text)
 
+-- the line gives the room of this address this zone, by its words
+abbrev pub IsZoneLine : List ℕ → ZonedRoom → Type 0
+IsZoneLine line room =
+    (text : List ℕ) × (line ≡ codes "zone " ++ text ++ codes " " ++ room.words) × IsAddress text × (room.address ≡ lower_case text)
+    × IsRoomZone room.words room.zone
+
 abbrev pub IsSetting : List ℕ → Setting → Type 0
 IsSetting line (Now t) = (stamp : List ℕ) × (line ≡ codes "now " ++ stamp) × SpellsStamp stamp t
 IsSetting line (Room address) = IsHostLine (codes "room") line address
+IsSetting line (InZone room) = IsZoneLine line room
 IsSetting line (Organiser address) = IsHostLine (codes "organiser") line address
 
 abbrev pub moments : List Setting → List ℤ
 moments [] = []
 moments (Now t ∷ rest) = t ∷ moments rest
 moments (Room address ∷ rest) = moments rest
+moments (InZone room ∷ rest) = moments rest
 moments (Organiser address ∷ rest) = moments rest
 
 abbrev pub rooms : List Setting → List (List ℕ)
 rooms [] = []
 rooms (Now t ∷ rest) = rooms rest
 rooms (Room address ∷ rest) = address ∷ rooms rest
+rooms (InZone room ∷ rest) = rooms rest
 rooms (Organiser address ∷ rest) = rooms rest
+
+abbrev pub zones : List Setting → List ZonedRoom
+zones [] = []
+zones (Now t ∷ rest) = zones rest
+zones (Room address ∷ rest) = zones rest
+zones (InZone room ∷ rest) = room ∷ zones rest
+zones (Organiser address ∷ rest) = zones rest
 
 abbrev pub organisers : List Setting → List (List ℕ)
 organisers [] = []
 organisers (Now t ∷ rest) = organisers rest
 organisers (Room address ∷ rest) = organisers rest
+organisers (InZone room ∷ rest) = organisers rest
 organisers (Organiser address ∷ rest) = address ∷ organisers rest
 
 -- what a preamble's lines say: each is ended by LF or CRLF, and after the last comes an empty line (closed), or nothing more
@@ -70,20 +97,37 @@ most_rooms = 64
 abbrev pub most_organisers : ℕ
 most_organisers = 256
 
--- the addresses that a box hosts
+-- a room that no line gives a zone goes by UTC
+abbrev pub in_utc : List ℕ → ZonedRoom
+in_utc address = record { address = address; words = codes "+0000"; zone = None }
+
+-- the room of this address, where these lines give zones
+abbrev pub room_in : List ZonedRoom → List ℕ → ZonedRoom
+room_in zoned address = unwrap_or (find (λ room. bytes_eq room.address address) zoned) (in_utc address)
+
+abbrev pub addresses : List ZonedRoom → List (List ℕ)
+addresses = map (λ room. room.address)
+
+-- the rooms, each in its zone, and the organisers that a box hosts
 pub record Config : Type 0 where
-  pub rooms : List (List ℕ)
+  pub rooms : List ZonedRoom
   pub organisers : List (List ℕ)
 
--- the settings name these: one at least, and no address twice in one kind
+-- the settings name these: one at least, no address twice in one kind, and for each room one zone at most
 pub record AreHosts (settings : List Setting) (hosts : Config) : Type 0 where
-  pub rooms_are : rooms settings ≡ hosts.rooms
+  pub rooms_are : hosts.rooms ≡ map (room_in (zones settings)) (rooms settings)
   pub organisers_are : organisers settings ≡ hosts.organisers
   pub some : 0 < length hosts.rooms + length hosts.organisers
   pub few_rooms : length hosts.rooms ≤ most_rooms
   pub few_organisers : length hosts.organisers ≤ most_organisers
-  pub rooms_differ : AllPairs ◌≢◌ hosts.rooms
+  pub rooms_differ : AllPairs ◌≢◌ (rooms settings)
+  pub zones_differ : AllPairs ◌≢◌ (addresses (zones settings))
+  pub zones_of_rooms : (address : List ℕ) → Contains (addresses (zones settings)) address → Contains (rooms settings) address
   pub organisers_differ : AllPairs ◌≢◌ hosts.organisers
+
+-- the words of each room mean its zone
+abbrev pub AreInZones : List ZonedRoom → Type 0
+AreInZones = All (λ room. IsRoomZone room.words room.zone)
 
 -- the octets of a preamble, which are UTF-8, give this moment, once, and these hosts
 pub record IsPreamble (closed : Bool) (octets : List ℕ) (moment : ℤ) (hosts : Config) : Type 0 where
@@ -144,45 +188,48 @@ ObjectFault n octets =
 
 -- ---- the answers
 
--- what is asked for where an event is to take place: all its instances, whichever of them other events are for: those that its RRULE gives,
--- if it has one, and all others; else nothing
-abbrev pub AsksFor : Bool → EventComponent → Claim → Type 0
-AsksFor true event claim = AreApart event claim.singles × AreOfRule event claim.series
-AsksFor false event claim = (claim.singles ≡ []) × (claim.series ≡ None)
+-- what is asked for where an event is to take place in a room of this zone: all its instances there, whichever of them other events are for: those
+-- that its RRULE gives, if it has one, and all others; else nothing
+abbrev pub AsksFor : Bool → Option Zone → EventComponent → Claim → Type 0
+AsksFor true zone event claim =
+    (placed : EventComponent) × IsPlaced zone event placed × AreApart placed claim.singles × AreOfRule placed claim.series
+AsksFor false _ event claim = (claim.singles ≡ []) × (claim.series ≡ None)
 
 -- what an event of a message claims of a room: the part that it is, and its instances, if that is to take place
-pub record IsClaim (room : List ℕ) (message : Message) (event : EventComponent) (claim : Claim) : Type 0 where
-  pub part : IsPart room message event claim.content claim.part
-  pub asks : AsksFor (is_set claim.part) event claim
+pub record IsClaim (room : List ℕ) (zone : Option Zone) (message : Message) (event : EventComponent) (claim : Claim) : Type 0 where
+  pub part : IsPart room zone message event claim.content claim.part
+  pub asks : AsksFor (is_set claim.part) zone event claim
 
 -- what it claims of the room: its parts, by their slots
-pub record AreClaims (room : List ℕ) (message : Message) (claims : List Claim) : Type 0 where
-  pub events : List EventComponent
-  pub are : AreBySlot (parts_for room message) events
-  pub each : AllZip (IsClaim room message) events claims
+pub record AreClaims (room : List ℕ) (zone : Option Zone) (message : Message) (claims : List Claim) : Type 0 where
+  pub all : List Claim
+  pub each : AllZip (IsClaim room zone message) (parts_for room message) all
+  pub are : AreGreatest (λ claim. claim.part) all claims
 
--- the delivery hands to a room what octets that spell a message claim of it
-pub record IsDelivered (room : List ℕ) (delivery : Delivery) : Type 0 where
+-- the delivery hands to a room of this zone what octets that spell a message claim of it
+pub record IsDelivered (room : List ℕ) (zone : Option Zone) (delivery : Delivery) : Type 0 where
   pub octets : List ℕ
   pub message : Message
   pub spells : SpellsMessage octets message
-  pub are : AreClaims room message delivery.claims
+  pub are : AreClaims room zone message delivery.claims
 
 -- some messages, of any number and in any order, lead from the empty book to this one
-pub record IsReached (room : List ℕ) (book : Book) : Type 0 where
+pub record IsReached (room : List ℕ) (zone : Option Zone) (book : Book) : Type 0 where
   pub deliveries : List Delivery
-  pub delivered : (delivery : Delivery) → Contains deliveries delivery → IsDelivered room delivery
+  pub delivered : (delivery : Delivery) → Contains deliveries delivery → IsDelivered room zone delivery
   pub runs : Runs empty_book deliveries book
 
 -- what a box keeps of a room that it hosts
 pub record Hosted : Type 0 where
   pub address : List ℕ
+  pub words : List ℕ
+  pub zone : Option Zone
   pub book : Book
 
--- a room of this address takes the message, and sends these objects: its reply, and a refresh after it
-pub record TakesMessage (room : List ℕ) (moment : ℤ) (message : Message) (before after : Book) (sent : List (List ℕ)) : Type 0 where
+-- a room of this address and zone takes the message, and sends these objects: its reply, and a refresh after it
+pub record TakesMessage (room : List ℕ) (zone : Option Zone) (moment : ℤ) (message : Message) (before after : Book) (sent : List (List ℕ)) : Type 0 where
   pub claims : List Claim
-  pub are : AreClaims room message claims
+  pub are : AreClaims room zone message claims
   pub outcome : Outcome
   pub step : IsStep before claims moment outcome after
   pub reply : Option (List ℕ)
@@ -193,9 +240,9 @@ pub record TakesMessage (room : List ℕ) (moment : ℤ) (message : Message) (be
 
 -- a room that a box hosts takes it, and answers with these octets, which are the objects that it sends
 pub record Takes (moment : ℤ) (message : Message) (before after : Hosted) (octets : List ℕ) : Type 0 where
-  pub same : after.address ≡ before.address
+  pub same : after ≡ record before { book = after.book }
   pub sent : List (List ℕ)
-  pub takes : TakesMessage before.address moment message before.book after.book sent
+  pub takes : TakesMessage before.address before.zone moment message before.book after.book sent
   pub is : octets ≡ flat_map (λ object. object) sent
 
 -- all rooms take it, one after another; their answers are in the same order
@@ -249,10 +296,14 @@ pub record Box : Type 0 where
   pub rooms : List Hosted
   pub organisers : List HostedOrganiser
 
+-- a room that has taken nothing
+abbrev pub new_room : ZonedRoom → Hosted
+new_room room = record { address = room.address; words = room.words; zone = room.zone; book = empty_book }
+
 -- nothing was taken
 abbrev pub new_box : Config → Box
 new_box hosts = record {
-  rooms = map (λ room. record { address = room; book = empty_book }) hosts.rooms;
+  rooms = map new_room hosts.rooms;
   organisers = map (λ organiser. record { address = organiser; book = empty_organiser }) hosts.organisers;
 }
 

@@ -1,14 +1,13 @@
 -- The world of a schedule: rooms and organisers with their books, and all messages that were ever sent, over a network that may lose, repeat and
 -- reorder them. A schedule is a list of steps: loss is a message that isn't delivered, a repeat one that is delivered twice.
-use Rattle.std.specs.Prelude.{◌≡◌, ◌≢◌, ◌⊎◌, ℕ, Bool, true, false, List, [], ◌∷◌, ◌++◌, map, None, Some, slice_get, Contains, ℤ}
+use Rattle.std.specs.Prelude.{◌≡◌, ◌≢◌, ◌⊎◌, ℕ, Bool, true, false, List, [], ◌∷◌, ◌++◌, filter, map, not, None, Some, slice_get, Contains, ℤ}
 use Rattle.std.specs.List.{list_any}
 use Rattle.std.specs.Str.{bytes_eq}
 use Rattle.profile.specs.events.EventComponents.{Store}
 use Rattle.profile.specs.events.Messages.{Message, SpellsMessage, is_of_attendee, is_to_rooms}
 use Rattle.profile.specs.rooms.Kept.{each_once}
-use Rattle.profile.specs.rooms.Rooms.{empty_book}
 use Rattle.profile.specs.organisers.Organisers.{StateFault, empty_organiser}
-use Rattle.profile.specs.streams.Streams.{Hosted, HostedOrganiser, ObjectFault, ServesMessage, TakesMessage}
+use Rattle.profile.specs.streams.Streams.{Hosted, HostedOrganiser, ObjectFault, ServesMessage, TakesMessage, ZonedRoom, new_room}
 
 -- the books of all hosts, and the messages sent so far, in the order in which they were written, numbered from 0
 pub record World : Type 0 where
@@ -16,10 +15,15 @@ pub record World : Type 0 where
   pub organisers : List HostedOrganiser
   pub sent : List (List ℕ)
 
+-- these rooms; of several of one address the first
+abbrev pub rooms_once : List ZonedRoom → List ZonedRoom
+rooms_once [] = []
+rooms_once (room ∷ rooms) = room ∷ filter (λ other. not (bytes_eq room.address other.address)) (rooms_once rooms)
+
 -- nothing happened yet. An address that is given twice counts once
-abbrev pub new_world : List (List ℕ) → List (List ℕ) → World
+abbrev pub new_world : List ZonedRoom → List (List ℕ) → World
 new_world rooms organisers = record {
-  rooms = map (λ room. record { address = room; book = empty_book }) (each_once rooms);
+  rooms = map new_room (rooms_once rooms);
   organisers = map (λ organiser. record { address = organiser; book = empty_organiser }) (each_once organisers);
   sent = [];
 }
@@ -45,9 +49,9 @@ pub record ChangesOne {Host : Type 0} (Changes : Host → Host → Type 0) (befo
 -- the room of this address takes a message to rooms (RFC 5546 3.2.2, 3.2.4, 3.2.5), and sends these
 pub record RoomTakes (to : List ℕ) (moment : ℤ) (message : Message) (sent : List (List ℕ)) (old new : Hosted) : Type 0 where
   pub address : old.address ≡ to
-  pub same : new.address ≡ old.address
+  pub same : new ≡ record old { book = new.book }
   pub for_rooms : is_to_rooms message.method ≡ true
-  pub takes : TakesMessage to moment message old.book new.book sent
+  pub takes : TakesMessage to old.zone moment message old.book new.book sent
 
 -- the organiser of this address, whom the message names, takes it, and sends these
 pub record OrganiserTakes (to : List ℕ) (moment : ℤ) (message : Message) (sent : List (List ℕ)) (old new : HostedOrganiser) : Type 0 where
