@@ -1,10 +1,9 @@
 //! Events in a room: times that aren't fixed are read on the room's clocks (RFC 5545 3.3.4, 3.3.5, form 1).
 
-ghost use Rattle.std.specs.Prelude.{◌≡◌, map, option_map, IfOk};
-ghost use Rattle.std.specs.List.{AllZip};
-ghost use Rattle.profile.specs.events.EventComponents as events;
-ghost use Rattle.profile.specs.events.Properties.{BothOrNeither};
-ghost use Rattle.profile.specs.events.Placed.{IsAt, IsPlaced};
+ghost use Rattle.std.specs.Prelude.{◌≡◌, true, map, option_map, unwrap_or, IfOk};
+ghost use Rattle.std.specs.List.{AllZip, list_all};
+ghost use Rattle.profile.specs.events.Properties.{BothOrNeither, is_fixed};
+ghost use Rattle.profile.specs.events.Placed.{IsAt, IsPlaced, is_all_fixed};
 ghost use Rattle.cal_events.specs.Component.{component_of, time_of};
 ghost use Rattle.cal_events.specs.InRoom.{AreInstancesIn, ArePlacedTimes, IsPlacedCopy};
 ghost use Rattle.cal_events.specs.Said.{IsWritten};
@@ -33,7 +32,7 @@ struct PlacedTimes {
 impl EventComponent {
     /// An event that was read as it is in a room of this zone. It fails only when out of memory.
     pub(crate) fn placed(self, alloc: Global, room: &RoomZone) -> Result<EventComponent, AllocError>
-        requires { IsWritten (component_of self) }
+        requires { ∥ IsWritten (component_of self) ∥₁ }
         ensures { IfOk result (IsPlaced (room_of room.now) (component_of self)) }
     {
         // Only for the proof: the words of the room mean it.
@@ -80,7 +79,7 @@ impl EventComponent {
         alloc: Global,
         room: &RoomZone,
     ) -> Result<(Vec<Single>, Option<Series>), AllocError>
-        requires { IsWritten (component_of self.now) }
+        requires { ∥ IsWritten (component_of self.now) ∥₁ }
         ensures { IfOk result (λ found. AreInstancesIn (room_of room.now) (component_of self.now) found.0.items found.1) }
     {
         let placed = self.placed_copy(alloc, room)?;
@@ -92,7 +91,7 @@ impl EventComponent {
     /// A copy of an event that was read, as it is in a room of this zone, without its SUMMARY, who attends and how its times are written. It fails
     /// only when out of memory.
     fn placed_copy(&self, alloc: Global, room: &RoomZone) -> Result<EventComponent, AllocError>
-        requires { IsWritten (component_of self.now) }
+        requires { ∥ IsWritten (component_of self.now) ∥₁ }
         ensures { IfOk result (λ copy. IsPlacedCopy (room_of room.now) (component_of self.now) (component_of copy)) }
     {
         // Only for the proof: the words of the room mean it.
@@ -126,7 +125,7 @@ impl EventComponent {
 
     /// The times of an event that was read in a room of this zone. It fails only when out of memory.
     fn times_in(&self, alloc: Global, room: &RoomZone) -> Result<PlacedTimes, AllocError>
-        requires { IsWritten (component_of self.now) }
+        requires { ∥ IsWritten (component_of self.now) ∥₁ }
         ensures { IfOk result (ArePlacedTimes (room_of room.now) (component_of self.now)) }
     {
         // Only for the proof: the words of the room mean it.
@@ -152,6 +151,16 @@ impl EventComponent {
             additions,
             exceptions,
         })
+    }
+
+    /// Whether each of its times is fixed: then it is the same event in each room.
+    pub fn is_all_fixed(&self) -> bool
+        ensures { result ≡ is_all_fixed (component_of self.now) }
+    {
+        self.times.start.form().is_fixed()
+            && is_slot_fixed(self.written.recurrence)
+            && are_fixed(&self.written.additions)
+            && are_fixed(&self.written.exceptions)
     }
 }
 
@@ -187,4 +196,21 @@ fn instants_in(alloc: Global, room: &RoomZone, times: &[Time]) -> Result<Vec<i64
         instants.push(time.instant_in(room))?;
     }
     Ok(instants)
+}
+
+/// Whether a time, where there is one, is fixed.
+fn is_slot_fixed(time: Option<Time>) -> bool
+    ensures { result ≡ unwrap_or (option_map (λ time. is_fixed time.form) (option_map time_of time)) true }
+{
+    match time {
+        Some(time) => time.form.is_fixed(),
+        None => true,
+    }
+}
+
+/// Whether each of these times is fixed.
+fn are_fixed(times: &[Time]) -> bool
+    ensures { result ≡ list_all (λ time. is_fixed time.form) (map time_of times.now) }
+{
+    times.iter().all(|time| time.form.is_fixed())
 }

@@ -34,6 +34,23 @@ pub enum Form {
     WholeDay,
 }
 
+impl Form {
+    ghost use Rattle.std.specs.Prelude.{◌≡◌};
+    ghost use Rattle.cal_events.specs.Times.{form_of};
+    ghost use Rattle.profile.specs.events.Properties.{is_fixed};
+
+    /// Whether such a time is fixed.
+    pub(crate) fn is_fixed(self) -> bool
+        ensures { result ≡ is_fixed (form_of self) }
+    {
+        match self {
+            Form::Fixed => true,
+            Form::Floating => false,
+            Form::WholeDay => false,
+        }
+    }
+}
+
 /// A time, by its form. UTC isn't a zone of offset 0.
 #[derive(Clone, Copy)]
 pub enum When {
