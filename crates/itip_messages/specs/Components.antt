@@ -1,12 +1,15 @@
 -- What the components of a message that was read say.
-use Rattle.std.specs.Prelude.{◌≡◌, ◌≢◌, ℕ, ◌<◌, Bool, true, false, List, length, map, Contains, All, AllPairs, MatchOption, Option, Some, is_some, option_map}
+use Rattle.std.specs.Prelude.{◌≡◌, ℕ, ℤ, ◌<◌, Bool, true, [], List, length, Contains, All, Option, None, Some, is_some, option_map}
 use Rattle.std.specs.List.{list_any, AllZip}
 use Rattle.std.specs.Str.{bytes_eq}
-use Rattle.profile.specs.events.EventComponents.{EventComponent as SaidComponent}
-use Rattle.profile.specs.events.Confirmed.{AreApart, has_series}
+use Rattle.profile.specs.series.Zones.{Zone}
+use Rattle.profile.specs.series.RoomZones.{IsRoomZone}
+use Rattle.profile.specs.events.EventComponents.{AreOfWritten, EventComponent as SaidComponent}
+use Rattle.profile.specs.events.Placed.{IsAt, is_all_fixed}
+use Rattle.profile.specs.events.Properties.{BothOrNeither}
 use Rattle.profile.specs.events.Messages as profile
 use Rattle.profile.specs.events.Messages.{AreOfMeeting, SpellsMessage, is_to_rooms, master_in}
-use Rattle.profile.specs.rooms.Messages.{AreBySlot, own_revision}
+use Rattle.profile.specs.rooms.Messages.{own_revision}
 use Rattle.profile.specs.rooms.Messages as rooms
 use Rattle.profile.specs.rooms.Revisions as revisions
 use Rattle.profile.specs.text.Values.{IsClockSeconds}
@@ -15,9 +18,9 @@ use Rattle.ical_values.specs.declared.address.Address.{Address}
 use Rattle.ical_values.specs.declared.text.Text.{Text}
 use Rattle.itip_order.specs.Parts.{slot_of, revision_of}
 use Rattle.itip_order.specs.declared.part.Revision.{Revision}
-use Rattle.cal_events.specs.Component.{component_of, method_said}
-use Rattle.cal_events.specs.OwnInstances.{own_instance_at}
-use Rattle.cal_events.specs.Series.{IsSeriesOf, series_said}
+use Rattle.cal_events.specs.Component.{component_of, method_said, time_of}
+use Rattle.cal_events.specs.InRoom.{AreInstancesOf}
+use Rattle.cal_events.specs.Said.{IsWritten}
 use Rattle.cal_events.specs.declared.component.EventComponent.{EventComponent}
 use Rattle.cal_events.specs.declared.instance.Single.{Single}
 use Rattle.cal_events.specs.declared.method.Method.{Method}
@@ -34,10 +37,21 @@ abbrev pub IsDated : revisions.Slot → Type 0
 IsDated revisions.Whole = Unit {0}
 IsDated (revisions.At t) = IsClockSeconds t
 
+-- the slot of an event can, in whichever room
+abbrev pub IsDatedEach : SaidComponent → Type 0
+IsDatedEach event =
+    (words : List ℕ) (zone : Option Zone) → IsRoomZone words zone → (slot : revisions.Slot) → rooms.IsSlotIn zone event slot → IsDated slot
+
+-- the event without SUMMARY and who attends
+abbrev pub unattended : SaidComponent → SaidComponent
+unattended event = record event { summary = []; attendees = [] }
+
 -- the component is what an event says, whatever the METHOD
 pub record SaysComponent (event : SaidComponent) (component : MessageComponent) : Type 0 where
   pub slot : slot_of component.slot ≡ rooms.slot_of event
+  pub named : option_map time_of component.recurrence ≡ event.written.recurrence
   pub dated : IsDated (rooms.slot_of event)
+  pub dated_each : IsDatedEach event
   pub revision : revision_of component.revision ≡ own_revision event
   pub ready : IsReady event
   pub cancelled : component.cancelled ≡ event.cancelled
@@ -45,19 +59,20 @@ pub record SaysComponent (event : SaidComponent) (component : MessageComponent) 
   pub summary : text_octets component.summary ≡ event.summary
   pub attendees : component.attendees ≡ event.attendees
 
--- these are the instances of an event: those that no rule gives, and those that its rule gives, if it has one
-pub record AreInstancesOf (event : SaidComponent) (own : List Single) (given : Option Series) : Type 0 where
-  pub singles : AreApart event (map (own_instance_at event) own)
-  pub series : MatchOption given (has_series event ≡ false) (λ series. IsSeriesOf event (series_said series))
+-- the instances of an event are those of one that is the same in each room; or the event is there, but for its SUMMARY and who attends
+abbrev pub HaveInstances : SaidComponent → List Single → Option Series → Option EventComponent → Type 0
+HaveInstances event singles series None =
+    (is_all_fixed event ≡ true) × AreOfWritten event.written event.recurrence event.additions event.exceptions × AreInstancesOf event singles series
+HaveInstances event singles series (Some own) = component_of own ≡ unattended event
 
--- and the component has those of that event
+-- the component has those of that event
 abbrev pub HasInstances : SaidComponent → MessageComponent → Type 0
-HasInstances event component = AreInstancesOf event component.singles.items component.series
+HasInstances event component = HaveInstances event component.singles.items component.series component.by_room
 
--- the order of a message's components: of one to rooms by their slots, else that of the text
-abbrev pub AreInOrder : Bool → List SaidComponent → List SaidComponent → Type 0
-AreInOrder true events ordered = AreBySlot events ordered
-AreInOrder false events ordered = ordered ≡ events
+-- the slot of a component in a room of this zone
+abbrev pub IsComponentSlot : Option Zone → MessageComponent → revisions.Slot → Type 0
+IsComponentSlot zone component slot =
+    (instant : Option ℤ) × BothOrNeither (IsAt zone) (option_map time_of component.recurrence) instant × (slot ≡ rooms.slot_named instant)
 
 -- a message of this method, organiser and UID, with this revision of the whole meeting in it, is that message
 pub record AreOfMessage (asked : Method) (by : Address) (named : Text) (whole : Option Revision) (components : List MessageComponent) (said : profile.Message) : Type 0 where
@@ -67,11 +82,9 @@ pub record AreOfMessage (asked : Method) (by : Address) (named : Text) (whole : 
   pub whole_is : option_map revision_of whole ≡ option_map own_revision (master_in said.events)
   pub are : AreOfMeeting said.organiser said.uid said.events
   pub organised : (event : SaidComponent) → Contains said.events event → event.organiser ≡ Some said.organiser
-  pub events : List SaidComponent
-  pub in_order : AreInOrder (is_to_rooms said.method) said.events events
-  pub each : AllZip SaysComponent events components
+  pub each : AllZip SaysComponent said.events components
   -- only rooms ask for instances
-  pub instances : is_to_rooms said.method ≡ true → AllZip HasInstances events components
+  pub instances : is_to_rooms said.method ≡ true → AllZip HasInstances said.events components
 
 -- and octets spell that
 pub record AreLinesRead (asked : Method) (by : Address) (named : Text) (whole : Option Revision) (components : List MessageComponent) : Type 0 where
@@ -86,8 +99,10 @@ pub record AreMessageEvents (events : List SaidComponent) : Type 0 where
   pub organised : All (λ event. is_some event.organiser ≡ true) events
   pub stamped : All (λ event. is_some event.stamp ≡ true) events
   pub dated : All (λ event. IsDated (rooms.slot_of event)) events
+  pub dated_each : All IsDatedEach events
   pub ready : All IsReady events
-  pub differ : AllPairs ◌≢◌ (map rooms.slot_of events)
+  pub written : All IsWritten events
+  pub instants : All (λ event. AreOfWritten event.written event.recurrence event.additions event.exceptions) events
 
 -- an ATTENDEE line of the component has the room's address
 abbrev pub component_names : List ℕ → MessageComponent → Bool

@@ -1,5 +1,5 @@
 -- What a message that was read represents, its parts, and why one is refused.
-use Rattle.std.specs.Prelude.{◌≡◌, ◌⊎◌, ℕ, ◌||◌, ◌&&◌, ◌==◌, Bool, true, false, List, [], length, map, option_map, filter, if◌then◌else◌, Option, None, Some}
+use Rattle.std.specs.Prelude.{◌≡◌, ◌⊎◌, ℕ, ◌||◌, ◌&&◌, ◌==◌, Bool, true, false, List, length, option_map, if◌then◌else◌, Option, None, Some}
 use Rattle.std.specs.List.{list_all, list_any}
 use Rattle.ical_lines.specs.Fault.{RefusesBy}
 use Rattle.ical_lines.specs.declared.fault.Fault.{Fault}
@@ -12,14 +12,15 @@ use Rattle.profile.specs.events.Messages as profile
 use Rattle.profile.specs.events.Messages.{SaysMessage, SpellsMessage, MessageTextFault, has_one_attendee, is_method, is_of_attendee, is_to_rooms, method_word}
 use Rattle.profile.specs.rooms.Messages.{is_cancel, raised_to}
 use Rattle.profile.specs.rooms.Revisions as revisions
+use Rattle.profile.specs.series.Zones.{Zone}
 use Rattle.ical_values.specs.Octets.{text_octets, address_octets}
-use Rattle.itip_order.specs.Parts.{slot_of, revision_of}
+use Rattle.itip_order.specs.Parts.{revision_of}
 use Rattle.cal_events.specs.Component.{method_said}
 use Rattle.cal_events.specs.declared.method.Method.{Method}
 use Rattle.cal_events.specs.declared.method.Method.TheVariants.{Store, Request, Add, Cancel, Reply, Refresh}
 use Rattle.itip_messages.specs.declared.message.Message.{Message}
 use Rattle.itip_messages.specs.declared.message_component.MessageComponent.{MessageComponent}
-pub use Rattle.itip_messages.specs.Components.{AreOfMessage, HasInstances, IsDated, SaysComponent, component_names, event_slot}
+pub use Rattle.itip_messages.specs.Components.{AreOfMessage, HasInstances, IsComponentSlot, IsDated, SaysComponent, component_names, event_slot}
 
 -- ---- what it says
 
@@ -92,17 +93,16 @@ has_part room message component = is_part_of message.method (component_names roo
 abbrev pub cancels_component : Message → MessageComponent → Bool
 cancels_component message component = is_cancel (method_said message.method) || component.cancelled
 
--- the part that a component is for a room
-abbrev pub part_for : List ℕ → Message → MessageComponent → revisions.Part
-part_for room message component = record {
+-- the part that a component is for a room, where this is its slot
+abbrev pub part_for : List ℕ → Message → MessageComponent → revisions.Slot → revisions.Part
+part_for room message component slot = record {
   organiser = address_octets message.organiser;
   uid = text_octets message.uid;
-  slot = slot_of component.slot;
+  slot = slot;
   revision = raised_to (option_map revision_of message.whole) (revision_of component.revision);
   body = if cancels_component message component then revisions.Cancelled else (if component_names room component then revisions.Set component.canonical.items else revisions.Absent);
 }
 
--- the parts that its components are, where it is addressed to the room
-abbrev pub message_parts_for : List ℕ → Message → List revisions.Part
-message_parts_for room message =
-    if is_message_for room message then map (part_for room message) (filter (has_part room message) message.components.items) else []
+-- the part is that of the component in a room of this zone
+abbrev pub IsPartFor : List ℕ → Option Zone → Message → MessageComponent → revisions.Part → Type 0
+IsPartFor room zone message component part = (slot : revisions.Slot) × IsComponentSlot zone component slot × (part ≡ part_for room message component slot)

@@ -2,12 +2,13 @@
 use Rattle.std.specs.Prelude.{◌≡◌, ◌↔◌, Contains, ◌∷◌, ◌++◌, filter, ℕ, ℤ, ◌<◌, ◌^◌, Bool, true, false, List, [], map, Option, Some, None}
 use Rattle.std.specs.List.{AllZip}
 use Rattle.std.specs.Str.{IsUtf8}
-use Rattle.profile.specs.checker.Calendars.{IsCalendarText, SayEvents}
+use Rattle.profile.specs.checker.Calendars.{IsCalendarText}
 use Rattle.profile.specs.series.Rules.{Rule, is_rule_day}
 use Rattle.profile.specs.text.Lines.{reads_as_lines}
-use Rattle.profile.specs.text.Trees.{Tree}
+use Rattle.profile.specs.series.Zones.{Zone}
+use Rattle.profile.specs.text.Trees.{Tree, vevents}
 use Rattle.profile.specs.text.Values.{IsUid}
-use Rattle.profile.specs.events.EventComponents.{AreOfWritten, Attendee, EventComponent, Participation, Request, Cancel, NeedsAction}
+use Rattle.profile.specs.events.EventComponents.{AreOfWritten, Attendee, EventComponent, Participation, Request, Cancel, NeedsAction, SaysEventComponent}
 use Rattle.profile.specs.events.Occurrences.{Time}
 use Rattle.profile.specs.events.Properties.{Form, Fixed, Floating, WholeDay}
 use Rattle.profile.specs.events.Events.{Event, SpellsEvent, is_master, is_override}
@@ -146,7 +147,8 @@ pub record SpellsRequest (organiser uid : List ℕ) (revision : Revision) (event
   pub sent : List EventComponent
   pub each : AllZip (IsSentAs revision) events sent
   pub spells : SpellsMessage octets (request_of organiser uid sent)
-  pub parts : (room : List ℕ) (parts : List Part) → AreParts room (request_of organiser uid sent) parts ↔ AreParts room (request_of organiser uid (map (revised revision) events)) parts
+  pub parts : (room : List ℕ) (zone : Option Zone) (parts : List Part)
+      → AreParts room zone (request_of organiser uid sent) parts ↔ AreParts room zone (request_of organiser uid (map (revised revision) events)) parts
 
 -- ---- what is shown
 
@@ -162,11 +164,11 @@ pub record SpellsShown (book : OrganiserBook) (stored : Stored) (octets : List �
   pub each : AllZip (IsSaidAgain (HasAnswered book stored) stored.revision) stored.events shown
   pub spells : SpellsEvent None octets (meeting_of shown)
 
--- the octets are a calendar whose VEVENTs are those of the store, with the answers that are seen
+-- the octets are a calendar whose VEVENTs say, as they are written, the events of the store with the answers that are seen
 pub record SpellsShownCalendar (book : OrganiserBook) (stored : Stored) (octets : List ℕ) : Type 0 where
   pub shown : List EventComponent
   pub each : AllZip (IsSaidAgain (HasAnswered book stored) stored.revision) stored.events shown
   pub lines : reads_as_lines false octets ≡ true
   pub tree : Tree
   pub object : IsCalendarText tree octets
-  pub says : SayEvents tree shown
+  pub says : AllZip (SaysEventComponent tree None) (vevents tree) shown

@@ -1,5 +1,5 @@
 //! What octets say as a message, and what a reply or a refresh that was written reads back as.
-ghost use Rattle.std.specs.Prelude.{◌≡◌, ◌<◌, ◌^◌, ◌∷◌, [], ℕ, ℤ, false, List, Contains, Some, codes};
+ghost use Rattle.std.specs.Prelude.{◌≡◌, ◌<◌, ◌^◌, ◌∷◌, [], ℕ, ℤ, false, List, Contains, Option, Some, codes};
 ghost use Rattle.std.specs.List.{flat_map};
 ghost use Rattle.profile.specs.rooms.Kept.{Refreshes, Replies};
 ghost use Rattle.profile.specs.events.EventComponents.{EventComponent};
@@ -7,6 +7,8 @@ ghost use Rattle.profile.specs.events.Messages.{Message, SpellsMessage};
 ghost use Rattle.profile.specs.rooms.Messages.{Content, IsContent, IsRefreshEvent, IsReplyEvent, Outcome, is_add, object_lines};
 ghost use Rattle.profile.specs.rooms.Revisions.{Part};
 ghost use Rattle.profile.specs.rooms.Rooms.{Book, Claim, shown};
+ghost use Rattle.profile.specs.series.RoomZones.{IsRoomZone};
+ghost use Rattle.profile.specs.series.Zones.{Zone};
 ghost use Rattle.profile.specs.text.Values.{IsUid};
 ghost use Rattle.profile.specs.text.Lines.{is_too_long, written};
 ghost use Rattle.profile.specs.streams.Streams.{AreClaims, ObjectFault};
@@ -78,8 +80,8 @@ pub fn refreshes_read_back()
 /// that the room, its one attendee, has accepted or declined; so what is heard in it is exactly the book's answers to these parts (RFC 5546
 /// 3.2.3). Required are clashing instances named in UTF-8, as those of messages are, and octets within the limits of a message.
 pub fn replies_are_heard()
-    ensures { (read : List ℕ) (message : Message) (room : List ℕ) (book : Book) (claims : List Claim) (octets : List ℕ)
-        → SpellsMessage read message → AreClaims room message claims → AreTextAnswers book
+    ensures { (read : List ℕ) (message : Message) (room words : List ℕ) (zone : Option Zone) (book : Book) (claims : List Claim) (octets : List ℕ)
+        → SpellsMessage read message → IsRoomZone words zone → AreClaims room zone message claims → AreTextAnswers book
         → Replies room book claims (Some octets) → is_too_long octets ≡ false → SpellsReply room book (shown book.taken claims) octets }
 {
     ical_lines::lines_read_back();
@@ -88,8 +90,8 @@ pub fn replies_are_heard()
 /// Whatever a room asks for when such a message comes, an organiser hears: the octets of the REFRESH spell an object that asks for the meeting of
 /// the message, at that moment, with the room as its one attendee (RFC 5546 3.2.6). Required are octets within the limits of a message.
 pub fn refreshes_are_heard()
-    ensures { (read : List ℕ) (message : Message) (room : List ℕ) (before after : List Part) (claims : List Claim) (moment : ℤ) (octets : List ℕ)
-        → SpellsMessage read message → AreClaims room message claims
+    ensures { (read : List ℕ) (message : Message) (room : List ℕ) (zone : Option Zone) (before after : List Part) (claims : List Claim) (moment : ℤ) (octets : List ℕ)
+        → SpellsMessage read message → AreClaims room zone message claims
         → Refreshes room (is_add message.method) before after claims moment (Some octets) → is_too_long octets ≡ false
         → SpellsRefresh room claims moment octets }
 {

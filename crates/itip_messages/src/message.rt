@@ -1,23 +1,23 @@
 //! A message, read: to rooms, or to an organiser (RFC 5546 1.4, 3.2; RFC 4791 4.1, RFC 6638 3.2). METHOD says which; an object without METHOD
 //! is a meeting that its organiser stores.
-ghost use Rattle.std.specs.Prelude.{◌≡◌, ◌<◌, ℕ, true, false, List, Contains, Some, map, length, option_map, IfOk, IfErr, IsSome};
+ghost use Rattle.std.specs.Prelude.{◌≡◌, ◌<◌, ℕ, true, List, Contains, Some, map, length, option_map, IfOk, IfErr, IsSome};
 ghost use Rattle.std.specs.List.{AllZip};
-ghost use Rattle.std.specs.List.Sorted.{IsPermutation, IsSortedByKey};
 ghost use Rattle.ical_lines.specs.Fault.{RefusesOnly, RefusesBy};
 ghost use Rattle.ical_tree.specs.Tree.{tree_of};
 ghost use Rattle.ical_values.specs.Octets.{address_octets, text_octets};
 ghost use Rattle.profile.specs.faults.Faults.{is_message_fault};
 ghost use Rattle.profile.specs.events.Messages as profile;
 ghost use Rattle.profile.specs.events.Messages.{MessageFault, SaysMessage, SpellsMessage, is_to_rooms, master_in};
+ghost use Rattle.profile.specs.events.EventComponents.{AreOfWritten};
 ghost use Rattle.profile.specs.rooms.Messages.{own_revision};
-ghost use Rattle.profile.specs.rooms.Revisions.{slot_cmp};
 ghost use Rattle.cal_events.specs.Component.{component_of, method_said};
+ghost use Rattle.cal_events.specs.Said.{IsWritten};
 ghost use Rattle.cal_events.specs.declared.component.EventComponent.{EventComponent};
 ghost use Rattle.itip_order.specs.Parts.{revision_of};
 ghost use Rattle.itip_messages.specs.Body.{IsReady};
-ghost use Rattle.itip_messages.specs.Components.{AreInOrder, AreLinesRead, HasInstances, IsDated, SaysComponent, event_slot};
+ghost use Rattle.itip_messages.specs.Components.{AreLinesRead, HasInstances, IsDated, IsDatedEach, SaysComponent, event_slot};
 
-use crate::message_component::{MessageComponent, own_revision, slot_in};
+use crate::message_component::{MessageComponent, own_revision};
 use crate::message_events::read_events;
 use cal_events::{EventComponent, Method};
 use ical_lines::{Fault, Limits, Unfolded};
@@ -43,7 +43,7 @@ impl Message {
 
     /// Reads a message.
     /// Refused: 1 to 6 and 20 to 25 for the object, 60 for a METHOD that isn't supported, or for two, 66 without a VEVENT, 10 to 16, 30 to 34, 40
-    /// to 43, 50 to 52, 55, 56, 61, 63, 65 and 67 for a VEVENT, 62 for two meetings, 53 for two VEVENTs without RECURRENCE-ID, 54 for two of
+    /// to 43, 50 to 52, 56, 57, 61, 63, 65 and 67 for a VEVENT, 62 for two meetings, 53 for two VEVENTs without RECURRENCE-ID, 54 for two of
     /// one instance, 64 for a VEVENT of a REPLY or a REFRESH without one attendee.
     pub fn read(alloc: Global, bytes: &[u8]) -> Result<Message, Fault>
         ensures spells { IfOk result (IsSpelled bytes.now) }
@@ -67,7 +67,7 @@ impl Message {
         Ok(Message::of(alloc, object, method, events)?)
     }
 
-    /// The message of that method that an object says with these events. In time n log n; it fails only when out of memory.
+    /// The message of that method that an object says with these events. It fails only when out of memory.
     fn of(
         alloc: Global,
         object: &Component,
@@ -80,7 +80,6 @@ impl Message {
     {
         let (organiser, uid) = name_of(&events)?;
         let whole = whole_revision(&events);
-        let events = in_order(method, events);
         let components = components_of(alloc, method, events)?;
         Ok(Message {
             method,
@@ -112,33 +111,12 @@ impl Message {
         &self.uid
     }
 
-    /// The VEVENTs: of a message to rooms by their slots, the whole meeting first and then its instances; else in the order of the text.
+    /// The VEVENTs, in the order of the text.
     pub fn components(&self) -> &[MessageComponent]
         ensures { result.now ≡ self.now.components.items }
     {
         self.components.as_slice()
     }
-}
-
-/// VEVENTs in the order in which a message of this method has them.
-fn in_order(method: Method, events: Vec<EventComponent>) -> Vec<EventComponent>
-    ensures same { IsPermutation events.items result.items }
-    ensures rises { is_to_rooms (method_said method) ≡ true → IsSortedByKey event_slot slot_cmp result.items }
-    ensures kept { is_to_rooms (method_said method) ≡ false → result.items ≡ events.items }
-{
-    let mut events = events;
-    if method.is_to_rooms() {
-        sort_by_slot(&mut events);
-    }
-    events
-}
-
-/// Puts VEVENTs in the order of their slots.
-fn sort_by_slot(events: &mut Vec<EventComponent>)
-    ensures same { IsPermutation events.old.items events.new.items }
-    ensures rises { IsSortedByKey event_slot slot_cmp events.new.items }
-{
-    events.sort_unstable_by(|a, b| slot_in(a).cmp(&slot_in(b)));
 }
 
 /// SEQUENCE and DTSTAMP of the VEVENT for the whole meeting, if it is among these.
@@ -180,7 +158,11 @@ fn components_of(
 ) -> Result<Vec<MessageComponent>, AllocError>
     requires stamped { (event : EventComponent) → Contains events.items event → IsSome event.stamp }
     requires dated { (event : EventComponent) → Contains events.items event → IsDated (event_slot event) }
+    requires dated_each { (event : EventComponent) → Contains events.items event → IsDatedEach (component_of event) }
     requires ready { (event : EventComponent) → Contains events.items event → IsReady (component_of event) }
+    requires written { (event : EventComponent) → Contains events.items event → ∥ IsWritten (component_of event) ∥₁ }
+    requires instants { (event : EventComponent) → Contains events.items event
+        → AreOfWritten (component_of event).written (component_of event).recurrence (component_of event).additions (component_of event).exceptions }
     ensures says { IfOk result (λ components. AllZip SaysComponent (map component_of events.items) components.items) }
     ensures instances { IfOk result (λ components. is_to_rooms (method_said method) ≡ true → AllZip HasInstances (map component_of events.items) components.items) }
 {

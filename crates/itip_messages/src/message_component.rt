@@ -1,19 +1,24 @@
 //! What one VEVENT of a message says (RFC 5545 3.6.1, RFC 5546 3.2).
-ghost use Rattle.std.specs.Prelude.{◌≡◌, ◌==◌, true, option_map, length, map, Contains, IfOk, IsSome};
-ghost use Rattle.std.specs.List.{AllZip};
+ghost use Rattle.std.specs.Prelude.{◌≡◌, ◌==◌, true, length, List, IfOk, IfSome, IsSome};
 ghost use Rattle.ical_values.specs.Octets.{address_octets};
 ghost use Rattle.profile.specs.events.EventComponents as events;
+ghost use Rattle.profile.specs.events.EventComponents.{AreOfWritten};
 ghost use Rattle.profile.specs.events.Messages.{is_to_rooms};
 ghost use Rattle.profile.specs.rooms.Messages.{own_revision};
 ghost use Rattle.cal_events.specs.Component.{component_of, method_said};
+ghost use Rattle.cal_events.specs.InRoom.{AreInstancesIn, AreInstancesOf};
+ghost use Rattle.cal_events.specs.Said.{IsWritten};
 ghost use Rattle.cal_events.specs.declared.component.EventComponent.{EventComponent};
+ghost use Rattle.cal_events.specs.declared.instance.Single.{Single};
+ghost use Rattle.cal_zones.specs.RoomZones.{room_of};
 ghost use Rattle.itip_order.specs.Parts.{slot_of, revision_of};
 ghost use Rattle.itip_messages.specs.Body.{IsReady};
-ghost use Rattle.itip_messages.specs.Components.{AreInstancesOf, HasInstances, IsDated, SaysComponent, component_names, event_slot};
+ghost use Rattle.itip_messages.specs.Components.{HasInstances, HaveInstances, IsComponentSlot, IsDated, IsDatedEach, SaysComponent, component_names, event_slot, unattended};
 
 use crate::attendees::Attendees;
 use crate::body::canonical_body;
-use cal_events::{EventComponent, Method, Series, Single};
+use cal_events::{Attendee, EventComponent, Method, Series, Single, Time};
+use cal_zones::RoomZone;
 use ical_values::{Address, Text};
 use itip_order::{Revision, Slot};
 use std::alloc::{AllocError, Global};
@@ -21,14 +26,38 @@ use std::alloc::{AllocError, Global};
 /// What one VEVENT of a message says. It is made where a message is read, and nowhere else.
 #[derive(Drop)]
 pub struct MessageComponent {
+    /// In UTC, as an organiser has it, whose meetings name their instances by fixed times.
     pub(crate) slot: Slot,
+    /// RECURRENCE-ID as it is written, in an ADD the start.
+    pub(crate) recurrence: Option<Time>,
     pub(crate) revision: Revision,
     pub(crate) cancelled: bool,
     pub(crate) canonical: Vec<u8>,
     pub(crate) summary: Text,
     pub(crate) attendees: Attendees,
+    /// Where all its times are fixed, its instances in each room: they are made once.
     pub(crate) singles: Vec<Single>,
     pub(crate) series: Option<Series>,
+    /// Else the event, without SUMMARY and who attends: each room has instances of its own.
+    pub(crate) by_room: Option<EventComponent>,
+    ghost written: { IfSome by_room (λ event. ∥ IsWritten (component_of event) ∥₁) },
+}
+
+/// The instances of a VEVENT, or what makes them for a room.
+#[derive(Drop)]
+struct Occurring {
+    singles: Vec<Single>,
+    series: Option<Series>,
+    by_room: Option<EventComponent>,
+    ghost written: { IfSome by_room (λ event. ∥ IsWritten (component_of event) ∥₁) },
+}
+
+/// A VEVENT without its SUMMARY and its ATTENDEE lines, and these.
+#[derive(Drop)]
+struct Parted {
+    event: EventComponent,
+    summary: Text,
+    attendees: Vec<Attendee>,
 }
 
 impl MessageComponent {
@@ -40,24 +69,40 @@ impl MessageComponent {
     ) -> Result<MessageComponent, AllocError>
         requires stamp { IsSome event.stamp }
         requires dated { IsDated (event_slot event) }
+        requires dated_each { IsDatedEach (component_of event) }
         requires ready { IsReady (component_of event) }
+        requires written { ∥ IsWritten (component_of event) ∥₁ }
+        requires instants { AreOfWritten (component_of event).written (component_of event).recurrence (component_of event).additions (component_of event).exceptions }
         ensures says { IfOk result (SaysComponent (component_of event)) }
         ensures instances { IfOk result (λ component. is_to_rooms (method_said method) ≡ true → HasInstances (component_of event) component) }
     {
         let canonical = canonical_body(alloc, &event)?;
-        let (singles, series) = instances_for(alloc, method, &event)?;
         let slot = slot_in(&event);
+        let recurrence = event.written.recurrence;
         let revision = own_revision(&event);
-        let attendees = Attendees::of(alloc, event.attendees)?;
+        let cancelled = event.cancelled;
+        let Parted {
+            event,
+            summary,
+            attendees,
+        } = parted(alloc, event)?;
+        let attendees = Attendees::of(alloc, attendees)?;
+        let Occurring {
+            singles,
+            series,
+            by_room,
+        } = occurring(alloc, method, event)?;
         Ok(MessageComponent {
             slot,
+            recurrence,
             revision,
-            cancelled: event.cancelled,
+            cancelled,
             canonical,
-            summary: event.summary,
+            summary,
             attendees,
             singles,
             series,
+            by_room,
         })
     }
 
@@ -70,6 +115,7 @@ impl MessageComponent {
         let attendees = self.attendees.copy(alloc)?;
         Ok(MessageComponent {
             slot: self.slot,
+            recurrence: self.recurrence,
             revision: self.revision,
             cancelled: self.cancelled,
             canonical,
@@ -77,14 +123,25 @@ impl MessageComponent {
             attendees,
             singles: Vec::new(alloc),
             series: None,
+            by_room: None,
         })
     }
 
-    /// The instance that RECURRENCE-ID names, in an ADD that of its own start; else the whole meeting.
+    /// The instance that RECURRENCE-ID names, in an ADD that of its own start; else the whole meeting. In UTC, as an organiser has it.
     pub fn slot(&self) -> Slot
         ensures { result ≡ self.now.slot }
     {
         self.slot
+    }
+
+    /// The same in a room of this zone, on whose clocks a time that isn't fixed is read.
+    pub fn slot_in(&self, zone: &RoomZone) -> Slot
+        ensures { IsComponentSlot (room_of zone.now) self.now (slot_of result) }
+    {
+        match self.recurrence {
+            Some(time) => Slot::At(time.instant_in(zone)),
+            None => Slot::Whole,
+        }
     }
 
     /// Its own SEQUENCE and DTSTAMP.
@@ -122,18 +179,23 @@ impl MessageComponent {
         &self.attendees
     }
 
-    /// In a message to rooms its instances that its RRULE doesn't give, by start, each once, whichever of them other components are for.
-    pub fn singles(&self) -> &[Single]
-        ensures { result.now ≡ self.now.singles.items }
+    /// In a message to rooms its instances in a room of this zone, whichever of them other components are for: those that its RRULE doesn't give, by
+    /// start, each once; and those that it gives, None where it has no RRULE, or is for one instance. It fails only when out of memory.
+    pub fn instances_in(
+        &self,
+        alloc: Global,
+        zone: &RoomZone,
+    ) -> Result<(Vec<Single>, Option<Series>), AllocError>
+        ensures { IfOk result (λ found. (event : events.EventComponent) → SaysComponent event self.now → HasInstances event self.now
+            → AreInstancesIn (room_of zone.now) event found.0.items found.1) }
     {
-        self.singles.as_slice()
-    }
-
-    /// Those that it gives, likewise; None where it has no RRULE, or is for one instance. It is made once for all rooms.
-    pub fn series(&self) -> Option<&Series>
-        ensures { option_map (λ series. series.now) result ≡ self.now.series }
-    {
-        self.series.as_ref()
+        if let Some(event) = &self.by_room {
+            return event.instances_in(alloc, zone);
+        }
+        let mut singles = Vec::new(alloc);
+        singles.extend_from_slice(&self.singles)?;
+        let series = copied(alloc, &self.series)?;
+        Ok((singles, series))
     }
 
     /// Whether an ATTENDEE line has this address.
@@ -151,20 +213,91 @@ impl MessageComponent {
     }
 }
 
-/// The instances of a VEVENT, singles and series, where the message is one to rooms.
-fn instances_for(
+/// A copy of a series, if there is one. It fails only when out of memory.
+fn copied(alloc: Global, series: &Option<Series>) -> Result<Option<Series>, AllocError>
+    ensures { IfOk result (λ copy. (event : events.EventComponent) (own : List Single) → AreInstancesOf event own series.now → AreInstancesOf event own copy) }
+{
+    match series {
+        Some(series) => Ok(Some(series.without(alloc, &[])?)),
+        None => Ok(None),
+    }
+}
+
+/// A VEVENT without its SUMMARY and its ATTENDEE lines, and these. It fails only when out of memory.
+fn parted(alloc: Global, event: EventComponent) -> Result<Parted, AllocError>
+    ensures event { IfOk result (λ parted. component_of parted.event ≡ unattended (component_of event)) }
+    ensures summary { IfOk result (λ parted. parted.summary ≡ event.summary) }
+    ensures attendees { IfOk result (λ parted. parted.attendees ≡ event.attendees) }
+{
+    let empty = Text::of(alloc, "")?;
+    let EventComponent {
+        uid,
+        organiser,
+        stamp,
+        sequence,
+        cancelled,
+        recurrence,
+        times,
+        rule,
+        additions,
+        exceptions,
+        written,
+        summary,
+        attendees,
+    } = event;
+    Ok(Parted {
+        event: EventComponent {
+            uid,
+            organiser,
+            stamp,
+            sequence,
+            cancelled,
+            recurrence,
+            times,
+            rule,
+            additions,
+            exceptions,
+            written,
+            summary: empty,
+            attendees: Vec::new(alloc),
+        },
+        summary,
+        attendees,
+    })
+}
+
+/// The instances of a VEVENT, or what makes them for a room, where the message is one to rooms. It fails only when out of memory.
+fn occurring(
     alloc: Global,
     method: Method,
-    event: &EventComponent,
-) -> Result<(Vec<Single>, Option<Series>), AllocError>
-    ensures { IfOk result (λ instances. is_to_rooms (method_said method) ≡ true → AreInstancesOf (component_of event.now) instances.0.items instances.1) }
+    event: EventComponent,
+) -> Result<Occurring, AllocError>
+    requires written { ∥ IsWritten (component_of event) ∥₁ }
+    requires instants { AreOfWritten (component_of event).written (component_of event).recurrence (component_of event).additions (component_of event).exceptions }
+    ensures { IfOk result (λ found. is_to_rooms (method_said method) ≡ true → (said : events.EventComponent) → component_of event ≡ unattended said
+        → HaveInstances said found.singles.items found.series found.by_room) }
 {
     if !method.is_to_rooms() {
-        return Ok((Vec::new(alloc), None));
+        return Ok(Occurring {
+            singles: Vec::new(alloc),
+            series: None,
+            by_room: None,
+        });
+    }
+    if !event.is_all_fixed() {
+        return Ok(Occurring {
+            singles: Vec::new(alloc),
+            series: None,
+            by_room: Some(event),
+        });
     }
     let singles = event.singles(alloc)?;
     let series = event.series(alloc)?;
-    Ok((singles, series))
+    Ok(Occurring {
+        singles,
+        series,
+        by_room: None,
+    })
 }
 
 /// The slot of a VEVENT: the instance that it is for, else the whole meeting (RFC 5545 3.8.4.4).

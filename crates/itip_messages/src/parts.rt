@@ -1,48 +1,60 @@
 //! The parts of a message for one room: a part for each VEVENT of a REQUEST or an ADD that names the room anywhere, and for each of a
-//! CANCEL that names it or nobody.
-ghost use Rattle.std.specs.Prelude.{◌≡◌, map, option_map, filter, IfOk};
-ghost use Rattle.std.specs.List.{list_any};
+//! CANCEL that names it or nobody; of two with one slot in the room's zone the greater.
+ghost use Rattle.std.specs.Prelude.{◌≡◌, [], map, option_map, filter, IfOk, List};
+ghost use Rattle.std.specs.List.{AllZip, list_any};
 ghost use Rattle.ical_values.specs.Octets.{address_octets};
+ghost use Rattle.cal_zones.specs.RoomZones.{room_of};
 ghost use Rattle.itip_order.specs.Parts.{part_of, parts_of, revision_of};
 ghost use Rattle.profile.specs.events.Messages as profile;
 ghost use Rattle.profile.specs.rooms.Messages.{AreParts, later_of, raised_to};
-ghost use Rattle.itip_messages.specs.Message.{RepresentsMessage, cancels_component, has_part, is_component_for, is_message_for, message_parts_for, part_for};
+ghost use Rattle.itip_messages.specs.Message.{IsPartFor, RepresentsMessage, cancels_component, has_part, is_component_for, is_message_for};
 
 use crate::message::Message;
 use crate::message_component::MessageComponent;
 use cal_events::Method;
+use cal_zones::RoomZone;
 use ical_values::Address;
-use itip_order::{Body, Part, Revision};
+use itip_order::{Body, Part, Revision, greatest_by_slot};
 use std::alloc::{AllocError, Global};
 
 impl Message {
-    /// The parts that the message has for a room, the whole meeting first and then its instances; none where it isn't addressed to it.
+    /// The parts that the message has for a room of this zone, the whole meeting first and then its instances; none where it isn't addressed to it.
     /// A component that is cancelled has a Cancelled body. Another one that doesn't name the room has an Absent body:
-    /// for this room it isn't on.
-    pub fn parts(&self, alloc: Global, room: &Address) -> Result<Vec<Part>, AllocError>
-        ensures parts { IfOk result (λ parts. parts_of parts.items ≡ message_parts_for (address_octets room.now) self.now) }
-        ensures message { IfOk result (λ parts. (said : profile.Message) → RepresentsMessage self.now said
-            → AreParts (address_octets room.now) said (parts_of parts.items)) }
+    /// for this room it isn't on. Of two that have one slot there the greater is the part, by revision and then by body.
+    pub fn parts(
+        &self,
+        alloc: Global,
+        room: &Address,
+        zone: &RoomZone,
+    ) -> Result<Vec<Part>, AllocError>
+        ensures { IfOk result (λ parts. (said : profile.Message) → RepresentsMessage self.now said
+            → AreParts (address_octets room.now) (room_of zone.now) said (parts_of parts.items)) }
     {
         if !self.is_addressed_to(room) {
             return Ok(Vec::new(alloc));
         }
-        self.all_parts(alloc, room)
+        let all = self.all_parts(alloc, room, zone)?;
+        let kept = greatest_by_slot(alloc, all)?;
+        firsts(alloc, kept)
     }
 
-    /// A part for each component that is one for the room.
-    // Apart from `parts`, which most rooms leave at its first line.
-    #[inline(never)]
-    fn all_parts(&self, alloc: Global, room: &Address) -> Result<Vec<Part>, AllocError>
-        ensures { IfOk result (λ parts. parts_of parts.items ≡ map (part_for (address_octets room.now) self.now) (filter (has_part (address_octets room.now) self.now) self.now.components.items)) }
+    /// A part for each component that is one for the room, with nothing beside it.
+    fn all_parts(
+        &self,
+        alloc: Global,
+        room: &Address,
+        zone: &RoomZone,
+    ) -> Result<Vec<(Part, ())>, AllocError>
+        ensures { IfOk result (λ all. AllZip (λ component one. IsPartFor (address_octets room.now) (room_of zone.now) self.now component (part_of one.0))
+            (filter (has_part (address_octets room.now) self.now) self.now.components.items) all.items) }
     {
-        let mut parts = Vec::new(alloc);
+        let mut all = Vec::new(alloc);
         for component in self.components() {
             if self.has_part(component, room) {
-                parts.push(self.part(component, room)?)?;
+                all.push((self.part(component, room, zone)?, ()))?;
             }
         }
-        Ok(parts)
+        Ok(all)
     }
 
     /// Whether a component is a part for a room, if the message is addressed to it: of a REQUEST or an ADD each is; of a CANCEL
@@ -56,9 +68,14 @@ impl Message {
         }
     }
 
-    /// The part that a component of the message is for a room.
-    pub fn part(&self, component: &MessageComponent, room: &Address) -> Result<Part, AllocError>
-        ensures { IfOk result (λ part. part_of part ≡ part_for (address_octets room.now) self.now component.now) }
+    /// The part that a component of the message is for a room of this zone.
+    pub fn part(
+        &self,
+        component: &MessageComponent,
+        room: &Address,
+        zone: &RoomZone,
+    ) -> Result<Part, AllocError>
+        ensures { IfOk result (λ part. IsPartFor (address_octets room.now) (room_of zone.now) self.now component.now (part_of part)) }
     {
         let body = if self.cancels(component) {
             Body::Cancelled
@@ -70,7 +87,7 @@ impl Message {
         Ok(Part {
             organiser: self.organiser().clone()?,
             uid: self.uid().clone()?,
-            slot: component.slot,
+            slot: component.slot_in(zone),
             revision: raised(self.whole, component.revision),
             body,
         })
@@ -105,6 +122,17 @@ impl Message {
     {
         component.names(room) || (self.method().is_cancel() && component.names_nobody())
     }
+}
+
+/// The parts, without what is beside each. It fails only when out of memory.
+fn firsts(alloc: Global, kept: Vec<(Part, ())>) -> Result<Vec<Part>, AllocError>
+    ensures { IfOk result (λ parts. parts_of parts.items ≡ map (λ one. part_of one.0) kept.items) }
+{
+    let mut parts = Vec::new(alloc);
+    for (part, _) in kept {
+        parts.push(part)?;
+    }
+    Ok(parts)
 }
 
 /// A revision, or that of the whole meeting, if that is later.

@@ -1,11 +1,12 @@
 //! What an organiser writes reads back: the message that its octets spell, and what that says to each room.
-ghost use Rattle.std.specs.Prelude.{◌≡◌, ℕ, List, [], ◌∷◌, Contains, Bool, false, None, ◌<◌, ◌^◌};
+ghost use Rattle.std.specs.Prelude.{◌≡◌, ℕ, List, [], ◌∷◌, Contains, Bool, false, None, Option, ◌<◌, ◌^◌};
 ghost use Rattle.profile.specs.events.EventComponents.{Attendee, EventComponent, Store};
 ghost use Rattle.profile.specs.events.Messages.{Message, SpellsMessage};
 ghost use Rattle.profile.specs.organisers.Sent.{IsCancel, IsMeetingText, IsRequest};
 ghost use Rattle.profile.specs.organisers.Organisers.{OrganiserBook, ShowsSeen, Stored};
 ghost use Rattle.profile.specs.rooms.Messages.{AreParts};
 ghost use Rattle.profile.specs.rooms.Revisions.{Revision};
+ghost use Rattle.profile.specs.series.Zones.{Zone};
 ghost use Rattle.profile.specs.text.Lines.{is_too_long};
 ghost use Rattle.itip_messages.specs.SentLaw.{IsSentAddress, IsSentName, SpellsRequest, SpellsShown, SpellsShownCalendar, cancel_message, cancel_part};
 
@@ -27,17 +28,17 @@ pub fn cancels_read_back()
         → IsSentName organiser uid revision → ((address : List ℕ) → Contains to address → IsSentAddress address)
         → IsCancel organiser uid revision called_off to octets → is_too_long octets ≡ false
         → SpellsMessage octets (cancel_message organiser uid revision called_off to) }
-    ensures tells { (organiser uid : List ℕ) (revision : Revision) (called_off : Bool) (to : List (List ℕ)) (room : List ℕ)
-        → Contains to room → AreParts room (cancel_message organiser uid revision called_off to) (cancel_part organiser uid revision ∷ []) }
-    ensures others { (organiser uid : List ℕ) (revision : Revision) (called_off : Bool) (first : List ℕ) (more : List (List ℕ)) (room : List ℕ)
-        → (Contains (first ∷ more) room → ⊥) → AreParts room (cancel_message organiser uid revision called_off (first ∷ more)) [] }
+    ensures tells { (organiser uid : List ℕ) (revision : Revision) (called_off : Bool) (to : List (List ℕ)) (room : List ℕ) (zone : Option Zone)
+        → Contains to room → AreParts room zone (cancel_message organiser uid revision called_off to) (cancel_part organiser uid revision ∷ []) }
+    ensures others { (organiser uid : List ℕ) (revision : Revision) (called_off : Bool) (first : List ℕ) (more : List (List ℕ)) (room : List ℕ) (zone : Option Zone)
+        → (Contains (first ∷ more) room → ⊥) → AreParts room zone (cancel_message organiser uid revision called_off (first ∷ more)) [] }
 {
     ical_lines::lines_read_back();
 }
 
 /// Whatever meeting an organiser stored: the octets of its REQUEST spell a message of that METHOD (RFC 5546 3.2.2), with a VEVENT for each of
 /// the store, in its order, which says the same event in the revision that was sent: whose it is, which instance, when it is and in which zone, whether it
-/// is cancelled, and what it is about; each attendee occurs once, and is asked to answer. So it has for each room the very parts that the
+/// is cancelled, and what it is about; each attendee occurs once, and is asked to answer. So it has for each room, in whichever zone, the very parts that the
 /// events of the store have in that revision, with the same canonical octets. Required are a SEQUENCE that can be read, and octets within the limits
 /// of a message.
 pub fn requests_read_back()

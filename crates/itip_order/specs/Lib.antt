@@ -1,3 +1,4 @@
 pub mod Freshness
+pub mod Greatest
 pub mod Parts
 pub mod Registers

@@ -5,10 +5,12 @@
 //! beside the Whole of their meeting. The answer doesn't depend on the order in which parts come.
 #![tactic(auto)]
 
+mod greatest;
 mod held;
 mod part;
 mod together;
 
+pub use greatest::greatest_by_slot;
 pub use held::{
     Freshness, Held, View, represents_its_registers, same_parts_same_view, view_is_lasting,
 };

@@ -13,6 +13,7 @@ use Rattle.profile.specs.checker.Instances.{Instance, IsClear}
 use Rattle.profile.specs.events.Events.{Event as Series}
 use Rattle.profile.specs.events.Starts.{IsInstance}
 use Rattle.profile.specs.events.Confirmed.{IsInSeries}
+use Rattle.profile.specs.series.Zones.{Zone}
 use Rattle.profile.specs.text.Values.{IsClockSeconds}
 use Rattle.profile.specs.rooms.Revisions.{Part, Slot, Whole, At, Body, Set, Absent, Cancelled, in_view}
 use Rattle.profile.specs.rooms.Messages.{Outcome}
@@ -180,10 +181,10 @@ pub record Represents (entries : List (MeetingKey × Meeting)) (book : Book) : T
   pub few : IsWithinLimits book
   pub meets : (key : MeetingKey) → MeetsAt (book_of key book) key (lookup (same_key key) entries)
 
--- the meetings represent a book that some messages lead to
-pub record HaveReached (room : List ℕ) (entries : List (MeetingKey × Meeting)) : Type 0 where
+-- the meetings of a room of this zone represent a book that some messages lead to
+pub record HaveReached (room : List ℕ) (zone : Option Zone) (entries : List (MeetingKey × Meeting)) : Type 0 where
   pub book : Book
-  pub reached : IsReached room book
+  pub reached : IsReached room zone book
   pub represents : Represents entries book
 
 -- the book after these claims, where this was decided

@@ -1,5 +1,5 @@
 -- What is written of what a room keeps.
-use Rattle.std.specs.Prelude.{◌≡◌, ◌↔◌, ℕ, Bool, true, false, not, List, [], ◌∷◌, ◌++◌, ◌&&◌, codes, decimal, filter, length, map, if◌then◌else◌}
+use Rattle.std.specs.Prelude.{◌≡◌, ◌↔◌, ℕ, Bool, true, false, not, List, [], ◌∷◌, ◌++◌, ◌&&◌, codes, decimal, filter, length, map, if◌then◌else◌, Option}
 use Rattle.std.specs.List.{flat_map, list_any, AllZip}
 use Rattle.std.specs.Option.{option_to_list}
 use Rattle.std.specs.Ordering.{is_eq}
@@ -9,6 +9,7 @@ use Rattle.itip_order.specs.Registers.{shown}
 use Rattle.profile.specs.rooms.Revisions as revisions
 use Rattle.profile.specs.rooms.Revisions.{Part, is_whole, same_meeting, slot_cmp}
 use Rattle.profile.specs.rooms.Messages.{TellsSlot}
+use Rattle.profile.specs.series.Zones.{Zone}
 use Rattle.profile.specs.text.Values.{WritesStamp, escaped}
 use Rattle.profile.specs.checker.Calendars.{SpellsCalendar}
 use Rattle.profile.specs.checker.Instances.{Instance}
@@ -51,10 +52,10 @@ pub record SpellsConfirmed (room : List ℕ) (book : Book) (calendar : List ℕ)
   pub series : length all.series ≡ length (confirmed_series book)
   pub exact : (booked : Instance) → IsOneOf all booked ↔ Confirms book booked
 
--- the meetings represent a book that some messages lead to, and the calendar spells exactly what it confirms
-pub record KeepsReached (room : List ℕ) (entries : List (MeetingKey × Meeting)) (calendar : List ℕ) : Type 0 where
+-- the meetings of a room of this zone represent a book that some messages lead to, and the calendar spells exactly what it confirms
+pub record KeepsReached (room : List ℕ) (zone : Option Zone) (entries : List (MeetingKey × Meeting)) (calendar : List ℕ) : Type 0 where
   pub book : Book
-  pub reached : IsReached room book
+  pub reached : IsReached room zone book
   pub represents : Represents entries book
   pub spells : SpellsConfirmed room book calendar
 

@@ -1,11 +1,13 @@
 //! What holds of each room, whatever it takes: laws, with nothing to do.
 
-ghost use Rattle.std.specs.Prelude.{◌≡◌, ◌↔◌, ℕ, ℤ, List, length, Contains};
+ghost use Rattle.std.specs.Prelude.{◌≡◌, ◌↔◌, ℕ, ℤ, List, Option, length, Contains};
 ghost use Rattle.profile.specs.checker.Instances.{Instance, IsClear};
 ghost use Rattle.profile.specs.events.Confirmed.{Confirmed, IsOneOf};
+ghost use Rattle.profile.specs.series.RoomZones.{IsRoomZone};
+ghost use Rattle.profile.specs.series.Zones.{Zone};
 ghost use Rattle.profile.specs.rooms.Messages.{Outcome};
 ghost use Rattle.profile.specs.rooms.Rooms.{PartAnswer, Book, Claim, Delivery, IsStep, Runs, empty_book, kind_of, IsWithinLimits, Confirms, confirmed_series, confirmed_singles};
-ghost use Rattle.profile.specs.streams.Streams.{IsDelivered, IsReached, AllAnswers, Box, Hosted, Config, new_box};
+ghost use Rattle.profile.specs.streams.Streams.{AreInZones, IsDelivered, IsReached, AllAnswers, Box, Hosted, Config, new_box};
 ghost use Rattle.profile.specs.rooms.Kept.{IsKeptCalendar, IsKeptCertificate};
 ghost use Rattle.profile.specs.checker.Calendars.{CertificateHolds, SpellsCalendar};
 ghost use Rattle.profile.specs.Headline.{AcceptedWhereClear, DeclineNamesClash};
@@ -25,8 +27,8 @@ pub fn runs_stay_clear()
 pub fn answers_stay()
     ensures stays { (before after : Book) (deliveries : List Delivery) → Runs before deliveries after
         → (answer : PartAnswer) → Contains before.answers answer → Contains after.answers answer }
-    ensures once { (room : List ℕ) (deliveries : List Delivery) (book : Book)
-        → ((taken : Delivery) → Contains deliveries taken → IsDelivered room taken) → Runs empty_book deliveries book
+    ensures once { (room : List ℕ) (zone : Option Zone) (deliveries : List Delivery) (book : Book)
+        → ((taken : Delivery) → Contains deliveries taken → IsDelivered room zone taken) → Runs empty_book deliveries book
         → (a b : PartAnswer) → Contains book.answers a → Contains book.answers b → a.claim.part ≡ b.claim.part → a ≡ b }
 {}
 
@@ -42,14 +44,14 @@ pub fn accepted_where_clear()
 /// The instances that a decline names have keys in UTF-8, whatever messages the room took: each organiser and UID in a
 /// book comes from octets that were read (RFC 5545 3.1.4).
 pub fn answers_name_texts()
-    ensures { (room : List ℕ) (book : Book) → IsReached room book → AreTextAnswers book }
+    ensures { (room : List ℕ) (zone : Option Zone) (book : Book) → IsReached room zone book → AreTextAnswers book }
 {}
 
 /// Whatever messages come, in any order and repeated: the calendar that a room keeps after them spells what it has
-/// confirmed, and the certificate that is made for it holds for it.
+/// confirmed, and the certificate that is made for it holds for it. The room is in a zone that words mean, and the calendar names it by them.
 pub fn kept_texts_pass()
-    ensures { (room : List ℕ) (book : Book) (calendar : List ℕ) → IsReached room book → IsKeptCalendar room book calendar
-        → (certificate : List ℕ) → IsKeptCertificate room calendar certificate → CertificateHolds room calendar certificate }
+    ensures { (room words : List ℕ) (zone : Option Zone) (book : Book) (calendar : List ℕ) → IsRoomZone words zone → IsReached room zone book
+        → IsKeptCalendar room words book calendar → (certificate : List ℕ) → IsKeptCertificate room calendar certificate → CertificateHolds room calendar certificate }
 {
     one_calendar_text();
     ical_lines::lines_read_back();
@@ -58,8 +60,9 @@ pub fn kept_texts_pass()
 
 /// And that calendar spells exactly what the room has confirmed: as many singles, as many series, and the same instances.
 pub fn kept_texts_spell()
-    ensures { (room : List ℕ) (deliveries : List Delivery) (book : Book) (text : List ℕ)
-        → ((taken : Delivery) → Contains deliveries taken → IsDelivered room taken) → Runs empty_book deliveries book → IsKeptCalendar room book text
+    ensures { (room words : List ℕ) (zone : Option Zone) (deliveries : List Delivery) (book : Book) (text : List ℕ) → IsRoomZone words zone
+        → ((taken : Delivery) → Contains deliveries taken → IsDelivered room zone taken) → Runs empty_book deliveries book
+        → IsKeptCalendar room words book text
         → (all : Confirmed) × SpellsCalendar room text all
         × (length all.singles ≡ length (confirmed_singles book)) × (length all.series ≡ length (confirmed_series book))
         × ((booked : Instance) → IsOneOf all booked ↔ Confirms book booked) }
@@ -72,9 +75,9 @@ pub fn kept_texts_spell()
 /// them passes likewise.
 pub fn served_texts_pass()
     ensures { (moment : ℤ) (hosts : Config) (first : ℕ) (objects : List (List ℕ)) (after : Box) (answers : List ℕ) (refused : ℕ)
-        → AllAnswers moment first objects (new_box hosts) after answers refused
+        → AreInZones hosts.rooms → AllAnswers moment first objects (new_box hosts) after answers refused
         → (room : Hosted) → Contains after.rooms room
-        → (kept : List ℕ) → IsKeptCalendar room.address room.book kept
+        → (kept : List ℕ) → IsKeptCalendar room.address room.words room.book kept
         → (certificate : List ℕ) → IsKeptCertificate room.address kept certificate → CertificateHolds room.address kept certificate }
 {
     one_calendar_text();

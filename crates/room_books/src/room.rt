@@ -7,6 +7,7 @@ ghost use Rattle.std.specs.List.{IsDistinct};
 ghost use Rattle.std.specs.Map.{lookup};
 ghost use Rattle.indexmap.specs.IndexMap.{keys, insert_index, IsUnchanged};
 ghost use Rattle.ical_values.specs.Octets.{address_octets};
+ghost use Rattle.cal_zones.specs.RoomZones.{room_of, words_of};
 ghost use Rattle.itip_order.specs.Parts.{part_of, slot_of};
 ghost use Rattle.itip_order.specs.Registers.{RepresentsHistory};
 ghost use Rattle.profile.specs.rooms.Revisions as revisions;
@@ -51,6 +52,7 @@ use crate::taking::{AnswersKept, Views, candidates, decided, held_with, is_accep
 use crate::texts::{KeptTexts, calendar_of, certificate_octets};
 use crate::timeline::Timeline;
 use cal_events::{Calendar, Series, Single, one_calendar_text};
+use cal_zones::RoomZone;
 use clash_cert::Clash;
 use ical_lines::Fault;
 use ical_values::{Address, Stamp};
@@ -64,6 +66,7 @@ use std::alloc::{AllocError, Global};
 pub struct Room {
     alloc: Global,
     address: Address,
+    zone: RoomZone,
     meetings: Meetings,
     timeline: Timeline,
     /// The places of the meetings that have series confirmed.
@@ -79,7 +82,7 @@ pub struct Room {
     ghost series_few: { series ≤ 64 },
     ghost series_clear: { IsClearIn (in_room meetings.entries) },
     // some messages led from the empty room here
-    ghost reached: { ∥ HaveReached (address_octets address) meetings.entries ∥₁ },
+    ghost reached: { ∥ HaveReached (address_octets address) (room_of zone) meetings.entries ∥₁ },
 }
 
 /// What a message does to the answers of its meeting, the instances that the meeting no longer confirms and those that it confirms now and
@@ -113,14 +116,16 @@ struct Answered {
 }
 
 impl Room {
-    /// A room that has taken nothing.
-    pub fn new(alloc: Global, address: Address) -> Room
+    /// A room of this zone that has taken nothing.
+    pub fn new(alloc: Global, address: Address, zone: RoomZone) -> Room
         ensures empty { Represents result.meetings.entries empty_book }
         ensures address { result.address ≡ address }
+        ensures zone { result.zone ≡ zone }
     {
         Room {
             alloc,
             address,
+            zone,
             meetings: IndexMap::new(alloc),
             timeline: Timeline::new(alloc),
             recurring: Vec::new(alloc),
@@ -140,6 +145,13 @@ impl Room {
         &self.address
     }
 
+    /// The room's zone: on its clocks the days and the times without zone of its meetings are read.
+    pub fn zone(&self) -> RoomZone
+        ensures { result ≡ self.now.zone }
+    {
+        self.zone
+    }
+
     /// The meetings, in order of first arrival.
     pub fn meetings(&self) -> &Meetings
         ensures { result.now ≡ self.now.meetings }
@@ -154,18 +166,19 @@ impl Room {
     pub fn take(&mut self, message: &Message, now: Stamp) -> Result<Answer, AllocError>
         // From each book that the room represents, it is accepted exactly where something is asked and the room stays clear and within its limits.
         ensures accepted { IfOk result (λ answer. (said : profile.Message) → RepresentsMessage message.now said → (book : Book) → Represents self.old.meetings.entries book
-            → (claims : List rooms.Claim) × AreClaims (address_octets self.old.address) said claims × AcceptedWhereClear book claims now (kind_view answer.kind)) }
+            → (claims : List rooms.Claim) × AreClaims (address_octets self.old.address) (room_of self.old.zone) said claims × AcceptedWhereClear book claims now (kind_view answer.kind)) }
         // Where it is declined for a clash, two instances of what would be confirmed are named, and an instant in both.
         ensures declined { IfOk result (λ answer. (said : profile.Message) → RepresentsMessage message.now said → (book : Book) → Represents self.old.meetings.entries book
-            → (claims : List rooms.Claim) × AreClaims (address_octets self.old.address) said claims × DeclineNamesClash book claims now (kind_view answer.kind)) }
+            → (claims : List rooms.Claim) × AreClaims (address_octets self.old.address) (room_of self.old.zone) said claims × DeclineNamesClash book claims now (kind_view answer.kind)) }
         // From each book that the room represents, it makes a step of the room machine, with the claims of the message.
         ensures steps { IfOk result (λ answer. (said : profile.Message) → RepresentsMessage message.now said → (book : Book) → Represents self.old.meetings.entries book
-            → (claims : List rooms.Claim) × AreClaims (address_octets self.old.address) said claims
+            → (claims : List rooms.Claim) × AreClaims (address_octets self.old.address) (room_of self.old.zone) said claims
             × StepsWith (address_octets self.old.address) self.new.meetings.entries book claims now (kind_view answer.kind) (reply_octets answer) (is_add said.method) (refresh_octets answer)) }
         ensures address { self.new.address ≡ self.old.address }
+        ensures zone { self.new.zone ≡ self.old.zone }
         ensures err { OnErr result (IsUnchanged self.old.meetings self.new.meetings) }
     {
-        let claims = claims_of(self.alloc, message, &self.address)?;
+        let claims = claims_of(self.alloc, message, &self.address, &self.zone)?;
         let Some(first) = claims.first() else {
             return Ok(Answer::silent(Kind::NotAddressed));
         };
@@ -178,15 +191,16 @@ impl Room {
     pub fn kept(&self) -> Result<KeptTexts, AllocError>
         ensures passes { IfOk result (λ texts. KeptTextsPass (address_octets self.now.address) texts.calendar.items texts.certificate.items) }
         // Some messages led to a book that the room represents, and the calendar spells exactly what it confirms;
-        ensures spells { IfOk result (λ texts. ∥ KeepsReached (address_octets self.now.address) self.now.meetings.entries texts.calendar.items ∥₁) }
+        ensures spells { IfOk result (λ texts. ∥ KeepsReached (address_octets self.now.address) (room_of self.now.zone) self.now.meetings.entries texts.calendar.items ∥₁) }
         // and it does so for each such book.
-        ensures spells_each { IfOk result (λ texts. (book : Book) → IsReached (address_octets self.now.address) book → Represents self.now.meetings.entries book
+        ensures spells_each { IfOk result (λ texts. (book : Book) → IsReached (address_octets self.now.address) (room_of self.now.zone) book → Represents self.now.meetings.entries book
             → SpellsConfirmed (address_octets self.now.address) book texts.calendar.items) }
-        ensures calendar { IfOk result (λ texts. (book : Book) → Represents self.now.meetings.entries book → IsKeptCalendar (address_octets self.now.address) book texts.calendar.items) }
+        ensures calendar { IfOk result (λ texts. (book : Book) → Represents self.now.meetings.entries book → IsKeptCalendar (address_octets self.now.address) (words_of self.now.zone) book texts.calendar.items) }
         ensures certificate { IfOk result (λ texts. IsKeptCertificate (address_octets self.now.address) texts.calendar.items texts.certificate.items) }
     {
         kept_texts_spell();
         kept_texts_pass();
+        self.zone.words_mean();
         let calendar = self.calendar_text()?;
         let certificate = self.certificate_for(&calendar)?;
         Ok(KeptTexts {
@@ -197,19 +211,20 @@ impl Room {
 
     /// The kept calendar: each accepted part in the view, and what hides instances of an accepted whole, the meetings in order of first arrival.
     pub fn calendar_text(&self) -> Result<Vec<u8>, AllocError>
-        ensures kept { IfOk result (λ text. (book : Book) → Represents self.now.meetings.entries book → IsKeptCalendar (address_octets self.now.address) book text.items) }
+        ensures kept { IfOk result (λ text. (book : Book) → Represents self.now.meetings.entries book → IsKeptCalendar (address_octets self.now.address) (words_of self.now.zone) book text.items) }
         // Where messages led to the book, each certificate that is made for what it spells holds for it.
-        ensures passes { IfOk result (λ text. (book : Book) → IsReached (address_octets self.now.address) book → Represents self.now.meetings.entries book
+        ensures passes { IfOk result (λ text. (book : Book) → IsReached (address_octets self.now.address) (room_of self.now.zone) book → Represents self.now.meetings.entries book
             → (certificate : List ℕ) → IsKeptCertificate (address_octets self.now.address) text.items certificate → CertificateHolds (address_octets self.now.address) text.items certificate) }
     {
         kept_texts_pass();
-        let text = calendar_of(self.alloc, &self.meetings, &self.address)?;
+        self.zone.words_mean();
+        let text = calendar_of(self.alloc, &self.meetings, &self.address, &self.zone)?;
         Ok(text)
     }
 
     /// The certificate that holds for the kept calendar.
     pub fn certificate_text(&self) -> Result<Vec<u8>, AllocError>
-        ensures { IfOk result (λ text. (calendar : List ℕ) × ((book : Book) → Represents self.now.meetings.entries book → IsKeptCalendar (address_octets self.now.address) book calendar)
+        ensures { IfOk result (λ text. (calendar : List ℕ) × ((book : Book) → Represents self.now.meetings.entries book → IsKeptCalendar (address_octets self.now.address) (words_of self.now.zone) book calendar)
             × IsKeptCertificate (address_octets self.now.address) calendar text.items) }
     {
         let KeptTexts {
@@ -222,11 +237,12 @@ impl Room {
     /// The certificate of the kept calendar, which is read back: the checker judges its octets. It costs what reading them does, and no look at an
     /// instance.
     fn certificate_for(&self, calendar: &[u8]) -> Result<Vec<u8>, AllocError>
-        requires kept { (book : Book) → Represents self.now.meetings.entries book → IsKeptCalendar (address_octets self.now.address) book calendar.now }
+        requires kept { (book : Book) → Represents self.now.meetings.entries book → IsKeptCalendar (address_octets self.now.address) (words_of self.now.zone) book calendar.now }
         ensures { IfOk result (λ text. IsKeptCertificate (address_octets self.now.address) calendar.now text.items) }
     {
         kept_texts_spell();
         one_calendar_text();
+        self.zone.words_mean();
         match Calendar::read(self.alloc, calendar, &self.address) {
             Ok(calendar) => certificate_octets(self.alloc, &calendar),
             Err(Fault::Memory) => Err(AllocError),
@@ -246,12 +262,13 @@ impl Room {
         now: Stamp,
     ) -> Result<Answer, AllocError>
         requires some { 0 < length claims.now }
-        requires delivered { ∥ IsDelivered (address_octets self.old.address) (record { claims = claims_said claims.now; moment = now })
+        requires delivered { ∥ IsDelivered (address_octets self.old.address) (room_of self.old.zone) (record { claims = claims_said claims.now; moment = now })
             × ((key : MeetingKey) → IsKeyOf (part_of first.now).organiser (part_of first.now).uid key → AreFitting key (claims_said claims.now)) ∥₁ }
         ensures steps { IfOk result (λ answer. ((key : MeetingKey) → IsKeyOf (part_of first.now).organiser (part_of first.now).uid key → AreFitting key (claims_said claims.now))
             → (book : Book) → Represents self.old.meetings.entries book
             → StepsWith (address_octets self.old.address) self.new.meetings.entries book (claims_said claims.now) now (kind_view answer.kind) (reply_octets answer) adds (refresh_octets answer)) }
         ensures address { self.new.address ≡ self.old.address }
+        ensures zone { self.new.zone ≡ self.old.zone }
         ensures err { OnErr result (IsUnchanged self.old.meetings self.new.meetings) }
     {
         keys_differ(&self.meetings);
@@ -606,9 +623,10 @@ impl Room {
         requires joins { MayJoin (others key self.old.meetings.entries) key (all_singles (answers_then (answers_by (lookup (same_key key) self.old.meetings.entries)) changes)) }
         requires recurs { MayJoinAll (beside key self.old.meetings.entries) key (answers_then (answers_by (lookup (same_key key) self.old.meetings.entries)) changes) }
         requires reaches { (entries : List (MeetingKey × Meeting)) → IsPutIn key more changes self.old.meetings.entries entries
-            → ∥ HaveReached (address_octets self.old.address) entries ∥₁ }
+            → ∥ HaveReached (address_octets self.old.address) (room_of self.old.zone) entries ∥₁ }
         ensures put { OnOk result (IsPutIn key more changes self.old.meetings.entries self.new.meetings.entries) }
         ensures address { self.new.address ≡ self.old.address }
+        ensures zone { self.new.zone ≡ self.old.zone }
         ensures err { OnErr result (IsUnchanged self.old.meetings self.new.meetings) }
     {
         keys_differ(&self.meetings);

@@ -1,11 +1,13 @@
 //! What a room keeps, as octets: its calendar, and the certificate for it.
 
-ghost use Rattle.std.specs.Prelude.{◌≡◌, ◌∷◌, [], ℕ, List, true, false, IfOk, OnOk};
+ghost use Rattle.std.specs.Prelude.{◌≡◌, ◌∷◌, ◌++◌, [], ℕ, List, true, false, IfOk, OnOk};
 ghost use Rattle.indexmap.specs.IndexMap.{values};
 ghost use Rattle.ical_values.specs.Octets.{address_octets};
+ghost use Rattle.cal_zones.specs.RoomZones.{words_of};
 ghost use Rattle.itip_order.specs.Parts.{part_of};
 ghost use Rattle.profile.specs.checker.Certificates.{Claims, IsCertificateMade, SpellsCertificate};
-ghost use Rattle.profile.specs.rooms.Kept.{IsKeptCalendar};
+ghost use Rattle.profile.specs.rooms.Kept.{IsKeptCalendar, room_zone_lines};
+ghost use Rattle.profile.specs.text.Lines.{written};
 ghost use Rattle.profile.specs.rooms.Revisions.{is_whole};
 ghost use Rattle.profile.specs.rooms.Rooms.{Book};
 ghost use Rattle.room_books.specs.Room.{Represents};
@@ -18,6 +20,7 @@ use crate::reply::recurrence_of;
 use crate::slots::{is_touched, put_in_order};
 use crate::taking::is_accept;
 use cal_events::Calendar;
+use cal_zones::RoomZone;
 use clash_cert::certificate_of;
 use ical_values::Address;
 use itip_messages::{ObjectWriter, Zones, write_body, write_slot};
@@ -31,15 +34,16 @@ pub struct KeptTexts {
     pub certificate: Vec<u8>,
 }
 
-/// The kept calendar of a room, the meetings in order of first arrival: each accepted part in the view, and what hides instances of an
-/// accepted whole.
+/// The kept calendar of a room of this zone, which it names where that isn't UTC; the meetings in order of first arrival: each accepted part in the
+/// view, and what hides instances of an accepted whole.
 pub(crate) fn calendar_of(
     alloc: Global,
     meetings: &Meetings,
     room: &Address,
+    zone: &RoomZone,
 ) -> Result<Vec<u8>, AllocError>
     ensures { IfOk result (λ text. (book : Book) → Represents meetings.now.entries book
-        → IsKeptCalendar (address_octets room.now) book text.items) }
+        → IsKeptCalendar (address_octets room.now) (words_of zone.now) book text.items) }
 {
     keys_differ(meetings);
     // the zones go first, and are known last
@@ -50,9 +54,21 @@ pub(crate) fn calendar_of(
     let events = events.finish();
     let mut object = ObjectWriter::new(alloc);
     object.begin_calendar(None)?;
+    write_room_zone(&mut object, zone)?;
     zones.write(&mut object)?;
     object.octets(events.as_slice())?;
     Ok(object.finish())
+}
+
+/// The line that names the zone of a room, where that isn't UTC.
+fn write_room_zone(object: &mut ObjectWriter, zone: &RoomZone) -> Result<(), AllocError>
+    ensures { OnOk result (object.new ≡ object.old ++ written (room_zone_lines (words_of zone.now))) }
+{
+    if zone.is_utc() {
+        return Ok(());
+    }
+    let words = zone.words(object.alloc())?;
+    object.named("X-ROOM-ZONE:", words.as_str())
 }
 
 /// The octets of the certificate that is made for a calendar, which is clear.
