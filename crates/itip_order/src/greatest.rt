@@ -1,10 +1,8 @@
 //! Of the parts that a message has for one room the greatest of each slot: two of its VEVENTs may have one slot there.
 
 ghost use Rattle.std.specs.Prelude.{◌≡◌, IfOk};
-ghost use Rattle.std.specs.Ordering.{ordering_then};
-ghost use Rattle.std.specs.List.Sorted.{IsSortedBy};
+ghost use Rattle.std.specs.List.Sorted.{IsSorted};
 ghost use Rattle.profile.specs.rooms.Messages.{AreGreatest};
-ghost use Rattle.profile.specs.rooms.Revisions.{part_cmp, slot_cmp};
 ghost use Rattle.itip_order.specs.Parts.{part_of};
 ghost use Rattle.itip_order.specs.Greatest.{slot_part_cmp};
 
@@ -29,7 +27,7 @@ fn last_by_slot<T: Drop>(
     alloc: Global,
     sorted: Vec<(Part, T)>,
 ) -> Result<Vec<(Part, T)>, AllocError>
-    requires { IsSortedBy (λ a b. slot_part_cmp (part_of a.0) (part_of b.0)) sorted.items }
+    requires { IsSorted (λ a b. slot_part_cmp (part_of a.0) (part_of b.0)) sorted.items }
     ensures { IfOk result (λ kept. AreGreatest (λ one. part_of one.0) sorted.items kept.items) }
 {
     let mut kept: Vec<(Part, T)> = Vec::new(alloc);

@@ -3,11 +3,11 @@ use Rattle.std.specs.Prelude.{◌≡◌, ◌⊎◌, ℕ, ℤ, List, [], ◌∷�
 use Rattle.std.specs.List.{AllZip, list_any}
 use Rattle.std.specs.Option.{option_to_list}
 use Rattle.std.specs.Str.{bytes_eq}
+use Rattle.cal_zones.specs.RoomZones.{room_of, words_of}
 use Rattle.ical_values.specs.Octets.{address_octets}
 use Rattle.itip_messages.specs.Message.{RepresentsMessage}
 use Rattle.itip_messages.specs.declared.message.Message.{Message}
 use Rattle.profile.specs.events.Messages as profile
-use Rattle.profile.specs.rooms.Rooms.{empty_book}
 use Rattle.profile.specs.streams.Streams.{Hosted, Takes, TakesMessage}
 use Rattle.profile.specs.streams.Worlds as worlds
 use Rattle.profile.specs.streams.Worlds.{ChangesOne}
@@ -20,18 +20,16 @@ use Rattle.room_books.specs.declared.room.Room.{Room}
 abbrev pub room_addresses : List Room → List (List ℕ)
 room_addresses rooms = map (λ room. address_octets room.address) rooms
 
--- the room has the address, and represents the book
+-- the room has the address and the zone, and represents the book
 pub record IsHosted (room : Room) (hosted : Hosted) : Type 0 where
   pub at : hosted.address ≡ address_octets room.address
+  pub words : hosted.words ≡ words_of room.zone
+  pub zone : hosted.zone ≡ room_of room.zone
   pub represents : Represents room.meetings.entries hosted.book
 
 -- the rooms are what the box keeps
 abbrev pub AreHosted : List Room → List Hosted → Type 0
 AreHosted rooms box = AllZip IsHosted rooms box
-
--- a room of this address that has taken nothing
-abbrev pub nothing_taken : List ℕ → Hosted
-nothing_taken address = record { address = address; book = empty_book }
 
 -- objects, each as its octets
 abbrev pub octets_each : {Z : Type 0} → List (Vec ℕ Z) → List (List ℕ)
@@ -45,7 +43,8 @@ sent_by answer = option_to_list (reply_octets answer) ++ option_to_list (refresh
 abbrev pub RoomSends : ℤ → Message → Room → Room → List (List ℕ) → Type 0
 RoomSends moment message old new sent =
     (said : profile.Message) → RepresentsMessage message said → (before : Hosted) → IsHosted old before
-    → (after : Hosted) × IsHosted new after × (after.address ≡ before.address) × TakesMessage before.address moment said before.book after.book sent
+    → (after : Hosted) × IsHosted new after × (after ≡ record before { book = after.book })
+    × TakesMessage before.address before.zone moment said before.book after.book sent
 
 -- of these rooms that of the address takes it and sends these objects, or none is of it
 abbrev pub RoomsSend : List ℕ → ℤ → Message → List Room → List Room → List (List ℕ) → Type 0

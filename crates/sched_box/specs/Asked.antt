@@ -1,5 +1,5 @@
 -- Which rooms of a box need not take a message, as it isn't for them.
-use Rattle.std.specs.Prelude.{◌≡◌, ℕ, Bool, true, false, List, [], map, get_or}
+use Rattle.std.specs.Prelude.{◌≡◌, ℕ, Bool, true, false, List, [], ◌∷◌, ◌++◌, map, get_or}
 use Rattle.std.specs.List.{list_any}
 use Rattle.std.specs.Str.{bytes_eq}
 use Rattle.cal_events.specs.declared.component.Attendee.{Attendee}
@@ -11,6 +11,11 @@ use Rattle.sched_box.specs.declared.directory.Directory.{Directory}
 -- the addresses of the hosts, in their order
 abbrev pub directory_addresses : Directory → List (List ℕ)
 directory_addresses directory = map address_octets directory.addresses.keys
+
+-- the address is new, and was added to the others; or it is there, and nothing changes
+abbrev pub AddsAddress : List (List ℕ) → List (List ℕ) → List ℕ → Bool → Type 0
+AddsAddress old new address true = (list_any (bytes_eq address) old ≡ false) × (new ≡ old ++ address ∷ [])
+AddsAddress old new address false = (list_any (bytes_eq address) old ≡ true) × (new ≡ old)
 
 -- where a room's flag is off, its address fails the test
 abbrev pub LeavesOut : (List ℕ → Bool) → List (List ℕ) → List Bool → Type 0

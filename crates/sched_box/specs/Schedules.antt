@@ -12,6 +12,8 @@ use Rattle.organiser_books.specs.declared.organiser.Organiser.{Organiser}
 use Rattle.room_books.specs.declared.room.Room.{Room}
 use Rattle.sched_box.specs.Answering.{AreHosted, IsHosted, octets_each}
 use Rattle.sched_box.specs.Organising.{AreKeptBy, IsKeptBy}
+use Rattle.sched_box.specs.Settings.{zoned_room}
+use Rattle.sched_box.specs.declared.settings.ZonedRoom.{ZonedRoom}
 use Rattle.sched_box.specs.declared.schedules.Step.{Step}
 use Rattle.sched_box.specs.declared.schedules.Step.TheVariants.{Store, Deliver}
 use Rattle.sched_box.specs.declared.schedules.World.{World}
@@ -28,11 +30,11 @@ pub record IsWorldOf (world : World) (said : worlds.World) : Type 0 where
   pub sent : said.sent ≡ octets_each world.sent.items
 
 -- these steps, in order, lead there from a new world of these addresses
-abbrev pub PlaysTo : (rooms organisers : List Address) → List Step → worlds.World → Type 0
-PlaysTo rooms organisers steps after = Plays (map step_said steps) (new_world (map address_octets rooms) (map address_octets organisers)) after
+abbrev pub PlaysTo : List ZonedRoom → List Address → List Step → worlds.World → Type 0
+PlaysTo rooms organisers steps after = Plays (map step_said steps) (new_world (map zoned_room rooms) (map address_octets organisers)) after
 
 -- the world is one that they lead to
-pub record IsPlayed (rooms organisers : List Address) (steps : List Step) (world : World) : Type 0 where
+pub record IsPlayed (rooms : List ZonedRoom) (organisers : List Address) (steps : List Step) (world : World) : Type 0 where
   pub after : worlds.World
   pub plays : PlaysTo rooms organisers steps after
   pub is : IsWorldOf world after

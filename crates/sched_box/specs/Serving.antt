@@ -147,7 +147,7 @@ pub record KeepsTexts (moment : ℤ) (hosts : Config) (input left : Option (List
   pub answers : AllAnswers moment 1 objects (new_box hosts) after octets refused
   pub has : Contains after.rooms kept
   pub at : kept.address ≡ room
-  pub calendar_is : IsKeptCalendar room kept.book calendar
+  pub calendar_is : IsKeptCalendar room kept.words kept.book calendar
   pub certificate_is : IsKeptCertificate room calendar certificate
 
 -- how it ends before its input does: the stream is too long exactly where 1,073,741,824 octets of objects were read

@@ -23,17 +23,34 @@ impl Directory {
     ghost use Rattle.std.specs.Str.{bytes_eq};
     ghost use Rattle.ical_values.specs.Octets.{address_octets};
     ghost use Rattle.profile.specs.rooms.Kept.{each_once};
-    ghost use Rattle.sched_box.specs.Asked.{LeavesOut, asks, directory_addresses, names};
+    ghost use Rattle.sched_box.specs.Asked.{AddsAddress, LeavesOut, asks, directory_addresses, names};
+
+    /// An empty one.
+    pub(crate) fn new(alloc: Global) -> Directory
+        ensures { directory_addresses result ≡ [] }
+    {
+        Directory {
+            addresses: IndexSet::new(alloc),
+        }
+    }
+
+    /// Adds a host after the others, and says whether it is new; one whose address is there already changes nothing.
+    pub(crate) fn add(&mut self, host: &Address) -> Result<bool, AllocError>
+        ensures { IfOk result (AddsAddress (directory_addresses self.old) (directory_addresses self.new) (address_octets host.now)) }
+    {
+        let is_new = self.addresses.insert(host.clone()?)?;
+        Ok(is_new)
+    }
 
     /// The directory of these hosts; an address that is given twice counts once.
     pub(crate) fn of(alloc: Global, hosts: &[Address]) -> Result<Directory, AllocError>
         ensures { IfOk result (λ directory. directory_addresses directory ≡ each_once (map address_octets hosts.now)) }
     {
-        let mut addresses = IndexSet::new(alloc);
+        let mut directory = Directory::new(alloc);
         for host in hosts {
-            addresses.insert(host.clone()?)?;
+            directory.add(host)?;
         }
-        Ok(Directory { addresses })
+        Ok(directory)
     }
 
     /// The addresses of the hosts, in their order.

@@ -25,3 +25,4 @@ pub use sched_devices::{
 };
 pub use schedules::{Step, World, play};
 pub use serving::{ServeReport, keep, serve, serve_stream};
+pub use settings::ZonedRoom;

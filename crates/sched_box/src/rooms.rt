@@ -7,14 +7,15 @@ ghost use Rattle.std.specs.Str.{bytes_eq};
 ghost use Rattle.ical_values.specs.Octets.{address_octets};
 ghost use Rattle.cal_events.specs.Component.{method_said};
 ghost use Rattle.profile.specs.events.Messages.{is_to_rooms};
-ghost use Rattle.profile.specs.rooms.Kept.{each_once};
-ghost use Rattle.profile.specs.rooms.Rooms.{empty_book};
-ghost use Rattle.room_books.specs.Room.{Represents};
+ghost use Rattle.profile.specs.streams.Streams.{new_room};
+ghost use Rattle.profile.specs.streams.Worlds.{rooms_once};
 ghost use Rattle.room_books.specs.Taking.{octets_in};
-ghost use Rattle.sched_box.specs.Answering.{AreHosted, RoomTakes, RoomsSend, RoomsTake, nothing_taken, octets_each, room_addresses, sent_by, sent_octets};
+ghost use Rattle.sched_box.specs.Answering.{AreHosted, IsHosted, RoomTakes, RoomsSend, RoomsTake, octets_each, room_addresses, sent_by, sent_octets};
 ghost use Rattle.sched_box.specs.Asked.{LeavesOut, asks, directory_addresses};
+ghost use Rattle.sched_box.specs.Settings.{zoned_room};
 
 use crate::directory::Directory;
+use crate::settings::ZonedRoom;
 use ical_values::{Address, Stamp};
 use itip_messages::Message;
 use room_books::{Answer, Room};
@@ -29,13 +30,17 @@ pub(crate) struct Rooms {
 }
 
 impl Rooms {
-    /// An empty room for each address, in order; an address that is given twice counts once.
-    pub(crate) fn new(alloc: Global, addresses: &[Address]) -> Result<Rooms, AllocError>
-        ensures addresses { IfOk result (λ rooms. room_addresses rooms.rooms.items ≡ each_once (map address_octets addresses.now)) }
-        ensures hosted { IfOk result (λ rooms. AreHosted rooms.rooms.items (map nothing_taken (each_once (map address_octets addresses.now)))) }
+    /// These rooms, empty, in order; of several of one address the first counts.
+    pub(crate) fn new(alloc: Global, hosts: &[ZonedRoom]) -> Result<Rooms, AllocError>
+        ensures hosted { IfOk result (λ rooms. AreHosted rooms.rooms.items (map new_room (rooms_once (map zoned_room hosts.now)))) }
     {
-        let directory = Directory::of(alloc, addresses)?;
-        let rooms = rooms_of(alloc, directory.addresses())?;
+        let mut rooms = Vec::new(alloc);
+        let mut directory = Directory::new(alloc);
+        for host in hosts {
+            if directory.add(&host.address)? {
+                rooms.push(room_of(alloc, host)?)?;
+            }
+        }
         Ok(Rooms { rooms, directory })
     }
 
@@ -86,25 +91,11 @@ impl Rooms {
     }
 }
 
-/// An empty room for each address, in order.
-fn rooms_of(alloc: Global, addresses: &[Address]) -> Result<Vec<Room>, AllocError>
-    ensures addresses { IfOk result (λ rooms. room_addresses rooms.items ≡ map address_octets addresses.now) }
-    ensures hosted { IfOk result (λ rooms. AreHosted rooms.items (map nothing_taken (map address_octets addresses.now))) }
+/// An empty room of this address and zone.
+fn room_of(alloc: Global, host: &ZonedRoom) -> Result<Room, AllocError>
+    ensures { IfOk result (λ room. IsHosted room (new_room (zoned_room host.now))) }
 {
-    let mut rooms = Vec::new(alloc);
-    for address in addresses {
-        let room = room_of(alloc, address)?;
-        rooms.push(room)?;
-    }
-    Ok(rooms)
-}
-
-/// An empty room of this address.
-fn room_of(alloc: Global, address: &Address) -> Result<Room, AllocError>
-    ensures address { IfOk result (λ room. address_octets room.address ≡ address_octets address.now) }
-    ensures book { IfOk result (λ room. Represents room.meetings.entries empty_book) }
-{
-    Ok(Room::new(alloc, address.clone()?))
+    Ok(Room::new(alloc, host.address.clone()?, host.zone))
 }
 
 /// Hands a message to each room that it may be for, in turn, and appends what it answers.
@@ -137,6 +128,7 @@ fn take_one(
     answers: &mut Vec<u8>,
 ) -> Result<(), AllocError>
     ensures address { room.new.address ≡ room.old.address }
+    ensures zone { room.new.zone ≡ room.old.zone }
     ensures takes { OnOk result ((more : List ℕ) × (answers.new.items ≡ answers.old.items ++ more)
         × RoomTakes now message.now room.old room.new more) }
 {

@@ -9,6 +9,7 @@ ghost use Rattle.sched_box.specs.Schedules.{IsPlayed, IsUnread, IsWorldOf, Plays
 
 use crate::organisers::Organisers;
 use crate::rooms::Rooms;
+use crate::settings::ZonedRoom;
 use cal_events::Method;
 use ical_lines::Fault;
 use ical_values::{Address, Stamp};
@@ -45,12 +46,12 @@ pub struct World {
     sent: Vec<Vec<u8>>,
 }
 
-/// The world that these steps lead to, in order, where the rooms and organisers of these addresses have taken nothing yet; an address that is
-/// given twice in one list counts once. A step changes nothing that is refused, or names a message that wasn't sent or an address that isn't
+/// The world that these steps lead to, in order, where these rooms, each in its zone, and the organisers of these addresses have taken nothing yet; of
+/// several of one address in one list the first counts. A step changes nothing that is refused, or names a message that wasn't sent or an address that isn't
 /// hosted. A message to rooms reaches a room, and a reply or a refresh the organiser that it names.
 pub fn play(
     alloc: Global,
-    rooms: &[Address],
+    rooms: &[ZonedRoom],
     organisers: &[Address],
     steps: &[Step],
 ) -> Result<World, AllocError>
@@ -72,7 +73,7 @@ pub fn play(
 /// Takes these steps one after another, from a world in which nothing happened yet.
 fn played(
     alloc: Global,
-    rooms: &[Address],
+    rooms: &[ZonedRoom],
     organisers: &[Address],
     steps: &[Step],
 ) -> Result<World, AllocError>
@@ -93,6 +94,7 @@ impl World {
     ghost use Rattle.profile.specs.streams.Worlds as worlds;
     ghost use Rattle.profile.specs.streams.Worlds.{Delivering, Storing, has_organiser, has_room, new_world};
     ghost use Rattle.sched_box.specs.Answering.{octets_each};
+    ghost use Rattle.sched_box.specs.Settings.{zoned_room};
     ghost use Rattle.sched_box.specs.Schedules.{IsOrganiserOf, IsRoomOf, IsWorldOf, LeadsOn, TakesStep, TellsOrganiser, step_said};
 
     /// The room of this address, if it is hosted.
@@ -119,8 +121,8 @@ impl World {
     }
 
     /// A world in which nothing happened yet.
-    fn new(alloc: Global, rooms: &[Address], organisers: &[Address]) -> Result<World, AllocError>
-        ensures { IfOk result (λ world. IsWorldOf world (new_world (map address_octets rooms.now) (map address_octets organisers.now))) }
+    fn new(alloc: Global, rooms: &[ZonedRoom], organisers: &[Address]) -> Result<World, AllocError>
+        ensures { IfOk result (λ world. IsWorldOf world (new_world (map zoned_room rooms.now) (map address_octets organisers.now))) }
     {
         Ok(World {
             alloc,

@@ -12,6 +12,8 @@ use Rattle.profile.specs.rooms.Messages.{Content, IsContent}
 use Rattle.profile.specs.rooms.Revisions.{Revision}
 use Rattle.profile.specs.rooms.Rooms.{Book, Claim, Confirms, Delivery, Runs, confirmed_series, confirmed_singles, empty_book, shown}
 use Rattle.profile.specs.streams.Streams.{AreClaims, IsDelivered, IsReached, ObjectFault}
+use Rattle.profile.specs.series.RoomZones.{IsRoomZone}
+use Rattle.profile.specs.series.Zones.{Zone}
 use Rattle.profile.specs.text.Lines.{is_too_long}
 use Rattle.profile.specs.text.Objects.{SpellsTree}
 use Rattle.profile.specs.text.Trees.{Tree}
@@ -37,8 +39,8 @@ pub record Laws : Type 0 where
       → revision.sequence < 2 ^ 31 → IsRequest said.organiser said.uid revision said.events octets → is_too_long octets ≡ false
       → SpellsRequest said.organiser said.uid revision said.events octets
   -- replies_are_heard
-  pub reply : (read : List ℕ) (message : Message) (room : List ℕ) (book : Book) (claims : List Claim) (octets : List ℕ)
-      → SpellsMessage read message → AreClaims room message claims → AreTextAnswers book
+  pub reply : (read : List ℕ) (message : Message) (room words : List ℕ) (zone : Option Zone) (book : Book) (claims : List Claim) (octets : List ℕ)
+      → SpellsMessage read message → IsRoomZone words zone → AreClaims room zone message claims → AreTextAnswers book
       → Replies room book claims (Some octets) → is_too_long octets ≡ false → SpellsReply room book (shown book.taken claims) octets
   -- shown_reads_back
   pub shown_text : (read : List ℕ) (said : Message) (book : OrganiserBook) (stored : Stored) (octets : List ℕ)
@@ -55,13 +57,14 @@ pub record Laws : Type 0 where
   -- runs_stay_clear
   pub clear : (deliveries : List Delivery) (book : Book) → Runs empty_book deliveries book → IsClear (Confirms book)
   -- answers_name_texts
-  pub texts : (room : List ℕ) (book : Book) → IsReached room book → AreTextAnswers book
+  pub texts : (room : List ℕ) (zone : Option Zone) (book : Book) → IsReached room zone book → AreTextAnswers book
   -- kept_texts_spell
-  pub spell : (room : List ℕ) (deliveries : List Delivery) (book : Book) (text : List ℕ)
-      → ((taken : Delivery) → Contains deliveries taken → IsDelivered room taken) → Runs empty_book deliveries book → IsKeptCalendar room book text
+  pub spell : (room words : List ℕ) (zone : Option Zone) (deliveries : List Delivery) (book : Book) (text : List ℕ) → IsRoomZone words zone
+      → ((taken : Delivery) → Contains deliveries taken → IsDelivered room zone taken) → Runs empty_book deliveries book
+      → IsKeptCalendar room words book text
       → (all : Confirmed) × SpellsCalendar room text all
       × (length all.singles ≡ length (confirmed_singles book)) × (length all.series ≡ length (confirmed_series book))
       × ((booked : Instance) → IsOneOf all booked ↔ Confirms book booked)
   -- kept_texts_pass
-  pub kept : (room : List ℕ) (book : Book) (calendar : List ℕ) → IsReached room book → IsKeptCalendar room book calendar
-      → (certificate : List ℕ) → IsKeptCertificate room calendar certificate → CertificateHolds room calendar certificate
+  pub kept : (room words : List ℕ) (zone : Option Zone) (book : Book) (calendar : List ℕ) → IsRoomZone words zone → IsReached room zone book
+      → IsKeptCalendar room words book calendar → (certificate : List ℕ) → IsKeptCertificate room calendar certificate → CertificateHolds room calendar certificate
