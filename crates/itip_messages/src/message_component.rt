@@ -85,13 +85,13 @@ impl MessageComponent {
             event,
             summary,
             attendees,
-        } = parted(alloc, event)?;
+        } = without_attendees(alloc, event)?;
         let attendees = Attendees::of(alloc, attendees)?;
         let Occurring {
             singles,
             series,
             by_room,
-        } = occurring(alloc, method, event)?;
+        } = instances_for(alloc, method, event)?;
         Ok(MessageComponent {
             slot,
             recurrence,
@@ -224,7 +224,7 @@ fn copied(alloc: Global, series: &Option<Series>) -> Result<Option<Series>, Allo
 }
 
 /// A VEVENT without its SUMMARY and its ATTENDEE lines, and these. It fails only when out of memory.
-fn parted(alloc: Global, event: EventComponent) -> Result<Parted, AllocError>
+fn without_attendees(alloc: Global, event: EventComponent) -> Result<Parted, AllocError>
     ensures event { IfOk result (λ parted. component_of parted.event ≡ unattended (component_of event)) }
     ensures summary { IfOk result (λ parted. parted.summary ≡ event.summary) }
     ensures attendees { IfOk result (λ parted. parted.attendees ≡ event.attendees) }
@@ -267,7 +267,7 @@ fn parted(alloc: Global, event: EventComponent) -> Result<Parted, AllocError>
 }
 
 /// The instances of a VEVENT, or what makes them for a room, where the message is one to rooms. It fails only when out of memory.
-fn occurring(alloc: Global, method: Method, event: EventComponent) -> Result<Occurring, AllocError>
+fn instances_for(alloc: Global, method: Method, event: EventComponent) -> Result<Occurring, AllocError>
     requires written { ∥ IsWritten (component_of event) ∥₁ }
     requires instants { AreOfWritten (component_of event).written (component_of event).recurrence (component_of event).additions (component_of event).exceptions }
     ensures { IfOk result (λ found. is_to_rooms (method_said method) ≡ true → (said : events.EventComponent) → component_of event ≡ unattended said
