@@ -81,14 +81,14 @@ module _ (all : List EventComponent) (i count : ℕ) (ts : List ℤ) (end : leng
   all_counted : AreCounted all count ts
   all_counted = subst (λ (l : List EventComponent). AreCounted l count ts) (take_all i all end) so_far
 
-  pub two_masters_are : 1 < count → SharesSlot (map component_of all) 53
+  pub two_masters_are : 1 < count → SharesSlot None (map component_of all) 53
   two_masters_are more = inl (refl, subst (λ n. 1 < n) all_counted.masters more)
 
   pub one_master_at_most : count ≤ 1 → length (filter is_master (map component_of all)) ≤ 1
   one_master_at_most few = subst (λ n. n ≤ 1) all_counted.masters few
 
   module _ (sorted : List ℤ) (same : IsPermutation ts sorted) where
-    pub two_overrides_are : (AllPairs ◌≢◌ sorted → ⊥) → SharesSlot (map component_of all) 54
+    pub two_overrides_are : (AllPairs ◌≢◌ sorted → ⊥) → SharesSlot None (map component_of all) 54
     two_overrides_are twins =
         inr (refl, λ differ. twins (pairs_permutation ts sorted same (some_differ ts (subst (λ (os : List (Option ℤ)). AllPairs ◌≢◌ os) (sym all_counted.others) differ))))
 

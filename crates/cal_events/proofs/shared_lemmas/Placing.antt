@@ -232,6 +232,22 @@ placed_so room event slot start adds takes s r a x = record {
   is = refl;
 }
 
+-- what a VEVENT says is written, as it is
+pub is_written : (object : Tree) (m : Option Method) (lines : Lines) (event : EventComponent) → SaysEventComponent object m lines event → IsWritten event
+is_written object m lines event s = record {
+  object = object;
+  method = m;
+  lines = lines;
+  said = event;
+  says = s;
+  times = refl;
+  rule = refl;
+  additions = refl;
+  exceptions = refl;
+  slot = λ _. refl;
+}
+
 -- where it starts
 pub written_start : (words : List ℕ) (room : Option Zone) → IsRoomZone words room → (event : EventComponent) → IsWritten event → (u : ℤ) → IsInstantIn room event.times.form event.times.start u → IsInEventDates u
-written_start words room named event w u p = starts_there room (room_clock words room named) w.object w.lines event.times u w.says.times p
+written_start words room named event w u p =
+    starts_there room (room_clock words room named) w.object w.lines w.said.times u w.says.times (subst (λ (t : EventTimes). IsInstantIn room t.form t.start u) w.times p)
