@@ -151,7 +151,7 @@ in_dates_there room clock object name text in_zone WholeDay z local t u h m d p 
     let n = clock.near t u p in
     (omega (arith, ints, same, n.0, d.0), omega (arith, ints, same, n.1, d.1))
 
-starts_there : {may : Bool} (room : Option Zone) → IsRoomClock (clock_of room) → (object : Tree) (lines : Lines) (times : EventTimes) (u : ℤ) → SaysTimes may object lines times
+pub starts_there : {may : Bool} (room : Option Zone) → IsRoomClock (clock_of room) → (object : Tree) (lines : Lines) (times : EventTimes) (u : ℤ) → SaysTimes may object lines times
     → IsInstantIn room times.form times.start u → IsInEventDates u
 starts_there room clock object lines times u (inl t) p =
     in_dates_there room clock object (line_param (codes "TZID") t.line) (line_value t.line) (is_in_zone t.line) times.form times.zone times.local times.start u t.says.1 t.means t.in_dates p
@@ -160,7 +160,7 @@ starts_there room clock object lines times u (inr (_, t)) p =
     let zero = t.start in
     (omega (arith, ints, e, zero), omega (arith, ints, e, zero))
 
-slot_there : (room : Option Zone) → IsRoomClock (clock_of room) → (object : Tree) (l : Option (List ℕ)) (w : Option Time) (r : Option ℤ) (slot : ℤ) → BothOrNeither (IsRecurrenceLine object) l w
+pub slot_there : (room : Option Zone) → IsRoomClock (clock_of room) → (object : Tree) (l : Option (List ℕ)) (w : Option Time) (r : Option ℤ) (slot : ℤ) → BothOrNeither (IsRecurrenceLine object) l w
     → BothOrNeither (IsAt room) w r → r ≡ Some slot → IsInEventDates slot
 slot_there room clock object l w r slot h p e = go l w h (subst (BothOrNeither (IsAt room) w) e p)
   where
