@@ -133,7 +133,7 @@ said_as_written object {m} lines event s = record {
 
 -- ---- its clocks, and where it starts
 
-zone_steady : (room : Option Zone) (form : Form) (zone : Option Zone) → IsSteady (clock_of zone) → IsSteady (clock_of room) → IsSteady (clock_of (zone_in room form zone))
+pub zone_steady : (room : Option Zone) (form : Form) (zone : Option Zone) → IsSteady (clock_of zone) → IsSteady (clock_of room) → IsSteady (clock_of (zone_in room form zone))
 zone_steady room Fixed z own here = own
 zone_steady room Floating z own here = here
 zone_steady room WholeDay z own here = here
