@@ -74,13 +74,17 @@ module _ (words : List ℕ) (room : Option Zone) (named : IsRoomZone words room)
     method = w.method;
     lines = w.lines;
     event = event_at w.said t;
-    says = (w.said, w.says, times_placed room w.said t (record {
-      starts = subst (λ (x : EventTimes). IsInstantIn room x.form x.start (times_of t.times).start) w.times h.starts;
-      is = h.is ∙ ap (λ (x : EventTimes). record x { zone = zone_in room x.form x.zone; start = (times_of t.times).start }) w.times;
-      slot = subst (λ (x : Option SaidTime). BothOrNeither (IsAt room) x t.recurrence) (w.slot recurs) h.slot;
-      adds = subst (λ (x : List SaidTime). AllZip (IsAt room) x t.additions.items) w.additions h.adds;
-      takes = subst (λ (x : List SaidTime). AllZip (IsAt room) x t.exceptions.items) w.exceptions h.takes;
-    }));
+    says = (
+      w.said,
+      w.says,
+      times_placed room w.said t (record {
+        starts = subst (λ (x : EventTimes). IsInstantIn room x.form x.start (times_of t.times).start) w.times h.starts;
+        is = h.is ∙ ap (λ (x : EventTimes). record x { zone = zone_in room x.form x.zone; start = (times_of t.times).start }) w.times;
+        slot = subst (λ (x : Option SaidTime). BothOrNeither (IsAt room) x t.recurrence) (w.slot recurs) h.slot;
+        adds = subst (λ (x : List SaidTime). AllZip (IsAt room) x t.additions.items) w.additions h.adds;
+        takes = subst (λ (x : List SaidTime). AllZip (IsAt room) x t.exceptions.items) w.exceptions h.takes;
+      }),
+    );
     times_are = refl;
     rule_is = w.rule;
   }

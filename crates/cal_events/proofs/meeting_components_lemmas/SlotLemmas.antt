@@ -1,7 +1,7 @@
 -- Which slots events are of: how many are masters, and which instances the others are for, by their instants or by the times that name them.
--- Cited by judge_slots, count_masters, share_instant, share_time, times_named, share_form.
-use Rattle.std.proofs.Common.{◌≡◌, ◌≢◌, ◌∙◌, ℕ, zero, suc, ◌+◌, ◌<◌, ◌≤◌, Bool, true, false, not, cond, ◌||◌, List, [], ◌∷◌, ◌++◌, length, map, filter, get_or, take, append-nil, sym, ap, subst, refl, inl, inr, arith, ℤ}
-use Rattle.std.specs.Prelude.{Option, Some, None, is_some, option_map, AllPairs, MatchBool, Contains}
+-- Behind judge_slots: count_masters, share_instant, share_time, times_named, share_form.
+use Rattle.std.proofs.Common.{◌≡◌, ◌≢◌, ◌∙◌, ℕ, zero, ◌+◌, ◌<◌, ◌≤◌, Bool, true, false, not, cond, ◌||◌, List, [], ◌∷◌, ◌++◌, length, map, filter, get_or, take, append-nil, sym, ap, subst, refl, arith, ℤ}
+use Rattle.std.specs.Prelude.{Option, Some, None, is_some, option_map, AllPairs, MatchBool}
 use Rattle.std.specs.Option.{option_to_list}
 use Rattle.std.specs.List.{flat_map}
 use Rattle.std.specs.List.Sorted.{IsPermutation}
@@ -20,7 +20,7 @@ use Rattle.cal_events.specs.declared.component.EventComponent.{EventComponent}
 use Rattle.cal_events.specs.declared.time.Time.{Time}
 use Rattle.cal_events.specs.MeetingComponents.{instants_said, times_named, NameInstances}
 use Rattle.cal_events.proofs.draft_lemmas.KeyLemmas.{pairs_permutation}
-use Rattle.cal_events.proofs.shared_lemmas.InOneOrder.{none_in, later, head_pairs, tail_pairs, cons_pairs, of_mapped, in_mapped, of_filtered, in_filtered, pairs_mapped, mapped_pairs}
+use Rattle.cal_events.proofs.shared_lemmas.InOneOrder.{later, head_pairs, tail_pairs, cons_pairs, of_mapped, in_mapped, of_filtered, in_filtered, pairs_mapped, mapped_pairs}
 use Rattle.cal_events.proofs.shared_lemmas.MeetingLemmas.{filter_push}
 
 -- ---- two of them are one
@@ -199,19 +199,19 @@ forms_differ (t ∷ ts) d form = go (is_of_form form t) refl (forms_differ ts (t
     go true e rest =
         cons_pairs ◌≢◌ t.instant (instants_in form ts)
         (λ y c same.
-            let u = of_mapped (λ (time : SaidTime). time.instant) (filter (is_of_form form) ts) y c in
-            let at = of_filtered (is_of_form form) ts u.0 u.1 in
-            head_pairs ◌≢◌ t u.0 ts d at.0 (same_time t u.0 (form_is form t e ∙ sym (form_is form u.0 at.1)) (same ∙ sym u.2))) rest
+        let u = of_mapped (λ (time : SaidTime). time.instant) (filter (is_of_form form) ts) y c in
+        let at = of_filtered (is_of_form form) ts u.0 u.1 in
+        head_pairs ◌≢◌ t u.0 ts d at.0 (same_time t u.0 (form_is form t e ∙ sym (form_is form u.0 at.1)) (same ∙ sym u.2))) rest
 
 by_forms : (ts : List SaidTime) → ((form : Form) → AllPairs ◌≢◌ (instants_in form ts)) → AllPairs ◌≢◌ ts
 by_forms [] h = λ i j d l w. absurd (omega (arith, w))
 by_forms (t ∷ ts) h =
     cons_pairs ◌≢◌ t ts
     (λ u c e.
-        head_pairs ◌≢◌ t.instant u.instant (instants_in t.form ts) (subst (λ (b : Bool). AllPairs ◌≢◌ (with_first t.form t ts b)) (of_its_form t) (h t.form))
-        (in_mapped (λ (time : SaidTime). time.instant) (filter (is_of_form t.form) ts) u
-        (in_filtered (is_of_form t.form) ts u c (subst (λ (v : SaidTime). is_of_form t.form v ≡ true) e (of_its_form t))))
-        (ap (λ (time : SaidTime). time.instant) e))
+    head_pairs ◌≢◌ t.instant u.instant (instants_in t.form ts) (subst (λ (b : Bool). AllPairs ◌≢◌ (with_first t.form t ts b)) (of_its_form t) (h t.form))
+    (in_mapped (λ (time : SaidTime). time.instant) (filter (is_of_form t.form) ts) u
+    (in_filtered (is_of_form t.form) ts u c (subst (λ (v : SaidTime). is_of_form t.form v ≡ true) e (of_its_form t))))
+    (ap (λ (time : SaidTime). time.instant) e))
     (by_forms ts (λ form. less form (is_of_form form t) (h form)))
   where
     less : (form : Form) (b : Bool) → AllPairs ◌≢◌ (with_first form t ts b) → AllPairs ◌≢◌ (instants_in form ts)

@@ -1,7 +1,8 @@
 -- Events in rooms, as the crates above need them: what their instances don't depend on; that an event whose times are all fixed is the same in each
 -- room; where its times lie there; and what is written.
+-- Cited by EventComponent::instances_in of place, and above.
 use Rattle.std.proofs.Common.{◌≡◌, ◌∙◌, ℕ, zero, suc, Bool, true, false, ◌&&◌, ◌||◌, List, [], ◌∷◌, map, filter, length, cond, codes, subst, sym, refl, ap, inl, inr, ◌⊎◌, arith, ℤ}
-use Rattle.std.specs.Prelude.{Option, Some, None, All, Contains, MatchOption, option_map, is_some, unwrap_or, get_or}
+use Rattle.std.specs.Prelude.{Option, Some, None, Contains, MatchOption, option_map, is_some, unwrap_or, get_or}
 use Rattle.std.specs.Option.{option_to_list}
 use Rattle.std.specs.List.{AllZip, list_all, list_any}
 use Rattle.std.proofs.lemmas.Bool.{true≢false, and_parts}

@@ -1,5 +1,5 @@
 -- Events in a room: there is one, and in a room that goes by UTC it is as it is written.
--- Behind EventComponent::placed of place, one_meeting and one_instance of event, one_calendar of reading.
+-- Behind EventComponent::times_in and EventComponent::placed of place, one_meeting and one_instance of event, one_calendar of reading.
 use Rattle.std.proofs.Common.{◌≡◌, ◌∙◌, ℕ, ◌+◌, ◌<◌, Bool, false, List, [], ◌∷◌, ◌++◌, length, get_or, take, map, codes, subst, sym, refl, ap, inl, inr, arith, ℤ}
 use Rattle.std.specs.Prelude.{Option, Some, None, All, option_map}
 use Rattle.std.specs.List.{AllZip, AllByRecursion}
@@ -208,29 +208,6 @@ zip_more R f xs k d old new y w z n r =
 
 pub started : (room : Option Zone) (f g : Form) (t u v : ℤ) → f ≡ g → t ≡ u → IsInstantIn room f t v → IsInstantIn room g u v
 started room f g t u v p q h = subst (λ (x : Form). IsInstantIn room x u v) p (subst (λ (x : ℤ). IsInstantIn room f x v) q h)
-
-abbrev pub placed_at : Option Zone → EventComponent → Option ℤ → ℤ → List ℤ → List ℤ → EventComponent
-placed_at room event slot start adds takes = record event {
-  recurrence = slot;
-  times = record event.times { zone = zone_in room event.times.form event.times.zone; start = start };
-  additions = adds;
-  exceptions = takes;
-}
-
-pub placed_so : (room : Option Zone) (event : EventComponent) (slot : Option ℤ) (start : ℤ) (adds takes : List ℤ) → IsInstantIn room event.times.form event.times.start start
-    → BothOrNeither (IsAt room) event.written.recurrence slot → AllZip (IsAt room) event.written.additions adds → AllZip (IsAt room) event.written.exceptions takes
-    → IsPlaced room event (placed_at room event slot start adds takes)
-placed_so room event slot start adds takes s r a x = record {
-  start = start;
-  recurrence = slot;
-  additions = adds;
-  exceptions = takes;
-  starts = s;
-  slot = r;
-  adds = a;
-  takes = x;
-  is = refl;
-}
 
 -- what a VEVENT says is written, as it is
 pub is_written : (object : Tree) (m : Option Method) (lines : Lines) (event : EventComponent) → SaysEventComponent object m lines event → IsWritten event

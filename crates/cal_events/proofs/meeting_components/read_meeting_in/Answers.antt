@@ -39,7 +39,7 @@ judge_slots-requires c =
     let said = map component_of c.in_ok-components.components.items in
     record {
       named = subst (λ (l : List EventComponent). NameInstances (map component_of l)) (sym c.deref-2.ensures.value)
-      (subst NameInstances (sym c.in_ok-taken.ensures) (names_taken (room_of c.args.room.now) (tree_of object) m (vevents_of object) said c.in_ok-components.ensures.says));
+          (subst NameInstances (sym c.in_ok-taken.ensures) (names_taken (room_of c.args.room.now) (tree_of object) m (vevents_of object) said c.in_ok-components.ensures.says));
     }
 
 pub returns-in_err-judge_slots-clause-fault : goal.returns-in_err-judge_slots-clause-fault

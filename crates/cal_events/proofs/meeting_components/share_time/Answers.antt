@@ -1,5 +1,5 @@
-use Rattle.std.proofs.Common.{◌≢◌, ◌||◌, Bool, List, map, filter, subst, sym, ℤ}
-use Rattle.std.specs.Prelude.{AllPairs, MatchBool}
+use Rattle.std.proofs.Common.{Bool, List, map, filter, subst, sym}
+use Rattle.std.specs.Prelude.{MatchBool}
 use Rattle.profile.specs.rooms.Messages.{instants_in}
 use Rattle.profile.specs.events.Properties.{Form, Fixed, Floating, WholeDay}
 use Rattle.profile.specs.events.Events.{is_override, TimesDiffer}

@@ -1,6 +1,5 @@
 use Rattle.std.proofs.Common.{subst, []}
 use Rattle.profile.specs.events.EventComponents.{EventComponent as SaidComponent}
-use Rattle.cal_events.specs.Component.{component_of}
 use Rattle.cal_events.specs.InRoom.{AreInstancesOf}
 use Rattle.cal_events.specs.OwnInstances.{IsTimely}
 use Rattle.cal_events.specs.Times.{none_written}
@@ -19,5 +18,5 @@ returns c =
       is_placed = p.is_placed;
       timely = timely_back p.placed none_written [] [] (subst IsTimely p.is (timely copy));
       are = instances_of_unwritten p.placed own given
-      (subst (λ (e : SaidComponent). AreInstancesOf e own given) p.is (record { singles = c.in_ok-singles.ensures.apart; series = c.in_ok-series.ensures }));
+          (subst (λ (e : SaidComponent). AreInstancesOf e own given) p.is (record { singles = c.in_ok-singles.ensures.apart; series = c.in_ok-series.ensures }));
     }
