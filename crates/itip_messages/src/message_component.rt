@@ -13,7 +13,7 @@ ghost use Rattle.cal_events.specs.declared.instance.Single.{Single};
 ghost use Rattle.cal_zones.specs.RoomZones.{room_of};
 ghost use Rattle.itip_order.specs.Parts.{slot_of, revision_of};
 ghost use Rattle.itip_messages.specs.Body.{IsReady};
-ghost use Rattle.itip_messages.specs.Components.{HasInstances, HaveInstances, IsComponentSlot, IsDated, IsDatedEach, SaysComponent, component_names, event_slot, unattended};
+ghost use Rattle.itip_messages.specs.MessageEvents.{HaveInstances, IsDated, IsDatedEach, event_slot, unattended};
 
 use crate::attendees::Attendees;
 use crate::body::canonical_body;
@@ -61,6 +61,8 @@ struct Parted {
 }
 
 impl MessageComponent {
+    ghost use Rattle.itip_messages.specs.Components.{HasInstances, IsComponentSlot, SaysComponent, component_names};
+
     /// What a VEVENT of a message of this method says. It fails only when out of memory.
     pub(crate) fn of(
         alloc: Global,
