@@ -1,5 +1,5 @@
 -- Of parts in the order of their slots the last of each slot.
-use Rattle.std.proofs.Common.{◌≡◌, ◌∙◌, ◌⊎◌, inl, inr, ℕ, zero, suc, ◌<◌, ◌+◌, ◌-◌, Bool, true, false, if◌then◌else◌, List, [], ◌∷◌, ◌++◌, length, take, get_or, Some, Ordering, refl, sym, ap, subst, arith, rules}
+use Rattle.std.proofs.Common.{◌≡◌, ◌∙◌, ◌⊎◌, inl, inr, ℕ, zero, suc, ◌<◌, ◌+◌, ◌-◌, Bool, true, false, if◌then◌else◌, List, [], ◌∷◌, ◌++◌, length, map, take, get_or, Some, Ordering, refl, sym, ap, subst, arith, rules}
 use Rattle.std.specs.Prelude.{AllPairs, Contains}
 use Rattle.std.specs.List.{slice_get}
 use Rattle.std.specs.List.Sorted.{IsSorted, IsPermutation}
@@ -15,7 +15,7 @@ use Rattle.std.proofs.lemmas.Option.{slice_get_read}
 use Rattle.profile.specs.rooms.Messages.{AreGreatest}
 use Rattle.profile.specs.rooms.Revisions.{Part, Slot, part_cmp, slot_cmp}
 use Rattle.itip_order.specs.Greatest.{slot_part_cmp, ends_at, leaving}
-use Rattle.itip_order.proofs.Lists.{none_in_nil}
+use Rattle.itip_order.proofs.Lists.{in_tail, none_in_nil}
 use Rattle.itip_order.proofs.Order.{part_total, slot_same, slot_total}
 
 pub slot_part_total : IsTotalOrder slot_part_cmp
@@ -109,6 +109,27 @@ module _ {X : Type 0} where
 -- one of these is of the slot of x, and no less
 abbrev Beaten : {Of : Type 0} → (Of → Part) → Of → List Of → Type 0
 Beaten {Of} part x kept = (other : Of) × Contains kept other × ((part other).slot ≡ (part x).slot) × (is_le (part_cmp (part x) (part other)) ≡ true)
+
+-- elements of lists that were mapped
+in_map : {X Y : Type 0} (f : X → Y) (xs : List X) (x : X) → Contains xs x → Contains (map f xs) (f x)
+in_map f [] x c = absurd (none_in_nil x c)
+in_map f (y ∷ ys) x (zero, w, e) = (zero, omega arith, ap f e)
+in_map f (y ∷ ys) x (suc k, w, e) = in_tail (f y) (map f ys) (f x) (in_map f ys x (k, omega (arith, w), e))
+
+of_map : {X Y : Type 0} (f : X → Y) (xs : List X) (y : Y) → Contains (map f xs) y → (x : X) × Contains xs x × (f x ≡ y)
+of_map f [] y c = absurd (none_in_nil y c)
+of_map f (x ∷ xs) y (zero, w, e) = (x, (zero, omega arith, refl), e)
+of_map f (x ∷ xs) y (suc k, w, e) = let from = of_map f xs y (k, omega (arith, w), e) in (from.0, in_tail x xs from.0 from.1, from.2)
+
+pairs_mapped : {X Y : Type 0} (R : Y → Y → Type 0) (f : X → Y) (xs : List X) → AllPairs (λ a b. R (f a) (f b)) xs → AllPairs R (map f xs)
+pairs_mapped R f [] p i j d l w = absurd (omega (arith, l, w))
+pairs_mapped R f (x ∷ xs) p zero zero d l w = absurd (omega (arith, l))
+pairs_mapped R f (x ∷ xs) p zero (suc j) d l w =
+    let (y, (k, v, e), is) = of_map f xs (get_or (map f xs) j d) (Contains-get_or (map f xs) j d (omega (arith, w))) in
+    subst (R (f x)) is (subst (λ z. R (f x) (f z)) e (p zero (suc k) y (omega arith) (omega (arith, v))))
+pairs_mapped R f (x ∷ xs) p (suc i) zero d l w = absurd (omega (arith, l))
+pairs_mapped R f (x ∷ xs) p (suc i) (suc j) d l w =
+    pairs_mapped R f xs (λ a b e m v. p (suc a) (suc b) e (omega (arith, m)) (omega (arith, v))) i j d (omega (arith, l)) (omega (arith, w))
 
 module _ {Of : Type 0} (part : Of → Part) where
   abbrev Upto : Of → Of → Type 0
@@ -228,3 +249,14 @@ module _ {Of : Type 0} (part : Of → Part) where
     greatest = λ x c. g.greatest x (Contains-permutation all sorted x same c);
     order = g.order;
   }
+
+-- of what others are made from
+pub greatest_mapped : {Of To : Type 0} (part : To → Part) (f : Of → To) (all kept : List Of) → AreGreatest (λ one. part (f one)) all kept → AreGreatest part (map f all) (map f kept)
+greatest_mapped part f all kept g = record {
+  among = λ x c. let from = of_map f kept x c in subst (Contains (map f all)) from.2 (in_map f all from.0 (g.among from.0 from.1));
+  greatest = λ x c.
+      let from = of_map f all x c in
+      let (other, there, same, le) = g.greatest from.0 from.1 in
+      (f other, in_map f kept other there, same ∙ ap (λ y. (part y).slot) from.2, subst (λ y. is_le (part_cmp (part y) (part (f other))) ≡ true) from.2 le);
+  order = pairs_mapped (λ a b. slot_cmp (part a).slot (part b).slot ≡ Less) f kept g.order;
+}
