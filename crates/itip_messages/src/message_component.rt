@@ -1,5 +1,6 @@
 //! What one VEVENT of a message says (RFC 5545 3.6.1, RFC 5546 3.2).
-ghost use Rattle.std.specs.Prelude.{◌≡◌, ◌==◌, true, length, List, IfOk, IfSome, IsSome};
+ghost use Rattle.std.specs.Prelude.{◌≡◌, ◌==◌, true, length, List, IfOk, IsSome};
+ghost use Rattle.std.specs.Option.{ForSome};
 ghost use Rattle.ical_values.specs.Octets.{address_octets};
 ghost use Rattle.profile.specs.events.EventComponents as events;
 ghost use Rattle.profile.specs.events.EventComponents.{AreOfWritten};
@@ -40,7 +41,7 @@ pub struct MessageComponent {
     pub(crate) series: Option<Series>,
     /// Else the event, without SUMMARY and who attends: each room has instances of its own.
     pub(crate) by_room: Option<EventComponent>,
-    ghost written: { IfSome by_room (λ event. ∥ IsWritten (component_of event) ∥₁) },
+    ghost written: { ForSome by_room (λ event. ∥ IsWritten (component_of event) ∥₁) },
 }
 
 /// The instances of a VEVENT, or what makes them for a room.
@@ -49,7 +50,7 @@ struct Occurring {
     singles: Vec<Single>,
     series: Option<Series>,
     by_room: Option<EventComponent>,
-    ghost written: { IfSome by_room (λ event. ∥ IsWritten (component_of event) ∥₁) },
+    ghost written: { ForSome by_room (λ event. ∥ IsWritten (component_of event) ∥₁) },
 }
 
 /// A VEVENT without its SUMMARY and its ATTENDEE lines, and these.
