@@ -1,4 +1,4 @@
-use Rattle.std.proofs.Common.{Option, Some, sym, ap, subst, to_z-of_z, rules}
+use Rattle.std.proofs.Common.{Option, Some, sym, ap, subst, to_z-of_z, w64, rules}
 use Rattle.std.specs.Prelude.{option_map}
 use Rattle.profile.specs.events.Placed.{IsAt}
 use Rattle.profile.specs.events.Properties.{BothOrNeither}
@@ -13,5 +13,5 @@ returns-in-Some c =
     let instant = c.instant_in.result in (
       Some instant,
       subst (λ (time : Option Time). BothOrNeither (IsAt (room_of c.args.zone.now)) (option_map time_of time) (Some instant)) (sym c.in-Some.is) c.instant_in.ensures,
-      ap At (to_z-of_z (search rules)),
+      ap At (to_z-of_z {w = w64} (search rules)),
     )
