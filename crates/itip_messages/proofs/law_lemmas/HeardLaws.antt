@@ -57,9 +57,9 @@ of_list true p events e c = ((of_filtered p events e c).0, refl)
 of_list false p events e c = absurd (none_in e c)
 
 -- it names an instance in the dates that an event may name
-slot_named_in : (zone : Option Zone) (event : EventComponent) (slot : Slot) → IsSlotIn zone event slot → ((t : ℤ) → BothOrNeither (IsAt zone) event.written.recurrence (Some t) → IsInEventDates t) → IsInstance slot
-slot_named_in zone event slot (None, at, is) f = subst IsInstance (sym is) tt
-slot_named_in zone event slot (Some t, at, is) f = subst IsInstance (sym is) (f t at)
+slot_named_in : (here : Option Zone) (event : EventComponent) (slot : Slot) → IsSlotIn here event slot → ((t : ℤ) → BothOrNeither (IsAt here) event.written.recurrence (Some t) → IsInEventDates t) → IsInstance slot
+slot_named_in here event slot (None, at, is) f = subst IsInstance (sym is) tt
+slot_named_in here event slot (Some t, at, is) f = subst IsInstance (sym is) (f t at)
 
 module _ (read : List ℕ) (message : Message) (spells : SpellsMessage read message) (room : List ℕ) (zone : Option Zone) where
   abbrev asked : (event : EventComponent) (claim : Claim) → Contains (parts_for room message) event → IsClaim room zone message event claim → IsAsked room claim.content claim.part

@@ -27,9 +27,8 @@ use Rattle.ical_lines.proofs.CleanLines.{IsClean}
 use Rattle.ical_values.proofs.Addresses.{lower_twice}
 use Rattle.cal_events.specs.MeetingComponents.{IsInEventDates}
 use Rattle.cal_events.proofs.shared_lemmas.InOneOrder.{of_mapped}
+use Rattle.cal_events.proofs.shared_lemmas.InRooms.{slot_in_dates, start_in_dates}
 use Rattle.cal_events.proofs.shared_lemmas.OneInstance.{event_sound}
-use Rattle.cal_events.proofs.shared_lemmas.Placing.{slot_there, starts_there}
-use Rattle.cal_events.proofs.shared_lemmas.RoomClocks.{room_clock}
 use Rattle.cal_events.proofs.shared_lemmas.SeriesLemmas.{zip_back}
 use Rattle.itip_messages.specs.Body.{IsReady}
 use Rattle.itip_messages.specs.Law.{IsTextAddress, IsTextValue}
@@ -101,7 +100,7 @@ as_said object method lines event s = record {
   attendees = s.attendees;
   zone = zone_said _ object lines event.times s.times;
   facts = event_facts object method lines event s;
-  dated = λ words zone named t at. slot_there zone (room_clock words zone named) object s.occurrences.is.line event.written.recurrence (Some t) t s.occurrences.is.is at refl;
+  dated = λ words zone gives t at. slot_in_dates words zone gives object (Some method) lines event s (Some t) t at refl;
   meaning = (event_sound object lines event s).steady.meaning;
 }
 
@@ -117,7 +116,7 @@ when_added object lines event s = record {
   attendees = s.attendees;
   zone = zone_said _ object lines event.times s.times;
   facts = λ to h. facts_added event (event_facts object Add lines event s to h);
-  dated = λ words zone named t at. starts_there zone (room_clock words zone named) object lines event.times t s.times at;
+  dated = λ words zone gives t at. start_in_dates words zone gives object (Some Add) lines event s t at;
   meaning = (event_sound object lines event s).steady.meaning;
 }
 
