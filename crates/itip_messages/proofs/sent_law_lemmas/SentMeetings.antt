@@ -1,15 +1,12 @@
 -- The meeting of events that are said again: its master and its overrides are those that were, each once.
 -- Behind requests_read_back, shown_reads_back.
-use Rattle.std.proofs.Common.{◌≡◌, ◌≢◌, ◌∙◌, refl, sym, ap, subst, inl, inr, ℤ, ◌≤◌, Bool, true, false, not, cond, List, [], ◌∷◌, length, map, filter, Option, is_some, arith}
-use Rattle.std.specs.Prelude.{AllPairs, Contains}
+use Rattle.std.proofs.Common.{◌≡◌, ◌≢◌, refl, ap, subst, ℤ, ◌≤◌, Bool, true, false, not, cond, List, [], ◌∷◌, length, map, filter, Option, is_some, arith}
+use Rattle.std.specs.Prelude.{AllPairs}
 use Rattle.std.specs.Option.{option_to_list}
 use Rattle.std.specs.List.{AllZip}
-use Rattle.std.proofs.lemmas.Bool.{false≢true}
 use Rattle.profile.specs.events.EventComponents.{EventComponent}
 use Rattle.profile.specs.events.Events.{InstancesDiffer, is_master, is_override}
-use Rattle.cal_events.proofs.shared_lemmas.InOneOrder.{head_pairs, in_filtered, mapped_pairs, tail_pairs}
 use Rattle.cal_events.proofs.shared_lemmas.Zips.{zip_length}
-use Rattle.itip_order.proofs.Lists.{in_cons, none_in_nil}
 use Rattle.itip_messages.specs.SentLaw.{first_of}
 
 -- ---- events that are said again, place by place

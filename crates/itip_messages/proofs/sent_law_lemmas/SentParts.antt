@@ -1,6 +1,6 @@
 -- Events that are said again make the same parts for each room.
 -- Behind requests_read_back.
-use Rattle.std.proofs.Common.{◌≡◌, ◌∙◌, refl, sym, ap, ap₂, subst, inl, inr, ℕ, Bool, true, false, not, ◌&&◌, ◌||◌, cond, List, [], ◌∷◌, length, map, filter, Option, Some, is_some, ℤ}
+use Rattle.std.proofs.Common.{◌≡◌, ◌∙◌, refl, sym, ap, ap₂, subst, ℕ, Bool, true, false, not, ◌&&◌, ◌||◌, cond, List, [], ◌∷◌, length, map, filter, Option, Some, is_some, ℤ}
 use Rattle.std.specs.Prelude.{◌==◌, option_map}
 use Rattle.std.specs.List.{list_any, AllZip}
 use Rattle.std.specs.Str.{bytes_eq}

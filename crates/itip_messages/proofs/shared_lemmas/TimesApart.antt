@@ -1,6 +1,6 @@
 -- Events of which each is for another instant name these by other times, and where the times are fixed the other way round.
 -- Behind replies_are_heard, refreshes_are_heard of law, requests_read_back, shown_reads_back of sent_law.
-use Rattle.std.proofs.Common.{◌≡◌, ◌≢◌, ◌∙◌, sym, ap, arith, ℕ, ◌<◌, List, map, filter, length, get_or, Option, ℤ}
+use Rattle.std.proofs.Common.{◌≡◌, ◌≢◌, ◌∙◌, sym, ap, arith, ℕ, ◌<◌, List, map, filter, length, get_or}
 use Rattle.std.specs.Prelude.{AllPairs, Contains, option_map}
 use Rattle.std.proofs.lemmas.List.{get_or_default}
 use Rattle.profile.specs.events.EventComponents.{EventComponent}
