@@ -238,7 +238,7 @@ replies_heard back reads read message room words zone book claims octets spells 
     let first = first_there these some in
     let from = of_filtered passes claims first.0 first.1 in
     let home = set_room read message spells room zone claims h first.0 from.0 (and_parts (is_set first.0.part) (in_view book.taken first.0.part) from.1).0 in
-    let a = answers room message.organiser message.uid home book names these r.events 
+    let a = answers room message.organiser message.uid home book names these r.events
     (λ c k. let there = (of_filtered passes claims c k).0 in (of_meeting read message spells room zone claims h c there, instance_claimed read message spells room zone words gives claims h c there)) r.each in
     let count : length these ≡ length a.events = zip_length (SaysAnswerTo room book) these a.events a.says in
     let few : length a.events ≤ 200 = omega (arith, few_claims read message spells room zone claims h, filter_no_longer passes claims, count) in

@@ -24,7 +24,7 @@ pub times_apart : (events : List EventComponent) → ((event : EventComponent) �
 times_apart events named differ =
     differ_by (λ (e : EventComponent). e.recurrence) (λ (e : EventComponent). e.written.recurrence) (filter is_override events)
     (λ a b c d same.
-        named a (of_filtered is_override events a c).0 ∙ ap (option_map (λ (time : Time). time.instant)) same ∙ sym (named b (of_filtered is_override events b d).0))
+    named a (of_filtered is_override events a c).0 ∙ ap (option_map (λ (time : Time). time.instant)) same ∙ sym (named b (of_filtered is_override events b d).0))
     differ
 
 pub instants_apart : (events : List EventComponent) → ((event : EventComponent) → Contains events event → event.written.recurrence ≡ option_map (time_as Fixed) event.recurrence)
