@@ -159,25 +159,31 @@ module _ (room : List ℕ) (message : Message) (said : profile_messages.Message)
   abbrev pub content_of : (event : SaidComponent) (component : MessageComponent) → SaysComponent event component → Content
   content_of event component says = cond (cancels said.method event) no_content (cond (names_room room event) says.canonical.content no_content)
 
-  pub body_is : (event : SaidComponent) (component : MessageComponent) (slot : revisions.Slot) (says : SaysComponent event component)
+  pub body_is : (event : SaidComponent) (component : MessageComponent) (says : SaysComponent event component) (slot : revisions.Slot)
       → (part_for room message component slot).body ≡ cond (cancels said.method event) revisions.Cancelled (cond (names_room room event) (revisions.Set (canonical says.canonical.content)) revisions.Absent)
-  body_is event component slot says =
+  body_is event component says slot =
       (λ i. cond (is_cancel (s.method i) || says.cancelled i) revisions.Cancelled (cond (names_said room event component says i) (revisions.Set (says.canonical.is i)) revisions.Absent))
 
-  -- its slot there is that of the event
-  slot_said : (zone : Option Zone) (event : SaidComponent) (component : MessageComponent) (slot : revisions.Slot) → SaysComponent event component → IsComponentSlot zone component slot → IsSlotIn zone event slot
-  slot_said zone event component slot says (instant, at, is) = (instant, subst (λ (time : Option Time). BothOrNeither (IsAt zone) time instant) says.named at, is)
+  -- the slot that the component has in a room of this zone is that of its event there
+  pub slot_said : (zone : Option Zone) (event : SaidComponent) (component : MessageComponent) → SaysComponent event component → (slot : revisions.Slot) → IsComponentSlot zone component slot → IsSlotIn zone event slot
+  slot_said zone event component says slot (instant, at, is) = (instant, subst (λ (time : Option Time). BothOrNeither (IsAt zone) time instant) says.named at, is)
 
-  pub part_said : (zone : Option Zone) (event : SaidComponent) (component : MessageComponent) (slot : revisions.Slot) → Contains said.events event → (says : SaysComponent event component)
+  part_at : (zone : Option Zone) (event : SaidComponent) (component : MessageComponent) → Contains said.events event → (says : SaysComponent event component) → (slot : revisions.Slot)
       → IsComponentSlot zone component slot → IsPart room zone said event (content_of event component says) (part_for room message component slot)
-  part_said zone event component slot c says there = record {
+  part_at zone event component c says slot there = record {
     organiser = s.organised event c ∙ ap Some (sym s.organiser);
     uid = s.uid ∙ sym (ap (λ (p : List ℕ × List ℕ). p.1) (s.are.of_it event c));
-    slot = slot_said zone event component slot says there;
+    slot = slot_said zone event component says slot there;
     revision = λ i. raised_to (s.whole_is i) (says.revision i);
-    body = subst (λ (x : revisions.Body). IsBody room said.method event (content_of event component says) x) (sym (body_is event component slot says))
+    body = subst (λ (x : revisions.Body). IsBody room said.method event (content_of event component says) x) (sym (body_is event component says slot))
         (body_said room said.method event says.canonical.content (canonical says.canonical.content) (cancels said.method event) (names_room room event) refl refl says.canonical.when refl);
   }
+
+  -- the part of a component is that of its event
+  pub part_said : (zone : Option Zone) (event : SaidComponent) (component : MessageComponent) → Contains said.events event → (says : SaysComponent event component) → (part : revisions.Part)
+      → IsPartFor room zone message component part → IsPart room zone said event (content_of event component says) part
+  part_said zone event component c says part is =
+      subst (IsPart room zone said event (content_of event component says)) (sym is.2) (part_at zone event component c says is.0 is.1)
 
   -- a component is what an event of the message says, and its part for the room, in whichever zone, is the event's
   pub record IsKept (event : SaidComponent) (component : MessageComponent) : Type 0 where
@@ -189,7 +195,7 @@ module _ (room : List ℕ) (message : Message) (said : profile_messages.Message)
   kept_one event component c says = record {
     among = c;
     says = says;
-    part = λ zone part is. subst (IsPart room zone said event (content_of event component says)) (sym is.2) (part_said zone event component is.0 c says is.1);
+    part = λ zone. part_said zone event component c says;
   }
 
   all_kept : (events : List SaidComponent) (components : List MessageComponent) → ((e : SaidComponent) → Contains events e → Contains said.events e) → AllZip SaysComponent events components → AllZip IsKept events components
@@ -204,14 +210,15 @@ module _ (room : List ℕ) (message : Message) (said : profile_messages.Message)
   pub is_to_them : is_addressed room said ≡ true → is_to_rooms said.method ≡ true
   is_to_them h = (and_parts (is_to_rooms said.method) (list_any (profile.is_for room said.method) said.events) h).0
 
-  -- the events that are parts, and the components that say them
-  those_for : is_addressed room said ≡ true → parts_for room said ≡ filter (is_part_for room said.method) said.events
-  those_for h = ap (λ b. cond b (filter (is_part_for room said.method) said.events) []) h
+  -- the events that are parts
+  pub parts_are : is_addressed room said ≡ true → parts_for room said ≡ filter (is_part_for room said.method) said.events
+  parts_are h = ap (λ b. cond b (filter (is_part_for room said.method) said.events) []) h
 
   kept : (Q : SaidComponent → MessageComponent → Type 0) → AllZip Q said.events message.components.items → is_addressed room said ≡ true → AllZip Q (parts_for room said) (filter (has_part room message) message.components.items)
   kept Q each h =
-      subst (λ (l : List SaidComponent). AllZip Q l (filter (has_part room message) message.components.items)) (sym (those_for h)) (kept_zip room message said s.method Q said.events message.components.items s.each each)
+      subst (λ (l : List SaidComponent). AllZip Q l (filter (has_part room message) message.components.items)) (sym (parts_are h)) (kept_zip room message said s.method Q said.events message.components.items s.each each)
 
+  -- the components that say them
   pub kept_components : is_addressed room said ≡ true → AllZip SaysComponent (parts_for room said) (filter (has_part room message) message.components.items)
   kept_components h = kept SaysComponent s.each h
 
@@ -224,7 +231,7 @@ module _ (room : List ℕ) (message : Message) (said : profile_messages.Message)
   kept_instances h = kept HasInstances (s.instances (is_to_them h)) h
 
   pub kept_among : is_addressed room said ≡ true → (e : SaidComponent) → Contains (parts_for room said) e → Contains said.events e
-  kept_among h e c = (of_filtered (is_part_for room said.method) said.events e (subst (λ (l : List SaidComponent). Contains l e) (those_for h) c)).0
+  kept_among h e c = (of_filtered (is_part_for room said.method) said.events e (subst (λ (l : List SaidComponent). Contains l e) (parts_are h) c)).0
 
   -- not addressed: no parts
   pub no_events : is_addressed room said ≡ false → parts_for room said ≡ []
