@@ -245,13 +245,13 @@ fn share_instant(alloc: Global, components: &[EventComponent]) -> Result<bool, A
     ensures { IfOk result (λ shares. MatchBool shares (InstancesDiffer (filter is_override (map component_of components.now)) → ⊥)
         (InstancesDiffer (filter is_override (map component_of components.now)))) }
 {
-    let mut slots = Vec::new(alloc);
+    let mut instants = Vec::new(alloc);
     for component in components {
         if let Some(instant) = component.recurrence {
-            slots.push(instant)?;
+            instants.push(instant)?;
         }
     }
-    Ok(Instants::of(slots).has_twins())
+    Ok(Instants::of(instants).has_twins())
 }
 
 /// Whether two name the same time, of one form and one instant.
