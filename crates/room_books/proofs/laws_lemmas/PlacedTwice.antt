@@ -1,7 +1,7 @@
 -- An event, and one that says the same times again, take place alike in a room, whatever its zone: the instances of one there are those of the
 -- other. Of what takes starts away, the other needs to say only what may take one.
 -- Behind kept_texts_pass, kept_texts_spell, served_texts_pass; and schedules_hold of sched_laws.
-use Rattle.std.proofs.Common.{◌≡◌, ◌∙◌, refl, sym, ap, subst, inl, inr, ◌⊎◌, ℤ, Bool, true, not, ◌||◌, ◌&&◌, List, [], Option, Some, None, filter}
+use Rattle.std.proofs.Common.{◌≡◌, ◌∙◌, refl, sym, ap, subst, inl, inr, ◌⊎◌, ℤ, Bool, true, not, ◌||◌, ◌&&◌, List, [], ◌∷◌, Option, Some, None, filter}
 use Rattle.std.specs.Prelude.{◌↔◌, Contains, is_some}
 use Rattle.std.specs.List.{AllZip}
 use Rattle.profile.specs.checker.Instances.{Instance}
@@ -10,14 +10,16 @@ use Rattle.profile.specs.events.EventComponents.{EventComponent, meeting_said}
 use Rattle.profile.specs.events.Events.{Event, is_master}
 use Rattle.profile.specs.events.Occurrences.{Time}
 use Rattle.profile.specs.events.Placed.{IsAt, IsInstantIn, IsPlaced, zone_in}
-use Rattle.profile.specs.events.Properties.{Form, Fixed, Floating, WholeDay, is_fixed, is_floating, is_whole_day}
+use Rattle.profile.specs.events.Properties.{BothOrNeither, Form, Fixed, Floating, WholeDay, is_fixed, is_floating, is_whole_day}
 use Rattle.profile.specs.events.Starts.{EndsAt, IsGiven, IsInstance, IsRuleStart, IsStart, key_at}
 use Rattle.profile.specs.events.ZonedTimes.{EventTimes, clock_of}
 use Rattle.profile.specs.rooms.Messages.{instants_in, is_in_dates, is_of_form, may_take}
 use Rattle.profile.specs.series.Rules.{Rule}
 use Rattle.profile.specs.series.Zones.{IsOneMeaning, Zone}
 use Rattle.cal_events.proofs.shared_lemmas.InOneOrder.{in_filtered, in_mapped, of_filtered}
+use Rattle.cal_events.proofs.shared_lemmas.Placing.{placed_at, placed_so}
 use Rattle.cal_events.proofs.shared_lemmas.OwnSingles.{IsAtStart, IsItself, master_alone, alone_master, override_alone, alone_override, of_both}
+use Rattle.itip_order.proofs.Lists.{in_head, in_tail}
 use Rattle.itip_messages.proofs.body_lemmas.TimeLists.{of_form, start_dates}
 use Rattle.itip_messages.specs.SentLaw.{IsSameRule}
 use Rattle.room_books.proofs.shared_lemmas.Loops.{zip_from, zip_to}
@@ -66,6 +68,14 @@ module _ (zone : Option Zone) (one : IsOneMeaning (clock_of zone)) where
   instant_one Fixed t u v h k = h ∙ sym k
   instant_one Floating t u v h k = one t u v h k
   instant_one WholeDay t u v h k = one t u v h k
+
+  pub slot_one : (time : Option Time) (a b : Option ℤ) → BothOrNeither (IsAt zone) time a → BothOrNeither (IsAt zone) time b → a ≡ b
+  slot_one None None None h k = refl
+  slot_one None None (Some b) h k = absurd k
+  slot_one None (Some a) b h k = absurd h
+  slot_one (Some time) None b h k = absurd h
+  slot_one (Some time) (Some a) None h k = absurd k
+  slot_one (Some time) (Some a) (Some b) h k = ap Some (instant_one time.form time.instant a b h k)
 
   -- what a time means is among what times mean that have its form and its instant among them
   meant : (times : List Time) (instants : List ℤ) → AllZip (IsAt zone) times instants → (time : Time) (t : ℤ) → IsAt zone time t → Contains (instants_in time.form times) time.instant → Contains instants t
@@ -127,6 +137,30 @@ module _ (zone : Option Zone) (one : IsOneMeaning (clock_of zone)) where
               (subst (λ (l : List ℤ). Contains l t) takes_q c)),
         );
       }
+
+-- the other is placed there, too, where its slot is
+module _ (zone : Option Zone) where
+  -- times that all mean something, with what they mean
+  all_meant : (times : List Time) → ((time : Time) → Contains times time → (t : ℤ) × IsAt zone time t) → (instants : List ℤ) × AllZip (IsAt zone) times instants
+  all_meant [] f = ([], tt)
+  all_meant (time ∷ times) f =
+      let here = f time (in_head time times) in
+      let rest = all_meant times (λ other c. f other (in_tail time times other c)) in
+      (here.0 ∷ rest.0, (here.1, rest.1))
+
+  means_something : (xs ys : List Time) (us : List ℤ) → AllZip (IsAt zone) xs us → ((form : Form) (i : ℤ) → Contains (instants_in form ys) i → Contains (instants_in form xs) i)
+      → (time : Time) → Contains ys time → (t : ℤ) × IsAt zone time t
+  means_something xs ys us x same time c =
+      of_form time.form xs (λ form i. (t : ℤ) × IsInstantIn zone form i t) (λ other d. let found = zip_to (IsAt zone) xs us other x d in (found.0, found.2)) time.instant (same time.form time.instant (in_own ys time c))
+
+  pub placed_again : (event said p : EventComponent) → IsPlaced zone event p → SaysTwice event said → (slot : Option ℤ) → BothOrNeither (IsAt zone) said.written.recurrence slot
+      → (q : EventComponent) × IsPlaced zone said q × (q.recurrence ≡ slot)
+  placed_again event said p h s slot at =
+      let adds = all_meant said.written.additions (means_something event.written.additions said.written.additions h.additions h.adds (λ form i. (s.adds form i).1)) in
+      let takes =
+      all_meant said.written.exceptions (means_something event.written.exceptions said.written.exceptions h.exceptions h.takes (λ form i d. among_all event.written.exceptions form i ((s.takes form i).1 d))) in
+      let starts : IsInstantIn zone said.times.form said.times.start h.start = subst (λ (x : EventTimes). IsInstantIn zone x.form x.start h.start) (sym s.times) h.starts in
+      (placed_at zone said slot h.start adds.0 takes.0, placed_so zone said slot h.start adds.0 takes.0 starts at adds.1 takes.1, refl)
 
 -- ---- what takes place alike
 
