@@ -150,6 +150,8 @@ module _ (room words : List ℕ) (zone : Option Zone) (named_zone : IsRoomZone w
     placed : EventComponent
     is : IsPlaced zone said placed
     slot_is : placed.recurrence ≡ slot
+    meeting : meeting_said placed ≡ meeting_said said
+    kept : is_kept room placed ≡ is_kept room said
     apart : AreApart placed claim.singles
     rule : AreOfRule placed claim.series
 
@@ -160,7 +162,7 @@ module _ (room words : List ℕ) (zone : Option Zone) (named_zone : IsRoomZone w
       let (q, k, is) = placed_again zone event said p h twice slot again in
       let own : p.recurrence ≡ slot = ap (λ (e : EventComponent). e.recurrence) h.is ∙ slot_one zone one event.written.recurrence h.recurrence slot h.slot at in
       let alike = placed_twice zone one event said p q h k twice (is ∙ sym own) in
-      record { placed = q; is = k; slot_is = is; apart = apart_alike p q alike claim.singles apart; rule = rule_alike p q alike claim.series rule }
+      record { placed = q; is = k; slot_is = is; meeting = ap meeting_said k.is; kept = ap (is_kept room) k.is; apart = apart_alike p q alike claim.singles apart; rule = rule_alike p q alike claim.series rule }
 
   pub shows_back : (claim : Claim) (lines : Lines) → IsAskedFor room zone claim → is_set claim.part ≡ true → IsKeptEvent room zones (Shown claim) lines → ShowsBack room zone opening zones claim lines
   shows_back claim lines f set (name, given_name, k) =
@@ -223,10 +225,10 @@ module _ (room words : List ℕ) (zone : Option Zone) (named_zone : IsRoomZone w
                 (name_means_in opening zones owns t claim.content event c m.says.zone name given_name),
             again.is,
           );
-          meeting = ap meeting_said again.is.is ∙ ap (λ (u : List ℕ). (part.organiser, u)) (sym a.is_part.uid);
+          meeting = again.meeting ∙ ap (λ (u : List ℕ). (part.organiser, u)) (sym a.is_part.uid);
           slot_is = ap slot_named again.slot_is ∙ sym in_slot.2;
         };
-        kept = ap (is_kept room) again.is.is ∙ ap (λ x. x && true) (kept_confirmed event slot number part.organiser part.revision.stamp room rule.back additions exceptions);
+        kept = again.kept ∙ ap (λ x. x && true) (kept_confirmed event slot number part.organiser part.revision.stamp room rule.back additions exceptions);
         apart = again.apart;
         rule = again.rule;
       }

@@ -1,6 +1,6 @@
 -- Over every run each part was asked for by some octets, and no part is answered twice.
 -- Behind answers_stay, kept_texts_pass, kept_texts_spell, served_texts_pass.
-use Rattle.std.proofs.Common.{◌≡◌, ◌≢◌, ◌∙◌, ℕ, ℤ, Bool, true, false, filter, List, [], ◌∷◌, Option, refl, sym, ap, subst, inl, inr}
+use Rattle.std.proofs.Common.{◌≡◌, ◌≢◌, ◌∙◌, ℕ, ℤ, Bool, true, false, filter, List, [], ◌∷◌, Option, refl, sym, subst, inl, inr}
 use Rattle.std.specs.Prelude.{AllPairs, if◌then◌else◌}
 use Rattle.std.specs.declared.cmp.Ordering.TheVariants.{Less, Equal}
 use Rattle.std.specs.List.{Contains, list_any}
@@ -15,7 +15,7 @@ use Rattle.profile.specs.rooms.Rooms.{Claim, PartAnswer, Book, empty_book, is_se
 use Rattle.profile.specs.series.Zones.{Zone}
 use Rattle.profile.specs.streams.Streams.{IsDelivered, IsClaim, AreClaims}
 use Rattle.cal_events.proofs.shared_lemmas.InOneOrder.{head_pairs, tail_pairs, of_filtered}
-use Rattle.itip_order.proofs.Lists.{in_cons, in_head, in_tail, none_in_nil}
+use Rattle.itip_order.proofs.Lists.{in_head, in_tail, none_in_nil}
 use Rattle.itip_order.proofs.Order.{slot_total}
 use Rattle.room_books.proofs.shared_lemmas.Views.{view_back}
 use Rattle.room_books.proofs.laws_lemmas.Runs.{IsSound, step_sound, new_answer, runs_good}
@@ -112,7 +112,7 @@ keeps_step room zone before claims moment outcome after all s k =
     }
 
 pub keeps_none : (room : List ℕ) (zone : Option Zone) → KeepsAll room zone empty_book
-keeps_none room zone = record {
+keeps_none room z = record {
   sound = record {
     known = λ a c. absurd (none_in_nil a c);
     good = runs_good [] empty_book refl;
@@ -124,7 +124,7 @@ keeps_none room zone = record {
 }
 
 keeps_run : (room : List ℕ) (zone : Option Zone) (before : Book) (ds : List Delivery) (after : Book) → ((d : Delivery) → Contains ds d → IsDelivered room zone d) → Runs before ds after → KeepsAll room zone before → KeepsAll room zone after
-keeps_run room zone before [] after f r k = subst (KeepsAll room zone) (sym r) k
+keeps_run room z before [] after f r k = subst (KeepsAll room z) (sym r) k
 keeps_run room zone before (d ∷ ds) after f r k =
     keeps_run room zone r.0 ds after (λ x c. f x (in_tail d ds x c)) r.3 (keeps_step room zone before d.claims d.moment r.1 r.0 (delivered_asked room zone d (f d (in_head d ds))) r.2 k)
 

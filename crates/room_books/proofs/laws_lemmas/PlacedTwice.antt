@@ -1,7 +1,7 @@
 -- An event, and one that says the same times again, take place alike in a room, whatever its zone: the instances of one there are those of the
 -- other. Of what takes starts away, the other needs to say only what may take one.
 -- Behind kept_texts_pass, kept_texts_spell, served_texts_pass; and schedules_hold of sched_laws.
-use Rattle.std.proofs.Common.{◌≡◌, ◌∙◌, refl, sym, ap, subst, inl, inr, ◌⊎◌, ℤ, Bool, true, not, ◌||◌, ◌&&◌, List, [], ◌∷◌, Option, Some, None, filter}
+use Rattle.std.proofs.Common.{◌≡◌, ◌∙◌, refl, sym, ap, subst, inl, inr, ◌⊎◌, ℤ, true, not, ◌||◌, ◌&&◌, List, [], ◌∷◌, Option, Some, None, filter}
 use Rattle.std.specs.Prelude.{◌↔◌, Contains, is_some}
 use Rattle.std.specs.List.{AllZip}
 use Rattle.profile.specs.checker.Instances.{Instance}

@@ -1,6 +1,6 @@
 -- What a room's declines name: keys of instances that messages asked for, whose organisers and UIDs were read.
 -- Cited by answers_name_texts.
-use Rattle.std.proofs.Common.{◌≡◌, ◌∙◌, ℕ, ℤ, Bool, true, false, cond, filter, List, [], ◌∷◌, ◌++◌, length, not, Option, Some, None, inl, inr, ◌⊎◌, sym, ap, subst, arith}
+use Rattle.std.proofs.Common.{◌≡◌, ◌∙◌, ℕ, ℤ, Bool, true, false, cond, filter, List, [], ◌∷◌, length, not, Option, Some, None, inl, inr, ◌⊎◌, sym, ap, subst, arith}
 use Rattle.std.specs.Prelude.{IsTrue, nat_lt, Contains, unwrap_or, option_map}
 use Rattle.std.specs.Option.{option_to_list}
 use Rattle.std.specs.Str.{IsUtf8}
@@ -149,7 +149,7 @@ module _ (room : List ℕ) (zone : Option Zone) (before : Book) (claims : List C
 
 run_texts : (room : List ℕ) (zone : Option Zone) (before : Book) (ds : List Delivery) (after : Book) → ((d : Delivery) → Contains ds d → IsDelivered room zone d) → Runs before ds after
     → KeepsAll room zone before → AreTextAnswers before → AreTextAnswers after
-run_texts room zone before [] after delivered runs keeps texts = subst AreTextAnswers (sym runs) texts
+run_texts room z before [] after delivered runs keeps texts = subst AreTextAnswers (sym runs) texts
 run_texts room zone before (d ∷ ds) after delivered (mid, outcome, step, runs) keeps texts =
     let all = delivered_asked room zone d (delivered d (in_head d ds)) in
     run_texts room zone mid ds after (λ x c. delivered x (in_tail d ds x c)) runs
