@@ -52,23 +52,23 @@ use Rattle.room_books.proofs.shared_lemmas.Pairs.{pairs_from}
 
 -- ---- the messages
 
-abbrev room : List ℕ
+abbrev pub room : List ℕ
 room = codes "mailto:r1@example.com"
 
-abbrev head_lines : List ℕ → Lines
+abbrev pub head_lines : List ℕ → Lines
 head_lines method = codes "VERSION:2.0" ∷ codes "PRODID:-//Ann//EN" ∷ (codes "METHOD:" ++ method) ∷ []
 
-abbrev lines_of : List ℕ → Lines → Lines
+abbrev pub lines_of : List ℕ → Lines → Lines
 lines_of method own = codes "BEGIN:VCALENDAR" ∷ (head_lines method ++ (vevent_lines own ++ codes "END:VCALENDAR" ∷ []))
 
-abbrev object_tree : List ℕ → Lines → Tree
+abbrev pub object_tree : List ℕ → Lines → Tree
 object_tree method own = tree (codes "VCALENDAR") (head_lines method) (more (tree (codes "VEVENT") own none) none)
 
 -- what is in a list of one is that one
-only : {X : Type 0} (x y : X) → Contains (x ∷ []) y → y ≡ x
+pub only : {X : Type 0} (x y : X) → Contains (x ∷ []) y → y ≡ x
 only x y c = elim (in_cons x [] y c) [ inl e ↦ sym e | inr nowhere ↦ absurd (none_in_nil y nowhere) ]
 
-an_hour : SpellsDuration (codes "PT1H") 0 3600
+pub an_hour : SpellsDuration (codes "PT1H") 0 3600
 an_hour = (
   codes "PT1H",
   (
@@ -95,10 +95,10 @@ an_hour = (
   inl refl,
 )
 
-ann : IsAddress (codes "mailto:ann@example.com")
+pub ann : IsAddress (codes "mailto:ann@example.com")
 ann = (codes "mailto", codes "ann@example.com", refl, refl, refl, omega arith)
 
-the_room : IsAddress room
+pub the_room : IsAddress room
 the_room = (codes "mailto", codes "r1@example.com", refl, refl, refl, omega arith)
 
 -- ---- the first asks for two days
@@ -288,7 +288,7 @@ none_of Writes name = record {
   is = refl;
 }
 
-none_listed : (name : List ℕ) → WritesListed name [] []
+pub none_listed : (name : List ℕ) → WritesListed name [] []
 none_listed name = record {
   fixed = [];
   floating = [];
@@ -401,7 +401,7 @@ abbrev delivery : Delivery
 delivery = record { claims = claim ∷ []; moment = pos 1_740_830_500 }
 
 -- where a message has one part, that is all
-one_part : (only_claim : Claim) → AreGreatest (λ claim. claim.part) (only_claim ∷ []) (only_claim ∷ [])
+pub one_part : (only_claim : Claim) → AreGreatest (λ claim. claim.part) (only_claim ∷ []) (only_claim ∷ [])
 one_part only_claim = record {
   among = λ one c. c;
   greatest = λ one c. (one, c, refl, ap is_le (tied_itself part_total one.part));

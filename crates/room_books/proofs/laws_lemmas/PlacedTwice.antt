@@ -17,7 +17,6 @@ use Rattle.profile.specs.rooms.Messages.{instants_in, is_in_dates, is_of_form, m
 use Rattle.profile.specs.series.Rules.{Rule}
 use Rattle.profile.specs.series.Zones.{IsOneMeaning, Zone}
 use Rattle.cal_events.proofs.shared_lemmas.InOneOrder.{in_filtered, in_mapped, of_filtered}
-use Rattle.cal_events.proofs.shared_lemmas.Placing.{placed_at, placed_so}
 use Rattle.cal_events.proofs.shared_lemmas.OwnSingles.{IsAtStart, IsItself, master_alone, alone_master, override_alone, alone_override, of_both}
 use Rattle.itip_order.proofs.Lists.{in_head, in_tail}
 use Rattle.itip_messages.proofs.body_lemmas.TimeLists.{of_form, start_dates}
@@ -160,7 +159,16 @@ module _ (zone : Option Zone) where
       let takes =
       all_meant said.written.exceptions (means_something event.written.exceptions said.written.exceptions h.exceptions h.takes (λ form i d. among_all event.written.exceptions form i ((s.takes form i).1 d))) in
       let starts : IsInstantIn zone said.times.form said.times.start h.start = subst (λ (x : EventTimes). IsInstantIn zone x.form x.start h.start) (sym s.times) h.starts in
-      (placed_at zone said slot h.start adds.0 takes.0, placed_so zone said slot h.start adds.0 takes.0 starts at adds.1 takes.1, refl)
+      (
+        record said {
+          recurrence = slot;
+          times = record said.times { zone = zone_in zone said.times.form said.times.zone; start = h.start };
+          additions = adds.0;
+          exceptions = takes.0;
+        },
+        record { start = h.start; recurrence = slot; additions = adds.0; exceptions = takes.0; starts = starts; slot = at; adds = adds.1; takes = takes.1; is = refl },
+        refl,
+      )
 
 -- ---- what takes place alike
 
