@@ -270,7 +270,11 @@ fn without_attendees(alloc: Global, event: EventComponent) -> Result<Parted, All
 }
 
 /// The instances of a VEVENT, or what makes them for a room, where the message is one to rooms. It fails only when out of memory.
-fn instances_for(alloc: Global, method: Method, event: EventComponent) -> Result<Occurring, AllocError>
+fn instances_for(
+    alloc: Global,
+    method: Method,
+    event: EventComponent,
+) -> Result<Occurring, AllocError>
     requires written { ∥ IsWritten (component_of event) ∥₁ }
     requires instants { AreOfWritten (component_of event).written (component_of event).recurrence (component_of event).additions (component_of event).exceptions }
     ensures { IfOk result (λ found. is_to_rooms (method_said method) ≡ true → (said : events.EventComponent) → component_of event ≡ unattended said

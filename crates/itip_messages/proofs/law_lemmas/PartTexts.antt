@@ -32,7 +32,7 @@ use Rattle.cal_events.proofs.shared_lemmas.OneInstance.{event_sound}
 use Rattle.cal_events.proofs.shared_lemmas.SeriesLemmas.{zip_back}
 use Rattle.itip_messages.specs.Body.{IsReady}
 use Rattle.itip_messages.specs.Law.{IsTextAddress, IsTextValue}
-use Rattle.itip_messages.proofs.message_lemmas.BySlot.{of_message}
+use Rattle.itip_messages.proofs.message_lemmas.KnownEvents.{of_message}
 use Rattle.itip_messages.proofs.shared_lemmas.CleanText.{text_address}
 use Rattle.itip_messages.proofs.shared_lemmas.CleanUids.{text_value}
 use Rattle.itip_messages.proofs.shared_lemmas.EventLines.{clean_value, vevent_among}

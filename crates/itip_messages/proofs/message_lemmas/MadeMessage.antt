@@ -1,6 +1,6 @@
 -- The message that is made of the events that an object says.
 -- Cited by Message::of.
-use Rattle.std.proofs.Common.{◌≡◌, ◌∙◌, ℕ, ◌<◌, true, false, List, [], length, map, refl, sym, ap, arith, Option, Some, IsSome, option_map, unwrap_or}
+use Rattle.std.proofs.Common.{◌≡◌, ◌∙◌, ℕ, ◌<◌, true, List, [], length, map, refl, sym, ap, arith, Option, Some, IsSome, option_map, unwrap_or}
 use Rattle.std.specs.Prelude.{Contains}
 use Rattle.std.specs.List.{AllZip}
 use Rattle.std.proofs.lemmas.List.{length-map}
@@ -23,7 +23,7 @@ use Rattle.itip_messages.specs.declared.message_component.MessageComponent.{Mess
 use Rattle.itip_messages.specs.Body.{IsReady}
 use Rattle.itip_messages.specs.Components.{AreMessageEvents, AreOfMessage, HasInstances, IsDated, IsDatedEach, SaysComponent, event_slot}
 use Rattle.itip_messages.specs.Message.{SaysEvents}
-use Rattle.itip_messages.proofs.message_lemmas.BySlot.{of_message, of_organiser}
+use Rattle.itip_messages.proofs.message_lemmas.KnownEvents.{of_message, of_organiser}
 use Rattle.itip_messages.proofs.shared_lemmas.MessageLemmas as each
 
 module _ (object : Tree) (method : Method) (events : List EventComponent) (s : SaysEvents object (method_said method) (map component_of events)) where

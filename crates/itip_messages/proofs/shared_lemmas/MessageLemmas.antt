@@ -234,8 +234,8 @@ module _ (room : List ℕ) (message : Message) (said : profile_messages.Message)
   kept_among h e c = (of_filtered (is_part_for room said.method) said.events e (subst (λ (l : List SaidComponent). Contains l e) (parts_are h) c)).0
 
   -- not addressed: no parts
-  pub no_events : is_addressed room said ≡ false → parts_for room said ≡ []
-  no_events h = ap (λ b. cond b (filter (is_part_for room said.method) said.events) []) h
+  pub no_parts_for : is_addressed room said ≡ false → parts_for room said ≡ []
+  no_parts_for h = ap (λ b. cond b (filter (is_part_for room said.method) said.events) []) h
 
   -- ---- all its parts in a room
 
@@ -258,7 +258,7 @@ module _ (room : List ℕ) (message : Message) (said : profile_messages.Message)
     pub no_parts : (parts : List revisions.Part) (b : Bool) → b ≡ is_message_for room message → b ≡ false → parts ≡ [] → AreParts room zone said parts
     no_parts parts b is off none = record {
       all = [];
-      each = subst (λ (es : List SaidComponent). AllZip IsPartOf es []) (sym (no_events (sym addressed ∙ sym is ∙ off))) tt;
+      each = subst (λ (es : List SaidComponent). AllZip IsPartOf es []) (sym (no_parts_for (sym addressed ∙ sym is ∙ off))) tt;
       are = subst (AreGreatest (λ part. part) []) (sym none) (greatest_none (λ part. part));
     }
 

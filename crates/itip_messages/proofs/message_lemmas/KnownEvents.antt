@@ -1,6 +1,6 @@
 -- The events of a message: what is known of each.
 -- Cited by Message::of.
-use Rattle.std.proofs.Common.{◌≡◌, ◌∙◌, ℕ, Bool, true, false, List, [], ◌∷◌, map, filter, get_or, refl, sym, ap, subst, inl, inr, codes, arith, pos, ◌*ℤ◌, ◌+ℤ◌, ◌<◌, ℤ, Option, Some, None, is_some}
+use Rattle.std.proofs.Common.{◌≡◌, ◌∙◌, ℕ, Bool, true, false, List, [], ◌∷◌, get_or, refl, sym, ap, subst, inl, inr, codes, arith, pos, ◌*ℤ◌, ◌+ℤ◌, ◌<◌, ℤ, Option, Some, None, is_some}
 use Rattle.std.specs.Prelude.{Contains, All, unwrap_or}
 use Rattle.std.specs.List.{AllZip}
 use Rattle.std.proofs.lemmas.Bool.{true≢false}
