@@ -158,8 +158,7 @@ module _ (zone : Option Zone) where
       let adds = all_meant said.written.additions (means_something event.written.additions said.written.additions h.additions h.adds (λ form i. (s.adds form i).1)) in
       let takes =
       all_meant said.written.exceptions (means_something event.written.exceptions said.written.exceptions h.exceptions h.takes (λ form i d. among_all event.written.exceptions form i ((s.takes form i).1 d))) in
-      let starts : IsInstantIn zone said.times.form said.times.start h.start = subst (λ (x : EventTimes). IsInstantIn zone x.form x.start h.start) (sym s.times) h.starts in
-      (
+      let starts : IsInstantIn zone said.times.form said.times.start h.start = subst (λ (x : EventTimes). IsInstantIn zone x.form x.start h.start) (sym s.times) h.starts in (
         record said {
           recurrence = slot;
           times = record said.times { zone = zone_in zone said.times.form said.times.zone; start = h.start };
