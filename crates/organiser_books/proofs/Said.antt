@@ -15,7 +15,6 @@ use Rattle.profile.specs.organisers.Organisers.{Heard, attendees_of, gone_from, 
 use Rattle.itip_order.specs.declared.part.Slot.{Slot}
 use Rattle.itip_order.specs.declared.part.Slot.TheVariants.{Whole, At}
 use Rattle.itip_order.specs.Parts.{slot_of}
-use Rattle.itip_messages.specs.Components.{AreInOrder}
 use Rattle.itip_messages.specs.Message.{RepresentsMessage, SaysComponent}
 use Rattle.itip_messages.specs.declared.message.Message.{Message}
 use Rattle.itip_messages.specs.declared.message_component.MessageComponent.{MessageComponent}
@@ -66,11 +65,6 @@ lists_are [] [] z = refl
 lists_are [] (c ∷ cs) z = absurd z
 lists_are (e ∷ es) [] z = absurd z
 lists_are (e ∷ es) (c ∷ cs) z = λ i. z.0.attendees i ∷ lists_are es cs z.1 i
-
--- the components of a message to an organiser are in the order of the text
-pub in_text : (object : Message) (said : objects.Message) → RepresentsMessage object said → is_to_rooms said.method ≡ false → AllZip SaysComponent said.events object.components.items
-in_text object said is apart =
-    subst (λ es. AllZip SaysComponent es object.components.items) (subst (λ b. AreInOrder b said.events is.events) apart is.in_order) is.each
 
 -- one reply's answer
 one_heard : (uid : List ℕ) (e : EventComponent) (c : MessageComponent) → SaysComponent e c → e.uid ≡ uid → (lines : List Attendee) → heard_by uid c lines ≡ profile.heard_of e lines
