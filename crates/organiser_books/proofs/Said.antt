@@ -9,14 +9,13 @@ use Rattle.profile.specs.rooms.Revisions as Revisions
 use Rattle.profile.specs.rooms.Messages.{slot_named}
 use Rattle.profile.specs.rooms.Kept.{each_once}
 use Rattle.profile.specs.events.Messages as objects
-use Rattle.profile.specs.events.Messages.{AreOfMeeting, is_to_rooms}
+use Rattle.profile.specs.events.Messages.{AreOfMeeting}
 use Rattle.profile.specs.organisers.Organisers as profile
 use Rattle.profile.specs.organisers.Organisers.{Heard, attendees_of, gone_from, heard_in, is_attendee, is_called_off, own_sequence, left_to_server, scheduled_in, without}
 use Rattle.itip_order.specs.declared.part.Slot.{Slot}
 use Rattle.itip_order.specs.declared.part.Slot.TheVariants.{Whole, At}
 use Rattle.itip_order.specs.Parts.{slot_of}
-use Rattle.itip_messages.specs.Message.{RepresentsMessage, SaysComponent}
-use Rattle.itip_messages.specs.declared.message.Message.{Message}
+use Rattle.itip_messages.specs.Message.{SaysComponent}
 use Rattle.itip_messages.specs.declared.message_component.MessageComponent.{MessageComponent}
 use Rattle.organiser_books.specs.Attending.{addresses_in, attendance_of, gone_among, lists_of, lists_said, names, scheduled_among, schedules_line, sent_among, Attends, AreAttending, Entries}
 use Rattle.organiser_books.specs.declared.attending.Attendance.{Attendance}

@@ -12,7 +12,7 @@ use Rattle.profile.specs.events.EventComponents.{Attendee, EventComponent}
 use Rattle.profile.specs.rooms.Revisions.{Revision, Slot}
 use Rattle.profile.specs.events.EventComponents as events
 use Rattle.profile.specs.events.Messages as objects
-use Rattle.profile.specs.events.Messages.{is_of_attendee, is_to_rooms}
+use Rattle.profile.specs.events.Messages.{is_of_attendee}
 use Rattle.profile.specs.organisers.Organisers.{Heard, OrganiserBook, Sent, Sends, Stored, StateFault, SendsStore, IsStore, answers_store, gone_from, is_attendee, is_called_off, last_events, last_store, most_sequence, scheduled_in, sequence_after}
 use Rattle.profile.specs.organisers.Organisers.StateFault.{unknown, ahead, spent, stranger}
 use Rattle.itip_order.specs.Parts.{revision_of}

@@ -8,7 +8,7 @@ use Rattle.profile.specs.events.EventComponents.{Attendee, EventComponent, Parti
 use Rattle.profile.specs.rooms.Revisions.{Revision, Slot}
 use Rattle.profile.specs.events.EventComponents as events
 use Rattle.profile.specs.events.Messages as objects
-use Rattle.profile.specs.events.Messages.{is_of_attendee, is_to_rooms}
+use Rattle.profile.specs.events.Messages.{is_of_attendee}
 use Rattle.profile.specs.organisers.Organisers.{Heard, OrganiserBook, Stored, StateFault, heard_in, is_attendee, last_store, sent_status, participation_word, IsSeen, ShowsSeen}
 use Rattle.profile.specs.organisers.Organisers.StateFault.{unknown, ahead, spent, stranger}
 use Rattle.profile.specs.organisers.Sent.{IsComponentText, IsMeetingText}
