@@ -8,7 +8,6 @@ use Rattle.profile.specs.events.EventComponents.{Attendee, EventComponent}
 use Rattle.profile.specs.rooms.Revisions as Revisions
 use Rattle.profile.specs.rooms.Messages.{slot_named}
 use Rattle.profile.specs.rooms.Kept.{each_once}
-use Rattle.profile.specs.events.Messages as objects
 use Rattle.profile.specs.events.Messages.{AreOfMeeting}
 use Rattle.profile.specs.organisers.Organisers as profile
 use Rattle.profile.specs.organisers.Organisers.{Heard, attendees_of, gone_from, heard_in, is_attendee, is_called_off, own_sequence, left_to_server, scheduled_in, without}
