@@ -28,7 +28,7 @@ is_not_utc words zone means = by (bytes_eq words (codes "+0000")) refl
     by false e = refl
     by true e =
         let none : None ≡ Some zone = one_room_zone words None (Some zone) ((bytes_eq-Decides words (codes "+0000")).0 e) means in
-        sym (ap is_none none)
+        ap is_none none
 
 none_by : (words : List ℕ) (zone : Option Zone) → IsRoomZone words zone → is_none zone ≡ true → room_zone_lines words ≡ []
 none_by words None means h = ap (lines_by words) (is_utc words means)
