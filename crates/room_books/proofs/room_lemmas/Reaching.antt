@@ -27,4 +27,4 @@ reached_then room zone book delivery outcome after reached delivered step = reco
 
 -- without any message the book is empty
 pub reached_empty : (room : List ℕ) (zone : Option Zone) → IsReached room zone empty_book
-reached_empty room zone = record { deliveries = []; delivered = λ d c. absurd (none_in_nil d c); runs = refl }
+reached_empty room there = record { deliveries = []; delivered = λ d c. absurd (none_in_nil d c); runs = refl }

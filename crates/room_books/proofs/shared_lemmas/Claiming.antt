@@ -1,10 +1,10 @@
 -- The claims of a message: one for each part, of the part and the instances of its event in the room.
--- Cited by all_claims of claims, claims_of of claims, Room::take of room.
+-- Cited by all_asked of claims, claims_of of claims, Room::take of room.
 use Rattle.std.proofs.Common.{arith, ◌⊎◌, ◌<ℤ◌, ◌≡◌, ◌≢◌, ◌∙◌, ℕ, ℤ, ◌<◌, ◌+◌, Bool, true, false, cond, List, [], ◌∷◌, ◌++◌, take, length, get_or, map, Result, Ok, Err, IfOk, inl, inr, Option, None, Some, refl, sym, ap, subst}
-use Rattle.std.specs.Prelude.{slice_get, if◌then◌else◌, ◌&&◌, not, is_some, unwrap_or, option_map, All, AllPairs, IfSome, MatchOption}
+use Rattle.std.specs.Prelude.{slice_get, not, is_some, unwrap_or, option_map, All, AllPairs, IfSome, MatchOption}
 use Rattle.std.proofs.lemmas.Bool.{and_parts, both_ways, true≢false}
 use Rattle.std.specs.declared.cmp.Ordering.TheVariants.{Less, Equal}
-use Rattle.std.specs.Ordering.{is_eq, is_le}
+use Rattle.std.specs.Ordering.{is_eq}
 use Rattle.std.specs.List.{AllZip, Contains, filter}
 use Rattle.std.proofs.lemmas.Cmp.{tied_itself}
 use Rattle.std.proofs.lemmas.List.{append-nil}
@@ -22,14 +22,13 @@ use Rattle.itip_order.specs.declared.part.Part.{Part as Taken}
 use Rattle.itip_order.specs.declared.part.Slot as rust
 use Rattle.itip_order.proofs.Lists.{in_cons, in_head, in_tail, none_in_nil}
 use Rattle.itip_order.proofs.Order.{slot_total}
+use Rattle.itip_order.proofs.SlotEnds.{greatest_mapped, greatest_none}
 use Rattle.profile.specs.checker.Instances.{Key, Instance}
 use Rattle.profile.specs.events.EventComponents.{EventComponent}
-use Rattle.profile.specs.events.Occurrences.{Time}
-use Rattle.profile.specs.events.Placed.{IsAt, IsInstantIn}
-use Rattle.profile.specs.events.Properties.{BothOrNeither, Form, Fixed, Floating, WholeDay}
-use Rattle.profile.specs.events.ZonedTimes.{clock_of}
+use Rattle.profile.specs.events.Placed.{IsAt}
+use Rattle.profile.specs.events.Properties.{BothOrNeither}
 use Rattle.profile.specs.series.RoomZones.{IsRoomZone}
-use Rattle.profile.specs.series.Zones.{Zone, IsOneMeaning}
+use Rattle.profile.specs.series.Zones.{Zone}
 use Rattle.profile.specs.events.Starts.{ComesBefore, IsInstance, key_at}
 use Rattle.profile.specs.events.Confirmed.{alone, has_series, AreApart, AreOfRule, IsOfSeries}
 use Rattle.cal_events.specs.Series.{series_said, IsSeriesOf}
@@ -43,7 +42,7 @@ use Rattle.profile.specs.events.Events.{Event as Recurs, is_master}
 use Rattle.profile.specs.events.Messages as messages
 use Rattle.profile.specs.rooms.Messages as profile
 use Rattle.profile.specs.rooms.Messages.{AreGreatest, Content, IsPart, canonical, no_content, cancels, is_addressed, names_room, parts_for}
-use Rattle.profile.specs.rooms.Revisions.{Part, Slot, Body, Whole, Set, Absent, Cancelled, part_cmp, slot_cmp}
+use Rattle.profile.specs.rooms.Revisions.{Part, Slot, Body, Whole, Set, Absent, Cancelled, slot_cmp}
 use Rattle.profile.specs.rooms.Rooms as rooms
 use Rattle.profile.specs.rooms.Rooms.{is_set}
 use Rattle.profile.specs.streams.Streams.{AsksFor, IsClaim}
@@ -52,24 +51,18 @@ use Rattle.cal_events.specs.declared.instance.Single.{Single}
 use Rattle.room_books.specs.declared.claim.Claim.{Claim}
 use Rattle.room_books.specs.declared.claims.Asked.{Asked}
 use Rattle.room_books.specs.Claim.{is_of_whole}
-use Rattle.room_books.specs.Claims.{AreClaimed, AreClaimsOf, IsAskingIn, IsClaimOf}
+use Rattle.room_books.specs.Claims.{AreClaimed, AreClaimsOf, IsAskingIn}
 use Rattle.room_books.specs.Taking.{body_content, part_instance, claim_said, claims_said}
 use Rattle.room_books.specs.Room.{Pairwise, IsFitting, IsFittingSeries, IsText, IsOfSlot, SlotDated}
 use Rattle.itip_messages.proofs.shared_lemmas.BodyContents.{body_of}
-use Rattle.room_books.proofs.shared_lemmas.Loops.{zip_push, one_more}
+use Rattle.room_books.proofs.laws_lemmas.PlacedTwice.{slot_one}
+use Rattle.room_books.proofs.shared_lemmas.Loops.{zip_push}
 use Rattle.room_books.proofs.room_lemmas.Meetings.{is_of_from}
-use Rattle.room_books.proofs.shared_lemmas.Pairs.{map_at, map_from, pairs_from, pairs_map}
+use Rattle.room_books.proofs.shared_lemmas.Pairs.{map_at, map_from}
 
 pub if_ok : {T E : Type 0} (r : Result T E) (P Q : T → Type 0) → ((x : T) → P x → Q x) → IfOk r P → IfOk r Q
 if_ok (Ok x) P Q f p = f x p
 if_ok (Err e) P Q f p = tt
-
--- one more element of a loop
-pub zip_more : {X Y : Type 0} (R : X → Y → Type 0) (items all : List X) (i : ℕ) (x : X) (ys new : List Y) (y : Y) → items ≡ all → i < length items → x ≡ get_or items i x → new ≡ ys ++ y ∷ [] → AllZip R (take i all) ys → R x y → AllZip R (take (i + 1) all) new
-zip_more {X} {Y} R items all i x ys new y same h e is z r =
-    let old = subst (λ (l : List X). AllZip R (take i l) ys) (sym same) z in
-    subst (λ (l : List X). AllZip R (take (i + 1) l) new) same
-    (subst (λ (l : List X). AllZip R l new) (sym (one_more items i x h e)) (subst (λ (l : List Y). AllZip R (take i items ++ x ∷ []) l) (sym is) (zip_push R (take i items) ys x y old r)))
 
 -- what a part asks for with these instances and this series
 abbrev said : Part → List Single → Option Series → rooms.Claim
@@ -178,22 +171,6 @@ module _ (event : EventComponent) (timely : IsTimely event) (dated : IsDated (pr
       never_before_itself : (y : Instance) → ComesBefore y y → ⊥
       never_before_itself y (inl l) = omega (arith, ints, l)
       never_before_itself y (inr l) = let w : y.key.slot <ℤ y.key.slot = l.1 in omega (arith, ints, w)
-
--- ---- in a room
-
--- a time has one instant in a room
-instant_one : (zone : Option Zone) → IsOneMeaning (clock_of zone) → (form : Form) (t u v : ℤ) → IsInstantIn zone form t u → IsInstantIn zone form t v → u ≡ v
-instant_one here once Fixed t u v h k = h ∙ sym k
-instant_one here once Floating t u v h k = once t u v h k
-instant_one here once WholeDay t u v h k = once t u v h k
-
-slot_one : (zone : Option Zone) → IsOneMeaning (clock_of zone) → (w : Option Time) (a b : Option ℤ) → BothOrNeither (IsAt zone) w a → BothOrNeither (IsAt zone) w b → a ≡ b
-slot_one here once None None None h k = refl
-slot_one here once None None (Some b) h k = absurd k
-slot_one here once None (Some a) b h k = absurd h
-slot_one here once (Some w) None b h k = absurd h
-slot_one here once (Some w) (Some a) None h k = absurd k
-slot_one here once (Some w) (Some a) (Some b) h k = ap Some (instant_one here once w.form w.instant a b h k)
 
 -- ---- the claim of one component
 
@@ -384,27 +361,7 @@ module _ (room words : List ℕ) (zone : Option Zone) (means : IsRoomZone words 
     asks = known.asks;
   }
 
--- ---- the greatest of them
-
--- of what stands for parts the greatest stand for the greatest
-greatest_said : {X Y : Type 0} (f : X → Y) (of : Y → Part) (all kept : List X) → AreGreatest (λ x. of (f x)) all kept → AreGreatest of (map f all) (map f kept)
-greatest_said {X} {Y} f of all kept g = record {
-  among = λ y c. let found = map_at f kept y c in subst (Contains (map f all)) found.2 (map_from f all found.0 (g.among found.0 found.1));
-  greatest = λ y c.
-      let found = map_at f all y c in
-      let greater = g.greatest found.0 found.1 in (
-        f greater.0,
-        map_from f kept greater.0 greater.1,
-        subst (λ (z : Y). (of (f greater.0)).slot ≡ (of z).slot) found.2 greater.2,
-        subst (λ (z : Y). is_le (part_cmp (of z) (of (f greater.0))) ≡ true) found.2 greater.3,
-      );
-  order = pairs_from (λ (a b : Y). slot_cmp (of a).slot (of b).slot ≡ Less) (map f kept)
-      (pairs_map (λ (a b : Y). slot_cmp (of a).slot (of b).slot ≡ Less) f kept (pairs_to (λ (a b : X). slot_cmp (of (f a)).slot (of (f b)).slot ≡ Less) kept g.order));
-}
-  where
-    pairs_to : (R : X → X → Type 0) (xs : List X) → AllPairs R xs → Pairwise R xs
-    pairs_to R [] up = tt
-    pairs_to R (x ∷ xs) up = (λ y c. head_pairs R x y xs up c, pairs_to R xs (tail_pairs R x xs up))
+-- ---- those that are kept
 
 -- each is of another slot, so of another part
 claims_apart : (claims : List rooms.Claim) → AllPairs (λ (a b : rooms.Claim). slot_cmp a.part.slot b.part.slot ≡ Less) claims → Pairwise (λ (a b : rooms.Claim). a.part ≢ b.part) claims
@@ -493,7 +450,7 @@ module _ (room words : List ℕ) (zone : Option Zone) (means : IsRoomZone words 
       let own : (one : Taken × Asked) → Contains kept one → IsGood one = λ one k. each one (greatest.among one k) in
       let are : claims_said claims ≡ map claim_with kept = said_of kept claims made (λ one k. (own one k).whole) in
       let are_greatest : AreGreatest (λ (claim : rooms.Claim). claim.part) (map claim_with all) (claims_said claims) =
-      subst (AreGreatest (λ (claim : rooms.Claim). claim.part) (map claim_with all)) (sym are) (greatest_said claim_with (λ (claim : rooms.Claim). claim.part) all kept greatest) in
+      subst (AreGreatest (λ (claim : rooms.Claim). claim.part) (map claim_with all)) (sym are) (greatest_mapped (λ (claim : rooms.Claim). claim.part) claim_with all kept greatest) in
       let of_each : (P : rooms.Claim → Type 0) → ((one : Taken × Asked) → IsGood one → P (claim_with one)) → (x : rooms.Claim) → Contains (claims_said claims) x → P x =
       λ P h x k. let found = map_at claim_with kept x (subst (λ (l : List rooms.Claim). Contains l x) are k) in subst P found.2 (h found.0 (own found.0 found.1)) in
       let named : (x : rooms.Claim) → Contains (claims_said claims) x → (x.part.organiser ≡ address_octets message.organiser) × (x.part.uid ≡ text_octets message.uid) =
@@ -515,7 +472,7 @@ none_claimed room zone message given s h = record {
   are = record {
     all = [];
     each = subst (λ (l : List EventComponent). AllZip (IsClaim room zone given) l []) (sym (no_parts_for room message given s (sym (addressed room message given s) ∙ h))) tt;
-    are = record { among = λ x c. c; greatest = λ x c. absurd (none_in_nil x c); order = λ i j d l w. absurd (omega (arith, l, w)) };
+    are = greatest_none (λ (claim : rooms.Claim). claim.part);
   };
   fit = λ key claim c is. absurd (none_in_nil claim c);
 }
