@@ -55,13 +55,13 @@ OfLastOrOlder organiser stored room zone part = OfLast organiser stored room zon
 -- a CANCEL of the last store isn't for a room that this names
 of_store : (organiser room : List ℕ) (zone : Option Zone) (stored other : Stored) (part : Part) → is_called_off stored.events ≡ false → is_attendee room stored.events ≡ true → IsLastOr stored other
     → OfLast organiser other room zone part ⊎ IsCancelOf organiser other room part → OfLastOrOlder organiser stored room zone part
-of_store organiser room zone stored other part alive named (inl same) (inl (claim, is, of)) =
-    inl (claim, is, subst (λ (s : Stored). IsClaimOf organiser s room zone claim) same of)
-of_store organiser room zone stored other part alive named (inl same) (inr cancel) =
+of_store organiser room z stored other part alive named (inl same) (inl (claim, is, of)) =
+    inl (claim, is, subst (λ (s : Stored). IsClaimOf organiser s room z claim) same of)
+of_store organiser room z stored other part alive named (inl same) (inr cancel) =
     absurd (true≢false (sym named ∙ subst (λ (s : Stored). is_called_off s.events ≡ false → is_attendee room s.events ≡ false) same cancel.gone alive))
-of_store organiser room zone stored other part alive named (inr less) (inl (claim, is, of)) =
-    inr (subst (λ (r : Revision). r.sequence < stored.revision.sequence) (sym (claim_facts organiser other room zone claim of).of_revision ∙ ap (λ (p : Part). p.revision) is) less)
-of_store organiser room zone stored other part alive named (inr less) (inr cancel) =
+of_store organiser room z stored other part alive named (inr less) (inl (claim, is, of)) =
+    inr (subst (λ (r : Revision). r.sequence < stored.revision.sequence) (sym (claim_facts organiser other room z claim of).of_revision ∙ ap (λ (p : Part). p.revision) is) less)
+of_store organiser room z stored other part alive named (inr less) (inr cancel) =
     inr (subst (λ (p : Part). p.revision.sequence < stored.revision.sequence) (sym cancel.is) less)
 
 -- a Whole of a store that isn't called off isn't cancelled
@@ -217,10 +217,10 @@ module _ (laws : Laws) (rooms organisers : List (List ℕ)) (world : World) (sou
 -- the parts of these claims are those of the message
 parts_each : (room : List ℕ) (zone : Option Zone) (message : Message) (events : List EventComponent) (claims : List Claim) → AllZip (IsClaim room zone message) events claims
     → AllZip (λ event part. (content : Content) × IsPart room zone message event content part) events (map (λ c. c.part) claims)
-parts_each room zone message [] [] z = tt
-parts_each room zone message [] (c ∷ claims) z = absurd z
-parts_each room zone message (e ∷ events) [] z = absurd z
-parts_each room zone message (e ∷ events) (c ∷ claims) z = ((c.content, z.0.part), parts_each room zone message events claims z.1)
+parts_each room z message [] [] each = tt
+parts_each room z message [] (c ∷ claims) each = absurd each
+parts_each room z message (e ∷ events) [] each = absurd each
+parts_each room z message (e ∷ events) (c ∷ claims) each = ((c.content, each.0.part), parts_each room z message events claims each.1)
 
 abbrev part_of : Claim → Part
 part_of claim = claim.part

@@ -28,16 +28,16 @@ use Rattle.sched_laws.proofs.law_lemmas.SentClaims.{IsSentClaim, sent_claim}
 
 part_taken : (organisers : List HostedOrganiser) (room : List ℕ) (zone : Option Zone) (claim : Claim) → IsSentClaim organisers room zone claim
     → IsTakenPart organisers room zone claim.part
-part_taken organisers room zone claim (inl requested) =
+part_taken organisers room z claim (inl requested) =
     of_store_too organisers claim.part.organiser claim.part.uid _ _ requested.of_store (λ stored is. inl (claim, refl, is))
-part_taken organisers room zone claim (inr back) =
+part_taken organisers room z claim (inr back) =
     of_store_too organisers claim.part.organiser claim.part.uid _ _ back.of_store (λ stored is. inr is)
 
 -- what is to take place is of a REQUEST
 set_requested : (organisers : List HostedOrganiser) (room : List ℕ) (zone : Option Zone) (claim : Claim) → is_set claim.part ≡ true
     → IsSentClaim organisers room zone claim → OfStore organisers claim.part.organiser claim.part.uid (λ stored. IsClaimOf claim.part.organiser stored room zone claim)
-set_requested organisers room zone claim set (inl requested) = requested.of_store
-set_requested organisers room zone claim set (inr back) = absurd (true≢false (sym set ∙ back.unset))
+set_requested organisers room z claim set (inl requested) = requested.of_store
+set_requested organisers room z claim set (inr back) = absurd (true≢false (sym set ∙ back.unset))
 
 module _ (laws : Laws) (rooms organisers : List (List ℕ)) (octets to : List ℕ) (moment : ℤ) (message : Message) (before after : World)
     (sound : IsSound rooms organisers before) (was_sent : Contains before.sent octets) (spells : SpellsMessage octets message) (r : RoomSends to moment message before after) where

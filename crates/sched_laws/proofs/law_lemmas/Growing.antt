@@ -240,7 +240,7 @@ still_of_store before after grow organiser uid Holds o =
 
 module _ (before after : World) (grow : WorldGrows before after) where
   pub still_taken : (room : List ℕ) (zone : Option Zone) (part : Part) → IsTakenPart before.organisers room zone part → IsTakenPart after.organisers room zone part
-  still_taken room zone part t = still_of_store before.organisers after.organisers grow.organisers part.organiser part.uid _ t
+  still_taken room z part t = still_of_store before.organisers after.organisers grow.organisers part.organiser part.uid _ t
 
   pub still_given : (old new : Hosted) → RoomGrows old new → (answer : PartAnswer) → IsGiven before.organisers old answer → IsGiven after.organisers new answer
   still_given old new grows answer g =

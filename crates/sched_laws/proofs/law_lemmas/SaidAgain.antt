@@ -1,5 +1,5 @@
 -- What is said twice of one event says the same times: so it takes place alike in each room. Behind schedules_hold.
-use Rattle.std.proofs.Common.{◌≡◌, ◌∙◌, ℕ, [], filter, Option, Some, None, sym, List}
+use Rattle.std.proofs.Common.{◌≡◌, ◌∙◌, [], filter, Option, Some, None, sym, List}
 use Rattle.std.specs.Prelude.{unwrap_or}
 use Rattle.profile.specs.events.EventComponents.{Attendee, EventComponent, meeting_said}
 use Rattle.profile.specs.events.Occurrences.{Time}

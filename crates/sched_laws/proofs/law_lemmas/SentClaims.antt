@@ -156,6 +156,6 @@ taken_back organisers message room zone claims claim o are among =
 
 pub sent_claim : (world : World) (octets : List ℕ) (message : Message) (room : List ℕ) (zone : Option Zone) (claims : List Claim) (claim : Claim) → SaysSent world octets message
     → SpellsMessage octets message → is_to_rooms message.method ≡ true → AreClaims room zone message claims → Contains claims claim → IsSentClaim world.organisers room zone claim
-sent_claim world octets message room zone claims claim (a_request request o) spells to_rooms are among = inl (request_claim world.organisers octets message room zone claims claim request o spells are among)
-sent_claim world octets message room zone claims claim (a_cancel o) spells to_rooms are among = inr (taken_back world.organisers message room zone claims claim o are among)
-sent_claim world octets message room zone claims claim (a_reply reply heard) spells to_rooms are among = absurd (true≢false (sym to_rooms ∙ ap is_to_rooms reply))
+sent_claim world octets message room z claims claim (a_request request o) spells to_rooms are among = inl (request_claim world.organisers octets message room z claims claim request o spells are among)
+sent_claim world octets message room z claims claim (a_cancel o) spells to_rooms are among = inr (taken_back world.organisers message room z claims claim o are among)
+sent_claim world octets message room z claims claim (a_reply reply heard) spells to_rooms are among = absurd (true≢false (sym to_rooms ∙ ap is_to_rooms reply))

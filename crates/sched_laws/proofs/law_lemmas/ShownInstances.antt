@@ -6,7 +6,7 @@ use Rattle.std.specs.List.{AllZip, list_all, list_any}
 use Rattle.std.specs.Ordering.{is_eq, is_gt}
 use Rattle.std.proofs.lemmas.Bool.{and_from, and_parts, false_from_ne_true, not_from_false, or_cases, true≢false}
 use Rattle.profile.specs.checker.Instances.{Instance, Key}
-use Rattle.profile.specs.events.Confirmed.{AreConfirmed, IsConfirmed, AreOfRule, IsInstanceAmong, IsOfSeries, IsSeries, MastersDiffer, OverridesDiffer, IsReplacedAmong, alone, has_series, is_kept, is_series}
+use Rattle.profile.specs.events.Confirmed.{AreOfRule, IsInstanceAmong, IsOfSeries, IsSeries, IsReplacedAmong, alone, has_series, is_kept, is_series}
 use Rattle.profile.specs.events.EventComponents.{Attendee, EventComponent, has_accepted, meeting_said}
 use Rattle.profile.specs.events.Events.{Event, is_master}
 use Rattle.profile.specs.events.Placed.{IsPlaced}

@@ -47,15 +47,15 @@ pub record IsShownText (world : World) (octets : List ℕ) : Type 0 where
 -- what lines say in a room is what they say, placed there
 placed_each : Laws → (zone : Option Zone) (tree : Tree) (lines : List (List (List ℕ))) (said placed : List EventComponent) → AllZip (SaysEventComponent tree None) lines said
     → AllZip (SaysPlaced zone tree None) lines placed → AllZip (IsPlaced zone) said placed
-placed_each laws zone tree [] [] [] says there = tt
-placed_each laws zone tree [] [] (p ∷ placed) says there = absurd there
-placed_each laws zone tree [] (s ∷ said) placed says there = absurd says
-placed_each laws zone tree (l ∷ lines) [] placed says there = absurd says
-placed_each laws zone tree (l ∷ lines) (s ∷ said) [] says there = absurd there
-placed_each laws zone tree (l ∷ lines) (s ∷ said) (p ∷ placed) says there =
+placed_each laws z object [] [] [] says there = tt
+placed_each laws z object [] [] (p ∷ placed) says there = absurd there
+placed_each laws z object [] (s ∷ said) placed says there = absurd says
+placed_each laws z object (l ∷ lines) [] placed says there = absurd says
+placed_each laws z object (l ∷ lines) (s ∷ said) [] says there = absurd there
+placed_each laws z object (l ∷ lines) (s ∷ said) (p ∷ placed) says there =
     let (event, same, is) = there.0 in (
-      subst (λ (e : EventComponent). IsPlaced zone e p) (laws.event tree None l event s same says.0) is,
-      placed_each laws zone tree lines said placed says.1 there.1,
+      subst (λ (e : EventComponent). IsPlaced z e p) (laws.event object None l event s same says.0) is,
+      placed_each laws z object lines said placed says.1 there.1,
     )
 
 pub shown_text : Laws → (rooms organisers : List (List ℕ)) (world : World) → IsSound rooms organisers world → (octets : List ℕ) → IsText world octets → IsShownText world octets

@@ -1,6 +1,5 @@
 -- What a store has for a room in a slot is one part. Behind schedules_hold.
 use Rattle.std.proofs.Common.{◌≡◌, ◌∙◌, ℕ, List, Option, refl, sym, ap, subst}
-use Rattle.std.specs.Prelude.{Contains}
 use Rattle.std.proofs.lemmas.Bool.{true≢false}
 use Rattle.std.proofs.lemmas.Option.{same_Some}
 use Rattle.profile.specs.events.EventComponents.{EventComponent, Method}
@@ -34,7 +33,7 @@ one_body room method event ca cb one Cancelled Cancelled h k = refl
 
 one_part : (room : List ℕ) (zone : Option Zone) (message : Message) (event : EventComponent) (ca cb : Content) → (IsContent ca event → IsContent cb event → ca ≡ cb)
     → (a b : Part) → a.slot ≡ b.slot → IsPart room zone message event ca a → IsPart room zone message event cb b → a ≡ b
-one_part room zone message event ca cb one a b slot p q =
+one_part room z message event ca cb one a b slot p q =
     let organiser = same_Some a.organiser b.organiser (sym p.organiser ∙ q.organiser) in
     let uid = p.uid ∙ sym q.uid in
     let revision = p.revision ∙ sym q.revision in
@@ -54,7 +53,7 @@ one_of_message laws organiser stored room zone sent fixed spells a b f g same =
 
 -- what was sent of a store names its instances as that does
 sent_fixed : (organiser : List ℕ) (stored : Stored) (room : List ℕ) (zone : Option Zone) (claim : Claim) (c : IsClaimOf organiser stored room zone claim) → AreNamedFixed c.sent
-sent_fixed organiser stored room zone claim c said among =
+sent_fixed organiser stored room z claim c said among =
     let (event, there, again) = zip_back (IsSentAs stored.revision) stored.events c.sent said c.each among in
     again_fixed HasNoAnswer stored.revision event said again (c.fixed event there)
 
