@@ -1,19 +1,22 @@
 -- Worked examples of worlds and of what holds in them: what a step does, what it leaves as it is, and which part of a meeting is booked.
-use Rattle.std.proofs.Common.{◌≡◌, ◌≢◌, ◌∙◌, ℕ, zero, suc, ℤ, pos, negsuc, unsigned_abs, Bool, true, false, List, [], ◌∷◌, ◌++◌, codes, length, Option, None, Some, is_some, inl, inr, refl, sym, ap, subst, lit<, arith, append-nil}
+use Rattle.std.proofs.Common.{◌≡◌, ◌≢◌, ◌∙◌, ℕ, zero, suc, ℤ, pos, negsuc, unsigned_abs, ◌+ℤ◌, ◌≤ℤ◌, ◌<ℤ◌, Bool, true, false, List, [], ◌∷◌, ◌++◌, codes, length, Option, None, Some, is_some, inl, inr, refl, sym, ap, subst, lit<, arith, append-nil}
 use Rattle.std.specs.Prelude.{Contains, if◌then◌else◌}
 use Rattle.std.specs.Fmt.{digits}
 use Rattle.std.specs.List.{AllZip}
 use Rattle.std.specs.Str.{bytes_eq}
 use Rattle.std.proofs.lemmas.Bool.{false≢true, true≢false}
 use Rattle.std.proofs.lemmas.Int.{ints}
+use Rattle.std.proofs.lemmas.List.Elements.{All-from_recursion}
 use Rattle.std.proofs.lemmas.Option.{same_Some}
 use Rattle.std.proofs.lemmas.Slice.Eq.{bytes_eq-Decides}
-use Rattle.profile.specs.checker.Instances.{Instance}
+use Rattle.profile.specs.checker.Instances.{Instance, horizon}
+use Rattle.profile.specs.events.Confirmed.{IsOfSeries, alone}
 use Rattle.profile.specs.events.EventComponents.{Accepted, EventComponent, Method, NeedsAction, Reply, Request, is_accepted}
 use Rattle.profile.specs.events.Messages.{Message, SpellsMessage, master_in}
 use Rattle.profile.specs.events.Placed.{IsPlaced}
-use Rattle.profile.specs.events.Properties.{Fixed, Floating, Form}
-use Rattle.profile.specs.events.ZonedTimes.{SpellsMidnight}
+use Rattle.profile.specs.events.Properties.{Fixed, Floating, Form, first_second}
+use Rattle.profile.specs.events.Starts.{IsInstance, key_at}
+use Rattle.profile.specs.events.ZonedTimes.{EventTimes, SpellsMidnight, clock_of}
 use Rattle.profile.specs.organisers.Organisers.{Heard, IsSeen, IsSeenOf, Stored, empty_organiser}
 use Rattle.profile.specs.rooms.Kept.{IsKeptCalendar, room_zone_lines}
 use Rattle.profile.specs.rooms.Messages.{Accept, AreParts, Busy, Content, IsContent, IsPart, IsSlotIn, Outcome, WritesListed, WritesTimes, opening_lines, parts_for, revision_beside}
@@ -23,12 +26,14 @@ use Rattle.profile.specs.series.Days.{days_before_year, days_of_months}
 use Rattle.profile.specs.series.RoomZones.{IsRoomZone}
 use Rattle.profile.specs.series.Zones.{Constant, Means, Zone}
 use Rattle.profile.specs.streams.Schedules.{HasBooked, IsBooked, SeenIsBooked, SeesBooked}
-use Rattle.profile.specs.streams.Streams.{Hosted, HostedOrganiser, TakesMessage, ZonedRoom, in_utc, new_room}
+use Rattle.profile.specs.streams.Streams.{AsksFor, Hosted, HostedOrganiser, TakesMessage, ZonedRoom, in_utc, new_room}
 use Rattle.profile.specs.streams.Worlds.{Delivering, Delivers, IsWorldStep, Storing, World, new_world, no_organiser, no_room, nobody, other_organiser, refused_answer}
 use Rattle.profile.specs.text.Lines.{written}
 use Rattle.profile.specs.text.Values.{WritesLocal, WritesStamp}
 use Rattle.cal_events.proofs.shared_lemmas.Meanings.{utc_means}
 use Rattle.cal_zones.proofs.RoomZoneLemmas.{offset_said}
+use Rattle.cal_events.proofs.shared_lemmas.OwnSingles.{master_alone}
+use Rattle.itip_order.proofs.Lists.{none_in_nil}
 use Rattle.itip_order.proofs.Registers.{part_le_refl}
 
 abbrev ann : List ℕ
@@ -330,43 +335,85 @@ taken_late = record { taken = part 1 ∷ part 0 ∷ []; answers = given 1 Accept
 -- ---- in a room of another zone
 
 -- the same meeting on whatever clocks there are: it starts at their second 100
-abbrev floating : EventComponent
-floating = record (meeting 0) {
-  times = record { form = Floating; zone = None; local = pos 100; start = pos 100; length = record { days = 0; seconds = 1 } };
-}
+abbrev times_at : Option Zone → ℤ → EventTimes
+times_at zone start = record { form = Floating; zone = zone; local = pos 100; start = start; length = record { days = 0; seconds = 1 } }
 
--- five hours behind, that is second 18,100
+abbrev floating : EventComponent
+floating = record (meeting 0) { times = times_at None (pos 100) }
+
+-- where that is this second
+module _ (zone : Option Zone) (start : ℤ) (means : Means (clock_of zone) (pos 100) start) (from : first_second ≤ℤ start) (to : start <ℤ horizon) where
+  abbrev there : EventComponent
+  there = record floating { times = times_at zone start }
+
+  abbrev held : Instance
+  held = record { key = record { organiser = ann; uid = codes "s"; slot = start }; start = start; end = start +ℤ pos 1 }
+
+  is_there : IsPlaced zone floating there
+  is_there = record {
+    start = start;
+    recurrence = None;
+    additions = [];
+    exceptions = [];
+    starts = means;
+    slot = tt;
+    adds = tt;
+    takes = tt;
+    is = refl;
+  }
+
+  is_held : IsInstance (alone there) held
+  is_held = inl (record {
+    master = there;
+    is = refl;
+    starts = record {
+      given = inl refl;
+      in_dates = (from, to);
+      not_excepted = λ c. absurd (none_in_nil start c);
+      not_replaced = λ r. absurd (none_in_nil r.override r.among);
+    };
+    key = refl;
+    ends = (start, inl (refl, refl), refl);
+  })
+
+  only_held : (b : Instance) → IsInstance (alone there) b → held ≡ b
+  only_held b is =
+      let own = master_alone there b refl is in
+      let starts : start ≡ b.start = elim own.starts.given [ inl given ↦ sym given | inr added ↦ absurd (none_in_nil b.start added) ] in
+      let ends : b.start +ℤ pos 1 ≡ b.end = elim own.ends.1 [
+        | inl (none, same) ↦ ap (λ (t : ℤ). t +ℤ pos 1) (sym same) ∙ sym own.ends.2
+        | inr (some, later) ↦ absurd (omega (arith, some))
+      ] in
+      let key : key_at there start ≡ b.key = ap (key_at there) starts ∙ sym own.key in
+      let end : start +ℤ pos 1 ≡ b.end = ap (λ (t : ℤ). t +ℤ pos 1) starts ∙ ends in
+      λ i. record { key = key i; start = starts i; end = end i }
+
+  -- it is all that is asked for
+  asks : AsksFor true zone floating (record { part = part 0; content = content; singles = held ∷ []; series = None })
+  asks = (
+    there,
+    is_there,
+    record {
+      each = All-from_recursion (λ (b : Instance). IsInstance (alone there) b × (IsOfSeries there b → ⊥)) (held ∷ []) ((is_held, λ s. cc), tt);
+      ordered = λ i j d l w. absurd (omega (arith, l, w));
+      all = λ b is apart. (0, lit< tt, only_held b is);
+    },
+    refl,
+  )
+
+-- in a room that goes by UTC it is asked for second 100,
+asks_in_utc : AsksFor true None floating (record { part = part 0; content = content; singles = booked ∷ []; series = None })
+asks_in_utc = asks None (pos 100) (utc_means (pos 100)) (omega (arith, ints)) (omega (arith, ints))
+
+-- and five hours behind for second 18,100
 late_start : Means (Constant (negsuc 17_999)) (pos 100) (pos 18_100)
 late_start = inl (record { shown = (negsuc 17_999, refl, omega (arith, ints)); least = λ other (offset, e, h). omega (arith, ints, e, h) })
 
-late : IsPlaced behind.zone floating (record floating {
-  times = record { form = Floating; zone = behind.zone; local = pos 100; start = pos 18_100; length = record { days = 0; seconds = 1 } };
-})
-late = record {
-  start = pos 18_100;
-  recurrence = None;
-  additions = [];
-  exceptions = [];
-  starts = late_start;
-  slot = tt;
-  adds = tt;
-  takes = tt;
-  is = refl;
-}
+abbrev booked_late : Instance
+booked_late = record { key = record { organiser = ann; uid = codes "s"; slot = pos 18_100 }; start = pos 18_100; end = pos 18_101 }
 
--- and in a room that goes by UTC it is as it is written
-as_it_is_written : IsPlaced None floating floating
-as_it_is_written = record {
-  start = pos 100;
-  recurrence = None;
-  additions = [];
-  exceptions = [];
-  starts = utc_means (pos 100);
-  slot = tt;
-  adds = tt;
-  takes = tt;
-  is = refl;
-}
+asks_behind : AsksFor true behind.zone floating (record { part = part 0; content = content; singles = booked_late ∷ []; series = None })
+asks_behind = asks behind.zone (pos 18_100) late_start (omega (arith, ints)) (omega (arith, ints))
 
 -- an instance that is named by a floating time is another one in each of them,
 abbrev named : Form → ℤ → EventComponent
