@@ -13,17 +13,18 @@ use Rattle.profile.specs.events.EventComponents.{Accepted, EventComponent, Reque
 use Rattle.profile.specs.events.Events.{is_master}
 use Rattle.profile.specs.events.Messages.{Message}
 use Rattle.profile.specs.organisers.Organisers.{Heard, IsLatestOf, IsSeenOf, Stored, answers_store, is_attendee, is_called_off, last_store}
-use Rattle.profile.specs.rooms.Messages.{AreGreatest, Content, IsBody, IsPart, parts_for, slot_named, slot_of}
+use Rattle.profile.specs.rooms.Messages.{Content, IsBody, IsPart, parts_for, slot_named, slot_of}
 use Rattle.profile.specs.rooms.Revisions.{Absent, Body, Cancelled, Part, Revision, Set, Slot, Whole, body_cmp, implies, in_view, is_cancelled, is_greatest, is_whole, leaves_in_view, part_cmp, revision_cmp, same_place, slot_cmp, stays_beside}
 use Rattle.profile.specs.rooms.Rooms.{Claim, PartAnswer, is_accept, is_set}
 use Rattle.profile.specs.series.Zones.{Zone}
 use Rattle.profile.specs.streams.Schedules.{HasBooked, SeenIsBooked}
 use Rattle.profile.specs.streams.Streams.{Hosted, HostedOrganiser, IsClaim}
 use Rattle.profile.specs.streams.Worlds.{World}
-use Rattle.cal_events.proofs.shared_lemmas.InOneOrder.{in_mapped, of_filtered, of_mapped, pairs_mapped}
+use Rattle.cal_events.proofs.shared_lemmas.InOneOrder.{in_mapped, of_filtered}
 use Rattle.itip_messages.specs.SentLaw.{request_of}
 use Rattle.itip_order.proofs.Lists.{all_from, any_from}
 use Rattle.itip_order.proofs.Order.{is_eq_true, revision_total, slot_same}
+use Rattle.itip_order.proofs.SlotEnds.{greatest_mapped}
 use Rattle.itip_order.proofs.Registers.{greatest_from, implies_from, part_le_refl}
 use Rattle.room_books.proofs.laws_lemmas.KeptEntries.{meeting_there, place_there}
 use Rattle.sched_laws.proofs.law_lemmas.ClaimFacts.{claim_facts}
@@ -225,19 +226,6 @@ parts_each room z message (e ∷ events) (c ∷ claims) each = ((c.content, each
 abbrev part_of : Claim → Part
 part_of claim = claim.part
 
--- and the greatest of each slot those of the claims that are kept
-greatest_parts : (all claims : List Claim) → AreGreatest part_of all claims → AreGreatest (λ part. part) (map part_of all) (map part_of claims)
-greatest_parts all claims g = record {
-  among = λ part c. let (claim, there, is) = of_mapped part_of claims part c in
-      subst (Contains (map part_of all)) is (in_mapped part_of all claim (g.among claim there));
-  greatest = λ part c.
-      let (claim, there, is) = of_mapped part_of all part c in
-      let (other, kept, slot, most) = g.greatest claim there in
-      subst (λ (p : Part). (q : Part) × Contains (map part_of claims) q × (q.slot ≡ p.slot) × (is_le (part_cmp p q) ≡ true)) is
-      (other.part, in_mapped part_of claims other kept, slot, most);
-  order = pairs_mapped (λ (a b : Part). slot_cmp a.slot b.slot ≡ Less) part_of claims g.order;
-}
-
 has_booked : (organiser uid : List ℕ) (stored : Stored) (room : Hosted) (slot : Slot) → stored.uid ≡ uid → IsBookedFor organiser stored room slot
     → HasBooked organiser uid room slot stored.object
 has_booked organiser uid stored room slot of_uid b =
@@ -253,7 +241,7 @@ has_booked organiser uid stored room slot of_uid b =
       are = record {
         all = map part_of c.are.all;
         each = parts_each room.address room.zone message (parts_for room.address message) c.are.all c.are.each;
-        are = greatest_parts c.are.all c.claims c.are.are;
+        are = greatest_mapped (λ (part : Part). part) part_of c.are.all c.claims c.are.are;
       };
       part = b.answer.claim.part;
       among = in_mapped part_of c.claims b.answer.claim c.among;
