@@ -6,6 +6,7 @@ use Rattle.std.specs.Str.{bytes_eq}
 use Rattle.std.proofs.Math.ListN.{drop_of_length-le}
 use Rattle.std.proofs.lemmas.List.{append_assoc, append-nil, length-map}
 use Rattle.std.proofs.lemmas.Bool.{and_parts}
+use Rattle.std.proofs.lemmas.List.Elements.{All-map}
 use Rattle.std.proofs.lemmas.List.Folds.{Any-from_list_any, list_any-from_Any}
 use Rattle.std.proofs.lemmas.Slice.Eq.{bytes_eq-Decides}
 use Rattle.ical_values.specs.Octets.{address_octets}
@@ -16,8 +17,9 @@ use Rattle.ical_lines.specs.declared.fault.Fault.TheVariants.{Refused}
 use Rattle.ical_lines.specs.declared.fault.Refusal.{Refusal}
 use Rattle.cal_zones.specs.RoomZones.{room_of, words_of}
 use Rattle.cal_zones.specs.declared.room_zone.RoomZone.{RoomZone}
+use Rattle.cal_zones.proofs.RoomZoneLemmas.{room_means}
 use Rattle.profile.specs.series.RoomZones.{IsRoomZone, IsNoRoomZone}
-use Rattle.profile.specs.streams.Streams.{ZonedRoom, addresses, in_utc, room_in}
+use Rattle.profile.specs.streams.Streams.{AreInZones, ZonedRoom, addresses, in_utc, room_in}
 use Rattle.profile.specs.text.Values.{IsAddress}
 use Rattle.sched_box.specs.Settings.{SaysZone, are_of_rooms, zoned_room}
 use Rattle.sched_box.specs.declared.settings.ZonedRoom.{ZonedRoom as OwnRoom}
@@ -134,6 +136,10 @@ zone_given zones a zone is = ap (λ o. unwrap_or o (in_utc a)) is
 pub zone_utc : (zones : List OwnRoom) (a : List ℕ) (zone : RoomZone) → None ≡ room_at a zones → words_of zone ≡ codes "+0000" → room_of zone ≡ None
     → record { address = a; words = words_of zone; zone = room_of zone } ≡ room_in (map zoned_room zones) a
 zone_utc zones a zone is words own = (λ i. record { address = a; words = words i; zone = own i }) ∙ ap (λ o. unwrap_or o (in_utc a)) is
+
+-- the words of each room mean its zone
+pub in_zones : (rooms : List OwnRoom) → AreInZones (map zoned_room rooms)
+in_zones rooms = All-map (λ room. IsRoomZone room.words room.zone) zoned_room rooms (λ k d l. room_means (get_or rooms k d).zone)
 
 -- ---- each zone is of a room
 
