@@ -1,44 +1,35 @@
--- The events of a message: what is known of each, and their order by slots.
+-- The events of a message: what is known of each.
 -- Cited by Message::of.
-use Rattle.std.proofs.Common.{◌≡◌, ◌≢◌, ◌∙◌, ℕ, ◌≤◌, Bool, true, false, not, cond, List, [], ◌∷◌, length, map, filter, get_or, refl, sym, ap, subst, inl, inr, codes, arith, pos, ◌*ℤ◌, ◌+ℤ◌, ◌<◌, ℤ, Option, Some, None, is_some, Ordering}
-use Rattle.std.specs.Prelude.{Contains, All, AllPairs, unwrap_or}
+use Rattle.std.proofs.Common.{◌≡◌, ◌∙◌, ℕ, Bool, true, false, List, [], ◌∷◌, get_or, refl, sym, ap, subst, inl, inr, codes, arith, pos, ◌*ℤ◌, ◌+ℤ◌, ◌<◌, ℤ, Option, Some, None, is_some}
+use Rattle.std.specs.Prelude.{Contains, All, unwrap_or}
 use Rattle.std.specs.List.{AllZip}
-use Rattle.std.specs.List.Sorted.{IsPermutation, IsSortedByKey}
-use Rattle.std.specs.declared.cmp.Ordering.TheVariants.{Less, Equal, Greater}
-use Rattle.std.specs.Ordering.{is_lt, is_eq, ordering_reverse}
 use Rattle.std.proofs.lemmas.Bool.{true≢false}
 use Rattle.std.proofs.lemmas.Option.{same_Some}
-use Rattle.std.proofs.lemmas.List.Elements.{All-contains, All-map, All-cons, All-nil}
-use Rattle.std.proofs.lemmas.List.Kept.{AllPairs-filter}
-use Rattle.std.proofs.lemmas.List.Sorted.{IsPermutation-map, IsPermutation-sym, Contains-permutation, ranks_by, sorted_far}
+use Rattle.std.proofs.lemmas.List.Elements.{All-contains, All-map, All-cons, All-nil, Contains-get_or}
+use Rattle.std.proofs.lemmas.Int.{ints}
 use Rattle.profile.specs.text.Trees.{Tree, vevents}
-use Rattle.profile.specs.events.EventComponents.{Method, Store, Request, Add, Cancel, Reply, Refresh, EventComponent as SaidComponent, SaysEventComponent, may_lack_start}
+use Rattle.profile.specs.events.EventComponents.{AreOfWritten, Method, Store, Request, Add, Cancel, Reply, Refresh, EventComponent as SaidComponent, SaysEventComponent, may_lack_start}
 use Rattle.profile.specs.events.Properties.{BothOrNeither, Form, Fixed, Floating, WholeDay}
 use Rattle.profile.specs.events.Occurrences.{ListedTime, Time, IsInside, IsListed}
 use Rattle.profile.specs.events.ZonedTimes.{EventTimes, SaysTimes, SpellsForm, SpellsMidnight, IsInDates, clock_of, is_in_zone}
 use Rattle.profile.specs.series.Zones.{Means, Zone}
 use Rattle.profile.specs.text.Lines.{line_param, line_value}
 use Rattle.profile.specs.text.Values.{IsClockSeconds, SpellsDate, SpellsLocal}
-use Rattle.profile.specs.events.Events.{as_added, taken_by, is_master, is_override, InstancesDiffer}
+use Rattle.profile.specs.events.Events.{as_added, taken_by}
 use Rattle.profile.specs.events.Messages.{Message, SaysMessage}
-use Rattle.profile.specs.rooms.Messages.{AreBySlot, may_take, slot_of, slot_named}
-use Rattle.profile.specs.rooms.Revisions.{Slot, Whole, At, slot_cmp}
-use Rattle.itip_order.proofs.Order.{slot_total}
-use Rattle.std.specs.FinMap.{int_cmp-IsAntisymmetric}
-use Rattle.cal_events.proofs.shared_lemmas.InOneOrder.{of_mapped, in_filtered, of_filtered, cons_pairs, head_pairs, tail_pairs, pairs_mapped, mapped_pairs}
-use Rattle.cal_events.proofs.draft_lemmas.KeyLemmas.{pairs_permutation}
-use Rattle.cal_events.specs.Component.{component_of}
-use Rattle.cal_events.specs.declared.component.EventComponent.{EventComponent}
-use Rattle.std.proofs.lemmas.Int.{ints}
+use Rattle.profile.specs.rooms.Messages.{may_take, slot_of, slot_named}
 use Rattle.cal_events.specs.MeetingComponents.{IsInEventDates}
+use Rattle.cal_events.specs.Said.{IsWritten}
+use Rattle.cal_events.proofs.shared_lemmas.InOneOrder.{of_filtered}
+use Rattle.cal_events.proofs.shared_lemmas.InRooms.{IsTakenFrom, taken_from, taken_is_written, taken_of_written, taken_slot_in_dates}
 use Rattle.cal_events.proofs.shared_lemmas.OneInstance.{event_sound}
 use Rattle.cal_events.proofs.shared_lemmas.Meanings.{utc_instant}
 use Rattle.cal_events.proofs.shared_lemmas.SeriesLemmas.{zip_back}
 use Rattle.itip_messages.specs.Body.{IsMidnight, IsReady, IsShowable, IsWholeIn, StartIsWhole}
+use Rattle.itip_messages.specs.MessageEvents.{AreMessageEvents, IsDated, IsDatedEach}
 use Rattle.itip_messages.specs.SentLaw.{time_as}
 use Rattle.itip_messages.proofs.body_lemmas.TimeLists.{dates_start, start_dates}
 use Rattle.itip_messages.proofs.shared_lemmas.RuleBack.{clock_second, date_count, date_low, rule_told}
-use Rattle.itip_messages.specs.Components.{AreInOrder, AreMessageEvents, IsDated, event_slot}
 
 abbrev Lines : Type 0
 Lines = List (List ℕ)
@@ -174,47 +165,23 @@ taken_all Q Cancel es a b = a
 taken_all Q Reply es a b = a
 taken_all Q Refresh es a b = a
 
--- ---- no two are of one slot
-
-same_instant : (a b : Option ℤ) → slot_named a ≡ slot_named b → a ≡ b
-same_instant None None e = refl
-same_instant None (Some t) e = cc
-same_instant (Some t) None e = cc
-same_instant (Some t) (Some u) e = ap Some (same_At t u e)
-  where
-    instant : ℤ → Slot → ℤ
-    instant d Whole = d
-    instant d (At t) = t
-
-    same_At : (t u : ℤ) → At t ≡ At u → t ≡ u
-    same_At t u e = ap (instant t) e
-
-slots_differ : (es : List SaidComponent) → length (filter is_master es) ≤ 1 → InstancesDiffer (filter is_override es) → AllPairs ◌≢◌ (map slot_of es)
-slots_differ [] few differ = λ i j d l w. absurd (omega (arith, l, w))
-slots_differ (e ∷ es) few differ = by (is_override e) refl few differ (λ f d. slots_differ es f d)
-  where
-    by : (b : Bool) → is_override e ≡ b → length (cond (not b) (e ∷ (filter is_master es)) (filter is_master es)) ≤ 1 → InstancesDiffer (cond b (e ∷ (filter is_override es)) (filter is_override es))
-        → (length (filter is_master es) ≤ 1 → InstancesDiffer (filter is_override es) → AllPairs ◌≢◌ (map slot_of es)) → AllPairs ◌≢◌ (slot_of e ∷ map slot_of es)
-    by true is few differ rest =
-        cons_pairs ◌≢◌ (slot_of e) (map slot_of es)
-        (λ s c same.
-        let found = of_mapped slot_of es s c in
-        let x = found.0 in
-        let at : e.recurrence ≡ x.recurrence = same_instant e.recurrence x.recurrence (same ∙ sym found.2) in
-        let there : Contains (filter is_override es) x = in_filtered is_override es x found.1 (sym (ap (λ (o : Option ℤ). is_some o) at) ∙ is) in
-        head_pairs (λ (a b : SaidComponent). a.recurrence ≢ b.recurrence) e x (filter is_override es) (mapped_pairs ◌≢◌ (λ (y : SaidComponent). y.recurrence) (e ∷ (filter is_override es)) differ) there at)
-        (rest few (tail_pairs ◌≢◌ e.recurrence (map (λ (y : SaidComponent). y.recurrence) (filter is_override es)) differ))
-    by false is few differ rest =
-        cons_pairs ◌≢◌ (slot_of e) (map slot_of es)
-        (λ s c same.
-        let found = of_mapped slot_of es s c in
-        let x = found.0 in
-        let at : e.recurrence ≡ x.recurrence = same_instant e.recurrence x.recurrence (same ∙ sym found.2) in
-        let there : Contains (filter is_master es) x = in_filtered is_master es x found.1 (ap not (sym (ap (λ (o : Option ℤ). is_some o) at) ∙ is)) in
-        absurd (omega (arith, few, there.1)))
-        (rest (omega (arith, few)) differ)
-
 -- ---- what is known of the events of a message
+
+-- some VEVENT says each, as the METHOD takes it
+of_vevent : (object : Tree) (message : Message) → SaysMessage object message → (event : SaidComponent) → Contains message.events event → IsTakenFrom object (Some message.method) (vevents object) event
+of_vevent object message s =
+    taken_from object (Some message.method) (vevents object) message.events (record {
+      said = s.events;
+      says = s.says;
+      taken = s.taken;
+      some = s.are.some;
+      one = λ a b c d. s.are.of_it a c ∙ sym (s.are.of_it b d);
+      masters = s.are.masters;
+      differ = s.are.differ;
+    })
+
+each_so : (P : SaidComponent → Type 0) (es : List SaidComponent) → ((e : SaidComponent) → Contains es e → P e) → All P es
+each_so P es h k d w = h (get_or es k d) (Contains-get_or es k d w)
 
 pub of_message : (object : Tree) (message : Message) → SaysMessage object message → AreMessageEvents message.events
 of_message object message s =
@@ -223,14 +190,18 @@ of_message object message s =
     let given_organiser = organised object m vs s.events s.says in
     let given_stamp = stamped object m vs s.events s.says in
     let all_ready = ready object m vs s.events s.says in
+    let from = of_vevent object message s in
     record {
       some = s.are.some;
       organised = subst (All (λ (e : SaidComponent). is_some e.organiser ≡ true)) (sym s.taken) (taken_all (λ e. is_some e.organiser ≡ true) m s.events given_organiser given_organiser);
       stamped = subst (All (λ (e : SaidComponent). is_some e.stamp ≡ true)) (sym s.taken) (taken_all (λ e. is_some e.stamp ≡ true) m s.events given_stamp given_stamp);
       dated = subst (All (λ (e : SaidComponent). IsDated (slot_of e))) (sym s.taken)
           (taken_all (λ e. IsDated (slot_of e)) m s.events (dated object m vs s.events s.says) (starts_dated object m vs s.events s.says));
+      dated_each = each_so IsDatedEach message.events (λ e c words zone named slot is.
+          subst IsDated (sym is.2) (in_stamps is.0 (λ t at. taken_slot_in_dates object (Some m) vs e (from e c) words zone named is.0 t is.1 at)));
       ready = subst (All IsReady) (sym s.taken) (taken_all IsReady m s.events all_ready (ready_added s.events all_ready));
-      differ = slots_differ message.events s.are.masters s.are.differ;
+      written = each_so IsWritten message.events (λ e c. taken_is_written object (Some m) vs e (from e c));
+      instants = each_so (λ e. AreOfWritten e.written e.recurrence e.additions e.exceptions) message.events (λ e c. taken_of_written object (Some m) vs e (from e c));
     }
 
 -- each has its ORGANIZER
@@ -242,60 +213,3 @@ of_organiser object message s event c =
     there : (o : Option (List ℕ)) → is_some o ≡ true → unwrap_or o [] ≡ message.organiser → o ≡ Some message.organiser
     there None h e = absurd (true≢false (sym h))
     there (Some x) h e = ap Some e
-
--- ---- in the order of slots
-
-slot_exact : (a b : Slot) → slot_cmp a b ≡ Equal → a ≡ b
-slot_exact Whole Whole e = refl
-slot_exact Whole (At b) e = absurd (true≢false (sym (ap is_eq e)))
-slot_exact (At a) Whole e = absurd (true≢false (sym (ap is_eq e)))
-slot_exact (At a) (At b) e = ap At (int_cmp-IsAntisymmetric a b e)
-
-rises : (r q : Ordering) → r ≡ ordering_reverse q → is_lt q ≡ false → (r ≡ Equal → ⊥) → r ≡ Less
-rises r Less e f n = absurd (true≢false f)
-rises r Equal e f n = absurd (n e)
-rises r Greater e f n = e
-
-pub sorted_by_slot : (events sorted : List EventComponent) → AreMessageEvents (map component_of events) → IsPermutation events sorted → IsSortedByKey event_slot slot_cmp sorted
-    → AreBySlot (map component_of events) (map component_of sorted)
-sorted_by_slot events sorted m same up = record {
-  exact = λ e. (
-    λ c. Contains-permutation (map component_of sorted) (map component_of events) e (IsPermutation-sym (map component_of events) (map component_of sorted) moved) c,
-    λ c. Contains-permutation (map component_of events) (map component_of sorted) e moved c,
-  );
-  order = pairs_mapped (λ a b. slot_cmp (slot_of a) (slot_of b) ≡ Less) component_of sorted up_pairs;
-}
-  where
-    moved : IsPermutation (map component_of events) (map component_of sorted)
-    moved = IsPermutation-map component_of events sorted same
-
-    apart : AllPairs (λ (a b : SaidComponent). slot_of a ≢ slot_of b) (map component_of sorted)
-    apart = mapped_pairs ◌≢◌ slot_of (map component_of sorted)
-        (pairs_permutation (map slot_of (map component_of events)) (map slot_of (map component_of sorted)) (IsPermutation-map slot_of (map component_of events) (map component_of sorted) moved) m.differ)
-
-    apart_there : AllPairs (λ (a b : EventComponent). event_slot a ≢ event_slot b) sorted
-    apart_there = mapped_pairs (λ (a b : SaidComponent). slot_of a ≢ slot_of b) component_of sorted apart
-
-    up_pairs : AllPairs (λ a b. slot_cmp (event_slot a) (event_slot b) ≡ Less) sorted
-    up_pairs i j d l w =
-        let far = sorted_far (λ x y. is_lt (slot_cmp (event_slot x) (event_slot y))) (ranks_by slot_total event_slot) sorted up i j d (omega arith) w in
-        rises (slot_cmp (event_slot (get_or sorted i d)) (event_slot (get_or sorted j d))) (slot_cmp (event_slot (get_or sorted j d)) (event_slot (get_or sorted i d)))
-        (slot_total.antisymm (event_slot (get_or sorted i d)) (event_slot (get_or sorted j d))) far
-        (λ e. apart_there i j d l w (slot_exact (event_slot (get_or sorted i d)) (event_slot (get_or sorted j d)) e))
-
--- in the order in which a message has them
-pub put_in_order : (to_rooms : Bool) (events ordered : List EventComponent) → AreMessageEvents (map component_of events) → IsPermutation events ordered → (to_rooms ≡ true → IsSortedByKey event_slot slot_cmp ordered)
-    → (to_rooms ≡ false → ordered ≡ events) → AreInOrder to_rooms (map component_of events) (map component_of ordered)
-put_in_order true events ordered m same up kept = sorted_by_slot events ordered m same (up refl)
-put_in_order false events ordered m same up kept = ap (map component_of) (kept refl)
-
--- ---- those that pass a test
-
-pub kept_by_slot : (p : SaidComponent → Bool) (events ordered : List SaidComponent) → AreBySlot events ordered → AreBySlot (filter p events) (filter p ordered)
-kept_by_slot p events ordered b = record {
-  exact = λ e. (
-    λ c. let from = of_filtered p ordered e c in in_filtered p events e ((b.exact e).0 from.0) from.1,
-    λ c. let from = of_filtered p events e c in in_filtered p ordered e ((b.exact e).1 from.0) from.1,
-  );
-  order = AllPairs-filter (λ a b. slot_cmp (slot_of a) (slot_of b) ≡ Less) p ordered b.order;
-}
