@@ -16,6 +16,9 @@ use Rattle.profile.specs.streams.Streams.{Hosted, ZonedRoom, addresses, new_room
 use Rattle.profile.specs.streams.Worlds.{ChangesOne, rooms_once}
 use Rattle.room_books.specs.declared.room.Room.{Room}
 use Rattle.sched_box.specs.Answering.{AreHosted, IsHosted, IsMade, room_addresses}
+use Rattle.sched_box.specs.Asked.{AddsAddress}
+use Rattle.sched_box.specs.Settings.{zoned_room}
+use Rattle.sched_box.specs.declared.settings.ZonedRoom.{ZonedRoom as OwnRoom}
 
 -- one more
 zip_push : {H K : Type 0} (Is : H → K → Type 0) (hosts : List H) (kept : List K) (host : H) (own : K) → AllZip Is hosts kept → Is host own → AllZip Is (hosts ++ host ∷ []) (kept ++ own ∷ [])
@@ -205,15 +208,19 @@ hosted_addresses [] (k ∷ ks) all = absurd all
 hosted_addresses (r ∷ rs) [] all = absurd all
 hosted_addresses (r ∷ rs) (k ∷ ks) all = λ i. sym all.0.at i ∷ hosted_addresses rs ks all.1 i
 
-pub none_in : IsMade [] [] []
-none_in = record { hosted = tt; listed = refl }
+pub none_in : (rooms : List Room) (listed : List (List ℕ)) → rooms ≡ [] → listed ≡ [] → IsMade rooms listed []
+none_in rooms listed none nothing = record {
+  hosted = subst (λ (list : List Room). AreHosted list []) (sym none) tt;
+  listed = nothing ∙ sym (ap room_addresses none);
+}
 
 -- one whose address is new
 pub one_in : (olds news : List Room) (listed more : List (List ℕ)) (done : List ZonedRoom) (room : Room) (said : ZonedRoom) → IsHosted room (new_room said)
-    → list_any (bytes_eq said.address) listed ≡ false → more ≡ listed ++ said.address ∷ [] → news ≡ olds ++ room ∷ [] → IsMade olds listed done → IsMade news more (done ++ said ∷ [])
-one_in olds news listed more done room said hosted new more_is news_is made =
+    → (is_new : Bool) → AddsAddress listed more said.address is_new → is_new ≡ true → news ≡ olds ++ room ∷ [] → IsMade olds listed done → IsMade news more (done ++ said ∷ [])
+one_in olds news listed more done room said hosted is_new adds added news_is made =
+    let (fresh, more_is) = subst (AddsAddress listed more said.address) added adds in
     let all = made.listed ∙ hosted_addresses olds (map new_room (rooms_once done)) made.hosted ∙ new_addresses (rooms_once done) in
-    let once = once_more done said (subst (λ list. list_any (bytes_eq said.address) list ≡ false) all new) in
+    let once = once_more done said (subst (λ list. list_any (bytes_eq said.address) list ≡ false) all fresh) in
     let P : List Hosted → Type 0 = AllZip IsHosted news in
     let Q : List Room → Type 0 = λ list. AllZip IsHosted list (map new_room (rooms_once done) ++ new_room said ∷ []) in
     record {
@@ -223,15 +230,24 @@ one_in olds news listed more done room said hosted new more_is news_is made =
     }
 
 -- one whose address is there
-pub one_there : (rooms : List Room) (listed more : List (List ℕ)) (done : List ZonedRoom) (said : ZonedRoom) → list_any (bytes_eq said.address) listed ≡ true → more ≡ listed
+pub one_there : (rooms : List Room) (listed more : List (List ℕ)) (done : List ZonedRoom) (said : ZonedRoom) (is_new : Bool) → AddsAddress listed more said.address is_new → is_new ≡ false
     → IsMade rooms listed done → IsMade rooms more (done ++ said ∷ [])
-one_there rooms listed more done said there same made =
+one_there rooms listed more done said is_new adds known made =
+    let (there, same) = subst (AddsAddress listed more said.address) known adds in
     let all = made.listed ∙ hosted_addresses rooms (map new_room (rooms_once done)) made.hosted ∙ new_addresses (rooms_once done) in
     let once = once_same done said (subst (λ list. list_any (bytes_eq said.address) list ≡ true) all there) in
     record {
       hosted = subst (λ list. AreHosted rooms (map new_room list)) (sym once) made.hosted;
       listed = same ∙ made.listed;
     }
+
+-- after one more of the hosts
+pub made_next : (rooms : List Room) (listed : List (List ℕ)) (hosts : List OwnRoom) (i : ℕ) (host : OwnRoom) → i < length hosts → host ≡ get_or hosts i host
+    → IsMade rooms listed (map zoned_room (take i hosts) ++ zoned_room host ∷ []) → IsMade rooms listed (map zoned_room (take (i + 1) hosts))
+made_next rooms listed hosts i host within is made =
+    let all : map zoned_room (take (i + 1) hosts) ≡ map zoned_room (take i hosts) ++ zoned_room host ∷ [] =
+    ap (map zoned_room) (take_more hosts i host within) ∙ map-append zoned_room (take i hosts) (get_or hosts i host ∷ []) ∙ ap (λ (x : OwnRoom). map zoned_room (take i hosts) ++ zoned_room x ∷ []) (sym is) in
+    subst (IsMade rooms listed) (sym all) made
 
 -- ---- clauses of what is found
 

@@ -99,7 +99,8 @@ fn add_room(
     ensures { OnOk result ((done : List SaidRoom) → IsMade rooms.old.items (directory_addresses directory.old) done
         → IsMade rooms.new.items (directory_addresses directory.new) (done ++ zoned_room host.now ∷ [])) }
 {
-    if !directory.add(&host.address)? {
+    let is_new = directory.add(&host.address)?;
+    if !is_new {
         return Ok(());
     }
     let room = room_of(alloc, host)?;
