@@ -149,8 +149,8 @@ module _ {Of : Type 0} (part : Of → Part) where
       let at_one : get_or (done ++ one ∷ rest) (length done) a ≡ one = seam done in
       let at_a : get_or (done ++ one ∷ rest) k a ≡ a = get_or_append_left done (one ∷ rest) a k w ∙ e in
       let far2 : is_lt (slot_part_cmp (part one) (part a)) ≡ false =
-          subst (λ (z : Of). is_lt (slot_part_cmp (part one) (part z)) ≡ false) at_a
-          (subst (λ (z : Of). is_lt (slot_part_cmp (part z) (part (get_or (done ++ one ∷ rest) k a))) ≡ false) at_one far) in
+      subst (λ (z : Of). is_lt (slot_part_cmp (part one) (part z)) ≡ false) at_a
+      (subst (λ (z : Of). is_lt (slot_part_cmp (part z) (part (get_or (done ++ one ∷ rest) k a))) ≡ false) at_one far) in
       back_gt (slot_part_cmp (part a) (part one)) (slot_part_cmp (part one) (part a)) (slot_part_total.antisymm (part a) (part one)) far2
     where
       seam : (done : List Of) → get_or (done ++ one ∷ rest) (length done) a ≡ one

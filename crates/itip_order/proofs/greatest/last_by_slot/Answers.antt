@@ -24,7 +24,7 @@ loop-one-preserved g c =
     let all = c.loop-one.invariant.all ∙ ap (λ l. done ++ l) c.in-Some.ensures.steps.0 in
     let sorted = subst (IsSorted (λ a b. slot_part_cmp (part_of a.0) (part_of b.0))) all c.requires in
     let kept = greatest_push (λ one. part_of one.0) done before one c.loop-one.invariant.kept
-        (λ a i. sorted_before (λ one. part_of one.0) done rest one a sorted (c.loop-one.invariant.kept.among a i)) in
+    (λ a i. sorted_before (λ one. part_of one.0) done rest one a sorted (c.loop-one.invariant.kept.among a i)) in
     let is = c.in_ok-push.ensures.items ∙ ap (λ l. l ++ one ∷ []) c.leave_slot.ensures in
     record {
       all = all ∙ sym (append_assoc done (one ∷ []) rest);
