@@ -211,7 +211,7 @@ hosted_addresses (r ∷ rs) (k ∷ ks) all = λ i. sym all.0.at i ∷ hosted_add
 pub none_in : (rooms : List Room) (listed : List (List ℕ)) → rooms ≡ [] → listed ≡ [] → IsMade rooms listed []
 none_in rooms listed none nothing = record {
   hosted = subst (λ (list : List Room). AreHosted list []) (sym none) tt;
-  listed = nothing ∙ sym (ap room_addresses none);
+  in_order = nothing ∙ sym (ap room_addresses none);
 }
 
 -- one whose address is new
@@ -219,13 +219,13 @@ pub one_in : (olds news : List Room) (listed more : List (List ℕ)) (done : Lis
     → (is_new : Bool) → AddsAddress listed more said.address is_new → is_new ≡ true → news ≡ olds ++ room ∷ [] → IsMade olds listed done → IsMade news more (done ++ said ∷ [])
 one_in olds news listed more done room said hosted is_new adds added news_is made =
     let (fresh, more_is) = subst (AddsAddress listed more said.address) added adds in
-    let all = made.listed ∙ hosted_addresses olds (map new_room (rooms_once done)) made.hosted ∙ new_addresses (rooms_once done) in
+    let all = made.in_order ∙ hosted_addresses olds (map new_room (rooms_once done)) made.hosted ∙ new_addresses (rooms_once done) in
     let once = once_more done said (subst (λ list. list_any (bytes_eq said.address) list ≡ false) all fresh) in
     let P : List Hosted → Type 0 = AllZip IsHosted news in
     let Q : List Room → Type 0 = λ list. AllZip IsHosted list (map new_room (rooms_once done) ++ new_room said ∷ []) in
     record {
       hosted = subst P (sym (ap (map new_room) once ∙ map-append new_room (rooms_once done) (said ∷ []))) (subst Q (sym news_is) (zip_push IsHosted olds (map new_room (rooms_once done)) room (new_room said) made.hosted hosted));
-      listed = more_is ∙ ap (λ list. list ++ said.address ∷ []) made.listed ∙ ap (λ a. room_addresses olds ++ a ∷ []) hosted.at
+      in_order = more_is ∙ ap (λ list. list ++ said.address ∷ []) made.in_order ∙ ap (λ a. room_addresses olds ++ a ∷ []) hosted.at
           ∙ sym (ap room_addresses news_is ∙ map-append (λ (r : Room). address_octets r.address) olds (room ∷ []));
     }
 
@@ -234,11 +234,11 @@ pub one_there : (rooms : List Room) (listed more : List (List ℕ)) (done : List
     → IsMade rooms listed done → IsMade rooms more (done ++ said ∷ [])
 one_there rooms listed more done said is_new adds known made =
     let (there, same) = subst (AddsAddress listed more said.address) known adds in
-    let all = made.listed ∙ hosted_addresses rooms (map new_room (rooms_once done)) made.hosted ∙ new_addresses (rooms_once done) in
+    let all = made.in_order ∙ hosted_addresses rooms (map new_room (rooms_once done)) made.hosted ∙ new_addresses (rooms_once done) in
     let once = once_same done said (subst (λ list. list_any (bytes_eq said.address) list ≡ true) all there) in
     record {
       hosted = subst (λ list. AreHosted rooms (map new_room list)) (sym once) made.hosted;
-      listed = same ∙ made.listed;
+      in_order = same ∙ made.in_order;
     }
 
 -- after one more of the hosts

@@ -34,7 +34,7 @@ AreHosted rooms box = AllZip IsHosted rooms box
 -- empty rooms were made of these, of each address the first, and the addresses are listed in their order
 pub record IsMade (rooms : List Room) (listed : List (List ℕ)) (done : List ZonedRoom) : Type 0 where
   pub hosted : AreHosted rooms (map new_room (rooms_once done))
-  pub listed : listed ≡ room_addresses rooms
+  pub in_order : listed ≡ room_addresses rooms
 
 -- objects, each as its octets
 abbrev pub octets_each : {Z : Type 0} → List (Vec ℕ Z) → List (List ℕ)

@@ -16,7 +16,7 @@ loop-host-preserved c =
     (c.in_ok-add_room.ensures (map zoned_room (take c.loop-host.host-index c.args.hosts.now)) c.loop-host.invariant)
 
 pub invariant_of-result : goal.invariant_of-result
-invariant_of-result c = record { listed = c.loop-host.invariant.listed }
+invariant_of-result c = record { listed = c.loop-host.invariant.in_order }
 
 pub returns : goal.returns
 returns c =
