@@ -1,5 +1,5 @@
 -- The rooms that a message isn't for: they are those whose flags stay off, and take nothing.
-use Rattle.std.proofs.Common.{◌≡◌, ◌≢◌, inl, inr, ℕ, zero, suc, ◌+◌, ◌<◌, ℤ, Bool, true, false, not, ◌&&◌, ◌||◌, cond, List, [], ◌∷◌, ◌++◌, length, take, get_or, set, replicate, map, Option, Some, None, IfSome, IfNone, is_some, refl, sym, ap, subst, ◌∙◌, arith, AllPairs, true≢false}
+use Rattle.std.proofs.Common.{◌≡◌, ◌≢◌, inl, inr, ℕ, zero, suc, ◌+◌, ◌<◌, ℤ, Bool, true, false, not, ◌&&◌, ◌||◌, cond, List, [], ◌∷◌, ◌++◌, length, take, get_or, set, replicate, filter, map, Option, Some, None, IfSome, IfNone, is_some, refl, sym, ap, subst, ◌∙◌, arith, AllPairs, Result, Ok, Err, OnErr, IfOk, true≢false}
 use Rattle.std.specs.List.{AllZip, list_any, position}
 use Rattle.std.specs.Str.{bytes_eq}
 use Rattle.std.proofs.Math.Bool.{and-false}
@@ -16,13 +16,13 @@ use Rattle.itip_messages.specs.Message.{is_component_for, component_names, cance
 use Rattle.itip_messages.specs.declared.message.Message.{Message}
 use Rattle.itip_messages.specs.declared.message_component.MessageComponent.{MessageComponent}
 use Rattle.itip_messages.specs.Zones.{with_zone, with_zones}
-use Rattle.itip_messages.proofs.shared_lemmas.MessageLemmas.{addressed, no_events}
+use Rattle.itip_messages.proofs.shared_lemmas.MessageLemmas.{addressed}
 use Rattle.itip_messages.proofs.shared_lemmas.ZonesOnce.{with_more, zones_once}
 use Rattle.profile.specs.events.Messages.{is_to_rooms}
 use Rattle.profile.specs.rooms.Kept.{each_once}
 use Rattle.profile.specs.events.EventComponents.{EventComponent}
 use Rattle.profile.specs.events.Messages.{Message as Said}
-use Rattle.profile.specs.rooms.Messages.{Accept, is_addressed, parts_for}
+use Rattle.profile.specs.rooms.Messages.{Accept, is_addressed, is_part_for}
 use Rattle.profile.specs.series.Zones.{Zone}
 use Rattle.profile.specs.streams.Streams.{AreClaims, IsClaim}
 use Rattle.room_books.specs.declared.room.Room.{Room}
@@ -117,6 +117,15 @@ added_differ old new a true (fresh, is) differ =
     subst (λ (list : List (List ℕ)). AllPairs ◌≢◌ list) (sym is)
     (all_pairs_push ◌≢◌ old a differ (λ k d l same. true≢false (sym (list_any_at (bytes_eq a) old k d l ((bytes_eq-Decides a (get_or old k d)).1 (sym same))) ∙ fresh)))
 added_differ old new a false (there, is) differ = subst (λ (list : List (List ℕ)). AllPairs ◌≢◌ list) (sym is) differ
+
+-- whatever came of adding it
+pub still_differ : {E : Type 0} (r : Result Bool E) (keys newer : List Address) (x : Address) → OnErr r (newer ≡ keys)
+    → IfOk r (λ is_new. newer ≡ cond (list_any (λ key. bytes_eq (address_octets x) (address_octets key)) keys) keys (keys ++ x ∷ []))
+    → AllPairs ◌≢◌ (map address_octets keys) → AllPairs ◌≢◌ (map address_octets newer)
+still_differ (Err e) keys newer x same made differ = subst (λ (list : List Address). AllPairs ◌≢◌ (map address_octets list)) (sym same) differ
+still_differ (Ok b) keys newer x same made differ =
+    let known = list_any (λ key. bytes_eq (address_octets x) (address_octets key)) keys in
+    added_differ (map address_octets keys) (map address_octets newer) (address_octets x) (not known) (added_if keys newer x (address_octets x) (not known) refl refl made) differ
 
 -- one more address
 pub listed_more : (hosts : List Address) (i : ℕ) (old new : List (List ℕ)) (host : Address) (is_new : Bool) → i < length hosts → host ≡ get_or hosts i host
@@ -213,10 +222,10 @@ off_at (f ∷ fs) (suc place) within off = off_at fs place (omega arith) off
 -- ---- a room that the message isn't for
 
 -- it has no parts, so it claims nothing
-none_claimed : (room : List ℕ) (zone : Option Zone) (said : Said) → parts_for room said ≡ [] → AreClaims room zone said []
-none_claimed room zone said none = record {
+none_claimed : (room : List ℕ) (zone : Option Zone) (said : Said) → is_addressed room said ≡ false → AreClaims room zone said []
+none_claimed room zone said off = record {
   all = [];
-  each = subst (λ (events : List EventComponent). AllZip (IsClaim room zone said) events []) (sym none) tt;
+  each = subst (λ (events : List EventComponent). AllZip (IsClaim room zone said) events []) (sym (ap (λ b. cond b (filter (is_part_for room said.method) said.events) []) off)) tt;
   are = record {
     among = λ one c. c;
     greatest = λ one c. absurd (omega (arith, c.1));
@@ -236,7 +245,7 @@ left_out moment message room none said represented before has =
         sent = [];
         takes = record {
           claims = [];
-          are = subst (λ r. AreClaims r before.zone said []) (sym has.at) (none_claimed a before.zone said (no_events a message said represented off));
+          are = subst (λ r. AreClaims r before.zone said []) (sym has.at) (none_claimed a before.zone said off);
           outcome = Accept;
           step = record { taken = sym (append-nil _); answers = sym (append-nil _); decided = λ some. absurd (false≢true some) };
           reply = None;

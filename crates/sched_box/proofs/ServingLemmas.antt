@@ -18,6 +18,7 @@ use Rattle.sched_devices.specs.Input.{IsFilledWithin}
 use Rattle.sched_box.specs.Objects.{kept_of, IsStop, TakesNextObject, ReadsObject, StopsReading}
 use Rattle.sched_box.specs.Serving.{AnswersWhole, Ends, Gives, GivesPart, GivesRead, IsWithin, IsWithinBound, ServesAll, ServesSome, HasRead, ServesUntil, Serves, BooksServe, ServesStream, KeepsTexts, StopsKeeping, StopsWithin}
 use Rattle.profile.specs.rooms.Kept.{IsKeptCalendar, IsKeptCertificate}
+use Rattle.cal_zones.specs.RoomZones.{words_of}
 use Rattle.ical_values.specs.Octets.{address_octets}
 use Rattle.ical_values.specs.declared.address.Address.{Address}
 use Rattle.room_books.specs.Room.{Represents}
