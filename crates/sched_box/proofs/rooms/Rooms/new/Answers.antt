@@ -18,7 +18,8 @@ loop-host-preserved c =
 pub invariant_of-result : goal.invariant_of-result
 invariant_of-result c = record { listed = c.loop-host.invariant.in_order }
 
-pub returns-clause-hosted : goal.returns-clause-hosted
-returns-clause-hosted c =
-    subst (λ list. AreHosted c.loop-host.rooms.items (map new_room (rooms_once (map zoned_room list)))) (take_all c.loop-host.host-index c.args.hosts.now (omega (arith, c.loop-host-test.false)))
-    c.loop-host.invariant.hosted
+pub returns : goal.returns
+returns c = record {
+  hosted = subst (λ list. AreHosted c.loop-host.rooms.items (map new_room (rooms_once (map zoned_room list)))) (take_all c.loop-host.host-index c.args.hosts.now (omega (arith, c.loop-host-test.false)))
+      c.loop-host.invariant.hosted;
+}
