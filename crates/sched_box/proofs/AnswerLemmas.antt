@@ -4,6 +4,7 @@ use Rattle.std.specs.Option.{option_to_list}
 use Rattle.std.specs.List.{flat_map, list_any}
 use Rattle.std.specs.Str.{bytes_eq}
 use Rattle.std.proofs.lemmas.List.{append_assoc, append-nil, get_or-map, map-append, take-append-drop, take_more, take_more_set, drop_more, drop_all, drop-set-lt}
+use Rattle.cal_zones.specs.RoomZones.{room_of, words_of}
 use Rattle.ical_values.specs.Octets.{address_octets}
 use Rattle.itip_messages.specs.Message.{RepresentsMessage}
 use Rattle.itip_messages.specs.declared.message.Message.{Message}
@@ -14,6 +15,7 @@ use Rattle.profile.specs.rooms.Messages.{is_add}
 use Rattle.profile.specs.rooms.Rooms as machine
 use Rattle.profile.specs.rooms.Rooms.{Book, Claim, IsStep}
 use Rattle.profile.specs.rooms.Kept.{Replies, Refreshes}
+use Rattle.profile.specs.series.Zones.{Zone}
 use Rattle.profile.specs.streams.Streams.{AllTake, AreClaims, Hosted, TakesMessage, refused_line}
 use Rattle.profile.specs.streams.Worlds as worlds
 use Rattle.profile.specs.streams.Worlds.{ChangesOne}
@@ -34,20 +36,26 @@ sent_is (Some x) (Some y) = ap (λ z. x ++ z) (sym (append-nil y))
 
 pub room_sends : (moment : ℤ) (message : Message) (old new : Room) (kind : machine.Kind) (reply refresh : Option (List ℕ))
     → ((said : profile.Message) → RepresentsMessage message said → (book : Book) → Represents old.meetings.entries book
-    → (claims : List Claim) × AreClaims (address_octets old.address) said claims × StepsWith (address_octets old.address) new.meetings.entries book claims moment kind reply (is_add said.method) refresh)
-    → new.address ≡ old.address → RoomSends moment message old new (option_to_list reply ++ option_to_list refresh)
-room_sends moment message old new kind reply refresh steps same said represented before has =
+    → (claims : List Claim) × AreClaims (address_octets old.address) (room_of old.zone) said claims × StepsWith (address_octets old.address) new.meetings.entries book claims moment kind reply (is_add said.method) refresh)
+    → new.address ≡ old.address → new.zone ≡ old.zone → RoomSends moment message old new (option_to_list reply ++ option_to_list refresh)
+room_sends moment message old new kind reply refresh steps same same_zone said represented before has =
     let room = address_octets old.address in
     let (claims, are, with') = steps said represented before.book has.represents in
-    let P : List ℕ → Type 0 = λ a. AreClaims a said claims in
+    let P : List ℕ → Type 0 = λ a. AreClaims a (room_of old.zone) said claims in
+    let Z : Option Zone → Type 0 = λ zone. AreClaims before.address zone said claims in
     let Q : List ℕ → Type 0 = λ a. Replies a with'.steps.after claims reply in
     let R : List ℕ → Type 0 = λ a. Refreshes a (is_add said.method) before.book.taken with'.steps.after.taken claims moment refresh in (
-      record { address = before.address; book = with'.steps.after },
-      record { at = has.at ∙ ap address_octets (sym same); represents = with'.steps.represents },
+      record before { book = with'.steps.after },
+      record {
+        at = has.at ∙ ap address_octets (sym same);
+        words = has.words ∙ ap words_of (sym same_zone);
+        zone = has.zone ∙ ap room_of (sym same_zone);
+        represents = with'.steps.represents;
+      },
       refl,
       record {
         claims = claims;
-        are = subst P (sym has.at) are;
+        are = subst Z (sym has.zone) (subst P (sym has.at) are);
         outcome = with'.steps.outcome;
         step = with'.steps.step;
         reply = reply;
@@ -61,17 +69,17 @@ room_sends moment message old new kind reply refresh steps same said represented
 -- it answers with the octets of what it sends
 pub room_takes : (moment : ℤ) (message : Message) (old new : Room) (kind : machine.Kind) (reply refresh : Option (List ℕ))
     → ((said : profile.Message) → RepresentsMessage message said → (book : Book) → Represents old.meetings.entries book
-    → (claims : List Claim) × AreClaims (address_octets old.address) said claims × StepsWith (address_octets old.address) new.meetings.entries book claims moment kind reply (is_add said.method) refresh)
-    → new.address ≡ old.address → RoomTakes moment message old new (sent_octets reply ++ sent_octets refresh)
-room_takes moment message old new kind reply refresh steps same said represented before has =
-    let (after, is, stays, takes) = room_sends moment message old new kind reply refresh steps same said represented before has in
+    → (claims : List Claim) × AreClaims (address_octets old.address) (room_of old.zone) said claims × StepsWith (address_octets old.address) new.meetings.entries book claims moment kind reply (is_add said.method) refresh)
+    → new.address ≡ old.address → new.zone ≡ old.zone → RoomTakes moment message old new (sent_octets reply ++ sent_octets refresh)
+room_takes moment message old new kind reply refresh steps same same_zone said represented before has =
+    let (after, is, stays, takes) = room_sends moment message old new kind reply refresh steps same same_zone said represented before has in
     (after, is, record { same = stays; sent = option_to_list reply ++ option_to_list refresh; takes = takes; is = sent_is reply refresh })
 
 -- ---- the room in its place
 
 send_in : (moment : ℤ) (said : profile.Message) (to : List ℕ) (olds : List Room) (place : ℕ) (d new : Room) (sent : List (List ℕ)) → is_to_rooms said.method ≡ true → place < length olds
     → to ≡ address_octets (get_or olds place d).address
-    → ((before : Hosted) → IsHosted (get_or olds place d) before → (after : Hosted) × IsHosted new after × (after.address ≡ before.address) × TakesMessage before.address moment said before.book after.book sent)
+    → ((before : Hosted) → IsHosted (get_or olds place d) before → (after : Hosted) × IsHosted new after × (after ≡ record before { book = after.book }) × TakesMessage before.address before.zone moment said before.book after.book sent)
     → (before : List Hosted) → AreHosted olds before → (after : List Hosted) × AreHosted (set olds place new) after × ChangesOne (worlds.RoomTakes to moment said sent) before after
 send_in moment said to [] place d new sent for_rooms within is sends before have = absurd (omega arith)
 send_in moment said to (o ∷ os) place d new sent for_rooms within is sends [] have = absurd have
@@ -85,7 +93,7 @@ send_in moment said to (o ∷ os) zero d new sent for_rooms within is sends (b �
         behind = bs;
         old = b;
         new = after;
-        changes = record { address = at; same = same; for_rooms = for_rooms; takes = subst (λ a. TakesMessage a moment said b.book after.book sent) at takes };
+        changes = record { address = at; same = same; for_rooms = for_rooms; takes = subst (λ a. TakesMessage a b.zone moment said b.book after.book sent) at takes };
         of_these = refl;
         to_these = refl;
       },

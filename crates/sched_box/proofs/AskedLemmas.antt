@@ -1,12 +1,12 @@
 -- The rooms that a message isn't for: they are those whose flags stay off, and take nothing.
-use Rattle.std.proofs.Common.{◌≡◌, ◌≢◌, inl, inr, ℕ, zero, suc, ◌+◌, ◌<◌, ℤ, Bool, true, false, not, ◌&&◌, ◌||◌, cond, List, [], ◌∷◌, ◌++◌, length, take, get_or, set, replicate, map, Option, Some, None, IfSome, IfNone, is_some, refl, sym, ap, subst, ◌∙◌, arith, AllPairs, true≢false}
-use Rattle.std.specs.List.{list_any, position}
+use Rattle.std.proofs.Common.{◌≡◌, ◌≢◌, inl, inr, ℕ, zero, suc, ◌+◌, ◌<◌, ℤ, Bool, true, false, not, ◌&&◌, ◌||◌, cond, List, [], ◌∷◌, ◌++◌, length, take, get_or, set, replicate, filter, map, Option, Some, None, IfSome, IfNone, is_some, refl, sym, ap, subst, ◌∙◌, arith, AllPairs, Result, Ok, Err, OnErr, IfOk, true≢false}
+use Rattle.std.specs.List.{AllZip, list_any, position}
 use Rattle.std.specs.Str.{bytes_eq}
 use Rattle.std.proofs.Math.Bool.{and-false}
 use Rattle.std.proofs.lemmas.Bool.{cases_lt, or_parts, false≢true}
 use Rattle.std.proofs.lemmas.List.{append-nil, get_or-map, get_or-set_other, get_or-set_same, length-map, map-append, take_more}
 use Rattle.std.proofs.lemmas.List.Folds.{list_any_at, list_any_more}
-use Rattle.std.proofs.lemmas.List.Quantifiers.{position-Some}
+use Rattle.std.proofs.lemmas.List.Quantifiers.{all_pairs_push, position-Some}
 use Rattle.std.proofs.lemmas.Slice.Eq.{bytes_eq-Decides}
 use Rattle.ical_values.specs.declared.address.Address.{Address}
 use Rattle.ical_values.specs.Octets.{address_octets}
@@ -16,16 +16,19 @@ use Rattle.itip_messages.specs.Message.{is_component_for, component_names, cance
 use Rattle.itip_messages.specs.declared.message.Message.{Message}
 use Rattle.itip_messages.specs.declared.message_component.MessageComponent.{MessageComponent}
 use Rattle.itip_messages.specs.Zones.{with_zone, with_zones}
-use Rattle.itip_messages.proofs.shared_lemmas.MessageLemmas.{addressed, no_events}
+use Rattle.itip_messages.proofs.shared_lemmas.MessageLemmas.{addressed}
 use Rattle.itip_messages.proofs.shared_lemmas.ZonesOnce.{with_more, zones_once}
 use Rattle.profile.specs.events.Messages.{is_to_rooms}
 use Rattle.profile.specs.rooms.Kept.{each_once}
-use Rattle.profile.specs.rooms.Messages.{Accept, is_addressed}
-use Rattle.profile.specs.streams.Streams.{AreClaims}
+use Rattle.profile.specs.events.EventComponents.{EventComponent}
+use Rattle.profile.specs.events.Messages.{Message as Said}
+use Rattle.profile.specs.rooms.Messages.{Accept, is_addressed, is_part_for}
+use Rattle.profile.specs.series.Zones.{Zone}
+use Rattle.profile.specs.streams.Streams.{AreClaims, IsClaim}
 use Rattle.room_books.specs.declared.room.Room.{Room}
 use Rattle.sched_box.specs.Answering.{RoomTakes}
-use Rattle.sched_box.specs.Asked.{LeavesOut, asks, names}
-use Rattle.sched_box.proofs.HostLemmas.{untrue}
+use Rattle.sched_box.specs.Asked.{AddsAddress, LeavesOut, asks, names}
+use Rattle.sched_box.proofs.HostLemmas.{any_turned, untrue}
 
 -- ---- look-ups
 
@@ -93,38 +96,50 @@ no_place keys address (Some place) is = tt
 
 -- ---- the directory
 
-any_turned : (x : List ℕ) (keys : List Address) → list_any (λ other. bytes_eq other x) (map address_octets keys) ≡ list_any (λ key. bytes_eq x (address_octets key)) keys
-any_turned x [] = refl
-any_turned x (key ∷ keys) =
-    ap (λ t. t || list_any (λ other. bytes_eq other x) (map address_octets keys)) (turned (address_octets key) x)
-    ∙ ap (λ t. bytes_eq x (address_octets key) || t) (any_turned x keys)
+-- a host that was looked up before it was added
+pub added_if : (keys newer : List Address) (x : Address) (a : List ℕ) (is_new : Bool) → address_octets x ≡ a
+    → is_new ≡ not (list_any (λ key. bytes_eq (address_octets x) (address_octets key)) keys)
+    → newer ≡ cond (list_any (λ key. bytes_eq (address_octets x) (address_octets key)) keys) keys (keys ++ x ∷ [])
+    → AddsAddress (map address_octets keys) (map address_octets newer) a is_new
+added_if keys newer x a is_new same is made =
+    by (list_any (λ key. bytes_eq (address_octets x) (address_octets key)) keys) (ap (λ o. list_any (bytes_eq o) (map address_octets keys)) (sym same) ∙ any_address keys (address_octets x)) is_new is made
   where
-    by : (a b : Bool) → (a ≡ true → b ≡ true) → (b ≡ true → a ≡ true) → a ≡ b
-    by true b there back = sym (there refl)
-    by false true there back = back refl
-    by false false there back = refl
+    by : (known : Bool) → list_any (bytes_eq a) (map address_octets keys) ≡ known → (flag : Bool) → flag ≡ not known → newer ≡ cond known keys (keys ++ x ∷ [])
+        → AddsAddress (map address_octets keys) (map address_octets newer) a flag
+    by true e true f m = absurd (true≢false f)
+    by true e false f m = (e, ap (map address_octets) m)
+    by false e true f m = (e, ap (map address_octets) m ∙ map-append address_octets keys (x ∷ []) ∙ ap (λ o. map address_octets keys ++ o ∷ []) same)
+    by false e false f m = absurd (true≢false (sym f))
 
-    turned : (xs ys : List ℕ) → bytes_eq xs ys ≡ bytes_eq ys xs
-    turned xs ys = by (bytes_eq xs ys) (bytes_eq ys xs) (λ one. (bytes_eq-Decides ys xs).1 (sym ((bytes_eq-Decides xs ys).0 one))) (λ other. (bytes_eq-Decides xs ys).1 (sym ((bytes_eq-Decides ys xs).0 other)))
+-- so the addresses differ as before
+pub added_differ : (old new : List (List ℕ)) (a : List ℕ) (is_new : Bool) → AddsAddress old new a is_new → AllPairs ◌≢◌ old → AllPairs ◌≢◌ new
+added_differ old new a true (fresh, is) differ =
+    subst (λ (list : List (List ℕ)). AllPairs ◌≢◌ list) (sym is)
+    (all_pairs_push ◌≢◌ old a differ (λ k d l same. true≢false (sym (list_any_at (bytes_eq a) old k d l ((bytes_eq-Decides a (get_or old k d)).1 (sym same))) ∙ fresh)))
+added_differ old new a false (there, is) differ = subst (λ (list : List (List ℕ)). AllPairs ◌≢◌ list) (sym is) differ
 
--- the keys with one more, which goes last where it is none of them
-keys_then : (keys : List Address) (x : Address) (known : Bool) → map address_octets (cond known keys (keys ++ x ∷ [])) ≡ cond (not known) (map address_octets keys ++ address_octets x ∷ []) (map address_octets keys)
-keys_then keys x true = refl
-keys_then keys x false = map-append address_octets keys (x ∷ [])
+-- whatever came of adding it
+pub still_differ : {E : Type 0} (r : Result Bool E) (keys newer : List Address) (x : Address) → OnErr r (newer ≡ keys)
+    → IfOk r (λ is_new. newer ≡ cond (list_any (λ key. bytes_eq (address_octets x) (address_octets key)) keys) keys (keys ++ x ∷ []))
+    → AllPairs ◌≢◌ (map address_octets keys) → AllPairs ◌≢◌ (map address_octets newer)
+still_differ (Err e) keys newer x same made differ = subst (λ (list : List Address). AllPairs ◌≢◌ (map address_octets list)) (sym same) differ
+still_differ (Ok b) keys newer x same made differ =
+    let known = list_any (λ key. bytes_eq (address_octets x) (address_octets key)) keys in
+    added_differ (map address_octets keys) (map address_octets newer) (address_octets x) (not known) (added_if keys newer x (address_octets x) (not known) refl refl made) differ
 
 -- one more address
-pub listed_more : (hosts : List Address) (i : ℕ) (keys newer : List Address) (x host : Address) → i < length hosts → host ≡ get_or hosts i host → address_octets x ≡ address_octets host
-    → map address_octets keys ≡ each_once (map address_octets (take i hosts))
-    → newer ≡ cond (list_any (λ key. bytes_eq (address_octets x) (address_octets key)) keys) keys (keys ++ x ∷ []) → map address_octets newer ≡ each_once (map address_octets (take (i + 1) hosts))
-listed_more hosts i keys newer x host within is same are made =
-    let a = address_octets x in
+pub listed_more : (hosts : List Address) (i : ℕ) (old new : List (List ℕ)) (host : Address) (is_new : Bool) → i < length hosts → host ≡ get_or hosts i host
+    → AddsAddress old new (address_octets host) is_new → old ≡ each_once (map address_octets (take i hosts)) → new ≡ each_once (map address_octets (take (i + 1) hosts))
+listed_more hosts i old new host is_new within is adds are =
+    let a = address_octets host in
     let before = map address_octets (take i hosts) in
-    let once : with_zones [] before ≡ map address_octets keys = zones_once before ∙ sym are in
-    let all : map address_octets (take (i + 1) hosts) ≡ before ++ a ∷ [] = ap (map address_octets) (take_more hosts i host within) ∙ map-append address_octets (take i hosts) (get_or hosts i host ∷ []) ∙ ap (λ z. before ++ z ∷ []) (sym (same ∙ ap address_octets is)) in
-    ap (map address_octets) made ∙ keys_then keys x (list_any (λ key. bytes_eq a (address_octets key)) keys)
-    ∙ ap (λ b. cond (not b) (map address_octets keys ++ a ∷ []) (map address_octets keys)) (sym (any_turned a keys))
-    ∙ ap (λ zones. with_zone zones a) (sym once)
-    ∙ sym (with_more [] before (a ∷ [])) ∙ zones_once (before ++ a ∷ []) ∙ ap each_once (sym all)
+    let once : with_zones [] before ≡ old = zones_once before ∙ sym are in
+    let all : map address_octets (take (i + 1) hosts) ≡ before ++ a ∷ [] = ap (map address_octets) (take_more hosts i host within) ∙ map-append address_octets (take i hosts) (get_or hosts i host ∷ []) ∙ ap (λ z. before ++ z ∷ []) (sym (ap address_octets is)) in
+    by is_new adds ∙ ap (λ zones. with_zone zones a) (sym once) ∙ sym (with_more [] before (a ∷ [])) ∙ zones_once (before ++ a ∷ []) ∙ ap each_once (sym all)
+  where
+    by : (flag : Bool) → AddsAddress old new (address_octets host) flag → new ≡ with_zone old (address_octets host)
+    by true (fresh, made) = made ∙ ap (λ b. cond (not b) (old ++ address_octets host ∷ []) old) (sym (any_turned (address_octets host) old ∙ fresh))
+    by false (there, made) = made ∙ ap (λ b. cond (not b) (old ++ address_octets host ∷ []) old) (sym (any_turned (address_octets host) old ∙ there))
 
 -- ---- the loop over the attendees
 
@@ -206,6 +221,18 @@ off_at (f ∷ fs) (suc place) within off = off_at fs place (omega arith) off
 
 -- ---- a room that the message isn't for
 
+-- it has no parts, so it claims nothing
+none_claimed : (room : List ℕ) (zone : Option Zone) (said : Said) → is_addressed room said ≡ false → AreClaims room zone said []
+none_claimed room zone said off = record {
+  all = [];
+  each = subst (λ (events : List EventComponent). AllZip (IsClaim room zone said) events []) (sym (ap (λ b. cond b (filter (is_part_for room said.method) said.events) []) off)) tt;
+  are = record {
+    among = λ one c. c;
+    greatest = λ one c. absurd (omega (arith, c.1));
+    order = λ i j d l w. absurd (omega (arith, l, w));
+  };
+}
+
 -- it takes no parts, and answers nothing
 pub left_out : (moment : ℤ) (message : Message) (room : Room) → asks message (address_octets room.address) ≡ false → RoomTakes moment message room room []
 left_out moment message room none said represented before has =
@@ -218,7 +245,7 @@ left_out moment message room none said represented before has =
         sent = [];
         takes = record {
           claims = [];
-          are = subst (λ r. AreClaims r said []) (sym has.at) (record { events = []; are = no_events a message said represented off; each = tt });
+          are = subst (λ r. AreClaims r before.zone said []) (sym has.at) (none_claimed a before.zone said off);
           outcome = Accept;
           step = record { taken = sym (append-nil _); answers = sym (append-nil _); decided = λ some. absurd (false≢true some) };
           reply = None;

@@ -4,15 +4,21 @@ use Rattle.std.specs.List.{AllZip, list_any}
 use Rattle.std.specs.Option.{IsNone}
 use Rattle.std.specs.Str.{bytes_eq}
 use Rattle.std.proofs.lemmas.Bool.{or_parts}
-use Rattle.std.proofs.lemmas.List.Elements.{filter_passes}
+use Rattle.std.proofs.lemmas.List.Elements.{filter-append, filter_passes}
 use Rattle.std.proofs.lemmas.List.Folds.{list_any_at}
 use Rattle.std.proofs.lemmas.List.Kept.{AllPairs-cons, AllPairs-filter}
 use Rattle.std.proofs.lemmas.Slice.Eq.{bytes_eq-Decides}
-use Rattle.std.proofs.lemmas.List.{map-append, take_more}
+use Rattle.std.proofs.lemmas.List.{append-nil, map-append, take_more}
 use Rattle.ical_values.specs.Octets.{address_octets}
 use Rattle.ical_values.specs.declared.address.Address.{Address}
 use Rattle.profile.specs.rooms.Kept.{each_once}
-use Rattle.profile.specs.streams.Worlds.{ChangesOne}
+use Rattle.profile.specs.streams.Streams.{Hosted, ZonedRoom, addresses, new_room}
+use Rattle.profile.specs.streams.Worlds.{ChangesOne, rooms_once}
+use Rattle.room_books.specs.declared.room.Room.{Room}
+use Rattle.sched_box.specs.Answering.{AreHosted, IsHosted, IsMade, room_addresses}
+use Rattle.sched_box.specs.Asked.{AddsAddress}
+use Rattle.sched_box.specs.Settings.{zoned_room}
+use Rattle.sched_box.specs.declared.settings.ZonedRoom.{ZonedRoom as OwnRoom}
 
 -- one more
 zip_push : {H K : Type 0} (Is : H → K → Type 0) (hosts : List H) (kept : List K) (host : H) (own : K) → AllZip Is hosts kept → Is host own → AllZip Is (hosts ++ host ∷ []) (kept ++ own ∷ [])
@@ -109,6 +115,139 @@ once_differ (x ∷ xs) =
   where
     other : List ℕ → Bool
     other y = not (bytes_eq x y)
+
+-- ---- rooms, of each address the first
+
+-- the test that a room is of another address
+abbrev other_room : ZonedRoom → ZonedRoom → Bool
+other_room room other = not (bytes_eq room.address other.address)
+
+-- a room is the last of these
+abbrev pub is_zoned_before : List ZonedRoom → ZonedRoom → Bool
+is_zoned_before rooms room = list_any (λ earlier. bytes_eq earlier.address room.address) rooms
+
+once_last : (rooms : List ZonedRoom) (room : ZonedRoom) → rooms_once (rooms ++ room ∷ []) ≡ rooms_once rooms ++ cond (is_zoned_before rooms room) [] (room ∷ [])
+once_last [] room = refl
+once_last (first ∷ rooms) room =
+    ap (λ list. first ∷ filter (other_room first) list) (once_last rooms room)
+    ∙ ap (λ list. first ∷ list) (filter-append (other_room first) (rooms_once rooms) (cond (is_zoned_before rooms room) [] (room ∷ [])))
+    ∙ ap (λ list. first ∷ (filter (other_room first) (rooms_once rooms) ++ list)) (by (bytes_eq first.address room.address) (is_zoned_before rooms room) refl)
+  where
+    by : (b before : Bool) → bytes_eq first.address room.address ≡ b → filter (other_room first) (cond before [] (room ∷ [])) ≡ cond (b || before) [] (room ∷ [])
+    by true true e = refl
+    by false true e = refl
+    by true false e = ap (λ t. cond (not t) (room ∷ []) []) e
+    by false false e = ap (λ t. cond (not t) (room ∷ []) []) e
+
+-- the address is one of those that are kept exactly where one of all has it
+any_kept : (first : ZonedRoom) (a : List ℕ) (rooms : List ZonedRoom) → bytes_eq a first.address ≡ false
+    → list_any (bytes_eq a) (addresses (filter (other_room first) rooms)) ≡ list_any (bytes_eq a) (addresses rooms)
+any_kept first a [] differs = refl
+any_kept first a (x ∷ rooms) differs = by (bytes_eq first.address x.address) refl (any_kept first a rooms differs)
+  where
+    by : (b : Bool) → bytes_eq first.address x.address ≡ b
+        → list_any (bytes_eq a) (addresses (filter (other_room first) rooms)) ≡ list_any (bytes_eq a) (addresses rooms)
+        → list_any (bytes_eq a) (addresses (cond (not b) (x ∷ filter (other_room first) rooms) (filter (other_room first) rooms))) ≡ (bytes_eq a x.address || list_any (bytes_eq a) (addresses rooms))
+    by true e later =
+        let same : first.address ≡ x.address = (bytes_eq-Decides first.address x.address).0 e in
+        later ∙ sym (ap (λ t. t || list_any (bytes_eq a) (addresses rooms)) (subst (λ y. bytes_eq a y ≡ false) same differs))
+    by false e later = ap (λ t. bytes_eq a x.address || t) later
+
+turned : (xs ys : List ℕ) → bytes_eq xs ys ≡ bytes_eq ys xs
+turned xs ys = by (bytes_eq xs ys) (bytes_eq ys xs) (λ one. (bytes_eq-Decides ys xs).1 (sym ((bytes_eq-Decides xs ys).0 one))) (λ other. (bytes_eq-Decides xs ys).1 (sym ((bytes_eq-Decides ys xs).0 other)))
+  where
+    by : (a b : Bool) → (a ≡ true → b ≡ true) → (b ≡ true → a ≡ true) → a ≡ b
+    by true b there back = sym (there refl)
+    by false true there back = back refl
+    by false false there back = refl
+
+pub any_turned : (x : List ℕ) (list : List (List ℕ)) → list_any (λ other. bytes_eq other x) list ≡ list_any (bytes_eq x) list
+any_turned x [] = refl
+any_turned x (y ∷ list) = ap (λ t. t || list_any (λ other. bytes_eq other x) list) (turned y x) ∙ ap (λ t. bytes_eq x y || t) (any_turned x list)
+
+any_once : (a : List ℕ) (rooms : List ZonedRoom) → list_any (bytes_eq a) (addresses (rooms_once rooms)) ≡ list_any (λ earlier. bytes_eq earlier.address a) rooms
+any_once a [] = refl
+any_once a (x ∷ rooms) = ap (λ t. t || list_any (bytes_eq a) (addresses (filter (other_room x) (rooms_once rooms)))) (turned a x.address) ∙ by (bytes_eq x.address a) refl (any_once a rooms)
+  where
+    by : (b : Bool) → bytes_eq x.address a ≡ b → list_any (bytes_eq a) (addresses (rooms_once rooms)) ≡ list_any (λ earlier. bytes_eq earlier.address a) rooms
+        → (b || list_any (bytes_eq a) (addresses (filter (other_room x) (rooms_once rooms)))) ≡ (b || list_any (λ earlier. bytes_eq earlier.address a) rooms)
+    by true e later = refl
+    by false e later = any_kept x a (rooms_once rooms) (turned a x.address ∙ e) ∙ later
+
+-- one more room, of a new address or not
+pub once_more : (rooms : List ZonedRoom) (room : ZonedRoom) → list_any (bytes_eq room.address) (addresses (rooms_once rooms)) ≡ false → rooms_once (rooms ++ room ∷ []) ≡ rooms_once rooms ++ room ∷ []
+once_more rooms room new = once_last rooms room ∙ ap (λ b. rooms_once rooms ++ cond b [] (room ∷ [])) (sym (any_once room.address rooms) ∙ new)
+
+pub once_same : (rooms : List ZonedRoom) (room : ZonedRoom) → list_any (bytes_eq room.address) (addresses (rooms_once rooms)) ≡ true → rooms_once (rooms ++ room ∷ []) ≡ rooms_once rooms
+once_same rooms room there = once_last rooms room ∙ ap (λ b. rooms_once rooms ++ cond b [] (room ∷ [])) (sym (any_once room.address rooms) ∙ there) ∙ append-nil (rooms_once rooms)
+
+others_stay : (x : ZonedRoom) (rooms : List ZonedRoom) → ((k : ℕ) (d : List ℕ) → k < length (addresses rooms) → x.address ≢ get_or (addresses rooms) k d) → filter (other_room x) rooms ≡ rooms
+others_stay x [] differ = refl
+others_stay x (y ∷ ys) differ =
+    let other : bytes_eq x.address y.address ≡ false = untrue _ (λ here. differ 0 [] (omega arith) ((bytes_eq-Decides x.address y.address).0 here)) in
+    ap (λ b. cond (not b) (y ∷ filter (other_room x) ys) (filter (other_room x) ys)) other
+    ∙ ap (λ list. y ∷ list) (others_stay x ys (λ k d l. differ (suc k) d (omega arith)))
+
+-- rooms of different addresses are all kept
+pub once_rooms : (rooms : List ZonedRoom) → AllPairs ◌≢◌ (addresses rooms) → rooms_once rooms ≡ rooms
+once_rooms [] differ = refl
+once_rooms (x ∷ rooms) differ =
+    ap (λ list. x ∷ filter (other_room x) list) (once_rooms rooms (λ i j d less within. differ (suc i) (suc j) d (omega arith) (omega arith)))
+    ∙ ap (λ list. x ∷ list) (others_stay x rooms (λ k d l. differ 0 (suc k) d (omega arith) (omega arith)))
+
+-- ---- empty rooms
+
+pub new_addresses : (rooms : List ZonedRoom) → map (λ host. host.address) (map new_room rooms) ≡ addresses rooms
+new_addresses [] = refl
+new_addresses (x ∷ rooms) = ap (λ list. x.address ∷ list) (new_addresses rooms)
+
+-- what is kept of rooms has their addresses
+pub hosted_addresses : (rooms : List Room) (kept : List Hosted) → AreHosted rooms kept → room_addresses rooms ≡ map (λ host. host.address) kept
+hosted_addresses [] [] all = refl
+hosted_addresses [] (k ∷ ks) all = absurd all
+hosted_addresses (r ∷ rs) [] all = absurd all
+hosted_addresses (r ∷ rs) (k ∷ ks) all = λ i. sym all.0.at i ∷ hosted_addresses rs ks all.1 i
+
+pub none_in : (rooms : List Room) (listed : List (List ℕ)) → rooms ≡ [] → listed ≡ [] → IsMade rooms listed []
+none_in rooms listed none nothing = record {
+  hosted = subst (λ (list : List Room). AreHosted list []) (sym none) tt;
+  in_order = nothing ∙ sym (ap room_addresses none);
+}
+
+-- one whose address is new
+pub one_in : (olds news : List Room) (listed more : List (List ℕ)) (done : List ZonedRoom) (room : Room) (said : ZonedRoom) → IsHosted room (new_room said)
+    → (is_new : Bool) → AddsAddress listed more said.address is_new → is_new ≡ true → news ≡ olds ++ room ∷ [] → IsMade olds listed done → IsMade news more (done ++ said ∷ [])
+one_in olds news listed more done room said hosted is_new adds added news_is made =
+    let (fresh, more_is) = subst (AddsAddress listed more said.address) added adds in
+    let all = made.in_order ∙ hosted_addresses olds (map new_room (rooms_once done)) made.hosted ∙ new_addresses (rooms_once done) in
+    let once = once_more done said (subst (λ list. list_any (bytes_eq said.address) list ≡ false) all fresh) in
+    let P : List Hosted → Type 0 = AllZip IsHosted news in
+    let Q : List Room → Type 0 = λ list. AllZip IsHosted list (map new_room (rooms_once done) ++ new_room said ∷ []) in
+    record {
+      hosted = subst P (sym (ap (map new_room) once ∙ map-append new_room (rooms_once done) (said ∷ []))) (subst Q (sym news_is) (zip_push IsHosted olds (map new_room (rooms_once done)) room (new_room said) made.hosted hosted));
+      in_order = more_is ∙ ap (λ list. list ++ said.address ∷ []) made.in_order ∙ ap (λ a. room_addresses olds ++ a ∷ []) hosted.at
+          ∙ sym (ap room_addresses news_is ∙ map-append (λ (r : Room). address_octets r.address) olds (room ∷ []));
+    }
+
+-- one whose address is there
+pub one_there : (rooms : List Room) (listed more : List (List ℕ)) (done : List ZonedRoom) (said : ZonedRoom) (is_new : Bool) → AddsAddress listed more said.address is_new → is_new ≡ false
+    → IsMade rooms listed done → IsMade rooms more (done ++ said ∷ [])
+one_there rooms listed more done said is_new adds known made =
+    let (there, same) = subst (AddsAddress listed more said.address) known adds in
+    let all = made.in_order ∙ hosted_addresses rooms (map new_room (rooms_once done)) made.hosted ∙ new_addresses (rooms_once done) in
+    let once = once_same done said (subst (λ list. list_any (bytes_eq said.address) list ≡ true) all there) in
+    record {
+      hosted = subst (λ list. AreHosted rooms (map new_room list)) (sym once) made.hosted;
+      in_order = same ∙ made.in_order;
+    }
+
+-- after one more of the hosts
+pub made_next : (rooms : List Room) (listed : List (List ℕ)) (hosts : List OwnRoom) (i : ℕ) (host : OwnRoom) → i < length hosts → host ≡ get_or hosts i host
+    → IsMade rooms listed (map zoned_room (take i hosts) ++ zoned_room host ∷ []) → IsMade rooms listed (map zoned_room (take (i + 1) hosts))
+made_next rooms listed hosts i host within is made =
+    let all : map zoned_room (take (i + 1) hosts) ≡ map zoned_room (take i hosts) ++ zoned_room host ∷ [] =
+    ap (map zoned_room) (take_more hosts i host within) ∙ map-append zoned_room (take i hosts) (get_or hosts i host ∷ []) ∙ ap (λ (x : OwnRoom). map zoned_room (take i hosts) ++ zoned_room x ∷ []) (sym is) in
+    subst (IsMade rooms listed) (sym all) made
 
 -- ---- clauses of what is found
 

@@ -15,3 +15,4 @@ pub mod PreambleLemmas
 pub mod ScheduleLemmas
 pub mod ServingLemmas
 pub mod SettingLemmas
+pub mod ZoneLemmas

@@ -25,7 +25,9 @@ use Rattle.sched_box.specs.Answering.{AreHosted, IsHosted, RoomsSend, octets_eac
 use Rattle.sched_box.specs.Organising.{AreKeptBy, IsKeptBy, KeepBooks, OrganisersRefuse, OrganisersTake, organiser_addresses}
 use Rattle.sched_box.specs.Schedules.{IsOrganiserOf, IsPlayed, IsRoomOf, IsUnread, IsWorldOf, IsWorldWith, LeadsOn, NobodyTakes, TakesStep, TellsOrganiser, step_said}
 use Rattle.sched_box.specs.declared.schedules.Step.{Step}
+use Rattle.sched_box.specs.Settings.{zoned_room}
 use Rattle.sched_box.specs.declared.schedules.World.{World}
+use Rattle.sched_box.specs.declared.settings.ZonedRoom.{ZonedRoom}
 use Rattle.cal_events.proofs.shared_lemmas.SeriesLemmas.{zip_with}
 use Rattle.sched_box.proofs.HostLemmas.{none_hosted}
 
@@ -226,19 +228,19 @@ plays_more : (steps : List worlds.Step) (step : worlds.Step) (before mid after :
 plays_more [] step before mid after same one = (after, subst (λ w. IsWorldStep step w after) same one, refl)
 plays_more (s ∷ steps) step before mid after (next, first, rest) one = (next, first, plays_more steps step next mid after rest one)
 
-pub played_none : (rooms organisers : List Address) (world : World) → IsWorldOf world (new_world (map address_octets rooms) (map address_octets organisers)) → IsPlayed rooms organisers [] world
-played_none rooms organisers world is = record { after = new_world (map address_octets rooms) (map address_octets organisers); plays = refl; is = is }
+pub played_none : (rooms : List ZonedRoom) (organisers : List Address) (world : World) → IsWorldOf world (new_world (map zoned_room rooms) (map address_octets organisers)) → IsPlayed rooms organisers [] world
+played_none rooms organisers world is = record { after = new_world (map zoned_room rooms) (map address_octets organisers); plays = refl; is = is }
 
-pub played_more : (rooms organisers : List Address) (steps : List Step) (i : ℕ) (step : Step) (old new : World) → IsPlayed rooms organisers (take i steps) old → i < length steps → step ≡ get_or steps i step
+pub played_more : (rooms : List ZonedRoom) (organisers : List Address) (steps : List Step) (i : ℕ) (step : Step) (old new : World) → IsPlayed rooms organisers (take i steps) old → i < length steps → step ≡ get_or steps i step
     → LeadsOn (step_said step) old new → IsPlayed rooms organisers (take (i + 1) steps) new
 played_more rooms organisers steps i step old new so within is leads =
     let (after, of, one) = leads so.after so.is in
-    let before = new_world (map address_octets rooms) (map address_octets organisers) in
+    let before = new_world (map zoned_room rooms) (map address_octets organisers) in
     let all : map step_said (take (i + 1) steps) ≡ map step_said (take i steps) ++ step_said step ∷ [] =
     ap (map step_said) (take_more steps i step within) ∙ map-append step_said (take i steps) (get_or steps i step ∷ []) ∙ ap (λ s. map step_said (take i steps) ++ step_said s ∷ []) (sym is) in
     record { after = after; plays = subst (λ list. Plays list before after) (sym all) (plays_more (map step_said (take i steps)) (step_said step) before so.after after so.plays one); is = of }
 
-pub played_all : (rooms organisers : List Address) (steps : List Step) (i : ℕ) (world : World) → IsPlayed rooms organisers (take i steps) world → length steps ≤ i → IsPlayed rooms organisers steps world
+pub played_all : (rooms : List ZonedRoom) (organisers : List Address) (steps : List Step) (i : ℕ) (world : World) → IsPlayed rooms organisers (take i steps) world → length steps ≤ i → IsPlayed rooms organisers steps world
 played_all rooms organisers steps i world so end = subst (λ list. IsPlayed rooms organisers list world) (take_all i steps end) so
 
 -- ---- what is looked up

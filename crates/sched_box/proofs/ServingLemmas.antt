@@ -11,13 +11,14 @@ use Rattle.sched_box.specs.declared.fault.ServeFault.{ServeFault}
 use Rattle.sched_box.specs.declared.fault.ServeFault.TheVariants.{Read, Write, TooLong, Memory}
 use Rattle.sched_box.specs.declared.objects.Objects.{Objects}
 use Rattle.sched_box.specs.declared.serving.ServeReport.{ServeReport}
-use Rattle.sched_box.specs.Answering.{IsHosted, nothing_taken}
+use Rattle.sched_box.specs.Answering.{IsHosted}
 use Rattle.sched_box.specs.Books.{AnswersKept, AreBooksOf, hosted_rooms}
 use Rattle.sched_box.specs.declared.books.Books.{Books}
 use Rattle.sched_devices.specs.Input.{IsFilledWithin}
 use Rattle.sched_box.specs.Objects.{kept_of, IsStop, TakesNextObject, ReadsObject, StopsReading}
 use Rattle.sched_box.specs.Serving.{AnswersWhole, Ends, Gives, GivesPart, GivesRead, IsWithin, IsWithinBound, ServesAll, ServesSome, HasRead, ServesUntil, Serves, BooksServe, ServesStream, KeepsTexts, StopsKeeping, StopsWithin}
 use Rattle.profile.specs.rooms.Kept.{IsKeptCalendar, IsKeptCertificate}
+use Rattle.cal_zones.specs.RoomZones.{words_of}
 use Rattle.ical_values.specs.Octets.{address_octets}
 use Rattle.ical_values.specs.declared.address.Address.{Address}
 use Rattle.room_books.specs.Room.{Represents}
@@ -27,7 +28,6 @@ use Rattle.sched_box.specs.Faults.{IfRefusedStream, IsReadFault, StopsFor}
 use Rattle.sched_box.specs.Sending.{StopsSending}
 use Rattle.sched_box.specs.Preamble.{OpensStream, OpensNot, StopsInPreamble}
 use Rattle.cal_events.proofs.shared_lemmas.SeriesLemmas.{zip_with}
-use Rattle.sched_box.proofs.HostLemmas.{MadeSofar}
 use Rattle.sched_box.proofs.ObjectLemmas.{after_short}
 
 -- ---- one more object
@@ -474,11 +474,6 @@ serves_none moment before input output fault is =
     none None = tt
     none (Some xs) = (xs, [], refl, refl, after_short xs)
 
--- ---- empty rooms
-
-abbrev pub MadeRooms : List Address → ℕ → List Room → Type 0
-MadeRooms = MadeSofar (λ room. address_octets room.address) IsHosted nothing_taken
-
 -- ---- a stream with its preamble
 
 pub stream_refused : (a left output : Option (List ℕ)) (f : StreamFault) → IfRefusedStream (IfSome a OpensNot) f → StopsInPreamble a left → IsReadFault f → ServesStream (record { input = a; left = left; output = output; written = output }) (Err f)
@@ -530,11 +525,12 @@ stream_whole (Some xs) (Some ys) left output written moment hosts report opens (
 -- what is kept of a room is the texts of its book
 pub keeps_texts : (moment : ℤ) (hosts : Config) (news : Books) (ends : Ends) (report : ServeReport) (room : Room) (address calendar certificate : List ℕ)
     → BooksServe 1_073_741_824 moment (new_box hosts) news ends (Ok report) → Contains news.rooms.rooms.items room → address_octets room.address ≡ address
-    → ((book : Book) → Represents room.meetings.entries book → IsKeptCalendar (address_octets room.address) book calendar) → IsKeptCertificate (address_octets room.address) calendar certificate
+    → ((book : Book) → Represents room.meetings.entries book → IsKeptCalendar (address_octets room.address) (words_of room.zone) book calendar) → IsKeptCertificate (address_octets room.address) calendar certificate
     → KeepsTexts moment hosts ends.input ends.left address calendar certificate
 keeps_texts moment hosts news ends report room address calendar certificate (after, hosted, all) among is text proof' =
     let (kept, has, represents) = zip_with IsHosted news.rooms.rooms.items after.rooms room hosted.rooms among in
-    let S : List ℕ → Type 0 = λ a. IsKeptCalendar a kept.book calendar in
+    let S : List ℕ → Type 0 = λ a. IsKeptCalendar a (words_of room.zone) kept.book calendar in
+    let W : List ℕ → Type 0 = λ words. IsKeptCalendar address words kept.book calendar in
     record {
       objects = all.objects;
       after = after;
@@ -547,7 +543,7 @@ keeps_texts moment hosts news ends report room address calendar certificate (aft
       answers = all.answers;
       has = has;
       at = represents.at ∙ is;
-      calendar_is = subst S is (text kept.book represents.represents);
+      calendar_is = subst W (sym represents.words) (subst S is (text kept.book represents.represents));
       certificate_is = subst (λ a. IsKeptCertificate a calendar certificate) is proof';
     }
 

@@ -8,9 +8,9 @@ use Rattle.ical_values.specs.Octets.{address_octets}
 use Rattle.itip_messages.specs.Message.{RepresentsMessage}
 use Rattle.itip_messages.specs.declared.message.Message.{Message}
 use Rattle.profile.specs.events.Messages as profile
-use Rattle.profile.specs.streams.Streams.{Hosted, Takes, TakesMessage}
+use Rattle.profile.specs.streams.Streams.{Hosted, Takes, TakesMessage, ZonedRoom, new_room}
 use Rattle.profile.specs.streams.Worlds as worlds
-use Rattle.profile.specs.streams.Worlds.{ChangesOne}
+use Rattle.profile.specs.streams.Worlds.{ChangesOne, rooms_once}
 use Rattle.room_books.specs.Room.{Represents}
 use Rattle.room_books.specs.Taking.{refresh_octets, reply_octets}
 use Rattle.room_books.specs.declared.answer.Answer.{Answer}
@@ -30,6 +30,11 @@ pub record IsHosted (room : Room) (hosted : Hosted) : Type 0 where
 -- the rooms are what the box keeps
 abbrev pub AreHosted : List Room → List Hosted → Type 0
 AreHosted rooms box = AllZip IsHosted rooms box
+
+-- empty rooms were made of these, of each address the first, and the addresses are listed in their order
+pub record IsMade (rooms : List Room) (listed : List (List ℕ)) (done : List ZonedRoom) : Type 0 where
+  pub hosted : AreHosted rooms (map new_room (rooms_once done))
+  pub in_order : listed ≡ room_addresses rooms
 
 -- objects, each as its octets
 abbrev pub octets_each : {Z : Type 0} → List (Vec ℕ Z) → List (List ℕ)

@@ -1,7 +1,8 @@
 -- What the lines of a preamble or a configuration have set.
 use Rattle.std.specs.Prelude.{◌≡◌, ◌≢◌, ◌⊎◌, ◌≤◌, ◌<◌, ◌+◌, ℕ, Bool, true, List, [], ◌∷◌, ◌++◌, codes, length, map, Contains, None, Some, AllPairs, slice_index}
 use Rattle.std.specs.Option.{option_to_list}
-use Rattle.std.specs.Str.{is_utf8}
+use Rattle.std.specs.List.{list_all, list_any}
+use Rattle.std.specs.Str.{bytes_eq, is_utf8}
 use Rattle.ical_values.specs.Octets.{address_octets}
 use Rattle.ical_values.specs.declared.address.Address.{Address}
 use Rattle.profile.specs.series.RoomZones.{IsRoomZone}
@@ -25,6 +26,10 @@ zoned_room room = record { address = address_octets room.address; words = words_
 -- the rooms whose zones were given
 abbrev pub zones_of : Settings → List ZonedRoom
 zones_of s = map zoned_room s.zones.items
+
+-- each zone is of a room
+abbrev pub are_of_rooms : List Address → List OwnRoom → Bool
+are_of_rooms rooms zones = list_all (λ zone. list_any (λ room. bytes_eq (address_octets room) (address_octets zone.address)) rooms) zones
 
 -- the text says a room and its zone
 abbrev pub SaysZone : List ℕ → ZonedRoom → Type 0

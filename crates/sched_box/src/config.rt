@@ -1,17 +1,16 @@
 //! The configuration of a box: its rooms and its organisers. It is written in lines, ended by LF or
 //! CRLF, `room ADDRESS`, `zone ADDRESS WORDS` or `organiser ADDRESS` each, in any order, ended by an empty line or by the end
 //! of the input; a preamble has one line `now STAMP` among them. A room without `zone` goes by UTC. This format is roombox's own.
-ghost use Rattle.std.specs.Prelude.{◌≡◌, ◌≢◌, map, AllPairs, IfOk, IfErr};
+ghost use Rattle.std.specs.Prelude.{◌≡◌, ◌≢◌, map, AllPairs, Contains, IfOk, IfErr, IfNone, IfSome};
 ghost use Rattle.ical_lines.specs.Fault.{RefusesOnly};
 ghost use Rattle.ical_values.specs.Octets.{address_octets};
 ghost use Rattle.ical_values.specs.Refused.{IfRefused};
 ghost use Rattle.profile.specs.faults.Faults.{is_preamble_fault};
 ghost use Rattle.profile.specs.streams.Streams.{addresses, room_in};
 ghost use Rattle.cal_zones.specs.RoomZones.{room_of, words_of};
-ghost use Rattle.sched_box.specs.Config.{config_hosts, config_organisers};
-ghost use Rattle.sched_box.specs.Settings.{ReadsSettings, ReadsNone, organisers_of, rooms_of, zoned_room, zones_of};
+ghost use Rattle.sched_box.specs.Settings.{ReadsSettings, ReadsNone, zoned_room};
 
-use crate::settings::{Settings, ZonedRoom, contains, refused, zone_among};
+use crate::settings::{Settings, ZonedRoom, refused, zone_among};
 use cal_zones::RoomZone;
 use ical_lines::Fault;
 use ical_values::{Address, Stamp};
@@ -31,14 +30,15 @@ pub struct Config {
 }
 
 impl Config {
-    ghost use Rattle.std.specs.Prelude.{◌≡◌, ◌≢◌, ◌↔◌, ℕ, List, [], Bool, ℤ, AllPairs, Contains, IsTrue, IfOk, IfErr, IfNone, IfSome};
+    ghost use Rattle.std.specs.Prelude.{◌≡◌, ◌≢◌, ◌↔◌, ℕ, List, [], map, Bool, ℤ, AllPairs, Contains, IsTrue, IfOk, IfErr, IfNone, IfSome};
     ghost use Rattle.cal_zones.specs.RoomZones.{room_of, words_of};
     ghost use Rattle.ical_lines.specs.Fault.{RefusesOnly};
     ghost use Rattle.ical_values.specs.Octets.{address_octets};
     ghost use Rattle.ical_values.specs.Refused.{IfRefused};
     ghost use Rattle.profile.specs.faults.Faults.{is_preamble_fault};
-    ghost use Rattle.profile.specs.streams.Streams.{Config as SaidConfig, IsPreamble, IsConfiguration};
+    ghost use Rattle.profile.specs.streams.Streams.{Config as SaidConfig, IsPreamble, IsConfiguration, room_in};
     ghost use Rattle.sched_box.specs.Config.{config_hosts, config_organisers, config_rooms};
+    ghost use Rattle.sched_box.specs.Settings.{organisers_of, rooms_of, zones_of};
 
     /// The configuration that a file spells: a preamble without its `now`.
     /// Refused: 90.
@@ -49,7 +49,7 @@ impl Config {
     {
         let settings = read_settings(alloc, bytes)?;
         match settings.moment {
-            None => Ok(hosted(alloc, settings)?),
+            None => Ok(Config::of(alloc, settings)?),
             Some(_) => Err(refused()),
         }
     }
@@ -63,9 +63,30 @@ impl Config {
     {
         let settings = read_settings(alloc, bytes)?;
         match settings.moment {
-            Some(moment) => Ok((hosted(alloc, settings)?, moment)),
+            Some(moment) => Ok((Config::of(alloc, settings)?, moment)),
             None => Err(refused()),
         }
+    }
+
+    /// The hosts that settings name, each room in the zone that a line gives it, else in UTC. It fails only when out of memory.
+    fn of(alloc: Global, settings: Settings) -> Result<Config, AllocError>
+        requires rooms { AllPairs ◌≢◌ (rooms_of settings) }
+        requires organisers { AllPairs ◌≢◌ (organisers_of settings) }
+        ensures rooms { IfOk result (λ config. (config_hosts config).rooms ≡ map (room_in (zones_of settings)) (rooms_of settings)) }
+        ensures organisers { IfOk result (λ config. config_organisers config ≡ organisers_of settings) }
+    {
+        let Settings {
+            rooms: addresses,
+            zones,
+            organisers,
+            moment: _,
+        } = settings;
+        let mut rooms = Vec::new(alloc);
+        for address in addresses {
+            let zone = zone_of(&zones, &address);
+            rooms.push(ZonedRoom { address, zone })?;
+        }
+        Ok(Config { rooms, organisers })
     }
 
     /// The rooms, each in its zone, in the order of their lines: no two have one address.
@@ -97,34 +118,22 @@ impl Config {
             (record { address = address_octets room.now; words = words_of zone.now; zone = room_of zone.now })) }
         ensures none { IfNone result (Contains (config_rooms self.now) (address_octets room.now) → ⊥) }
     {
-        for hosted in &self.rooms {
-            if hosted.address == *room {
-                return Some(&hosted.zone);
-            }
-        }
-        None
+        zone_in(self.rooms.as_slice(), room)
     }
 }
 
-/// The hosts that settings name, each room in the zone that a line gives it, else in UTC. It fails only when out of memory.
-fn hosted(alloc: Global, settings: Settings) -> Result<Config, AllocError>
-    requires rooms { AllPairs ◌≢◌ (rooms_of settings) }
-    requires organisers { AllPairs ◌≢◌ (organisers_of settings) }
-    ensures rooms { IfOk result (λ config. (config_hosts config).rooms ≡ map (room_in (zones_of settings)) (rooms_of settings)) }
-    ensures organisers { IfOk result (λ config. config_organisers config ≡ organisers_of settings) }
+/// The zone of the room of this address, which is one of these.
+fn zone_in<'a>(rooms: &'a [ZonedRoom], address: &Address) -> Option<&'a RoomZone>
+    ensures found { IfSome result (λ zone. Contains (map zoned_room rooms.now)
+        (record { address = address_octets address.now; words = words_of zone.now; zone = room_of zone.now })) }
+    ensures none { IfNone result (Contains (addresses (map zoned_room rooms.now)) (address_octets address.now) → ⊥) }
 {
-    let Settings {
-        rooms: addresses,
-        zones,
-        organisers,
-        moment: _,
-    } = settings;
-    let mut rooms = Vec::new(alloc);
-    for address in addresses {
-        let zone = zone_of(&zones, &address);
-        rooms.push(ZonedRoom { address, zone })?;
+    for room in rooms {
+        if room.address == *address {
+            return Some(&room.zone);
+        }
     }
-    Ok(Config { rooms, organisers })
+    None
 }
 
 /// The zone of the room of this address: that which a line gives it, else UTC.
@@ -156,11 +165,7 @@ fn read_settings(alloc: Global, bytes: &[u8]) -> Result<Settings, Fault>
     if settings.rooms.is_empty() && settings.organisers.is_empty() {
         return Err(refused());
     }
-    if !settings
-        .zones
-        .iter()
-        .all(|room| contains(&settings.rooms, &room.address))
-    {
+    if !settings.are_zones_of_rooms() {
         return Err(refused());
     }
     Ok(settings)

@@ -1,16 +1,16 @@
 //! The rooms of a box: a message goes to each that it may be for, in turn.
 
-ghost use Rattle.std.specs.Prelude.{◌≡◌, ◌<◌, ◌++◌, ℕ, List, [], true, false, length, get_or, map, Contains, option_map, IfOk, IfSome, IfNone, OnOk};
+ghost use Rattle.std.specs.Prelude.{◌≡◌, ◌<◌, ◌++◌, ◌∷◌, ℕ, List, [], true, false, length, get_or, map, Contains, option_map, IfOk, IfSome, IfNone, OnOk};
 ghost use Rattle.std.specs.List.{list_any};
 ghost use Rattle.std.specs.Option.{option_to_list};
 ghost use Rattle.std.specs.Str.{bytes_eq};
 ghost use Rattle.ical_values.specs.Octets.{address_octets};
 ghost use Rattle.cal_events.specs.Component.{method_said};
 ghost use Rattle.profile.specs.events.Messages.{is_to_rooms};
-ghost use Rattle.profile.specs.streams.Streams.{new_room};
+ghost use Rattle.profile.specs.streams.Streams.{ZonedRoom as SaidRoom, new_room};
 ghost use Rattle.profile.specs.streams.Worlds.{rooms_once};
 ghost use Rattle.room_books.specs.Taking.{octets_in};
-ghost use Rattle.sched_box.specs.Answering.{AreHosted, IsHosted, RoomTakes, RoomsSend, RoomsTake, octets_each, room_addresses, sent_by, sent_octets};
+ghost use Rattle.sched_box.specs.Answering.{AreHosted, IsHosted, IsMade, RoomTakes, RoomsSend, RoomsTake, octets_each, room_addresses, sent_by, sent_octets};
 ghost use Rattle.sched_box.specs.Asked.{LeavesOut, asks, directory_addresses};
 ghost use Rattle.sched_box.specs.Settings.{zoned_room};
 
@@ -37,9 +37,7 @@ impl Rooms {
         let mut rooms = Vec::new(alloc);
         let mut directory = Directory::new(alloc);
         for host in hosts {
-            if directory.add(&host.address)? {
-                rooms.push(room_of(alloc, host)?)?;
-            }
+            add_room(alloc, &mut rooms, &mut directory, host)?;
         }
         Ok(Rooms { rooms, directory })
     }
@@ -89,6 +87,25 @@ impl Rooms {
         push_answer(&mut sent, answer)?;
         Ok(sent)
     }
+}
+
+/// Adds a room, empty, after the others, unless one of its address is there.
+fn add_room(
+    alloc: Global,
+    rooms: &mut Vec<Room>,
+    directory: &mut Directory,
+    host: &ZonedRoom,
+) -> Result<(), AllocError>
+    ensures { OnOk result ((done : List SaidRoom) → IsMade rooms.old.items (directory_addresses directory.old) done
+        → IsMade rooms.new.items (directory_addresses directory.new) (done ++ zoned_room host.now ∷ [])) }
+{
+    let is_new = directory.add(&host.address)?;
+    if !is_new {
+        return Ok(());
+    }
+    let room = room_of(alloc, host)?;
+    rooms.push(room)?;
+    Ok(())
 }
 
 /// An empty room of this address and zone.

@@ -10,7 +10,7 @@ ghost use Rattle.ical_lines.specs.Fault.{RefusesOnly};
 ghost use Rattle.ical_values.specs.Refused.{IfRefused};
 ghost use Rattle.ical_values.specs.Octets.{address_octets};
 ghost use Rattle.cal_zones.specs.RoomZones.{room_of, words_of};
-ghost use Rattle.sched_box.specs.Settings.{Adds, AddsHost, AddsLine, AddsZone, Breaks, CanAdd, CanHost, IsUnbroken, Reads, SaysNone, SaysZone, zoned_room};
+ghost use Rattle.sched_box.specs.Settings.{Adds, AddsHost, AddsLine, AddsZone, Breaks, CanAdd, CanHost, IsUnbroken, Reads, SaysNone, SaysZone, are_of_rooms, zoned_room};
 
 use cal_zones::RoomZone;
 use ical_lines::{Fault, Refusal};
@@ -96,6 +96,13 @@ impl Settings {
             return add_host(alloc, &mut self.organisers, MOST_ORGANISERS, address);
         }
         Err(refused())
+    }
+
+    /// Whether each zone is of a room.
+    pub(crate) fn are_zones_of_rooms(&self) -> bool
+        ensures { result ≡ are_of_rooms self.now.rooms.items self.now.zones.items }
+    {
+        are_of_rooms(self.rooms.as_slice(), self.zones.as_slice())
     }
 
     /// Sets the moment; a second one is refused.
@@ -205,13 +212,21 @@ fn is_zoned(zones: &[ZonedRoom], address: &Address) -> bool
     zone_among(zones, address).is_some()
 }
 
+/// Whether each zone is of a room.
+fn are_of_rooms(rooms: &[Address], zones: &[ZonedRoom]) -> bool
+    ensures { result ≡ are_of_rooms rooms.now zones.now }
+{
+    zones.iter().all(|zone| has_address(rooms, &zone.address))
+}
+
 /// Whether one of the hosts has this address.
-pub(crate) fn contains(hosts: &[Address], address: &Address) -> bool
+fn contains(hosts: &[Address], address: &Address) -> bool
     ensures { IsTrue result ↔ Contains (map address_octets hosts.now) (address_octets address.now) }
 {
     has_address(hosts, address)
 }
 
+/// The same, as a test.
 fn has_address(hosts: &[Address], address: &Address) -> bool
     ensures { result ≡ list_any (λ hosted. bytes_eq (address_octets hosted) (address_octets address.now)) hosts.now }
 {

@@ -1,7 +1,7 @@
 -- Why nothing is kept.
 use Rattle.std.proofs.Common.{◌≡◌, ◌⊎◌, subst, take, ℕ, ℤ, List, Contains, Option, IfSome, Result, Ok, Err, IfOk, IfErr, inl, inr}
 use Rattle.profile.specs.checker.Calendars.{CertificateHolds}
-use Rattle.profile.specs.streams.Streams.{Config}
+use Rattle.profile.specs.streams.Streams.{Config, addresses}
 use Rattle.sched_box.specs.Faults.{IfRefusedStream, IsReadFault, RefusesPreamble}
 use Rattle.sched_box.specs.Preamble.{OpensStream, OpensNot, StopsInPreamble}
 use Rattle.sched_box.specs.Serving.{KeepsTexts, StopsKeeping}
@@ -23,8 +23,8 @@ unopened input left room (Serve Memory) number read none stops = tt
 
 -- behind it
 pub unkept : {T : Type 0} (r : Result T StreamFault) (input rest left : Option (List ℕ)) (room : List ℕ) (moment : ℤ) (hosts : Config) → OpensStream input rest moment hosts
-    → IfErr r RefusesPreamble → IfErr r (IfRefusedStream (Contains hosts.rooms room → ⊥)) → IfErr r (StopsKeeping rest left)
-    → {X : Type 0} → ((Contains hosts.rooms room → ⊥) → X × Keeps rest left) → IfErr r (KeepsNone input left room)
+    → IfErr r RefusesPreamble → IfErr r (IfRefusedStream (Contains (addresses hosts.rooms) room → ⊥)) → IfErr r (StopsKeeping rest left)
+    → {X : Type 0} → ((Contains (addresses hosts.rooms) room → ⊥) → X × Keeps rest left) → IfErr r (KeepsNone input left room)
 unkept (Ok x) input rest left room moment hosts opens number none bound unhosted = tt
 unkept (Err (Refused e)) input rest left room moment hosts opens number none bound unhosted = (number, inr (moment, hosts, rest, opens, none, (unhosted none).1))
 unkept (Err (Serve Read)) input rest left room moment hosts opens number none bound unhosted = tt

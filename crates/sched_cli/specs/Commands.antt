@@ -2,7 +2,7 @@
 use Rattle.std.specs.Prelude.{◌≡◌, ◌⊎◌, ℕ, ℤ, Bool, true, if◌then◌else◌, ◌==◌, ◌≤◌, List, ◌++◌, take, codes, decimal, Contains, Option, IfSome, Result, Ok, Err}
 use Rattle.std.specs.Io.KnownBytes.{Appends, Keeps}
 use Rattle.profile.specs.checker.Calendars.{CertificateHolds}
-use Rattle.profile.specs.streams.Streams.{Config}
+use Rattle.profile.specs.streams.Streams.{Config, addresses}
 use Rattle.clash_check.specs.Verdicts.{IsRefusedCalendar, IsJudgement}
 use Rattle.clash_check.specs.declared.verdict.Checked.{Checked}
 use Rattle.clash_check.specs.declared.verdict.Verdict.{Verdict}
@@ -128,7 +128,7 @@ pub record KeepsBoth (input left : Option (List ℕ)) (room calendar certificate
 abbrev pub KeepsNone : Option (List ℕ) → Option (List ℕ) → List ℕ → StreamFault → Type 0
 KeepsNone input left room (Refused refusal) =
     (refusal.number ≡ 90) × ((IfSome input OpensNot × StopsInPreamble input left)
-    ⊎ ((moment : ℤ) × (hosts : Config) × (rest : Option (List ℕ)) × OpensStream input rest moment hosts × (Contains hosts.rooms room → ⊥) × Keeps rest left))
+    ⊎ ((moment : ℤ) × (hosts : Config) × (rest : Option (List ℕ)) × OpensStream input rest moment hosts × (Contains (addresses hosts.rooms) room → ⊥) × Keeps rest left))
 KeepsNone input left room (Serve TooLong) =
     (moment : ℤ) × (hosts : Config) × (rest : Option (List ℕ)) × OpensStream input rest moment hosts × HasRead 1_073_741_824 rest left
 KeepsNone input left room (Serve Read) = Unit {0}

@@ -1,7 +1,8 @@
-use Rattle.std.proofs.Common.{arith, rules, subst}
+use Rattle.std.proofs.Common.{◌∙◌, arith, rules, subst, sym}
 use Rattle.std.proofs.lemmas.Result.{err_from_is_err_and}
 use Rattle.sched_box.specs.Settings.{Reads, ReadsNone, SaysNone}
-use Rattle.sched_box.proofs.SettingLemmas.{if_refused, if_refused_map, no_host, not_utf8, says_none_of, is_read}
+use Rattle.sched_box.proofs.SettingLemmas.{if_refused, if_refused_map, no_host, no_room, not_utf8, says_none_of, is_read}
+use Rattle.sched_box.proofs.ZoneLemmas.{of_rooms, stray}
 use Rattle.ical_values.specs.Refused.{IfRefused}
 use Rattle.sched_box.proofs.config.read_settings.Goals.{else-is_empty-via-then-is_empty+else-is_empty-2, else-is_empty-via-else-is_empty}
 use Rattle.sched_box.proofs.config.read_settings.Goals as goal
@@ -20,6 +21,12 @@ returns-then-is_empty-2-clause-none c =
     let same = c.in-Ok.ensures.cases.0 in
     if_refused (ReadsNone c.args.bytes.now) _ (no_host _ _ (subst (Reads c.in_ok-settings.settings) same c.in_ok-settings.ensures.reads) (search rules) (search rules))
 
+pub returns-then-not-are_zones_of_rooms-clause-none : goal.returns-then-not-are_zones_of_rooms-clause-none
+returns-then-not-are_zones_of_rooms-clause-none c =
+    let same = c.in-Ok.ensures.cases.0 in
+    let lost = stray c.in_ok-settings.settings.rooms.items c.in_ok-settings.settings.zones.items (sym c.are_zones_of_rooms.ensures ∙ c.if-not-are_zones_of_rooms.true) in
+    if_refused (ReadsNone c.args.bytes.now) _ (no_room _ _ (subst (Reads c.in_ok-settings.settings) same c.in_ok-settings.ensures.reads) lost.address lost.zoned lost.lacks)
+
 pub returns-clause-reads : goal.returns-clause-reads
 returns-clause-reads c =
     let same = c.in-Ok.ensures.cases.0 in
@@ -28,4 +35,4 @@ returns-clause-reads c =
     (elim c.else-is_empty.branch [
       | else-is_empty-via-then-is_empty+else-is_empty-2 w ↦ (search rules)
       | else-is_empty-via-else-is_empty w ↦ (search rules)
-    ])
+    ]) (of_rooms c.in_ok-settings.settings.rooms.items c.in_ok-settings.settings.zones.items (sym c.are_zones_of_rooms.ensures ∙ c.if-not-are_zones_of_rooms.false))

@@ -14,7 +14,7 @@ returns-clause-sends c =
     let new = c.take.new.self in
     IfOk-weaker c.take.result _ _
     (λ answer steps.
-    let sends = room_sends c.args.now message old new _ _ _ steps c.take.ensures.address in
+    let sends = room_sends c.args.now message old new _ _ _ steps c.take.ensures.address c.take.ensures.zone in
     sent_at c.args.now message c.args.rooms.now.items c.args.place old new (sent_by answer) c.requires.for_rooms c.requires.within
     (subst (λ (room : Room). RoomSends c.args.now message room new (sent_by answer)) c.index_mut-room.ensures.value sends))
     c.take.ensures.steps

@@ -7,6 +7,7 @@ use Rattle.sched_box.specs.Config.{config_hosts}
 use Rattle.profile.specs.rooms.Kept.{IsKeptCalendar, IsKeptCertificate}
 use Rattle.std.proofs.lemmas.Result.{err_from_is_err_and}
 use Rattle.sched_box.proofs.ServingLemmas.{keeps_texts, keeping_stopped}
+use Rattle.sched_box.proofs.ZoneLemmas.{in_zones}
 use Rattle.sched_box.proofs.serving.keep.Goals as goal
 
 pub returns-then-not-has_room-clause-cause : goal.returns-then-not-has_room-clause-cause
@@ -35,8 +36,8 @@ returns-clause-passes g c =
     let calendar = c.in_ok-texts.texts.calendar.items in
     let certificate = c.in_ok-texts.texts.certificate.items in
     subst (λ a. CertificateHolds a calendar certificate) k.at
-    (c.served_texts_pass.ensures c.args.now (config_hosts c.args.config.now) 1 k.objects k.after k.octets k.refused k.answers k.kept k.has calendar
-    (subst (λ a. IsKeptCalendar a k.kept.book calendar) (sym k.at) k.calendar_is) certificate (subst (λ a. IsKeptCertificate a calendar certificate) (sym k.at) k.certificate_is))
+    (c.served_texts_pass.ensures c.args.now (config_hosts c.args.config.now) 1 k.objects k.after k.octets k.refused (in_zones c.args.config.now.rooms.items) k.answers k.kept k.has calendar
+    (subst (λ a. IsKeptCalendar a k.kept.words k.kept.book calendar) (sym k.at) k.calendar_is) certificate (subst (λ a. IsKeptCertificate a calendar certificate) (sym k.at) k.certificate_is))
 
 pub returns-in_err-serve_objects-clause-bound : goal.returns-in_err-serve_objects-clause-bound
 returns-in_err-serve_objects-clause-bound g c =

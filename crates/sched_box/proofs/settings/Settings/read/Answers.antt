@@ -7,7 +7,7 @@ use Rattle.sched_box.proofs.settings.Settings.read.Goals.{then-not-is_empty+in_o
 use Rattle.sched_box.proofs.settings.Settings.read.Goals as goal
 
 pub loop-line-init : goal.loop-line-init
-loop-line-init c = (c.utf8.text, none_yet _ _ c.new.ensures.items c.new-2.ensures.items refl)
+loop-line-init c = (c.utf8.text, none_yet _ _ c.new.ensures.items c.new-2.ensures.items c.new-3.ensures.items refl)
 
 pub returns-then-is_empty-2-clause-reads : goal.returns-then-is_empty-2-clause-reads
 returns-then-is_empty-2-clause-reads c =
