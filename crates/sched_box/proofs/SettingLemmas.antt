@@ -604,27 +604,31 @@ are_hosts s octets r hosts rooms_are organisers_are =
 
 pub is_configuration : (s : Settings) (octets : List ℕ) → ReadsSettings s octets → s.moment ≡ None → (hosts : Config)
     → hosts.rooms ≡ map (room_in (zones_of s)) (rooms_of s) → hosts.organisers ≡ organisers_of s → (closed : Bool) × IsConfiguration closed octets hosts
-is_configuration s octets r none hosts rooms_are organisers_are =
-    (r.reads.closed, record {
-      settings = r.reads.list;
-      says = r.reads.says;
-      text = r.text;
-      short = r.short;
-      timeless = r.reads.holds.moments_are ∙ ap option_to_list none;
-      are = are_hosts s octets r hosts rooms_are organisers_are;
-    })
+is_configuration s octets r none hosts rooms_are organisers_are = (
+  r.reads.closed,
+  record {
+    settings = r.reads.list;
+    says = r.reads.says;
+    text = r.text;
+    short = r.short;
+    timeless = r.reads.holds.moments_are ∙ ap option_to_list none;
+    are = are_hosts s octets r hosts rooms_are organisers_are;
+  },
+)
 
 pub is_preamble : (s : Settings) (octets : List ℕ) → ReadsSettings s octets → (moment : ℤ) → s.moment ≡ Some moment → (hosts : Config)
     → hosts.rooms ≡ map (room_in (zones_of s)) (rooms_of s) → hosts.organisers ≡ organisers_of s → (closed : Bool) × IsPreamble closed octets moment hosts
-is_preamble s octets r moment is hosts rooms_are organisers_are =
-    (r.reads.closed, record {
-      settings = r.reads.list;
-      says = r.reads.says;
-      text = r.text;
-      short = r.short;
-      moment_is = r.reads.holds.moments_are ∙ ap option_to_list is;
-      are = are_hosts s octets r hosts rooms_are organisers_are;
-    })
+is_preamble s octets r moment is hosts rooms_are organisers_are = (
+  r.reads.closed,
+  record {
+    settings = r.reads.list;
+    says = r.reads.says;
+    text = r.text;
+    short = r.short;
+    moment_is = r.reads.holds.moments_are ∙ ap option_to_list is;
+    are = are_hosts s octets r hosts rooms_are organisers_are;
+  },
+)
 
 -- ---- the answers of add_zone
 
@@ -642,11 +646,14 @@ zone_there text zones own says there room said can =
 pub zone_added : (text : List ℕ) (old new : List OwnRoom) (own : OwnRoom) → length old < 64 → SaysZone text (zoned_room own)
     → (Contains (addresses (map zoned_room old)) (address_octets own.address) → ⊥) → new ≡ old ++ own ∷ []
     → (room : ZonedRoom) × SaysZone text room × AddsZone old new room
-zone_added text old new own few says fresh more =
-    (zoned_room own, says, record {
-      can = record { fresh = fresh; few = omega (arith, length-map (map zoned_room old) (λ (room : ZonedRoom). room.address), length-map old zoned_room) };
-      more = ap (map zoned_room) more ∙ map-append zoned_room old (own ∷ []);
-    })
+zone_added text old new own few says fresh more = (
+  zoned_room own,
+  says,
+  record {
+    can = record { fresh = fresh; few = omega (arith, length-map (map zoned_room old) (λ (room : ZonedRoom). room.address), length-map old zoned_room) };
+    more = ap (map zoned_room) more ∙ map-append zoned_room old (own ∷ []);
+  },
+)
 
 -- ---- one room more in the zone that is given
 
