@@ -11,7 +11,7 @@ use Rattle.profile.specs.faults.Faults.{is_between}
 use Rattle.profile.specs.series.RoomZones.{IsRoomZone, BeginsSo, WritesHourMinute, WritesMonthDay}
 use Rattle.profile.specs.series.RuleTexts.{weekday_word}
 use Rattle.profile.specs.series.Zones.{Observance, Zone}
-use Rattle.profile.specs.series.ZoneTexts.{MonthDays, OnDay, FromStart, FromEnd, InWeek, YearRule, is_each_year}
+use Rattle.profile.specs.series.ZoneTexts.{MonthDays, OnDay, FromStart, FromEnd, InWeek, is_each_year}
 use Rattle.profile.specs.streams.Streams.{Setting, Now, Room, InZone, Organiser, IsSetting, SaysSettings, by_end, by_lf, by_crlf, last, with_lf, with_crlf}
 use Rattle.sched_box.specs.Settings.{IsUnbroken, Breaks}
 

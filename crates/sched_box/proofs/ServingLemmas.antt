@@ -20,7 +20,6 @@ use Rattle.sched_box.specs.Serving.{AnswersWhole, Ends, Gives, GivesPart, GivesR
 use Rattle.profile.specs.rooms.Kept.{IsKeptCalendar, IsKeptCertificate}
 use Rattle.cal_zones.specs.RoomZones.{words_of}
 use Rattle.ical_values.specs.Octets.{address_octets}
-use Rattle.ical_values.specs.declared.address.Address.{Address}
 use Rattle.room_books.specs.Room.{Represents}
 use Rattle.sched_box.specs.declared.fault.StreamFault.{StreamFault}
 use Rattle.sched_box.specs.declared.fault.StreamFault.TheVariants as stream

@@ -1,4 +1,3 @@
-use Rattle.std.proofs.Common.{rules}
 use Rattle.sched_box.specs.Asked.{directory_addresses}
 use Rattle.sched_box.specs.Settings.{zoned_room}
 use Rattle.sched_box.proofs.HostLemmas.{one_in, one_there}

@@ -1,5 +1,5 @@
-use Rattle.std.proofs.Common.{◌∙◌, ap, sym, arith, rules, map}
-use Rattle.std.specs.Option.{is_some, option_map}
+use Rattle.std.proofs.Common.{◌∙◌, ap, sym, map}
+use Rattle.std.specs.Option.{is_some}
 use Rattle.ical_values.specs.Octets.{address_octets}
 use Rattle.sched_box.specs.Settings.{zoned_room}
 use Rattle.sched_box.proofs.ZoneLemmas.{is_some_map, some_contains, contains_some}

@@ -1,4 +1,4 @@
-use Rattle.std.proofs.Common.{None, Some, arith, rules}
+use Rattle.std.proofs.Common.{None, Some, arith}
 use Rattle.std.proofs.lemmas.Result.{err_from_is_err_and}
 use Rattle.std.proofs.lemmas.Str.Pattern.{split_parts}
 use Rattle.sched_box.proofs.SettingLemmas.{if_refused, if_refused_map}

@@ -1,4 +1,4 @@
-use Rattle.std.proofs.Common.{ap, map, subst, arith, take, take_all}
+use Rattle.std.proofs.Common.{map, subst, arith, take, take_all}
 use Rattle.profile.specs.streams.Streams.{new_room}
 use Rattle.profile.specs.streams.Worlds.{rooms_once}
 use Rattle.sched_box.specs.Answering.{AreHosted}
