@@ -639,7 +639,7 @@ def main():
             wrong = list(played(str(Path(words.program).resolve()), case, met))
         if wrong:
             differ += 1
-            print(f"stream {number}:", *wrong, sep="\n  ")
+            print(f"stream {number}:", *wrong, sep="\n  ", flush=True)
             Path(f"/tmp/differs-{number}").write_text(case.text, newline="")
     print(f"{words.streams} streams: " + ", ".join(f"{count} {what}" for what, count in sorted(met.items())) + f"; {differ} differ")
     return 1 if differ else 0
