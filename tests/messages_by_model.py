@@ -243,7 +243,7 @@ def some_time(rng, scene, forms):
 
 # what the times of a stream are drawn from: days, the zones that are named, and those of its rooms
 Scene = collections.namedtuple("Scene", "days zones rooms")
-FORMS = ["fixed", "fixed", "fixed", "date", "floating"]
+FORMS = ["fixed", "fixed", "fixed", "date", "date", "floating"]
 
 
 def said(rng, scene, slot, revision, starts, own=None):
@@ -490,10 +490,9 @@ def answered(text):
 
 
 def names_zone(text, words):
-    """Whether a kept calendar names the zone of its room, where that isn't UTC."""
-    lines = text.split("\r\n")
-    return [line for line in lines if line.startswith("X-ROOM-ZONE")] == lines[3:4] if words != "+0000" and lines[3:4] == [f"X-ROOM-ZONE:{words}"] else (
-        words == "+0000" and not any(line.startswith("X-ROOM-ZONE") for line in lines))
+    """Whether a kept calendar names the zone of its room by these words, and none where that is UTC."""
+    named = [(place, line) for place, line in enumerate(text.split("\r\n")) if line.startswith("X-ROOM-ZONE")]
+    return named == ([] if words == "+0000" else [(3, f"X-ROOM-ZONE:{words}")])
 
 
 def kept_instances(text, room):
