@@ -17,6 +17,7 @@ import time
 from datetime import datetime, timedelta
 
 ROOM = "mailto:r{}@example.com"
+NEW_YORK_WORDS = "-0500 -0400 11 1SU 0200 3 2SU 0200"
 ACCEPTED, SENT = b"PARTSTAT=ACCEPTED", b"METHOD:REQUEST"
 FIRST = datetime(2025, 1, 6)
 REQUEST = """BEGIN:VCALENDAR
@@ -162,8 +163,10 @@ def crlf(text):
     return text.replace("\n", "\r\n").encode()
 
 
-def preamble(rooms):
+def preamble(rooms, zone=None):
+    """So many rooms, each in this zone."""
     lines = ["now 20250102T000000Z"] + ["room " + ROOM.format(room) for room in range(rooms)]
+    lines += [f"zone {ROOM.format(room)} {zone}" for room in range(rooms) if zone]
     return ("\n".join(lines) + "\n\n").encode()
 
 
@@ -175,9 +178,9 @@ def requests(count, rooms=1):
         yield crlf(REQUEST.format(number=number, room=room, start=stamp(number), extra=""))
 
 
-def whole_days(count):
+def whole_days(count, zone=None):
     """A stream of requests of one room, each of a whole day, one day after another."""
-    yield preamble(1)
+    yield preamble(1, zone)
     for number in range(count):
         day = (FIRST + timedelta(days=number)).strftime("%Y%m%d")
         text = REQUEST.replace("DTSTART:{start}\nDURATION:PT1H", "DTSTART;VALUE=DATE:{start}")
@@ -226,6 +229,17 @@ def overridden(count):
     yield crlf(head + "".join(one(slot, slot, 0) for slot in range(count + 1)) + tail)
     for number in range(REVISIONS):
         yield crlf(head + one(count, count + 1 - number % 2, number + 1) + tail)
+
+
+def days_in_zones(count):
+    """One message to 64 rooms in zones: days each week, so many of which are moved to others. For each room it is put on the room's clocks."""
+    vevent = REQUEST[REQUEST.index("BEGIN:VEVENT") : REQUEST.index("END:VCALENDAR")].replace("DTSTART:{start}\nDURATION:PT1H", "DTSTART;VALUE=DATE:{start}")
+    day = lambda number: (FIRST + timedelta(days=number)).strftime("%Y%m%d")
+    rooms = f"{ROOM.format(0)}\n" + "".join(f"ATTENDEE:{ROOM.format(room)}\n" for room in range(1, 64))
+    one = lambda start, extra: vevent.format(number=0, room=rooms.rstrip("\n"), start=start, extra=extra)
+    moved = (one(day(7 * week + 1), f"RECURRENCE-ID;VALUE=DATE:{day(7 * week)}\n") for week in range(count))
+    yield preamble(64, NEW_YORK_WORDS)
+    yield crlf(REQUEST[: REQUEST.index("BEGIN:VEVENT")] + one(day(0), "RRULE:FREQ=WEEKLY\n") + "".join(moved) + "END:VCALENDAR\n")
 
 
 def large_objects(count):
@@ -562,6 +576,8 @@ def main():
     for rooms in (16, 50):
         grown(f"the same requests over {rooms} rooms", (1_000, 10_000), lambda count: serve(program, requests(count, rooms), count), None)
     grown("requests of a whole day each", (1_000, 10_000), lambda count: serve(program, whole_days(count), count), None)
+    grown("the same of a room in New York", (1_000, 10_000), lambda count: serve(program, whole_days(count, NEW_YORK_WORDS), count), None)
+    grown("days moved in 64 rooms of a zone", (19, 190), lambda count: serve(program, days_in_zones(count), 64 * (count + 1)), None)
     grown("requests onto one busy time", (6_000, 60_000), lambda count: serve(program, declines(count), 1), None)
     revised = lambda count: serve(program, revisions(count), MEETINGS + count // 2)
     grown(f"revisions of {MEETINGS:,} meetings", (10_000, 100_000), revised, None)

@@ -305,6 +305,7 @@ def configurations(cases, parent):
 
     cases.holds("a configuration of 65,536 octets", (len(of_octets(65_536)), Boxes(parent, of_octets(65_536)).run()), (65_536, DONE))
     for what, text in [("empty", ""), ("with a moment", f"now {NOW}\n{CONFIG}"), ("of one room twice", CONFIG + CONFIG), ("with another line", CONFIG + "what\n"),
+                       ("with two zones of a room", f"{CONFIG}zone {ROOM} -0500\nzone {ROOM} +0100\n"), ("with a zone of no room", CONFIG + "zone mailto:nobody@example.com -0500\n"), ("with words of no zone", f"{CONFIG}zone {ROOM} noon\n"),
                        ("of 65,537 octets", of_octets(65_537)), ("longer than is read", of_octets(65_536) + "\n" + "\n" * 10)]:
         made = Boxes(parent, text)
         made.put(named(1), request("a", "20250310T090000Z", "DURATION:PT1H"))

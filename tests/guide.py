@@ -85,6 +85,12 @@ def preambles(cases, program):
         # where the preamble has no end, the object is taken as part of it
         found = run(program, given=text + request())
         cases.holds(f"preamble with {what}", (found[0], found[1], found[2]), (3, "", "roombox: refused 90\n"))
+    for what, lines in [
+        ("two zones of one room", f"zone {R1} -0500\nzone {R1} +0100\n"), ("the same zone twice", f"zone {R1} {YORK}\nzone {R1} {YORK}\n"), ("a zone of no room", "zone mailto:r2@example.com -0500\n"),
+        ("a zone of an organiser", ANN + "zone mailto:ann@example.com -0500\n"), ("words of no zone", f"zone {R1} America/New_York\n"), ("a zone without words", f"zone {R1}\n"), ("two spaces before words", f"zone {R1}  -0500\n"),
+    ]:
+        found = run(program, given=NOW + ROOM + lines + "\n" + request())
+        cases.holds(f"preamble with {what}", (found[0], found[1], found[2]), (3, "", "roombox: refused 90\n"))
     cases.holds("64 rooms", answers(program, request(room="mailto:r63@example.com"), preamble=NOW + "".join(f"room mailto:r{n}@example.com\n" for n in range(64)) + "\n"), ["ACCEPTED"])
     cases.holds("CRLF in the preamble", answers(program, request(), preamble=PREAMBLE.replace("\n", "\r\n")), ["ACCEPTED"])
     cases.holds("empty lines between objects", answers(program, request(), "\r\n\r\n", request("b", start="20250310T100000Z", lines=("DURATION:PT1H",))), ["ACCEPTED", "ACCEPTED"])
@@ -376,6 +382,45 @@ def whole_days(cases, program):
     cases.holds("lists in up to three lines each", lines_of(dated(lines=lists)),
                 ["DTSTART;VALUE=DATE:20250310", "DURATION:P1D", "RDATE:20250320T090000Z", "RDATE:20250318T090000", "RDATE;VALUE=DATE:20250315,20250316", "EXDATE:00010101T000000", "EXDATE;VALUE=DATE:19600101"])
     cases.holds("an instance is kept by its instant", lines_of(dated(slot="20250310", lines=("DTEND;VALUE=DATE:20250312",))), ["RECURRENCE-ID:20250310T000000Z", "DTSTART;VALUE=DATE:20250310", "DURATION:P2D"])
+
+
+def rooms_in_zones(cases, program):
+    """The same section: rooms whose preamble has their zone."""
+    york, both = (NOW + rooms + f"zone {R1} {YORK}\n\n" for rooms in (ROOM, ROOM + "room mailto:r2@example.com\n"))
+
+    def tried(what, wanted, *objects, preamble=york):
+        cases.holds(what, answers(program, *objects, preamble=preamble), wanted)
+
+    def hour(uid, start, room=R1):
+        return request(uid, start=start, lines=("DURATION:PT1H",), room=room)
+
+    day = dated("ad", "20250309")
+    tried("the last hour of a day of 23", ["ACCEPTED", "DECLINED", "ACCEPTED"], day, hour("b", "20250310T033000Z"), hour("c", "20250310T040000Z"))
+    tried("the hour before it begins", ["ACCEPTED", "ACCEPTED"], day, hour("b", "20250309T040000Z"))
+    tried("in UTC that hour is of the day", ["ACCEPTED", "DECLINED"], day, hour("b", "20250309T040000Z"), preamble=PREAMBLE)
+    tried("a zone before its room", ["ACCEPTED", "DECLINED"], day, hour("b", "20250310T033000Z"), preamble=f"zone {R1} {YORK}\n" + PREAMBLE)
+    tried("a zone of the address in upper case", ["ACCEPTED", "DECLINED"], day, hour("b", "20250310T033000Z"), preamble=f"zone {R1.upper()} {YORK}\n" + PREAMBLE)
+    tried("+0000 is UTC", ["ACCEPTED", "ACCEPTED"], day, hour("b", "20250310T033000Z"), preamble=f"zone {R1} +0000\n" + PREAMBLE)
+    two = f"{R1}\r\nATTENDEE:mailto:r2@example.com"
+    tried("one request, two rooms in two zones", ["ACCEPTED", "ACCEPTED", "DECLINED", "ACCEPTED"], hour("b", "20250310T033000Z", two), day.replace(f"ATTENDEE:{R1}", f"ATTENDEE:{two}"), preamble=both)
+    weeks = dated("w", "20250302", ("RRULE:FREQ=WEEKLY",))
+    tried("a CANCEL of a day", ["ACCEPTED", "ACCEPTED"], weeks, dated("w", "20250309", (), 1, slot="20250309", method="CANCEL"), hour("b", "20250310T033000Z"))
+    tried("an added day", ["ACCEPTED", "ACCEPTED", "DECLINED"], weeks, dated("w", "20250312", method="ADD"), hour("b", "20250313T033000Z"))
+    local = [line if not line.startswith("RECURRENCE") else "RECURRENCE-ID:20250311T050000" for line in vevent("t", start="20250311T150000Z", slot="x")]
+    fixed = vevent("t", start="20250311T120000Z", slot="20250311T090000Z")
+    tried("two VEVENTs of one slot", ["ACCEPTED"], message("REQUEST", fixed, local))
+    tried("of which the greater counts", ["ACCEPTED", "ACCEPTED", "DECLINED"], message("REQUEST", local, fixed), hour("b", "20250311T120000Z"), hour("c", "20250311T150000Z"))
+    tried("in UTC they are of two", ["ACCEPTED", "ACCEPTED"], message("REQUEST", fixed, local), preamble=PREAMBLE)
+    tried("two by one local time", ["REFUSED;OBJECT=1:54"], message("REQUEST", local, local))
+    status, calendar, said = run(program, "keep", R1, given=york + day)
+    cases.holds("a kept calendar names the zone", [line for line in calendar.splitlines() if line.startswith(("PRODID", "X-ROOM", "DTSTART"))], ["PRODID:-//iTIP room box//EN", f"X-ROOM-ZONE:{YORK}", "DTSTART;VALUE=DATE:20250309"])
+    cases.holds("none for UTC", "X-ROOM-ZONE" in run(program, "keep", R1, given=f"zone {R1} +0000\n" + PREAMBLE + day)[1], False)
+    certificate = run(program, "keep", "--certificate", R1, given=york + weeks + day)[1]
+    with tempfile.TemporaryDirectory() as folder:
+        paths = Path(folder, "c"), Path(folder, "k")
+        for path, text in zip(paths, (run(program, "keep", R1, given=york + weeks + day)[1], certificate)):
+            path.write_text(text, newline="")
+        cases.holds("what is kept passes", run(program, "check", *paths, R1)[:2], (0, "yes\n"))
 
 
 def rooms_of_a_zone(cases, program):
@@ -802,7 +847,7 @@ def organisers(cases, program):
 
 def main():
     program, cases = str(Path(sys.argv[1]).resolve()), Cases()
-    for part in (preambles, decisions, instances, added, replies, refusals, kept, zones, times_in_zones, whole_days, rooms_of_a_zone, series, kept_series, organisers, explained, explained_objects, reported, command_line, logged, examples):
+    for part in (preambles, decisions, instances, added, replies, refusals, kept, zones, times_in_zones, whole_days, rooms_in_zones, rooms_of_a_zone, series, kept_series, organisers, explained, explained_objects, reported, command_line, logged, examples):
         part(cases, program)
     print(f"{cases.count} cases, {cases.failed} failed")
     return 1 if cases.failed else 0

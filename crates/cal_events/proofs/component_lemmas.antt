@@ -4,3 +4,4 @@ pub mod OneEventRule
 pub mod OneEvent
 pub mod PlainSingles
 pub mod OwnInstances
+pub mod PlacedTimes

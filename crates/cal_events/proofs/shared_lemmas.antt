@@ -26,3 +26,4 @@ pub mod Overlaps
 pub mod RoomClocks
 pub mod Placing
 pub mod MeetingInstances
+pub mod InRooms

@@ -1,10 +1,12 @@
 -- Which instances events are for, and whether they are of one meeting.
 use Rattle.std.specs.Prelude.{◌≡◌, ◌⊎◌, ℕ, ◌<◌, ◌≤◌, Contains, List, [], length, map, filter, Option, is_some, ℤ, ◌≤ℤ◌, ◌<ℤ◌}
-use Rattle.std.specs.List.{AllZip}
+use Rattle.std.specs.Option.{option_to_list}
+use Rattle.std.specs.List.{AllZip, flat_map}
 use Rattle.profile.specs.checker.Instances.{horizon}
 use Rattle.profile.specs.text.Trees.{Tree}
 use Rattle.profile.specs.events.Properties.{first_second}
 use Rattle.profile.specs.series.Zones.{Zone}
+use Rattle.profile.specs.events.Occurrences.{Time}
 use Rattle.profile.specs.events.EventComponents as profile
 use Rattle.profile.specs.events.Placed.{SaysPlaced}
 use Rattle.profile.specs.events.Events.{AreOfOne, OverridesApart, is_master, is_override, taken_by}
@@ -25,6 +27,10 @@ SharesSlot method events n =
 -- each is for one instance exactly where it names one
 abbrev pub NameInstances : List profile.EventComponent → Type 0
 NameInstances events = (event : profile.EventComponent) → Contains events event → is_some event.written.recurrence ≡ is_override event
+
+-- the times that they name by RECURRENCE-ID
+abbrev pub times_named : List profile.EventComponent → List Time
+times_named events = flat_map (λ event. option_to_list event.written.recurrence) events
 
 -- the instant is in the dates that an event may name
 abbrev pub IsInEventDates : ℤ → Type 0

@@ -1,21 +1,23 @@
 //! The VEVENTs of one meeting (RFC 5545 3.8.4.4, RFC 5546 3.2): of one UID and one ORGANIZER, and each of another slot of it.
 
-ghost use Rattle.std.specs.Prelude.{◌≡◌, ◌<◌, ◌≤◌, None, Some, length, map, filter, option_map, IfOk, IfErr, OnOk};
+ghost use Rattle.std.specs.Prelude.{◌≡◌, ◌≢◌, ◌<◌, ◌≤◌, ◌||◌, AllPairs, MatchBool, None, Some, length, map, filter, option_map, IfOk, IfErr, OnOk};
 ghost use Rattle.std.specs.Option.{option_to_list};
 ghost use Rattle.std.specs.List.{list_all};
 ghost use Rattle.ical_lines.specs.Fault.{RefusesOnly, RefusesBy};
 ghost use Rattle.ical_tree.specs.Tree.{tree_of};
-ghost use Rattle.profile.specs.events.Events.{as_added, is_same_meeting, is_master, is_override, taken_by, AreOfOne, OverridesApart, SaysEvent, EventFault};
-ghost use Rattle.cal_events.specs.Component.{component_of, method_read, vevents_of};
+ghost use Rattle.profile.specs.events.Events.{as_added, is_same_meeting, is_master, is_override, taken_by, AreOfOne, InstancesDiffer, TimesDiffer, OverridesApart, SaysEvent, EventFault};
+ghost use Rattle.profile.specs.rooms.Messages.{instants_in};
+ghost use Rattle.cal_events.specs.Component.{component_of, form_of, method_read, time_of, vevents_of};
 ghost use Rattle.cal_events.specs.OneMeeting.{is_components_fault};
 ghost use Rattle.cal_zones.specs.RoomZones.{room_of};
-ghost use Rattle.cal_events.specs.MeetingComponents.{instants_said, NameInstances, AreOfObject, AreOfObjectIn, IsNotOne, SharesSlot};
+ghost use Rattle.cal_events.specs.MeetingComponents.{instants_said, times_named, NameInstances, AreOfObject, AreOfObjectIn, IsNotOne, SharesSlot};
 
 use crate::component::EventComponent;
 use crate::instants::Instants;
 use crate::method::{Method, adds_instances};
 use crate::reading::read_events;
 use crate::time::Time;
+use crate::when::Form;
 use cal_zones::RoomZone;
 use ical_lines::{Fault, Refusal};
 use ical_tree::Component;
@@ -198,5 +200,102 @@ fn judge_slots(
     ensures differ { OnOk result (OverridesApart (method_read method) (filter is_override (map component_of components.now))) }
     ensures fault { IfErr result (RefusesBy (SharesSlot (method_read method) (map component_of components.now))) }
 {
-    Err(Fault::Memory)
+    if count_masters(components) > 1 {
+        return Err(Fault::Refused(Refusal::TWO_MASTERS));
+    }
+    if share_slot(alloc, components, method)? {
+        return Err(Fault::Refused(Refusal::TWO_OVERRIDES));
+    }
+    Ok(())
+}
+
+/// How many lack RECURRENCE-ID.
+fn count_masters(components: &[EventComponent]) -> usize
+    ensures { result ≡ length (filter is_master (map component_of components.now)) }
+{
+    let mut masters: usize = 0;
+    for component in components {
+        match component.recurrence {
+            Some(_) => {}
+            None => masters += 1,
+        }
+    }
+    masters
+}
+
+/// Whether two are for the same instance: where METHOD is ignored by the instants, in a message by the times as they are written. It fails only
+/// when out of memory.
+fn share_slot(
+    alloc: Global,
+    components: &[EventComponent],
+    method: Option<Method>,
+) -> Result<bool, AllocError>
+    requires named { NameInstances (map component_of components.now) }
+    ensures { IfOk result (λ shares. MatchBool shares (OverridesApart (method_read method) (filter is_override (map component_of components.now)) → ⊥)
+        (OverridesApart (method_read method) (filter is_override (map component_of components.now)))) }
+{
+    match method {
+        None => share_instant(alloc, components),
+        Some(_) => share_time(alloc, components),
+    }
+}
+
+/// Whether two are for the same instant.
+fn share_instant(alloc: Global, components: &[EventComponent]) -> Result<bool, AllocError>
+    ensures { IfOk result (λ shares. MatchBool shares (InstancesDiffer (filter is_override (map component_of components.now)) → ⊥)
+        (InstancesDiffer (filter is_override (map component_of components.now)))) }
+{
+    let mut instants = Vec::new(alloc);
+    for component in components {
+        if let Some(instant) = component.recurrence {
+            instants.push(instant)?;
+        }
+    }
+    Ok(Instants::of(instants).has_twins())
+}
+
+/// Whether two name the same time, of one form and one instant.
+fn share_time(alloc: Global, components: &[EventComponent]) -> Result<bool, AllocError>
+    requires named { NameInstances (map component_of components.now) }
+    ensures { IfOk result (λ shares. MatchBool shares (TimesDiffer (filter is_override (map component_of components.now)) → ⊥)
+        (TimesDiffer (filter is_override (map component_of components.now)))) }
+{
+    let times = times_named(alloc, components)?;
+    let fixed = share_form(alloc, &times, Form::Fixed)?;
+    let floating = share_form(alloc, &times, Form::Floating)?;
+    let whole_days = share_form(alloc, &times, Form::WholeDay)?;
+    Ok(any_of(fixed, floating, whole_days))
+}
+
+fn any_of(a: bool, b: bool, c: bool) -> bool
+    ensures { result ≡ (a || b || c) }
+{
+    a || b || c
+}
+
+/// The times that they name by RECURRENCE-ID.
+fn times_named(alloc: Global, components: &[EventComponent]) -> Result<Vec<Time>, AllocError>
+    ensures { IfOk result (λ times. map time_of times.items ≡ times_named (map component_of components.now)) }
+{
+    let mut times = Vec::new(alloc);
+    for component in components {
+        if let Some(time) = component.written.recurrence {
+            times.push(time)?;
+        }
+    }
+    Ok(times)
+}
+
+/// Whether two of the times of this form have one instant.
+fn share_form(alloc: Global, times: &[Time], form: Form) -> Result<bool, AllocError>
+    ensures { IfOk result (λ shares. MatchBool shares (AllPairs ◌≢◌ (instants_in (form_of form) (map time_of times.now)) → ⊥)
+        (AllPairs ◌≢◌ (instants_in (form_of form) (map time_of times.now)))) }
+{
+    let mut instants = Vec::new(alloc);
+    for time in times {
+        if time.form == form {
+            instants.push(time.instant)?;
+        }
+    }
+    Ok(Instants::of(instants).has_twins())
 }

@@ -33,7 +33,7 @@ impl EventComponent {
     /// An event that was read as it is in a room of this zone. It fails only when out of memory.
     pub(crate) fn placed(self, alloc: Global, room: &RoomZone) -> Result<EventComponent, AllocError>
         requires { ∥ IsWritten (component_of self) ∥₁ }
-        ensures { IfOk result (IsPlaced (room_of room.now) (component_of self)) }
+        ensures { IfOk result (λ placed. IsPlaced (room_of room.now) (component_of self) (component_of placed)) }
     {
         // Only for the proof: the words of the room mean it.
         room.words_mean();
@@ -211,6 +211,12 @@ fn is_slot_fixed(time: Option<Time>) -> bool
 /// Whether each of these times is fixed.
 fn are_fixed(times: &[Time]) -> bool
     ensures { result ≡ list_all (λ time. is_fixed time.form) (map time_of times.now) }
+{
+    is_each_fixed(times)
+}
+
+fn is_each_fixed(times: &[Time]) -> bool
+    ensures { result ≡ list_all (λ time. is_fixed (time_of time).form) times.now }
 {
     times.iter().all(|time| time.form.is_fixed())
 }

@@ -4,6 +4,7 @@ pub mod body_text_lemmas
 pub mod cancel_lemmas
 pub mod examples
 pub mod law_lemmas
+pub mod message_component_lemmas
 pub mod message_lemmas
 pub mod message_events_lemmas
 pub mod own_lines_lemmas

@@ -1,3 +1,3 @@
-pub mod BySlot
+pub mod KnownEvents
 pub mod TreeLemmas
 pub mod MadeMessage

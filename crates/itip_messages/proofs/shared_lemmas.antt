@@ -22,3 +22,4 @@ pub mod BodyContents
 pub mod MeetingLines
 pub mod MessageLemmas
 pub mod PlacedUtc
+pub mod TimesApart

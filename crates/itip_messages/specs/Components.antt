@@ -1,50 +1,26 @@
 -- What the components of a message that was read say.
-use Rattle.std.specs.Prelude.{◌≡◌, ℕ, ℤ, ◌<◌, Bool, true, [], List, length, Contains, All, Option, None, Some, is_some, option_map}
+use Rattle.std.specs.Prelude.{◌≡◌, ℕ, ℤ, Bool, true, List, Contains, Option, Some, option_map}
 use Rattle.std.specs.List.{list_any, AllZip}
 use Rattle.std.specs.Str.{bytes_eq}
 use Rattle.profile.specs.series.Zones.{Zone}
-use Rattle.profile.specs.series.RoomZones.{IsRoomZone}
-use Rattle.profile.specs.events.EventComponents.{AreOfWritten, EventComponent as SaidComponent}
-use Rattle.profile.specs.events.Placed.{IsAt, is_all_fixed}
+use Rattle.profile.specs.events.EventComponents.{EventComponent as SaidComponent}
+use Rattle.profile.specs.events.Placed.{IsAt}
 use Rattle.profile.specs.events.Properties.{BothOrNeither}
 use Rattle.profile.specs.events.Messages as profile
 use Rattle.profile.specs.events.Messages.{AreOfMeeting, SpellsMessage, is_to_rooms, master_in}
 use Rattle.profile.specs.rooms.Messages.{own_revision}
 use Rattle.profile.specs.rooms.Messages as rooms
 use Rattle.profile.specs.rooms.Revisions as revisions
-use Rattle.profile.specs.text.Values.{IsClockSeconds}
 use Rattle.ical_values.specs.Octets.{text_octets, address_octets}
 use Rattle.ical_values.specs.declared.address.Address.{Address}
 use Rattle.ical_values.specs.declared.text.Text.{Text}
 use Rattle.itip_order.specs.Parts.{slot_of, revision_of}
 use Rattle.itip_order.specs.declared.part.Revision.{Revision}
-use Rattle.cal_events.specs.Component.{component_of, method_said, time_of}
-use Rattle.cal_events.specs.InRoom.{AreInstancesOf}
-use Rattle.cal_events.specs.Said.{IsWritten}
-use Rattle.cal_events.specs.declared.component.EventComponent.{EventComponent}
-use Rattle.cal_events.specs.declared.instance.Single.{Single}
+use Rattle.cal_events.specs.Component.{method_said, time_of}
 use Rattle.cal_events.specs.declared.method.Method.{Method}
-use Rattle.cal_events.specs.declared.series.Series.{Series}
 use Rattle.itip_messages.specs.Body.{IsCanonical, IsReady}
 use Rattle.itip_messages.specs.declared.message_component.MessageComponent.{MessageComponent}
-
--- the slot of a VEVENT
-abbrev pub event_slot : EventComponent → revisions.Slot
-event_slot event = rooms.slot_of (component_of event)
-
--- the slot can be written as a stamp
-abbrev pub IsDated : revisions.Slot → Type 0
-IsDated revisions.Whole = Unit {0}
-IsDated (revisions.At t) = IsClockSeconds t
-
--- the slot of an event can, in whichever room
-abbrev pub IsDatedEach : SaidComponent → Type 0
-IsDatedEach event =
-    (words : List ℕ) (zone : Option Zone) → IsRoomZone words zone → (slot : revisions.Slot) → rooms.IsSlotIn zone event slot → IsDated slot
-
--- the event without SUMMARY and who attends
-abbrev pub unattended : SaidComponent → SaidComponent
-unattended event = record event { summary = []; attendees = [] }
+pub use Rattle.itip_messages.specs.MessageEvents.{AreMessageEvents, HaveInstances, IsDated, IsDatedEach, event_slot, unattended}
 
 -- the component is what an event says, whatever the METHOD
 pub record SaysComponent (event : SaidComponent) (component : MessageComponent) : Type 0 where
@@ -58,12 +34,6 @@ pub record SaysComponent (event : SaidComponent) (component : MessageComponent) 
   pub canonical : IsCanonical component.canonical.items event
   pub summary : text_octets component.summary ≡ event.summary
   pub attendees : component.attendees ≡ event.attendees
-
--- the instances of an event are those of one that is the same in each room; or the event is there, but for its SUMMARY and who attends
-abbrev pub HaveInstances : SaidComponent → List Single → Option Series → Option EventComponent → Type 0
-HaveInstances event singles series None =
-    (is_all_fixed event ≡ true) × AreOfWritten event.written event.recurrence event.additions event.exceptions × AreInstancesOf event singles series
-HaveInstances event singles series (Some own) = component_of own ≡ unattended event
 
 -- the component has those of that event
 abbrev pub HasInstances : SaidComponent → MessageComponent → Type 0
@@ -92,17 +62,6 @@ pub record AreLinesRead (asked : Method) (by : Address) (named : Text) (whole : 
   pub said : profile.Message
   pub spells : SpellsMessage octets said
   pub are : AreOfMessage asked by named whole components said
-
--- these are events that a message has
-pub record AreMessageEvents (events : List SaidComponent) : Type 0 where
-  pub some : 0 < length events
-  pub organised : All (λ event. is_some event.organiser ≡ true) events
-  pub stamped : All (λ event. is_some event.stamp ≡ true) events
-  pub dated : All (λ event. IsDated (rooms.slot_of event)) events
-  pub dated_each : All IsDatedEach events
-  pub ready : All IsReady events
-  pub written : All IsWritten events
-  pub instants : All (λ event. AreOfWritten event.written event.recurrence event.additions event.exceptions) events
 
 -- an ATTENDEE line of the component has the room's address
 abbrev pub component_names : List ℕ → MessageComponent → Bool

@@ -1,6 +1,7 @@
 pub mod Attendees
 pub mod Reply
 pub mod Refresh
+pub mod MessageEvents
 pub mod Components
 pub mod Message
 pub mod MeetingText

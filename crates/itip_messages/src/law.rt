@@ -75,10 +75,10 @@ pub fn refreshes_read_back()
     ical_lines::lines_read_back();
 }
 
-/// Whatever a room answers to a message that octets spelled, an organiser hears: the octets of the REPLY spell an object of one meeting, with an
-/// event for each part that the reply shows, in their order. It says the slot and the SEQUENCE that are answered, the moment as DTSTAMP, and
-/// that the room, its one attendee, has accepted or declined; so what is heard in it is exactly the book's answers to these parts (RFC 5546
-/// 3.2.3). Required are clashing instances named in UTF-8, as those of messages are, and octets within the limits of a message.
+/// Whatever a room, in any zone that words give, answers to a message that octets spelled, an organiser hears: the octets of the REPLY spell an
+/// object of one meeting, with an event for each part that the reply shows, in their order. It says the slot and the SEQUENCE that are answered,
+/// the moment as DTSTAMP, and that the room, its one attendee, has accepted or declined; so what is heard in it is exactly the book's answers to
+/// these parts (RFC 5546 3.2.3). Required are clashing instances named in UTF-8, as those of messages are, and octets within the limits of a message.
 pub fn replies_are_heard()
     ensures { (read : List ℕ) (message : Message) (room words : List ℕ) (zone : Option Zone) (book : Book) (claims : List Claim) (octets : List ℕ)
         → SpellsMessage read message → IsRoomZone words zone → AreClaims room zone message claims → AreTextAnswers book

@@ -1,5 +1,6 @@
 //! What one VEVENT of a message says (RFC 5545 3.6.1, RFC 5546 3.2).
-ghost use Rattle.std.specs.Prelude.{◌≡◌, ◌==◌, true, length, List, IfOk, IfSome, IsSome};
+ghost use Rattle.std.specs.Prelude.{◌≡◌, ◌==◌, true, length, List, IfOk, IsSome};
+ghost use Rattle.std.specs.Option.{ForSome};
 ghost use Rattle.ical_values.specs.Octets.{address_octets};
 ghost use Rattle.profile.specs.events.EventComponents as events;
 ghost use Rattle.profile.specs.events.EventComponents.{AreOfWritten};
@@ -13,7 +14,7 @@ ghost use Rattle.cal_events.specs.declared.instance.Single.{Single};
 ghost use Rattle.cal_zones.specs.RoomZones.{room_of};
 ghost use Rattle.itip_order.specs.Parts.{slot_of, revision_of};
 ghost use Rattle.itip_messages.specs.Body.{IsReady};
-ghost use Rattle.itip_messages.specs.Components.{HasInstances, HaveInstances, IsComponentSlot, IsDated, IsDatedEach, SaysComponent, component_names, event_slot, unattended};
+ghost use Rattle.itip_messages.specs.MessageEvents.{HaveInstances, IsDated, IsDatedEach, event_slot, unattended};
 
 use crate::attendees::Attendees;
 use crate::body::canonical_body;
@@ -40,7 +41,7 @@ pub struct MessageComponent {
     pub(crate) series: Option<Series>,
     /// Else the event, without SUMMARY and who attends: each room has instances of its own.
     pub(crate) by_room: Option<EventComponent>,
-    ghost written: { IfSome by_room (λ event. ∥ IsWritten (component_of event) ∥₁) },
+    ghost written: { ForSome by_room (λ event. ∥ IsWritten (component_of event) ∥₁) },
 }
 
 /// The instances of a VEVENT, or what makes them for a room.
@@ -49,7 +50,7 @@ struct Occurring {
     singles: Vec<Single>,
     series: Option<Series>,
     by_room: Option<EventComponent>,
-    ghost written: { IfSome by_room (λ event. ∥ IsWritten (component_of event) ∥₁) },
+    ghost written: { ForSome by_room (λ event. ∥ IsWritten (component_of event) ∥₁) },
 }
 
 /// A VEVENT without its SUMMARY and its ATTENDEE lines, and these.
@@ -61,6 +62,8 @@ struct Parted {
 }
 
 impl MessageComponent {
+    ghost use Rattle.itip_messages.specs.Components.{HasInstances, IsComponentSlot, SaysComponent, component_names};
+
     /// What a VEVENT of a message of this method says. It fails only when out of memory.
     pub(crate) fn of(
         alloc: Global,
@@ -267,7 +270,11 @@ fn without_attendees(alloc: Global, event: EventComponent) -> Result<Parted, All
 }
 
 /// The instances of a VEVENT, or what makes them for a room, where the message is one to rooms. It fails only when out of memory.
-fn instances_for(alloc: Global, method: Method, event: EventComponent) -> Result<Occurring, AllocError>
+fn instances_for(
+    alloc: Global,
+    method: Method,
+    event: EventComponent,
+) -> Result<Occurring, AllocError>
     requires written { ∥ IsWritten (component_of event) ∥₁ }
     requires instants { AreOfWritten (component_of event).written (component_of event).recurrence (component_of event).additions (component_of event).exceptions }
     ensures { IfOk result (λ found. is_to_rooms (method_said method) ≡ true → (said : events.EventComponent) → component_of event ≡ unattended said

@@ -4,17 +4,17 @@ ghost use Rattle.std.specs.Prelude.{◌≡◌, [], map, option_map, filter, IfOk
 ghost use Rattle.std.specs.List.{AllZip, list_any};
 ghost use Rattle.ical_values.specs.Octets.{address_octets};
 ghost use Rattle.cal_zones.specs.RoomZones.{room_of};
-ghost use Rattle.itip_order.specs.Parts.{part_of, parts_of, revision_of};
+ghost use Rattle.itip_order.specs.Parts.{part_of, parts_of, revision_of, slot_of};
 ghost use Rattle.profile.specs.events.Messages as profile;
 ghost use Rattle.profile.specs.rooms.Messages.{AreParts, later_of, raised_to};
-ghost use Rattle.itip_messages.specs.Message.{IsPartFor, RepresentsMessage, cancels_component, has_part, is_component_for, is_message_for};
+ghost use Rattle.itip_messages.specs.Message.{IsPartFor, RepresentsMessage, cancels_component, has_part, is_component_for, is_message_for, part_for};
 
 use crate::message::Message;
 use crate::message_component::MessageComponent;
 use cal_events::Method;
 use cal_zones::RoomZone;
 use ical_values::Address;
-use itip_order::{Body, Part, Revision, greatest_by_slot};
+use itip_order::{Body, Part, Revision, Slot, greatest_by_slot};
 use std::alloc::{AllocError, Global};
 
 impl Message {
@@ -77,6 +77,18 @@ impl Message {
     ) -> Result<Part, AllocError>
         ensures { IfOk result (λ part. IsPartFor (address_octets room.now) (room_of zone.now) self.now component.now (part_of part)) }
     {
+        self.part_at(component, room, component.slot_in(zone))
+    }
+
+    /// The part that a component of the message is for a room, where this is its slot there.
+    fn part_at(
+        &self,
+        component: &MessageComponent,
+        room: &Address,
+        slot: Slot,
+    ) -> Result<Part, AllocError>
+        ensures { IfOk result (λ part. part_of part ≡ part_for (address_octets room.now) self.now component.now (slot_of slot)) }
+    {
         let body = if self.cancels(component) {
             Body::Cancelled
         } else if component.names(room) {
@@ -87,7 +99,7 @@ impl Message {
         Ok(Part {
             organiser: self.organiser().clone()?,
             uid: self.uid().clone()?,
-            slot: component.slot_in(zone),
+            slot,
             revision: raised(self.whole, component.revision),
             body,
         })

@@ -10,3 +10,4 @@ pub mod Orders
 pub mod Lasting
 pub mod Joined
 pub mod SlotsOf
+pub mod SlotEnds

@@ -3,10 +3,10 @@
 ghost use Rattle.std.specs.Prelude.{◌≡◌, IfOk};
 ghost use Rattle.std.specs.List.Sorted.{IsSorted};
 ghost use Rattle.profile.specs.rooms.Messages.{AreGreatest};
-ghost use Rattle.itip_order.specs.Parts.{part_of};
-ghost use Rattle.itip_order.specs.Greatest.{slot_part_cmp};
+ghost use Rattle.itip_order.specs.Parts.{part_of, slot_of};
+ghost use Rattle.itip_order.specs.Greatest.{ends_at, leaving, slot_part_cmp};
 
-use crate::part::Part;
+use crate::part::{Part, Slot};
 use std::alloc::{AllocError, Global};
 use std::cmp::Ordering;
 
@@ -32,18 +32,27 @@ fn last_by_slot<T: Drop>(
 {
     let mut kept: Vec<(Part, T)> = Vec::new(alloc);
     for one in sorted {
-        if ends_at_slot(&kept, &one.0) {
-            kept.pop();
-        }
+        leave_slot(&mut kept, one.0.slot);
         kept.push(one)?;
     }
     Ok(kept)
 }
 
-/// Whether the last of these is of the slot of a part.
-fn ends_at_slot<T>(kept: &[(Part, T)], part: &Part) -> bool {
+/// Takes the last of these away, if it is of this slot.
+fn leave_slot<T: Drop>(kept: &mut Vec<(Part, T)>, slot: Slot)
+    ensures { kept.new.items ≡ leaving (λ one. part_of one.0) (slot_of slot) kept.old.items }
+{
+    if ends_at_slot(kept, slot) {
+        kept.pop();
+    }
+}
+
+/// Whether the last of these is of this slot.
+fn ends_at_slot<T>(kept: &[(Part, T)], slot: Slot) -> bool
+    ensures { result ≡ ends_at (λ one. part_of one.0) (slot_of slot) kept.now }
+{
     match kept.last() {
-        Some((last, _)) => last.slot == part.slot,
+        Some((last, _)) => last.slot.cmp(&slot).is_eq(),
         None => false,
     }
 }

@@ -8,16 +8,13 @@ use Rattle.profile.specs.events.EventComponents.{Attendee, EventComponent}
 use Rattle.profile.specs.rooms.Revisions as Revisions
 use Rattle.profile.specs.rooms.Messages.{slot_named}
 use Rattle.profile.specs.rooms.Kept.{each_once}
-use Rattle.profile.specs.events.Messages as objects
-use Rattle.profile.specs.events.Messages.{AreOfMeeting, is_to_rooms}
+use Rattle.profile.specs.events.Messages.{AreOfMeeting}
 use Rattle.profile.specs.organisers.Organisers as profile
 use Rattle.profile.specs.organisers.Organisers.{Heard, attendees_of, gone_from, heard_in, is_attendee, is_called_off, own_sequence, left_to_server, scheduled_in, without}
 use Rattle.itip_order.specs.declared.part.Slot.{Slot}
 use Rattle.itip_order.specs.declared.part.Slot.TheVariants.{Whole, At}
 use Rattle.itip_order.specs.Parts.{slot_of}
-use Rattle.itip_messages.specs.Components.{AreInOrder}
-use Rattle.itip_messages.specs.Message.{RepresentsMessage, SaysComponent}
-use Rattle.itip_messages.specs.declared.message.Message.{Message}
+use Rattle.itip_messages.specs.Message.{SaysComponent}
 use Rattle.itip_messages.specs.declared.message_component.MessageComponent.{MessageComponent}
 use Rattle.organiser_books.specs.Attending.{addresses_in, attendance_of, gone_among, lists_of, lists_said, names, scheduled_among, schedules_line, sent_among, Attends, AreAttending, Entries}
 use Rattle.organiser_books.specs.declared.attending.Attendance.{Attendance}
@@ -66,11 +63,6 @@ lists_are [] [] z = refl
 lists_are [] (c ∷ cs) z = absurd z
 lists_are (e ∷ es) [] z = absurd z
 lists_are (e ∷ es) (c ∷ cs) z = λ i. z.0.attendees i ∷ lists_are es cs z.1 i
-
--- the components of a message to an organiser are in the order of the text
-pub in_text : (object : Message) (said : objects.Message) → RepresentsMessage object said → is_to_rooms said.method ≡ false → AllZip SaysComponent said.events object.components.items
-in_text object said is apart =
-    subst (λ es. AllZip SaysComponent es object.components.items) (subst (λ b. AreInOrder b said.events is.events) apart is.in_order) is.each
 
 -- one reply's answer
 one_heard : (uid : List ℕ) (e : EventComponent) (c : MessageComponent) → SaysComponent e c → e.uid ≡ uid → (lines : List Attendee) → heard_by uid c lines ≡ profile.heard_of e lines

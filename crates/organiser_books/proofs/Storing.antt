@@ -12,7 +12,7 @@ use Rattle.profile.specs.events.EventComponents.{Attendee, EventComponent}
 use Rattle.profile.specs.rooms.Revisions.{Revision, Slot}
 use Rattle.profile.specs.events.EventComponents as events
 use Rattle.profile.specs.events.Messages as objects
-use Rattle.profile.specs.events.Messages.{is_of_attendee, is_to_rooms}
+use Rattle.profile.specs.events.Messages.{is_of_attendee}
 use Rattle.profile.specs.organisers.Organisers.{Heard, OrganiserBook, Sent, Sends, Stored, StateFault, SendsStore, IsStore, answers_store, gone_from, is_attendee, is_called_off, last_events, last_store, most_sequence, scheduled_in, sequence_after}
 use Rattle.profile.specs.organisers.Organisers.StateFault.{unknown, ahead, spent, stranger}
 use Rattle.itip_order.specs.Parts.{revision_of}
@@ -28,7 +28,7 @@ use Rattle.organiser_books.specs.Calls.CallFault.{in_state}
 use Rattle.organiser_books.specs.Representation.{answer_at, same_text, LatestOf, RepresentsStored, RepresentsAt}
 use Rattle.organiser_books.specs.Storing.{calls_off, is_told_by, sequence_then, LastAttends, SendsObject, SendsTo}
 use Rattle.organiser_books.proofs.Books.{keeps_stored, none_answer, stored_own, KeepsAll}
-use Rattle.organiser_books.proofs.Said.{attendee_is, gone_are, in_text, lists_are, off_are, own_are, scheduled_are}
+use Rattle.organiser_books.proofs.Said.{attendee_is, gone_are, lists_are, off_are, own_are, scheduled_are}
 use Rattle.organiser_books.proofs.Picking.{among_passing}
 
 -- ---- beside what was there
@@ -97,7 +97,7 @@ store_reply e = absurd (cc)
 module _ (address : List ℕ) (object : Message) (said : objects.Message) (is : RepresentsMessage object said) (kind : said.method ≡ events.Store) (own : said.organiser ≡ address) (book : OrganiserBook)
     (meetings : Text → Option StoredMeeting) (keeps : KeepsAll meetings book) where
   each : AllZip SaysComponent said.events object.components.items
-  each = in_text object said is (ap is_to_rooms kind)
+  each = is.each
 
   abbrev last : Option Stored
   last = last_store said.uid book

@@ -8,7 +8,7 @@ use Rattle.profile.specs.events.EventComponents.{Attendee, EventComponent, Parti
 use Rattle.profile.specs.rooms.Revisions.{Revision, Slot}
 use Rattle.profile.specs.events.EventComponents as events
 use Rattle.profile.specs.events.Messages as objects
-use Rattle.profile.specs.events.Messages.{is_of_attendee, is_to_rooms}
+use Rattle.profile.specs.events.Messages.{is_of_attendee}
 use Rattle.profile.specs.organisers.Organisers.{Heard, OrganiserBook, Stored, StateFault, heard_in, is_attendee, last_store, sent_status, participation_word, IsSeen, ShowsSeen}
 use Rattle.profile.specs.organisers.Organisers.StateFault.{unknown, ahead, spent, stranger}
 use Rattle.profile.specs.organisers.Sent.{IsComponentText, IsMeetingText}
@@ -26,7 +26,7 @@ use Rattle.organiser_books.specs.Shown.{ShowsAnswered}
 use Rattle.organiser_books.specs.Representation.{answer_in, answered, heard_said, is_ahead, is_strange, IsReplyFault, RepresentsStored, RepresentsAt}
 use Rattle.organiser_books.proofs.Books.{represented_known, represented_unknown}
 use Rattle.organiser_books.proofs.Latest.{latest_is}
-use Rattle.organiser_books.proofs.Said.{ahead_are, attendee_is, heard_are, in_text, known_is, strangers_are, uids_are}
+use Rattle.organiser_books.proofs.Said.{ahead_are, attendee_is, heard_are, known_is, strangers_are, uids_are}
 
 -- ---- what is asked
 
@@ -67,18 +67,10 @@ some_none a e = absurd (cc)
 -- ---- objects
 
 -- an attendee doesn't speak to rooms
-not_to_rooms : (op : events.Method) → is_of_attendee op ≡ true → is_to_rooms op ≡ false
-not_to_rooms events.Store e = refl
-not_to_rooms events.Request e = sym e
-not_to_rooms events.Add e = sym e
-not_to_rooms events.Cancel e = sym e
-not_to_rooms events.Reply e = refl
-not_to_rooms events.Refresh e = refl
-
 module _ (address : List ℕ) (object : Message) (said : objects.Message) (is : RepresentsMessage object said) (op : events.Method) (kind : said.method ≡ op) (speaks : is_of_attendee op ≡ true)
     (own : said.organiser ≡ address) (book : OrganiserBook) where
   each : AllZip SaysComponent said.events object.components.items
-  each = in_text object said is (ap is_to_rooms kind ∙ not_to_rooms op speaks)
+  each = is.each
 
   abbrev uid : List ℕ
   uid = text_octets object.uid

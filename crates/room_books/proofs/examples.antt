@@ -1,2 +1,3 @@
 pub mod KeptExamples
 pub mod Examples
+pub mod ZonedExamples

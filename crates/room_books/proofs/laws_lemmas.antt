@@ -15,3 +15,4 @@ pub mod KeptReplaced
 pub mod Members
 pub mod KeptLines
 pub mod KeptTimes
+pub mod PlacedTwice

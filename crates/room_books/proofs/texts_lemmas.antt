@@ -1,3 +1,4 @@
-pub mod Writing
 pub mod Keeping
 pub mod PartLines
+pub mod RoomLines
+pub mod Writing

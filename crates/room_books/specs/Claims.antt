@@ -1,5 +1,5 @@
 -- What the components of a message ask of a room.
-use Rattle.std.specs.Prelude.{◌≡◌, ◌×◌, ℕ, true, false, List, [], Contains, Option, None}
+use Rattle.std.specs.Prelude.{◌≡◌, ℕ, true, false, List, [], Contains, Option, None}
 use Rattle.std.specs.List.{AllZip}
 use Rattle.itip_messages.specs.declared.message.Message.{Message}
 use Rattle.itip_messages.specs.declared.message_component.MessageComponent.{MessageComponent}

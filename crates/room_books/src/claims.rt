@@ -88,7 +88,7 @@ fn asked_by(
 
 /// The claims of parts that ask for these. It fails only when out of memory.
 fn claims_for(alloc: Global, kept: Vec<(Part, Asked)>) -> Result<Vec<Claim>, AllocError>
-    ensures { IfOk result (AreClaimsOf kept.items) }
+    ensures { IfOk result (λ claims. AreClaimsOf kept.items claims.items) }
 {
     let mut claims = Vec::new(alloc);
     for (part, asked) in kept {

@@ -57,11 +57,13 @@ const SERVE_MORE: &str = "\
 Input: a preamble, an empty line, and iCalendar objects, one after another:
   now 20250102T000000Z
   room mailto:r1@example.com
+  zone mailto:r1@example.com -0500 -0400 11 1SU 0200 3 2SU 0200
   organiser mailto:ann@example.com
 
   BEGIN:VCALENDAR
   ..
-One `now` line, and a line for each room and each organiser, in any order. Objects for rooms
+One `now` line, and a line for each room and each organiser, in any order; and for a room that
+doesn't go by UTC its zone, in the words that `roombox expand --help` explains. Objects for rooms
 have METHOD REQUEST, ADD or CANCEL; for organisers REPLY, REFRESH, or none: a meeting to store.
 
 Output: the objects that are sent, and for the k-th object, where it is refused, a line

@@ -144,7 +144,7 @@ pub fn explanation(number: u8) -> Option<&'static str>
             "84: a single overlaps with another, or with a series. What to do: compare the calendar's times: the calendar isn't clear.\n",
         ),
         90 => Some(
-            "90: the preamble can't be read; for `keep`, also a room that it doesn't name. What to do: see `roombox serve --help`.\n",
+            "90: the preamble can't be read, as where words mean no zone, or a zone is of no room or the second of one; for `keep`, also a room that it doesn't name. What to do: see `roombox serve --help`.\n",
         ),
         _ => None,
     }

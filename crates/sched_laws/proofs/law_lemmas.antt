@@ -1,4 +1,5 @@
 pub mod Invariant
+pub mod StoredSlots
 pub mod Growing
 pub mod Stores
 pub mod ClaimFacts

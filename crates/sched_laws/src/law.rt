@@ -18,8 +18,8 @@ use room_books::{answers_name_texts, kept_texts_pass, kept_texts_spell, runs_sta
 
 /// Whatever organisers store, and whatever of the messages that were sent is delivered, to whom, how often and in which order: where an organiser
 /// sees that a room has accepted, the part that the last REQUEST of the meeting has for that room is in its view and accepted (RFC 5546 2.1.4,
-/// 3.2.3); what the texts of all meetings confirm for a room, read in its zone, the room has confirmed; so no two instances of these clash; and the calendar of each
-/// room spells what it has confirmed, and its certificate holds for it.
+/// 3.2.3); what the texts of all meetings confirm for a room, read in its zone, the room has confirmed; so no two instances of these clash; and
+/// the calendar of each room spells what it has confirmed, and its certificate holds for it.
 pub fn schedules_hold()
     ensures booked { (rooms : List ZonedRoom) (organisers : List (List ℕ)) (steps : List Step) (world : World) → AreInZones rooms → Plays steps (new_world rooms organisers) world → SeenIsBooked world }
     ensures confirmed { (rooms : List ZonedRoom) (organisers : List (List ℕ)) (steps : List Step) (world : World) → AreInZones rooms → Plays steps (new_world rooms organisers) world → ShownIsConfirmed world }

@@ -1,8 +1,10 @@
 //! Names in place of addresses, and words in place of slots.
 
+use cal_zones::RoomZone;
 use example_cases::NoAnswer;
 use ical_values::{Address, Stamp};
 use itip_order::Slot;
+use sched_box::ZonedRoom;
 use std::alloc::Global;
 
 /// The address that a name stands for.
@@ -19,6 +21,19 @@ pub fn addresses_of(alloc: Global, names: &str) -> Result<Vec<Address>, NoAnswer
         addresses.push(address)?;
     }
     Ok(addresses)
+}
+
+/// The rooms of the addresses that names stand for, in order, in UTC.
+pub fn rooms_of(alloc: Global, names: &str) -> Result<Vec<ZonedRoom>, NoAnswer> {
+    let mut rooms = Vec::new(alloc);
+    for name in names.split_whitespace() {
+        let address = address_of(alloc, name)?;
+        rooms.push(ZonedRoom {
+            address,
+            zone: RoomZone::utc(),
+        })?;
+    }
+    Ok(rooms)
 }
 
 /// The slot of a word: `whole`, or the instant of a stamp.

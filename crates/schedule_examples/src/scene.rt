@@ -1,17 +1,19 @@
 //! A schedule as far as it goes, with the columns that a case takes in turn. A name stands for the address `mailto:NAME@example.com`.
 //!
-//! - `rooms NAMES`, `organisers NAMES`: whom the world hosts; `now STAMP`: the moment of the steps after it;
+//! - `rooms NAMES`, `organisers NAMES`: whom the world hosts; `zone NAME WORDS`: the zone of the rooms of that name among them;
+//! - `now STAMP`: the moment of the steps after it;
 //! - `store NAME FILE`: the organiser of that name is given the octets of a file to store; `octets NAME TEXT`: those that a text spells;
 //! - `deliver NUMBER NAME`: a sent message is delivered to an address;
 //! - anything else is a question about the world that these steps lead to (`questions`).
 
-use crate::names::{address_of, addresses_of};
+use crate::names::{address_of, addresses_of, rooms_of};
 use crate::questions;
+use cal_zones::RoomZone;
 use example_cases::spelled::octets_of;
 use example_cases::words::{count, first_word};
 use example_cases::{Answers, NoAnswer};
 use ical_values::{Address, Stamp};
-use sched_box::{Step, World, play};
+use sched_box::{Step, World, ZonedRoom, play};
 use std::alloc::Global;
 use std::fs;
 use std::rt::Files;
@@ -23,7 +25,7 @@ const NOW: &str = "20250102T000000Z";
 #[derive(Drop)]
 pub struct Scene {
     alloc: Global,
-    rooms: Vec<Address>,
+    rooms: Vec<ZonedRoom>,
     organisers: Vec<Address>,
     now: Stamp,
     steps: Vec<Step>,
@@ -53,12 +55,27 @@ impl Scene {
     ) -> Result<(), NoAnswer> {
         let (word, rest) = first_word(column);
         match word {
-            "rooms" => self.rooms = addresses_of(self.alloc, rest)?,
+            "rooms" => self.rooms = rooms_of(self.alloc, rest)?,
+            "zone" => self.put_in_zone(rest)?,
             "organisers" => self.organisers = addresses_of(self.alloc, rest)?,
             "now" => self.now = Stamp::read(rest)?,
             "store" | "octets" | "deliver" => self.add(rt, word, rest)?,
             _ => self.ask(column, answers)?,
         }
+        Ok(())
+    }
+
+    /// Gives the rooms of a name a zone, by its words.
+    fn put_in_zone(&mut self, text: &str) -> Result<(), NoAnswer> {
+        let (name, words) = first_word(text);
+        let address = address_of(self.alloc, name)?;
+        let zone = RoomZone::read(self.alloc, words)?;
+        for room in self.rooms.iter_mut() {
+            if room.address == address {
+                room.zone = zone;
+            }
+        }
+        self.world = None;
         Ok(())
     }
 

@@ -2,6 +2,7 @@
 
 use crate::parts::{body_text, slot_text};
 use cal_events::Method;
+use cal_zones::RoomZone;
 use example_cases::NoAnswer;
 use example_cases::answers::{append, yes_or_no};
 use ical_values::Address;
@@ -9,7 +10,7 @@ use itip_messages::{Message, MessageComponent, component_lines};
 use itip_order::{Part, Slot};
 use std::alloc::Global;
 
-/// The method, the organiser and the UID; then of a message to rooms the start and the end of each instance that a component asks for, and of
+/// The method, the organiser and the UID; then of a message to rooms the start and the end of each instance that a component asks for, in UTC, and of
 /// one to an organiser the slot of each component, its SEQUENCE and SUMMARY and how many ATTENDEE lines it has.
 pub fn message(alloc: Global, octets: &[u8]) -> Result<String, NoAnswer> {
     let message = Message::read(alloc, octets)?;
@@ -43,7 +44,8 @@ fn append_singles(
     list: &mut String,
     component: &MessageComponent,
 ) -> Result<(), NoAnswer> {
-    for single in component.singles() {
+    let (singles, _) = component.instances_in(alloc, &RoomZone::utc())?;
+    for single in singles.iter() {
         let item = format!(in alloc; "{} to {}", single.span.start, single.span.end)?;
         append(list, ", ", item.as_str())?;
     }
@@ -69,10 +71,15 @@ pub fn components(alloc: Global, octets: &[u8]) -> Result<String, NoAnswer> {
     Ok(message.components().len().to_string(alloc)?)
 }
 
-/// How many parts there are for a room, and each without its meeting.
-pub fn parts(alloc: Global, octets: &[u8], room: &Address) -> Result<String, NoAnswer> {
+/// How many parts there are for a room of this zone, and each without its meeting.
+pub fn parts(
+    alloc: Global,
+    octets: &[u8],
+    room: &Address,
+    zone: &RoomZone,
+) -> Result<String, NoAnswer> {
     let message = Message::read(alloc, octets)?;
-    let parts = message.parts(alloc, room)?;
+    let parts = message.parts(alloc, room, zone)?;
     let mut list = parts.len().to_string(alloc)?;
     for part in parts.iter() {
         let item = part_text(alloc, part)?;

@@ -28,6 +28,7 @@ use crate::calendar_files::{
 use crate::event_files::{event, instances, overlap};
 use crate::message_files::{addressed, components, message, own_lines, parts};
 use crate::series_files::{clashes, first_residues, pairs};
+use cal_zones::RoomZone;
 use example_cases::answers::Answers;
 use example_cases::spelled::octets_of;
 use example_cases::words::first_word;
@@ -98,8 +99,16 @@ fn room_answer(alloc: Global, octets: &[u8], call: &str, input: &str) -> Result<
         "make" => certified(alloc, octets, &room),
         "hand-on" => handed_on(alloc, octets, &room, text),
         "extend" => extended(alloc, octets, &room, text),
-        "parts" => parts(alloc, octets, &room),
+        "parts" => parts(alloc, octets, &room, &zone_named(alloc, text)?),
         "addressed" => addressed(alloc, octets, &room),
         _ => Err(NoAnswer::Unreadable),
     }
+}
+
+/// The zone that words mean; UTC where there are none.
+fn zone_named(alloc: Global, words: &str) -> Result<RoomZone, NoAnswer> {
+    if words.is_empty() {
+        return Ok(RoomZone::utc());
+    }
+    Ok(RoomZone::read(alloc, words)?)
 }

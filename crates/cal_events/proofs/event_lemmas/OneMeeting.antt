@@ -13,7 +13,7 @@ use Rattle.profile.specs.series.Zones.{Zone}
 use Rattle.profile.specs.series.RoomZones.{IsRoomZone}
 use Rattle.profile.specs.events.EventComponents.{EventComponent, Method}
 use Rattle.profile.specs.events.Placed.{SaysPlaced}
-use Rattle.profile.specs.events.Events.{Event, taken_by, is_master, is_override, AreOfOne, InstancesDiffer, SaysEvent, SpellsEvent, EventFault, in_event, two_masters, two_overrides, two_meetings, no_event, EventTextFault, in_lines, in_tree, no_version, many_events, in_vevents}
+use Rattle.profile.specs.events.Events.{Event, taken_by, is_master, is_override, AreOfOne, OverridesApart, SaysEvent, SpellsEvent, EventFault, in_event, two_masters, two_overrides, two_meetings, no_event, EventTextFault, in_lines, in_tree, no_version, many_events, in_vevents}
 use Rattle.cal_events.proofs.reading_lemmas.OneCalendar.{OneEvent, NoFault}
 use Rattle.cal_events.proofs.reading_lemmas.OneText.{OneTree, PairsUp}
 use Rattle.cal_events.proofs.shared_lemmas.Placing.{one_said_placed}
@@ -46,7 +46,7 @@ no_meeting_fault one none words room named object m a n s (two_masters events sa
     let few : length (filter is_master (taken_by m events)) ≤ 1 = subst (λ (l : List EventComponent). length l ≤ 1) (sym (ap (filter is_master) same ∙ s.master)) (at_most a.master) in
     absurd (omega (arith, few, more))
 no_meeting_fault one none words room named object m a n s (two_overrides events says not) =
-    let same = ap (taken_by m) (one_list one words room named object m events s.events says s.says) in not (subst InstancesDiffer (sym (ap (filter is_override) same ∙ s.overrides)) s.differ)
+    let same = ap (taken_by m) (one_list one words room named object m events s.events says s.says) in not (subst (OverridesApart m) (sym (ap (filter is_override) same ∙ s.overrides)) s.differ)
 no_meeting_fault one none words room named object m a n s (two_meetings events says not) =
     let same = one_list one words room named object m events s.events says s.says in not (subst AreOfOne (sym same) s.one)
 no_meeting_fault one none words room named object m a n s (no_event h) =

@@ -1,97 +1,241 @@
--- Which slots events are of: how many are masters, and which instances the others are for.
--- Cited by judge_slots.
-use Rattle.std.proofs.Common.{◌≡◌, ◌≢◌, ◌∙◌, ℕ, ◌+◌, ◌<◌, ◌≤◌, not, cond, List, [], ◌∷◌, ◌++◌, length, map, filter, get_or, take, append-nil, sym, ap, subst, refl, inl, inr, arith, ℤ, pos}
-use Rattle.std.specs.Prelude.{Option, Some, None, is_some, AllPairs}
+-- Which slots events are of: how many are masters, and which instances the others are for, by their instants or by the times that name them.
+-- Behind judge_slots: count_masters, share_instant, share_time, times_named, share_form.
+use Rattle.std.proofs.Common.{◌≡◌, ◌≢◌, ◌∙◌, ℕ, zero, ◌+◌, ◌<◌, ◌≤◌, Bool, true, false, not, cond, ◌||◌, List, [], ◌∷◌, ◌++◌, length, map, filter, get_or, take, append-nil, sym, ap, subst, refl, arith, ℤ}
+use Rattle.std.specs.Prelude.{Option, Some, None, is_some, option_map, AllPairs, MatchBool}
+use Rattle.std.specs.Option.{option_to_list}
+use Rattle.std.specs.List.{flat_map}
 use Rattle.std.specs.List.Sorted.{IsPermutation}
-use Rattle.std.proofs.lemmas.List.{get_or-map, length-map, length-append, map-append, take_more, take_all}
+use Rattle.std.proofs.lemmas.Bool.{true≢false}
+use Rattle.std.proofs.lemmas.Grind.{flat_map-append}
+use Rattle.std.proofs.lemmas.List.{length-append, map-append, take_more, take_all}
 use Rattle.std.proofs.lemmas.List.Sorted.{IsPermutation-sym}
 use Rattle.std.proofs.lemmas.Option.{same_Some}
+use Rattle.profile.specs.rooms.Messages.{instants_in, is_of_form}
+use Rattle.profile.specs.events.Properties.{Form, Fixed, Floating, WholeDay, is_fixed, is_floating, is_whole_day}
+use Rattle.profile.specs.events.Occurrences.{Time as SaidTime}
 use Rattle.profile.specs.events.EventComponents.{EventComponent as SaidComponent}
-use Rattle.profile.specs.events.Events.{is_master, is_override, InstancesDiffer}
-use Rattle.cal_events.specs.Component.{component_of}
+use Rattle.profile.specs.events.Events.{is_master, is_override, InstancesDiffer, TimesDiffer}
+use Rattle.cal_events.specs.Component.{component_of, time_of}
 use Rattle.cal_events.specs.declared.component.EventComponent.{EventComponent}
-use Rattle.cal_events.specs.MeetingComponents.{instants_said, SharesSlot}
+use Rattle.cal_events.specs.declared.time.Time.{Time}
+use Rattle.cal_events.specs.MeetingComponents.{instants_said, times_named, NameInstances}
 use Rattle.cal_events.proofs.draft_lemmas.KeyLemmas.{pairs_permutation}
+use Rattle.cal_events.proofs.shared_lemmas.InOneOrder.{later, head_pairs, tail_pairs, cons_pairs, of_mapped, in_mapped, of_filtered, in_filtered, pairs_mapped, mapped_pairs}
 use Rattle.cal_events.proofs.shared_lemmas.MeetingLemmas.{filter_push}
 
--- ---- instants
+-- ---- two of them are one
 
-some_differ : (ts : List ℤ) → AllPairs ◌≢◌ (map Some ts) → AllPairs ◌≢◌ ts
-some_differ ts h i j d lt w e =
-    h i j (Some d) lt (omega (arith, length-map ts (λ (t : ℤ). Some t), w))
-    (get_or-map Some ts i d (Some d) (omega (arith, lt, w)) ∙ ap Some e ∙ sym (get_or-map Some ts j d (Some d) w))
+some_differ : {X : Type 0} (ts : List X) → AllPairs ◌≢◌ (map Some ts) → AllPairs ◌≢◌ ts
+some_differ ts h = let p = mapped_pairs ◌≢◌ Some ts h in λ i j d l w e. p i j d l w (ap Some e)
 
-differ_some : (ts : List ℤ) → AllPairs ◌≢◌ ts → AllPairs ◌≢◌ (map Some ts)
-differ_some ts h i j d lt w e =
-    let l : length (map Some ts) ≡ length ts = length-map ts Some in
-    let below : j < length ts = omega (arith, l, w) in
-    h i j (pos 0) lt below
-    (same_Some (get_or ts i (pos 0)) (get_or ts j (pos 0)) (sym (get_or-map Some ts i (pos 0) d (omega (arith, lt, below))) ∙ e ∙ get_or-map Some ts j (pos 0) d below))
+differ_some : {X : Type 0} (ts : List X) → AllPairs ◌≢◌ ts → AllPairs ◌≢◌ (map Some ts)
+differ_some {X} ts h = pairs_mapped ◌≢◌ Some ts (λ i j d l w e. h i j d l w (same_Some (get_or ts i d) (get_or ts j d) e))
 
--- ---- components counted
+-- what says the same says as much of it
+match_same : {A B : Type 0} (b : Bool) → (A → B) → (B → A) → MatchBool b (A → ⊥) A → MatchBool b (B → ⊥) B
+match_same true f g h = λ x. h (g x)
+match_same false f g h = f h
 
--- this many of these components are masters, and the others are for these instants
-pub record AreCounted (components : List EventComponent) (count : ℕ) (instants : List ℤ) : Type 0 where
-  pub within : count ≤ length components
-  pub masters : count ≡ length (filter is_master (map component_of components))
-  pub others : map Some instants ≡ instants_said (filter is_override (map component_of components))
+-- in another order, too
+pub twins_in_order : (b : Bool) (ts sorted : List ℤ) → IsPermutation ts sorted → MatchBool b (AllPairs ◌≢◌ sorted → ⊥) (AllPairs ◌≢◌ sorted) → MatchBool b (AllPairs ◌≢◌ ts → ⊥) (AllPairs ◌≢◌ ts)
+twins_in_order b ts sorted same h = match_same b (pairs_permutation sorted ts (IsPermutation-sym ts sorted same)) (pairs_permutation ts sorted same) h
 
-pub none_counted : (ts : List ℤ) → ts ≡ [] → AreCounted [] 0 ts
-none_counted ts e = record { within = omega arith; masters = refl; others = ap (map Some) e }
+-- ---- one component more
 
-master_pushed : (ys : List EventComponent) (x : EventComponent) (count : ℕ) (ts : List ℤ) → x.recurrence ≡ None → AreCounted ys count ts → AreCounted (ys ++ x ∷ []) (count + 1) ts
-master_pushed ys x count ts r c =
-    let masters = filter is_master (map component_of ys) in
-    let others = filter is_override (map component_of ys) in
-    let more = ap length (filter_push is_master ys x ∙ ap (λ o. masters ++ cond (not (is_some o)) (component_of x ∷ []) []) r) ∙ length-append masters (component_of x ∷ []) in
-    let same = filter_push is_override ys x ∙ ap (λ o. others ++ cond (is_some o) (component_of x ∷ []) []) r ∙ append-nil others in
-    record {
-      within = omega (arith, c.within, length-append ys (x ∷ []));
-      masters = omega (arith, c.masters, more);
-      others = c.others ∙ ap instants_said (sym same);
-    }
-
-override_pushed : (ys : List EventComponent) (x : EventComponent) (count : ℕ) (ts : List ℤ) (t : ℤ) → x.recurrence ≡ Some t → AreCounted ys count ts → AreCounted (ys ++ x ∷ []) count (ts ++ t ∷ [])
-override_pushed ys x count ts t r c =
-    let masters = filter is_master (map component_of ys) in
-    let others = filter is_override (map component_of ys) in
-    let same = filter_push is_master ys x ∙ ap (λ o. masters ++ cond (not (is_some o)) (component_of x ∷ []) []) r ∙ append-nil masters in
-    let more = filter_push is_override ys x ∙ ap (λ o. others ++ cond (is_some o) (component_of x ∷ []) []) r in
-    record {
-      within = omega (arith, c.within, length-append ys (x ∷ []));
-      masters = c.masters ∙ ap length (sym same);
-      others =
-          map-append Some ts (t ∷ []) ∙ ap (λ l. l ++ Some t ∷ []) c.others ∙ ap (λ o. instants_said others ++ o ∷ []) (sym r)
-          ∙ sym (map-append (λ (event : SaidComponent). event.recurrence) others (component_of x ∷ [])) ∙ ap instants_said (sym more);
-    }
-
-module _ (all : List EventComponent) (i : ℕ) (x : EventComponent) (count : ℕ) (ts : List ℤ) (within : i < length all) (here : x ≡ get_or all i x) (so_far : AreCounted (take i all) count ts) where
+module _ (all : List EventComponent) (i : ℕ) (x : EventComponent) (within : i < length all) (here : x ≡ get_or all i x) where
   one_more : take (i + 1) all ≡ take i all ++ x ∷ []
   one_more = take_more all i x within ∙ ap (λ y. take i all ++ y ∷ []) (sym here)
 
-  pub master_counted : x.recurrence ≡ None → AreCounted (take (i + 1) all) (count + 1) ts
-  master_counted r = subst (λ (l : List EventComponent). AreCounted l (count + 1) ts) (sym one_more) (master_pushed (take i all) x count ts r so_far)
+  more_for : (P : List EventComponent → Type 0) → P (take i all ++ x ∷ []) → P (take (i + 1) all)
+  more_for P h = subst P (sym one_more) h
 
-  pub override_counted : (t : ℤ) (more : List ℤ) → x.recurrence ≡ Some t → more ≡ ts ++ t ∷ [] → AreCounted (take (i + 1) all) count more
-  override_counted t more r m =
-      subst (AreCounted (take (i + 1) all) count) (sym m)
-      (subst (λ (l : List EventComponent). AreCounted l count (ts ++ t ∷ [])) (sym one_more) (override_pushed (take i all) x count ts t r so_far))
+-- ---- masters
 
-module _ (all : List EventComponent) (i count : ℕ) (ts : List ℤ) (end : length all ≤ i) (so_far : AreCounted (take i all) count ts) where
-  all_counted : AreCounted all count ts
-  all_counted = subst (λ (l : List EventComponent). AreCounted l count ts) (take_all i all end) so_far
+-- this many of these components are masters
+pub record AreMasters (components : List EventComponent) (count : ℕ) : Type 0 where
+  pub within : count ≤ length components
+  pub masters : count ≡ length (filter is_master (map component_of components))
 
-  pub two_masters_are : 1 < count → SharesSlot (map component_of all) 53
-  two_masters_are more = inl (refl, subst (λ n. 1 < n) all_counted.masters more)
+pub no_masters : AreMasters [] 0
+no_masters = record { within = omega arith; masters = refl }
 
-  pub one_master_at_most : count ≤ 1 → length (filter is_master (map component_of all)) ≤ 1
-  one_master_at_most few = subst (λ n. n ≤ 1) all_counted.masters few
+master_pushed : (ys : List EventComponent) (x : EventComponent) (count : ℕ) → x.recurrence ≡ None → AreMasters ys count → AreMasters (ys ++ x ∷ []) (count + 1)
+master_pushed ys x count r c =
+    let masters = filter is_master (map component_of ys) in
+    let more = ap length (filter_push is_master ys x ∙ ap (λ o. masters ++ cond (not (is_some o)) (component_of x ∷ []) []) r) ∙ length-append masters (component_of x ∷ []) in
+    record { within = omega (arith, c.within, length-append ys (x ∷ [])); masters = omega (arith, c.masters, more) }
 
-  module _ (sorted : List ℤ) (same : IsPermutation ts sorted) where
-    pub two_overrides_are : (AllPairs ◌≢◌ sorted → ⊥) → SharesSlot (map component_of all) 54
-    two_overrides_are twins =
-        inr (refl, λ differ. twins (pairs_permutation ts sorted same (some_differ ts (subst (λ (os : List (Option ℤ)). AllPairs ◌≢◌ os) (sym all_counted.others) differ))))
+other_pushed : (ys : List EventComponent) (x : EventComponent) (count : ℕ) (t : ℤ) → x.recurrence ≡ Some t → AreMasters ys count → AreMasters (ys ++ x ∷ []) count
+other_pushed ys x count t r c =
+    let masters = filter is_master (map component_of ys) in
+    let same = filter_push is_master ys x ∙ ap (λ o. masters ++ cond (not (is_some o)) (component_of x ∷ []) []) r ∙ append-nil masters in
+    record { within = omega (arith, c.within, length-append ys (x ∷ [])); masters = c.masters ∙ ap length (sym same) }
 
-    pub overrides_differ : AllPairs ◌≢◌ sorted → InstancesDiffer (filter is_override (map component_of all))
-    overrides_differ differ =
-        subst (λ (os : List (Option ℤ)). AllPairs ◌≢◌ os) all_counted.others (differ_some ts (pairs_permutation sorted ts (IsPermutation-sym ts sorted same) differ))
+module _ (all : List EventComponent) (i : ℕ) (x : EventComponent) (within : i < length all) (here : x ≡ get_or all i x) (count : ℕ) (so_far : AreMasters (take i all) count) where
+  pub master_counted : x.recurrence ≡ None → AreMasters (take (i + 1) all) (count + 1)
+  master_counted r = more_for all i x within here (λ (l : List EventComponent). AreMasters l (count + 1)) (master_pushed (take i all) x count r so_far)
+
+  pub other_counted : (t : ℤ) → x.recurrence ≡ Some t → AreMasters (take (i + 1) all) count
+  other_counted t r = more_for all i x within here (λ (l : List EventComponent). AreMasters l count) (other_pushed (take i all) x count t r so_far)
+
+pub all_masters : (all : List EventComponent) (i count : ℕ) → length all ≤ i → AreMasters (take i all) count → count ≡ length (filter is_master (map component_of all))
+all_masters all i count end h = subst (λ (l : List EventComponent). count ≡ length (filter is_master (map component_of l))) (take_all i all end) h.masters
+
+-- ---- instants
+
+-- these components are for these instants
+abbrev pub AreFor : List EventComponent → List ℤ → Type 0
+AreFor components instants = map Some instants ≡ instants_said (filter is_override (map component_of components))
+
+master_for : (ys : List EventComponent) (x : EventComponent) (ts : List ℤ) → x.recurrence ≡ None → AreFor ys ts → AreFor (ys ++ x ∷ []) ts
+master_for ys x ts r h =
+    let others = filter is_override (map component_of ys) in
+    let same = filter_push is_override ys x ∙ ap (λ o. others ++ cond (is_some o) (component_of x ∷ []) []) r ∙ append-nil others in h ∙ ap instants_said (sym same)
+
+override_for : (ys : List EventComponent) (x : EventComponent) (ts : List ℤ) (t : ℤ) → x.recurrence ≡ Some t → AreFor ys ts → AreFor (ys ++ x ∷ []) (ts ++ t ∷ [])
+override_for ys x ts t r h =
+    let others = filter is_override (map component_of ys) in
+    let more = filter_push is_override ys x ∙ ap (λ o. others ++ cond (is_some o) (component_of x ∷ []) []) r in
+    map-append Some ts (t ∷ []) ∙ ap (λ l. l ++ Some t ∷ []) h ∙ ap (λ o. instants_said others ++ o ∷ []) (sym r)
+    ∙ sym (map-append (λ (event : SaidComponent). event.recurrence) others (component_of x ∷ [])) ∙ ap instants_said (sym more)
+
+module _ (all : List EventComponent) (i : ℕ) (x : EventComponent) (within : i < length all) (here : x ≡ get_or all i x) (ts : List ℤ) (so_far : AreFor (take i all) ts) where
+  pub none_more : x.recurrence ≡ None → AreFor (take (i + 1) all) ts
+  none_more r = more_for all i x within here (λ (l : List EventComponent). AreFor l ts) (master_for (take i all) x ts r so_far)
+
+  pub instant_more : (t : ℤ) (more : List ℤ) → x.recurrence ≡ Some t → more ≡ ts ++ t ∷ [] → AreFor (take (i + 1) all) more
+  instant_more t more r m =
+      subst (AreFor (take (i + 1) all)) (sym m) (more_for all i x within here (λ (l : List EventComponent). AreFor l (ts ++ t ∷ [])) (override_for (take i all) x ts t r so_far))
+
+pub share_by_instant : (all : List EventComponent) (i : ℕ) (b : Bool) (ts : List ℤ) → length all ≤ i → AreFor (take i all) ts → MatchBool b (AllPairs ◌≢◌ ts → ⊥) (AllPairs ◌≢◌ ts)
+    → MatchBool b (InstancesDiffer (filter is_override (map component_of all)) → ⊥) (InstancesDiffer (filter is_override (map component_of all)))
+share_by_instant all i b ts end are h =
+    let for : AreFor all ts = subst (λ (l : List EventComponent). AreFor l ts) (take_all i all end) are in
+    match_same b (λ p. subst (λ (os : List (Option ℤ)). AllPairs ◌≢◌ os) for (differ_some ts p)) (λ p. some_differ ts (subst (λ (os : List (Option ℤ)). AllPairs ◌≢◌ os) (sym for) p)) h
+
+-- ---- times
+
+-- they name these
+abbrev pub AreNamed : List EventComponent → List Time → Type 0
+AreNamed components times = map time_of times ≡ times_named (map component_of components)
+
+abbrev named_by : SaidComponent → List SaidTime
+named_by event = option_to_list event.written.recurrence
+
+pushed_named : (ys : List EventComponent) (x : EventComponent) → times_named (map component_of (ys ++ x ∷ [])) ≡ times_named (map component_of ys) ++ (option_to_list (option_map time_of x.written.recurrence) ++ [])
+pushed_named ys x = ap times_named (map-append component_of ys (x ∷ [])) ∙ flat_map-append named_by (map component_of ys) (component_of x ∷ [])
+
+module _ (all : List EventComponent) (i : ℕ) (x : EventComponent) (within : i < length all) (here : x ≡ get_or all i x) (ts : List Time) (so_far : AreNamed (take i all) ts) where
+  pub no_time_more : x.written.recurrence ≡ None → AreNamed (take (i + 1) all) ts
+  no_time_more r =
+      let old = times_named (map component_of (take i all)) in
+      more_for all i x within here (λ (l : List EventComponent). AreNamed l ts)
+      (so_far ∙ sym (pushed_named (take i all) x ∙ ap (λ (o : Option Time). old ++ (option_to_list (option_map time_of o) ++ [])) r ∙ append-nil old))
+
+  pub time_more : (t : Time) (more : List Time) → x.written.recurrence ≡ Some t → more ≡ ts ++ t ∷ [] → AreNamed (take (i + 1) all) more
+  time_more t more r m =
+      let old = times_named (map component_of (take i all)) in
+      more_for all i x within here (λ (l : List EventComponent). AreNamed l more)
+      (ap (map time_of) m ∙ map-append time_of ts (t ∷ []) ∙ ap (λ l. l ++ time_of t ∷ []) so_far
+      ∙ sym (pushed_named (take i all) x ∙ ap (λ (o : Option Time). old ++ (option_to_list (option_map time_of o) ++ [])) r))
+
+pub all_named : (all : List EventComponent) (i : ℕ) (ts : List Time) → length all ≤ i → AreNamed (take i all) ts → AreNamed all ts
+all_named all i ts end h = subst (λ (l : List EventComponent). AreNamed l ts) (take_all i all end) h
+
+abbrev written_time : SaidComponent → Option SaidTime
+written_time event = event.written.recurrence
+
+-- each that is for an instance names one
+named_times : (events : List SaidComponent) → NameInstances events → map Some (times_named events) ≡ map (λ event. event.written.recurrence) (filter is_override events)
+named_times [] h = refl
+named_times (e ∷ es) h = go e.written.recurrence e.recurrence refl (h e (zero, omega arith, refl)) (named_times es (λ x c. h x (later e x es c)))
+  where
+    go : (w : Option SaidTime) (r : Option ℤ) → e.written.recurrence ≡ w → is_some w ≡ is_some r → map Some (times_named es) ≡ map written_time (filter is_override es)
+        → map Some (option_to_list w ++ times_named es) ≡ map written_time (cond (is_some r) (e ∷ filter is_override es) (filter is_override es))
+    go None None q p rest = rest
+    go (Some w) (Some r) q p rest = λ i. sym q i ∷ rest i
+    go None (Some r) q p rest = absurd (true≢false (sym p))
+    go (Some w) None q p rest = absurd (true≢false p)
+
+-- ---- times of one form
+
+form_is : (form : Form) (time : SaidTime) → is_of_form form time ≡ true → time.form ≡ form
+form_is form time h = go form time.form refl h
+  where
+    go : (form other : Form) → time.form ≡ other → is_of_form form time ≡ true → other ≡ form
+    go Fixed Fixed e h = refl
+    go Fixed Floating e h = absurd (true≢false (sym h ∙ ap is_fixed e))
+    go Fixed WholeDay e h = absurd (true≢false (sym h ∙ ap is_fixed e))
+    go Floating Fixed e h = absurd (true≢false (sym h ∙ ap is_floating e))
+    go Floating Floating e h = refl
+    go Floating WholeDay e h = absurd (true≢false (sym h ∙ ap is_floating e))
+    go WholeDay Fixed e h = absurd (true≢false (sym h ∙ ap is_whole_day e))
+    go WholeDay Floating e h = absurd (true≢false (sym h ∙ ap is_whole_day e))
+    go WholeDay WholeDay e h = refl
+
+of_its_form : (time : SaidTime) → is_of_form time.form time ≡ true
+of_its_form time = go time.form refl
+  where
+    go : (form : Form) → time.form ≡ form → is_of_form form time ≡ true
+    go Fixed e = ap is_fixed e
+    go Floating e = ap is_floating e
+    go WholeDay e = ap is_whole_day e
+
+pub form_end : (form : Form) (all : List Time) (i : ℕ) (instants : List ℤ) → length all ≤ i → instants ≡ instants_in form (map time_of (take i all)) → instants ≡ instants_in form (map time_of all)
+form_end form all i instants end is = is ∙ ap (λ (l : List Time). instants_in form (map time_of l)) (take_all i all end)
+
+abbrev with_first : Form → SaidTime → List SaidTime → Bool → List ℤ
+with_first form t ts b = map (λ time. time.instant) (cond b (t ∷ filter (is_of_form form) ts) (filter (is_of_form form) ts))
+
+same_time : (a b : SaidTime) → a.form ≡ b.form → a.instant ≡ b.instant → a ≡ b
+same_time a b p q = λ i. record { form = p i; instant = q i }
+
+forms_differ : (ts : List SaidTime) → AllPairs ◌≢◌ ts → (form : Form) → AllPairs ◌≢◌ (instants_in form ts)
+forms_differ [] d form = λ i j d l w. absurd (omega (arith, w))
+forms_differ (t ∷ ts) d form = go (is_of_form form t) refl (forms_differ ts (tail_pairs ◌≢◌ t ts d) form)
+  where
+    go : (b : Bool) → is_of_form form t ≡ b → AllPairs ◌≢◌ (instants_in form ts) → AllPairs ◌≢◌ (with_first form t ts b)
+    go false e rest = rest
+    go true e rest =
+        cons_pairs ◌≢◌ t.instant (instants_in form ts)
+        (λ y c same.
+        let u = of_mapped (λ (time : SaidTime). time.instant) (filter (is_of_form form) ts) y c in
+        let at = of_filtered (is_of_form form) ts u.0 u.1 in
+        head_pairs ◌≢◌ t u.0 ts d at.0 (same_time t u.0 (form_is form t e ∙ sym (form_is form u.0 at.1)) (same ∙ sym u.2))) rest
+
+by_forms : (ts : List SaidTime) → ((form : Form) → AllPairs ◌≢◌ (instants_in form ts)) → AllPairs ◌≢◌ ts
+by_forms [] h = λ i j d l w. absurd (omega (arith, w))
+by_forms (t ∷ ts) h =
+    cons_pairs ◌≢◌ t ts
+    (λ u c e.
+    head_pairs ◌≢◌ t.instant u.instant (instants_in t.form ts) (subst (λ (b : Bool). AllPairs ◌≢◌ (with_first t.form t ts b)) (of_its_form t) (h t.form))
+    (in_mapped (λ (time : SaidTime). time.instant) (filter (is_of_form t.form) ts) u
+    (in_filtered (is_of_form t.form) ts u c (subst (λ (v : SaidTime). is_of_form t.form v ≡ true) e (of_its_form t))))
+    (ap (λ (time : SaidTime). time.instant) e))
+    (by_forms ts (λ form. less form (is_of_form form t) (h form)))
+  where
+    less : (form : Form) (b : Bool) → AllPairs ◌≢◌ (with_first form t ts b) → AllPairs ◌≢◌ (instants_in form ts)
+    less form true p = tail_pairs ◌≢◌ t.instant (instants_in form ts) p
+    less form false p = p
+
+abbrev pub TellsTwins : Bool → List ℤ → Type 0
+TellsTwins b ts = MatchBool b (AllPairs ◌≢◌ ts → ⊥) (AllPairs ◌≢◌ ts)
+
+in_any_form : (ts : List SaidTime) (a b c : Bool) → TellsTwins a (instants_in Fixed ts) → TellsTwins b (instants_in Floating ts) → TellsTwins c (instants_in WholeDay ts)
+    → MatchBool (a || b || c) (AllPairs ◌≢◌ ts → ⊥) (AllPairs ◌≢◌ ts)
+in_any_form ts true b c x y z = λ d. x (forms_differ ts d Fixed)
+in_any_form ts false true c x y z = λ d. y (forms_differ ts d Floating)
+in_any_form ts false false true x y z = λ d. z (forms_differ ts d WholeDay)
+in_any_form ts false false false x y z = by_forms ts each
+  where
+    each : (form : Form) → AllPairs ◌≢◌ (instants_in form ts)
+    each Fixed = x
+    each Floating = y
+    each WholeDay = z
+
+pub share_by_time : (events : List SaidComponent) → NameInstances events → (ts : List SaidTime) → ts ≡ times_named events → (a b c : Bool) → TellsTwins a (instants_in Fixed ts) → TellsTwins b (instants_in Floating ts)
+    → TellsTwins c (instants_in WholeDay ts) → MatchBool (a || b || c) (TimesDiffer (filter is_override events) → ⊥) (TimesDiffer (filter is_override events))
+share_by_time events named ts is a b c x y z =
+    let same : map Some ts ≡ map (λ event. event.written.recurrence) (filter is_override events) = ap (map Some) is ∙ named_times events named in
+    match_same (a || b || c) (λ p. subst (λ (os : List (Option SaidTime)). AllPairs ◌≢◌ os) same (differ_some ts p)) (λ p. some_differ ts (subst (λ (os : List (Option SaidTime)). AllPairs ◌≢◌ os) (sym same) p))
+    (in_any_form ts a b c x y z)

@@ -2,7 +2,7 @@
 -- Cited by Event::read of event, MeetingComponents::of of meeting_components, MeetingComponents::read of meeting_components, judge_meeting of meeting_components, read_meeting of meeting_components.
 use Rattle.std.proofs.Common.{◌≡◌, ◌∙◌, ℕ, zero, suc, ◌<◌, ◌≤◌, Global, Bool, true, false, ◌&&◌, cond, List, [], ◌∷◌, ◌++◌, length, map, filter, append-nil, sym, ap, subst, refl, inl, inr, arith, ℤ, ◌||◌}
 use Rattle.std.specs.Option.{option_to_list}
-use Rattle.std.specs.Prelude.{Option, Some, None, Contains, unwrap_or, Result, Ok, Err, IfOk, IfErr, Vec}
+use Rattle.std.specs.Prelude.{Option, Some, None, Contains, is_some, unwrap_or, Result, Ok, Err, IfOk, IfErr, Vec}
 use Rattle.std.specs.List.{AllZip, list_all}
 use Rattle.std.proofs.lemmas.List.Folds.{list_all-map}
 use Rattle.std.specs.Str.{bytes_eq}
@@ -23,15 +23,16 @@ use Rattle.ical_values.proofs.Exits.{err_exit}
 use Rattle.profile.specs.text.Lines.{logical_lines, reads_as_lines}
 use Rattle.profile.specs.text.Trees.{Tree, vevents}
 use Rattle.profile.specs.series.Zones.{Zone}
-use Rattle.profile.specs.events.Placed.{SaysPlaced}
+use Rattle.profile.specs.events.Properties.{BothOrNeither}
+use Rattle.profile.specs.events.Placed.{IsAt, IsPlaced, SaysPlaced}
 use Rattle.profile.specs.events.EventComponents.{EventComponent as SaidComponent, meeting_said, Method, Store, Request, Add, Cancel, Reply, Refresh}
-use Rattle.profile.specs.events.Events.{Event, as_added, taken_by, is_same_meeting, is_master, is_override, is_meeting_fault, AreOfOne, InstancesDiffer, SaysEvent, SpellsEvent, EventFault, in_event, two_masters, two_overrides, no_event, two_meetings, EventTextFault, in_lines, in_tree, no_version, many_events, in_vevents}
+use Rattle.profile.specs.events.Events.{Event, as_added, taken_by, is_same_meeting, is_master, is_override, is_meeting_fault, AreOfOne, OverridesApart, SaysEvent, SpellsEvent, EventFault, in_event, two_masters, two_overrides, no_event, two_meetings, EventTextFault, in_lines, in_tree, no_version, many_events, in_vevents}
 use Rattle.cal_events.specs.Component.{component_of, IsFaultAmong}
 use Rattle.cal_events.specs.declared.component.EventComponent.{EventComponent}
-use Rattle.cal_events.specs.MeetingComponents.{instants_said, AreOfObject, AreOfObjectIn, IsNotOne, SharesSlot}
+use Rattle.cal_events.specs.MeetingComponents.{instants_said, NameInstances, AreOfObject, AreOfObjectIn, IsNotOne, SharesSlot}
 use Rattle.cal_events.specs.Event.{said_meeting}
 use Rattle.cal_events.specs.declared.event.Event as declared
-use Rattle.cal_events.proofs.shared_lemmas.InOneOrder.{of_mapped}
+use Rattle.cal_events.proofs.shared_lemmas.InOneOrder.{none_in, of_mapped}
 use Rattle.cal_events.proofs.shared_lemmas.ObjectFaults.{no_object}
 use Rattle.cal_events.proofs.shared_lemmas.Placing.{all_written}
 
@@ -111,7 +112,7 @@ as_many_taken (Some Reply) events = refl
 as_many_taken (Some Refresh) events = refl
 
 pub object_there : (room : Option Zone) (object : Tree) (m : Option Method) (vs : List (List (List ℕ))) (said taken : List SaidComponent) → AllZip (SaysPlaced room object m) vs said → taken ≡ taken_by m said
-    → 0 < length said → AreOfOne said → length (filter is_master taken) ≤ 1 → InstancesDiffer (filter is_override taken) → AreOfObjectIn room object m vs taken
+    → 0 < length said → AreOfOne said → length (filter is_master taken) ≤ 1 → OverridesApart m (filter is_override taken) → AreOfObjectIn room object m vs taken
 object_there room object m vs said taken says is some one masters differ = record {
   said = said;
   says = says;
@@ -121,6 +122,36 @@ object_there room object m vs said taken says is some one masters differ = recor
   masters = masters;
   differ = differ;
 }
+
+-- ---- each is for an instance exactly where it names one
+
+both_some : {A B : Type 0} (R : A → B → Type 0) (a : Option A) (b : Option B) → BothOrNeither R a b → is_some a ≡ is_some b
+both_some R None None h = refl
+both_some R None (Some b) h = absurd h
+both_some R (Some a) None h = absurd h
+both_some R (Some a) (Some b) h = refl
+
+names_placed : (room : Option Zone) (event placed : SaidComponent) → IsPlaced room event placed → is_some placed.written.recurrence ≡ is_override placed
+names_placed room event placed p =
+    subst (λ (x : SaidComponent). is_some x.written.recurrence ≡ is_override x) (sym p.is) (both_some (IsAt room) event.written.recurrence p.recurrence p.slot)
+
+names_said : (room : Option Zone) (object : Tree) (m : Option Method) (vs : List (List (List ℕ))) (es : List SaidComponent) → AllZip (SaysPlaced room object m) vs es → NameInstances es
+names_said room object m vs [] z x c = absurd (none_in x c)
+names_said room object m [] (e ∷ es) z x c = absurd z
+names_said room object m (v ∷ vs) (e ∷ es) z x (zero, w, is) = subst (λ (y : SaidComponent). is_some y.written.recurrence ≡ is_override y) is (names_placed room z.0.0 e z.0.2)
+names_said room object m (v ∷ vs) (e ∷ es) z x (suc k, w, is) = names_said room object m vs es z.1 x (k, omega (arith, w), is)
+
+names_added : (events : List SaidComponent) → NameInstances (map as_added events)
+names_added events x c = let e = of_mapped as_added events x c in subst (λ (y : SaidComponent). is_some y.written.recurrence ≡ is_override y) e.2 refl
+
+pub names_taken : (room : Option Zone) (object : Tree) (m : Option Method) (vs : List (List (List ℕ))) (es : List SaidComponent) → AllZip (SaysPlaced room object m) vs es → NameInstances (taken_by m es)
+names_taken room object None vs es z = names_said room object None vs es z
+names_taken room object (Some Store) vs es z = names_said room object (Some Store) vs es z
+names_taken room object (Some Request) vs es z = names_said room object (Some Request) vs es z
+names_taken room object (Some Add) vs es z = names_added es
+names_taken room object (Some Cancel) vs es z = names_said room object (Some Cancel) vs es z
+names_taken room object (Some Reply) vs es z = names_said room object (Some Reply) vs es z
+names_taken room object (Some Refresh) vs es z = names_said room object (Some Refresh) vs es z
 
 -- ---- components divided
 
@@ -165,12 +196,12 @@ module _ (room : Option Zone) (object : Tree) (vs : List (List (List ℕ))) (sam
         subst (EventFault room object m) (sym is) (no_event (none_said room object m (vevents object) (subst (λ (es : List SaidComponent). AllZip (SaysPlaced room object m) (vevents object) es) none said)))
     not_one_there n (inr (is, not)) = subst (EventFault room object m) (sym is) (two_meetings events said not)
 
-    pub slot_there : (n : ℕ) → SharesSlot (taken_by m events) n → EventFault room object m n
+    pub slot_there : (n : ℕ) → SharesSlot m (taken_by m events) n → EventFault room object m n
     slot_there n (inl (is, more)) = subst (EventFault room object m) (sym is) (two_masters events said more)
     slot_there n (inr (is, twins)) = subst (EventFault room object m) (sym is) (two_overrides events said twins)
 
     pub meeting_there : (whole : Event) → 0 < length events → AreOfOne events → filter is_master (taken_by m events) ≡ option_to_list whole.master
-        → filter is_override (taken_by m events) ≡ whole.overrides → InstancesDiffer (filter is_override (taken_by m events)) → SaysEvent room object m whole
+        → filter is_override (taken_by m events) ≡ whole.overrides → OverridesApart m (filter is_override (taken_by m events)) → SaysEvent room object m whole
     meeting_there whole some one master overrides differ = record {
       events = events;
       says = said;
@@ -178,7 +209,7 @@ module _ (room : Option Zone) (object : Tree) (vs : List (List (List ℕ))) (sam
       one = one;
       master = master;
       overrides = overrides;
-      differ = subst InstancesDiffer overrides differ;
+      differ = subst (OverridesApart m) overrides differ;
     }
 
 -- the numbers of what is between them

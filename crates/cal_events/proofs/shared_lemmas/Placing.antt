@@ -1,5 +1,5 @@
 -- Events in a room: there is one, and in a room that goes by UTC it is as it is written.
--- Behind EventComponent::placed of place, one_meeting and one_instance of event, one_calendar of reading.
+-- Behind EventComponent::times_in and EventComponent::placed of place, one_meeting and one_instance of event, one_calendar of reading.
 use Rattle.std.proofs.Common.{◌≡◌, ◌∙◌, ℕ, ◌+◌, ◌<◌, Bool, false, List, [], ◌∷◌, ◌++◌, length, get_or, take, map, codes, subst, sym, refl, ap, inl, inr, arith, ℤ}
 use Rattle.std.specs.Prelude.{Option, Some, None, All, option_map}
 use Rattle.std.specs.List.{AllZip, AllByRecursion}
@@ -133,7 +133,7 @@ said_as_written object {m} lines event s = record {
 
 -- ---- its clocks, and where it starts
 
-zone_steady : (room : Option Zone) (form : Form) (zone : Option Zone) → IsSteady (clock_of zone) → IsSteady (clock_of room) → IsSteady (clock_of (zone_in room form zone))
+pub zone_steady : (room : Option Zone) (form : Form) (zone : Option Zone) → IsSteady (clock_of zone) → IsSteady (clock_of room) → IsSteady (clock_of (zone_in room form zone))
 zone_steady room Fixed z own here = own
 zone_steady room Floating z own here = here
 zone_steady room WholeDay z own here = here
@@ -151,7 +151,7 @@ in_dates_there room clock object name text in_zone WholeDay z local t u h m d p 
     let n = clock.near t u p in
     (omega (arith, ints, same, n.0, d.0), omega (arith, ints, same, n.1, d.1))
 
-starts_there : {may : Bool} (room : Option Zone) → IsRoomClock (clock_of room) → (object : Tree) (lines : Lines) (times : EventTimes) (u : ℤ) → SaysTimes may object lines times
+pub starts_there : {may : Bool} (room : Option Zone) → IsRoomClock (clock_of room) → (object : Tree) (lines : Lines) (times : EventTimes) (u : ℤ) → SaysTimes may object lines times
     → IsInstantIn room times.form times.start u → IsInEventDates u
 starts_there room clock object lines times u (inl t) p =
     in_dates_there room clock object (line_param (codes "TZID") t.line) (line_value t.line) (is_in_zone t.line) times.form times.zone times.local times.start u t.says.1 t.means t.in_dates p
@@ -160,7 +160,7 @@ starts_there room clock object lines times u (inr (_, t)) p =
     let zero = t.start in
     (omega (arith, ints, e, zero), omega (arith, ints, e, zero))
 
-slot_there : (room : Option Zone) → IsRoomClock (clock_of room) → (object : Tree) (l : Option (List ℕ)) (w : Option Time) (r : Option ℤ) (slot : ℤ) → BothOrNeither (IsRecurrenceLine object) l w
+pub slot_there : (room : Option Zone) → IsRoomClock (clock_of room) → (object : Tree) (l : Option (List ℕ)) (w : Option Time) (r : Option ℤ) (slot : ℤ) → BothOrNeither (IsRecurrenceLine object) l w
     → BothOrNeither (IsAt room) w r → r ≡ Some slot → IsInEventDates slot
 slot_there room clock object l w r slot h p e = go l w h (subst (BothOrNeither (IsAt room) w) e p)
   where
@@ -209,29 +209,22 @@ zip_more R f xs k d old new y w z n r =
 pub started : (room : Option Zone) (f g : Form) (t u v : ℤ) → f ≡ g → t ≡ u → IsInstantIn room f t v → IsInstantIn room g u v
 started room f g t u v p q h = subst (λ (x : Form). IsInstantIn room x u v) p (subst (λ (x : ℤ). IsInstantIn room f x v) q h)
 
-abbrev pub placed_at : Option Zone → EventComponent → Option ℤ → ℤ → List ℤ → List ℤ → EventComponent
-placed_at room event slot start adds takes = record event {
-  recurrence = slot;
-  times = record event.times { zone = zone_in room event.times.form event.times.zone; start = start };
-  additions = adds;
-  exceptions = takes;
-}
-
-pub placed_so : (room : Option Zone) (event : EventComponent) (slot : Option ℤ) (start : ℤ) (adds takes : List ℤ) → IsInstantIn room event.times.form event.times.start start
-    → BothOrNeither (IsAt room) event.written.recurrence slot → AllZip (IsAt room) event.written.additions adds → AllZip (IsAt room) event.written.exceptions takes
-    → IsPlaced room event (placed_at room event slot start adds takes)
-placed_so room event slot start adds takes s r a x = record {
-  start = start;
-  recurrence = slot;
-  additions = adds;
-  exceptions = takes;
-  starts = s;
-  slot = r;
-  adds = a;
-  takes = x;
-  is = refl;
+-- what a VEVENT says is written, as it is
+pub is_written : (object : Tree) (m : Option Method) (lines : Lines) (event : EventComponent) → SaysEventComponent object m lines event → IsWritten event
+is_written object m lines event s = record {
+  object = object;
+  method = m;
+  lines = lines;
+  said = event;
+  says = s;
+  times = refl;
+  rule = refl;
+  additions = refl;
+  exceptions = refl;
+  slot = λ _. refl;
 }
 
 -- where it starts
 pub written_start : (words : List ℕ) (room : Option Zone) → IsRoomZone words room → (event : EventComponent) → IsWritten event → (u : ℤ) → IsInstantIn room event.times.form event.times.start u → IsInEventDates u
-written_start words room named event w u p = starts_there room (room_clock words room named) w.object w.lines event.times u w.says.times p
+written_start words room named event w u p =
+    starts_there room (room_clock words room named) w.object w.lines w.said.times u w.says.times (subst (λ (t : EventTimes). IsInstantIn room t.form t.start u) w.times p)

@@ -48,7 +48,7 @@ zone_there a b Fixed _ f = refl
 zone_there a b Floating _ f = cc
 zone_there a b WholeDay _ f = cc
 
-placed_there : (a b : Option Zone) (event placed : EventComponent) → is_all_fixed event ≡ true → IsPlaced a event placed → IsPlaced b event placed
+pub placed_there : (a b : Option Zone) (event placed : EventComponent) → is_all_fixed event ≡ true → IsPlaced a event placed → IsPlaced b event placed
 placed_there a b event placed fixed p =
     let start = is_fixed event.times.form in
     let slot = unwrap_or (option_map (λ (t : Time). is_fixed t.form) event.written.recurrence) true in

@@ -15,11 +15,15 @@ use Rattle.profile.specs.text.Objects.{most_events}
 use Rattle.profile.specs.text.Trees.{tree_inside, tree_name, tree_own, vevents}
 use Rattle.profile.specs.events.EventComponents.{EventComponent, Method, Store, Request, Add, Cancel, Reply, Refresh, SaysEventComponent, meeting_said}
 use Rattle.profile.specs.events.Messages.{NamesMethod, Message, SpellsMessage, is_to_rooms}
+use Rattle.profile.specs.events.Placed.{IsAt}
+use Rattle.profile.specs.events.Properties.{BothOrNeither}
 use Rattle.profile.specs.organisers.Organisers.{heard_in}
 use Rattle.profile.specs.rooms.Kept.{Refreshes, Replies, ShowsAnswer}
-use Rattle.profile.specs.rooms.Messages.{Content, IsBody, is_add, is_addressed, is_for, is_part_for, names_room, object_lines, parts_for, slot_named, slot_of}
+use Rattle.profile.specs.rooms.Messages.{Content, IsBody, IsSlotIn, is_add, is_addressed, is_for, is_part_for, names_room, object_lines, parts_for, slot_named, slot_of}
 use Rattle.profile.specs.rooms.Revisions.{Body, Part, Slot, Whole, At, Set, Absent, Cancelled, in_view, slot_cmp}
 use Rattle.profile.specs.rooms.Rooms.{Book, Claim, is_set, is_set_body, shown}
+use Rattle.profile.specs.series.RoomZones.{IsRoomZone}
+use Rattle.profile.specs.series.Zones.{Zone}
 use Rattle.profile.specs.streams.Streams.{AreClaims, IsClaim}
 use Rattle.cal_events.specs.MeetingComponents.{IsInEventDates}
 use Rattle.cal_events.proofs.shared_lemmas.InOneOrder.{mapped_pairs, none_in, of_filtered, pairs_mapped}
@@ -45,7 +49,6 @@ use Rattle.itip_messages.proofs.shared_lemmas.ReplyLines.{one_read}
 -- what is known of a part that a message has for a room
 record Known (organiser uid : List ℕ) (part : Part) : Type 0 where
   texts : Named part
-  instance : IsInstance part.slot
   of_organiser : part.organiser ≡ organiser
   of_uid : part.uid ≡ uid
 
@@ -53,13 +56,15 @@ of_list : (name : Bool) (p : EventComponent → Bool) (events : List EventCompon
 of_list true p events e c = ((of_filtered p events e c).0, refl)
 of_list false p events e c = absurd (none_in e c)
 
-instance_named : (o : Option ℤ) → ((t : ℤ) → o ≡ Some t → IsInEventDates t) → IsInstance (slot_named o)
-instance_named None f = tt
-instance_named (Some t) f = f t refl
+-- it names an instance in the dates that an event may name
+slot_named_in : (here : Option Zone) (event : EventComponent) (slot : Slot) → IsSlotIn here event slot → ((t : ℤ) → BothOrNeither (IsAt here) event.written.recurrence (Some t) → IsInEventDates t) → IsInstance slot
+slot_named_in here event slot (None, at, is) f = subst IsInstance (sym is) tt
+slot_named_in here event slot (Some t, at, is) f = subst IsInstance (sym is) (f t at)
 
-module _ (read : List ℕ) (message : Message) (spells : SpellsMessage read message) (room : List ℕ) where
-  abbrev asked : (event : EventComponent) (claim : Claim) → Contains (parts_for room message) event → IsClaim room message event claim → IsAsked room claim.content claim.part
+module _ (read : List ℕ) (message : Message) (spells : SpellsMessage read message) (room : List ℕ) (zone : Option Zone) where
+  abbrev asked : (event : EventComponent) (claim : Claim) → Contains (parts_for room message) event → IsClaim room zone message event claim → IsAsked room claim.content claim.part
   asked event claim c is = record {
+    zone = zone;
     octets = read;
     given = message;
     spells = spells;
@@ -69,45 +74,38 @@ module _ (read : List ℕ) (message : Message) (spells : SpellsMessage read mess
     is_part = is.part;
   }
 
-  known : (event : EventComponent) (claim : Claim) → Contains (parts_for room message) event → IsClaim room message event claim → Known message.organiser message.uid claim.part
+  known : (event : EventComponent) (claim : Claim) → Contains (parts_for room message) event → IsClaim room zone message event claim → Known message.organiser message.uid claim.part
   known event claim c is =
       let a = asked event claim c is in
-      let m = message_of read message spells event a.among in
       let meeting : meeting_said event ≡ (claim.part.organiser, event.uid) = ap (λ (o : Option (List ℕ)). (unwrap_or o [], event.uid)) is.part.organiser in
       let one = spells.says.are.of_it event a.among in
       record {
         texts = named room claim.content claim.part a;
-        instance = subst IsInstance (sym is.part.slot) (instance_named event.recurrence m.says.dated);
         of_organiser = ap (λ (p : List ℕ × List ℕ). p.0) (sym meeting ∙ one);
         of_uid = is.part.uid ∙ ap (λ (p : List ℕ × List ℕ). p.1) one;
       }
 
-  of_claim : (claims : List Claim) → AreClaims room message claims → (claim : Claim) → Contains claims claim → (event : EventComponent) × Contains (parts_for room message) event × IsClaim room message event claim
-  of_claim claims h claim c = let found = zip_back (IsClaim room message) h.events claims claim h.each c in (found.0, (h.are.exact found.0).0 found.1, found.2)
+  of_claim : (claims : List Claim) → AreClaims room zone message claims → (claim : Claim) → Contains claims claim
+      → (event : EventComponent) × Contains (parts_for room message) event × IsClaim room zone message event claim
+  of_claim claims h claim c = zip_back (IsClaim room zone message) (parts_for room message) h.all claim h.each (h.are.among claim c)
 
   -- all are of its meeting
-  of_meeting : (claims : List Claim) → AreClaims room message claims → (claim : Claim) → Contains claims claim → Known message.organiser message.uid claim.part
+  of_meeting : (claims : List Claim) → AreClaims room zone message claims → (claim : Claim) → Contains claims claim → Known message.organiser message.uid claim.part
   of_meeting claims h claim c = let f = of_claim claims h claim c in known f.0 claim f.1 f.2
+
+  -- and where words give the room its zone, each names an instance that RECURRENCE-ID may name
+  instance_claimed : (words : List ℕ) → IsRoomZone words zone → (claims : List Claim) → AreClaims room zone message claims → (claim : Claim) → Contains claims claim → IsInstance claim.part.slot
+  instance_claimed words gives claims h claim c =
+      let f = of_claim claims h claim c in
+      slot_named_in zone f.0 claim.part.slot f.2.part.slot ((message_of read message spells f.0 (asked f.0 claim f.1 f.2).among).says.dated words zone gives)
 
   -- ---- they are by their slots, and no more than a message may have
 
-  abbrev claim_slot : Claim → Slot
-  claim_slot claim = claim.part.slot
+  abbrev IsEarlier : Claim → Claim → Type 0
+  IsEarlier a b = slot_cmp a.part.slot b.part.slot ≡ Less
 
-  abbrev IsLess : Slot → Slot → Type 0
-  IsLess a b = slot_cmp a b ≡ Less
-
-  same_slots : (events : List EventComponent) (claims : List Claim) → AllZip (IsClaim room message) events claims → map slot_of events ≡ map claim_slot claims
-  same_slots [] [] z = refl
-  same_slots [] (c ∷ claims) z = absurd z
-  same_slots (e ∷ events) [] z = absurd z
-  same_slots (e ∷ events) (c ∷ claims) z = λ i. sym z.0.part.slot i ∷ same_slots events claims z.1 i
-
-  in_order : (claims : List Claim) → AreClaims room message claims → AllPairs (λ (a b : Claim). IsLess a.part.slot b.part.slot) claims
-  in_order claims h = mapped_pairs IsLess claim_slot claims (subst (AllPairs IsLess) (same_slots h.events claims h.each) (pairs_mapped IsLess slot_of h.events h.are.order))
-
-  not_less : (event : EventComponent) → IsBefore event event → ⊥
-  not_less event l = let e = tied_itself slot_total (slot_of event) in let x : Less ≡ Equal = sym l ∙ e in cc
+  not_earlier : (claim : Claim) → IsEarlier claim claim → ⊥
+  not_earlier claim l = let e = tied_itself slot_total claim.part.slot in let x : Less ≡ Equal = sym l ∙ e in cc
 
   few_said : length message.events ≤ 200
   few_said =
@@ -121,11 +119,15 @@ module _ (read : List ℕ) (message : Message) (spells : SpellsMessage read mess
       at_most : (a b : ℕ) → nat_lt a b ≡ false → b ≤ a
       at_most a b h = grind (arith, nat_tests)
 
-  few_claims : (claims : List Claim) → AreClaims room message claims → length claims ≤ 200
+  no_more : (name : Bool) (p : EventComponent → Bool) (events : List EventComponent) → length (cond name (filter p events) []) ≤ length events
+  no_more true p events = filter_no_longer p events
+  no_more false p events = omega arith
+
+  few_claims : (claims : List Claim) → AreClaims room zone message claims → length claims ≤ 200
   few_claims claims h =
-      let here = no_longer IsBefore not_less message.events h.events h.are.order
-      (λ e c. (of_list (is_addressed room message) (is_part_for room message.method) message.events e ((h.are.exact e).0 c)).0) in
-      omega (arith, few_said, here, zip_length (IsClaim room message) h.events claims h.each)
+      let here = no_longer IsEarlier not_earlier h.all claims h.are.order h.are.among in
+      let these = no_more (is_addressed room message) (is_part_for room message.method) message.events in
+      omega (arith, few_said, here, these, zip_length (IsClaim room zone message) (parts_for room message) h.all h.each)
 
   -- ---- the room is one that the message names
 
@@ -134,7 +136,7 @@ module _ (read : List ℕ) (message : Message) (spells : SpellsMessage read mess
   set_named method event content Absent h b = absurd (false≢true h)
   set_named method event content Cancelled h b = absurd (false≢true h)
 
-  set_room : (claims : List Claim) → AreClaims room message claims → (claim : Claim) → Contains claims claim → is_set claim.part ≡ true → IsRoom room
+  set_room : (claims : List Claim) → AreClaims room zone message claims → (claim : Claim) → Contains claims claim → is_set claim.part ≡ true → IsRoom room
   set_room claims h claim c set =
       let f = of_claim claims h claim c in
       asked_room room claim.content claim.part (asked f.0 claim f.1 f.2) (set_named message.method f.0 claim.content claim.part.body set f.2.part.body)
@@ -152,8 +154,8 @@ slot_back Whole = refl
 slot_back (At t) = refl
 
 module _ (room organiser uid : List ℕ) (home : IsRoom room) (book : Book) (names : AreTextAnswers book) where
-  one_heard : (claim : Claim) (lines : Lines) → Known organiser uid claim.part → (s : ShowsAnswer room book claim lines) → Heard Reply organiser uid lines (answer_event room claim.part s.answer.moment s.answer.outcome)
-  one_heard claim lines k s =
+  one_heard : (claim : Claim) (lines : Lines) → Known organiser uid claim.part → IsInstance claim.part.slot → (s : ShowsAnswer room book claim lines) → Heard Reply organiser uid lines (answer_event room claim.part s.answer.moment s.answer.outcome)
+  one_heard claim lines k instance s =
       let e = s.shows in
       let part = claim.part in
       let n = k.texts in
@@ -175,7 +177,7 @@ module _ (room organiser uid : List ℕ) (home : IsRoom room) (book : Book) (nam
         good = r.good;
         says = λ object.
             subst (λ (own : Lines). SaysEventComponent object (Some Reply) own (answer_event room part s.answer.moment outcome)) same
-            (answer_says room part s.answer.moment outcome e.slot e.status e.stamp e.tells_slot e.tells_outcome k.instance said object);
+            (answer_says room part s.answer.moment outcome e.slot e.status e.stamp e.tells_slot e.tells_outcome instance said object);
         meeting = λ i. (k.of_organiser i, k.of_uid i);
         one = refl;
       }
@@ -187,7 +189,7 @@ module _ (room organiser uid : List ℕ) (home : IsRoom room) (book : Book) (nam
     hears : AllZip (IsAnswerTo room book) claims (heard_in events)
     slots : map slot_of events ≡ map (λ (claim : Claim). claim.part.slot) claims
 
-  answers : (claims : List Claim) (texts : List Lines) → ((claim : Claim) → Contains claims claim → Known organiser uid claim.part) → AllZip (ShowsAnswer room book) claims texts → Answers claims texts
+  answers : (claims : List Claim) (texts : List Lines) → ((claim : Claim) → Contains claims claim → Known organiser uid claim.part × IsInstance claim.part.slot) → AllZip (ShowsAnswer room book) claims texts → Answers claims texts
   answers [] [] f z = record { events = []; heard = tt; says = tt; hears = tt; slots = refl }
   answers [] (lines ∷ texts) f z = absurd z
   answers (claim ∷ claims) [] f z = absurd z
@@ -196,9 +198,10 @@ module _ (room organiser uid : List ℕ) (home : IsRoom room) (book : Book) (nam
       let rest = answers claims texts (λ c k. f c (in_tail claim claims c k)) z.1 in
       let part = claim.part in
       let slot = slot_back part.slot in
+      let here = f claim (in_head claim claims) in
       record {
         events = answer_event room part s.answer.moment s.answer.outcome ∷ rest.events;
-        heard = (one_heard claim lines (f claim (in_head claim claims)) s, rest.heard);
+        heard = (one_heard claim lines here.0 here.1 s, rest.heard);
         says = ((s.answer, s.kept, s.of_part, refl), rest.says);
         hears = (
           (
@@ -227,22 +230,23 @@ reply_named = record { line = codes "METHOD:REPLY"; once = refl; named = refl }
 refresh_named : NamesMethod (calendar_own (Some (codes "REFRESH"))) Refresh
 refresh_named = record { line = codes "METHOD:REFRESH"; once = refl; named = refl }
 
-pub replies_heard : LinesBack → ReadsLines → (read : List ℕ) (message : Message) (room : List ℕ) (book : Book) (claims : List Claim) (octets : List ℕ) → SpellsMessage read message → AreClaims room message claims → AreTextAnswers book
-    → Replies room book claims (Some octets) → is_too_long octets ≡ false → SpellsReply room book (shown book.taken claims) octets
-replies_heard back reads read message room book claims octets spells h names (some, r) short =
+pub replies_heard : LinesBack → ReadsLines → (read : List ℕ) (message : Message) (room words : List ℕ) (zone : Option Zone) (book : Book) (claims : List Claim) (octets : List ℕ) → SpellsMessage read message → IsRoomZone words zone
+    → AreClaims room zone message claims → AreTextAnswers book → Replies room book claims (Some octets) → is_too_long octets ≡ false → SpellsReply room book (shown book.taken claims) octets
+replies_heard back reads read message room words zone book claims octets spells gives h names (some, r) short =
     let these = shown book.taken claims in
     let passes : Claim → Bool = λ c. is_set c.part && in_view book.taken c.part in
     let first = first_there these some in
     let from = of_filtered passes claims first.0 first.1 in
-    let home = set_room read message spells room claims h first.0 from.0 (and_parts (is_set first.0.part) (in_view book.taken first.0.part) from.1).0 in
-    let a = answers room message.organiser message.uid home book names these r.events (λ c k. of_meeting read message spells room claims h c (of_filtered passes claims c k).0) r.each in
+    let home = set_room read message spells room zone claims h first.0 from.0 (and_parts (is_set first.0.part) (in_view book.taken first.0.part) from.1).0 in
+    let a = answers room message.organiser message.uid home book names these r.events
+    (λ c k. let there = (of_filtered passes claims c k).0 in (of_meeting read message spells room zone claims h c there, instance_claimed read message spells room zone words gives claims h c there)) r.each in
     let count : length these ≡ length a.events = zip_length (SaysAnswerTo room book) these a.events a.says in
-    let few : length a.events ≤ 200 = omega (arith, few_claims read message spells room claims h, filter_no_longer passes claims, count) in
+    let few : length a.events ≤ 200 = omega (arith, few_claims read message spells room zone claims h, filter_no_longer passes claims, count) in
     let order : AllPairs IsBefore a.events =
     mapped_pairs (λ (x y : Slot). slot_cmp x y ≡ Less) slot_of a.events
     (subst (AllPairs (λ (x y : Slot). slot_cmp x y ≡ Less)) (sym a.slots)
     (pairs_mapped (λ (x y : Slot). slot_cmp x y ≡ Less) (λ (c : Claim). c.part.slot) these
-    (AllPairs-filter (λ (x y : Claim). slot_cmp x.part.slot y.part.slot ≡ Less) passes claims (in_order read message spells room claims h)))) in
+    (AllPairs-filter (λ (x y : Claim). slot_cmp x.part.slot y.part.slot ≡ Less) passes claims h.are.order))) in
     record {
       organiser = message.organiser;
       uid = message.uid;
@@ -268,17 +272,18 @@ added_names room message adds event is = go message.method adds is
     go Refresh h n = absurd (false≢true h)
     go Add h n = other (names_room room event) n
 
-pub refreshes_heard : LinesBack → ReadsLines → (read : List ℕ) (message : Message) (room : List ℕ) (before after : List Part) (claims : List Claim) (moment : ℤ) (octets : List ℕ) → SpellsMessage read message → AreClaims room message claims
+pub refreshes_heard : LinesBack → ReadsLines → (read : List ℕ) (message : Message) (room : List ℕ) (zone : Option Zone) (before after : List Part) (claims : List Claim) (moment : ℤ) (octets : List ℕ) → SpellsMessage read message
+    → AreClaims room zone message claims
     → Refreshes room (is_add message.method) before after claims moment (Some octets) → is_too_long octets ≡ false → SpellsRefresh room claims moment octets
-refreshes_heard back reads read message room before after claims moment octets spells h (wanted, r) short =
+refreshes_heard back reads read message room zone before after claims moment octets spells h (wanted, r) short =
     let adds = (and_parts (is_add message.method) _ wanted).0 in
     let claim = r.claim in
     let part = claim.part in
-    let f = of_claim read message spells room claims h claim r.of_them in
+    let f = of_claim read message spells room zone claims h claim r.of_them in
     let addressed = (of_list (is_addressed room message) (is_part_for room message.method) message.events f.0 f.1).1 in
     let one = any_at (is_for room message.method) message.events (and_parts (is_to_rooms message.method) (list_any (is_for room message.method) message.events) addressed).1 in
     let home = named_room room (message_of read message spells one.0 one.1) (added_names room message adds one.0 one.2) in
-    let k = of_meeting read message spells room claims h claim r.of_them in
+    let k = of_meeting read message spells room zone claims h claim r.of_them in
     let n = k.texts in
     let e = r.shows in
     let o = event_read room part.organiser part.uid moment r.lines home.text n.organiser n.uid e in

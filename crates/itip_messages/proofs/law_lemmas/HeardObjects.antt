@@ -17,6 +17,7 @@ use Rattle.profile.specs.rooms.Messages.{object_lines, slot_of, slot_named}
 use Rattle.profile.specs.rooms.Revisions.{slot_cmp}
 use Rattle.itip_messages.specs.Law.{IsVevent}
 use Rattle.cal_events.proofs.shared_lemmas.InOneOrder.{head_pairs, pairs_mapped}
+use Rattle.cal_events.proofs.shared_lemmas.SeriesLemmas.{zip_back}
 use Rattle.cal_events.proofs.shared_lemmas.Zips.{zip_length}
 use Rattle.itip_order.proofs.Lists.{in_cons, in_head, in_tail, none_in_nil}
 use Rattle.itip_order.proofs.Order.{slot_total}
@@ -25,6 +26,7 @@ use Rattle.itip_messages.proofs.shared_lemmas.ContentLines.{IsMethod, LinesBack,
 use Rattle.itip_messages.proofs.shared_lemmas.ObjectTree.{Lines, calendar_own, calendar_tree, calendar_vevents, object_spelled, vevent_lines}
 use Rattle.itip_messages.proofs.shared_lemmas.ReplyLines.{AreOwn}
 use Rattle.itip_messages.proofs.shared_lemmas.SentTexts.{bounded_reads}
+use Rattle.itip_messages.proofs.shared_lemmas.TimesApart.{times_apart}
 use Rattle.itip_messages.proofs.shared_lemmas.ZonedObjects.{bounded_object}
 
 -- ---- the VEVENTs
@@ -141,7 +143,7 @@ object_heard back reads word method fine named speaks organiser uid texts events
           some = some;
           of_it = all.meeting;
           masters = few_masters events order;
-          differ = overrides_differ events order;
+          differ = times_apart events (λ e c. (zip_back (SaysEventComponent tree (Some method)) all.owns events e said c).2.instants.slot) (overrides_differ events order);
         };
         one_each = λ _. all.one;
       };

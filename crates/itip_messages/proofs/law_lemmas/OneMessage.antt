@@ -14,7 +14,7 @@ use Rattle.profile.specs.text.Objects.{IsObject}
 use Rattle.profile.specs.text.Trees.{Tree, tree_own, vevents}
 use Rattle.profile.specs.events.EventComponents.{Method, Store, Request, Add, Cancel, Reply, Refresh, NamesWord, EventComponent, SaysEventComponent, meeting_said}
 use Rattle.profile.specs.events.Properties.{IsMissing}
-use Rattle.profile.specs.events.Events.{AreOfOne, EventFault, InstancesDiffer, as_added, taken_by, is_master, is_override, in_event, two_masters, two_overrides, two_meetings, no_event}
+use Rattle.profile.specs.events.Events.{AreOfOne, EventFault, TimesDiffer, as_added, taken_by, is_master, is_override, in_event, two_masters, two_overrides, two_meetings, no_event}
 use Rattle.profile.specs.events.Placed.{SaysPlaced}
 use Rattle.itip_messages.proofs.shared_lemmas.PlacedUtc.{all_said}
 use Rattle.profile.specs.events.Messages.{NamesMethod, has_one_attendee, is_of_attendee, Message, SaysMessage, MethodFault, two_methods, bad_method, MessageFault, in_method, in_meeting, not_one, is_method, SpellsMessage}
@@ -171,7 +171,7 @@ module _ (one : OneEvent) (sound : NoFault) (object : Tree) (a : Message) (s : S
   no_meeting_fault n (two_masters events says more) =
       let few : length (filter is_master (taken_by (Some a.method) events)) ≤ 1 = subst (λ (l : List EventComponent). length (filter is_master l) ≤ 1) (sym (taken_these events says)) s.are.masters in
       omega (arith, few, more)
-  no_meeting_fault n (two_overrides events says not) = not (subst (λ (l : List EventComponent). InstancesDiffer (filter is_override l)) (sym (taken_these events says)) s.are.differ)
+  no_meeting_fault n (two_overrides events says not) = not (subst (λ (l : List EventComponent). TimesDiffer (filter is_override l)) (sym (taken_these events says)) s.are.differ)
   no_meeting_fault n (two_meetings events says not) = not (subst AreOfOne (sym (these events says)) (one_of a.method s.events same_meeting))
   no_meeting_fault n (no_event h) =
       let l = zip_length (SaysEventComponent object (Some a.method)) (vevents object) s.events s.says in

@@ -13,7 +13,9 @@ use Rattle.profile.specs.text.Values.{IsAddress, IsUid, lower_case}
 use Rattle.profile.specs.events.EventComponents.{Method, Store, Request, Add, Cancel, Reply, Refresh, EventComponent, SaysEventComponent, SaysSequence, IsAttendee, adds_instances}
 use Rattle.profile.specs.events.Events.{as_added, taken_by, is_master}
 use Rattle.profile.specs.events.ZonedTimes.{SaysTimes, EventTimes, clock_of}
-use Rattle.profile.specs.series.Zones.{IsOneMeaning}
+use Rattle.profile.specs.events.Placed.{IsAt}
+use Rattle.profile.specs.series.RoomZones.{IsRoomZone}
+use Rattle.profile.specs.series.Zones.{IsOneMeaning, Zone}
 use Rattle.std.proofs.lemmas.Option.{same_Some}
 use Rattle.profile.specs.events.Properties.{Says, BothOrNeither, OccursAtMostOnce, IsAddressLine, IsUidLine, IsSequenceLine, is_of, lines_named}
 use Rattle.profile.specs.events.Messages as events
@@ -25,11 +27,12 @@ use Rattle.ical_lines.proofs.CleanLines.{IsClean}
 use Rattle.ical_values.proofs.Addresses.{lower_twice}
 use Rattle.cal_events.specs.MeetingComponents.{IsInEventDates}
 use Rattle.cal_events.proofs.shared_lemmas.InOneOrder.{of_mapped}
+use Rattle.cal_events.proofs.shared_lemmas.InRooms.{slot_in_dates, start_in_dates}
 use Rattle.cal_events.proofs.shared_lemmas.OneInstance.{event_sound}
 use Rattle.cal_events.proofs.shared_lemmas.SeriesLemmas.{zip_back}
 use Rattle.itip_messages.specs.Body.{IsReady}
 use Rattle.itip_messages.specs.Law.{IsTextAddress, IsTextValue}
-use Rattle.itip_messages.proofs.message_lemmas.BySlot.{of_message}
+use Rattle.itip_messages.proofs.message_lemmas.KnownEvents.{of_message}
 use Rattle.itip_messages.proofs.shared_lemmas.CleanText.{text_address}
 use Rattle.itip_messages.proofs.shared_lemmas.CleanUids.{text_value}
 use Rattle.itip_messages.proofs.shared_lemmas.EventLines.{clean_value, vevent_among}
@@ -37,15 +40,16 @@ use Rattle.itip_messages.proofs.shared_lemmas.ObjectTree.{Lines}
 use Rattle.itip_messages.proofs.shared_lemmas.OwnWhen.{EventFacts, event_facts}
 use Rattle.itip_messages.proofs.shared_lemmas.ZonedStarts.{IsSaid, form_said}
 
--- octets ask the room for the part, with this content: they spell a message to rooms, and it is that of one of its events
+-- octets ask the room, in some zone, for the part, with this content: they spell a message to rooms, and it is that of one of its events
 pub record IsAsked (room : List ℕ) (content : Content) (part : Part) : Type 0 where
+  pub zone : Option Zone
   pub octets : List ℕ
   pub given : events.Message
   pub spells : SpellsMessage octets given
   pub event : EventComponent
   pub to_rooms : is_to_rooms given.method ≡ true
   pub among : Contains given.events event
-  pub is_part : IsPart room given event content part
+  pub is_part : IsPart room zone given event content part
 
 -- ---- what the lines of the message say
 
@@ -79,8 +83,8 @@ pub record SaysTaken (object : Tree) (method : Method) (lines : Lines) (event : 
   -- the zone of its start is one that some VTIMEZONE says
   pub zone : IsSaid event.times.zone
   pub facts : is_to_rooms method ≡ true → cancels method event ≡ false → EventFacts event (adds_instances (Some method))
-  -- the instance that it is of is in the dates that an event may name
-  pub dated : (t : ℤ) → event.recurrence ≡ Some t → IsInEventDates t
+  -- the instance that it is of in a room is in the dates that an event may name
+  pub dated : (words : List ℕ) (zone : Option Zone) → IsRoomZone words zone → (t : ℤ) → BothOrNeither (IsAt zone) event.written.recurrence (Some t) → IsInEventDates t
   -- a local time means one instant on its clocks
   pub meaning : IsOneMeaning (clock_of event.times.zone)
 
@@ -96,7 +100,7 @@ as_said object method lines event s = record {
   attendees = s.attendees;
   zone = zone_said _ object lines event.times s.times;
   facts = event_facts object method lines event s;
-  dated = (event_sound object lines event s).names;
+  dated = λ words zone gives t at. slot_in_dates words zone gives object (Some method) lines event s (Some t) t at refl;
   meaning = (event_sound object lines event s).steady.meaning;
 }
 
@@ -112,7 +116,7 @@ when_added object lines event s = record {
   attendees = s.attendees;
   zone = zone_said _ object lines event.times s.times;
   facts = λ to h. facts_added event (event_facts object Add lines event s to h);
-  dated = λ t is. subst IsInEventDates (same_Some event.times.start t is) (event_sound object lines event s).starts;
+  dated = λ words zone gives t at. start_in_dates words zone gives object (Some Add) lines event s t at;
   meaning = (event_sound object lines event s).steady.meaning;
 }
 

@@ -1,12 +1,14 @@
 -- A CANCEL that was written spells a message of one VEVENT, and says to each attendee that the whole meeting is cancelled.
 -- Cited by cancels_read_back.
 use Rattle.std.proofs.Common.{◌≡◌, ◌∙◌, ℕ, suc, Bool, true, false, ◌&&◌, ◌||◌, cond, List, [], ◌∷◌, ◌++◌, length, map, codes, decimal, None, Some, refl, sym, ap, subst, arith, inl, inr, append-nil}
-use Rattle.std.specs.Prelude.{◌==◌, Contains}
+use Rattle.std.specs.Prelude.{◌==◌, AllPairs, Contains, Option}
 use Rattle.std.specs.List.{list_any, flat_map, AllZip}
-use Rattle.std.specs.Ordering.{is_lt}
+use Rattle.std.specs.declared.cmp.Ordering.TheVariants.{Less}
+use Rattle.std.specs.Ordering.{is_le, is_lt}
 use Rattle.std.specs.Str.{bytes_eq}
 use Rattle.std.proofs.lemmas.Bool.{and_from, or_from, false≢true}
 use Rattle.std.proofs.lemmas.Bool.Decides.{nat_tests}
+use Rattle.std.proofs.lemmas.Cmp.{tied_itself}
 use Rattle.std.proofs.lemmas.Slice.Eq.{bytes_eq-Decides}
 use Rattle.profile.specs.text.Lines.{is_content, is_too_long, logical_lines, reads_as_lines, written}
 use Rattle.profile.specs.text.Objects.{IsObject}
@@ -16,15 +18,17 @@ use Rattle.profile.specs.events.EventComponents.{EventComponent, IsAttendee, Say
 use Rattle.profile.specs.events.EventRules.{GivesBeside}
 use Rattle.profile.specs.events.Occurrences.{SaysStatus, IsInside, Lists, entries_of}
 use Rattle.profile.specs.events.Properties.{is_of, lines_named}
-use Rattle.profile.specs.rooms.Messages.{AreBySlot, AreParts, is_for, later_of, no_content, object_lines, parts_for}
+use Rattle.profile.specs.rooms.Messages.{AreGreatest, AreParts, Content, IsPart, is_for, later_of, no_content, object_lines, parts_for}
 use Rattle.profile.specs.events.Messages.{SpellsMessage}
-use Rattle.profile.specs.rooms.Revisions.{Revision, revision_cmp}
+use Rattle.profile.specs.rooms.Revisions.{Part, Revision, revision_cmp, slot_cmp}
+use Rattle.profile.specs.series.Zones.{Zone}
 use Rattle.profile.specs.organisers.Sent.{IsCancel, status_lines}
 use Rattle.ical_lines.proofs.CleanLines.{clean_shown, shown_decimal, fixed}
 use Rattle.ical_values.proofs.Escapes.{read_back}
 use Rattle.ical_values.proofs.Readings.{stamp_written, sequence_written}
 use Rattle.ical_values.proofs.ShownValues.{shown_stamp}
 use Rattle.itip_order.proofs.Lists.{in_cons, in_head, in_tail, none_in_nil}
+use Rattle.itip_order.proofs.Order.{part_total}
 use Rattle.itip_messages.specs.SentLaw.{IsSentAddress, IsSentName, attendee_at, cancel_event, cancel_message, cancel_part}
 use Rattle.itip_messages.proofs.shared_lemmas.CleanText.{clean_address}
 use Rattle.itip_messages.proofs.shared_lemmas.CleanUids.{clean_text}
@@ -272,28 +276,42 @@ later_same r = either (is_lt (revision_cmp r r))
     either true = refl
     either false = refl
 
-pub cancel_tells : (organiser uid : List ℕ) (revision : Revision) (called_off : Bool) (to : List (List ℕ)) (room : List ℕ) → Contains to room → AreParts room (cancel_message organiser uid revision called_off to) (cancel_part organiser uid revision ∷ [])
-cancel_tells organiser uid revision called_off to room c =
+-- parts with slots of their own, by these, are the greatest of themselves
+greatest_alone : (parts : List Part) → AllPairs (λ (a b : Part). slot_cmp a.slot b.slot ≡ Less) parts → AreGreatest (λ (part : Part). part) parts parts
+greatest_alone parts order = record {
+  among = λ part c. c;
+  greatest = λ part c. (part, c, refl, ap is_le (tied_itself part_total part));
+  order = order;
+}
+
+pub cancel_tells : (organiser uid : List ℕ) (revision : Revision) (called_off : Bool) (to : List (List ℕ)) (room : List ℕ) (zone : Option Zone) → Contains to room
+    → AreParts room zone (cancel_message organiser uid revision called_off to) (cancel_part organiser uid revision ∷ [])
+cancel_tells organiser uid revision called_off to room zone c =
     let event = cancel_event organiser uid revision called_off to in
     let named : is_for room Cancel event ≡ true = ap (λ b. b || (true && (length event.attendees == 0))) (names_all to room c) in
     let all : parts_for room (cancel_message organiser uid revision called_off to) ≡ event ∷ [] = ap (λ b. cond (b || false) (cond b (event ∷ []) []) []) named in
+    let message = cancel_message organiser uid revision called_off to in
+    let part = cancel_part organiser uid revision in
     record {
-      events = event ∷ [];
-      are = subst (λ (l : List EventComponent). AreBySlot l (event ∷ [])) (sym all) (record { exact = λ e. (λ k. k, λ k. k); order = λ i j d l w. absurd (omega (arith, l, w)) });
-      each = ((no_content, record { organiser = refl; uid = refl; slot = refl; revision = sym (later_same revision); body = (refl, refl) }), tt);
+      all = part ∷ [];
+      each =
+          subst (λ (l : List EventComponent). AllZip (λ e p. (content : Content) × IsPart room zone message e content p) l (part ∷ [])) (sym all)
+          ((no_content, record { organiser = refl; uid = refl; slot = (None, tt, refl); revision = sym (later_same revision); body = (refl, refl) }), tt);
+      are = greatest_alone (part ∷ []) (λ i j d l w. absurd (omega (arith, l, w)));
     }
 
 not_none : (n : ℕ) → (suc n == 0) ≡ false
 not_none n = grind (arith, nat_tests)
 
-pub cancel_others : (organiser uid : List ℕ) (revision : Revision) (called_off : Bool) (first : List ℕ) (more : List (List ℕ)) (room : List ℕ) → (Contains (first ∷ more) room → ⊥)
-    → AreParts room (cancel_message organiser uid revision called_off (first ∷ more)) []
-cancel_others organiser uid revision called_off first more room f =
+pub cancel_others : (organiser uid : List ℕ) (revision : Revision) (called_off : Bool) (first : List ℕ) (more : List (List ℕ)) (room : List ℕ) (zone : Option Zone) → (Contains (first ∷ more) room → ⊥)
+    → AreParts room zone (cancel_message organiser uid revision called_off (first ∷ more)) []
+cancel_others organiser uid revision called_off first more room zone f =
     let event = cancel_event organiser uid revision called_off (first ∷ more) in
     let unnamed : is_for room Cancel event ≡ false = or_from _ _ (names_none (first ∷ more) room f) (not_none (length (map attendee_at more))) in
     let none : parts_for room (cancel_message organiser uid revision called_off (first ∷ more)) ≡ [] = ap (λ b. cond (b || false) (cond b (event ∷ []) []) []) unnamed in
+    let message = cancel_message organiser uid revision called_off (first ∷ more) in
     record {
-      events = [];
-      are = subst (λ (l : List EventComponent). AreBySlot l []) (sym none) (record { exact = λ e. (λ k. k, λ k. k); order = λ i j d l w. absurd (omega (arith, l)) });
-      each = tt;
+      all = [];
+      each = subst (λ (l : List EventComponent). AllZip (λ e p. (content : Content) × IsPart room zone message e content p) l []) (sym none) tt;
+      are = greatest_alone [] (λ i j d l w. absurd (omega (arith, w)));
     }

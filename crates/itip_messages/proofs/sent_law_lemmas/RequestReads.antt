@@ -13,7 +13,6 @@ use Rattle.profile.specs.rooms.Messages.{Content, IsContent, slot_of}
 use Rattle.profile.specs.rooms.Revisions.{Revision, Slot}
 use Rattle.itip_messages.specs.SentLaw.{HasNoAnswer, IsSentAddress, IsSentAs, SpellsRequest, attendee_at, revised}
 use Rattle.itip_messages.proofs.shared_lemmas.ContentLines.{IsMethod, LinesBack, ReadsLines}
-use Rattle.itip_messages.proofs.sent_law_lemmas.SentMeetings.{AreApart, apart, masters_few, overrides_differ}
 use Rattle.itip_messages.proofs.sent_law_lemmas.SentParts.{IsAlike, names_same, same_parts}
 use Rattle.itip_messages.proofs.shared_lemmas.CleanText.{clean_address}
 use Rattle.itip_messages.proofs.shared_lemmas.ObjectTree.{calendar_own}
@@ -21,7 +20,7 @@ use Rattle.itip_messages.proofs.sent_law_lemmas.SentEvents.{ReadsLine}
 use Rattle.itip_messages.proofs.sent_law_lemmas.SentBehind.{IsAttendeeText}
 use Rattle.itip_messages.proofs.shared_lemmas.SentTexts.{bounded_reads, text_of}
 use Rattle.itip_messages.proofs.sent_law_lemmas.WrittenMeetings.{written_back}
-use Rattle.itip_messages.proofs.sent_law_lemmas.StoredEvents.{AreStored, stored_events}
+use Rattle.itip_messages.proofs.sent_law_lemmas.StoredEvents.{stored_events}
 use Rattle.itip_messages.proofs.shared_lemmas.ZonedObjects.{ZoneBack}
 
 abbrev request_word : Option (List ℕ)
@@ -63,6 +62,7 @@ module _ (revision : Revision) where
     organiser = s.organiser;
     uid = s.uid;
     recurrence = s.recurrence;
+    slot = s.slot;
     cancelled = s.cancelled;
     revision = λ i. record { sequence = s.sequence i; stamp = unwrap_or (s.stamp i) (pos 0) };
     names = λ room. names_same room event sent (none_answered (slot_of event) (counted event.attendees) sent.attendees s.attendees);
@@ -77,6 +77,7 @@ module _ (revision : Revision) where
     organiser = sym s.organiser;
     uid = sym s.uid;
     recurrence = sym s.recurrence;
+    slot = sym s.slot;
     cancelled = sym s.cancelled;
     revision = λ i. record { sequence = sym s.sequence i; stamp = unwrap_or (sym s.stamp i) (pos 0) };
     names = λ room. sym (names_same room event sent (none_answered (slot_of event) (counted event.attendees) sent.attendees s.attendees));
@@ -98,17 +99,6 @@ module _ (revision : Revision) where
   alike_all (e ∷ events) [] z = absurd z
   alike_all (e ∷ events) (s ∷ sent) z = (alike_sent e s z.0, alike_all events sent z.1)
 
-  -- each is of another instance
-  abbrev IsSameSlot : EventComponent → EventComponent → Type 0
-  IsSameSlot a b = a.recurrence ≡ b.recurrence
-
-  all_revised : (events : List EventComponent) → AllZip IsSameSlot events (map (revised revision) events)
-  all_revised [] = tt
-  all_revised (e ∷ events) = (refl, all_revised events)
-
-  apart_by : (R : EventComponent → EventComponent → Type 0) → ((a b : EventComponent) → R a b → a.recurrence ≡ b.recurrence) → (organiser uid : List ℕ) (events others : List EventComponent) → AreStored organiser uid events → AllZip R events others → AreApart others
-  apart_by R slots organiser uid events others f z = apart others (masters_few R slots events others z f.masters) (overrides_differ R slots events others z f.differ)
-
 pub request_reads : LinesBack → ReadsLines → ZoneBack → (stored : List ℕ) (said : Message) (revision : Revision) (octets : List ℕ) → SpellsMessage stored said → said.method ≡ Store → revision.sequence < 2 ^ 31
     → IsRequest said.organiser said.uid revision said.events octets → is_too_long octets ≡ false → SpellsRequest said.organiser said.uid revision said.events octets
 request_reads back reads zone_back stored said revision octets s store small r short =
@@ -116,8 +106,6 @@ request_reads back reads zone_back stored said revision octets s store small r s
     let b = written_back back reads zone_back request_word request_method IsAsked HasNoAnswer asked_reads said.organiser said.uid revision said.events octets f small r in
     let sent = b.saids in
     let again = map (revised revision) said.events in
-    let sent_apart = apart_by revision (IsSentAs revision) (λ e x h. sym h.recurrence) said.organiser said.uid said.events sent f b.each in
-    let again_apart = apart_by revision (λ e x. e.recurrence ≡ x.recurrence) (λ e x h. h) said.organiser said.uid said.events again f (all_revised revision said.events) in
     record {
       sent = sent;
       each = b.each;
@@ -130,12 +118,12 @@ request_reads back reads zone_back stored said revision octets s store small r s
           events = sent;
           says = b.says;
           taken = refl;
-          are = record { some = b.some; of_it = b.of_it; masters = b.masters; differ = b.differ };
+          are = record { some = b.some; of_it = b.of_it; masters = b.masters; differ = b.times_differ };
           one_each = λ speaks. absurd (false≢true speaks);
         };
       };
-      parts = λ room parts. (
-        same_parts room said.organiser said.uid sent again (all_alike revision said.events sent b.each) again_apart parts,
-        same_parts room said.organiser said.uid again sent (alike_all revision said.events sent b.each) sent_apart parts,
+      parts = λ room zone parts. (
+        same_parts room said.organiser said.uid sent again (all_alike revision said.events sent b.each) zone parts,
+        same_parts room said.organiser said.uid again sent (alike_all revision said.events sent b.each) zone parts,
       );
     }

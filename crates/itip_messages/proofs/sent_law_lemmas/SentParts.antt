@@ -1,27 +1,27 @@
 -- Events that are said again make the same parts for each room.
 -- Behind requests_read_back.
-use Rattle.std.proofs.Common.{◌≡◌, ◌∙◌, refl, sym, ap, ap₂, subst, inl, inr, ℕ, Bool, true, false, not, ◌&&◌, ◌||◌, cond, List, [], ◌∷◌, length, map, filter, Option, Some, is_some, ℤ}
-use Rattle.std.specs.Prelude.{◌==◌, AllPairs, Contains, option_map}
-use Rattle.std.specs.declared.cmp.Ordering.TheVariants.{Less}
+use Rattle.std.proofs.Common.{◌≡◌, ◌∙◌, refl, sym, ap, ap₂, subst, ℕ, Bool, true, false, not, ◌&&◌, ◌||◌, cond, List, [], ◌∷◌, length, map, filter, Option, Some, is_some, ℤ}
+use Rattle.std.specs.Prelude.{◌==◌, option_map}
 use Rattle.std.specs.List.{list_any, AllZip}
 use Rattle.std.specs.Str.{bytes_eq}
 use Rattle.std.proofs.lemmas.Slice.Eq.{bytes_eq-Decides}
 use Rattle.profile.specs.events.EventComponents.{Attendee, EventComponent, Request}
 use Rattle.profile.specs.events.Events.{is_master}
 use Rattle.profile.specs.events.Messages.{counted, master_in}
-use Rattle.profile.specs.rooms.Messages.{AreBySlot, AreParts, Content, IsBody, IsContent, IsPart, is_for, is_part_for, names_room, own_revision, parts_for, raised_to, slot_named, slot_of}
-use Rattle.profile.specs.rooms.Revisions.{Absent, Body, Cancelled, Part, Set, Slot, slot_cmp}
-use Rattle.cal_events.proofs.shared_lemmas.InOneOrder.{mapped_pairs, pairs_mapped}
-use Rattle.cal_events.proofs.shared_lemmas.SeriesLemmas.{zip_back, zip_with}
-use Rattle.itip_order.proofs.Lists.{in_cons, in_head, in_tail, none_in_nil}
+use Rattle.profile.specs.events.Occurrences.{Time}
+use Rattle.profile.specs.events.Placed.{IsAt}
+use Rattle.profile.specs.events.Properties.{BothOrNeither}
+use Rattle.profile.specs.rooms.Messages.{AreParts, Content, IsBody, IsContent, IsPart, is_for, is_part_for, names_room, own_revision, parts_for, raised_to}
+use Rattle.profile.specs.rooms.Revisions.{Absent, Body, Cancelled, Part, Set}
+use Rattle.profile.specs.series.Zones.{Zone}
 use Rattle.itip_messages.specs.SentLaw.{attendee_at, request_of}
-use Rattle.itip_messages.proofs.sent_law_lemmas.SentMeetings.{AreApart}
 
 -- what two events have alike that make the same parts
 pub record IsAlike (a b : EventComponent) : Type 0 where
   pub organiser : a.organiser ≡ b.organiser
   pub uid : a.uid ≡ b.uid
   pub recurrence : a.recurrence ≡ b.recurrence
+  pub slot : a.written.recurrence ≡ b.written.recurrence
   pub cancelled : a.cancelled ≡ b.cancelled
   pub revision : own_revision a ≡ own_revision b
   pub names : (room : List ℕ) → names_room room a ≡ names_room room b
@@ -47,16 +47,16 @@ whole_alike (x ∷ xs) (y ∷ ys) z = by (is_master x) (is_master y) (ap (λ (o 
     by false true e rest = cc
 
 module _ (room organiser uid : List ℕ) (xs ys : List EventComponent) (z : AllZip IsAlike xs ys) where
-  abbrev IsPartOf : List EventComponent → EventComponent → Part → Type 0
-  IsPartOf events event part = (content : Content) × IsPart room (request_of organiser uid events) event content part
+  abbrev IsPartOf : Option Zone → List EventComponent → EventComponent → Part → Type 0
+  IsPartOf zone events event part = (content : Content) × IsPart room zone (request_of organiser uid events) event content part
 
-  part_alike : (a b : EventComponent) (part : Part) → IsAlike a b → IsPartOf xs a part → IsPartOf ys b part
-  part_alike a b part h (content, p) = (
+  part_alike : (zone : Option Zone) (a b : EventComponent) (part : Part) → IsAlike a b → IsPartOf zone xs a part → IsPartOf zone ys b part
+  part_alike zone a b part h (content, p) = (
     content,
     record {
       organiser = sym h.organiser ∙ p.organiser;
       uid = p.uid ∙ h.uid;
-      slot = p.slot ∙ ap slot_named h.recurrence;
+      slot = (p.slot.0, subst (λ (o : Option Time). BothOrNeither (IsAt zone) o p.slot.0) h.slot p.slot.1, p.slot.2);
       revision = p.revision ∙ ap₂ raised_to (whole_alike xs ys z) h.revision;
       body = body_alike room a b h content part.body p.body;
     },
@@ -87,50 +87,6 @@ module _ (room organiser uid : List ℕ) (xs ys : List EventComponent) (z : AllZ
       same true = z
       same false = tt
 
--- ---- by their slots
-
--- these are alike, in another order
-record Again (ys ordered : List EventComponent) : Type 0 where
-  again : List EventComponent
-  alike : AllZip IsAlike ordered again
-  among : (y : EventComponent) → Contains again y → Contains ys y
-
-again_of : (xs ys : List EventComponent) → AllZip IsAlike xs ys → (ordered : List EventComponent) → ((x : EventComponent) → Contains ordered x → Contains xs x) → Again ys ordered
-again_of xs ys z [] f = record { again = []; alike = tt; among = λ y c. absurd (none_in_nil y c) }
-again_of xs ys z (x ∷ ordered) f =
-    let one = zip_with IsAlike xs ys x z (f x (in_head x ordered)) in
-    let rest = again_of xs ys z ordered (λ w c. f w (in_tail x ordered w c)) in
-    record {
-      again = one.0 ∷ rest.again;
-      alike = (one.2, rest.alike);
-      among = λ y c. elim (in_cons one.0 rest.again y c) [
-        | inl here ↦ subst (λ (w : EventComponent). Contains ys w) here one.1
-        | inr there ↦ rest.among y there
-      ];
-    }
-
-same_slots : (xs ys : List EventComponent) → AllZip IsAlike xs ys → map slot_of xs ≡ map slot_of ys
-same_slots [] [] z = refl
-same_slots [] (y ∷ ys) z = absurd z
-same_slots (x ∷ xs) [] z = absurd z
-same_slots (x ∷ xs) (y ∷ ys) z = λ i. slot_named (z.0.recurrence i) ∷ same_slots xs ys z.1 i
-
-abbrev IsBefore : Slot → Slot → Type 0
-IsBefore a b = slot_cmp a b ≡ Less
-
-again_by_slot : (xs ys ordered : List EventComponent) → AllZip IsAlike xs ys → AreApart ys → AreBySlot xs ordered → (a : Again ys ordered) → AreBySlot ys a.again
-again_by_slot xs ys ordered z differ by_slot a = record {
-  exact = λ y. (
-    λ c. a.among y c,
-    λ c.
-        let x = zip_back IsAlike xs ys y z c in
-        let other = zip_with IsAlike ordered a.again x.0 a.alike ((by_slot.exact x.0).1 x.1) in
-        let same : other.0 ≡ y = differ other.0 y (a.among other.0 other.1) c (sym other.2.recurrence ∙ x.2.recurrence) in
-        subst (λ (w : EventComponent). Contains a.again w) same other.1,
-  );
-  order = mapped_pairs IsBefore slot_of a.again (subst (AllPairs IsBefore) (same_slots ordered a.again a.alike) (pairs_mapped IsBefore slot_of ordered by_slot.order));
-}
-
 each_again : (R S : EventComponent → Part → Type 0) → ((x y : EventComponent) (part : Part) → IsAlike x y → R x part → S y part) → (xs ys : List EventComponent) (parts : List Part) → AllZip IsAlike xs ys → AllZip R xs parts → AllZip S ys parts
 each_again R S f [] [] [] z r = tt
 each_again R S f [] [] (p ∷ parts) z r = absurd r
@@ -139,25 +95,15 @@ each_again R S f (x ∷ xs) [] parts z r = absurd z
 each_again R S f (x ∷ xs) (y ∷ ys) [] z r = absurd r
 each_again R S f (x ∷ xs) (y ∷ ys) (p ∷ parts) z r = (f x y p z.0 r.0, each_again R S f xs ys parts z.1 r.1)
 
--- events of which none or all count are apart where all are
-some_apart : (b : Bool) (events : List EventComponent) → AreApart events → AreApart (cond b events [])
-some_apart true events h = h
-some_apart false events h = λ x y c d e. absurd (none_in_nil x c)
-
-pub same_parts : (room organiser uid : List ℕ) (xs ys : List EventComponent) → AllZip IsAlike xs ys → AreApart ys → (parts : List Part) → AreParts room (request_of organiser uid xs) parts → AreParts room (request_of organiser uid ys) parts
-same_parts room organiser uid xs ys z differ parts p =
-    let before = parts_for room (request_of organiser uid xs) in
-    let behind = parts_for room (request_of organiser uid ys) in
-    let zipped = parts_zip room organiser uid xs ys z in
-    let differ_there : AreApart behind = subst AreApart (sym (parts_are room organiser uid xs ys z ys)) (some_apart (list_any (is_for room Request) ys) ys differ) in
-    let a = again_of before behind zipped p.events (λ x c. (p.are.exact x).0 c) in
-    record {
-      events = a.again;
-      are = again_by_slot before behind p.events zipped differ_there p.are a;
-      each =
-          each_again (λ event part. (content : Content) × IsPart room (request_of organiser uid xs) event content part) (λ event part. (content : Content) × IsPart room (request_of organiser uid ys) event content part)
-          (part_alike room organiser uid xs ys z) p.events a.again parts a.alike p.each;
-    }
+pub same_parts : (room organiser uid : List ℕ) (xs ys : List EventComponent) → AllZip IsAlike xs ys → (zone : Option Zone) (parts : List Part)
+    → AreParts room zone (request_of organiser uid xs) parts → AreParts room zone (request_of organiser uid ys) parts
+same_parts room organiser uid xs ys z zone parts p = record {
+  all = p.all;
+  each =
+      each_again (IsPartOf room organiser uid xs ys z zone xs) (IsPartOf room organiser uid xs ys z zone ys) (part_alike room organiser uid xs ys z zone) (parts_for room (request_of organiser uid xs))
+      (parts_for room (request_of organiser uid ys)) p.all (parts_zip room organiser uid xs ys z) p.each;
+  are = p.are;
+}
 
 -- ---- who is named
 

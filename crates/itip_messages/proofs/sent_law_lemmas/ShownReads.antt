@@ -1,15 +1,13 @@
 -- What an organiser shows of a meeting reads back as an event with its instances, with the answers that are seen.
 -- Cited by shown_reads_back.
-use Rattle.std.proofs.Common.{◌≡◌, ◌∙◌, refl, sym, ap, subst, arith, lt-ltb, ℕ, ◌<◌, ◌^◌, Bool, true, false, List, [], ◌∷◌, ◌++◌, length, codes, None, Some}
+use Rattle.std.proofs.Common.{◌≡◌, ◌∙◌, refl, sym, subst, arith, lt-ltb, ℕ, ◌<◌, ◌^◌, Bool, true, false, List, [], ◌∷◌, ◌++◌, length, codes, None, Some}
 use Rattle.std.specs.List.{AllZip, list_any}
 use Rattle.std.specs.Str.{bytes_eq}
 use Rattle.profile.specs.text.Lines.{is_content, is_too_long, logical_lines}
 use Rattle.profile.specs.text.Objects.{is_property}
-use Rattle.std.proofs.lemmas.Bool.{false≢true}
-use Rattle.profile.specs.series.RoomZones.{NamesRoomZone}
-use Rattle.profile.specs.text.Trees.{Tree, tree_own}
+use Rattle.profile.specs.text.Trees.{Tree}
 use Rattle.profile.specs.events.EventComponents.{Accepted, Attendee, Declined, Delegated, EventComponent, IsAttendee, NeedsAction, Participation, Request, SaysEventComponent, Tentative, Store}
-use Rattle.profile.specs.events.Properties.{is_of, lines_named}
+use Rattle.profile.specs.events.Properties.{is_of}
 use Rattle.profile.specs.events.Messages.{Message, SpellsMessage}
 use Rattle.profile.specs.organisers.Organisers.{OrganiserBook, ShowsSeen, Stored, participation_word, sent_status}
 use Rattle.profile.specs.organisers.Sent.{IsMeetingText}
@@ -17,7 +15,7 @@ use Rattle.ical_lines.proofs.CleanLines.{IsClean, valued}
 use Rattle.itip_messages.specs.SentLaw.{HasAnswered, IsSentAddress, SpellsShown, SpellsShownCalendar}
 use Rattle.itip_messages.proofs.shared_lemmas.CleanText.{clean_address}
 use Rattle.itip_messages.proofs.shared_lemmas.ContentLines.{LinesBack, ReadsLines, no_method}
-use Rattle.itip_messages.proofs.shared_lemmas.ObjectTree.{Lines, calendar_own}
+use Rattle.itip_messages.proofs.shared_lemmas.ObjectTree.{Lines}
 use Rattle.itip_messages.proofs.shared_lemmas.PlacedUtc.{all_placed}
 use Rattle.itip_messages.proofs.shared_lemmas.OwnLines.{as_event}
 use Rattle.itip_messages.proofs.sent_law_lemmas.SentEvents.{ReadsLine}
@@ -121,10 +119,6 @@ as_events object [] (e ∷ events) z = absurd z
 as_events object (v ∷ vs) [] z = absurd z
 as_events object (v ∷ vs) (e ∷ events) z = (as_event object v e z.0, as_events object vs events z.1)
 
--- which names no zone of a room
-unnamed : (whole : Tree) → tree_own whole ≡ calendar_own None → NamesRoomZone (tree_own whole) None
-unnamed whole own = (None, record { line = None; once = ap (lines_named (codes "X-ROOM-ZONE")) own; present = λ h. absurd (false≢true h); is = tt }, refl)
-
 -- ---- what is shown of a store that was read
 
 module _ (back : LinesBack) (reads : ReadsLines) (zone_back : ZoneBack) (read : List ℕ) (said : Message) (book : OrganiserBook) (stored : Stored) (octets : List ℕ) where
@@ -155,4 +149,4 @@ module _ (back : LinesBack) (reads : ReadsLines) (zone_back : ZoneBack) (read : 
       → SpellsShownCalendar book stored octets
   shown_calendar s store same small t =
       let b = shown_back s store same small t in
-      record { shown = b.saids; each = b.each; lines = b.lines; tree = b.whole; object = unbounded_object b.whole (logical_lines octets) b.object; says = record { zone = None; names = unnamed b.whole b.own; each = all_placed b.whole None _ b.saids (as_events b.whole _ b.saids b.says) } }
+      record { shown = b.saids; each = b.each; lines = b.lines; tree = b.whole; object = unbounded_object b.whole (logical_lines octets) b.object; says = as_events b.whole _ b.saids b.says }

@@ -33,6 +33,7 @@ use Rattle.itip_messages.proofs.shared_lemmas.CleanUids.{text_value}
 use Rattle.itip_messages.proofs.shared_lemmas.EventLines.{clean_value, vevent_among}
 use Rattle.itip_messages.proofs.shared_lemmas.ObjectTree.{Lines}
 use Rattle.itip_messages.proofs.shared_lemmas.OwnWhen.{EventFacts, stored_facts}
+use Rattle.itip_messages.proofs.shared_lemmas.TimesApart.{instants_apart}
 use Rattle.itip_messages.proofs.shared_lemmas.ZonedStarts.{IsSaid, form_said}
 
 -- one of the events, of this meeting
@@ -164,15 +165,16 @@ stored_events octets said s store =
     let inside = filter (λ part. is_same_name (tree_name part) (codes "VEVENT")) (tree_inside whole) in
     let count : length said.events ≡ count_by (λ part. is_same_name (tree_name part) (codes "VEVENT")) (tree_inside whole) =
     sym (zip_length (SaysEventComponent whole (Some Store)) (vevents whole) said.events says) ∙ length-map inside tree_own ∙ length-filter (λ part. is_same_name (tree_name part) (codes "VEVENT")) (tree_inside whole) in
+    let each =
+    stored_from whole (vevents whole) said.events said.organiser said.uid
+    (λ lines c line l. clean_value true octets line s.lines (vevent_among true whole (logical_lines octets) lines s.object c line l))
+    says s.says.are.of_it in
     record {
-      each =
-          stored_from whole (vevents whole) said.events said.organiser said.uid
-          (λ lines c line l. clean_value true octets line s.lines (vevent_among true whole (logical_lines octets) lines s.object c line l))
-          says s.says.are.of_it;
+      each = each;
       some = s.says.are.some;
       few = let most = at_most most_events _ s.object.events in omega (arith, count, most);
       masters = s.says.are.masters;
-      differ = s.says.are.differ;
+      differ = instants_apart said.events (λ event c. (each event c).slot) s.says.are.differ;
     }
 
 -- ---- what is sent of it

@@ -8,11 +8,12 @@ use Rattle.profile.specs.text.Lines.{is_content, logical_lines, reads_as_lines, 
 use Rattle.profile.specs.text.Objects.{IsObject, is_property}
 use Rattle.profile.specs.text.Trees.{Tree, tree_own, vevents}
 use Rattle.profile.specs.events.EventComponents.{Attendee, EventComponent, Request, SaysEventComponent, meeting_said}
-use Rattle.profile.specs.events.Events.{InstancesDiffer, is_master, is_override}
+use Rattle.profile.specs.events.Events.{InstancesDiffer, TimesDiffer, is_master, is_override}
 use Rattle.profile.specs.organisers.Sent.{Component, IsComponentOf, IsComponentText, IsMeetingText, zones_of}
 use Rattle.profile.specs.rooms.Kept.{zone_texts}
 use Rattle.profile.specs.rooms.Messages.{opening_lines}
 use Rattle.profile.specs.rooms.Revisions.{Revision, Slot}
+use Rattle.cal_events.proofs.shared_lemmas.SeriesLemmas.{zip_back}
 use Rattle.cal_events.proofs.shared_lemmas.Zips.{zip_length}
 use Rattle.itip_order.proofs.Lists.{in_cons, in_head, in_tail, none_in_nil}
 use Rattle.itip_messages.specs.SentLaw.{IsSaidAgain}
@@ -22,6 +23,7 @@ use Rattle.itip_messages.proofs.sent_law_lemmas.SentEvents.{ReadsLine, one_back}
 use Rattle.itip_messages.proofs.sent_law_lemmas.SentMeetings.{masters_few, overrides_differ}
 use Rattle.itip_messages.proofs.sent_law_lemmas.SentZones.{sent_zones}
 use Rattle.itip_messages.proofs.sent_law_lemmas.StoredEvents.{AreStored, IsStored}
+use Rattle.itip_messages.proofs.shared_lemmas.TimesApart.{times_apart}
 use Rattle.itip_messages.proofs.shared_lemmas.ZonedObjects.{IsZonedTree, ZoneBack, bounded_object, zoned_spelled}
 
 -- ---- all VEVENTs
@@ -85,6 +87,7 @@ pub record WrittenBack (word : Option (List ℕ)) (IsSuch : Slot → Attendee �
   pub of_it : (said : EventComponent) → Contains saids said → meeting_said said ≡ (organiser, uid)
   pub masters : length (filter is_master saids) ≤ 1
   pub differ : InstancesDiffer (filter is_override saids)
+  pub times_differ : TimesDiffer (filter is_override saids)
 
 pub written_back : LinesBack → ReadsLines → ZoneBack → (word : Option (List ℕ)) → IsMethod word → (IsLine : Slot → Attendee → List ℕ → Type 0) (IsSuch : Slot → Attendee → Attendee → Type 0) → ReadsLine IsLine IsSuch
     → (organiser uid : List ℕ) (revision : Revision) (events : List EventComponent) (octets : List ℕ) → AreStored organiser uid events → revision.sequence < 2 ^ 31
@@ -102,6 +105,7 @@ written_back back reads zone_back word method IsLine IsSuch reads_line organiser
     let slots : (e s : EventComponent) → IsSaidAgain IsSuch revision e s → e.recurrence ≡ s.recurrence = λ e s h. sym h.recurrence in
     let count : length b.owns ≡ length b.saids = zip_length (SaysEventComponent k.whole (Some Request)) b.owns b.saids says in
     let same : length events ≡ length b.saids = zip_length (IsSaidAgain IsSuch revision) events b.saids b.each in
+    let differ = overrides_differ (IsSaidAgain IsSuch revision) slots events b.saids b.each f.differ in
     let object = bounded_object k.whole k.lines b.owns k.object k.events (few_there (length b.owns) (length b.saids) (length events) count same f.few) in
     record {
       saids = b.saids;
@@ -114,7 +118,8 @@ written_back back reads zone_back word method IsLine IsSuch reads_line organiser
       some = omega (arith, f.some, same);
       of_it = of_meeting IsSuch organiser uid revision events b.saids f.each b.each;
       masters = masters_few (IsSaidAgain IsSuch revision) slots events b.saids b.each f.masters;
-      differ = overrides_differ (IsSaidAgain IsSuch revision) slots events b.saids b.each f.differ;
+      differ = differ;
+      times_differ = times_apart b.saids (λ s c. (zip_back (IsSaidAgain IsSuch revision) events b.saids s b.each c).2.instants.slot) differ;
     }
   where
     few_there : (a b c : ℕ) → a ≡ b → c ≡ b → c ≤ 200 → a ≤ 200

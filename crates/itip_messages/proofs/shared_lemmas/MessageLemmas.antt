@@ -1,7 +1,7 @@
 -- What is known of the VEVENTs of a message, and its parts for a room.
 -- Cited by Message::of of message, Message::parts of parts.
-use Rattle.std.proofs.Common.{◌≡◌, ◌∙◌, ℕ, zero, suc, ◌<◌, ◌+◌, Bool, true, false, not, ◌&&◌, ◌||◌, cond, eqb, ap₂, filter, take, List, [], ◌∷◌, ◌++◌, length, map, get_or, refl, sym, ap, subst, arith, Option, Some, None, IsSome, is_some, option_map, ℤ, append_assoc}
-use Rattle.std.specs.Prelude.{◌↔◌, All, MatchOption, Result, Ok, Err, IfErr, Contains, codes}
+use Rattle.std.proofs.Common.{◌≡◌, ◌∙◌, ℕ, zero, suc, ◌<◌, ◌+◌, Bool, true, false, ◌&&◌, ◌||◌, cond, eqb, ap₂, filter, take, List, [], ◌∷◌, ◌++◌, length, map, get_or, refl, sym, ap, subst, arith, Option, Some, None, IsSome, is_some, option_map, append_assoc}
+use Rattle.std.specs.Prelude.{All, Result, Ok, Err, IfErr, Contains, codes}
 use Rattle.std.specs.List.{list_any, AllZip}
 use Rattle.std.specs.Str.{bytes_eq}
 use Rattle.std.proofs.lemmas.Bool.{true≢false, and_parts}
@@ -9,31 +9,32 @@ use Rattle.std.proofs.lemmas.List.{map-append, append-nil}
 use Rattle.std.proofs.lemmas.List.Elements.{filter_more, All-contains, Contains-append_right}
 use Rattle.ical_lines.specs.declared.fault.Refusal.{Refusal}
 use Rattle.profile.specs.text.Lines.{line_value}
+use Rattle.profile.specs.series.Zones.{Zone}
 use Rattle.profile.specs.events.EventComponents as events
-use Rattle.profile.specs.events.EventComponents.{EventComponent as SaidComponent}
-use Rattle.profile.specs.events.Confirmed.{has_series}
+use Rattle.profile.specs.events.EventComponents.{AreOfWritten, EventComponent as SaidComponent}
 use Rattle.profile.specs.events.Messages as profile_messages
 use Rattle.profile.specs.events.Messages.{MethodFault, bad_method, is_method, is_to_rooms}
+use Rattle.profile.specs.events.Occurrences.{Time}
+use Rattle.profile.specs.events.Placed.{IsAt}
+use Rattle.profile.specs.events.Properties.{BothOrNeither, OccursAtMostOnce}
 use Rattle.profile.specs.rooms.Messages as profile
-use Rattle.profile.specs.rooms.Messages.{AreParts, AreBySlot, Content, no_content, IsPart, IsBody, IsContent, names_room, is_addressed, is_part_for, parts_for, raised_to, cancels, is_cancel, canonical}
+use Rattle.profile.specs.rooms.Messages.{AreParts, AreGreatest, Content, no_content, IsPart, IsBody, IsContent, IsSlotIn, names_room, is_addressed, is_part_for, parts_for, raised_to, cancels, is_cancel, canonical}
 use Rattle.profile.specs.rooms.Revisions as revisions
-use Rattle.profile.specs.events.Properties.{OccursAtMostOnce}
 use Rattle.cal_events.specs.declared.component.EventComponent.{EventComponent}
 use Rattle.cal_events.specs.Component.{component_of, method_said}
-use Rattle.cal_events.specs.Series.{IsSeriesOf, series_said}
-use Rattle.cal_events.specs.declared.series.Series.{Series}
+use Rattle.cal_events.specs.Said.{IsWritten}
 use Rattle.cal_events.specs.declared.method.Method.{Method}
 use Rattle.cal_events.specs.declared.method.Method.TheVariants.{Store, Request, Add, Cancel, Reply, Refresh}
 use Rattle.cal_events.proofs.shared_lemmas.EventLemmas.{some_line, push_zip}
 use Rattle.cal_events.proofs.shared_lemmas.InOneOrder.{in_mapped, of_filtered}
-use Rattle.itip_order.specs.Parts.{slot_of}
-use Rattle.itip_order.proofs.Lists.{any_at, any_from}
+use Rattle.itip_order.specs.Parts.{part_of}
+use Rattle.itip_order.specs.declared.part.Part.{Part}
+use Rattle.itip_order.proofs.SlotEnds.{greatest_mapped, greatest_none}
 use Rattle.itip_messages.specs.declared.message.Message.{Message}
 use Rattle.itip_messages.specs.declared.message_component.MessageComponent.{MessageComponent}
 use Rattle.itip_messages.specs.Body.{IsReady}
-use Rattle.itip_messages.specs.Components.{AreInOrder, AreMessageEvents}
-use Rattle.itip_messages.specs.Message.{HasInstances, IsDated, SaysComponent, event_slot, RepresentsMessage, component_names, is_component_for, is_message_for, is_part_of, has_part, part_for, WordFault}
-use Rattle.itip_messages.proofs.message_lemmas.BySlot.{kept_by_slot}
+use Rattle.itip_messages.specs.Components.{AreMessageEvents, IsDatedEach}
+use Rattle.itip_messages.specs.Message.{HasInstances, IsComponentSlot, IsDated, IsPartFor, SaysComponent, event_slot, RepresentsMessage, component_names, is_component_for, is_message_for, is_part_of, has_part, part_for, WordFault}
 
 abbrev Lines : Type 0
 Lines = List (List ℕ)
@@ -66,6 +67,15 @@ module _ (events : List EventComponent) (m : AreMessageEvents (map component_of 
 
   pub slot_dated : IsDated (event_slot event)
   slot_dated = each (λ x. IsDated (profile.slot_of x)) m.dated
+
+  pub slots_dated : IsDatedEach (component_of event)
+  slots_dated = each IsDatedEach m.dated_each
+
+  pub event_is_written : IsWritten (component_of event)
+  event_is_written = each IsWritten m.written
+
+  pub event_of_written : AreOfWritten (component_of event).written (component_of event).recurrence (component_of event).additions (component_of event).exceptions
+  event_of_written = each (λ x. AreOfWritten x.written x.recurrence x.additions x.exceptions) m.instants
 
   pub event_is_ready : IsReady (component_of event)
   event_is_ready = each IsReady m.ready
@@ -145,132 +155,139 @@ body_said room method event content octets true n h k when is = (h, refl)
 body_said room method event content octets false true h k when is = (h, k, when, is)
 body_said room method event content octets false false h k when is = (h, k, refl)
 
-any_same : (p : SaidComponent → Bool) (xs ys : List SaidComponent) → ((e : SaidComponent) → Contains xs e ↔ Contains ys e) → list_any p xs ≡ list_any p ys
-any_same p xs ys h = go (list_any p xs) (list_any p ys) refl refl
-  where
-    go : (a b : Bool) → list_any p xs ≡ a → list_any p ys ≡ b → a ≡ b
-    go true true e f = refl
-    go true false e f =
-        let found = any_at p xs e in absurd (true≢false (sym (any_from p ys found.0 ((h found.0).0 found.1) found.2) ∙ f))
-    go false true e f =
-        let found = any_at p ys f in absurd (true≢false (sym (any_from p xs found.0 ((h found.0).1 found.1) found.2) ∙ e))
-    go false false e f = refl
-
--- in whichever order a message has them, they are the same events
-same_events : (to_rooms : Bool) (xs ys : List SaidComponent) → AreInOrder to_rooms xs ys → (e : SaidComponent) → Contains ys e ↔ Contains xs e
-same_events true xs ys o = o.exact
-same_events false xs ys o = λ e. (λ c. subst (λ (l : List SaidComponent). Contains l e) o c, λ c. subst (λ (l : List SaidComponent). Contains l e) (sym o) c)
-
 module _ (room : List ℕ) (message : Message) (said : profile_messages.Message) (s : RepresentsMessage message said) where
-  abbrev IsPartOf : SaidComponent → revisions.Part → Type 0
-  IsPartOf event part = (content : Content) × IsPart room said event content part
-
-  abbrev content_of : (event : SaidComponent) (component : MessageComponent) → SaysComponent event component → Content
+  abbrev pub content_of : (event : SaidComponent) (component : MessageComponent) → SaysComponent event component → Content
   content_of event component says = cond (cancels said.method event) no_content (cond (names_room room event) says.canonical.content no_content)
 
-  pub body_is : (event : SaidComponent) (component : MessageComponent) (says : SaysComponent event component)
-      → (part_for room message component).body ≡ cond (cancels said.method event) revisions.Cancelled (cond (names_room room event) (revisions.Set (canonical says.canonical.content)) revisions.Absent)
-  body_is event component says =
+  pub body_is : (event : SaidComponent) (component : MessageComponent) (says : SaysComponent event component) (slot : revisions.Slot)
+      → (part_for room message component slot).body ≡ cond (cancels said.method event) revisions.Cancelled (cond (names_room room event) (revisions.Set (canonical says.canonical.content)) revisions.Absent)
+  body_is event component says slot =
       (λ i. cond (is_cancel (s.method i) || says.cancelled i) revisions.Cancelled (cond (names_said room event component says i) (revisions.Set (says.canonical.is i)) revisions.Absent))
 
-  pub part_said : (event : SaidComponent) (component : MessageComponent) → Contains said.events event → (says : SaysComponent event component)
-      → IsPart room said event (content_of event component says) (part_for room message component)
-  part_said event component c says = record {
+  -- the slot that the component has in a room of this zone is that of its event there
+  pub slot_said : (zone : Option Zone) (event : SaidComponent) (component : MessageComponent) → SaysComponent event component → (slot : revisions.Slot) → IsComponentSlot zone component slot → IsSlotIn zone event slot
+  slot_said zone event component says slot (instant, at, is) = (instant, subst (λ (time : Option Time). BothOrNeither (IsAt zone) time instant) says.named at, is)
+
+  part_at : (zone : Option Zone) (event : SaidComponent) (component : MessageComponent) → Contains said.events event → (says : SaysComponent event component) → (slot : revisions.Slot)
+      → IsComponentSlot zone component slot → IsPart room zone said event (content_of event component says) (part_for room message component slot)
+  part_at zone event component c says slot there = record {
     organiser = s.organised event c ∙ ap Some (sym s.organiser);
     uid = s.uid ∙ sym (ap (λ (p : List ℕ × List ℕ). p.1) (s.are.of_it event c));
-    slot = says.slot;
+    slot = slot_said zone event component says slot there;
     revision = λ i. raised_to (s.whole_is i) (says.revision i);
-    body = subst (λ (x : revisions.Body). IsBody room said.method event (content_of event component says) x) (sym (body_is event component says))
+    body = subst (λ (x : revisions.Body). IsBody room said.method event (content_of event component says) x) (sym (body_is event component says slot))
         (body_said room said.method event says.canonical.content (canonical says.canonical.content) (cancels said.method event) (names_room room event) refl refl says.canonical.when refl);
   }
 
-  parts_zip : (events : List SaidComponent) (components : List MessageComponent) → ((e : SaidComponent) → Contains events e → Contains said.events e) → AllZip SaysComponent events components
-      → AllZip IsPartOf events (map (part_for room message) components)
-  parts_zip [] [] f z = tt
-  parts_zip [] (c ∷ cs) f z = absurd z
-  parts_zip (e ∷ es) [] f z = absurd z
-  parts_zip (e ∷ es) (c ∷ cs) f z =
-      ((content_of e c z.0, part_said e c (f e (zero, omega arith, refl)) z.0), parts_zip es cs (λ x k. f x (suc k.0, omega (arith, k.1), k.2)) z.1)
+  -- the part of a component is that of its event
+  pub part_said : (zone : Option Zone) (event : SaidComponent) (component : MessageComponent) → Contains said.events event → (says : SaysComponent event component) → (part : revisions.Part)
+      → IsPartFor room zone message component part → IsPart room zone said event (content_of event component says) part
+  part_said zone event component c says part is =
+      subst (IsPart room zone said event (content_of event component says)) (sym is.2) (part_at zone event component c says is.0 is.1)
+
+  -- a component is what an event of the message says, and its part for the room, in whichever zone, is the event's
+  pub record IsKept (event : SaidComponent) (component : MessageComponent) : Type 0 where
+    pub among : Contains said.events event
+    pub says : SaysComponent event component
+    pub part : (zone : Option Zone) (part : revisions.Part) → IsPartFor room zone message component part → IsPart room zone said event (content_of event component says) part
+
+  kept_one : (event : SaidComponent) (component : MessageComponent) → Contains said.events event → SaysComponent event component → IsKept event component
+  kept_one event component c says = record {
+    among = c;
+    says = says;
+    part = λ zone. part_said zone event component c says;
+  }
+
+  all_kept : (events : List SaidComponent) (components : List MessageComponent) → ((e : SaidComponent) → Contains events e → Contains said.events e) → AllZip SaysComponent events components → AllZip IsKept events components
+  all_kept [] [] f z = tt
+  all_kept [] (c ∷ cs) f z = absurd z
+  all_kept (e ∷ es) [] f z = absurd z
+  all_kept (e ∷ es) (c ∷ cs) f z = (kept_one e c (f e (zero, omega arith, refl)) z.0, all_kept es cs (λ x k. f x (suc k.0, omega (arith, k.1), k.2)) z.1)
 
   pub addressed : is_message_for room message ≡ is_addressed room said
-  addressed =
-      ap₂ (λ m b. is_to_rooms m && b) s.method
-      (any_said room message said s.method s.events message.components.items s.each
-      ∙ any_same (profile.is_for room said.method) s.events said.events (same_events (is_to_rooms said.method) said.events s.events s.in_order))
-
-  -- one to rooms has them by their slots
-  pub by_slot : is_to_rooms said.method ≡ true → AreBySlot said.events s.events
-  by_slot h = subst (λ (b : Bool). AreInOrder b said.events s.events) h s.in_order
+  addressed = ap₂ (λ m b. is_to_rooms m && b) s.method (any_said room message said s.method said.events message.components.items s.each)
 
   pub is_to_them : is_addressed room said ≡ true → is_to_rooms said.method ≡ true
   is_to_them h = (and_parts (is_to_rooms said.method) (list_any (profile.is_for room said.method) said.events) h).0
 
-  -- the events that are parts, by their slots, and the components that say them
-  pub kept_said : is_addressed room said ≡ true → AreBySlot (parts_for room said) (filter (is_part_for room said.method) s.events)
-  kept_said h =
-      subst (λ (l : List SaidComponent). AreBySlot l (filter (is_part_for room said.method) s.events)) (sym (ap (λ b. cond b (filter (is_part_for room said.method) said.events) []) h))
-      (kept_by_slot (is_part_for room said.method) said.events s.events (by_slot (is_to_them h)))
+  -- the events that are parts
+  pub parts_are : is_addressed room said ≡ true → parts_for room said ≡ filter (is_part_for room said.method) said.events
+  parts_are h = ap (λ b. cond b (filter (is_part_for room said.method) said.events) []) h
 
-  pub kept_components : AllZip SaysComponent (filter (is_part_for room said.method) s.events) (filter (has_part room message) message.components.items)
-  kept_components = kept_zip room message said s.method SaysComponent s.events message.components.items s.each s.each
+  kept : (Q : SaidComponent → MessageComponent → Type 0) → AllZip Q said.events message.components.items → is_addressed room said ≡ true → AllZip Q (parts_for room said) (filter (has_part room message) message.components.items)
+  kept Q each h =
+      subst (λ (l : List SaidComponent). AllZip Q l (filter (has_part room message) message.components.items)) (sym (parts_are h)) (kept_zip room message said s.method Q said.events message.components.items s.each each)
+
+  -- the components that say them
+  pub kept_components : is_addressed room said ≡ true → AllZip SaysComponent (parts_for room said) (filter (has_part room message) message.components.items)
+  kept_components h = kept SaysComponent s.each h
+
+  -- and their parts
+  pub kept_parts : is_addressed room said ≡ true → AllZip IsKept (parts_for room said) (filter (has_part room message) message.components.items)
+  kept_parts h = kept IsKept (all_kept said.events message.components.items (λ e c. c) s.each) h
 
   -- and their instances
-  pub kept_instances : is_addressed room said ≡ true → AllZip HasInstances (filter (is_part_for room said.method) s.events) (filter (has_part room message) message.components.items)
-  kept_instances h = kept_zip room message said s.method HasInstances s.events message.components.items s.each (s.instances (is_to_them h))
+  pub kept_instances : is_addressed room said ≡ true → AllZip HasInstances (parts_for room said) (filter (has_part room message) message.components.items)
+  kept_instances h = kept HasInstances (s.instances (is_to_them h)) h
 
-  pub kept_among : (e : SaidComponent) → Contains (filter (is_part_for room said.method) s.events) e → Contains said.events e
-  kept_among e c = (same_events (is_to_rooms said.method) said.events s.events s.in_order e).0 (of_filtered (is_part_for room said.method) s.events e c).0
+  pub kept_among : is_addressed room said ≡ true → (e : SaidComponent) → Contains (parts_for room said) e → Contains said.events e
+  kept_among h e c = (of_filtered (is_part_for room said.method) said.events e (subst (λ (l : List SaidComponent). Contains l e) (parts_are h) c)).0
 
   -- not addressed: no parts
-  pub no_events : is_addressed room said ≡ false → AreBySlot (parts_for room said) []
-  no_events h =
-      subst (λ (l : List SaidComponent). AreBySlot l []) (sym (ap (λ b. cond b (filter (is_part_for room said.method) said.events) []) h))
-      (record { exact = λ e. ((λ c. c), λ c. c); order = λ i j d l w. absurd (omega (arith, l, w)) })
+  pub no_parts_for : is_addressed room said ≡ false → parts_for room said ≡ []
+  no_parts_for h = ap (λ b. cond b (filter (is_part_for room said.method) said.events) []) h
 
-  pub no_parts : (parts : List revisions.Part) (b : Bool) → b ≡ is_message_for room message → b ≡ false → parts ≡ [] → AreParts room said parts
-  no_parts parts b is off none = record {
-    events = [];
-    are = no_events (sym addressed ∙ sym is ∙ off);
-    each = subst (λ (ps : List revisions.Part). AllZip IsPartOf [] ps) (sym none) tt;
-  }
+  -- ---- all its parts in a room
 
-  pub all_parts : (parts : List revisions.Part) (b : Bool) → b ≡ is_message_for room message → b ≡ true
-      → parts ≡ map (part_for room message) (filter (has_part room message) message.components.items) → AreParts room said parts
-  all_parts parts b is on are = record {
-    events = filter (is_part_for room said.method) s.events;
-    are = kept_said (sym addressed ∙ sym is ∙ on);
-    each = subst (λ (ps : List revisions.Part). AllZip IsPartOf (filter (is_part_for room said.method) s.events) ps) (sym are)
-        (parts_zip (filter (is_part_for room said.method) s.events) (filter (has_part room message) message.components.items) kept_among kept_components);
-  }
+  module _ (zone : Option Zone) where
+    abbrev IsPartOf : SaidComponent → revisions.Part → Type 0
+    IsPartOf event part = (content : Content) × IsPart room zone said event content part
 
--- ---- series
+    abbrev IsPartWith : MessageComponent → Part × Unit {0} → Type 0
+    IsPartWith component one = IsPartFor room zone message component (part_of one.0)
 
--- what has a series is the whole meeting
-pub series_of_whole : (event : SaidComponent) (component : MessageComponent) → SaysComponent event component → HasInstances event component
-    → (series : Series) → component.series ≡ Some series → slot_of component.slot ≡ revisions.Whole
-series_of_whole event component s has series is =
-    let of : IsSeriesOf event (series_said series) = subst (λ (o : Option Series). MatchOption o (has_series event ≡ false) (λ x. IsSeriesOf event (series_said x))) is has.series in
-    s.slot ∙ unnamed event.recurrence (and_parts (not (is_some event.recurrence)) (is_some event.rule) of.has).0
-  where
-    unnamed : (r : Option ℤ) → not (is_some r) ≡ true → profile.slot_named r ≡ revisions.Whole
-    unnamed None h = refl
-    unnamed (Some t) h = absurd (true≢false (sym h))
+    zip_parts : (events : List SaidComponent) (components : List MessageComponent) (all : List (Part × Unit {0})) → AllZip IsKept events components → AllZip IsPartWith components all
+        → AllZip IsPartOf events (map (λ one. part_of one.0) all)
+    zip_parts [] [] [] z p = tt
+    zip_parts [] [] (x ∷ xs) z p = absurd p
+    zip_parts [] (c ∷ cs) all z p = absurd z
+    zip_parts (e ∷ es) [] all z p = absurd z
+    zip_parts (e ∷ es) (c ∷ cs) [] z p = absurd p
+    zip_parts (e ∷ es) (c ∷ cs) (x ∷ xs) z p = ((content_of e c z.0.says, z.0.part zone (part_of x.0) p.0), zip_parts es cs xs z.1 p.1)
+
+    pub no_parts : (parts : List revisions.Part) (b : Bool) → b ≡ is_message_for room message → b ≡ false → parts ≡ [] → AreParts room zone said parts
+    no_parts parts b is off none = record {
+      all = [];
+      each = subst (λ (es : List SaidComponent). AllZip IsPartOf es []) (sym (no_parts_for (sym addressed ∙ sym is ∙ off))) tt;
+      are = subst (AreGreatest (λ part. part) []) (sym none) (greatest_none (λ part. part));
+    }
+
+    pub all_parts : (parts : List revisions.Part) (all kept : List (Part × Unit {0})) (b : Bool) → b ≡ is_message_for room message → b ≡ true
+        → AllZip IsPartWith (filter (has_part room message) message.components.items) all → AreGreatest (λ one. part_of one.0) all kept
+        → parts ≡ map (λ one. part_of one.0) kept → AreParts room zone said parts
+    all_parts parts all kept b is on each are same = record {
+      all = map (λ one. part_of one.0) all;
+      each = zip_parts (parts_for room said) (filter (has_part room message) message.components.items) all (kept_parts (sym addressed ∙ sym is ∙ on)) each;
+      are = subst (AreGreatest (λ part. part) (map (λ one. part_of one.0) all)) (sym same) (greatest_mapped (λ part. part) (λ (one : Part × Unit {0}). part_of one.0) all kept are);
+    }
 
 -- ---- the loop over the components
 
-pub part_more : (room : List ℕ) (message : Message) (items : List MessageComponent) (i : ℕ) (x : MessageComponent) (old new : List revisions.Part) → i < length items → x ≡ get_or items i x
-    → has_part room message x ≡ true → old ≡ map (part_for room message) (filter (has_part room message) (take i items)) → new ≡ old ++ part_for room message x ∷ []
-    → new ≡ map (part_for room message) (filter (has_part room message) (take (i + 1) items))
-part_more room message items i x old new w e h are is =
+pub part_more : (room : List ℕ) (zone : Option Zone) (message : Message) (items : List MessageComponent) (i : ℕ) (x : MessageComponent) (old new : List (Part × Unit {0})) (one : Part × Unit {0}) → i < length items → x ≡ get_or items i x
+    → has_part room message x ≡ true → AllZip (λ component one. IsPartFor room zone message component (part_of one.0)) (filter (has_part room message) (take i items)) old
+    → IsPartFor room zone message x (part_of one.0) → new ≡ old ++ one ∷ []
+    → AllZip (λ component one. IsPartFor room zone message component (part_of one.0)) (filter (has_part room message) (take (i + 1) items)) new
+part_more room zone message items i x old new one w e h are part is =
     let p = has_part room message in
-    let f = part_for room message in
-    let one : filter p (take (i + 1) items) ≡ filter p (take i items) ++ x ∷ [] = filter_more p items i x w ∙ ap (λ y. filter p (take i items) ++ cond (p y) (y ∷ []) []) (sym e) ∙ ap (λ b. filter p (take i items) ++ cond b (x ∷ []) []) h in
-    is ∙ ap (λ l. l ++ f x ∷ []) are ∙ sym (ap (map f) one ∙ map-append f (filter p (take i items)) (x ∷ []))
+    let R = λ (component : MessageComponent) (one : Part × Unit {0}). IsPartFor room zone message component (part_of one.0) in
+    let more : filter p (take (i + 1) items) ≡ filter p (take i items) ++ x ∷ [] = filter_more p items i x w ∙ ap (λ y. filter p (take i items) ++ cond (p y) (y ∷ []) []) (sym e) ∙ ap (λ b. filter p (take i items) ++ cond b (x ∷ []) []) h in
+    subst (λ (l : List MessageComponent). AllZip R l new) (sym more) (subst (AllZip R (filter p (take i items) ++ x ∷ [])) (sym is) (push_zip R (filter p (take i items)) old x one are part))
 
-pub part_less : (room : List ℕ) (message : Message) (items : List MessageComponent) (i : ℕ) (x : MessageComponent) (old : List revisions.Part) → i < length items → x ≡ get_or items i x
-    → has_part room message x ≡ false → old ≡ map (part_for room message) (filter (has_part room message) (take i items)) → old ≡ map (part_for room message) (filter (has_part room message) (take (i + 1) items))
-part_less room message items i x old w e h are =
+pub part_less : (room : List ℕ) (zone : Option Zone) (message : Message) (items : List MessageComponent) (i : ℕ) (x : MessageComponent) (old : List (Part × Unit {0})) → i < length items → x ≡ get_or items i x
+    → has_part room message x ≡ false → AllZip (λ component one. IsPartFor room zone message component (part_of one.0)) (filter (has_part room message) (take i items)) old
+    → AllZip (λ component one. IsPartFor room zone message component (part_of one.0)) (filter (has_part room message) (take (i + 1) items)) old
+part_less room zone message items i x old w e h are =
     let p = has_part room message in
-    let f = part_for room message in
+    let R = λ (component : MessageComponent) (one : Part × Unit {0}). IsPartFor room zone message component (part_of one.0) in
     let none : filter p (take (i + 1) items) ≡ filter p (take i items) = filter_more p items i x w ∙ ap (λ y. filter p (take i items) ++ cond (p y) (y ∷ []) []) (sym e) ∙ ap (λ b. filter p (take i items) ++ cond b (x ∷ []) []) h ∙ append-nil (filter p (take i items)) in
-    are ∙ sym (ap (map f) none)
+    subst (λ (l : List MessageComponent). AllZip R l old) (sym none) are

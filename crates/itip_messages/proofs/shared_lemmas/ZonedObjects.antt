@@ -13,12 +13,12 @@ use Rattle.std.proofs.lemmas.List.Elements.{filter-append}
 use Rattle.std.proofs.lemmas.List.Folds.{list_all-append}
 use Rattle.profile.specs.events.ZonedTimes.{has_zone_name, vtimezones, zone_named, SaysZoneOf}
 use Rattle.profile.specs.rooms.Kept.{kept_zone_name, zone_texts}
-use Rattle.profile.specs.rooms.Messages.{IsZoneRest, opening_lines, zone_text}
+use Rattle.profile.specs.rooms.Messages.{IsZoneRest, zone_text}
 use Rattle.profile.specs.series.Rules.{Pattern}
 use Rattle.profile.specs.series.Zones.{Zone, Constant, Single, Pair}
 use Rattle.profile.specs.series.ZoneTexts.{SaysZone}
 use Rattle.profile.specs.text.Lines.{is_content, is_same_name, folded, written, logical_lines}
-use Rattle.profile.specs.text.Objects.{is_property, is_calendar_name, most_events, IsObject}
+use Rattle.profile.specs.text.Objects.{is_property, is_calendar_name, most_events, has_version, IsObject}
 use Rattle.profile.specs.text.Objects.SpellsBody.{component}
 use Rattle.profile.specs.text.Trees.{Tree, tree, trees_list, tree_name, tree_own, tree_inside, vevents}
 use Rattle.profile.specs.text.Values.{escaped}
@@ -212,15 +212,12 @@ vevents_more own parts body (v ∷ owns) b h =
 
 -- ---- the calendar
 
-object_own : Option (List ℕ) → Lines
-object_own method = calendar_own method
-
 trees_there : (ts : List Tree) → trees_list (trees_of ts) ≡ ts
 trees_there [] = refl
 trees_there (t ∷ ts) = ap (λ l. t ∷ l) (trees_there ts)
 
-object_tree : Option (List ℕ) → List Tree → Tree
-object_tree method parts = tree (codes "VCALENDAR") (object_own method) (trees_of parts)
+object_tree : Lines → List Tree → Tree
+object_tree own parts = tree (codes "VCALENDAR") own (trees_of parts)
 
 abbrev is_event : Tree → Bool
 is_event part = is_same_name (tree_name part) (codes "VEVENT")
@@ -281,59 +278,74 @@ find_at from (x ∷ zones) b (suc k) place z few p e =
 
 -- ---- all
 
--- the octets of an object of this METHOD, or of none, with these zones and these VEVENTs
-abbrev pub object_octets : Option (List ℕ) → List (List ℕ) → List Lines → List ℕ
-object_octets method zones owns = written (opening_lines method) ++ zone_texts 0 zones ++ written (flat_map vevent_lines owns ++ codes "END:VCALENDAR" ∷ [])
+-- the octets of an object with these lines of its own, these zones and these VEVENTs
+abbrev pub object_octets : Lines → List (List ℕ) → List Lines → List ℕ
+object_octets own zones owns = written (codes "BEGIN:VCALENDAR" ∷ own) ++ zone_texts 0 zones ++ written (flat_map vevent_lines owns ++ codes "END:VCALENDAR" ∷ [])
 
-pub record IsZonedTree (method : Option (List ℕ)) (zones : List (List ℕ)) (owns : List Lines) : Type 0 where
+pub record IsOpenedTree (opening : Lines) (zones : List (List ℕ)) (owns : List Lines) : Type 0 where
   pub lines : Lines
-  pub text : object_octets method zones owns ≡ written lines
+  pub text : object_octets opening zones owns ≡ written lines
   pub content : list_all is_content lines ≡ true
   pub whole : Tree
   pub object : IsObject false whole lines
-  pub own : tree_own whole ≡ calendar_own method
+  pub own : tree_own whole ≡ opening
   pub events : vevents whole ≡ owns
   pub says : (place : ℕ) (rest : List ℕ) → slice_get zones place ≡ Some rest → (zone : Zone) (t : Tree) → SaysZone t zone → IsZoneRest zone rest → SaysZoneOf (zone_named (kept_zone_name place) whole) zone
+
+-- that of an object of this METHOD, or of none
+abbrev pub IsZonedTree : Option (List ℕ) → List (List ℕ) → List Lines → Type 0
+IsZonedTree method = IsOpenedTree (calendar_own method)
+
+-- lines that may open an object
+pub record AreOpening (own : Lines) : Type 0 where
+  pub properties : list_all is_property own ≡ true
+  pub version : has_version own ≡ true
+  pub content : list_all is_content own ≡ true
+
+pub calendar_opens : (method : Option (List ℕ)) → IsMethod method → AreOpening (calendar_own method)
+calendar_opens method fine = record {
+  properties = own_properties method;
+  version = own_version method;
+  content = and_from _ _ (fixed (codes "VERSION:2.0") refl refl refl refl) (and_from _ _ (fixed (codes "PRODID:-//iTIP room box//EN") refl refl refl refl) fine);
+}
 
 joined : (opening zones events : Lines) (text : List ℕ) → text ≡ written zones → written opening ++ text ++ written events ≡ written ((opening ++ zones) ++ events)
 joined opening zones events text e =
     ap (λ t. written opening ++ t ++ written events) e
     ∙ sym (flat_map-append folded (opening ++ zones) events ∙ ap (λ x. x ++ written events) (flat_map-append folded opening zones))
 
-pub zoned_spelled : LinesBack → ZoneBack → (method : Option (List ℕ)) → IsMethod method → (zones : List (List ℕ)) (owns : List Lines) → ((rest : List ℕ) → Contains zones rest → IsZone rest) → length zones < 2 ^ 64
-    → list_all (list_all is_property) owns ≡ true → list_all (list_all is_content) owns ≡ true → IsZonedTree method zones owns
-unfolding object_own object_tree
-zoned_spelled lines_back zone_back method fine zones owns f few properties content =
+pub opened_spelled : LinesBack → ZoneBack → (own : Lines) → AreOpening own → (zones : List (List ℕ)) (owns : List Lines) → ((rest : List ℕ) → Contains zones rest → IsZone rest) → length zones < 2 ^ 64
+    → list_all (list_all is_property) owns ≡ true → list_all (list_all is_content) owns ≡ true → IsOpenedTree own zones owns
+unfolding object_tree
+opened_spelled lines_back zone_back own opens zones owns f few properties content =
     let b = all_back lines_back zone_back 0 zones f in
-    let head = calendar_own method in
     let parts = zone_trees 0 zones b ++ map vevent_tree owns in
     let inner = lines_of 0 zones b in
     let events = flat_map vevent_lines owns in
     let there : trees_list (trees_of parts) ≡ parts = trees_there parts in
-    let zs : BodyT 7 head (zone_trees 0 zones b) (head ++ inner) = zones_more head [] head 0 zones b (own_body 7 head (own_properties method)) in
-    let both : BodyT 7 head parts ((head ++ inner) ++ events) = vevents_more head (zone_trees 0 zones b) (head ++ inner) owns zs properties in
-    let zones_in : vtimezones (object_tree method parts) ≡ zone_trees 0 zones b =
+    let zs : BodyT 7 own (zone_trees 0 zones b) (own ++ inner) = zones_more own [] own 0 zones b (own_body 7 own opens.properties) in
+    let both : BodyT 7 own parts ((own ++ inner) ++ events) = vevents_more own (zone_trees 0 zones b) (own ++ inner) owns zs properties in
+    let zones_in : vtimezones (object_tree own parts) ≡ zone_trees 0 zones b =
     ap (filter is_zone) there ∙ filter-append is_zone (zone_trees 0 zones b) (map vevent_tree owns) ∙ (λ i. zones_all 0 zones b i ++ events_no_zones owns i) ∙ append-nil (zone_trees 0 zones b) in
-    let opening : list_all is_content (opening_lines method) ≡ true =
-    and_from _ _ (fixed (codes "BEGIN:VCALENDAR") refl refl refl refl) (and_from _ _ (fixed (codes "VERSION:2.0") refl refl refl refl) (and_from _ _ (fixed (codes "PRODID:-//iTIP room box//EN") refl refl refl refl) fine)) in
+    let opening : list_all is_content (codes "BEGIN:VCALENDAR" ∷ own) ≡ true = and_from _ _ (fixed (codes "BEGIN:VCALENDAR") refl refl refl refl) opens.content in
     let ending : list_all is_content (events ++ codes "END:VCALENDAR" ∷ []) ≡ true =
     list_all-append is_content events (codes "END:VCALENDAR" ∷ []) ∙ and_from _ _ (vevents_content owns content) (and_from _ _ (fixed (codes "END:VCALENDAR") refl refl refl refl) refl) in
     record {
-      lines = (opening_lines method ++ inner) ++ (events ++ codes "END:VCALENDAR" ∷ []);
-      text = joined (opening_lines method) inner (events ++ codes "END:VCALENDAR" ∷ []) (zone_texts 0 zones) (texts_are 0 zones b);
-      whole = object_tree method parts;
+      lines = ((codes "BEGIN:VCALENDAR" ∷ own) ++ inner) ++ (events ++ codes "END:VCALENDAR" ∷ []);
+      text = joined (codes "BEGIN:VCALENDAR" ∷ own) inner (events ++ codes "END:VCALENDAR" ∷ []) (zone_texts 0 zones) (texts_are 0 zones b);
+      whole = object_tree own parts;
       object = record {
         spelled = record {
           begin = codes "BEGIN:VCALENDAR";
           end = codes "END:VCALENDAR";
-          body = (head ++ inner) ++ events;
-          are = ap (λ l. codes "BEGIN:VCALENDAR" ∷ l) (sym (append_assoc (head ++ inner) events (codes "END:VCALENDAR" ∷ [])));
+          body = (own ++ inner) ++ events;
+          are = ap (λ l. codes "BEGIN:VCALENDAR" ∷ l) (sym (append_assoc (own ++ inner) events (codes "END:VCALENDAR" ∷ [])));
           opens = record { begins = refl; names = refl };
           closes = record { ends = refl; names = refl };
-          holds = subst (λ (ts : List Tree). BodyT 7 head ts ((head ++ inner) ++ events)) (sym there) both;
+          holds = subst (λ (ts : List Tree). BodyT 7 own ts ((own ++ inner) ++ events)) (sym there) both;
         };
         calendar = refl;
-        version = own_version method;
+        version = opens.version;
         events = refl;
       };
       own = refl;
@@ -342,13 +354,17 @@ zoned_spelled lines_back zone_back method fine zones owns f few properties conte
           ∙ ap (map tree_own) (filter-append is_event (zone_trees 0 zones b) (map vevent_tree owns) ∙ ap (λ l. l ++ filter is_event (map vevent_tree owns)) (zones_no_events 0 zones b))
           ∙ events_all owns;
       content =
-          list_all-append is_content (opening_lines method ++ inner) (events ++ codes "END:VCALENDAR" ∷ [])
-          ∙ and_from _ _ (list_all-append is_content (opening_lines method) inner ∙ and_from _ _ opening (zones_content 0 zones b)) ending;
+          list_all-append is_content ((codes "BEGIN:VCALENDAR" ∷ own) ++ inner) (events ++ codes "END:VCALENDAR" ∷ [])
+          ∙ and_from _ _ (list_all-append is_content (codes "BEGIN:VCALENDAR" ∷ own) inner ∙ and_from _ _ opening (zones_content 0 zones b)) ending;
       says = λ place rest e zone t s w.
           let found = find_at 0 zones b place place rest (omega (arith, few)) (omega arith) e in
-          let means : zone_named (kept_zone_name place) (object_tree method parts) ≡ Some found.0.part = ap (find (λ part. has_zone_name (kept_zone_name place) (tree_own part))) zones_in ∙ found.1 in
+          let means : zone_named (kept_zone_name place) (object_tree own parts) ≡ Some found.0.part = ap (find (λ part. has_zone_name (kept_zone_name place) (tree_own part))) zones_in ∙ found.1 in
           subst (λ (o : Option Tree). SaysZoneOf o zone) (sym means) (found.0.says zone t s w);
     }
+
+pub zoned_spelled : LinesBack → ZoneBack → (method : Option (List ℕ)) → IsMethod method → (zones : List (List ℕ)) (owns : List Lines) → ((rest : List ℕ) → Contains zones rest → IsZone rest) → length zones < 2 ^ 64
+    → list_all (list_all is_property) owns ≡ true → list_all (list_all is_content) owns ≡ true → IsZonedTree method zones owns
+zoned_spelled lines_back zone_back method fine = opened_spelled lines_back zone_back (calendar_own method) (calendar_opens method fine)
 
 -- with at most 200 VEVENTs it is one that a message may be
 pub bounded_object : (whole : Tree) (lines : Lines) (owns : List Lines) → IsObject false whole lines → vevents whole ≡ owns → length owns ≤ most_events → IsObject true whole lines

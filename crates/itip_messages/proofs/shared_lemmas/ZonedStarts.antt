@@ -26,8 +26,8 @@ use Rattle.ical_values.proofs.ShownValues.{shown_local, shown_stamp}
 use Rattle.itip_messages.proofs.shared_lemmas.WrittenOctets.{date_passes, decimal_passes, early_shown, early_time, is_early}
 use Rattle.itip_messages.proofs.shared_lemmas.ZoneNames.{name_shown}
 use Rattle.itip_messages.proofs.body_lemmas.ZonePlaces.{StartsAs}
-use Rattle.itip_messages.proofs.shared_lemmas.ObjectTree.{Lines}
-use Rattle.itip_messages.proofs.shared_lemmas.ZonedObjects.{IsZonedTree}
+use Rattle.itip_messages.proofs.shared_lemmas.ObjectTree.{Lines, calendar_own}
+use Rattle.itip_messages.proofs.shared_lemmas.ZonedObjects.{IsOpenedTree, IsZonedTree}
 
 -- ---- texts without quotes and without what parts a line
 
@@ -289,9 +289,9 @@ name_plain zones content event c name named = go event.times.zone content.zone c
     go (Some zone) (Some rest) w n = subst (λ (m : List ℕ). is_plain_name m ≡ true) (sym n.2) (plain_zone_name n.0)
 
 -- and means the zone of its event
-pub name_means : (method : Option (List ℕ)) (zones : List (List ℕ)) (owns : List Lines) (k : IsZonedTree method zones owns) (content : Content) (event : EventComponent) → IsContent content event → IsSaid event.times.zone → (name : List ℕ) → IsNamed zones content.zone name
+pub name_means_in : (opening : Lines) (zones : List (List ℕ)) (owns : List Lines) (k : IsOpenedTree opening zones owns) (content : Content) (event : EventComponent) → IsContent content event → IsSaid event.times.zone → (name : List ℕ) → IsNamed zones content.zone name
     → MeansZone k.whole name event.times.zone
-name_means method zones owns k content event c said name named = go event.times.zone content.zone said c.in_zone named
+name_means_in opening zones owns k content event c said name named = go event.times.zone content.zone said c.in_zone named
   where
     go : (zone : Option Zone) (rest : Option (List ℕ)) → IsSaid zone → BothOrNeither IsZoneRest zone rest → IsNamed zones rest name → MeansZone k.whole name zone
     go None rest s w n = tt
@@ -299,3 +299,7 @@ name_means method zones owns k content event c said name named = go event.times.
     go (Some zone) (Some rest) s w n =
         let means : SaysZoneOf (zone_named (kept_zone_name n.0) k.whole) zone = k.says n.0 rest n.1 zone s.0 s.1 w in
         subst (λ (m : List ℕ). SaysZoneOf (zone_named m k.whole) zone) (sym n.2) means
+
+pub name_means : (method : Option (List ℕ)) (zones : List (List ℕ)) (owns : List Lines) (k : IsZonedTree method zones owns) (content : Content) (event : EventComponent) → IsContent content event → IsSaid event.times.zone → (name : List ℕ) → IsNamed zones content.zone name
+    → MeansZone k.whole name event.times.zone
+name_means method = name_means_in (calendar_own method)

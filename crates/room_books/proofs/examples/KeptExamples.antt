@@ -1,10 +1,13 @@
 -- A worked run: the octets of a REQUEST are delivered, for each of two days, and the room accepts it; then those of a CANCEL, of the second day.
 -- The room keeps a series, with one start of it hidden.
 use Rattle.std.proofs.Common.{false, ◌≡◌, ◌≢◌, ℕ, ◌≤◌, ◌⊎◌, ℤ, pos, ◌+ℤ◌, ◌≤ℤ◌, ◌<ℤ◌, true, List, [], ◌∷◌, ◌++◌, codes, Some, None, inl, inr, refl, sym, ap, subst, arith, ◌∙◌}
-use Rattle.std.specs.List.{Contains}
+use Rattle.std.specs.List.{AllZip, Contains}
+use Rattle.std.specs.Prelude.{Option}
+use Rattle.std.specs.Ordering.{is_le}
 use Rattle.std.specs.Str.{is_utf8, chars}
 use Rattle.std.specs.declared.cmp.Ordering.TheVariants.{Less}
 use Rattle.std.proofs.lemmas.Bool.{and_parts, cases_lt, false≢true, leb-true}
+use Rattle.std.proofs.lemmas.Cmp.{tied_itself}
 use Rattle.std.proofs.lemmas.Int.{ints}
 use Rattle.std.proofs.lemmas.List.Elements.{All-from_recursion, All-nil}
 use Rattle.std.specs.Fmt.{digits}
@@ -18,7 +21,7 @@ use Rattle.profile.specs.checker.Instances.{Instance, IsClear, IsWithin}
 use Rattle.profile.specs.series.Days.{Daily, days_before_year, days_of_months, greatest, year_of, month_of, year_days_before, year_days_after, month_days_before, month_days_after, weekday_of, period_of}
 use Rattle.profile.specs.series.Rules.{Rule, RuleText, UntilDay, rule_of, is_rule_day, is_within_count, is_counted, is_placed, mates_before, mates_after, is_mate, count_days, is_base, is_in_step, passes, passes_month, passes_month_day, passes_weekday, go_together}
 use Rattle.profile.specs.series.RuleTexts.{rule_parts, after_key, months_from, numbers_from, entries_from, SpellsRule, IsKnownPart, EndsAt as UntilKey}
-use Rattle.profile.specs.series.Zones.{Constant, Means, local_time}
+use Rattle.profile.specs.series.Zones.{Constant, Means, Zone, local_time}
 use Rattle.profile.specs.events.Properties.{Fixed}
 use Rattle.profile.specs.events.ZonedTimes.{EventTimes, SpellsMidnight}
 use Rattle.profile.specs.events.EventRules.{GivesRule, SaysEventRule}
@@ -26,44 +29,46 @@ use Rattle.profile.specs.events.EventComponents.{EventComponent, NeedsAction, Ca
 use Rattle.profile.specs.events.Events.{Event}
 use Rattle.profile.specs.events.Starts.{ComesBefore, EndsAt, IsInstance, IsRuleStart, key_at}
 use Rattle.profile.specs.events.Confirmed.{AreApart, AreOfRule, IsOfSeries, alone}
-use Rattle.profile.specs.rooms.Messages as messages
-use Rattle.profile.specs.rooms.Messages.{Content, IsContent, IsPart, WritesListed, WritesTimes, Accept, no_content, opening_lines}
+use Rattle.profile.specs.rooms.Messages.{AreGreatest, Content, IsContent, IsPart, WritesListed, WritesTimes, Accept, no_content, opening_lines}
 use Rattle.profile.specs.events.Messages.{Message, SpellsMessage}
 use Rattle.profile.specs.rooms.Revisions.{Part, Whole, At, Cancelled, Set, is_whole, slot_cmp}
 use Rattle.profile.specs.rooms.Rooms.{PartAnswer, Book, Claim, Confirms, Delivery, IsShownInSeries, Recurring, Runs, empty_book, confirmed_series, is_hidden, answered}
 use Rattle.profile.specs.streams.Streams.{IsDelivered}
-use Rattle.profile.specs.rooms.Kept.{KeptComponent, Shown, Hidden, part_kept, IsKeptComponent, AreKeptOf, IsKept, IsKeptCalendar}
+use Rattle.profile.specs.rooms.Kept.{KeptComponent, Shown, Hidden, part_kept, IsKeptComponent, AreKept, AreKeptOf, IsKept, IsKeptEvent, IsKeptCalendar}
 use Rattle.cal_events.proofs.shared_lemmas.Meanings.{utc_instant, utc_means}
 use Rattle.cal_events.proofs.shared_lemmas.OneInstance.{booked_same}
 use Rattle.cal_events.proofs.shared_lemmas.OwnSingles.{IsAtStart, at_start, from_start}
+use Rattle.cal_events.proofs.shared_lemmas.InRooms.{fixed_placed}
 use Rattle.itip_order.proofs.Lasting.{view_taken}
 use Rattle.itip_order.proofs.Lists.{in_cons, in_head, in_tail, none_in_nil}
+use Rattle.itip_order.proofs.Order.{part_total}
 use Rattle.ical_values.proofs.Readings.{stamp_written}
 use Rattle.itip_messages.proofs.examples.ReplyExamples.{stamp, start}
 use Rattle.itip_messages.specs.Body.{crlf_lines}
 use Rattle.itip_messages.specs.Law.{none_written}
+use Rattle.itip_messages.specs.SentLaw.{time_as}
 use Rattle.itip_messages.proofs.shared_lemmas.ObjectTree.{Lines, vevent_lines, parts_more}
 use Rattle.room_books.proofs.shared_lemmas.Pairs.{pairs_from}
 
 -- ---- the messages
 
-abbrev room : List ℕ
+abbrev pub room : List ℕ
 room = codes "mailto:r1@example.com"
 
-abbrev head_lines : List ℕ → Lines
+abbrev pub head_lines : List ℕ → Lines
 head_lines method = codes "VERSION:2.0" ∷ codes "PRODID:-//Ann//EN" ∷ (codes "METHOD:" ++ method) ∷ []
 
-abbrev lines_of : List ℕ → Lines → Lines
+abbrev pub lines_of : List ℕ → Lines → Lines
 lines_of method own = codes "BEGIN:VCALENDAR" ∷ (head_lines method ++ (vevent_lines own ++ codes "END:VCALENDAR" ∷ []))
 
-abbrev object_tree : List ℕ → Lines → Tree
+abbrev pub object_tree : List ℕ → Lines → Tree
 object_tree method own = tree (codes "VCALENDAR") (head_lines method) (more (tree (codes "VEVENT") own none) none)
 
 -- what is in a list of one is that one
-only : {X : Type 0} (x y : X) → Contains (x ∷ []) y → y ≡ x
+pub only : {X : Type 0} (x y : X) → Contains (x ∷ []) y → y ≡ x
 only x y c = elim (in_cons x [] y c) [ inl e ↦ sym e | inr nowhere ↦ absurd (none_in_nil y nowhere) ]
 
-an_hour : SpellsDuration (codes "PT1H") 0 3600
+pub an_hour : SpellsDuration (codes "PT1H") 0 3600
 an_hour = (
   codes "PT1H",
   (
@@ -90,10 +95,10 @@ an_hour = (
   inl refl,
 )
 
-ann : IsAddress (codes "mailto:ann@example.com")
+pub ann : IsAddress (codes "mailto:ann@example.com")
 ann = (codes "mailto", codes "ann@example.com", refl, refl, refl, omega arith)
 
-the_room : IsAddress room
+pub the_room : IsAddress room
 the_room = (codes "mailto", codes "r1@example.com", refl, refl, refl, omega arith)
 
 -- ---- the first asks for two days
@@ -283,7 +288,7 @@ none_of Writes name = record {
   is = refl;
 }
 
-none_listed : (name : List ℕ) → WritesListed name [] []
+pub none_listed : (name : List ℕ) → WritesListed name [] []
 none_listed name = record {
   fixed = [];
   floating = [];
@@ -309,8 +314,8 @@ is_content = record {
   in_zone = tt;
 }
 
-is_part : IsPart room message event content part
-is_part = record { organiser = refl; uid = refl; slot = refl; revision = refl; body = (refl, refl, is_content, refl) }
+is_part : (zone : Option Zone) → IsPart room zone message event content part
+is_part z = record { organiser = refl; uid = refl; slot = (None, tt, refl); revision = refl; body = (refl, refl, is_content, refl) }
 
 -- its instances
 
@@ -395,15 +400,24 @@ claim = record { part = part; content = content; singles = []; series = Some ser
 abbrev delivery : Delivery
 delivery = record { claims = claim ∷ []; moment = pos 1_740_830_500 }
 
-delivered : IsDelivered room delivery
-delivered = record {
+-- where a message has one part, that is all
+pub one_part : (only_claim : Claim) → AreGreatest (λ claim. claim.part) (only_claim ∷ []) (only_claim ∷ [])
+one_part only_claim = record {
+  among = λ one c. c;
+  greatest = λ one c. (one, c, refl, ap is_le (tied_itself part_total one.part));
+  order = pairs_from (λ a b. slot_cmp a.part.slot b.part.slot ≡ Less) (only_claim ∷ []) (λ other nowhere. absurd (none_in_nil other nowhere), tt);
+}
+
+-- its times are fixed: a room of each zone takes it so
+delivered : (zone : Option Zone) → IsDelivered room zone delivery
+delivered zone = record {
   octets = octets;
   message = message;
   spells = spells;
   are = record {
-    events = event ∷ [];
-    are = record { exact = λ other. (λ c. c, λ c. c); order = pairs_from (λ a b. slot_cmp (messages.slot_of a) (messages.slot_of b) ≡ Less) (event ∷ []) (λ other nowhere. absurd (none_in_nil other nowhere), tt) };
-    each = (record { part = is_part; asks = (no_singles, its_series) }, tt);
+    all = claim ∷ [];
+    each = (record { part = is_part zone; asks = (event, fixed_placed zone event refl (record { slot = refl; added = refl; taken = refl }), no_singles, its_series) }, tt);
+    are = one_part claim;
   };
 }
 
@@ -540,7 +554,7 @@ spells_cancel = record {
       some = omega arith;
       of_it = λ other c. ap meeting_said (only gone other c);
       masters = let most : 0 ≤ 1 = omega arith in most;
-      differ = pairs_from ◌≢◌ (Some (pos 1_741_683_600) ∷ []) (λ other nowhere. absurd (none_in_nil other nowhere), tt);
+      differ = pairs_from ◌≢◌ (Some (time_as Fixed (pos 1_741_683_600)) ∷ []) (λ other nowhere. absurd (none_in_nil other nowhere), tt);
     };
     one_each = λ speaks. absurd (false≢true speaks);
   };
@@ -561,15 +575,15 @@ gone_claim = record { part = gone_part; content = no_content; singles = []; seri
 abbrev cancelling : Delivery
 cancelling = record { claims = gone_claim ∷ []; moment = pos 1_740_830_600 }
 
-cancel_delivered : IsDelivered room cancelling
-cancel_delivered = record {
+cancel_delivered : (zone : Option Zone) → IsDelivered room zone cancelling
+cancel_delivered z = record {
   octets = gone_octets;
   message = cancel;
   spells = spells_cancel;
   are = record {
-    events = gone ∷ [];
-    are = record { exact = λ other. (λ c. c, λ c. c); order = pairs_from (λ a b. slot_cmp (messages.slot_of a) (messages.slot_of b) ≡ Less) (gone ∷ []) (λ other nowhere. absurd (none_in_nil other nowhere), tt) };
-    each = (record { part = record { organiser = refl; uid = refl; slot = refl; revision = refl; body = (refl, refl) }; asks = (refl, refl) }, tt);
+    all = gone_claim ∷ [];
+    each = (record { part = record { organiser = refl; uid = refl; slot = (Some (pos 1_741_683_600), refl, refl); revision = refl; body = (refl, refl) }; asks = (refl, refl) }, tt);
+    are = one_part gone_claim;
   };
 }
 
@@ -687,29 +701,41 @@ all_kept = record {
         subst (λ (p : Part). Contains (Shown claim ∷ Hidden gone_part ∷ []) (Hidden p)) (sym (of_instance other (view_taken both_taken.taken other k.viewed) k.instance))
         (in_tail (Shown claim) (Hidden gone_part ∷ []) (Hidden gone_part) (in_head (Hidden gone_part) []))
 
-a_kept_calendar : IsKeptCalendar room both_taken (written (opening_lines None) ++ written (kept_lines ++ hidden_lines ++ codes "END:VCALENDAR" ∷ []))
-unfolding digits encode chars
-a_kept_calendar = record {
-  entries = Shown claim ∷ Hidden gone_part ∷ [];
-  kept = record { by_meeting = (Shown claim ∷ Hidden gone_part ∷ []) ∷ []; each = (all_kept, tt); are = refl };
-  few = omega arith;
-  events = kept_lines ∷ hidden_lines ∷ [];
-  each = (
-    (codes "Z", tt, record { slot = []; stamp = codes "20250301T120000Z"; tells_slot = refl; written_stamp = stamp; is = refl }),
+abbrev all_entries : List KeptComponent
+all_entries = Shown claim ∷ Hidden gone_part ∷ []
+
+abbrev events_kept : Lines
+events_kept = kept_lines ++ hidden_lines ++ codes "END:VCALENDAR" ∷ []
+
+are_kept : AreKept both_taken all_entries
+are_kept = record { by_meeting = all_entries ∷ []; each = (all_kept, tt); are = refl }
+
+each_kept : AllZip (IsKeptEvent room []) all_entries (kept_lines ∷ hidden_lines ∷ [])
+unfolding digits
+each_kept = (
+  (codes "Z", tt, record { slot = []; stamp = codes "20250301T120000Z"; tells_slot = refl; written_stamp = stamp; is = refl }),
+  (
     (
-      (
-        codes "DTSTART:20250311T090000Z" ∷ codes "DURATION:PT0S" ∷ codes "STATUS:CANCELLED" ∷ [],
-        record { instant = pos 1_741_683_600; at = refl; text = codes "20250311T090000Z"; written = second_start; is = refl },
-        record {
-          slot = codes "RECURRENCE-ID:20250311T090000Z" ∷ [];
-          stamp = codes "20250301T120000Z";
-          tells_slot = (codes "20250311T090000Z", second_start, refl);
-          written_stamp = stamp;
-          is = refl;
-        },
-      ),
-      tt,
+      codes "DTSTART:20250311T090000Z" ∷ codes "DURATION:PT0S" ∷ codes "STATUS:CANCELLED" ∷ [],
+      record { instant = pos 1_741_683_600; at = refl; text = codes "20250311T090000Z"; written = second_start; is = refl },
+      record {
+        slot = codes "RECURRENCE-ID:20250311T090000Z" ∷ [];
+        stamp = codes "20250301T120000Z";
+        tells_slot = (codes "20250311T090000Z", second_start, refl);
+        written_stamp = stamp;
+        is = refl;
+      },
     ),
-  );
-  is = refl;
-}
+    tt,
+  ),
+)
+
+-- of a room that goes by UTC
+a_kept_calendar : IsKeptCalendar room (codes "+0000") both_taken (written (opening_lines None) ++ written events_kept)
+unfolding encode chars
+a_kept_calendar = record { entries = all_entries; kept = are_kept; few = omega arith; events = kept_lines ∷ hidden_lines ∷ []; each = each_kept; is = refl }
+
+-- and of one in another zone, which its calendar names
+a_zoned_calendar : IsKeptCalendar room (codes "-0500") both_taken (written (opening_lines None ++ codes "X-ROOM-ZONE:-0500" ∷ []) ++ written events_kept)
+unfolding encode chars
+a_zoned_calendar = record { entries = all_entries; kept = are_kept; few = omega arith; events = kept_lines ∷ hidden_lines ∷ []; each = each_kept; is = refl }

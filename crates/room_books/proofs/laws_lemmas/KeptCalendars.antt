@@ -1,30 +1,34 @@
 -- The kept calendar spells the confirmed instances, and the kept certificate holds for them.
 -- Cited by kept_texts_pass, kept_texts_spell, served_texts_pass.
 use Rattle.std.proofs.Common.{◌≡◌, ◌≢◌, ◌∙◌, ℤ, true, false, not, ◌&&◌, cond, List, [], ◌∷◌, ◌++◌, filter, length, map, codes, Option, Some, None, is_some, ℕ, inl, inr, refl, sym, ap, ap₂, subst, arith, Bool}
-use Rattle.std.specs.Prelude.{◌↔◌, option_map}
+use Rattle.std.specs.Prelude.{◌↔◌, if◌then◌else◌, option_map}
 use Rattle.std.specs.Option.{option_to_list}
 use Rattle.std.specs.Ordering.{is_eq}
 use Rattle.std.specs.List.{flat_map, list_all, list_any, Contains, AllZip}
+use Rattle.std.specs.Str.{bytes_eq}
 use Rattle.std.proofs.lemmas.Bool.{and_parts, and_from, false≢true, true≢false, cases_Bool, both_ways}
 use Rattle.std.proofs.Math.Bool.{and-false}
+use Rattle.std.proofs.lemmas.List.Folds.{list_all-append}
+use Rattle.std.proofs.lemmas.Slice.Eq.{bytes_eq-Decides}
 use Rattle.profile.specs.text.Lines.{is_content, logical_lines, reads_as_lines, written}
 use Rattle.profile.specs.text.Objects.{is_property, IsObject}
-use Rattle.profile.specs.events.EventComponents.{EventComponent, SaysEventComponent, meeting_said}
+use Rattle.profile.specs.events.EventComponents.{EventComponent, meeting_said}
 use Rattle.profile.specs.events.Placed.{SaysPlaced}
-use Rattle.profile.specs.events.Properties.{lines_named}
-use Rattle.profile.specs.series.RoomZones.{NamesRoomZone}
-use Rattle.profile.specs.text.Trees.{Tree, tree_own}
+use Rattle.profile.specs.series.RoomZones.{IsRoomZone, NamesRoomZone}
+use Rattle.profile.specs.series.Zones.{Zone}
 use Rattle.profile.specs.events.Events.{Event, is_master}
 use Rattle.profile.specs.events.Starts.{IsInstance}
-use Rattle.profile.specs.events.Confirmed.{Confirmed, AreConfirmed, AreOfRule, AreSingles, IsOneOf, IsReplacedAmong, IsSeries, alone, by_its_rule, has_series, is_kept, is_series}
+use Rattle.profile.specs.events.Confirmed.{Confirmed, AreApart, AreConfirmed, AreOfRule, AreSingles, IsOneOf, IsReplacedAmong, IsSeries, alone, by_its_rule, has_series, is_kept, is_series}
 use Rattle.profile.specs.checker.Calendars.{SpellsCalendar, CertificateHolds}
 use Rattle.profile.specs.checker.Instances.{Instance, IsClear, Key}
 use Rattle.profile.specs.rooms.Messages.{opening_lines, slot_of, slot_named}
 use Rattle.profile.specs.rooms.Revisions.{Part, Slot, Whole, At, in_view, is_whole, same_meeting, same_part, same_place, slot_cmp}
 use Rattle.profile.specs.rooms.Rooms.{Claim, PartAnswer, Book, Confirms, Recurring, confirmed_series, confirmed_singles, is_confirmed, is_hidden, is_set}
-use Rattle.profile.specs.rooms.Kept.{KeptComponent, Shown, Hidden, part_kept, IsKept, IsKeptComponent, AreKept, IsKeptEvent, IsKeptCalendar, IsKeptCertificate, zone_texts, zones_kept}
-use Rattle.profile.specs.streams.Streams.{AsksFor, IsReached}
+use Rattle.profile.specs.rooms.Kept.{KeptComponent, Shown, Hidden, part_kept, IsKept, IsKeptComponent, AreKept, IsKeptEvent, IsKeptCalendar, IsKeptCertificate, room_zone_lines, zone_texts, zones_kept}
+use Rattle.profile.specs.streams.Streams.{IsReached}
+use Rattle.cal_zones.proofs.OneRoomZone.{one_room_zone}
 use Rattle.cal_events.proofs.shared_lemmas.OwnSingles.{master_alone}
+use Rattle.cal_events.proofs.with_zone_lemmas.Worded.{line_content, shown_words, zone_line}
 use Rattle.itip_order.proofs.Lasting.{view_taken}
 use Rattle.itip_order.proofs.Lists.{in_head, in_tail, any_at, any_from}
 use Rattle.itip_order.proofs.Registers.{same_part_is, same_part_refl}
@@ -42,8 +46,7 @@ use Rattle.room_books.proofs.laws_lemmas.KeptMeetings.{meeting_trans}
 use Rattle.room_books.proofs.laws_lemmas.KeptReplaced.{replaced_by}
 use Rattle.room_books.proofs.laws_lemmas.KeptRuns.{KeepsAll, runs_keep}
 use Rattle.itip_messages.proofs.shared_lemmas.ObjectTree.{Lines, calendar_own, vevent_lines}
-use Rattle.itip_messages.proofs.shared_lemmas.PlacedUtc.{all_placed}
-use Rattle.itip_messages.proofs.shared_lemmas.ZonedObjects.{IsZonedTree, ZoneBack, zoned_spelled}
+use Rattle.itip_messages.proofs.shared_lemmas.ZonedObjects.{AreOpening, IsOpenedTree, ZoneBack, calendar_opens, opened_spelled}
 use Rattle.room_books.proofs.shared_lemmas.Loops.{zip_from, zip_to}
 use Rattle.room_books.proofs.shared_lemmas.Pairs.{pairs_from}
 use Rattle.room_books.proofs.shared_lemmas.Reordering.{re_back, re_flat, re_in, re_length}
@@ -53,7 +56,7 @@ use Rattle.room_books.proofs.laws_lemmas.ZonesIn.{HasZone, HaveZones, has_zone, 
 
 -- the state of what is kept of an entry
 abbrev IsState : List ℕ → EventComponent → KeptComponent → Type 0
-IsState room said (Shown claim) = (is_kept room said ≡ true) × AsksFor true said claim
+IsState room said (Shown claim) = (is_kept room said ≡ true) × AreApart said claim.singles × AreOfRule said claim.series
 IsState room said (Hidden part) = is_kept room said ≡ false
 
 -- the event says the entry
@@ -62,29 +65,29 @@ record SaysEntry (room : List ℕ) (said : EventComponent) (entry : KeptComponen
   slot : slot_of said ≡ (part_kept entry).slot
   state : IsState room said entry
 
--- all VEVENTs read back
-record AllBack (room : List ℕ) (zones : List (List ℕ)) (entries : List KeptComponent) (each : List Lines) : Type 0 where
+-- all VEVENTs read back, in a room of this zone, in an object with these lines of its own
+record AllBack (room : List ℕ) (zone : Option Zone) (opening : Lines) (zones : List (List ℕ)) (entries : List KeptComponent) (each : List Lines) : Type 0 where
   owns : List Lines
   saids : List EventComponent
   are : flat_map (λ lines. lines) each ≡ flat_map vevent_lines owns
   properties : list_all (list_all is_property) owns ≡ true
   content : list_all (list_all is_content) owns ≡ true
-  says : (all : List Lines) (k : IsZonedTree None zones all) → AllZip (SaysEventComponent k.whole None) owns saids
+  says : (all : List Lines) (k : IsOpenedTree opening zones all) → AllZip (SaysPlaced zone k.whole None) owns saids
   entries_are : AllZip (SaysEntry room) saids entries
 
-record OneBack (room : List ℕ) (zones : List (List ℕ)) (entry : KeptComponent) (lines : Lines) : Type 0 where
+record OneBack (room : List ℕ) (zone : Option Zone) (opening : Lines) (zones : List (List ℕ)) (entry : KeptComponent) (lines : Lines) : Type 0 where
   own : Lines
   said : EventComponent
   are : lines ≡ vevent_lines own
   properties : list_all is_property own ≡ true
   content : list_all is_content own ≡ true
-  says : (all : List Lines) (k : IsZonedTree None zones all) → SaysEventComponent k.whole None own said
+  says : (all : List Lines) (k : IsOpenedTree opening zones all) → SaysPlaced zone k.whole None own said
   entry_is : SaysEntry room said entry
 
-module _ (room : List ℕ) (book : Book) (k : KeepsAll room book) where
+module _ (room : List ℕ) (zone : Option Zone) (book : Book) (k : KeepsAll room zone book) where
   -- a claim that is kept was asked for, and is to take place
-  claim_asked : (first : Part) (claim : Claim) → IsKept book first claim → IsAskedFor room claim
-  claim_asked first claim is = subst (IsAskedFor room) is.to (k.each is.answer is.given)
+  claim_asked : (first : Part) (claim : Claim) → IsKept book first claim → IsAskedFor room zone claim
+  claim_asked first claim is = subst (IsAskedFor room zone) is.to (k.each is.answer is.given)
 
   claim_set : (first : Part) (claim : Claim) → IsKept book first claim → is_set claim.part ≡ true
   claim_set first claim is = ap (λ (c : Claim). is_set c.part) (sym is.to) ∙ k.set is.answer is.given
@@ -101,10 +104,10 @@ module _ (room : List ℕ) (book : Book) (k : KeepsAll room book) where
       let set = set_body room a.given.method a.event claim.content claim.part.body a.is_part.body (claim_set first claim is) in
       has_zone claim.content a.event set.when (set_zone room claim.content claim.part a)
 
-  module _ (zones : List (List ℕ)) where
-    one_back : (first : Part) (entry : KeptComponent) (lines : Lines) → IsKeptComponent book first entry → IsKeptEvent room zones entry lines → OneBack room zones entry lines
+  module _ (words : List ℕ) (named : IsRoomZone words zone) (opening : Lines) (zones : List (List ℕ)) where
+    one_back : (first : Part) (entry : KeptComponent) (lines : Lines) → IsKeptComponent book first entry → IsKeptEvent room zones entry lines → OneBack room zone opening zones entry lines
     one_back first (Shown claim) lines is event =
-        let b = shows_back room zones claim lines (claim_asked first claim is) (claim_set first claim is) event in
+        let b = shows_back room words zone named opening zones claim lines (claim_asked first claim is) (claim_set first claim is) event in
         record {
           own = b.back.own;
           said = b.back.said;
@@ -112,11 +115,11 @@ module _ (room : List ℕ) (book : Book) (k : KeepsAll room book) where
           properties = b.back.properties;
           content = b.back.content;
           says = b.back.says;
-          entry_is = record { meeting = b.back.meeting; slot = b.back.slot_is; state = (b.kept, b.books) };
+          entry_is = record { meeting = b.back.meeting; slot = b.back.slot_is; state = (b.kept, b.apart, b.rule) };
         }
     one_back first (Hidden part) lines is (hiding, h, event) =
         let a = k.taken part (view_taken book.taken part is.viewed) in
-        let b = hides_back room zones a.0 part lines hiding a.1 (room_asked first is.whole is.kept) h event in
+        let b = hides_back room words zone named opening zones a.0 part lines hiding a.1 a.2 (room_asked first is.whole is.kept) h event in
         record {
           own = b.back.own;
           said = b.back.said;
@@ -127,7 +130,7 @@ module _ (room : List ℕ) (book : Book) (k : KeepsAll room book) where
           entry_is = record { meeting = b.back.meeting; slot = b.back.slot_is; state = b.kept };
         }
 
-    all_back : (entries : List KeptComponent) (each : List Lines) → ((e : KeptComponent) → Contains entries e → (first : Part) × IsKeptComponent book first e) → AllZip (IsKeptEvent room zones) entries each → AllBack room zones entries each
+    all_back : (entries : List KeptComponent) (each : List Lines) → ((e : KeptComponent) → Contains entries e → (first : Part) × IsKeptComponent book first e) → AllZip (IsKeptEvent room zones) entries each → AllBack room zone opening zones entries each
     all_back [] [] f z = record { owns = []; saids = []; are = refl; properties = refl; content = refl; says = λ _ _. tt; entries_are = tt }
     all_back [] (lines ∷ each) f z = absurd z
     all_back (e ∷ entries) [] f z = absurd z
@@ -218,7 +221,7 @@ master_whole said h = go said.recurrence h
     go None e = refl
     go (Some t) e = absurd (true≢false (sym e))
 
-module _ (room : List ℕ) (book : Book) (k : KeepsAll room book) (entries : List KeptComponent) (are : AreKept book entries) (saids : List EventComponent) (z : AllZip (SaysEntry room) saids entries) where
+module _ (room : List ℕ) (book : Book) (entries : List KeptComponent) (are : AreKept book entries) (saids : List EventComponent) (z : AllZip (SaysEntry room) saids entries) where
   -- the part of an entry was taken, and is in the view
   in_the_view : (first : Part) (entry : KeptComponent) → IsKeptComponent book first entry → in_view book.taken (part_kept entry) ≡ true
   in_the_view first (Shown claim) is = subst (λ (c : Claim). in_view book.taken c.part ≡ true) is.to (and_parts _ _ is.confirms).1
@@ -311,7 +314,7 @@ module _ (room : List ℕ) (book : Book) (k : KeepsAll room book) (entries : Lis
     hiding = record { replaced = is_replaced; hides = replaces; master = λ b h. ap (λ (o : Option ℤ). not (is_some o)) (whole_said b h) }
 
   left_one : (entry : KeptComponent) → Contains entries entry → (said : EventComponent) → SaysEntry room said entry → AreSingles room saids said (singles_of book.taken entry)
-  left_one (Shown claim) c said s = singles_left saids said (is_hidden book.taken claim.part) (hiding claim c said s) room claim.singles s.state.0 s.state.1.0
+  left_one (Shown claim) c said s = singles_left saids said (is_hidden book.taken claim.part) (hiding claim c said s) room claim.singles s.state.0 s.state.1
   left_one (Hidden part) c said s = none_left room saids said s.state
 
   left_all : (ss : List EventComponent) (es : List KeptComponent) → AllZip (SaysEntry room) ss es → ((e : KeptComponent) → Contains es e → Contains entries e) → AllZip (AreSingles room saids) ss (map (singles_of book.taken) es)
@@ -334,7 +337,7 @@ module _ (room : List ℕ) (book : Book) (k : KeepsAll room book) (entries : Lis
   AreSeries ss es = AllZip (IsLeft book.taken) (map (series_of saids) (with_rules ss)) (all_series es)
 
   series_shown : (claim : Claim) → Contains entries (Shown claim) → (said : EventComponent) → SaysEntry room said (Shown claim) → (ss : List EventComponent) (es : List KeptComponent) → AreSeries ss es → AreSeries (said ∷ ss) (Shown claim ∷ es)
-  series_shown claim c said s ss es rest = go claim.series s.state.1.1
+  series_shown claim c said s ss es rest = go claim.series s.state.2
     where
       go : (o : Option Event) → AreOfRule said o → AllZip (IsLeft book.taken) (map (series_of saids) (with_rules (said ∷ ss))) (recurring_of claim.part o ++ all_series es)
       go None of =
@@ -358,9 +361,41 @@ module _ (room : List ℕ) (book : Book) (k : KeepsAll room book) (entries : Lis
 
 -- ---- the calendar
 
--- it names no zone of its room, so that its events are as they are written
-names_none : (object : Tree) → tree_own object ≡ calendar_own None → NamesRoomZone (tree_own object) None
-names_none object own = (None, record { line = None; once = ap (lines_named (codes "X-ROOM-ZONE")) own; present = λ h. absurd (false≢true h); is = tt }, refl)
+-- its own lines name the zone of its room, by these words
+opened : List ℕ → Lines
+opened words = calendar_own None ++ room_zone_lines words
+
+module _ (words : List ℕ) (zone : Option Zone) (named : IsRoomZone words zone) where
+  opens : AreOpening (opened words)
+  unfolding opened
+  opens = by (bytes_eq words (codes "+0000"))
+    where
+      by : (b : Bool) → AreOpening (calendar_own None ++ (if b then [] else zone_line words ∷ []))
+      by true = calendar_opens None no_method
+      by false =
+          let own = calendar_opens None no_method in
+          let line = line_content words (shown_words words zone named) in
+          record {
+            properties = refl;
+            version = refl;
+            content = list_all-append is_content (calendar_own None) (zone_line words ∷ []) ∙ and_from _ _ own.content (and_from _ _ line refl);
+          }
+
+  names_zone : NamesRoomZone (opened words) zone
+  unfolding opened
+  names_zone = by (bytes_eq words (codes "+0000")) refl
+    where
+      by : (b : Bool) → bytes_eq words (codes "+0000") ≡ b → NamesRoomZone (calendar_own None ++ (if b then [] else zone_line words ∷ [])) zone
+      by true is = (
+        None,
+        record { line = None; once = refl; present = λ h. absurd (false≢true h); is = tt },
+        one_room_zone words zone None named ((bytes_eq-Decides words (codes "+0000")).0 is),
+      )
+      by false is = (
+        Some zone,
+        record { line = Some (zone_line words); once = refl; present = λ _. refl; is = named },
+        refl,
+      )
 
 -- the singles one after another
 flat_of_map : (taken : List Part) (es : List KeptComponent) → flat_map (λ l. l) (map (singles_of taken) es) ≡ flat_map (singles_of_claim taken) (claims_kept es)
@@ -383,23 +418,23 @@ record SpellsEntries (room : List ℕ) (book : Book) (entries : List KeptCompone
   spells : SpellsCalendar room octets (record { series = series; singles = all_singles book entries })
 
 module _ (back : LinesBack) (reads : ReadsLines) (zone_back : ZoneBack) where
-  calendar_spelled : (room : List ℕ) (book : Book) → KeepsAll room book → (octets : List ℕ) (c : IsKeptCalendar room book octets) → SpellsEntries room book c.entries octets
-  unfolding all_singles
-  calendar_spelled room book keeps octets c =
+  calendar_spelled : (room words : List ℕ) (zone : Option Zone) → IsRoomZone words zone → (book : Book) → KeepsAll room zone book → (octets : List ℕ) (c : IsKeptCalendar room words book octets) → SpellsEntries room book c.entries octets
+  unfolding all_singles opened
+  calendar_spelled room words zone named book keeps octets c =
       let zones = zones_kept c.entries in
-      let b = all_back room book keeps zones c.entries c.events (λ e h. let p = entry_placed book c.entries c.kept e h in (p.first, p.is)) c.each in
-      let have : HaveZones c.entries = λ claim h. let p = entry_placed book c.entries c.kept (Shown claim) h in zone_asked room book keeps p.first claim p.is in
-      let t = zoned_spelled back zone_back None no_method zones b.owns (zones_kept_are c.entries have) c.few b.properties b.content in
-      let whole : octets ≡ written t.lines = c.is ∙ ap (λ l. written (opening_lines None) ++ zone_texts 0 zones ++ written (l ++ codes "END:VCALENDAR" ∷ [])) b.are ∙ t.text in
+      let b = all_back room zone book keeps words named (opened words) zones c.entries c.events (λ e h. let p = entry_placed book c.entries c.kept e h in (p.first, p.is)) c.each in
+      let have : HaveZones c.entries = λ claim h. let p = entry_placed book c.entries c.kept (Shown claim) h in zone_asked room zone book keeps p.first claim p.is in
+      let t = opened_spelled back zone_back (opened words) (opens words zone named) zones b.owns (zones_kept_are c.entries have) c.few b.properties b.content in
+      let whole : octets ≡ written t.lines = c.is ∙ ap (λ l. written (opening_lines None ++ room_zone_lines words) ++ zone_texts 0 zones ++ written (l ++ codes "END:VCALENDAR" ∷ [])) b.are ∙ t.text in
       let logical : logical_lines octets ≡ t.lines = ap logical_lines whole ∙ back t.lines t.content in
       let differ = pairs_from (λ a b. meeting_said a ≡ meeting_said b → slot_of a ≢ slot_of b) b.saids (saids_differ room b.saids c.entries b.entries_are (entries_differ book c.entries c.kept)) in
-      let singles = left_all room book keeps c.entries c.kept b.saids b.entries_are b.saids c.entries b.entries_are (λ e h. h) in
+      let singles = left_all room book c.entries c.kept b.saids b.entries_are b.saids c.entries b.entries_are (λ e h. h) in
       let series = map (series_of b.saids) (filter (is_series room) b.saids) in
       let are : AreConfirmed room b.saids (record { series = series; singles = flat_map (singles_of_claim book.taken) (claims_kept c.entries) }) =
       record { series = each_series b.saids (filter (is_series room) b.saids); lists = map (singles_of book.taken) c.entries; each = singles; singles = sym (flat_of_map book.taken c.entries) } in
       record {
         series = series;
-        each = series_all room book keeps c.entries c.kept b.saids b.entries_are b.saids c.entries b.entries_are (λ e h. h);
+        each = series_all room book c.entries c.kept b.saids b.entries_are b.saids c.entries b.entries_are (λ e h. h);
         spells = record {
           lines = ap (reads_as_lines false) whole ∙ reads t.lines t.content;
           tree = t.whole;
@@ -407,9 +442,9 @@ module _ (back : LinesBack) (reads : ReadsLines) (zone_back : ZoneBack) where
           says = record {
             events = b.saids;
             says = record {
-              zone = None;
-              names = names_none t.whole t.own;
-              each = subst (λ (l : List Lines). AllZip (SaysPlaced None t.whole None) l b.saids) (sym t.events) (all_placed t.whole None b.owns b.saids (b.says b.owns t));
+              zone = zone;
+              names = subst (λ (own : Lines). NamesRoomZone own zone) (sym t.own) (names_zone words zone named);
+              each = subst (λ (l : List Lines). AllZip (SaysPlaced zone t.whole None) l b.saids) (sym t.events) (b.says b.owns t);
             };
             masters = λ i j d l w m n same. differ i j d l w same (ap slot_named m ∙ sym (ap slot_named n));
             overrides = λ i j d l w slot m n same. differ i j d l w same (ap slot_named m ∙ sym (ap slot_named n));
@@ -426,7 +461,7 @@ zip_long R [] (y ∷ ys) z = absurd z
 zip_long R (x ∷ xs) [] z = absurd z
 zip_long R (x ∷ xs) (y ∷ ys) z = let n = zip_long R xs ys z.1 in omega (arith, n)
 
-module _ (room : List ℕ) (book : Book) (keeps : KeepsAll room book) (entries : List KeptComponent) (are : AreKept book entries) where
+module _ (room : List ℕ) (zone : Option Zone) (book : Book) (keeps : KeepsAll room zone book) (entries : List KeptComponent) (are : AreKept book entries) where
   claims : Reordered (claims_kept entries) (claims_confirmed book)
   claims = claims_same book entries are keeps.sound.known keeps.once
 
@@ -459,15 +494,16 @@ module _ (room : List ℕ) (book : Book) (keeps : KeepsAll room book) (entries :
         let m = zip_from (IsLeft book.taken) series (all_series entries) l.series each among in
         inr (m.0, m.1, (m.2 b).1 (l.is, l.shown))
 
-keeps_same : LinesBack → ReadsLines → ZoneBack → (room : List ℕ) (book : Book) → KeepsAll room book → (calendar : List ℕ) → IsKeptCalendar room book calendar → SpellsConfirmed room book calendar
-keeps_same back reads zone_back room book keeps calendar c =
-    let s = calendar_spelled back reads zone_back room book keeps calendar c in
+keeps_same : LinesBack → ReadsLines → ZoneBack → (room words : List ℕ) (zone : Option Zone) → IsRoomZone words zone → (book : Book) → KeepsAll room zone book → (calendar : List ℕ) → IsKeptCalendar room words book calendar
+    → SpellsConfirmed room book calendar
+keeps_same back reads zone_back room words zone named book keeps calendar c =
+    let s = calendar_spelled back reads zone_back room words zone named book keeps calendar c in
     record {
       all = record { series = s.series; singles = all_singles book c.entries };
       spells = s.spells;
-      singles = re_length (all_singles book c.entries) (confirmed_singles book) (singles_are room book keeps c.entries c.kept);
-      series = zip_long (IsLeft book.taken) s.series (all_series c.entries) s.each ∙ re_length (all_series c.entries) (confirmed_series book) (series_are room book keeps c.entries c.kept);
-      exact = λ b. (one_to room book keeps c.entries c.kept s.series s.each b, one_from room book keeps c.entries c.kept s.series s.each b);
+      singles = re_length (all_singles book c.entries) (confirmed_singles book) (singles_are room zone book keeps c.entries c.kept);
+      series = zip_long (IsLeft book.taken) s.series (all_series c.entries) s.each ∙ re_length (all_series c.entries) (confirmed_series book) (series_are room zone book keeps c.entries c.kept);
+      exact = λ b. (one_to room zone book keeps c.entries c.kept s.series s.each b, one_from room zone book keeps c.entries c.kept s.series s.each b);
     }
 
 -- octets spell one calendar for a room
@@ -475,10 +511,10 @@ abbrev pub OneCalendar : Type 0
 OneCalendar = (room octets : List ℕ) (a b : Confirmed) → SpellsCalendar room octets a → SpellsCalendar room octets b → a ≡ b
 
 -- what is kept passes
-pub keeps_pass : LinesBack → ReadsLines → ZoneBack → OneCalendar → (room : List ℕ) (book : Book) → KeepsAll room book → (calendar : List ℕ) → IsKeptCalendar room book calendar
+pub keeps_pass : LinesBack → ReadsLines → ZoneBack → OneCalendar → (room words : List ℕ) (zone : Option Zone) → IsRoomZone words zone → (book : Book) → KeepsAll room zone book → (calendar : List ℕ) → IsKeptCalendar room words book calendar
     → (certificate : List ℕ) → IsKeptCertificate room calendar certificate → CertificateHolds room calendar certificate
-keeps_pass back reads zone_back one room book keeps calendar c certificate k =
-    let s = keeps_same back reads zone_back room book keeps calendar c in
+keeps_pass back reads zone_back one room words zone named book keeps calendar c certificate k =
+    let s = keeps_same back reads zone_back room words zone named book keeps calendar c in
     let same = one room calendar s.all k.confirmed s.spells k.spells in
     let clear : IsClear (IsOneOf s.all) = λ a b t x y clash. keeps.sound.good.clear a b t ((s.exact a).0 x) ((s.exact b).0 y) clash in
     record {
@@ -487,10 +523,12 @@ keeps_pass back reads zone_back one room book keeps calendar c certificate k =
       holds = made_holds k.confirmed (subst (λ (all : Confirmed). IsClear (IsOneOf all)) same clear) k.c certificate k.made k.text;
     }
 
-pub kept_same : LinesBack → ReadsLines → ZoneBack → (room : List ℕ) (book : Book) → IsReached room book → (calendar : List ℕ) → IsKeptCalendar room book calendar → SpellsConfirmed room book calendar
-kept_same back reads zone_back room book r = keeps_same back reads zone_back room book (runs_keep room r.deliveries book r.delivered r.runs)
+pub kept_same : LinesBack → ReadsLines → ZoneBack → (room words : List ℕ) (zone : Option Zone) (book : Book) → IsRoomZone words zone → IsReached room zone book → (calendar : List ℕ) → IsKeptCalendar room words book calendar
+    → SpellsConfirmed room book calendar
+kept_same back reads zone_back room words zone book named r = keeps_same back reads zone_back room words zone named book (runs_keep room zone r.deliveries book r.delivered r.runs)
 
 -- whatever messages come, what is kept after them passes
-pub kept_passes : LinesBack → ReadsLines → ZoneBack → OneCalendar → (room : List ℕ) (book : Book) (calendar : List ℕ) → IsReached room book → IsKeptCalendar room book calendar
+pub kept_passes : LinesBack → ReadsLines → ZoneBack → OneCalendar → (room words : List ℕ) (zone : Option Zone) (book : Book) (calendar : List ℕ) → IsRoomZone words zone → IsReached room zone book → IsKeptCalendar room words book calendar
     → (certificate : List ℕ) → IsKeptCertificate room calendar certificate → CertificateHolds room calendar certificate
-kept_passes back reads zone_back one room book calendar r = keeps_pass back reads zone_back one room book (runs_keep room r.deliveries book r.delivered r.runs) calendar
+kept_passes back reads zone_back one room words zone book calendar named r =
+    keeps_pass back reads zone_back one room words zone named book (runs_keep room zone r.deliveries book r.delivered r.runs) calendar

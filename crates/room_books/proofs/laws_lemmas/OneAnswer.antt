@@ -1,9 +1,10 @@
 -- Over every run the answers stay, and no part is answered twice.
 -- Cited by answers_stay.
-use Rattle.std.proofs.Common.{◌≡◌, ℕ, List, [], ◌∷◌, sym, subst}
+use Rattle.std.proofs.Common.{◌≡◌, ℕ, List, [], ◌∷◌, Option, sym, subst}
 use Rattle.std.specs.List.{Contains}
 use Rattle.std.proofs.lemmas.List.Elements.{Contains-append_left}
 use Rattle.profile.specs.rooms.Rooms.{PartAnswer, Book, empty_book, asked, answered, Delivery, Runs}
+use Rattle.profile.specs.series.Zones.{Zone}
 use Rattle.profile.specs.streams.Streams.{IsDelivered}
 use Rattle.room_books.proofs.texts_lemmas.Keeping.{one_answer}
 use Rattle.room_books.proofs.laws_lemmas.KeptRuns.{runs_keep}
@@ -21,5 +22,5 @@ answers_stay before (d ∷ ds) after r a c =
 abbrev pub AnsweredOnce : List PartAnswer → Type 0
 AnsweredOnce answers = (a b : PartAnswer) → Contains answers a → Contains answers b → a.claim.part ≡ b.claim.part → a ≡ b
 
-pub answered_once : (room : List ℕ) (ds : List Delivery) (book : Book) → ((d : Delivery) → Contains ds d → IsDelivered room d) → Runs empty_book ds book → AnsweredOnce book.answers
-answered_once room ds book f r a b c d e = one_answer book.answers a b (runs_keep room ds book f r).once c d e
+pub answered_once : (room : List ℕ) (zone : Option Zone) (ds : List Delivery) (book : Book) → ((d : Delivery) → Contains ds d → IsDelivered room zone d) → Runs empty_book ds book → AnsweredOnce book.answers
+answered_once room zone ds book f r a b c d e = one_answer book.answers a b (runs_keep room zone ds book f r).once c d e

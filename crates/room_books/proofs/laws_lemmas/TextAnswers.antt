@@ -1,6 +1,6 @@
 -- What a room's declines name: keys of instances that messages asked for, whose organisers and UIDs were read.
 -- Cited by answers_name_texts.
-use Rattle.std.proofs.Common.{◌≡◌, ◌∙◌, ℕ, ℤ, Bool, true, false, cond, filter, List, [], ◌∷◌, ◌++◌, length, not, Option, Some, None, inl, inr, ◌⊎◌, sym, ap, subst, arith}
+use Rattle.std.proofs.Common.{◌≡◌, ◌∙◌, ℕ, ℤ, Bool, true, false, cond, filter, List, [], ◌∷◌, length, not, Option, Some, None, inl, inr, ◌⊎◌, sym, ap, subst, arith}
 use Rattle.std.specs.Prelude.{IsTrue, nat_lt, Contains, unwrap_or, option_map}
 use Rattle.std.specs.Option.{option_to_list}
 use Rattle.std.specs.Str.{IsUtf8}
@@ -8,13 +8,14 @@ use Rattle.std.proofs.lemmas.Bool.{lt-ltb}
 use Rattle.std.proofs.lemmas.Option.{same_Some}
 use Rattle.std.proofs.lemmas.List.Elements.{All-contains, Contains-append_cases}
 use Rattle.profile.specs.checker.Instances.{Instance, Key}
-use Rattle.profile.specs.events.Confirmed.{AreOfRule, IsOfSeries, alone}
+use Rattle.profile.specs.events.Confirmed.{AreApart, AreOfRule, IsOfSeries, alone}
 use Rattle.profile.specs.events.EventComponents.{EventComponent}
 use Rattle.profile.specs.events.Events.{Event, is_override}
 use Rattle.profile.specs.events.Starts.{IsInstance, key_at}
 use Rattle.profile.specs.rooms.Messages.{Accept, Busy, Outcome, SeriesLimit, SinglesLimit}
 use Rattle.profile.specs.rooms.Revisions.{Part}
 use Rattle.profile.specs.rooms.Rooms.{Book, Claim, Confirms, Decides, Delivery, IsStep, PartAnswer, Recurring, Runs, answered, asked, if_accepted, is_confirmed, is_hidden, is_set, left_of, recurring_in}
+use Rattle.profile.specs.series.Zones.{Zone}
 use Rattle.profile.specs.streams.Streams.{AsksFor, IsDelivered, IsReached}
 use Rattle.itip_messages.specs.Law.{AreTextAnswers, IsTextKey, IsTextOutcome}
 use Rattle.itip_messages.proofs.law_lemmas.PartTexts.{named}
@@ -44,26 +45,28 @@ key_alone event instance = by (is_override event)
 abbrev AsksInstance : Claim → Instance → Type 0
 AsksInstance claim instance = Contains claim.singles instance ⊎ ((series : Event) × (claim.series ≡ Some series) × IsInstance series instance)
 
-asks_alone : (event : EventComponent) (claim : Claim) → AsksFor true event claim → (instance : Instance) → AsksInstance claim instance → IsInstance (alone event) instance
-asks_alone event claim all instance (inl single) =
+asks_alone : (event : EventComponent) (claim : Claim) → AreApart event claim.singles → AreOfRule event claim.series → (instance : Instance) → AsksInstance claim instance → IsInstance (alone event) instance
+asks_alone event claim apart rule instance (inl single) =
     let IsApart : Instance → Type 0 = λ one. IsInstance (alone event) one × (IsOfSeries event one → ⊥) in
-    (All-contains IsApart claim.singles instance all.0.each single).0
-asks_alone event claim all instance (inr (series, has, one)) = (((subst (AreOfRule event) has all.1).1 instance).0 one).0
+    (All-contains IsApart claim.singles instance apart.each single).0
+asks_alone event claim apart rule instance (inr (series, has, one)) = (((subst (AreOfRule event) has rule).1 instance).0 one).0
 
 -- octets asked for the claim, whose part is to take place
-record IsAskedToSet (room : List ℕ) (claim : Claim) : Type 0 where
-  asked : IsAskedFor room claim
+record IsAskedToSet (room : List ℕ) (zone : Option Zone) (claim : Claim) : Type 0 where
+  asked : IsAskedFor room zone claim
   set : is_set claim.part ≡ true
 
-text_key : (room : List ℕ) (claim : Claim) → IsAskedToSet room claim → (instance : Instance) → AsksInstance claim instance → IsTextKey instance.key
-text_key room claim a instance asks =
+text_key : (room : List ℕ) (zone : Option Zone) (claim : Claim) → IsAskedToSet room zone claim → (instance : Instance) → AsksInstance claim instance → IsTextKey instance.key
+text_key room zone claim a instance asks =
     let part = a.asked.asked in
     let texts = named room claim.content claim.part part in
-    let all = subst (λ (set : Bool). AsksFor set part.event claim) a.set a.asked.books in
-    let (slot, key) = key_alone part.event instance (asks_alone part.event claim all instance asks) in
+    let (placed, is, apart, rule) = subst (λ (set : Bool). AsksFor set zone part.event claim) a.set a.asked.books in
+    let (slot, key) = key_alone placed instance (asks_alone placed claim apart rule instance asks) in
+    let organiser : placed.organiser ≡ Some claim.part.organiser = ap (λ (e : EventComponent). e.organiser) is.is ∙ part.is_part.organiser in
+    let uid : placed.uid ≡ claim.part.uid = ap (λ (e : EventComponent). e.uid) is.is ∙ sym part.is_part.uid in
     record {
-      organiser = subst IsUtf8 (sym (ap (λ (k : Key). k.organiser) key ∙ ap (λ (o : Option (List ℕ)). unwrap_or o []) part.is_part.organiser)) texts.organiser.utf8;
-      uid = subst IsUtf8 (sym (ap (λ (k : Key). k.uid) key ∙ sym part.is_part.uid)) texts.uid.utf8;
+      organiser = subst IsUtf8 (sym (ap (λ (k : Key). k.organiser) key ∙ ap (λ (o : Option (List ℕ)). unwrap_or o []) organiser)) texts.organiser.utf8;
+      uid = subst IsUtf8 (sym (ap (λ (k : Key). k.uid) key ∙ uid)) texts.uid.utf8;
     }
 
 -- ---- what a book confirms is asked for by a claim that was answered
@@ -109,15 +112,15 @@ outcome_texts book SinglesLimit text decides = tt
 some_there : (claims : List Claim) (claim : Claim) → Contains claims claim → IsTrue (nat_lt 0 (length claims))
 some_there claims claim (k, within, is) = lt-ltb 0 (length claims) (omega (arith, within))
 
-module _ (room : List ℕ) (before : Book) (claims : List Claim) (moment : ℤ) (outcome : Outcome) (after : Book)
-    (all : AllAsked room claims) (step : IsStep before claims moment outcome after) (keeps : KeepsAll room before) where
+module _ (room : List ℕ) (zone : Option Zone) (before : Book) (claims : List Claim) (moment : ℤ) (outcome : Outcome) (after : Book)
+    (all : AllAsked room zone claims) (step : IsStep before claims moment outcome after) (keeps : KeepsAll room zone before) where
   abbrev asked_now : List Claim
   asked_now = asked before.taken after.taken claims
 
   abbrev accepted : Book
   accepted = if_accepted before claims moment after.taken
 
-  each_asked : (answer : PartAnswer) → Contains accepted.answers answer → IsAskedToSet room answer.claim
+  each_asked : (answer : PartAnswer) → Contains accepted.answers answer → IsAskedToSet room zone answer.claim
   each_asked answer c = elim (Contains-append_cases before.answers (answered moment Accept asked_now) answer c) [
     | inl was ↦ record { asked = keeps.each answer was; set = keeps.set answer was }
     | inr now ↦
@@ -129,7 +132,7 @@ module _ (room : List ℕ) (before : Book) (claims : List Claim) (moment : ℤ) 
   confirmed_text : (instance : Instance) → Confirms accepted instance → IsTextKey instance.key
   confirmed_text instance confirms =
       let found = confirmed_answered accepted instance confirms in
-      text_key room found.answer.claim (each_asked found.answer found.among) instance found.asks
+      text_key room zone found.answer.claim (each_asked found.answer found.among) instance found.asks
 
   step_texts : AreTextAnswers before → AreTextAnswers after
   step_texts texts answer c =
@@ -144,15 +147,15 @@ module _ (room : List ℕ) (before : Book) (claims : List Claim) (moment : ℤ) 
 
 -- ---- over every run
 
-run_texts : (room : List ℕ) (before : Book) (ds : List Delivery) (after : Book) → ((d : Delivery) → Contains ds d → IsDelivered room d) → Runs before ds after
-    → KeepsAll room before → AreTextAnswers before → AreTextAnswers after
-run_texts room before [] after delivered runs keeps texts = subst AreTextAnswers (sym runs) texts
-run_texts room before (d ∷ ds) after delivered (mid, outcome, step, runs) keeps texts =
-    let all = delivered_asked room d (delivered d (in_head d ds)) in
-    run_texts room mid ds after (λ x c. delivered x (in_tail d ds x c)) runs
-    (keeps_step room before d.claims d.moment outcome mid all step keeps)
-    (step_texts room before d.claims d.moment outcome mid all step keeps texts)
+run_texts : (room : List ℕ) (zone : Option Zone) (before : Book) (ds : List Delivery) (after : Book) → ((d : Delivery) → Contains ds d → IsDelivered room zone d) → Runs before ds after
+    → KeepsAll room zone before → AreTextAnswers before → AreTextAnswers after
+run_texts room z before [] after delivered runs keeps texts = subst AreTextAnswers (sym runs) texts
+run_texts room zone before (d ∷ ds) after delivered (mid, outcome, step, runs) keeps texts =
+    let all = delivered_asked room zone d (delivered d (in_head d ds)) in
+    run_texts room zone mid ds after (λ x c. delivered x (in_tail d ds x c)) runs
+    (keeps_step room zone before d.claims d.moment outcome mid all step keeps)
+    (step_texts room zone before d.claims d.moment outcome mid all step keeps texts)
 
-pub reached_texts : (room : List ℕ) (book : Book) → IsReached room book → AreTextAnswers book
-reached_texts room book reached =
-    run_texts room _ reached.deliveries book reached.delivered reached.runs (keeps_none room) (λ answer c. absurd (none_in_nil answer c))
+pub reached_texts : (room : List ℕ) (zone : Option Zone) (book : Book) → IsReached room zone book → AreTextAnswers book
+reached_texts room zone book reached =
+    run_texts room zone _ reached.deliveries book reached.delivered reached.runs (keeps_none room zone) (λ answer c. absurd (none_in_nil answer c))

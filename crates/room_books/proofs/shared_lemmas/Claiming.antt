@@ -1,9 +1,10 @@
--- The claims of a message: at most one, of the part and the instance of its event.
--- Cited by all_claims of claims, claims_of of claims, Room::take of room.
+-- The claims of a message: one for each part, of the part and the instances of its event in the room.
+-- Cited by all_asked of claims, claims_of of claims, Room::take of room.
 use Rattle.std.proofs.Common.{arith, ◌⊎◌, ◌<ℤ◌, ◌≡◌, ◌≢◌, ◌∙◌, ℕ, ℤ, ◌<◌, ◌+◌, Bool, true, false, cond, List, [], ◌∷◌, ◌++◌, take, length, get_or, map, Result, Ok, Err, IfOk, inl, inr, Option, None, Some, refl, sym, ap, subst}
-use Rattle.std.specs.Prelude.{slice_get, if◌then◌else◌, ◌&&◌, not, is_some, unwrap_or, option_map, All, AllPairs, IfSome, MatchOption}
-use Rattle.std.proofs.lemmas.Bool.{and_parts, both_ways}
+use Rattle.std.specs.Prelude.{slice_get, not, is_some, unwrap_or, option_map, All, AllPairs, IfSome, MatchOption}
+use Rattle.std.proofs.lemmas.Bool.{and_parts, both_ways, true≢false}
 use Rattle.std.specs.declared.cmp.Ordering.TheVariants.{Less, Equal}
+use Rattle.std.specs.Ordering.{is_eq}
 use Rattle.std.specs.List.{AllZip, Contains, filter}
 use Rattle.std.proofs.lemmas.Cmp.{tied_itself}
 use Rattle.std.proofs.lemmas.List.{append-nil}
@@ -14,13 +15,20 @@ use Rattle.ical_values.specs.Octets.{address_octets, text_octets}
 use Rattle.cal_events.proofs.shared_lemmas.InOneOrder.{head_pairs, tail_pairs}
 use Rattle.itip_messages.specs.declared.message.Message.{Message}
 use Rattle.itip_messages.specs.declared.message_component.MessageComponent.{MessageComponent}
-use Rattle.itip_messages.specs.Message.{RepresentsMessage, HasInstances, SaysComponent, IsDated, is_message_for, has_part, part_for}
-use Rattle.itip_messages.proofs.shared_lemmas.MessageLemmas.{addressed, body_is, part_said, kept_said, kept_components, kept_instances, kept_among, no_events}
-use Rattle.itip_order.specs.Parts.{part_of}
+use Rattle.itip_messages.specs.Message.{RepresentsMessage, HasInstances, SaysComponent, IsDated, is_message_for, has_part}
+use Rattle.itip_messages.proofs.shared_lemmas.MessageLemmas.{addressed, body_is, part_said, kept_components, kept_instances, kept_among, no_parts_for}
+use Rattle.itip_order.specs.Parts.{part_of, slot_of}
+use Rattle.itip_order.specs.declared.part.Part.{Part as Taken}
+use Rattle.itip_order.specs.declared.part.Slot as rust
 use Rattle.itip_order.proofs.Lists.{in_cons, in_head, in_tail, none_in_nil}
 use Rattle.itip_order.proofs.Order.{slot_total}
+use Rattle.itip_order.proofs.SlotEnds.{greatest_mapped, greatest_none}
 use Rattle.profile.specs.checker.Instances.{Key, Instance}
 use Rattle.profile.specs.events.EventComponents.{EventComponent}
+use Rattle.profile.specs.events.Placed.{IsAt}
+use Rattle.profile.specs.events.Properties.{BothOrNeither}
+use Rattle.profile.specs.series.RoomZones.{IsRoomZone}
+use Rattle.profile.specs.series.Zones.{Zone}
 use Rattle.profile.specs.events.Starts.{ComesBefore, IsInstance, key_at}
 use Rattle.profile.specs.events.Confirmed.{alone, has_series, AreApart, AreOfRule, IsOfSeries}
 use Rattle.cal_events.specs.Series.{series_said, IsSeriesOf}
@@ -28,39 +36,41 @@ use Rattle.cal_events.specs.declared.series.Series.{Series}
 use Rattle.cal_events.specs.OwnInstances.{own_instance_at, IsTimely}
 use Rattle.cal_events.proofs.shared_lemmas.OwnSingles.{master_alone, of_both, one_by_key, override_alone}
 use Rattle.cal_events.specs.MeetingComponents.{IsInEventDates}
+use Rattle.cal_events.specs.InRoom.{AreInstancesIn}
+use Rattle.cal_events.proofs.shared_lemmas.RoomClocks.{room_clock}
 use Rattle.profile.specs.events.Events.{Event as Recurs, is_master}
 use Rattle.profile.specs.events.Messages as messages
 use Rattle.profile.specs.rooms.Messages as profile
-use Rattle.profile.specs.rooms.Messages.{Content, IsPart, canonical, no_content, cancels, is_addressed, is_part_for, names_room}
-use Rattle.profile.specs.rooms.Revisions.{Part, Slot, Body, Whole, At, Set, Absent, Cancelled, slot_cmp}
+use Rattle.profile.specs.rooms.Messages.{AreGreatest, Content, IsPart, canonical, no_content, cancels, is_addressed, names_room, parts_for}
+use Rattle.profile.specs.rooms.Revisions.{Part, Slot, Body, Whole, Set, Absent, Cancelled, slot_cmp}
 use Rattle.profile.specs.rooms.Rooms as rooms
 use Rattle.profile.specs.rooms.Rooms.{is_set}
 use Rattle.profile.specs.streams.Streams.{AsksFor, IsClaim}
 use Rattle.profile.specs.text.Values.{IsClockSeconds}
 use Rattle.cal_events.specs.declared.instance.Single.{Single}
 use Rattle.room_books.specs.declared.claim.Claim.{Claim}
-use Rattle.room_books.specs.Claims.{series_asked, series_wanted, AreClaimed, IsClaimIn, IsSameSeries}
+use Rattle.room_books.specs.declared.claims.Asked.{Asked}
+use Rattle.room_books.specs.Claim.{is_of_whole}
+use Rattle.room_books.specs.Claims.{AreClaimed, AreClaimsOf, IsAskingIn}
 use Rattle.room_books.specs.Taking.{body_content, part_instance, claim_said, claims_said}
 use Rattle.room_books.specs.Room.{Pairwise, IsFitting, IsFittingSeries, IsText, IsOfSlot, SlotDated}
 use Rattle.itip_messages.proofs.shared_lemmas.BodyContents.{body_of}
-use Rattle.room_books.proofs.shared_lemmas.Loops.{zip_push, one_more}
+use Rattle.room_books.proofs.laws_lemmas.PlacedTwice.{slot_one}
+use Rattle.room_books.proofs.shared_lemmas.Loops.{zip_push}
 use Rattle.room_books.proofs.room_lemmas.Meetings.{is_of_from}
-use Rattle.room_books.proofs.shared_lemmas.Pairs.{map_from}
+use Rattle.room_books.proofs.shared_lemmas.Pairs.{map_at, map_from}
 
 pub if_ok : {T E : Type 0} (r : Result T E) (P Q : T → Type 0) → ((x : T) → P x → Q x) → IfOk r P → IfOk r Q
 if_ok (Ok x) P Q f p = f x p
 if_ok (Err e) P Q f p = tt
 
--- one more element of a loop
-pub zip_more : {X Y : Type 0} (R : X → Y → Type 0) (items all : List X) (i : ℕ) (x : X) (ys new : List Y) (y : Y) → items ≡ all → i < length items → x ≡ get_or items i x → new ≡ ys ++ y ∷ [] → AllZip R (take i all) ys → R x y → AllZip R (take (i + 1) all) new
-zip_more {X} {Y} R items all i x ys new y same h e is z r =
-    let old = subst (λ (l : List X). AllZip R (take i l) ys) (sym same) z in
-    subst (λ (l : List X). AllZip R (take (i + 1) l) new) same
-    (subst (λ (l : List X). AllZip R l new) (sym (one_more items i x h e)) (subst (λ (l : List Y). AllZip R (take i items ++ x ∷ []) l) (sym is) (zip_push R (take i items) ys x y old r)))
-
 -- what a part asks for with these instances and this series
 abbrev said : Part → List Single → Option Series → rooms.Claim
 said part singles series = record { part = part; content = body_content part.body; singles = map (part_instance part) singles; series = option_map series_said series }
+
+-- the claim that a part is with what it asks for
+abbrev claim_with : Taken × Asked → rooms.Claim
+claim_with one = said (part_of one.0) one.1.singles.items one.1.series
 
 -- the first claim of a list is one of it
 pub first_in : (claims : List Claim) (claim : Claim) → Some claim ≡ slice_get claims 0 → Contains claims claim
@@ -164,19 +174,21 @@ module _ (event : EventComponent) (timely : IsTimely event) (dated : IsDated (pr
 
 -- ---- the claim of one component
 
-module _ (room : List ℕ) (message : Message) (given : messages.Message) (s : RepresentsMessage message given) (event : EventComponent) (component : MessageComponent) (among : Contains given.events event)
-    (is : SaysComponent event component × HasInstances event component) (claim : Claim) (x : IsClaimIn room message component claim) where
+-- a series is asked for only where the part is of the whole
+whole_by : (series : Option Series) (slot : rust.Slot) → ((some : Series) → series ≡ Some some → slot_of slot ≡ Whole) → is_of_whole series slot ≡ true
+whole_by None slot h = refl
+whole_by (Some series) slot h = ap (λ (o : Slot). is_eq (slot_cmp o Whole)) (h series refl)
+
+module _ (room words : List ℕ) (zone : Option Zone) (means : IsRoomZone words zone) (message : Message) (given : messages.Message) (s : RepresentsMessage message given) (event : EventComponent) (component : MessageComponent)
+    (among : Contains given.events event) (is : SaysComponent event component × HasInstances event component) (one : Taken × Asked) (x : IsAskingIn room zone message component one) where
   abbrev says : SaysComponent event component
   says = is.0
 
   abbrev part : Part
-  part = part_for room message component
+  part = part_of one.0
 
-  organiser_is : event.organiser ≡ Some (address_octets message.organiser)
-  organiser_is = s.organised event among ∙ ap Some (sym s.organiser)
-
-  uid_is : text_octets message.uid ≡ event.uid
-  uid_is = s.uid ∙ sym (ap (λ (named : List ℕ × List ℕ). named.1) (s.are.of_it event among))
+  abbrev singles : List Single
+  singles = one.1.singles.items
 
   abbrev content : Content
   content = says.canonical.content
@@ -186,6 +198,9 @@ module _ (room : List ℕ) (message : Message) (given : messages.Message) (s : R
 
   abbrev named : Bool
   named = names_room room event
+
+  is_part : IsPart room zone given event (cond off no_content (cond named content no_content)) part
+  is_part = part_said room message given s zone event component among says part x.part
 
   -- what the body reads as, whether it is cancelled, absent or set
   content_is : (b n : Bool) (body : Body) → body ≡ cond b Cancelled (cond n (Set (canonical content)) Absent) → body_content body ≡ cond b no_content (cond n content no_content)
@@ -199,207 +214,265 @@ module _ (room : List ℕ) (message : Message) (given : messages.Message) (s : R
   texts false false body e = subst IsText (sym e) tt
 
   body_there : part.body ≡ cond off Cancelled (cond named (Set (canonical content)) Absent)
-  body_there = body_is room message given s event component says
+  body_there = ap (λ (p : Part). p.body) x.part.2 ∙ body_is room message given s event component says x.part.0
 
-  -- the instances that it asks for
-  abbrev asked_for : Bool → List Single
-  asked_for b = if b then component.singles.items else []
+  pub slot_dated : SlotDated part.slot
+  slot_dated = says.dated_each words zone means part.slot is_part.slot
 
-  asks : claim_said claim ≡ said part (asked_for (is_set part)) claim.series
-  asks = λ i. said (x.part_is i) (x.singles i) claim.series
+  pub name_there : (part.organiser ≡ address_octets message.organiser) × (part.uid ≡ text_octets message.uid)
+  name_there = (ap (λ (p : Part). p.organiser) x.part.2, ap (λ (p : Part). p.uid) x.part.2)
 
-  booked_is : (single : Single) → part_instance part single ≡ own_instance_at event single
-  booked_is single =
-      let organiser : address_octets message.organiser ≡ unwrap_or event.organiser [] = ap (λ o. unwrap_or o []) (sym organiser_is) in
-      λ i. record { key = record { organiser = organiser i; uid = uid_is i; slot = single.slot }; start = single.span.start; end = single.span.end }
+  -- ---- where it is to take place
 
-  all_booked : (singles : List Single) → map (part_instance part) singles ≡ map (own_instance_at event) singles
-  all_booked [] = refl
-  all_booked (y ∷ ys) = λ i. booked_is y i ∷ all_booked ys i
+  module _ (inst : AreInstancesIn zone event singles one.1.series) where
+    abbrev placed : EventComponent
+    placed = inst.placed
 
-  -- they are all that the event has by itself, apart from its series
-  are_all : AreApart event (map (part_instance part) component.singles.items)
-  are_all = subst (AreApart event) (sym (all_booked component.singles.items)) is.1.singles
+    organiser_is : unwrap_or placed.organiser [] ≡ part.organiser
+    organiser_is = ap (λ (e : EventComponent). unwrap_or e.organiser []) inst.is_placed.is ∙ ap (λ o. unwrap_or o []) is_part.organiser
 
-  -- the event has the series of the component, which has one only where its part is of the whole
-  has_it : (o : Slot) → profile.slot_of event ≡ o → MatchOption (series_wanted o component.series) (has_series event ≡ false) (λ series. IsSeriesOf event (series_said series))
-  has_it Whole e = is.1.series
-  has_it (At t) e = none event.recurrence refl e
-    where
-      none : (r : Option ℤ) → event.recurrence ≡ r → profile.slot_named r ≡ At t → has_series event ≡ false
-      none None f g = absurd (cc)
-      none (Some u) f g = ap (λ (z : Option ℤ). not (is_some z) && is_some event.rule) f
+    uid_is : placed.uid ≡ part.uid
+    uid_is = ap (λ (e : EventComponent). e.uid) inst.is_placed.is ∙ sym is_part.uid
 
-  same_rule : (o c : Option Series) → MatchOption o (has_series event ≡ false) (λ series. IsSeriesOf event (series_said series)) → IsSameSeries o c → AreOfRule event (option_map series_said c)
-  same_rule None None m same = m
-  same_rule None (Some c) m same = absurd same
-  same_rule (Some s) None m same = absurd same
-  same_rule (Some s) (Some c) m same = (m.has, λ b. ((λ h. (m.instances b).0 ((same b).0 h)), λ h. (same b).1 ((m.instances b).1 h)))
+    at_slot : BothOrNeither (IsAt zone) event.written.recurrence placed.recurrence
+    at_slot = subst (BothOrNeither (IsAt zone) event.written.recurrence) (sym (ap (λ (e : EventComponent). e.recurrence) inst.is_placed.is)) inst.is_placed.slot
 
-  no_series : (c : Option Series) → IsSameSeries None c → option_map series_said c ≡ None
-  no_series None same = refl
-  no_series (Some c) same = absurd same
+    -- the slot of the part is that of the event there
+    slot_is : part.slot ≡ profile.slot_of placed
+    slot_is = is_part.slot.2 ∙ ap profile.slot_named (slot_one zone (room_clock words zone means).steady.meaning event.written.recurrence is_part.slot.0 placed.recurrence is_part.slot.1 at_slot)
 
-  asks_for : (b : Bool) → IsSameSeries (if b then series_asked part component else None) claim.series → AsksFor b event (said part (asked_for b) claim.series)
-  asks_for true same = (are_all, same_rule (series_wanted part.slot component.series) claim.series (has_it part.slot (sym says.slot)) same)
-  asks_for false same = (refl, no_series claim.series same)
+    dated : IsDated (profile.slot_of placed)
+    dated = says.dated_each words zone means (profile.slot_of placed) (placed.recurrence, at_slot, refl)
 
-  pub is_claim : IsClaim room given event (claim_said claim)
-  is_claim = subst (IsClaim room given event) (sym asks) (record {
-    part = subst (λ (c : Content). IsPart room given event c part) (sym (content_is off named part.body body_there)) (part_said room message given s event component among says);
-    asks = asks_for (is_set part) x.series;
-  })
+    booked_is : (single : Single) → part_instance part single ≡ own_instance_at placed single
+    booked_is single =
+        sym (λ i. record { key = record { organiser = organiser_is i; uid = uid_is i; slot = single.slot }; start = single.span.start; end = single.span.end })
 
-  fits_with : (singles : List Single) → ((y : Instance) → Contains (map (part_instance part) singles) y → IsOwn event y) → Pairwise (λ (a b : Instance). a.key.slot ≢ b.key.slot) (map (part_instance part) singles)
-      → IfSome (option_map series_said claim.series) (IsFittingSeries (said part singles claim.series)) → IsFitting (said part singles claim.series)
-  fits_with singles own apart recurs = record {
+    all_booked : (own : List Single) → map (part_instance part) own ≡ map (own_instance_at placed) own
+    all_booked [] = refl
+    all_booked (y ∷ ys) = λ i. booked_is y i ∷ all_booked ys i
+
+    -- they are all that the event has by itself there, apart from its series
+    are_all : AreApart placed (map (part_instance part) singles)
+    are_all = subst (AreApart placed) (sym (all_booked singles)) inst.are.singles
+
+    of_rule : (series : Option Series) → MatchOption series (has_series placed ≡ false) (λ own. IsSeriesOf placed (series_said own)) → AreOfRule placed (option_map series_said series)
+    of_rule None m = m
+    of_rule (Some series) m = (m.has, m.instances)
+
+    asks_set : AsksFor true zone event (claim_with one)
+    asks_set = (placed, inst.is_placed, are_all, of_rule one.1.series inst.are.series)
+
+    -- a master has the slot of the whole
+    master_slot : is_master placed ≡ true → part.slot ≡ Whole
+    master_slot master = slot_is ∙ unnamed placed.recurrence master
+      where
+        unnamed : (r : Option ℤ) → not (is_some r) ≡ true → profile.slot_named r ≡ Whole
+        unnamed None h = refl
+        unnamed (Some t) h = absurd (true≢false (sym h))
+
+    whole_set : is_of_whole one.1.series one.0.slot ≡ true
+    whole_set = whole_by one.1.series one.0.slot (λ series e.
+        let m : IsSeriesOf placed (series_said series) = subst (λ (o : Option Series). MatchOption o (has_series placed ≡ false) (λ own. IsSeriesOf placed (series_said own))) e inst.are.series in
+        master_slot (and_parts (is_master placed) (is_some placed.rule) m.has).0)
+
+    abbrev Own : Instance → Type 0
+    Own = IsOwn placed
+
+    abbrev Here : Instance → Type 0
+    Here = IsHere placed inst.timely dated
+
+    own_there : (y : Instance) → Contains (map (part_instance part) singles) y → Own y
+    own_there y c = own_instance placed inst.timely dated y (All-contains Here (map (part_instance part) singles) y are_all.each c).0
+
+    -- an instance of the series is one of the event's, which is a master
+    fits_series : (o : Option Recurs) → AreOfRule placed o → IfSome o (IsFittingSeries (claim_with one))
+    fits_series None r = tt
+    fits_series (Some series) r =
+        let here : (b : Instance) → IsInstance series b → IsInstance (alone placed) b × IsOfSeries placed b = λ b h. (r.1 b).0 h in
+        let own : (b : Instance) → IsInstance series b → Own b = λ b h. own_instance placed inst.timely dated b (here b h).0 in
+        let master : is_master placed ≡ true = (and_parts (is_master placed) (is_some placed.rule) r.0).0 in
+        record {
+          whole = master_slot master;
+          organiser = λ b h. ap (λ (k : Key). k.organiser) (own b h).key ∙ organiser_is;
+          uid = λ b h. ap (λ (k : Key). k.uid) (own b h).key ∙ uid_is;
+          slot = λ b h. own_start placed inst.timely dated b master (here b h).0;
+          starts = λ b h. (own b h).start;
+          apart = λ a b c h same.
+              let single = All-contains Here (map (part_instance part) singles) a are_all.each c in
+              single.1 (subst (IsOfSeries placed) (sym (one_slot placed inst.timely dated a b single.0 (here b h).0 same)) (here b h).1);
+        }
+
+    fits_set : IsFitting (claim_with one)
+    fits_set = record {
+      content = refl;
+      text = texts off named part.body body_there;
+      organiser = λ y c. ap (λ (k : Key). k.organiser) (own_there y c).key ∙ organiser_is;
+      uid = λ y c. ap (λ (k : Key). k.uid) (own_there y c).key ∙ uid_is;
+      slot = λ y c. subst (λ (o : Slot). IsOfSlot o y.key.slot) (sym slot_is) (own_there y c).slot;
+      differ = own_apart placed inst.timely dated (map (part_instance part) singles) are_all.each are_all.ordered;
+      starts = λ y c. (own_there y c).start;
+      slots = λ y c. (own_there y c).slot_at;
+      recurs = fits_series (option_map series_said one.1.series) (of_rule one.1.series inst.are.series);
+    }
+
+  -- ---- where it isn't
+
+  nothing : IsFitting (said part [] None)
+  nothing = record {
     content = refl;
     text = texts off named part.body body_there;
-    organiser = λ y c. ap (λ (k : Key). k.organiser) (own y c).key ∙ ap (λ o. unwrap_or o []) organiser_is;
-    uid = λ y c. ap (λ (k : Key). k.uid) (own y c).key ∙ sym uid_is;
-    slot = λ y c. subst (λ (o : Slot). IsOfSlot o y.key.slot) (sym says.slot) (own y c).slot;
-    differ = apart;
-    starts = λ y c. (own y c).start;
-    slots = λ y c. (own y c).slot_at;
-    recurs = recurs;
+    organiser = λ y c. absurd (none_in_nil y c);
+    uid = λ y c. absurd (none_in_nil y c);
+    slot = λ y c. absurd (none_in_nil y c);
+    differ = tt;
+    starts = λ y c. absurd (none_in_nil y c);
+    slots = λ y c. absurd (none_in_nil y c);
+    recurs = tt;
   }
 
-  -- an instance of the series is one of the event's, which is a master
-  fits_series : (o : Option Recurs) → AreOfRule event o → IfSome o (IsFittingSeries (said part component.singles.items claim.series))
-  fits_series None r = tt
-  fits_series (Some series) r =
-      let timely = says.ready.timely in
-      let here : (b : Instance) → IsInstance series b → IsInstance (alone event) b × IsOfSeries event b = λ b h. (r.1 b).0 h in
-      let own : (b : Instance) → IsInstance series b → IsOwn event b = λ b h. own_instance event timely says.dated b (here b h).0 in
-      let master : is_master event ≡ true = (and_parts (is_master event) (is_some event.rule) r.0).0 in
+  -- ---- in both cases
+
+  -- what is known of its claim
+  pub record IsKnown : Type 0 where
+    pub asks : AsksFor (is_set part) zone event (claim_with one)
+    pub fits : IsFitting (claim_with one)
+    pub whole : is_of_whole one.1.series one.0.slot ≡ true
+
+  known_by : (b : Bool) → is_set part ≡ b → IsKnown
+  known_by true h =
+      let inst = x.asks.set h event says is.1 in
+      record { asks = subst (λ (b : Bool). AsksFor b zone event (claim_with one)) (sym h) (asks_set inst); fits = fits_set inst; whole = whole_set inst }
+  known_by false h =
+      let none = x.asks.unset h in
+      let same : said part [] None ≡ claim_with one = sym (λ i. said part (none.0 i) (none.1 i)) in
       record {
-        whole = says.slot ∙ whole event.recurrence refl master;
-        organiser = λ b h. ap (λ (k : Key). k.organiser) (own b h).key ∙ ap (λ o. unwrap_or o []) organiser_is;
-        uid = λ b h. ap (λ (k : Key). k.uid) (own b h).key ∙ sym uid_is;
-        slot = λ b h. own_start event timely says.dated b master (here b h).0;
-        starts = λ b h. (own b h).start;
-        apart = λ a b c h same.
-            let single = All-contains (IsHere event timely says.dated) (map (part_instance part) component.singles.items) a are_all.each c in
-            single.1 (subst (IsOfSeries event) (sym (one_slot event timely says.dated a b single.0 (here b h).0 same)) (here b h).1);
+        asks = subst (λ (b : Bool). AsksFor b zone event (claim_with one)) (sym h) (subst (AsksFor false zone event) same (refl, refl));
+        fits = subst IsFitting same nothing;
+        whole = ap (λ o. is_of_whole o one.0.slot) none.1;
       }
-    where
-      whole : (r : Option ℤ) → event.recurrence ≡ r → is_master event ≡ true → profile.slot_of event ≡ Whole
-      whole None f g = ap profile.slot_named f
-      whole (Some t) f g = absurd (both_ways (is_master event) (ap (λ (z : Option ℤ). not (is_some z)) f) g)
 
-  fits_by : (b : Bool) → IsSameSeries (if b then series_asked part component else None) claim.series → IsFitting (said part (asked_for b) claim.series)
-  fits_by false same = fits_with [] (λ y c. absurd (none_in_nil y c)) tt (subst (λ (o : Option Recurs). IfSome o (IsFittingSeries (said part [] claim.series))) (sym (no_series claim.series same)) tt)
-  fits_by true same =
-      let all = map (part_instance part) component.singles.items in
-      let timely = says.ready.timely in
-      fits_with component.singles.items (λ y c. own_instance event timely says.dated y (All-contains (IsHere event timely says.dated) all y are_all.each c).0) (own_apart event timely says.dated all are_all.each are_all.ordered)
-      (fits_series (option_map series_said claim.series) (same_rule (series_wanted part.slot component.series) claim.series (has_it part.slot (sym says.slot)) same))
+  pub known : IsKnown
+  known = known_by (is_set part) refl
 
-  pub fits : IsFitting (claim_said claim)
-  fits = subst IsFitting (sym asks) (fits_by (is_set part) x.series)
+  pub is_claim : IsClaim room zone given event (claim_with one)
+  is_claim = record {
+    part = subst (λ (c : Content). IsPart room zone given event c part) (sym (content_is off named part.body body_there)) is_part;
+    asks = known.asks;
+  }
 
-  pub slot_there : (claim_said claim).part.slot ≡ profile.slot_of event
-  slot_there = ap (λ (p : Part). p.slot) x.part_is ∙ says.slot
+-- ---- those that are kept
 
-  pub slot_dated : SlotDated (claim_said claim).part.slot
-  slot_dated = subst IsDated (sym slot_there) says.dated
+-- each is of another slot, so of another part
+claims_apart : (claims : List rooms.Claim) → AllPairs (λ (a b : rooms.Claim). slot_cmp a.part.slot b.part.slot ≡ Less) claims → Pairwise (λ (a b : rooms.Claim). a.part ≢ b.part) claims
+claims_apart [] up = tt
+claims_apart (c ∷ cs) up = (
+  λ y k same.
+      let less : slot_cmp c.part.slot y.part.slot ≡ Less = head_pairs (λ (a b : rooms.Claim). slot_cmp a.part.slot b.part.slot ≡ Less) c y cs up k in
+      not_less y.part.slot (subst (λ (o : Part). slot_cmp o.slot y.part.slot ≡ Less) same less),
+  claims_apart cs (tail_pairs (λ (a b : rooms.Claim). slot_cmp a.part.slot b.part.slot ≡ Less) c cs up),
+)
+  where
+    not_less : (o : Slot) → slot_cmp o o ≡ Less → ⊥
+    not_less o l = let e = tied_itself slot_total o in let x : Less ≡ Equal = sym l ∙ e in cc
 
-  pub name_there : (part_of claim.part).organiser ≡ address_octets message.organiser × (part_of claim.part).uid ≡ text_octets message.uid
-  name_there = (ap (λ (p : Part). p.organiser) x.part_is, ap (λ (p : Part). p.uid) x.part_is)
+-- the claims that were made of these
+said_of : (kept : List (Taken × Asked)) (claims : List Claim) → AreClaimsOf kept claims → ((one : Taken × Asked) → Contains kept one → is_of_whole one.1.series one.0.slot ≡ true)
+    → claims_said claims ≡ map claim_with kept
+said_of [] [] z h = refl
+said_of [] (c ∷ cs) z h = absurd z
+said_of (k ∷ ks) [] z h = absurd z
+said_of (k ∷ ks) (c ∷ cs) z h =
+    let x = z.0 in
+    let w = h k (in_head k ks) in
+    λ i. said (part_of (x.part i)) (x.singles i).items (x.series w i) ∷ said_of ks cs z.1 (λ y there. h y (in_tail k ks y there)) i
 
 -- ---- all claims
 
-module _ (room : List ℕ) (message : Message) (given : messages.Message) (s : RepresentsMessage message given) where
+module _ (room words : List ℕ) (zone : Option Zone) (means : IsRoomZone words zone) (message : Message) (given : messages.Message) (s : RepresentsMessage message given) where
   abbrev Says : EventComponent → MessageComponent → Type 0
   Says event component = SaysComponent event component × HasInstances event component
 
-  abbrev Here : List EventComponent → Type 0
-  Here events = (e : EventComponent) → Contains events e → Contains given.events e
+  abbrev Among : List EventComponent → Type 0
+  Among events = (e : EventComponent) → Contains events e → Contains given.events e
 
-  rest_here : (e : EventComponent) (es : List EventComponent) → Here (e ∷ es) → Here es
-  rest_here e es f x c = f x (in_tail e es x c)
+  rest_among : (e : EventComponent) (es : List EventComponent) → Among (e ∷ es) → Among es
+  rest_among e es f x c = f x (in_tail e es x c)
 
-  claims_zip : (events : List EventComponent) (components : List MessageComponent) (claims : List Claim) → Here events → AllZip Says events components → AllZip (IsClaimIn room message) components claims
-      → AllZip (IsClaim room given) events (claims_said claims)
+  claims_zip : (events : List EventComponent) (components : List MessageComponent) (all : List (Taken × Asked)) → Among events → AllZip Says events components → AllZip (IsAskingIn room zone message) components all
+      → AllZip (IsClaim room zone given) events (map claim_with all)
   claims_zip [] [] [] f y z = tt
   claims_zip [] [] (c ∷ cs) f y z = absurd z
   claims_zip [] (d ∷ ds) cs f y z = absurd y
   claims_zip (e ∷ es) [] cs f y z = absurd y
   claims_zip (e ∷ es) (d ∷ ds) [] f y z = absurd z
   claims_zip (e ∷ es) (d ∷ ds) (c ∷ cs) f y z =
-      (is_claim room message given s e d (f e (in_head e es)) y.0 c z.0, claims_zip es ds cs (rest_here e es f) y.1 z.1)
+      (is_claim room words zone means message given s e d (f e (in_head e es)) y.0 c z.0, claims_zip es ds cs (rest_among e es f) y.1 z.1)
 
-  -- of each claim
-  each_claim : (P : rooms.Claim → Type 0) → ((e : EventComponent) (d : MessageComponent) (c : Claim) → Contains given.events e → Says e d → IsClaimIn room message d c → P (claim_said c))
-      → (events : List EventComponent) (components : List MessageComponent) (claims : List Claim) → Here events → AllZip Says events components → AllZip (IsClaimIn room message) components claims
-      → (x : rooms.Claim) → Contains (claims_said claims) x → P x
-  each_claim P h [] [] [] f y z x k = absurd (none_in_nil x k)
-  each_claim P h [] [] (c ∷ cs) f y z x k = absurd z
-  each_claim P h [] (d ∷ ds) cs f y z x k = absurd y
-  each_claim P h (e ∷ es) [] cs f y z x k = absurd y
-  each_claim P h (e ∷ es) (d ∷ ds) [] f y z x k = absurd z
-  each_claim P h (e ∷ es) (d ∷ ds) (c ∷ cs) f y z x k = elim (in_cons (claim_said c) (claims_said cs) x k) [
-    | inl here ↦ subst P here (h e d c (f e (in_head e es)) y.0 z.0)
-    | inr there ↦ each_claim P h es ds cs (rest_here e es f) y.1 z.1 x there
+  -- what is known of each
+  pub record IsGood (one : Taken × Asked) : Type 0 where
+    pub fits : IsFitting (claim_with one)
+    pub dated : SlotDated (claim_with one).part.slot
+    pub named : ((claim_with one).part.organiser ≡ address_octets message.organiser) × ((claim_with one).part.uid ≡ text_octets message.uid)
+    pub whole : is_of_whole one.1.series one.0.slot ≡ true
+
+  good : (e : EventComponent) (d : MessageComponent) (one : Taken × Asked) → Contains given.events e → Says e d → IsAskingIn room zone message d one → IsGood one
+  good e d one among is x =
+      let k = known room words zone means message given s e d among is one x in
+      record {
+        fits = k.fits;
+        dated = slot_dated room words zone means message given s e d among is one x;
+        named = name_there room words zone means message given s e d among is one x;
+        whole = k.whole;
+      }
+
+  each_good : (events : List EventComponent) (components : List MessageComponent) (all : List (Taken × Asked)) → Among events → AllZip Says events components → AllZip (IsAskingIn room zone message) components all
+      → (one : Taken × Asked) → Contains all one → IsGood one
+  each_good [] [] [] f y z one k = absurd (none_in_nil one k)
+  each_good [] [] (c ∷ cs) f y z one k = absurd z
+  each_good [] (d ∷ ds) cs f y z one k = absurd y
+  each_good (e ∷ es) [] cs f y z one k = absurd y
+  each_good (e ∷ es) (d ∷ ds) [] f y z one k = absurd z
+  each_good (e ∷ es) (d ∷ ds) (c ∷ cs) f y z one k = elim (in_cons c cs one k) [
+    | inl here ↦ subst IsGood here (good e d c (f e (in_head e es)) y.0 z.0)
+    | inr there ↦ each_good es ds cs (rest_among e es f) y.1 z.1 one there
   ]
 
-  -- each is of another slot
-  claims_apart : (events : List EventComponent) (components : List MessageComponent) (claims : List Claim) → Here events → AllZip Says events components → AllZip (IsClaimIn room message) components claims
-      → AllPairs (λ a b. slot_cmp (profile.slot_of a) (profile.slot_of b) ≡ Less) events → Pairwise (λ (a b : rooms.Claim). a.part ≢ b.part) (claims_said claims)
-  claims_apart [] [] [] f y z up = tt
-  claims_apart [] [] (c ∷ cs) f y z up = absurd z
-  claims_apart [] (d ∷ ds) cs f y z up = absurd y
-  claims_apart (e ∷ es) [] cs f y z up = absurd y
-  claims_apart (e ∷ es) (d ∷ ds) [] f y z up = absurd z
-  claims_apart (e ∷ es) (d ∷ ds) (c ∷ cs) f y z up = (
-    λ x k same.
-        let first = slot_there room message given s e d (f e (in_head e es)) y.0 c z.0 in
-        let other = later es ds cs (rest_here e es f) y.1 z.1 x k in
-        let less : slot_cmp (profile.slot_of e) (profile.slot_of other.0) ≡ Less = head_pairs (λ a b. slot_cmp (profile.slot_of a) (profile.slot_of b) ≡ Less) e other.0 es up other.1 in
-        let equal : profile.slot_of e ≡ profile.slot_of other.0 = sym first ∙ ap (λ (p : Part). p.slot) same ∙ other.2 in
-        not_less (profile.slot_of other.0) (subst (λ (o : Slot). slot_cmp o (profile.slot_of other.0) ≡ Less) equal less),
-    claims_apart es ds cs (rest_here e es f) y.1 z.1 (tail_pairs (λ a b. slot_cmp (profile.slot_of a) (profile.slot_of b) ≡ Less) e es up),
-  )
-    where
-      not_less : (o : Slot) → slot_cmp o o ≡ Less → ⊥
-      not_less o l = let e = tied_itself slot_total o in let x : Less ≡ Equal = sym l ∙ e in cc
-
-      later : (events : List EventComponent) (components : List MessageComponent) (claims : List Claim) → Here events → AllZip Says events components → AllZip (IsClaimIn room message) components claims
-          → (x : rooms.Claim) → Contains (claims_said claims) x → (e : EventComponent) × Contains events e × (x.part.slot ≡ profile.slot_of e)
-      later [] [] [] f y z x k = absurd (none_in_nil x k)
-      later [] [] (c ∷ cs) f y z x k = absurd z
-      later [] (d ∷ ds) cs f y z x k = absurd y
-      later (e ∷ es) [] cs f y z x k = absurd y
-      later (e ∷ es) (d ∷ ds) [] f y z x k = absurd z
-      later (e ∷ es) (d ∷ ds) (c ∷ cs) f y z x k = elim (in_cons (claim_said c) (claims_said cs) x k) [
-        | inl here ↦ (e, in_head e es, ap (λ (q : rooms.Claim). q.part.slot) (sym here) ∙ slot_there room message given s e d (f e (in_head e es)) y.0 c z.0)
-        | inr there ↦ let found = later es ds cs (rest_here e es f) y.1 z.1 x there in (found.0, in_tail e es found.0 found.1, found.2)
-      ]
-
-  pub all_claimed : (claims : List Claim) → AllZip (IsClaimIn room message) (filter (has_part room message) message.components.items) claims → is_message_for room message ≡ true → AreClaimed room given claims
-  all_claimed claims z has =
+  pub all_claimed : (all kept : List (Taken × Asked)) (claims : List Claim) → AllZip (IsAskingIn room zone message) (filter (has_part room message) message.components.items) all
+      → AreGreatest (λ one. part_of one.0) all kept → AreClaimsOf kept claims → is_message_for room message ≡ true → AreClaimed room zone given claims
+  all_claimed all kept claims z greatest made has =
       let for_it : is_addressed room given ≡ true = sym (addressed room message given s) ∙ has in
-      let events = filter (is_part_for room given.method) s.events in
+      let events = parts_for room given in
       let components = filter (has_part room message) message.components.items in
-      let says = zip_both SaysComponent HasInstances events components (kept_components room message given s) (kept_instances room message given s for_it) in
-      let there = kept_among room message given s in
-      let by_slot = kept_said room message given s for_it in
+      let there = kept_among room message given s for_it in
+      let says = zip_both SaysComponent HasInstances events components (kept_components room message given s for_it) (kept_instances room message given s for_it) in
+      let each = each_good events components all there says z in
+      let own : (one : Taken × Asked) → Contains kept one → IsGood one = λ one k. each one (greatest.among one k) in
+      let are : claims_said claims ≡ map claim_with kept = said_of kept claims made (λ one k. (own one k).whole) in
+      let are_greatest : AreGreatest (λ (claim : rooms.Claim). claim.part) (map claim_with all) (claims_said claims) =
+      subst (AreGreatest (λ (claim : rooms.Claim). claim.part) (map claim_with all)) (sym are) (greatest_mapped (λ (claim : rooms.Claim). claim.part) claim_with all kept greatest) in
+      let of_each : (P : rooms.Claim → Type 0) → ((one : Taken × Asked) → IsGood one → P (claim_with one)) → (x : rooms.Claim) → Contains (claims_said claims) x → P x =
+      λ P h x k. let found = map_at claim_with kept x (subst (λ (l : List rooms.Claim). Contains l x) are k) in subst P found.2 (h found.0 (own found.0 found.1)) in
       let named : (x : rooms.Claim) → Contains (claims_said claims) x → (x.part.organiser ≡ address_octets message.organiser) × (x.part.uid ≡ text_octets message.uid) =
-      each_claim (λ x. (x.part.organiser ≡ address_octets message.organiser) × (x.part.uid ≡ text_octets message.uid)) (λ e d c k y x. name_there room message given s e d k y c x) events components claims there says z in
+      of_each (λ x. (x.part.organiser ≡ address_octets message.organiser) × (x.part.uid ≡ text_octets message.uid)) (λ one g. g.named) in
       record {
-        are = record { events = events; are = by_slot; each = claims_zip events components claims there says z };
+        are = record { all = map claim_with all; each = claims_zip events components all there says z; are = are_greatest };
         fit = λ key claim c is.
             let own = named (claim_said claim) (map_from claim_said claims claim c) in
             record {
               of_it = λ x k. let n = named x k in is_of_from key x.part (is.organiser_is ∙ own.0 ∙ sym n.0) (is.uid_is ∙ own.1 ∙ sym n.1);
-              fit = each_claim IsFitting (λ e d c k y x. fits room message given s e d k y c x) events components claims there says z;
-              dated = each_claim (λ x. SlotDated x.part.slot) (λ e d c k y x. slot_dated room message given s e d k y c x) events components claims there says z;
-              differ = claims_apart events components claims there says z by_slot.order;
+              fit = of_each IsFitting (λ one g. g.fits);
+              dated = of_each (λ x. SlotDated x.part.slot) (λ one g. g.dated);
+              differ = claims_apart (claims_said claims) are_greatest.order;
             };
       }
 
-  pub none_claimed : is_addressed room given ≡ false → AreClaimed room given []
-  none_claimed h = record {
-    are = record { events = []; are = no_events room message given s h; each = tt };
-    fit = λ key claim c is. absurd (none_in_nil claim c);
-  }
+pub none_claimed : (room : List ℕ) (zone : Option Zone) (message : Message) (given : messages.Message) → RepresentsMessage message given → is_message_for room message ≡ false → AreClaimed room zone given []
+none_claimed room zone message given s h = record {
+  are = record {
+    all = [];
+    each = subst (λ (l : List EventComponent). AllZip (IsClaim room zone given) l []) (sym (no_parts_for room message given s (sym (addressed room message given s) ∙ h))) tt;
+    are = greatest_none (λ (claim : rooms.Claim). claim.part);
+  };
+  fit = λ key claim c is. absurd (none_in_nil claim c);
+}

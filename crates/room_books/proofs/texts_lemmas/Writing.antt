@@ -13,13 +13,18 @@ use Rattle.itip_messages.proofs.shared_lemmas.WrittenLines.{flat_push, no_lines,
 use Rattle.itip_messages.proofs.shared_lemmas.ZonesOnce.{named_still, with_more, with_zones_are}
 use Rattle.room_books.proofs.shared_lemmas.Loops.{zip_both}
 
--- the octets of a kept calendar: its zones come before its VEVENTs
-pub calendar_written : (begin zones events opened zoned closed whole : List ℕ) (lines : List (List ℕ)) → begin ≡ [] → opened ≡ begin ++ written (opening_lines None) → zoned ≡ opened ++ zones
-    → events ≡ written lines → closed ≡ events ++ folded (codes "END:VCALENDAR") → whole ≡ zoned ++ closed → whole ≡ written (opening_lines None) ++ zones ++ written (lines ++ codes "END:VCALENDAR" ∷ [])
-calendar_written begin zones events opened zoned closed whole lines none first then own last all =
+lines_joined : (a b : List (List ℕ)) → written a ++ written b ≡ written (a ++ b)
+lines_joined a b = sym (flat_map-append folded a b)
+
+-- the octets of a kept calendar: the line for the zone of its room, if there is one, and then its zones come before its VEVENTs
+pub calendar_written : (begin zones events opened named zoned closed whole : List ℕ) (room lines : List (List ℕ)) → begin ≡ [] → opened ≡ begin ++ written (opening_lines None) → named ≡ opened ++ written room
+    → zoned ≡ named ++ zones
+    → events ≡ written lines → closed ≡ events ++ folded (codes "END:VCALENDAR") → whole ≡ zoned ++ closed → whole ≡ written (opening_lines None ++ room) ++ zones ++ written (lines ++ codes "END:VCALENDAR" ∷ [])
+calendar_written begin zones events opened named zoned closed whole room lines none first own_zone then own last all =
     let open_is : opened ≡ written (opening_lines None) = first ∙ ap (λ o. o ++ written (opening_lines None)) none in
     let closed_is : closed ≡ written (lines ++ codes "END:VCALENDAR" ∷ []) = push_line [] events closed (codes "END:VCALENDAR") lines own last in
-    all ∙ (λ i. (then ∙ ap (λ o. o ++ zones) open_is) i ++ closed_is i)
+    let named_is : named ≡ written (opening_lines None ++ room) = own_zone ∙ ap (λ o. o ++ written room) open_is ∙ lines_joined (opening_lines None) room in
+    all ∙ (λ i. (then ∙ ap (λ o. o ++ zones) named_is) i ++ closed_is i)
 
 -- ---- zones that come later
 

@@ -1,26 +1,40 @@
 -- Worked examples of worlds and of what holds in them: what a step does, what it leaves as it is, and which part of a meeting is booked.
-use Rattle.std.proofs.Common.{◌≡◌, ◌≢◌, ◌∙◌, ℕ, zero, suc, ℤ, pos, Bool, true, false, List, [], ◌∷◌, ◌++◌, codes, length, Option, None, Some, is_some, inl, inr, refl, sym, ap, subst, lit<, arith}
+use Rattle.std.proofs.Common.{◌≡◌, ◌≢◌, ◌∙◌, ℕ, zero, suc, ℤ, pos, negsuc, unsigned_abs, ◌+ℤ◌, ◌≤ℤ◌, ◌<ℤ◌, Bool, true, false, List, [], ◌∷◌, ◌++◌, codes, length, Option, None, Some, is_some, inl, inr, refl, sym, ap, subst, lit<, arith, append-nil}
 use Rattle.std.specs.Prelude.{Contains, if◌then◌else◌}
 use Rattle.std.specs.Fmt.{digits}
 use Rattle.std.specs.List.{AllZip}
 use Rattle.std.specs.Str.{bytes_eq}
 use Rattle.std.proofs.lemmas.Bool.{false≢true, true≢false}
+use Rattle.std.proofs.lemmas.Int.{ints}
+use Rattle.std.proofs.lemmas.List.Elements.{All-from_recursion}
 use Rattle.std.proofs.lemmas.Option.{same_Some}
 use Rattle.std.proofs.lemmas.Slice.Eq.{bytes_eq-Decides}
-use Rattle.profile.specs.checker.Instances.{Instance}
+use Rattle.profile.specs.checker.Instances.{Instance, horizon}
+use Rattle.profile.specs.events.Confirmed.{IsOfSeries, alone}
 use Rattle.profile.specs.events.EventComponents.{Accepted, EventComponent, Method, NeedsAction, Reply, Request, is_accepted}
 use Rattle.profile.specs.events.Messages.{Message, SpellsMessage, master_in}
-use Rattle.profile.specs.events.Properties.{Fixed}
-use Rattle.profile.specs.events.ZonedTimes.{SpellsMidnight}
+use Rattle.profile.specs.events.Placed.{IsPlaced}
+use Rattle.profile.specs.events.Properties.{Fixed, Floating, Form, first_second}
+use Rattle.profile.specs.events.Starts.{IsInstance, key_at}
+use Rattle.profile.specs.events.ZonedTimes.{EventTimes, SpellsMidnight, clock_of}
 use Rattle.profile.specs.organisers.Organisers.{Heard, IsSeen, IsSeenOf, Stored, empty_organiser}
-use Rattle.profile.specs.rooms.Messages.{Accept, Busy, Content, IsContent, IsPart, Outcome, WritesListed, WritesTimes, parts_for, revision_beside}
+use Rattle.profile.specs.rooms.Kept.{IsKeptCalendar, room_zone_lines}
+use Rattle.profile.specs.rooms.Messages.{Accept, AreParts, Busy, Content, IsContent, IsPart, IsSlotIn, Outcome, WritesListed, WritesTimes, opening_lines, parts_for, revision_beside}
 use Rattle.profile.specs.rooms.Revisions.{At, Part, Revision, Set, Slot, Whole, in_view}
 use Rattle.profile.specs.rooms.Rooms.{Book, Confirms, PartAnswer, empty_book, is_accept}
 use Rattle.profile.specs.series.Days.{days_before_year, days_of_months}
+use Rattle.profile.specs.series.RoomZones.{IsRoomZone}
+use Rattle.profile.specs.series.Zones.{Constant, Means, Zone}
 use Rattle.profile.specs.streams.Schedules.{HasBooked, IsBooked, SeenIsBooked, SeesBooked}
-use Rattle.profile.specs.streams.Streams.{Hosted, HostedOrganiser, TakesMessage}
+use Rattle.profile.specs.streams.Streams.{AsksFor, Hosted, HostedOrganiser, TakesMessage, ZonedRoom, in_utc, new_room}
 use Rattle.profile.specs.streams.Worlds.{Delivering, Delivers, IsWorldStep, Storing, World, new_world, no_organiser, no_room, nobody, other_organiser, refused_answer}
+use Rattle.profile.specs.text.Lines.{written}
 use Rattle.profile.specs.text.Values.{WritesLocal, WritesStamp}
+use Rattle.cal_events.proofs.shared_lemmas.Meanings.{utc_means}
+use Rattle.cal_zones.proofs.RoomZoneLemmas.{offset_said}
+use Rattle.cal_events.proofs.shared_lemmas.OwnSingles.{master_alone}
+use Rattle.itip_order.proofs.Lists.{none_in_nil}
+use Rattle.itip_order.proofs.Registers.{part_le_refl}
 
 abbrev ann : List ℕ
 ann = codes "m:ann"
@@ -66,20 +80,33 @@ said method = record (request 0) { method = method }
 
 -- ---- new worlds
 
-abbrev new_room : List ℕ → Hosted
-new_room address = record { address = address; book = empty_book }
+-- a room of this address that goes by UTC
+abbrev utc_room : List ℕ → Hosted
+utc_room address = new_room (in_utc address)
+
+-- a room whose clocks are five hours behind
+abbrev behind : ZonedRoom
+behind = record { address = r2; words = codes "-0500"; zone = Some (Constant (negsuc 17_999)) }
 
 abbrev new_organiser : List ℕ → HostedOrganiser
 new_organiser address = record { address = address; book = empty_organiser }
 
 -- an address that is given twice counts once, where it was given first
-given_twice : new_world (r1 ∷ r2 ∷ r1 ∷ []) (ann ∷ ann ∷ [])
-    ≡ record { rooms = new_room r1 ∷ new_room r2 ∷ []; organisers = new_organiser ann ∷ []; sent = [] }
+given_twice : new_world (in_utc r1 ∷ in_utc r2 ∷ in_utc r1 ∷ []) (ann ∷ ann ∷ [])
+    ≡ record { rooms = utc_room r1 ∷ utc_room r2 ∷ []; organisers = new_organiser ann ∷ []; sent = [] }
 given_twice = refl
 
+-- its zone too is that which was given first
+given_in_two_zones : new_world (behind ∷ in_utc r1 ∷ in_utc r2 ∷ []) [] ≡ record { rooms = new_room behind ∷ utc_room r1 ∷ []; organisers = []; sent = [] }
+given_in_two_zones = refl
+
+-- its words mean that zone
+five_behind : IsRoomZone behind.words behind.zone
+five_behind = inl (negsuc 17_999, (λ same. let none : unsigned_abs (negsuc 17_999) ≡ unsigned_abs (pos 0) = ap unsigned_abs same in absurd (omega (arith, none))), offset_said (negsuc 17_999) (lit< tt), refl)
+
 -- one that is given as a room and as an organiser is hosted as both
-given_as_both : new_world (both ∷ []) (both ∷ [])
-    ≡ record { rooms = new_room both ∷ []; organisers = new_organiser both ∷ []; sent = [] }
+given_as_both : new_world (in_utc both ∷ []) (both ∷ [])
+    ≡ record { rooms = utc_room both ∷ []; organisers = new_organiser both ∷ []; sent = [] }
 given_as_both = refl
 
 -- nobody is there
@@ -90,7 +117,7 @@ nobody_at_first = refl
 
 abbrev world : List (List ℕ) → World
 world sent = record {
-  rooms = new_room r1 ∷ new_room both ∷ [];
+  rooms = utc_room r1 ∷ utc_room both ∷ [];
   organisers = new_organiser ann ∷ new_organiser ben ∷ new_organiser both ∷ [];
   sent = sent;
 }
@@ -148,10 +175,14 @@ a_reply_is_for_organisers before after (inl rooms) = absurd (false≢true rooms.
 a_reply_is_for_organisers before after (inr (answer, organisers)) = organisers.others
 
 -- a room takes also what doesn't name it: its book stays, and it sends nothing
-not_addressed : TakesMessage both (pos 5) (said Request) empty_book empty_book []
+not_addressed : TakesMessage both None (pos 5) (said Request) empty_book empty_book []
 not_addressed = record {
   claims = [];
-  are = record { events = []; are = record { exact = λ e. (λ c. c, λ c. c); order = λ i j d l w. absurd (omega (arith, w)) }; each = tt };
+  are = record {
+    all = [];
+    each = tt;
+    are = record { among = λ claim c. c; greatest = λ claim c. absurd (omega (arith, c.1)); order = λ i j d l w. absurd (omega (arith, w)) };
+  };
   outcome = Accept;
   step = record { taken = refl; answers = refl; decided = λ some. absurd (false≢true some) };
   reply = None;
@@ -166,10 +197,10 @@ takes_as_room : Delivers both (pos 5) (said Request) (world []) (world [])
 takes_as_room = inl (record {
   sent = [];
   takes = record {
-    ahead = new_room r1 ∷ [];
+    ahead = utc_room r1 ∷ [];
     behind = [];
-    old = new_room both;
-    new = new_room both;
+    old = utc_room both;
+    new = utc_room both;
     changes = record { address = refl; same = refl; for_rooms = refl; takes = not_addressed };
     of_these = refl;
     to_these = refl;
@@ -262,9 +293,21 @@ is_content sequence = record {
   in_zone = tt;
 }
 
--- the part that its REQUEST is for the room
-first_part : IsPart r1 (request 0) (meeting 0) content (part 0)
-first_part = record { organiser = refl; uid = refl; slot = refl; revision = refl; body = (refl, refl, is_content 0, refl) }
+-- the part that its REQUEST is for the room, whatever its zone: for the whole meeting
+first_part : (zone : Option Zone) → IsPart r1 zone (request 0) (meeting 0) content (part 0)
+first_part z = record { organiser = refl; uid = refl; slot = (None, tt, refl); revision = refl; body = (refl, refl, is_content 0, refl) }
+
+-- it has no other
+first_parts : (zone : Option Zone) → AreParts r1 zone (request 0) (part 0 ∷ [])
+first_parts zone = record {
+  all = part 0 ∷ [];
+  each = ((content, first_part zone), tt);
+  are = record {
+    among = λ one c. c;
+    greatest = λ one c. (one, c, refl, part_le_refl one);
+    order = λ i j d l w. absurd (omega (arith, l, w));
+  };
+}
 
 abbrev booked : Instance
 booked = record { key = record { organiser = ann; uid = codes "s"; slot = pos 100 }; start = pos 100; end = pos 101 }
@@ -288,6 +331,137 @@ taken_later = record { taken = part 0 ∷ part 1 ∷ []; answers = given 0 Accep
 -- they came the other way round: the older got no answer
 abbrev taken_late : Book
 taken_late = record { taken = part 1 ∷ part 0 ∷ []; answers = given 1 Accept ∷ [] }
+
+-- ---- in a room of another zone
+
+-- the same meeting on whatever clocks there are: it starts at their second 100
+abbrev times_at : Option Zone → ℤ → EventTimes
+times_at zone start = record { form = Floating; zone = zone; local = pos 100; start = start; length = record { days = 0; seconds = 1 } }
+
+abbrev floating : EventComponent
+floating = record (meeting 0) { times = times_at None (pos 100) }
+
+-- where that is this second
+module _ (zone : Option Zone) (start : ℤ) (means : Means (clock_of zone) (pos 100) start) (from : first_second ≤ℤ start) (to : start <ℤ horizon) where
+  abbrev there : EventComponent
+  there = record floating { times = times_at zone start }
+
+  abbrev held : Instance
+  held = record { key = record { organiser = ann; uid = codes "s"; slot = start }; start = start; end = start +ℤ pos 1 }
+
+  is_there : IsPlaced zone floating there
+  is_there = record {
+    start = start;
+    recurrence = None;
+    additions = [];
+    exceptions = [];
+    starts = means;
+    slot = tt;
+    adds = tt;
+    takes = tt;
+    is = refl;
+  }
+
+  is_held : IsInstance (alone there) held
+  is_held = inl (record {
+    master = there;
+    is = refl;
+    starts = record {
+      given = inl refl;
+      in_dates = (from, to);
+      not_excepted = λ c. absurd (none_in_nil start c);
+      not_replaced = λ r. absurd (none_in_nil r.override r.among);
+    };
+    key = refl;
+    ends = (start, inl (refl, refl), refl);
+  })
+
+  only_held : (b : Instance) → IsInstance (alone there) b → held ≡ b
+  only_held b is =
+      let own = master_alone there b refl is in
+      let starts : start ≡ b.start = elim own.starts.given [ inl given ↦ sym given | inr added ↦ absurd (none_in_nil b.start added) ] in
+      let ends : b.start +ℤ pos 1 ≡ b.end = elim own.ends.1 [
+        | inl (none, same) ↦ ap (λ (t : ℤ). t +ℤ pos 1) (sym same) ∙ sym own.ends.2
+        | inr (some, later) ↦ absurd (omega (arith, some))
+      ] in
+      let key : key_at there start ≡ b.key = ap (key_at there) starts ∙ sym own.key in
+      let end : start +ℤ pos 1 ≡ b.end = ap (λ (t : ℤ). t +ℤ pos 1) starts ∙ ends in
+      λ i. record { key = key i; start = starts i; end = end i }
+
+  -- it is all that is asked for
+  asks : AsksFor true zone floating (record { part = part 0; content = content; singles = held ∷ []; series = None })
+  asks = (
+    there,
+    is_there,
+    record {
+      each = All-from_recursion (λ (b : Instance). IsInstance (alone there) b × (IsOfSeries there b → ⊥)) (held ∷ []) ((is_held, λ s. cc), tt);
+      ordered = λ i j d l w. absurd (omega (arith, l, w));
+      all = λ b is apart. (0, lit< tt, only_held b is);
+    },
+    refl,
+  )
+
+-- in a room that goes by UTC it is asked for second 100,
+asks_in_utc : AsksFor true None floating (record { part = part 0; content = content; singles = booked ∷ []; series = None })
+asks_in_utc = asks None (pos 100) (utc_means (pos 100)) (omega (arith, ints)) (omega (arith, ints))
+
+-- and five hours behind for second 18,100
+late_start : Means (Constant (negsuc 17_999)) (pos 100) (pos 18_100)
+late_start = inl (record { shown = (negsuc 17_999, refl, omega (arith, ints)); least = λ other (offset, e, h). omega (arith, ints, e, h) })
+
+abbrev booked_late : Instance
+booked_late = record { key = record { organiser = ann; uid = codes "s"; slot = pos 18_100 }; start = pos 18_100; end = pos 18_101 }
+
+asks_behind : AsksFor true behind.zone floating (record { part = part 0; content = content; singles = booked_late ∷ []; series = None })
+asks_behind = asks behind.zone (pos 18_100) late_start (omega (arith, ints)) (omega (arith, ints))
+
+-- an instance that is named by a floating time is another one in each of them,
+abbrev named : Form → ℤ → EventComponent
+named form instant = record (meeting 0) {
+  recurrence = Some instant;
+  written = record { recurrence = Some (record { form = form; instant = instant }); additions = []; exceptions = [] };
+}
+
+one_in_utc : IsSlotIn None (named Floating (pos 100)) (At (pos 100))
+one_in_utc = (Some (pos 100), utc_means (pos 100), refl)
+
+another_behind : IsSlotIn behind.zone (named Floating (pos 100)) (At (pos 18_100))
+another_behind = (Some (pos 18_100), late_start, refl)
+
+-- by a fixed one it is the same, as in each store
+same_behind : IsSlotIn behind.zone (named Fixed (pos 100)) (At (pos 100))
+same_behind = (Some (pos 100), refl, refl)
+
+-- two events that are for two instances in UTC may be for one there
+one_behind : IsSlotIn behind.zone (named Fixed (pos 18_100)) (At (pos 18_100))
+one_behind = (Some (pos 18_100), refl, refl)
+
+abbrev ending : List ℕ
+ending = written (codes "END:VCALENDAR" ∷ [])
+
+-- its kept calendar says so, where nothing is kept
+nothing_kept : IsKeptCalendar behind.address behind.words empty_book
+    (written (codes "BEGIN:VCALENDAR" ∷ codes "VERSION:2.0" ∷ codes "PRODID:-//iTIP room box//EN" ∷ codes "X-ROOM-ZONE:-0500" ∷ []) ++ ending)
+nothing_kept = record {
+  entries = [];
+  kept = record { by_meeting = []; each = tt; are = refl };
+  few = lit< tt;
+  events = [];
+  each = tt;
+  is = ap (λ text. text ++ ending) (sym (append-nil (written (opening_lines None ++ room_zone_lines behind.words))));
+}
+
+-- and that of a room which goes by UTC says nothing of it
+nothing_kept_in_utc : IsKeptCalendar r1 (codes "+0000") empty_book
+    (written (codes "BEGIN:VCALENDAR" ∷ codes "VERSION:2.0" ∷ codes "PRODID:-//iTIP room box//EN" ∷ []) ++ ending)
+nothing_kept_in_utc = record {
+  entries = [];
+  kept = record { by_meeting = []; each = tt; are = refl };
+  few = lit< tt;
+  events = [];
+  each = tt;
+  is = ap (λ text. text ++ ending) (sym (append-nil (written (opening_lines None ++ room_zone_lines (codes "+0000")))));
+}
 
 -- ---- what is booked
 
@@ -357,7 +531,7 @@ abbrev organiser : List Stored → HostedOrganiser
 organiser stores = record { address = ann; book = record { stores = stores; replies = heard ∷ [] } }
 
 abbrev room : Book → Hosted
-room book = record { address = r1; book = book }
+room book = record { address = r1; words = codes "+0000"; zone = None; book = book }
 
 -- one thing is all that such a list contains
 the_only : {X : Type 0} (x y : X) → Contains (x ∷ []) y → y ≡ x
@@ -396,9 +570,10 @@ module _ (first second : List ℕ) (spells : SpellsMessage first (request 0)) wh
   seen_accepted : IsSeen (organiser (stored first 0 ∷ [])).book (codes "s") Whole r1 (Some Accepted)
   seen_accepted = (stored first 0, refl, refl, (heard, (0, lit< tt, refl), refl, refl))
 
-  -- and that is booked:
-  sees_booked : SeesBooked (organiser (stored first 0 ∷ [])) (room taken) (codes "s") Whole
-  sees_booked = record {
+  -- and that is booked, whatever the zone of the room:
+  sees_booked_in : (words : List ℕ) (zone : Option Zone)
+      → SeesBooked (organiser (stored first 0 ∷ [])) (record { address = r1; words = words; zone = zone; book = taken }) (codes "s") Whole
+  sees_booked_in words zone = record {
     stored = stored first 0;
     last = refl;
     has = record {
@@ -408,17 +583,16 @@ module _ (first second : List ℕ) (spells : SpellsMessage first (request 0)) wh
       of_organiser = refl;
       of_uid = refl;
       parts = part 0 ∷ [];
-      are = record {
-        events = meeting 0 ∷ [];
-        are = record { exact = λ e. (λ c. c, λ c. c); order = λ i j d l w. absurd (omega (arith, l, w)) };
-        each = ((content, first_part), tt);
-      };
+      are = first_parts zone;
       part = part 0;
       among = (0, lit< tt, refl);
       of_slot = refl;
       booked = is_booked;
     };
   }
+
+  sees_booked : SeesBooked (organiser (stored first 0 ∷ [])) (room taken) (codes "s") Whole
+  sees_booked = sees_booked_in (codes "+0000") None
 
   -- the sentence holds of this world, for each meeting and each slot
   seen_is_booked : SeenIsBooked (record { rooms = room taken ∷ []; organisers = organiser (stored first 0 ∷ []) ∷ []; sent = first ∷ [] })
@@ -458,9 +632,9 @@ module _ (first second : List ℕ) (spells : SpellsMessage first (request 0)) wh
   -- of what the room took, it isn't the older that is booked, where these octets say nothing else
   older_not_booked : ((message : Message) → SpellsMessage first message → message ≡ request 0) → HasBooked ann (codes "s") (room taken_later) Whole first → ⊥
   older_not_booked only h =
-      let IsOf : EventComponent → Part → Type 0 = λ event part. (content : Content) × IsPart r1 h.message event content part in
-      let (event, among, (content, is)) = of_part IsOf h.are.events h.parts h.are.each h.part h.among in
-      let own : event ≡ meeting 0 = the_event h.message (only h.message h.spells) event ((h.are.are.exact event).0 among) in
+      let IsOf : EventComponent → Part → Type 0 = λ event part. (content : Content) × IsPart r1 None h.message event content part in
+      let (event, among, (content, is)) = of_part IsOf (parts_for r1 h.message) h.are.all h.are.each h.part (h.are.are.among h.part h.among) in
+      let own : event ≡ meeting 0 = the_event h.message (only h.message h.spells) event among in
       older_sequence h.part (ap (λ (r : Revision). r.sequence) is.revision ∙ raised h.message (only h.message h.spells) event own) h.booked
 
   -- and the sentence doesn't hold of every world: here the organiser sees accepted what the room has given up for a later store, which nobody made

@@ -13,9 +13,10 @@ use Rattle.profile.specs.events.EventComponents.{Accepted, EventComponent, Reque
 use Rattle.profile.specs.events.Events.{is_master}
 use Rattle.profile.specs.events.Messages.{Message}
 use Rattle.profile.specs.organisers.Organisers.{Heard, IsLatestOf, IsSeenOf, Stored, answers_store, is_attendee, is_called_off, last_store}
-use Rattle.profile.specs.rooms.Messages.{Content, IsBody, IsPart, slot_named, slot_of}
+use Rattle.profile.specs.rooms.Messages.{Content, IsBody, IsPart, parts_for, slot_named, slot_of}
 use Rattle.profile.specs.rooms.Revisions.{Absent, Body, Cancelled, Part, Revision, Set, Slot, Whole, body_cmp, implies, in_view, is_cancelled, is_greatest, is_whole, leaves_in_view, part_cmp, revision_cmp, same_place, slot_cmp, stays_beside}
 use Rattle.profile.specs.rooms.Rooms.{Claim, PartAnswer, is_accept, is_set}
+use Rattle.profile.specs.series.Zones.{Zone}
 use Rattle.profile.specs.streams.Schedules.{HasBooked, SeenIsBooked}
 use Rattle.profile.specs.streams.Streams.{Hosted, HostedOrganiser, IsClaim}
 use Rattle.profile.specs.streams.Worlds.{World}
@@ -23,6 +24,7 @@ use Rattle.cal_events.proofs.shared_lemmas.InOneOrder.{in_mapped, of_filtered}
 use Rattle.itip_messages.specs.SentLaw.{request_of}
 use Rattle.itip_order.proofs.Lists.{all_from, any_from}
 use Rattle.itip_order.proofs.Order.{is_eq_true, revision_total, slot_same}
+use Rattle.itip_order.proofs.SlotEnds.{greatest_mapped}
 use Rattle.itip_order.proofs.Registers.{greatest_from, implies_from, part_le_refl}
 use Rattle.room_books.proofs.laws_lemmas.KeptEntries.{meeting_there, place_there}
 use Rattle.sched_laws.proofs.law_lemmas.ClaimFacts.{claim_facts}
@@ -44,23 +46,23 @@ newer_greater a b less = revision_total.antisymm b a ∙ ap ordering_reverse (ol
 -- ---- what a room took of a meeting
 
 -- a part of the last store's REQUEST
-abbrev pub OfLast : (organiser : List ℕ) → Stored → (room : List ℕ) → Part → Type 0
-OfLast organiser stored room part = (claim : Claim) × (claim.part ≡ part) × IsClaimOf organiser stored room claim
+abbrev pub OfLast : (organiser : List ℕ) → Stored → (room : List ℕ) → Option Zone → Part → Type 0
+OfLast organiser stored room zone part = (claim : Claim) × (claim.part ≡ part) × IsClaimOf organiser stored room zone claim
 
 -- or one of a lesser SEQUENCE
-abbrev pub OfLastOrOlder : (organiser : List ℕ) → Stored → (room : List ℕ) → Part → Type 0
-OfLastOrOlder organiser stored room part = OfLast organiser stored room part ⊎ (part.revision.sequence < stored.revision.sequence)
+abbrev pub OfLastOrOlder : (organiser : List ℕ) → Stored → (room : List ℕ) → Option Zone → Part → Type 0
+OfLastOrOlder organiser stored room zone part = OfLast organiser stored room zone part ⊎ (part.revision.sequence < stored.revision.sequence)
 
 -- a CANCEL of the last store isn't for a room that this names
-of_store : (organiser room : List ℕ) (stored other : Stored) (part : Part) → is_called_off stored.events ≡ false → is_attendee room stored.events ≡ true → IsLastOr stored other
-    → OfLast organiser other room part ⊎ IsCancelOf organiser other room part → OfLastOrOlder organiser stored room part
-of_store organiser room stored other part alive named (inl same) (inl (claim, is, of)) =
-    inl (claim, is, subst (λ (s : Stored). IsClaimOf organiser s room claim) same of)
-of_store organiser room stored other part alive named (inl same) (inr cancel) =
+of_store : (organiser room : List ℕ) (zone : Option Zone) (stored other : Stored) (part : Part) → is_called_off stored.events ≡ false → is_attendee room stored.events ≡ true → IsLastOr stored other
+    → OfLast organiser other room zone part ⊎ IsCancelOf organiser other room part → OfLastOrOlder organiser stored room zone part
+of_store organiser room z stored other part alive named (inl same) (inl (claim, is, of)) =
+    inl (claim, is, subst (λ (s : Stored). IsClaimOf organiser s room z claim) same of)
+of_store organiser room z stored other part alive named (inl same) (inr cancel) =
     absurd (true≢false (sym named ∙ subst (λ (s : Stored). is_called_off s.events ≡ false → is_attendee room s.events ≡ false) same cancel.gone alive))
-of_store organiser room stored other part alive named (inr less) (inl (claim, is, of)) =
-    inr (subst (λ (r : Revision). r.sequence < stored.revision.sequence) (sym (claim_facts organiser other room claim of).of_revision ∙ ap (λ (p : Part). p.revision) is) less)
-of_store organiser room stored other part alive named (inr less) (inr cancel) =
+of_store organiser room z stored other part alive named (inr less) (inl (claim, is, of)) =
+    inr (subst (λ (r : Revision). r.sequence < stored.revision.sequence) (sym (claim_facts organiser other room z claim of).of_revision ∙ ap (λ (p : Part). p.revision) is) less)
+of_store organiser room z stored other part alive named (inr less) (inr cancel) =
     inr (subst (λ (p : Part). p.revision.sequence < stored.revision.sequence) (sym cancel.is) less)
 
 -- a Whole of a store that isn't called off isn't cancelled
@@ -70,9 +72,9 @@ no_cancelled room event said content (Set octets) alive same h = refl
 no_cancelled room event said content Absent alive same h = refl
 no_cancelled room event said content Cancelled alive same h = absurd (true≢false (sym h.0 ∙ same ∙ alive))
 
-whole_stays : (organiser room : List ℕ) (stored : Stored) (part : Part) → OfLast organiser stored room part → is_whole part ≡ true → is_cancelled part ≡ false
-whole_stays organiser room stored part (claim, is, of) whole =
-    let f = claim_facts organiser stored room claim of in
+whole_stays : (organiser room : List ℕ) (zone : Option Zone) (stored : Stored) (part : Part) → OfLast organiser stored room zone part → is_whole part ≡ true → is_cancelled part ≡ false
+whole_stays organiser room zone stored part (claim, is, of) whole =
+    let f = claim_facts organiser stored room zone claim of in
     let slot : slot_of f.event ≡ Whole = sym f.of_slot ∙ ap (λ (p : Part). p.slot) is ∙ slot_same part.slot Whole (is_eq_true (slot_cmp part.slot Whole) whole) in
     let master : is_master f.event ≡ true = master_of f.event.recurrence slot in
     let alive : f.event.cancelled ≡ false = false_from_ne_true f.event.cancelled (λ off.
@@ -89,50 +91,50 @@ module _ (laws : Laws) (rooms organisers : List (List ℕ)) (world : World) (sou
     (host : HostedOrganiser) (hosted : Contains world.organisers host) (room : Hosted) (there : Contains world.rooms room)
     (uid : List ℕ) (stored : Stored) (last : last_store uid host.book ≡ Some stored) (named : is_attendee room.address stored.events ≡ true) where
   pub of_meeting : is_called_off stored.events ≡ false → (part : Part) → Contains room.book.taken part → part.organiser ≡ host.address → part.uid ≡ uid
-      → OfLastOrOlder host.address stored room.address part
+      → OfLastOrOlder host.address stored room.address room.zone part
   of_meeting alive part c organiser of =
       let t = sound.taken room there part c in
       let one : t.host ≡ host = one_organiser world.organisers organisers t.host host sound.organisers_are t.hosted hosted (t.address ∙ organiser) in
       let among : Contains host.book.stores t.stored = subst (λ (h : HostedOrganiser). Contains h.book.stores t.stored) one t.among in
-      of_store host.address room.address stored t.stored part alive named
+      of_store host.address room.address room.zone stored t.stored part alive named
       (last_or_less uid host.book stored t.stored (sound.rises host hosted) last among (t.of_uid ∙ of))
-      (subst (λ (o : List ℕ). OfLast o t.stored room.address part ⊎ IsCancelOf o t.stored room.address part) organiser t.holds)
+      (subst (λ (o : List ℕ). OfLast o t.stored room.address room.zone part ⊎ IsCancelOf o t.stored room.address part) organiser t.holds)
 
-  module _ (claim : Claim) (of : IsClaimOf host.address stored room.address claim) (taken : Contains room.book.taken claim.part) where
+  module _ (claim : Claim) (of : IsClaimOf host.address stored room.address room.zone claim) (taken : Contains room.book.taken claim.part) where
     abbrev part : Part
     part = claim.part
 
     organiser_is : part.organiser ≡ host.address
-    organiser_is = (claim_facts host.address stored room.address claim of).of_organiser
+    organiser_is = (claim_facts host.address stored room.address room.zone claim of).of_organiser
 
     uid_is : part.uid ≡ uid
-    uid_is = (claim_facts host.address stored room.address claim of).of_uid ∙ (last_among uid host.book stored last).1
+    uid_is = (claim_facts host.address stored room.address room.zone claim of).of_uid ∙ (last_among uid host.book stored last).1
 
     revision_is : part.revision ≡ stored.revision
-    revision_is = (claim_facts host.address stored room.address claim of).of_revision
+    revision_is = (claim_facts host.address stored room.address room.zone claim of).of_revision
 
     -- a part of this meeting that the room took
-    beside : (other : Part) → Contains room.book.taken other → (other.organiser ≡ part.organiser) × (other.uid ≡ part.uid) → OfLastOrOlder host.address stored room.address other
+    beside : (other : Part) → Contains room.book.taken other → (other.organiser ≡ part.organiser) × (other.uid ≡ part.uid) → OfLastOrOlder host.address stored room.address room.zone other
     beside other c (organiser, of_uid) = of_meeting of.alive other c (organiser ∙ organiser_is) (of_uid ∙ uid_is)
 
     older : (other : Part) → other.revision.sequence < stored.revision.sequence → other.revision.sequence < part.revision.sequence
     older other less = subst (λ (r : Revision). other.revision.sequence < r.sequence) (sym revision_is) less
 
     -- none of its slot is greater
-    none_greater : (other : Part) → same_place other part ≡ true → OfLastOrOlder host.address stored room.address other → is_le (part_cmp other part) ≡ true
+    none_greater : (other : Part) → same_place other part ≡ true → OfLastOrOlder host.address stored room.address room.zone other → is_le (part_cmp other part) ≡ true
     none_greater other place (inl (own, is, d)) =
-        let same : own.part ≡ part = one_of_claims laws host.address stored room.address own claim d of (ap (λ (p : Part). p.slot) is ∙ (place_there other part place).slot) in
+        let same : own.part ≡ part = one_of_claims laws host.address stored room.address room.zone own claim d of (ap (λ (p : Part). p.slot) is ∙ (place_there other part place).slot) in
         subst (λ (p : Part). is_le (part_cmp p part) ≡ true) (sym same ∙ is) (part_le_refl part)
     none_greater other place (inr less) =
         ap (λ o. is_le (ordering_then o (body_cmp other.body part.body))) (older_less other.revision part.revision (older other less))
 
     -- and each Whole leaves it in the view
-    stays : (whole : Part) → is_whole whole ≡ true → OfLastOrOlder host.address stored room.address whole → stays_beside whole part ≡ true
+    stays : (whole : Part) → is_whole whole ≡ true → OfLastOrOlder host.address stored room.address room.zone whole → stays_beside whole part ≡ true
     stays whole is (inl last_of) =
         let revision : whole.revision ≡ part.revision =
-        sym (ap (λ (p : Part). p.revision) last_of.1) ∙ (claim_facts host.address stored room.address last_of.0 last_of.2).of_revision ∙ sym revision_is in
+        sym (ap (λ (p : Part). p.revision) last_of.1) ∙ (claim_facts host.address stored room.address room.zone last_of.0 last_of.2).of_revision ∙ sym revision_is in
         let tied : is_eq (revision_cmp part.revision whole.revision) ≡ true = ap (λ (r : Revision). is_eq (revision_cmp part.revision r)) revision ∙ ap is_eq (tied_itself revision_total part.revision) in
-        or_right _ _ (and_from _ _ tied (ap not (whole_stays host.address room.address stored whole last_of is)))
+        or_right _ _ (and_from _ _ tied (ap not (whole_stays host.address room.address room.zone stored whole last_of is)))
     stays whole is (inr less) = or_left _ _ (ap is_gt (newer_greater whole.revision part.revision (older whole less)))
 
     pub viewed : in_view room.book.taken part ≡ true
@@ -152,7 +154,7 @@ pub record IsBookedFor (organiser : List ℕ) (stored : Stored) (room : Hosted) 
   pub answer : PartAnswer
   pub given : Contains room.book.answers answer
   pub accepted : is_accept answer.outcome ≡ true
-  pub of_store : IsClaimOf organiser stored room.address answer.claim
+  pub of_store : IsClaimOf organiser stored room.address room.zone answer.claim
   pub of_slot : answer.claim.part.slot ≡ slot
   pub set : is_set answer.claim.part ≡ true
   pub viewed : in_view room.book.taken answer.claim.part ≡ true
@@ -214,19 +216,21 @@ module _ (laws : Laws) (rooms organisers : List (List ℕ)) (world : World) (sou
       }
 
 -- the parts of these claims are those of the message
-parts_each : (room : List ℕ) (message : Message) (events : List EventComponent) (claims : List Claim) → AllZip (IsClaim room message) events claims
-    → AllZip (λ event part. (content : Content) × IsPart room message event content part) events (map (λ c. c.part) claims)
-parts_each room message [] [] z = tt
-parts_each room message [] (c ∷ claims) z = absurd z
-parts_each room message (e ∷ events) [] z = absurd z
-parts_each room message (e ∷ events) (c ∷ claims) z = ((c.content, z.0.part), parts_each room message events claims z.1)
+parts_each : (room : List ℕ) (zone : Option Zone) (message : Message) (events : List EventComponent) (claims : List Claim) → AllZip (IsClaim room zone message) events claims
+    → AllZip (λ event part. (content : Content) × IsPart room zone message event content part) events (map (λ c. c.part) claims)
+parts_each room z message [] [] each = tt
+parts_each room z message [] (c ∷ claims) each = absurd each
+parts_each room z message (e ∷ events) [] each = absurd each
+parts_each room z message (e ∷ events) (c ∷ claims) each = ((c.content, each.0.part), parts_each room z message events claims each.1)
+
+abbrev part_of : Claim → Part
+part_of claim = claim.part
 
 has_booked : (organiser uid : List ℕ) (stored : Stored) (room : Hosted) (slot : Slot) → stored.uid ≡ uid → IsBookedFor organiser stored room slot
     → HasBooked organiser uid room slot stored.object
 has_booked organiser uid stored room slot of_uid b =
     let c = b.of_store in
     let message = request_of organiser stored.uid c.sent in
-    let part_of : Claim → Part = λ claim. claim.part in
     record {
       message = message;
       spells = c.spells;
@@ -234,7 +238,11 @@ has_booked organiser uid stored room slot of_uid b =
       of_organiser = refl;
       of_uid = of_uid;
       parts = map part_of c.claims;
-      are = record { events = c.are.events; are = c.are.are; each = parts_each room.address message c.are.events c.claims c.are.each };
+      are = record {
+        all = map part_of c.are.all;
+        each = parts_each room.address room.zone message (parts_for room.address message) c.are.all c.are.each;
+        are = greatest_mapped (λ (part : Part). part) part_of c.are.all c.claims c.are.are;
+      };
       part = b.answer.claim.part;
       among = in_mapped part_of c.claims b.answer.claim c.among;
       of_slot = b.of_slot;

@@ -1,6 +1,6 @@
 -- A delivery keeps the invariant of a world: a room takes what an organiser sent, an organiser hears what a room answered.
 -- Behind schedules_hold.
-use Rattle.std.proofs.Common.{◌≡◌, ◌∙◌, ℕ, ℤ, true, List, [], ◌++◌, map, inl, inr, refl, sym, ap, subst}
+use Rattle.std.proofs.Common.{◌≡◌, ◌∙◌, ℕ, ℤ, true, List, [], ◌++◌, map, Option, inl, inr, refl, sym, ap, subst}
 use Rattle.std.specs.Prelude.{Contains}
 use Rattle.std.proofs.lemmas.Bool.{true≢false}
 use Rattle.std.proofs.lemmas.List.Elements.{Contains-append_cases, Contains-append_right}
@@ -9,6 +9,8 @@ use Rattle.profile.specs.events.Messages.{Message, SpellsMessage, is_of_attendee
 use Rattle.profile.specs.organisers.Organisers.{Heard, OrganiserBook, Stored, after_reply, heard_in, last_store}
 use Rattle.profile.specs.rooms.Revisions.{Part}
 use Rattle.profile.specs.rooms.Rooms.{Claim, Delivery, PartAnswer, answered, asked, is_set, parts_of}
+use Rattle.profile.specs.series.RoomZones.{IsRoomZone}
+use Rattle.profile.specs.series.Zones.{Zone}
 use Rattle.profile.specs.streams.Streams.{Hosted, HostedOrganiser, IsReached, ServesMethod, TakesMessage}
 use Rattle.profile.specs.streams.Worlds.{OrganiserSends, OrganiserTakes, RoomSends, RoomTakes, World}
 use Rattle.cal_events.proofs.shared_lemmas.InOneOrder.{in_mapped, of_mapped}
@@ -24,17 +26,18 @@ use Rattle.sched_laws.proofs.law_lemmas.SentClaims.{IsSentClaim, sent_claim}
 
 -- ---- to a room
 
-part_taken : (organisers : List HostedOrganiser) (room : List ℕ) (claim : Claim) → IsSentClaim organisers room claim → IsTakenPart organisers room claim.part
-part_taken organisers room claim (inl requested) =
+part_taken : (organisers : List HostedOrganiser) (room : List ℕ) (zone : Option Zone) (claim : Claim) → IsSentClaim organisers room zone claim
+    → IsTakenPart organisers room zone claim.part
+part_taken organisers room z claim (inl requested) =
     of_store_too organisers claim.part.organiser claim.part.uid _ _ requested.of_store (λ stored is. inl (claim, refl, is))
-part_taken organisers room claim (inr back) =
+part_taken organisers room z claim (inr back) =
     of_store_too organisers claim.part.organiser claim.part.uid _ _ back.of_store (λ stored is. inr is)
 
 -- what is to take place is of a REQUEST
-set_requested : (organisers : List HostedOrganiser) (room : List ℕ) (claim : Claim) → is_set claim.part ≡ true → IsSentClaim organisers room claim
-    → OfStore organisers claim.part.organiser claim.part.uid (λ stored. IsClaimOf claim.part.organiser stored room claim)
-set_requested organisers room claim set (inl requested) = requested.of_store
-set_requested organisers room claim set (inr back) = absurd (true≢false (sym set ∙ back.unset))
+set_requested : (organisers : List HostedOrganiser) (room : List ℕ) (zone : Option Zone) (claim : Claim) → is_set claim.part ≡ true
+    → IsSentClaim organisers room zone claim → OfStore organisers claim.part.organiser claim.part.uid (λ stored. IsClaimOf claim.part.organiser stored room zone claim)
+set_requested organisers room z claim set (inl requested) = requested.of_store
+set_requested organisers room z claim set (inr back) = absurd (true≢false (sym set ∙ back.unset))
 
 module _ (laws : Laws) (rooms organisers : List (List ℕ)) (octets to : List ℕ) (moment : ℤ) (message : Message) (before after : World)
     (sound : IsSound rooms organisers before) (was_sent : Contains before.sent octets) (spells : SpellsMessage octets message) (r : RoomSends to moment message before after) where
@@ -53,28 +56,32 @@ module _ (laws : Laws) (rooms organisers : List (List ℕ)) (octets to : List �
   grows : RoomGrows old new
   grows = room_takes to moment message r.sent old new r.takes.changes
 
-  takes : TakesMessage new.address moment message old.book new.book r.sent
+  takes : TakesMessage new.address new.zone moment message old.book new.book r.sent
   takes =
       let change = r.takes.changes in
-      subst (λ (room : List ℕ). TakesMessage room moment message old.book new.book r.sent) (sym (change.same ∙ change.address)) change.takes
+      subst (λ (room : Hosted). TakesMessage room.address room.zone moment message old.book new.book r.sent) (sym change.same)
+      (subst (λ (room : List ℕ). TakesMessage room old.zone moment message old.book new.book r.sent) (sym change.address) change.takes)
+
+  in_zone : IsRoomZone new.words new.zone
+  in_zone = subst (λ (room : Hosted). IsRoomZone room.words room.zone) (sym grows.same) (sound.in_zones old hosts.was)
 
   says : SaysSent before octets message
   says = sound.sent octets was_sent message spells
 
-  is_sent_claim : (claim : Claim) → Contains takes.claims claim → IsSentClaim after.organisers new.address claim
+  is_sent_claim : (claim : Claim) → Contains takes.claims claim → IsSentClaim after.organisers new.address new.zone claim
   is_sent_claim claim c =
-      subst (λ (hosts : List HostedOrganiser). IsSentClaim hosts new.address claim) (sym r.others)
-      (sent_claim before octets message new.address takes.claims claim says spells r.takes.changes.for_rooms takes.are c)
+      subst (λ (hosts : List HostedOrganiser). IsSentClaim hosts new.address new.zone claim) (sym r.others)
+      (sent_claim before octets message new.address new.zone takes.claims claim says spells r.takes.changes.for_rooms takes.are c)
 
-  taken_now : (part : Part) → Contains new.book.taken part → IsTakenPart after.organisers new.address part
+  taken_now : (part : Part) → Contains new.book.taken part → IsTakenPart after.organisers new.address new.zone part
   taken_now part c =
       elim (Contains-append_cases old.book.taken (parts_of takes.claims) part (subst (λ (parts : List Part). Contains parts part) takes.step.taken c)) [
         | inl was ↦
             let then = sound.taken old hosts.was part was in
-            still_taken before after grow new.address part (subst (λ (room : List ℕ). IsTakenPart before.organisers room part) (sym grows.address) then)
+            still_taken before after grow new.address new.zone part (subst (λ (room : Hosted). IsTakenPart before.organisers room.address room.zone part) (sym grows.same) then)
         | inr now ↦
             let (claim, among, is) = of_mapped (λ (claim : Claim). claim.part) takes.claims part now in
-            subst (IsTakenPart after.organisers new.address) is (part_taken after.organisers new.address claim (is_sent_claim claim among))
+            subst (IsTakenPart after.organisers new.address new.zone) is (part_taken after.organisers new.address new.zone claim (is_sent_claim claim among))
       ]
 
   given_now : (answer : PartAnswer) → Contains new.book.answers answer → IsGiven after.organisers new answer
@@ -88,7 +95,7 @@ module _ (laws : Laws) (rooms organisers : List (List ℕ)) (octets to : List �
             record {
               set = is.set;
               taken = subst (λ (parts : List Part). Contains parts answer.claim.part) (sym takes.step.taken) (Contains-append_right old.book.taken (parts_of takes.claims) answer.claim.part part);
-              of_store = set_requested after.organisers new.address answer.claim is.set (is_sent_claim answer.claim is.among);
+              of_store = set_requested after.organisers new.address new.zone answer.claim is.set (is_sent_claim answer.claim is.among);
             }
       ]
 
@@ -98,11 +105,11 @@ module _ (laws : Laws) (rooms organisers : List (List ℕ)) (octets to : List �
   stores_now : (host : HostedOrganiser) → Contains after.organisers host → (stored : Stored) → Contains host.book.stores stored → IsStoreOf host.address stored
   stores_now host c = sound.stores host (hosted_before host c)
 
-  reached_now : IsReached new.address new.book
+  reached_now : IsReached new.address new.zone new.book
   reached_now =
       let delivery : Delivery = record { claims = takes.claims; moment = moment } in
-      let was = subst (λ (room : List ℕ). IsReached room old.book) (sym grows.address) (sound.reached old hosts.was) in
-      reached_then new.address old.book delivery takes.outcome new.book was (record { octets = octets; message = message; spells = spells; are = takes.are }) takes.step
+      let was = subst (λ (room : Hosted). IsReached room.address room.zone old.book) (sym grows.same) (sound.reached old hosts.was) in
+      reached_then new.address new.zone old.book delivery takes.outcome new.book was (record { octets = octets; message = message; spells = spells; are = takes.are }) takes.step
 
   -- what holds of the room now, and held of each before, holds of each
   each_room : (P : Hosted → Type 0) → P new → ((room : Hosted) → Contains before.rooms room → P room) → (room : Hosted) → Contains after.rooms room → P room
@@ -110,19 +117,21 @@ module _ (laws : Laws) (rooms organisers : List (List ℕ)) (octets to : List �
 
   pub room_sound : IsSound rooms organisers after
   room_sound = record {
-    rooms_are = same_addresses (λ host. host.address) (RoomTakes to moment message r.sent) before.rooms after.rooms r.takes grows.address ∙ sound.rooms_are;
+    rooms_are = same_addresses (λ host. host.address) (RoomTakes to moment message r.sent) before.rooms after.rooms r.takes
+        (ap (λ (host : Hosted). host.address) grows.same) ∙ sound.rooms_are;
+    in_zones = each_room (λ room. IsRoomZone room.words room.zone) in_zone sound.in_zones;
     organisers_are = ap (map (λ (host : HostedOrganiser). host.address)) r.others ∙ sound.organisers_are;
     stores = stores_now;
     rises = λ host c. sound.rises host (hosted_before host c);
     heard = λ host c heard d. still_heard before after grow host host refl heard refl (sound.heard host (hosted_before host c) heard d);
-    taken = each_room (λ room. (part : Part) → Contains room.book.taken part → IsTakenPart after.organisers room.address part) taken_now
-        (λ room c part d. still_taken before after grow room.address part (sound.taken room c part d));
+    taken = each_room (λ room. (part : Part) → Contains room.book.taken part → IsTakenPart after.organisers room.address room.zone part) taken_now
+        (λ room c part d. still_taken before after grow room.address room.zone part (sound.taken room c part d));
     given = each_room (λ room. (answer : PartAnswer) → Contains room.book.answers answer → IsGiven after.organisers room answer) given_now
         (λ room c answer d. still_given before after grow room room (room_itself room) answer (sound.given room c answer d));
-    reached = each_room (λ room. IsReached room.address room.book) reached_now sound.reached;
+    reached = each_room (λ room. IsReached room.address room.zone room.book) reached_now sound.reached;
     sent = λ text c. elim (Contains-append_cases before.sent r.sent text (subst (λ (all : List (List ℕ)). Contains all text) r.adds c)) [
       | inl was ↦ still_sent before after grow text (sound.sent text was)
-      | inr now ↦ replies_sent laws before after new hosts.is reached_now octets message spells says moment old.book r.sent takes text now
+      | inr now ↦ replies_sent laws before after new hosts.is in_zone reached_now octets message spells says moment old.book r.sent takes text now
     ];
   }
 
@@ -193,11 +202,12 @@ module _ (laws : Laws) (rooms organisers : List (List ℕ)) (octets to : List �
   organiser_sound = record {
     rooms_are = ap (map (λ (host : Hosted). host.address)) s.others ∙ sound.rooms_are;
     organisers_are = same_addresses (λ host. host.address) (OrganiserTakes to moment message s.sent) before.organisers after.organisers s.takes s.takes.changes.same ∙ sound.organisers_are;
+    in_zones = λ room c. sound.in_zones room (room_before room c);
     stores = each_organiser (λ host. (stored : Stored) → Contains host.book.stores stored → IsStoreOf host.address stored) stored_now sound.stores;
     rises = each_organiser (λ host. Rises host.book.stores) rises_now sound.rises;
     heard = each_organiser (λ host. (heard : Heard) → Contains host.book.replies heard → IsHeardBy after host heard) heard_now
         (λ host c heard d. still_heard before after larger host host refl heard refl (sound.heard host c heard d));
-    taken = λ room c part d. still_taken before after larger room.address part (sound.taken room (room_before room c) part d);
+    taken = λ room c part d. still_taken before after larger room.address room.zone part (sound.taken room (room_before room c) part d);
     given = λ room c answer d. still_given before after larger room room (room_itself room) answer (sound.given room (room_before room c) answer d);
     reached = λ room c. sound.reached room (room_before room c);
     sent = λ text c.

@@ -1,7 +1,7 @@
 -- A world grows: no step takes away a host, what a room took or answered, or what an organiser stored. So what was said of sent messages, of what
 -- rooms took and of what organisers heard stays so.
 -- Behind schedules_hold.
-use Rattle.std.proofs.Common.{◌≡◌, ◌≢◌, ◌∙◌, ℕ, ℤ, not, List, [], ◌∷◌, ◌++◌, map, filter, inl, inr, refl, sym, ap, subst, arith, ◌⊎◌}
+use Rattle.std.proofs.Common.{◌≡◌, ◌≢◌, ◌∙◌, ℕ, ℤ, not, List, [], ◌∷◌, ◌++◌, map, filter, Option, inl, inr, refl, sym, ap, subst, arith, ◌⊎◌}
 use Rattle.std.specs.Prelude.{AllPairs, Contains}
 use Rattle.std.specs.Str.{bytes_eq}
 use Rattle.std.proofs.lemmas.Bool.{true≢false}
@@ -15,6 +15,7 @@ use Rattle.profile.specs.organisers.Organisers.{Heard, OrganiserBook, Stored, la
 use Rattle.profile.specs.rooms.Kept.{each_once}
 use Rattle.profile.specs.rooms.Revisions.{Part}
 use Rattle.profile.specs.rooms.Rooms.{PartAnswer, answered, asked, parts_of}
+use Rattle.profile.specs.series.Zones.{Zone}
 use Rattle.profile.specs.streams.Streams.{Hosted, HostedOrganiser, ServesMethod}
 use Rattle.profile.specs.streams.Worlds.{World, ChangesOne, OrganiserSends, OrganiserTakes, RoomSends, RoomTakes}
 use Rattle.cal_events.proofs.shared_lemmas.InOneOrder.{cons_pairs, head_pairs, tail_pairs, mapped_pairs, of_filtered}
@@ -23,7 +24,7 @@ use Rattle.itip_messages.specs.Law.{answer_heard}
 use Rattle.sched_laws.proofs.law_lemmas.Invariant.{OfStore, IsTakenPart, IsGiven, IsClaimOf, IsRequestOf, IsCancelMessage, IsAnswerHeard, SaysSent, a_request, a_cancel, a_reply, IsSentIn, HasAccepted, IsHeardBy}
 
 pub record RoomGrows (old new : Hosted) : Type 0 where
-  pub address : new.address ≡ old.address
+  pub same : new ≡ record old { book = new.book }
   pub taken : (part : Part) → Contains old.book.taken part → Contains new.book.taken part
   pub answers : (answer : PartAnswer) → Contains old.book.answers answer → Contains new.book.answers answer
 
@@ -160,7 +161,7 @@ module _ {Host : Type 0} where
 -- ---- each step grows a world
 
 pub room_itself : (host : Hosted) → RoomGrows host host
-room_itself host = record { address = refl; taken = λ part c. c; answers = λ answer c. c }
+room_itself host = record { same = refl; taken = λ part c. c; answers = λ answer c. c }
 
 pub organiser_itself : (host : HostedOrganiser) → OrganiserGrows host host
 organiser_itself host = record { address = refl; stores = λ stored c. c }
@@ -170,7 +171,7 @@ pub room_takes : (to : List ℕ) (moment : ℤ) (message : Message) (sent : List
 room_takes to moment message sent old new t =
     let step = t.takes.step in
     record {
-      address = t.same;
+      same = t.same;
       taken = λ part c.
           subst (λ (parts : List Part). Contains parts part) (sym step.taken)
           (Contains-append_left old.book.taken (parts_of t.takes.claims) part c);
@@ -238,17 +239,17 @@ still_of_store before after grow organiser uid Holds o =
     }
 
 module _ (before after : World) (grow : WorldGrows before after) where
-  pub still_taken : (room : List ℕ) (part : Part) → IsTakenPart before.organisers room part → IsTakenPart after.organisers room part
-  still_taken room part t = still_of_store before.organisers after.organisers grow.organisers part.organiser part.uid _ t
+  pub still_taken : (room : List ℕ) (zone : Option Zone) (part : Part) → IsTakenPart before.organisers room zone part → IsTakenPart after.organisers room zone part
+  still_taken room z part t = still_of_store before.organisers after.organisers grow.organisers part.organiser part.uid _ t
 
   pub still_given : (old new : Hosted) → RoomGrows old new → (answer : PartAnswer) → IsGiven before.organisers old answer → IsGiven after.organisers new answer
   still_given old new grows answer g =
-      let Claimed : List ℕ → Stored → Type 0 = λ room stored. IsClaimOf answer.claim.part.organiser stored room answer.claim in
+      let Claimed : Hosted → Stored → Type 0 = λ room stored. IsClaimOf answer.claim.part.organiser stored room.address room.zone answer.claim in
       record {
         set = g.set;
         taken = grows.taken answer.claim.part g.taken;
-        of_store = still_of_store before.organisers after.organisers grow.organisers answer.claim.part.organiser answer.claim.part.uid (Claimed new.address)
-            (subst (λ (room : List ℕ). OfStore before.organisers answer.claim.part.organiser answer.claim.part.uid (Claimed room)) (sym grows.address) g.of_store);
+        of_store = still_of_store before.organisers after.organisers grow.organisers answer.claim.part.organiser answer.claim.part.uid (Claimed new)
+            (subst (λ (room : Hosted). OfStore before.organisers answer.claim.part.organiser answer.claim.part.uid (Claimed room)) (sym grows.same) g.of_store);
       }
 
   -- ---- sent messages
@@ -263,7 +264,7 @@ module _ (before after : World) (grow : WorldGrows before after) where
         given = grows.answers a.answer a.given;
         of_organiser = a.of_organiser;
         of_uid = a.of_uid;
-        is = a.is ∙ ap (λ (address : List ℕ). answer_heard address a.answer.claim.part a.answer.moment a.answer.outcome) (sym grows.address);
+        is = a.is ∙ ap (λ (host : Hosted). answer_heard host.address a.answer.claim.part a.answer.moment a.answer.outcome) (sym grows.same);
       }
 
   pub still_says : (octets : List ℕ) (message : Message) → SaysSent before octets message → SaysSent after octets message
@@ -286,7 +287,7 @@ module _ (before after : World) (grow : WorldGrows before after) where
     given = grows.answers a.answer a.given;
     of_slot = a.of_slot;
     accepted = a.accepted;
-    of_store = subst (λ (room : List ℕ). IsClaimOf organiser stored room a.answer.claim) (sym grows.address) a.of_store;
+    of_store = subst (λ (room : Hosted). IsClaimOf organiser stored room.address room.zone a.answer.claim) (sym grows.same) a.of_store;
   }
 
   -- by an organiser of that address, where the last store of that meeting is as before
@@ -298,7 +299,7 @@ module _ (before after : World) (grow : WorldGrows before after) where
     sent = h.sent;
     accepted = λ sequence room hosted attendee answer.
         let (was, there, grows) = grow.rooms.from room hosted in
-        let accepted = h.accepted sequence was there (sym grows.address ∙ attendee) answer in
+        let accepted = h.accepted sequence was there (sym (ap (λ (host : Hosted). host.address) grows.same) ∙ attendee) answer in
         subst (λ (organiser : List ℕ). HasAccepted organiser h.stored room heard) (sym address)
         (still_accepted old.address h.stored heard was room grows accepted);
   }

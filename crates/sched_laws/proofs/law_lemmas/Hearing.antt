@@ -70,17 +70,17 @@ accept_said SinglesLimit says = cc
 module _ (rooms organisers : List (List ℕ)) (world : World) (sound : IsSound rooms organisers world) (host : HostedOrganiser) (hosted : Contains world.organisers host)
     (uid : List ℕ) (last : Stored) (is_last : last_store uid host.book ≡ Some last) (heard : Heard) (a : IsAnswerHeard world host.address uid heard) where
   -- the store that the answer is to
-  claimed_of_last : heard.revision.sequence ≡ last.revision.sequence → IsClaimOf host.address last a.room.address a.answer.claim
+  claimed_of_last : heard.revision.sequence ≡ last.revision.sequence → IsClaimOf host.address last a.room.address a.room.zone a.answer.claim
   claimed_of_last sequence =
       let part = a.answer.claim.part in
       let given = sound.given a.room a.hosted a.answer a.given in
       let o = given.of_store in
-      let facts = claim_facts part.organiser o.stored a.room.address a.answer.claim o.holds in
+      let facts = claim_facts part.organiser o.stored a.room.address a.room.zone a.answer.claim o.holds in
       let same_host : o.host ≡ host = one_organiser world.organisers organisers o.host host sound.organisers_are o.hosted hosted (o.address ∙ a.of_organiser) in
       let among = subst (λ (h : HostedOrganiser). Contains h.book.stores o.stored) same_host o.among in
-      let of_last = subst (λ (organiser : List ℕ). IsClaimOf organiser o.stored a.room.address a.answer.claim) a.of_organiser o.holds in
+      let of_last = subst (λ (organiser : List ℕ). IsClaimOf organiser o.stored a.room.address a.room.zone a.answer.claim) a.of_organiser o.holds in
       elim (last_or_less uid host.book last o.stored (sound.rises host hosted) is_last among (o.of_uid ∙ a.of_uid)) [
-        | inl same ↦ subst (λ (stored : Stored). IsClaimOf host.address stored a.room.address a.answer.claim) same of_last
+        | inl same ↦ subst (λ (stored : Stored). IsClaimOf host.address stored a.room.address a.room.zone a.answer.claim) same of_last
         | inr less ↦
             let equal = ap (λ (r : Revision). r.sequence) (sym facts.of_revision) ∙ sym (ap (λ (h : Heard). h.revision.sequence) a.is) ∙ sequence in
             absurd (omega (arith, less, equal))
@@ -95,5 +95,5 @@ module _ (rooms organisers : List (List ℕ)) (world : World) (sound : IsSound r
         given = subst (λ (r : Hosted). Contains r.book.answers a.answer) same a.given;
         of_slot = sym (ap (λ (h : Heard). h.slot) a.is);
         accepted = accept_said a.answer.outcome (sym (ap (λ (h : Heard). h.answer) a.is) ∙ accepted);
-        of_store = subst (λ (r : Hosted). IsClaimOf host.address last r.address a.answer.claim) same (claimed_of_last sequence);
+        of_store = subst (λ (r : Hosted). IsClaimOf host.address last r.address r.zone a.answer.claim) same (claimed_of_last sequence);
       }

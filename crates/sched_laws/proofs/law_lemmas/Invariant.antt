@@ -1,14 +1,18 @@
 -- The invariant of a world: what each sent message says, what each room took and answered, and what each organiser heard. It speaks of the
 -- world alone, and not of how the world came about.
 -- Behind schedules_hold.
-use Rattle.std.specs.Prelude.{◌≡◌, ◌⊎◌, ℕ, ◌<◌, ◌≤◌, ◌^◌, Bool, false, true, List, ◌∷◌, map, Contains, AllPairs, Some}
+use Rattle.std.specs.Prelude.{◌≡◌, ◌⊎◌, ℕ, ◌<◌, ◌≤◌, ◌^◌, Bool, false, true, List, ◌∷◌, map, Contains, AllPairs, Option, Some, option_map}
 use Rattle.std.specs.List.{AllZip}
 use Rattle.profile.specs.events.EventComponents.{EventComponent, Accepted, Request, Reply, Store}
 use Rattle.profile.specs.events.Messages.{Message, SpellsMessage}
+use Rattle.profile.specs.events.Occurrences.{Time}
+use Rattle.profile.specs.events.Properties.{Fixed}
 use Rattle.profile.specs.organisers.Organisers.{Heard, Stored, heard_in, is_attendee, is_called_off, last_store}
 use Rattle.profile.specs.rooms.Kept.{each_once}
 use Rattle.profile.specs.rooms.Revisions.{Part}
 use Rattle.profile.specs.rooms.Rooms.{Claim, PartAnswer, is_accept, is_set}
+use Rattle.profile.specs.series.RoomZones.{IsRoomZone}
+use Rattle.profile.specs.series.Zones.{Zone}
 use Rattle.profile.specs.streams.Streams.{AreClaims, Hosted, HostedOrganiser, IsReached}
 use Rattle.profile.specs.streams.Worlds.{World}
 use Rattle.itip_messages.specs.Law.{answer_heard}
@@ -27,14 +31,23 @@ pub record IsStoreOf (organiser : List ℕ) (stored : Stored) : Type 0 where
   pub events : stored.events ≡ said.events
   pub small : stored.revision.sequence < 2 ^ 31
 
--- what was made of the store is its REQUEST, and the claim is one that this has for the room
-pub record IsClaimOf (organiser : List ℕ) (stored : Stored) (room : List ℕ) (claim : Claim) : Type 0 where
+-- it names the instance that it is for by a fixed time, so that it is for the same one in each room; or it is for the whole meeting
+pub record IsNamedFixed (event : EventComponent) : Type 0 where
+  pub is : event.recurrence ≡ option_map (λ time. time.instant) event.written.recurrence
+  pub fixed : (time : Time) → event.written.recurrence ≡ Some time → time.form ≡ Fixed
+
+abbrev pub AreNamedFixed : List EventComponent → Type 0
+AreNamedFixed events = (event : EventComponent) → Contains events event → IsNamedFixed event
+
+-- what was made of the store is its REQUEST, and the claim is one that this has for the room of this address and zone
+pub record IsClaimOf (organiser : List ℕ) (stored : Stored) (room : List ℕ) (zone : Option Zone) (claim : Claim) : Type 0 where
   pub alive : is_called_off stored.events ≡ false
+  pub fixed : AreNamedFixed stored.events
   pub sent : List EventComponent
   pub each : AllZip (IsSentAs stored.revision) stored.events sent
   pub spells : SpellsMessage stored.object (request_of organiser stored.uid sent)
   pub claims : List Claim
-  pub are : AreClaims room (request_of organiser stored.uid sent) claims
+  pub are : AreClaims room zone (request_of organiser stored.uid sent) claims
   pub among : Contains claims claim
 
 -- the part is that of the store's CANCEL, for a room that no event of it names, unless all is called off
@@ -53,23 +66,24 @@ pub record OfStore (organisers : List HostedOrganiser) (organiser uid : List ℕ
   pub holds : Holds stored
 
 -- a room took the part from a REQUEST or a CANCEL of a store
-abbrev pub IsTakenPart : List HostedOrganiser → List ℕ → Part → Type 0
-IsTakenPart organisers room part =
+abbrev pub IsTakenPart : List HostedOrganiser → List ℕ → Option Zone → Part → Type 0
+IsTakenPart organisers room zone part =
     OfStore organisers part.organiser part.uid
-    (λ stored. ((claim : Claim) × (claim.part ≡ part) × IsClaimOf part.organiser stored room claim) ⊎ IsCancelOf part.organiser stored room part)
+    (λ stored. ((claim : Claim) × (claim.part ≡ part) × IsClaimOf part.organiser stored room zone claim) ⊎ IsCancelOf part.organiser stored room part)
 
 -- a room's answer is to a part that it took, which is to take place, of a REQUEST
 pub record IsGiven (organisers : List HostedOrganiser) (room : Hosted) (answer : PartAnswer) : Type 0 where
   pub set : is_set answer.claim.part ≡ true
   pub taken : Contains room.book.taken answer.claim.part
   pub of_store : OfStore organisers answer.claim.part.organiser answer.claim.part.uid
-      (λ stored. IsClaimOf answer.claim.part.organiser stored room.address answer.claim)
+      (λ stored. IsClaimOf answer.claim.part.organiser stored room.address room.zone answer.claim)
 
 -- ---- what sent messages say
 
 -- the octets are what was made of a store, which isn't called off, and say its events again
 pub record IsRequestOf (octets : List ℕ) (message : Message) (stored : Stored) : Type 0 where
   pub alive : is_called_off stored.events ≡ false
+  pub fixed : AreNamedFixed stored.events
   pub object : stored.object ≡ octets
   pub each : AllZip (IsSentAs stored.revision) stored.events message.events
 
@@ -110,7 +124,7 @@ pub record HasAccepted (organiser : List ℕ) (stored : Stored) (room : Hosted) 
   pub given : Contains room.book.answers answer
   pub of_slot : answer.claim.part.slot ≡ heard.slot
   pub accepted : is_accept answer.outcome ≡ true
-  pub of_store : IsClaimOf organiser stored room.address answer.claim
+  pub of_store : IsClaimOf organiser stored room.address room.zone answer.claim
 
 -- a reply that an organiser took is to a meeting that it stored, of no later SEQUENCE; and one to the last store of it, in which a hosted room
 -- accepts, is so
@@ -129,11 +143,12 @@ Rises stores = AllPairs (λ later earlier. later.uid ≡ earlier.uid → earlier
 
 pub record IsSound (rooms organisers : List (List ℕ)) (world : World) : Type 0 where
   pub rooms_are : map (λ host. host.address) world.rooms ≡ each_once rooms
+  pub in_zones : (room : Hosted) → Contains world.rooms room → IsRoomZone room.words room.zone
   pub organisers_are : map (λ host. host.address) world.organisers ≡ each_once organisers
   pub stores : (host : HostedOrganiser) → Contains world.organisers host → (stored : Stored) → Contains host.book.stores stored → IsStoreOf host.address stored
   pub rises : (host : HostedOrganiser) → Contains world.organisers host → Rises host.book.stores
   pub heard : (host : HostedOrganiser) → Contains world.organisers host → (heard : Heard) → Contains host.book.replies heard → IsHeardBy world host heard
-  pub taken : (room : Hosted) → Contains world.rooms room → (part : Part) → Contains room.book.taken part → IsTakenPart world.organisers room.address part
+  pub taken : (room : Hosted) → Contains world.rooms room → (part : Part) → Contains room.book.taken part → IsTakenPart world.organisers room.address room.zone part
   pub given : (room : Hosted) → Contains world.rooms room → (answer : PartAnswer) → Contains room.book.answers answer → IsGiven world.organisers room answer
-  pub reached : (room : Hosted) → Contains world.rooms room → IsReached room.address room.book
+  pub reached : (room : Hosted) → Contains world.rooms room → IsReached room.address room.zone room.book
   pub sent : (octets : List ℕ) → Contains world.sent octets → IsSentIn world octets

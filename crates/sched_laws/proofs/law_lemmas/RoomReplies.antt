@@ -12,6 +12,7 @@ use Rattle.profile.specs.rooms.Kept.{Refreshes, Replies}
 use Rattle.profile.specs.rooms.Messages.{is_add}
 use Rattle.profile.specs.rooms.Revisions.{Part}
 use Rattle.profile.specs.rooms.Rooms.{Book, Claim, shown, wants_whole}
+use Rattle.profile.specs.series.RoomZones.{IsRoomZone}
 use Rattle.profile.specs.streams.Streams.{AreClaims, Hosted, IsReached, TakesMessage}
 use Rattle.profile.specs.streams.Worlds.{World}
 use Rattle.profile.specs.text.Lines.{is_too_long}
@@ -46,11 +47,11 @@ module _ (world : World) (host : Hosted) (hosted : Contains world.rooms host) wh
         is = is ∙ ap (λ (p : Part). answer_heard host.address p answer.moment answer.outcome) (sym equal);
       }
 
-  reply_sent : Laws → IsReached host.address host.book → (read octets : List ℕ) (message : Message) (claims : List Claim) → SpellsMessage read message
-      → AreClaims host.address message claims → Replies host.address host.book claims (Some octets) → IsSentIn world octets
-  reply_sent laws reached read octets message claims spells are replies said spells_said =
-      let texts = laws.texts host.address host.book reached in
-      let r = laws.reply read message host.address host.book claims octets spells are texts replies (not_too_long octets said spells_said) in
+  reply_sent : Laws → IsRoomZone host.words host.zone → IsReached host.address host.zone host.book → (read octets : List ℕ) (message : Message) (claims : List Claim) → SpellsMessage read message
+      → AreClaims host.address host.zone message claims → Replies host.address host.book claims (Some octets) → IsSentIn world octets
+  reply_sent laws named reached read octets message claims spells are replies said spells_said =
+      let texts = laws.texts host.address host.zone host.book reached in
+      let r = laws.reply read message host.address host.words host.zone host.book claims octets spells named are texts replies (not_too_long octets said spells_said) in
       let reply : Message = record { method = Reply; organiser = r.organiser; uid = r.uid; events = r.events } in
       let same : reply ≡ said = laws.one_message octets reply said r.spells spells_said in
       subst (SaysSent world octets) same (a_reply refl (heard_answer (shown host.book.taken claims) octets r))
@@ -70,15 +71,16 @@ in_option : (o : Option (List ℕ)) (octets : List ℕ) → Contains (option_to_
 in_option None octets c = absurd (none_in_nil octets c)
 in_option (Some first) octets c = elim (in_cons first [] octets c) [ inl same ↦ ap Some same | inr none ↦ absurd (none_in_nil octets none) ]
 
-pub replies_sent : Laws → (before after : World) (host : Hosted) → Contains after.rooms host → IsReached host.address host.book → (read : List ℕ) (message : Message)
-    → SpellsMessage read message → SaysSent before read message → (moment : ℤ) (old : Book) (sent : List (List ℕ)) → TakesMessage host.address moment message old host.book sent
+pub replies_sent : Laws → (before after : World) (host : Hosted) → Contains after.rooms host → IsRoomZone host.words host.zone → IsReached host.address host.zone host.book
+    → (read : List ℕ) (message : Message)
+    → SpellsMessage read message → SaysSent before read message → (moment : ℤ) (old : Book) (sent : List (List ℕ)) → TakesMessage host.address host.zone moment message old host.book sent
     → (octets : List ℕ) → Contains sent octets → IsSentIn after octets
-replies_sent laws before after host hosted reached read message spells says moment old sent t octets c =
+replies_sent laws before after host hosted named reached read message spells says moment old sent t octets c =
     let among = subst (λ (all : List (List ℕ)). Contains all octets) t.is c in
     elim (Contains-append_cases (option_to_list t.reply) (option_to_list t.refresh) octets among) [
       | inl reply ↦
           let replies = subst (Replies host.address host.book t.claims) (in_option t.reply octets reply) t.replies in
-          reply_sent after host hosted laws reached read octets message t.claims spells t.are replies
+          reply_sent after host hosted laws named reached read octets message t.claims spells t.are replies
       | inr refresh ↦
           let adds = no_add before read message says in
           let refreshes = subst (Refreshes host.address (is_add message.method) old.taken host.book.taken t.claims moment) (in_option t.refresh octets refresh) t.refreshes in

@@ -1,6 +1,6 @@
 -- What a message that was sent claims of a room: a REQUEST what its store has for the room, a CANCEL that the whole meeting is cancelled.
 -- Behind schedules_hold.
-use Rattle.std.proofs.Common.{◌≡◌, ◌∙◌, ℕ, Bool, true, false, cond, List, [], ◌∷◌, filter, inl, inr, ◌⊎◌, refl, sym, ap, subst, arith}
+use Rattle.std.proofs.Common.{◌≡◌, ◌∙◌, ℕ, Bool, true, false, cond, List, [], ◌∷◌, filter, Option, None, Some, ℤ, inl, inr, ◌⊎◌, refl, sym, ap, subst, arith}
 use Rattle.std.specs.Prelude.{Contains}
 use Rattle.std.specs.Cmp.{unsigned_Decides}
 use Rattle.std.specs.Str.{bytes_eq}
@@ -9,10 +9,13 @@ use Rattle.std.proofs.lemmas.Option.{same_Some}
 use Rattle.std.proofs.lemmas.Slice.Eq.{bytes_eq-Decides}
 use Rattle.profile.specs.events.EventComponents.{Attendee, Cancel, EventComponent, Request}
 use Rattle.profile.specs.events.Messages.{Message, SpellsMessage, is_to_rooms}
-use Rattle.profile.specs.rooms.Messages.{Content, IsBody, IsPart, is_addressed, is_part_for, names_room, parts_for}
+use Rattle.profile.specs.events.Placed.{IsAt}
+use Rattle.profile.specs.events.Properties.{BothOrNeither}
+use Rattle.profile.specs.rooms.Messages.{Content, IsBody, IsPart, IsSlotIn, is_addressed, is_part_for, names_room, parts_for, slot_named}
 use Rattle.profile.specs.rooms.Revisions as revisions
-use Rattle.profile.specs.rooms.Revisions.{Body, Part, Revision}
+use Rattle.profile.specs.rooms.Revisions.{Body, Part, Revision, Slot}
 use Rattle.profile.specs.rooms.Rooms.{Claim, is_set}
+use Rattle.profile.specs.series.Zones.{Zone}
 use Rattle.profile.specs.streams.Streams.{AreClaims, HostedOrganiser, IsClaim}
 use Rattle.profile.specs.streams.Worlds.{World}
 use Rattle.cal_events.proofs.shared_lemmas.InOneOrder.{none_in, of_filtered, of_mapped}
@@ -24,34 +27,35 @@ use Rattle.sched_laws.proofs.law_lemmas.ClaimFacts.{claim_facts}
 use Rattle.sched_laws.proofs.law_lemmas.Invariant.{IsCancelMessage, IsCancelOf, IsClaimOf, IsRequestOf, OfStore, SaysSent, a_cancel, a_reply, a_request}
 
 -- the claim is of a store: of its REQUEST, or of its CANCEL, which asks for nothing
-pub record IsRequested (organisers : List HostedOrganiser) (room : List ℕ) (claim : Claim) : Type 0 where
-  pub of_store : OfStore organisers claim.part.organiser claim.part.uid (λ stored. IsClaimOf claim.part.organiser stored room claim)
+pub record IsRequested (organisers : List HostedOrganiser) (room : List ℕ) (zone : Option Zone) (claim : Claim) : Type 0 where
+  pub of_store : OfStore organisers claim.part.organiser claim.part.uid (λ stored. IsClaimOf claim.part.organiser stored room zone claim)
 
 pub record IsTakenBack (organisers : List HostedOrganiser) (room : List ℕ) (claim : Claim) : Type 0 where
   pub unset : is_set claim.part ≡ false
   pub of_store : OfStore organisers claim.part.organiser claim.part.uid (λ stored. IsCancelOf claim.part.organiser stored room claim.part)
 
-abbrev pub IsSentClaim : List HostedOrganiser → List ℕ → Claim → Type 0
-IsSentClaim organisers room claim = IsRequested organisers room claim ⊎ IsTakenBack organisers room claim
+abbrev pub IsSentClaim : List HostedOrganiser → List ℕ → Option Zone → Claim → Type 0
+IsSentClaim organisers room zone claim = IsRequested organisers room zone claim ⊎ IsTakenBack organisers room claim
 
 -- ---- of a REQUEST
 
-request_claim : (organisers : List HostedOrganiser) (octets : List ℕ) (message : Message) (room : List ℕ) (claims : List Claim) (claim : Claim) → message.method ≡ Request
-    → OfStore organisers message.organiser message.uid (IsRequestOf octets message) → SpellsMessage octets message → AreClaims room message claims → Contains claims claim
-    → IsRequested organisers room claim
-request_claim organisers octets message room claims claim request o spells are among =
+request_claim : (organisers : List HostedOrganiser) (octets : List ℕ) (message : Message) (room : List ℕ) (zone : Option Zone) (claims : List Claim) (claim : Claim) → message.method ≡ Request
+    → OfStore organisers message.organiser message.uid (IsRequestOf octets message) → SpellsMessage octets message → AreClaims room zone message claims → Contains claims claim
+    → IsRequested organisers room zone claim
+request_claim organisers octets message room zone claims claim request o spells are among =
     let said = request_of message.organiser o.stored.uid message.events in
     let is : message ≡ said = λ i. record { method = request i; organiser = message.organiser; uid = sym o.of_uid i; events = message.events } in
-    let claimed : IsClaimOf message.organiser o.stored room claim = record {
+    let claimed : IsClaimOf message.organiser o.stored room zone claim = record {
       alive = o.holds.alive;
+      fixed = o.holds.fixed;
       sent = message.events;
       each = o.holds.each;
       spells = subst (λ (text : List ℕ). SpellsMessage text said) (sym o.holds.object) (subst (SpellsMessage octets) is spells);
       claims = claims;
-      are = subst (λ (m : Message). AreClaims room m claims) is are;
+      are = subst (λ (m : Message). AreClaims room zone m claims) is are;
       among = among;
     } in
-    let facts = claim_facts message.organiser o.stored room claim claimed in
+    let facts = claim_facts message.organiser o.stored room zone claim claimed in
     record {
       of_store = record {
         host = o.host;
@@ -60,7 +64,7 @@ request_claim organisers octets message room claims claim request o spells are a
         stored = o.stored;
         among = o.among;
         of_uid = sym facts.of_uid;
-        holds = subst (λ (organiser : List ℕ). IsClaimOf organiser o.stored room claim) (sym facts.of_organiser) claimed;
+        holds = subst (λ (organiser : List ℕ). IsClaimOf organiser o.stored room zone claim) (sym facts.of_organiser) claimed;
       };
     }
 
@@ -78,7 +82,7 @@ cancelled_body room event content (revisions.Set octets) b = absurd (true≢fals
 cancelled_body room event content revisions.Absent b = absurd (true≢false b.0)
 cancelled_body room event content revisions.Cancelled b = refl
 
-module _ (organiser uid : List ℕ) (revision : Revision) (called_off : Bool) (first : List ℕ) (more : List (List ℕ)) (room : List ℕ) where
+module _ (organiser uid : List ℕ) (revision : Revision) (called_off : Bool) (first : List ℕ) (more : List (List ℕ)) (room : List ℕ) (zone : Option Zone) where
   abbrev event : EventComponent
   event = cancel_event organiser uid revision called_off (first ∷ more)
 
@@ -96,30 +100,40 @@ module _ (organiser uid : List ℕ) (revision : Revision) (called_off : Bool) (f
     | inr empty ↦ let none = (unsigned_Decides _ 0).0 empty in absurd (omega (arith, none))
   ]
 
-  cancel_says : (content : Content) (part : Part) → IsPart room (cancel_message organiser uid revision called_off (first ∷ more)) event content part → part ≡ cancel_part organiser uid revision
+  -- it is for the whole meeting, in whatever room
+  cancels_whole : (slot : Slot) → IsSlotIn zone event slot → slot ≡ revisions.Whole
+  cancels_whole slot (instant, both, is) = by instant both is
+    where
+      by : (instant : Option ℤ) → BothOrNeither (IsAt zone) event.written.recurrence instant → slot ≡ slot_named instant → slot ≡ revisions.Whole
+      by None both is = is
+      by (Some t) both is = absurd both
+
+  cancel_says : (content : Content) (part : Part) → IsPart room zone (cancel_message organiser uid revision called_off (first ∷ more)) event content part
+      → part ≡ cancel_part organiser uid revision
   cancel_says content part is =
       let of_organiser = same_Some organiser part.organiser is.organiser in
       let of_revision = is.revision ∙ later_same revision in
       let body = cancelled_body room event content part.body is.body in
-      λ i. record { organiser = sym of_organiser i; uid = is.uid i; slot = is.slot i; revision = of_revision i; body = body i }
+      let whole = cancels_whole part.slot is.slot in
+      λ i. record { organiser = sym of_organiser i; uid = is.uid i; slot = whole i; revision = of_revision i; body = body i }
 
-  cancel_claim : (claims : List Claim) (claim : Claim) → AreClaims room (cancel_message organiser uid revision called_off (first ∷ more)) claims → Contains claims claim
+  cancel_claim : (claims : List Claim) (claim : Claim) → AreClaims room zone (cancel_message organiser uid revision called_off (first ∷ more)) claims → Contains claims claim
       → (claim.part ≡ cancel_part organiser uid revision) × Contains (first ∷ more) room
   cancel_claim claims claim are among =
       let message = cancel_message organiser uid revision called_off (first ∷ more) in
-      let (said, there, is) = zip_from (IsClaim room message) are.events claims claim are.each among in
-      let (here, is_part) = part_for room message said ((are.are.exact said).0 there) in
+      let (said, there, is) = zip_from (IsClaim room zone message) (parts_for room message) are.all claim are.each (are.are.among claim among) in
+      let (here, is_part) = part_for room message said there in
       let same : said ≡ event = elim (in_cons event [] said here) [ inl same ↦ sym same | inr none ↦ absurd (none_in_nil said none) ] in (
-        cancel_says claim.content claim.part (subst (λ (e : EventComponent). IsPart room message e claim.content claim.part) same is.part),
+        cancel_says claim.content claim.part (subst (λ (e : EventComponent). IsPart room zone message e claim.content claim.part) same is.part),
         cancel_for (subst (λ (e : EventComponent). is_part_for room Cancel e ≡ true) same is_part),
       )
 
-taken_back : (organisers : List HostedOrganiser) (message : Message) (room : List ℕ) (claims : List Claim) (claim : Claim)
-    → OfStore organisers message.organiser message.uid (IsCancelMessage message) → AreClaims room message claims → Contains claims claim → IsTakenBack organisers room claim
-taken_back organisers message room claims claim o are among =
+taken_back : (organisers : List HostedOrganiser) (message : Message) (room : List ℕ) (zone : Option Zone) (claims : List Claim) (claim : Claim)
+    → OfStore organisers message.organiser message.uid (IsCancelMessage message) → AreClaims room zone message claims → Contains claims claim → IsTakenBack organisers room claim
+taken_back organisers message room zone claims claim o are among =
     let cancel = o.holds in
-    let all = subst (λ (m : Message). AreClaims room m claims) cancel.is are in
-    let (is, named) = cancel_claim message.organiser message.uid o.stored.revision cancel.called_off cancel.first cancel.more room claims claim all among in
+    let all = subst (λ (m : Message). AreClaims room zone m claims) cancel.is are in
+    let (is, named) = cancel_claim message.organiser message.uid o.stored.revision cancel.called_off cancel.first cancel.more room zone claims claim all among in
     let of_organiser = ap (λ (p : Part). p.organiser) is in
     let of_uid = ap (λ (p : Part). p.uid) is in
     record {
@@ -140,8 +154,8 @@ taken_back organisers message room claims claim o are among =
 
 -- ---- of what was sent
 
-pub sent_claim : (world : World) (octets : List ℕ) (message : Message) (room : List ℕ) (claims : List Claim) (claim : Claim) → SaysSent world octets message
-    → SpellsMessage octets message → is_to_rooms message.method ≡ true → AreClaims room message claims → Contains claims claim → IsSentClaim world.organisers room claim
-sent_claim world octets message room claims claim (a_request request o) spells to_rooms are among = inl (request_claim world.organisers octets message room claims claim request o spells are among)
-sent_claim world octets message room claims claim (a_cancel o) spells to_rooms are among = inr (taken_back world.organisers message room claims claim o are among)
-sent_claim world octets message room claims claim (a_reply reply heard) spells to_rooms are among = absurd (true≢false (sym to_rooms ∙ ap is_to_rooms reply))
+pub sent_claim : (world : World) (octets : List ℕ) (message : Message) (room : List ℕ) (zone : Option Zone) (claims : List Claim) (claim : Claim) → SaysSent world octets message
+    → SpellsMessage octets message → is_to_rooms message.method ≡ true → AreClaims room zone message claims → Contains claims claim → IsSentClaim world.organisers room zone claim
+sent_claim world octets message room z claims claim (a_request request o) spells to_rooms are among = inl (request_claim world.organisers octets message room z claims claim request o spells are among)
+sent_claim world octets message room z claims claim (a_cancel o) spells to_rooms are among = inr (taken_back world.organisers message room z claims claim o are among)
+sent_claim world octets message room z claims claim (a_reply reply heard) spells to_rooms are among = absurd (true≢false (sym to_rooms ∙ ap is_to_rooms reply))

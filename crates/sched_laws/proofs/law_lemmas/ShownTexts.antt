@@ -1,34 +1,33 @@
 -- What the text of a meeting shows: the events of its last store with the answers that are seen; and a room whose acceptance is seen has booked
 -- what it was sent. Behind schedules_hold.
-use Rattle.std.proofs.Common.{◌≡◌, ◌∙◌, ℕ, Bool, true, false, List, Option, None, Some, refl, sym, ap, subst}
+use Rattle.std.proofs.Common.{◌≡◌, ◌∙◌, ℕ, Bool, true, false, List, [], ◌∷◌, Option, None, Some, refl, sym, ap, subst}
 use Rattle.std.specs.Prelude.{Contains, option_map, unwrap_or}
 use Rattle.std.specs.List.{AllZip, find}
 use Rattle.std.specs.Str.{bytes_eq}
 use Rattle.std.proofs.lemmas.Bool.{true≢false}
 use Rattle.std.proofs.lemmas.Slice.Eq.{bytes_eq-Decides}
-use Rattle.profile.specs.checker.Calendars.{IsCalendarText, SayEvents}
+use Rattle.profile.specs.checker.Calendars.{IsCalendarText, SayEventsIn}
 use Rattle.profile.specs.events.Confirmed.{AreApart, AreOfRule}
-use Rattle.profile.specs.events.EventComponents.{Accepted, Attendee, Declined, Delegated, EventComponent, NeedsAction, Participation, Tentative, has_accepted, is_accepted}
+use Rattle.profile.specs.events.EventComponents.{Accepted, Attendee, Declined, Delegated, EventComponent, NeedsAction, Participation, SaysEventComponent, Tentative, has_accepted, is_accepted}
 use Rattle.profile.specs.events.Messages.{AreOfMeeting, counted}
+use Rattle.profile.specs.events.Placed.{IsPlaced, SaysPlaced}
 use Rattle.profile.specs.organisers.Organisers.{IsSeenOf, ShowsSeen, Stored, is_attendee, last_store}
 use Rattle.profile.specs.organisers.Sent.{IsMeetingText}
 use Rattle.profile.specs.rooms.Messages.{names_room, slot_of}
+use Rattle.profile.specs.series.Zones.{Zone}
 use Rattle.profile.specs.streams.Schedules.{IsText}
 use Rattle.profile.specs.streams.Streams.{AsksFor, Hosted, HostedOrganiser}
 use Rattle.profile.specs.streams.Worlds.{World}
 use Rattle.profile.specs.text.Lines.{logical_lines}
 use Rattle.profile.specs.text.Trees.{Tree, vevents}
-use Rattle.cal_events.proofs.reading_lemmas.OneCalendar.{same_events}
 use Rattle.cal_events.proofs.shared_lemmas.SeriesLemmas.{zip_back}
-use Rattle.cal_zones.proofs.OneRoomZone.{one_room_zone}
 use Rattle.itip_messages.specs.SentLaw.{HasAnswered, IsSaidAgain, IsSentAs}
 use Rattle.itip_messages.proofs.sent_law_lemmas.SentEvents.{counted_among}
 use Rattle.itip_order.proofs.Lists.{any_from}
-use Rattle.room_books.proofs.laws_lemmas.KeptTimes.{IsAsWritten, taken_written}
 use Rattle.sched_laws.proofs.law_lemmas.Booked.{IsBookedFor, booked_for}
 use Rattle.sched_laws.proofs.law_lemmas.ClaimFacts.{claim_facts, found_among}
-use Rattle.sched_laws.proofs.law_lemmas.Invariant.{IsSound}
-use Rattle.sched_laws.proofs.law_lemmas.SlotParts.{one_of_slot}
+use Rattle.sched_laws.proofs.law_lemmas.Invariant.{AreNamedFixed, IsNamedFixed, IsSound}
+use Rattle.sched_laws.proofs.law_lemmas.StoredSlots.{one_of_slot, stored_fixed}
 use Rattle.sched_laws.proofs.law_lemmas.Stores.{last_among}
 use Rattle.sched_laws.specs.Law.{Laws}
 
@@ -43,7 +42,21 @@ pub record IsShownText (world : World) (octets : List ℕ) : Type 0 where
   pub last : last_store uid host.book ≡ Some stored
   pub shown : List EventComponent
   pub each : AllZip (IsSaidAgain (HasAnswered host.book stored) stored.revision) stored.events shown
-  pub only : (tree : Tree) (events : List EventComponent) → IsCalendarText tree octets → SayEvents tree events → events ≡ shown
+  pub only : (zone : Option Zone) (tree : Tree) (events : List EventComponent) → IsCalendarText tree octets → SayEventsIn zone tree events → AllZip (IsPlaced zone) shown events
+
+-- what lines say in a room is what they say, placed there
+placed_each : Laws → (zone : Option Zone) (tree : Tree) (lines : List (List (List ℕ))) (said placed : List EventComponent) → AllZip (SaysEventComponent tree None) lines said
+    → AllZip (SaysPlaced zone tree None) lines placed → AllZip (IsPlaced zone) said placed
+placed_each laws z object [] [] [] says there = tt
+placed_each laws z object [] [] (p ∷ placed) says there = absurd there
+placed_each laws z object [] (s ∷ said) placed says there = absurd says
+placed_each laws z object (l ∷ lines) [] placed says there = absurd says
+placed_each laws z object (l ∷ lines) (s ∷ said) [] says there = absurd there
+placed_each laws z object (l ∷ lines) (s ∷ said) (p ∷ placed) says there =
+    let (event, same, is) = there.0 in (
+      subst (λ (e : EventComponent). IsPlaced z e p) (laws.event object None l event s same says.0) is,
+      placed_each laws z object lines said placed says.1 there.1,
+    )
 
 pub shown_text : Laws → (rooms organisers : List (List ℕ)) (world : World) → IsSound rooms organisers world → (octets : List ℕ) → IsText world octets → IsShownText world octets
 shown_text laws rooms organisers world sound octets text =
@@ -62,9 +75,9 @@ shown_text laws rooms organisers world sound octets text =
       last = last;
       shown = calendar.shown;
       each = calendar.each;
-      only = λ tree events object says.
+      only = λ zone tree events object says.
           let same : tree ≡ calendar.tree = laws.tree 7 7 (logical_lines octets) tree calendar.tree object.spelled calendar.object.spelled in
-          same_events laws.event one_room_zone calendar.tree events calendar.shown (subst (λ (t : Tree). SayEvents t events) same says) calendar.says;
+          placed_each laws zone calendar.tree (vevents calendar.tree) calendar.shown events calendar.says (subst (λ (t : Tree). SayEventsIn zone t events) same says);
     }
 
 -- ---- who has accepted
@@ -116,25 +129,28 @@ seen_accepting world octets text room event said among again accepted =
 
 -- ---- what such an event is of
 
--- the event is one of the last store, in a slot that the room has booked, and what the room was asked there is what was sent of it
+-- the event is one of the last store, in a slot that the room has booked, and what the room was asked there is what was sent of it, as that is in the
+-- zone of the room
 pub record IsOfBooked (world : World) (octets : List ℕ) (text : IsShownText world octets) (room : Hosted) (said : EventComponent) : Type 0 where
   pub event : EventComponent
   pub among : Contains text.stored.events event
-  pub written : IsAsWritten event
+  pub fixed : IsNamedFixed event
   pub again : IsSaidAgain (HasAnswered text.host.book text.stored) text.stored.revision event said
   pub named : is_attendee room.address text.stored.events ≡ true
   pub booked : IsBookedFor text.host.address text.stored room (slot_of event)
   pub asked : EventComponent
   pub sent : IsSentAs text.stored.revision event asked
-  pub singles : AreApart asked booked.answer.claim.singles
-  pub series : AreOfRule asked booked.answer.claim.series
+  pub placed : EventComponent
+  pub is_placed : IsPlaced room.zone asked placed
+  pub singles : AreApart placed booked.answer.claim.singles
+  pub series : AreOfRule placed booked.answer.claim.series
 
--- the events of a store are of one meeting, and their instants are those of what is written
+-- the events of a store are of one meeting, and name their instances by fixed times
 pub record IsOfStored (stored : Stored) : Type 0 where
   pub organiser : List ℕ
   pub uid : List ℕ
   pub are : AreOfMeeting organiser uid stored.events
-  pub written : (event : EventComponent) → Contains stored.events event → IsAsWritten event
+  pub fixed : AreNamedFixed stored.events
 
 pub stored_meeting : (rooms organisers : List (List ℕ)) (world : World) → IsSound rooms organisers world → (octets : List ℕ) (text : IsShownText world octets) → IsOfStored text.stored
 stored_meeting rooms organisers world sound octets text =
@@ -143,10 +159,7 @@ stored_meeting rooms organisers world sound octets text =
       organiser = store.said.organiser;
       uid = store.said.uid;
       are = subst (AreOfMeeting store.said.organiser store.said.uid) (sym store.events) store.spells.says.are;
-      written = λ event c.
-          let m = store.spells.says in
-          taken_written store.spells.tree store.said.method (vevents store.spells.tree) m.events event m.says
-          (subst (λ (l : List EventComponent). Contains l event) (store.events ∙ m.taken) c);
+      fixed = stored_fixed text.host.address text.stored store;
     }
 
 pub of_booked : Laws → (rooms organisers : List (List ℕ)) (world : World) → IsSound rooms organisers world → (octets : List ℕ) (text : IsShownText world octets)
@@ -156,19 +169,21 @@ of_booked laws rooms organisers world sound octets text room there said c accept
     let seen = seen_accepting world octets text room.address event said among again accepted in
     let booked = booked_for laws rooms organisers world sound text.host text.hosted room there text.uid text.stored text.last seen.named (slot_of event) seen.seen in
     let claim = booked.answer.claim in
-    let facts = claim_facts text.host.address text.stored room.address claim booked.of_store in
+    let facts = claim_facts text.host.address text.stored room.address room.zone claim booked.of_store in
     let meeting = stored_meeting rooms organisers world sound octets text in
-    let same : facts.event ≡ event = one_of_slot meeting.organiser meeting.uid text.stored.events meeting.are facts.event event facts.among among (sym facts.of_slot ∙ booked.of_slot) in
-    let asks = subst (λ (set : Bool). AsksFor set facts.said claim) booked.set facts.is.asks in
+    let same : facts.event ≡ event = one_of_slot meeting.organiser meeting.uid text.stored.events meeting.fixed meeting.are facts.event event facts.among among (sym facts.of_slot ∙ booked.of_slot) in
+    let asks = subst (λ (set : Bool). AsksFor set room.zone facts.said claim) booked.set facts.is.asks in
     record {
       event = event;
       among = among;
-      written = meeting.written event among;
+      fixed = meeting.fixed event among;
       again = again;
       named = seen.named;
       booked = booked;
       asked = facts.said;
       sent = subst (λ (e : EventComponent). IsSentAs text.stored.revision e facts.said) same facts.again;
-      singles = asks.0;
-      series = asks.1;
+      placed = asks.0;
+      is_placed = asks.1;
+      singles = asks.2;
+      series = asks.3;
     }

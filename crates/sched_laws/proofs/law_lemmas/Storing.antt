@@ -21,6 +21,7 @@ use Rattle.itip_order.proofs.Lists.{in_cons, in_head, none_in_nil}
 use Rattle.sched_laws.proofs.law_lemmas.Growing.{IsChanged, WorldGrows, changed, organiser_sends, room_itself, same_addresses, still_given, still_heard, still_sent, still_taken}
 use Rattle.sched_laws.proofs.law_lemmas.Invariant.{IsCancelMessage, IsHeardBy, IsRequestOf, IsSentIn, IsSound, IsStoreOf, OfStore, Rises, a_cancel, a_request}
 use Rattle.sched_laws.specs.Law.{Laws}
+use Rattle.sched_laws.proofs.law_lemmas.StoredSlots.{stored_fixed}
 use Rattle.sched_laws.proofs.law_lemmas.RoomReplies.{not_too_long}
 use Rattle.sched_laws.proofs.law_lemmas.Stores.{gone_scheduled, gone_unnamed, last_among, scheduled_named, sequence_rises}
 
@@ -53,6 +54,18 @@ module _ (laws : Laws) (object : List ℕ) (message : Message) (spells : SpellsM
     (stored : Stored) (of_uid : stored.uid ≡ message.uid) (events : stored.events ≡ message.events) (small : stored.revision.sequence < 2 ^ 31) where
   name : IsSentName message.organiser stored.uid stored.revision
   name = subst (λ (uid : List ℕ). IsSentName message.organiser uid stored.revision) (sym of_uid) (laws.name object message stored.revision spells store small)
+
+  as_stored : IsStoreOf message.organiser stored
+  as_stored = record {
+    read = object;
+    said = message;
+    spells = spells;
+    store = store;
+    of_organiser = refl;
+    of_uid = of_uid;
+    events = events;
+    small = small;
+  }
 
   cancel_said : (called_off : Bool) (to : List (List ℕ)) (octets : List ℕ) (said : Message)
       → ((address : List ℕ) → Contains to address → IsSentAddress address)
@@ -92,6 +105,7 @@ module _ (laws : Laws) (object : List ℕ) (message : Message) (spells : SpellsM
           ap (λ (m : Message). m.method) (sym same),
           record {
             alive = alive;
+            fixed = stored_fixed message.organiser stored as_stored;
             object = sym as_made;
             each = subst (λ (m : Message). AllZip (IsSentAs stored.revision) stored.events m.events) same each;
           },
@@ -307,11 +321,12 @@ module _ (laws : Laws) (rooms organisers : List (List ℕ)) (organiser object : 
     rooms_are = ap (map (λ (host : Hosted). host.address)) sends.others ∙ sound.rooms_are;
     organisers_are = same_addresses (λ (host : HostedOrganiser). host.address) (OrganiserTakes organiser moment message sends.sent)
         before.organisers after.organisers sends.takes takes.same ∙ sound.organisers_are;
+    in_zones = λ room c. sound.in_zones room (was_room room c);
     stores = each_organiser (λ host. (one : Stored) → Contains host.book.stores one → IsStoreOf host.address one) new_stores sound.stores;
     rises = each_organiser (λ host. Rises host.book.stores) new_rises sound.rises;
     heard = each_organiser (λ host. (heard : Heard) → Contains host.book.replies heard → IsHeardBy after host heard) new_heard
         (λ host was heard c. still_heard before after grow host host refl heard refl (sound.heard host was heard c));
-    taken = λ room c part t. still_taken before after grow room.address part (sound.taken room (was_room room c) part t);
+    taken = λ room c part t. still_taken before after grow room.address room.zone part (sound.taken room (was_room room c) part t);
     given = λ room c answer g. still_given before after grow room room (room_itself room) answer (sound.given room (was_room room c) answer g);
     reached = λ room c. sound.reached room (was_room room c);
     sent = λ octets c. elim (Contains-append_cases before.sent sends.sent octets (subst (λ (all : List (List ℕ)). Contains all octets) sends.adds c)) [

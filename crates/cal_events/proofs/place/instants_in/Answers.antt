@@ -1,7 +1,6 @@
 use Rattle.std.proofs.Common.{◌≡◌, ◌∙◌, ◌++◌, ◌∷◌, [], ap, subst, ℤ, FitsSigned, to_z, of_z, w64, to_z-of_z, rules}
-use Rattle.std.specs.Prelude.{Some}
 use Rattle.profile.specs.events.Placed.{IsAt}
-use Rattle.cal_zones.specs.Kinds.{zone_of}
+use Rattle.cal_zones.specs.RoomZones.{room_of}
 use Rattle.cal_events.specs.Component.{time_of}
 use Rattle.cal_events.specs.declared.time.Time.{Time}
 use Rattle.cal_events.proofs.shared_lemmas.Placing.{zip_more}
@@ -9,7 +8,7 @@ use Rattle.cal_events.proofs.place.instants_in.Goals as goal
 
 pub loop-time-preserved : goal.loop-time-preserved
 loop-time-preserved c =
-    let R = IsAt (Some (zone_of c.args.zone.now)) in
+    let R = IsAt (room_of c.args.room.now) in
     let x = c.time-item.result in
     let y = c.instant_in.result in
     let old = c.loop-time.instants.items in

@@ -9,7 +9,10 @@ of-requires c =
     record {
       stamp = c.requires.stamped event there;
       dated = c.requires.dated event there;
+      dated_each = c.requires.dated_each event there;
       ready = c.requires.ready event there;
+      written = c.requires.written event there;
+      instants = c.requires.instants event there;
     }
 
 pub loop-event-preserved : goal.loop-event-preserved

@@ -3,7 +3,8 @@ use Rattle.std.proofs.Common.{◌≡◌, ◌∙◌, ◌++◌, ◌<◌, ◌^◌, 
 use Rattle.std.specs.List.{flat_map, AllZip}
 use Rattle.indexmap.specs.IndexMap.{values}
 use Rattle.ical_values.specs.Octets.{address_octets}
-use Rattle.profile.specs.rooms.Kept.{IsKeptEvent, each_once, zone_texts, zones_kept}
+use Rattle.cal_zones.specs.RoomZones.{words_of}
+use Rattle.profile.specs.rooms.Kept.{IsKeptEvent, each_once, room_zone_lines, zone_texts, zones_kept}
 use Rattle.profile.specs.text.Lines.{written}
 use Rattle.room_books.specs.Texts.{all_kept, zone_of_entry}
 use Rattle.itip_messages.specs.Zones.{with_zones}
@@ -27,10 +28,12 @@ returns c = λ book st.
       events = w.events;
       each = subst (λ (z : List (List ℕ)). AllZip (IsKeptEvent room z) kept.0 w.events) zones kept.2;
       is = c.finish.ensures
-          ∙ calendar_written c.new-object.result (zone_texts 0 (zones_kept kept.0)) c.write_meetings.new.object c.begin_calendar.new.self c.write.new.object c.end_calendar.new.self c.octets.new.self (flat_map (λ l. l) w.events)
+          ∙ calendar_written c.new-object.result (zone_texts 0 (zones_kept kept.0)) c.write_meetings.new.object c.begin_calendar.new.self c.write_room_zone.new.object c.write.new.object c.end_calendar.new.self c.octets.new.self
+          (room_zone_lines (words_of c.args.zone.now)) (flat_map (λ l. l) w.events)
           c.new-object.ensures
           c.in_ok-begin_calendar.ensures.ok
-          (c.in_ok-write.ensures.texts ∙ ap (λ z. c.begin_calendar.new.self ++ zone_texts 0 z) zones)
+          c.in_ok-write_room_zone.ensures
+          (c.in_ok-write.ensures.texts ∙ ap (λ z. c.write_room_zone.new.object ++ zone_texts 0 z) zones)
           (w.is ∙ ap (λ o. o ++ written (flat_map (λ l. l) w.events)) c.new-events.ensures)
           c.in_ok-end_calendar.ensures.ok
           (c.in_ok-octets.ensures.ok ∙ ap (λ l. c.write.new.object ++ l) (c.as_slice.ensures.value ∙ c.finish-events.ensures));

@@ -220,5 +220,5 @@ invariant_of-result c =
     record {
       steady = t.0;
       named = t.1;
-      said = merely (said_as_written object lines event said);
+      said = λ _. merely (said_as_written object lines event said);
     }

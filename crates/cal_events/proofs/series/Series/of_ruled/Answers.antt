@@ -31,6 +31,6 @@ invariant_of-result c =
           ap length none,
         ),
       );
-      said = series_is_said (said_meeting event) (component_of m) same c.requires.rule c.requires.none_added m.said;
+      said = series_is_said (said_meeting event) (component_of m) same c.requires.rule c.requires.none_added (m.said c.requires.rule);
       past = rw cast (kept_past (said_meeting event) (component_of m) from same least);
     }

@@ -12,7 +12,6 @@ use Rattle.organiser_books.specs.declared.meeting.StoredMeeting.{StoredMeeting}
 use Rattle.organiser_books.specs.Calls.{sent_of}
 use Rattle.organiser_books.specs.Representation.{same_text}
 use Rattle.organiser_books.specs.Storing.{sequence_then}
-use Rattle.organiser_books.proofs.Said.{in_text}
 use Rattle.organiser_books.proofs.Storing.{is_stored, spent_fault}
 use Rattle.organiser_books.proofs.organiser.Organiser.store.Goals as goal
 
@@ -34,5 +33,5 @@ returns-clause-steps c = λ said is book keeps.
     let same : sequence_then _ c.components.result.now ≡ sequence_then (meetings object.uid) object.components.items = λ i. sequence_then ((c.get.ensures.value ∙ ap (get same_text c.args.self.now.meetings) c.uid.ensures) i) (c.components.ensures i) in
     let r = is_stored (address_octets c.args.self.now.address) object said is kind own book meetings keeps.each c.args.now meeting (c.in-Some.ensures.is ∙ same) refl (map sent_of made.sent.items)
     (get same_text c.insert.new.self) (λ q. c.in_ok-insert.ensures.updates.0 q ∙ ap (λ (u : List ℕ). cond (bytes_eq u (text_octets q)) (Some meeting) (meetings q)) (c.in_ok-uid.ensures.cases ∙ ap text_octets c.uid-2.ensures))
-    c.in-Some.ensures.fits (c.in_ok-components.ensures said.events (subst (λ (l : List MessageComponent). AllZip SaysComponent said.events l) (sym c.components-2.ensures) (in_text object said is (ap is_to_rooms kind)))) c.in_ok-attending.ensures.attending c.new.ensures.empty c.in_ok-attending.ensures.sends c.in_ok-attending.ensures.told in
+    c.in-Some.ensures.fits (c.in_ok-components.ensures said.events (subst (λ (l : List MessageComponent). AllZip SaysComponent said.events l) (sym c.components-2.ensures) is.each)) c.in_ok-attending.ensures.attending c.new.ensures.empty c.in_ok-attending.ensures.sends c.in_ok-attending.ensures.told in
     (r.0, (r.1.0, r.1.1, record { each = r.1.2 }))

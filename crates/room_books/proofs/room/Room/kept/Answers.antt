@@ -2,6 +2,7 @@
 use Rattle.std.proofs.Common.{subst, List, ℕ}
 use Rattle.std.proofs.Math.Logic.{∥∥₁_map}
 use Rattle.ical_values.specs.Octets.{address_octets}
+use Rattle.cal_zones.specs.RoomZones.{room_of, words_of}
 use Rattle.profile.specs.rooms.Kept.{IsKeptCertificate}
 use Rattle.room_books.proofs.room.Room.kept.Goals as goal
 
@@ -12,7 +13,8 @@ returns-clause-passes c = ∥∥₁_map c.args.self.now.reached (λ was.
 
 pub returns-clause-spells_each : goal.returns-clause-spells_each
 returns-clause-spells_each c book reached st =
-    let s = c.kept_texts_spell.ensures (address_octets c.args.self.now.address) reached.deliveries book c.in_ok-calendar.calendar.items reached.delivered reached.runs (c.in_ok-calendar.ensures.kept book st) in
+    let zone = c.args.self.now.zone in
+    let s = c.kept_texts_spell.ensures (address_octets c.args.self.now.address) (words_of zone) (room_of zone) reached.deliveries book c.in_ok-calendar.calendar.items c.words_mean.ensures reached.delivered reached.runs (c.in_ok-calendar.ensures.kept book st) in
     record { all = s.0; spells = s.1; singles = s.2; series = s.3; exact = s.4 }
 
 pub returns-clause-spells : goal.returns-clause-spells

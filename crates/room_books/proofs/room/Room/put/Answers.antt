@@ -13,6 +13,7 @@ use Rattle.room_books.specs.Meeting.{confirmed_at, meeting_singles, all_singles,
 use Rattle.room_books.specs.Timeline.{ShiftsTimeline, IsChanged, IsTimelineOf}
 use Rattle.profile.specs.checker.Instances.{IsClear}
 use Rattle.ical_values.specs.Octets.{address_octets}
+use Rattle.cal_zones.specs.RoomZones.{room_of}
 use Rattle.room_books.specs.Room.{HaveReached}
 use Rattle.room_books.proofs.room_lemmas.Joining.{joins_reordered}
 use Rattle.room_books.proofs.shared_lemmas.Leaving.{parted_length}
@@ -83,7 +84,7 @@ invariant_of-self-in-Break-branch-3 c =
       series_counted = room.series_counted ∙ ap (λ l. length (all_recurring l)) (sym same);
       series_few = room.series_few;
       series_clear = subst (λ l. IsClearIn (in_room l)) (sym same) room.series_clear;
-      reached = subst (λ l. ∥ HaveReached (address_octets room.address) l ∥₁) (sym same) room.reached;
+      reached = subst (λ l. ∥ HaveReached (address_octets room.address) (room_of room.zone) l ∥₁) (sym same) room.reached;
     }
 
 pub overflow_sub-self : goal.overflow_sub-self

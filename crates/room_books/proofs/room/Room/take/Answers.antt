@@ -3,6 +3,7 @@ use Rattle.std.proofs.Common.{◌≡◌, ◌∙◌, Bool, List, [], None, Some, 
 use Rattle.std.specs.Prelude.{slice_get}
 use Rattle.std.proofs.Math.Logic.{∥∥₁_map}
 use Rattle.ical_values.specs.Octets.{address_octets}
+use Rattle.cal_zones.specs.RoomZones.{room_of}
 use Rattle.profile.specs.streams.Streams.{AreClaims}
 use Rattle.room_books.specs.declared.claim.Claim.{Claim}
 use Rattle.room_books.specs.Claims.{AreClaimed}
@@ -22,7 +23,7 @@ returns-in_default-clause-steps c = λ message says book st.
     let claims = c.in_ok-claims.claims.items in
     let none : claims ≡ [] = none_first claims (subst (λ (l : List Claim). None ≡ slice_get l 0) c.deref.ensures.value c.in_default.ensures.value) in (
       [],
-      subst (λ (l : List Claim). AreClaims room message (claims_said l)) none (c.in_ok-claims.ensures message says).are,
+      subst (λ (l : List Claim). AreClaims room (room_of c.args.self.now.zone) message (claims_said l)) none (c.in_ok-claims.ensures message says).are,
       none_steps room c.args.self.now.meetings.entries book c.args.now (kind_view c.silent.result.kind) _ _ _ st (ap kind_view c.silent.ensures.kind) c.silent.ensures.reply c.silent.ensures.refresh,
     )
 
@@ -31,7 +32,7 @@ pub take_claims-requires-clause-delivered : goal.take_claims-requires-clause-del
 take_claims-requires-clause-delivered c = ∥∥₁_map c.args.message.now.read (λ read.
     let claims = c.deref-2.result.now in
     let first = c.in-Some.first.now in
-    let claimed = subst (AreClaimed (address_octets c.args.self.now.address) read.said) (sym c.deref-2.ensures.value) (c.in_ok-claims.ensures read.said read.are) in
+    let claimed = subst (AreClaimed (address_octets c.args.self.now.address) (room_of c.args.self.now.zone) read.said) (sym c.deref-2.ensures.value) (c.in_ok-claims.ensures read.said read.are) in
     let is : Some first ≡ slice_get claims 0 = subst (λ (l : List Claim). Some first ≡ slice_get l 0) (c.deref.ensures.value ∙ sym c.deref-2.ensures.value) c.in-Some.ensures.value in (
       record { octets = read.octets; message = read.said; spells = read.spells; are = claimed.are },
       λ key k. claimed.fit key first (first_in claims first is) k,
@@ -42,7 +43,7 @@ returns-clause-steps c = λ message says book st.
     let room = address_octets c.args.self.now.address in
     let claims = c.deref-2.result.now in
     let first = c.in-Some.first.now in
-    let claimed = subst (AreClaimed room message) (sym c.deref-2.ensures.value) (c.in_ok-claims.ensures message says) in
+    let claimed = subst (AreClaimed room (room_of c.args.self.now.zone) message) (sym c.deref-2.ensures.value) (c.in_ok-claims.ensures message says) in
     let is : Some first ≡ slice_get claims 0 = subst (λ (l : List Claim). Some first ≡ slice_get l 0) (c.deref.ensures.value ∙ sym c.deref-2.ensures.value) c.in-Some.ensures.value in (
       claims_said claims,
       claimed.are,

@@ -8,6 +8,7 @@ use Rattle.room_books.specs.Meeting.{same_key}
 use Rattle.room_books.proofs.room_lemmas.PutIn.{lookup_put}
 use Rattle.std.proofs.lemmas.List.{length-map}
 use Rattle.ical_values.specs.Octets.{address_octets}
+use Rattle.cal_zones.specs.RoomZones.{room_of}
 use Rattle.room_books.specs.Taking.{claim_said, claims_said, kind_view, octets_in}
 use Rattle.room_books.specs.Room.{book_after}
 use Rattle.room_books.proofs.room_lemmas.Reaching.{reached_then}
@@ -27,7 +28,7 @@ put-requires-clause-reaches c entries put = ∥∥₁_map₂ c.args.self.now.rea
     let after = c.in_ok-changes.ensures.after c.in_ok-key.ensures fit was.book was.represents put.meeting put.made in
     record {
       book = book_after was.book claims c.args.now after.outcome;
-      reached = reached_then room was.book (record { claims = claims; moment = c.args.now }) after.outcome (book_after was.book claims c.args.now after.outcome) was.reached delivered.0 after.step;
+      reached = reached_then room (room_of c.args.self.now.zone) was.book (record { claims = claims; moment = c.args.now }) after.outcome (book_after was.book claims c.args.now after.outcome) was.reached delivered.0 after.step;
       represents = now_represents es entries was.book key claims c.args.now kind put.meeting some was.represents fit after put.entries (λ q. ap (lookup (same_key q)) put.entries ∙ lookup_put key q put.meeting es);
     })
 

@@ -1,0 +1,19 @@
+use Rattle.std.proofs.Common.{◌≡◌, ◌∙◌, ◌++◌, codes}
+use Rattle.cal_zones.specs.RoomZones.{words_of}
+use Rattle.clash_cert.proofs.WholeText.{ok_also}
+use Rattle.profile.specs.rooms.Kept.{room_zone_lines}
+use Rattle.profile.specs.text.Lines.{folded, written}
+use Rattle.room_books.proofs.texts_lemmas.RoomLines.{utc_unnamed, zone_named}
+use Rattle.room_books.proofs.texts.write_room_zone.Goals as goal
+
+pub returns : goal.returns
+returns c =
+    let zone = c.args.zone.now in
+    let old = c.args.object.now in
+    let new = c.named.new.self in
+    let text = c.as_str.result.now in
+    ok_also c.named.result (new ≡ old ++ folded (codes "X-ROOM-ZONE:" ++ text)) (new ≡ old ++ written (room_zone_lines (words_of zone)))
+    (zone_named zone old new text c.is_utc.result c.is_utc.ensures c.if-is_utc.false (c.as_str.ensures.value ∙ c.in_ok-words.ensures)) c.named.ensures.ok
+
+pub returns-then-is_utc : goal.returns-then-is_utc
+returns-then-is_utc c = utc_unnamed c.args.zone.now c.args.object.now c.is_utc.result c.is_utc.ensures c.if-is_utc.true
