@@ -218,7 +218,7 @@ class Corpus:
                 pass
 
         guide.run = noted
-        for part in (guide.decisions, guide.instances, guide.added, guide.refusals, guide.zones, guide.times_in_zones, guide.whole_days, guide.rooms_of_a_zone, guide.series, guide.organisers):
+        for part in (guide.decisions, guide.instances, guide.added, guide.refusals, guide.zones, guide.times_in_zones, guide.whole_days, guide.rooms_in_zones, guide.rooms_of_a_zone, guide.series, guide.organisers):
             part(Ignored(), program)
         guide.run = ran
 
