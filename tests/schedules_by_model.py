@@ -704,6 +704,9 @@ class Drawing:
         draw, own, other = self.draw, WEEKDAYS[local.weekday()], self.draw.choice(WEEKDAYS)
         weekly = ["FREQ=WEEKLY", f"FREQ=WEEKLY;BYDAY={other},{own}"]
         if draw.random() < 0.25:
+            if Drawing.with_zones and form_of_start == "date" and draw.random() < 0.9:
+                # whole days each day without an end are gone through to the year 9999 where the clocks are set, in each decision beside them
+                return "FREQ=WEEKLY"
             if NEAR_NEW_YORK & {*self.zones.values()}:
                 return draw.choice(["FREQ=DAILY", *weekly])
             return draw.choice(["FREQ=DAILY", "FREQ=DAILY;INTERVAL=2", "INTERVAL=3;FREQ=DAILY", *weekly, "FREQ=WEEKLY;INTERVAL=2"])
