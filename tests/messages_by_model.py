@@ -16,6 +16,7 @@ each weekday on each date, and so with every change of the clocks. It ends with 
 
 import argparse
 import collections
+import itertools
 import random
 import subprocess
 import sys
@@ -148,9 +149,12 @@ def rule_for(rng, local, form, zone):
         text = f"{days};COUNT={rng.randrange(1, 7)}"
         return Rule(text), ";".join(rng.sample(text.split(";"), len(text.split(";"))))
     far = local + timedelta(days=rng.randrange(0, 12))
+    if rng.random() < 0.7:
+        # at one of its own starts, or just beside it
+        far = rng.choice(list(itertools.islice(Rule(days).days(local, form, zone), 4)))
     if ending == "date":
         return Rule(days, date=far.date()), f"UNTIL={far.strftime('%Y%m%d')};{days}"
-    until = instant(far, zone) + rng.choice([0, 0, 1, 3600])
+    until = instant(far, zone) + rng.choice([0, 0, 1, 3600, 50_000, -1 if far > local else 0])
     return Rule(days, until=until), f"{days};UNTIL={utc(until)[:-1] if zone is None and rng.random() < 0.3 else utc(until)}"
 
 
