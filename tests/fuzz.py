@@ -3,7 +3,7 @@
     python3 tests/fuzz.py bin/roombox [--seconds N] [--command NAME] [--seed N] [--limit SECONDS] [--findings FOLDER]
 
 What is spoiled are the examples, the inputs of the rows of the example programs, and what tests/guide.py hands to the program: octets are turned, cut and
-doubled, lines change their places, values become others that a calendar may have or numbers at a limit, and two objects become one. An input with an answer
+doubled, lines change their places, values become others that a calendar may have or numbers at a limit, rooms get zones, and two objects become one. An input with an answer
 of a new kind is spoiled again. The statuses are those of docs/roombox.1; 4 and 5 are findings too, since here no device fails and memory is ample. Beside
 that, what `keep` prints has to pass `check`, and a second run of `box` has to find its own answers.
 
@@ -63,17 +63,18 @@ FREQ=YEARLY;BYMONTH=4,10;BYMONTHDAY=1,-1;BYSETPOS=2,-2
 FREQ=YEARLY;BYMONTH=13
 FREQ=SECONDLY""".split("\n")
 OFFSETS = "+0000 -0000 +2359 -2359 +2400 +235959 -235959 +0100 +1300 -1200 +0530 +01".split()
-# of X-ROOM-ZONE and of --zone
-ROOM_ZONES = """-0500 -0400 11 1SU 0200 3 2SU 0200
+# of a zone line, of X-ROOM-ZONE and of --zone: those that mean a zone, and all
+ZONES = """-0500 -0400 11 1SU 0200 3 2SU 0200
 +0530
 +0000
 +0100 +0000 3 -1SU 0100 10 -1SU 0200
+-0500 -0400 11 1SU 0100 3 2SU 0000
 +2359
 -2359
 -0600 +0600 11 1SU 0200 3 2SU 0200
--0600 +0601 11 1SU 0200 3 2SU 0200
+-0500 -0400 11 -4SA 2359 2 4MO 0000""".split("\n")
+ROOM_ZONES = ZONES + """-0600 +0601 11 1SU 0200 3 2SU 0200
 -0500 -0400 3 2SU 0200 3 2SU 0200
--0500 -0400 11 -4SA 2359 2 4MO 0000
 -0500 -0400 11 5SU 0200 3 2SU 0200
 -0500  -0400 11 1SU 0200 3 2SU 0200""".split("\n")
 ADDRESSES = [ROOM, "MAILTO:R1@EXAMPLE.COM", "mailto:ann@example.com", "mailto:r2@example.com", "mailto:", "x:y", ":", "mailto:\u00e4@example.com"]
@@ -135,6 +136,10 @@ now 20250102T000000Z
 now 99991231T235959Z
 room mailto:r1@example.com
 room mailto:r2@example.com
+zone mailto:r1@example.com -0500 -0400 11 1SU 0200 3 2SU 0200
+zone mailto:r1@example.com +0000
+zone mailto:r2@example.com +0530
+zone mailto:ann@example.com +0530
 organiser mailto:ann@example.com""".split("\n")
 OCTETS = b"\0\t\n\r\x1b !\",.:;=\\\x7f\x80\xbf\xc3\xe2\xff"
 # of the command line
@@ -213,7 +218,7 @@ class Corpus:
                 pass
 
         guide.run = noted
-        for part in (guide.decisions, guide.instances, guide.added, guide.refusals, guide.zones, guide.times_in_zones, guide.whole_days, guide.rooms_of_a_zone, guide.series, guide.organisers):
+        for part in (guide.decisions, guide.instances, guide.added, guide.refusals, guide.zones, guide.times_in_zones, guide.whole_days, guide.rooms_in_zones, guide.rooms_of_a_zone, guide.series, guide.organisers):
             part(Ignored(), program)
         guide.run = ran
 
@@ -224,7 +229,7 @@ class Spoiler:
     def __init__(self, corpus, seed):
         self.chance, self.corpus = random.Random(seed), corpus
         self.ways = [self.turned, self.cut, self.doubled, self.moved, self.dropped, self.repeated, self.put, self.replaced, self.replaced, self.numbered,
-                     self.numbered, self.folded, self.joined, self.borrowed, self.nested]
+                     self.numbered, self.folded, self.joined, self.borrowed, self.nested, self.zoned]
 
     def taken(self, kind):
         """One of the inputs of a kind; now and then of another."""
@@ -329,6 +334,21 @@ class Spoiler:
         start, end = min(start, end), max(start, end)
         return text[:start] + b"BEGIN:%s\r\n" % name * times + text[start:end] + b"END:%s\r\n" % name * times + text[end:]
 
+    def zoned(self, text, kind):
+        """A room of a preamble, or a calendar, gets a zone."""
+        words = self.chance.choice(ZONES).encode()
+        if kind not in ("stream", "config"):
+            start = text.find(b"\n") + 1
+            return text[:start] + b"X-ROOM-ZONE:%s\r\n" % words + text[start:]
+        head = re.split(rb"\n\r?\n", text, maxsplit=1)[0] + b"\n"
+        rooms = rooms_of(head) or [ROOM.encode()]
+        start = self.chance.choice([0, *(found.end() for found in re.finditer(rb"\n", head))])
+        return text[:start] + b"zone %s %s\n" % (self.chance.choice(rooms), words) + text[start:]
+
+
+def rooms_of(preamble):
+    return re.findall(rb"^room ([!-~]+)\r?$", preamble, re.MULTILINE)
+
 
 # ---- one run
 
@@ -342,12 +362,18 @@ class Case:
 
 def serve_case(spoiler):
     words = spoiler.chance.choice((["serve"], ["serve", "--report"], []))
-    return Case(words, spoiler.spoiled("stream"))
+    return Case(words, stream_of(spoiler))
+
+
+def stream_of(spoiler):
+    """A stream, of which a room has a zone now and then."""
+    text = spoiler.spoiled("stream")
+    return spoiler.zoned(text, "stream") if spoiler.chance.random() < 0.4 else text
 
 
 def keep_case(spoiler):
-    text = spoiler.spoiled("stream")
-    rooms = re.findall(rb"^room ([!-~]+)\r?$", text.split(b"\n\n")[0], re.MULTILINE)
+    text = stream_of(spoiler)
+    rooms = rooms_of(text.split(b"\n\n")[0])
     room = spoiler.chance.choice(rooms).decode() if rooms and spoiler.chance.random() < 0.95 else ROOM
     return Case(["keep", room], text)
 
@@ -377,6 +403,8 @@ def explain_case(spoiler):
 def box_case(spoiler):
     chance = spoiler.chance
     files = {"config": chance.choice((b"room mailto:r1@example.com\norganiser mailto:ann@example.com\n", spoiler.spoiled("config", 0), spoiler.spoiled("config")))}
+    if chance.random() < 0.4:
+        files["config"] = spoiler.zoned(files["config"], "config")
     for number in range(chance.randrange(4)):
         moment = chance.choice(("20250102T000000Z", "20250102T000000Z", chance.choice(TIMES).replace("/", "-")))
         name = f"{chance.choice((number, number, chance.randrange(10**9))):08}-{moment}{chance.choice(('.ics', '.ics', '.ics', '.ICS', '.out', ''))}"

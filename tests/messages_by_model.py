@@ -1,16 +1,22 @@
 """Random streams of messages, answered by the program and by a small model that was written from docs/PROFILE.md alone.
 
     python3 tests/messages_by_model.py bin/roombox [--streams 300] [--seed 1]
+    python3 tests/messages_by_model.py --cases FOLDER [--streams 300]     # writes the runs as cases, for `rt try --cases FOLDER`
+    python3 tests/messages_by_model.py --answers FILE [--streams 300]     # and judges what was printed for them, but for what `check` says
 
-Each stream has REQUESTs, ADDs and CANCELs of few meetings for two rooms: times in UTC and in four zones, near gaps and folds, whole days and times without
-zone, which are those of UTC in these rooms; RRULE, RDATE, EXDATE, nominal days, instances by RECURRENCE-ID, statuses, cancellations without a start; older messages late, and messages again. Compared are the answers to
-each object and the clash that a decline names, the confirmed instances of each room's kept calendar, how many singles and series its certificate
-counts, and that `check` says yes to it.
+Each stream has REQUESTs, ADDs and CANCELs of few meetings for one to three rooms, each of which goes by the clocks of its own zone: times in UTC and in
+four zones, near gaps and folds, whole days and times without zone, which are other instants in each room; RRULE, RDATE, EXDATE, nominal days, instances by
+RECURRENCE-ID, two of which may be one instance in one room and two in another, or one in each, which is refused; statuses, cancellations without a start;
+older messages late, and messages again. Now and then the preamble has a zone line that is none. Compared are the answers to each object, the instances that
+they are for and the clash that a decline names, the confirmed instances of each room's kept calendar and the zone that it names, how many singles and series
+its certificate counts, and that `check` says yes to it.
 Instants are zoneinfo's, the days of rules dateutil's. A weekly rule without an end is expanded to 30 years: within 28 of them every year has come with
 each weekday on each date, and so with every change of the clocks. It ends with 1 where any differed.
 """
 
 import argparse
+import collections
+import itertools
 import random
 import subprocess
 import sys
@@ -21,9 +27,18 @@ from zoneinfo import ZoneInfo
 
 from dateutil.rrule import rrulestr
 
-ROOMS = ["mailto:r1@example.com", "mailto:r2@example.com"]
+from room_zone_cases import DUBLIN, HAVANA, KOLKATA, LORD_HOWE, NEW_YORK, SYDNEY
+
+ROOMS = ["mailto:r1@example.com", "mailto:r2@example.com", "mailto:r3@example.com"]
 NOW = "20250102T000000Z"
-FIRST, HORIZON = -86_400, 253_402_300_800
+# the zones of rooms, and the words for them: what zoneinfo says of these years
+ROOM_ZONES = {None: "+0000", "Asia/Kolkata": KOLKATA, "America/New_York": NEW_YORK, "Australia/Sydney": SYDNEY, "Australia/Lord_Howe": LORD_HOWE,
+              "Europe/Dublin": DUBLIN, "America/Havana": HAVANA}
+# words that mean no zone
+NO_WORDS = ["", "noon", "-05", "+2400", "-0000", "+000000", "+053000", "+0530 ", " +0530", "Asia/Kolkata", "-0500 -0400", "-0500 -0500 11 1SU 0200 3 2SU 0200",
+            "-0500 -0400 11 1SU 0200 03 2SU 0200", "-0500 -0400 11 +1SU 0200 3 2SU 0200", "-0500 -0400 11 5SU 0200 3 2SU 0200", "-0500 -0400 11 1su 0200 3 2SU 0200",
+            "-0500 -0400 11 1SU 2400 3 2SU 0200", "-0500 -0400 13 1SU 0200 3 2SU 0200", "-0600 +0601 11 1SU 0200 3 2SU 0200", "-0500 -0400 3 2SU 0200 3 2SU 0200",
+            "-0500 -0400 11 1SU 0200 3 2SU 0200 ", "-0500  -0400 11 1SU 0200 3 2SU 0200", "-0500 -0400 11 1SU 020000 3 2SU 020000"]
 
 
 def part(kind, start, rule, before, after):
@@ -54,31 +69,48 @@ def utc(at):
     return (datetime(1970, 1, 1) + timedelta(seconds=at)).strftime("%Y%m%dT%H%M%SZ")
 
 
-def written(name, local, zone, alias):
-    text = local.strftime("%Y%m%dT%H%M%S")
-    return f"{name}:{text}Z" if zone is None else f"{name};TZID={alias[zone]}:{text}"
+class Time(collections.namedtuple("Time", "form local zone")):
+    """What a text says: `fixed`, by the clocks of a zone or in UTC, `floating` without zone, or a `date`, by the clocks of whoever reads it."""
+
+    def instant(self, room):
+        return instant(self.local, self.zone if self.form == "fixed" else room)
+
+    def as_written(self):
+        return self.form, instant(self.local, self.zone)
+
+    def text(self):
+        return f"{self.local:%Y%m%d}" if self.form == "date" else f"{self.local:%Y%m%dT%H%M%S}" + "Z" * (self.form == "fixed" and self.zone is None)
 
 
-def unfixed(rng, name, local, form):
-    """A date or a time without zone."""
-    if form == "date":
-        return f"{name}{rng.choice([';VALUE=DATE', ';VALUE=DATE', ''])}:{local:%Y%m%d}"
-    return f"{name}{rng.choice([';VALUE=DATE-TIME', '', ''])}:{local:%Y%m%dT%H%M%S}"
+def midnight(local):
+    return local.replace(hour=0, minute=0, second=0)
 
 
-def texts(rng, times):
-    """Instants as a list has them where its line has neither VALUE nor TZID: in UTC, without zone, or, at midnight, as dates."""
-    for at in rng.sample(times, len(times)):
-        forms = [utc(at), utc(at), utc(at)[:-1]] + [utc(at)[:8]] * (at % 86_400 == 0)
-        yield rng.choice(forms)
+def written(rng, name, time, alias):
+    value = {"date": [";VALUE=DATE", ";VALUE=DATE", ""], "floating": [";VALUE=DATE-TIME", "", ""], "fixed": [f";TZID={alias.get(time.zone)}" * (time.zone is not None)]}
+    return f"{name}{rng.choice(value[time.form])}:{time.text()}"
 
 
-def listed(rng, name, times):
-    """The lines of a list: one for all, or one for the dates and one for the others."""
-    all_texts = list(texts(rng, times))
-    dates = [text for text in all_texts if len(text) == 8] if rng.random() < 0.6 else []
-    others = [text for text in all_texts if not dates or len(text) > 8]
-    return [f"{name};VALUE=DATE:{','.join(dates)}" for _ in dates[:1]] + [f"{name}:{','.join(others)}" for _ in others[:1]]
+def renamed(rng, time, rooms, zones):
+    """A time that is the same instant in one of the rooms, mostly named in another way."""
+    room, zone = rng.choice(rooms), rng.choice([None, *zones])
+    at = time.instant(room)
+    ways = [Time("fixed", clock(at, zone), zone), Time("floating", clock(at, room), None), Time("date", midnight(clock(at, room)), None)]
+    ways = [way for way in ways if way.instant(room) == at]
+    return rng.choice([way for way in ways if way.form != time.form and rng.random() < 0.9] or ways or [time])
+
+
+def listed(rng, name, times, alias):
+    """The lines of a list: one for each zone, and one for all others, or one for the dates and one for what is left."""
+    shuffled = rng.sample(times, len(times))
+    lines = []
+    for zone in {time.zone: None for time in shuffled if time.zone}:
+        lines.append(f"{name};TZID={alias[zone]}:{','.join(time.text() for time in shuffled if time.zone == zone)}")
+    rest = [time for time in shuffled if not time.zone]
+    dates = [time for time in rest if time.form == "date"] if rng.random() < 0.6 else []
+    others = [time for time in rest if time not in dates]
+    lines += [f"{name};VALUE=DATE:{','.join(time.text() for time in dates)}" for _ in dates[:1]]
+    return lines + [f"{name}:{','.join(time.text() for time in others)}" for _ in others[:1]]
 
 
 # ---- what a message says
@@ -94,32 +126,36 @@ class Rule:
     def __init__(self, text, until=None, date=None):
         self.text, self.until, self.date = text, until, date
 
-    def starts(self, local, zone):
+    def days(self, local, form, zone):
+        """Its local times. Beside a start that isn't fixed UNTIL is compared with them, else with what they mean."""
         last = local + timedelta(days=365 * YEARS)
         for day in rrulestr("RRULE:" + self.text, dtstart=local):
-            start = instant(day, zone)
-            if day > last or (self.until is not None and start > self.until) or (self.date is not None and day.date() > self.date):
+            end = instant(day, zone if form == "fixed" else None)
+            if day > last or (self.until is not None and end > self.until) or (self.date is not None and day.date() > self.date):
                 return
-            yield start
+            yield day
 
 
-def rule_for(rng, local, zone):
+def rule_for(rng, local, form, zone):
     """A rule that gives its own start, and its text in a message."""
     own, other = WEEKDAYS[local.weekday()], rng.choice(WEEKDAYS)
     every = rng.choice(["", ";INTERVAL=2", ";INTERVAL=1"])
-    form = rng.choice([f"FREQ=DAILY{every}", f"FREQ=WEEKLY{every}", f"FREQ=WEEKLY{every};BYDAY={other},{own}", f"FREQ=DAILY;BYDAY={own},{other}", "FREQ=MONTHLY",
+    days = rng.choice([f"FREQ=DAILY{every}", f"FREQ=WEEKLY{every}", f"FREQ=WEEKLY{every};BYDAY={other},{own}", f"FREQ=DAILY;BYDAY={own},{other}", "FREQ=MONTHLY",
                        f"FREQ=MONTHLY;BYMONTHDAY={local.day}", f"FREQ=MONTHLY;BYDAY={(local.day + 6) // 7}{own}", "FREQ=YEARLY"])
     ending = rng.choices(["count", "until", "date", "never"], [6, 2, 2, 1])[0]
     if ending == "never":
         return Rule("FREQ=WEEKLY"), "FREQ=WEEKLY"
     if ending == "count":
-        text = f"{form};COUNT={rng.randrange(1, 7)}"
+        text = f"{days};COUNT={rng.randrange(1, 7)}"
         return Rule(text), ";".join(rng.sample(text.split(";"), len(text.split(";"))))
     far = local + timedelta(days=rng.randrange(0, 12))
+    if rng.random() < 0.7:
+        # at one of its own starts, or just beside it
+        far = rng.choice(list(itertools.islice(Rule(days).days(local, form, zone), 4)))
     if ending == "date":
-        return Rule(form, date=far.date()), f"UNTIL={far.strftime('%Y%m%d')};{form}"
-    until = instant(far, zone) + rng.choice([0, 0, 1, 3600])
-    return Rule(form, until=until), f"{form};UNTIL={utc(until)[:-1] if zone is None and rng.random() < 0.3 else utc(until)}"
+        return Rule(days, date=far.date()), f"UNTIL={far.strftime('%Y%m%d')};{days}"
+    until = instant(far, zone) + rng.choice([0, 0, 1, 3600, 50_000, -1 if far > local else 0])
+    return Rule(days, until=until), f"{days};UNTIL={utc(until)[:-1] if zone is None and rng.random() < 0.3 else utc(until)}"
 
 
 def kept_rule(line):
@@ -135,94 +171,133 @@ def kept_rule(line):
 
 
 class Said:
-    """One VEVENT: when it is, which instance, its revision, and the rooms that it names."""
+    """One VEVENT: when it is, which instance, its revision, and the rooms that it names. What isn't fixed depends on the zone of a room."""
 
     def __init__(self, **fields):
         self.__dict__.update(fields)
+        self.on_rule = {}
 
-    def end(self, start):
+    def own(self):
+        return Time(self.form, self.local, self.zone)
+
+    def clocks(self, room):
+        return self.zone if self.form == "fixed" else room
+
+    def end(self, start, room):
         if not self.days:
             return start + self.seconds
-        return instant(clock(start, self.zone) + timedelta(days=self.days), self.zone) + self.seconds
+        zone = self.clocks(room)
+        local = clock(start, zone)
+        if self.form == "date" and instant(midnight(local), zone) == start:
+            # also where the clocks skip it
+            local = midnight(local)
+        return instant(local + timedelta(days=self.days), zone) + self.seconds
 
-    def rule_starts(self):
+    def rule_starts(self, room):
         if self.rule is None or self.slot is not None:
             return set()
-        if "on_rule" not in self.__dict__:
-            self.on_rule = set(self.rule.starts(self.local, self.zone))
-        return self.on_rule
+        zone = self.clocks(room)
+        if zone not in self.on_rule:
+            self.on_rule[zone] = {instant(day, zone) for day in self.rule.days(self.local, self.form, self.zone)}
+        return self.on_rule[zone]
 
-    def instances(self):
-        own = instant(self.local, self.zone)
+    def instances(self, room):
+        own = self.own().instant(room)
         if self.slot is not None:
-            return [(self.slot, own, self.end(own))]
-        starts = ({own} if self.rule is None else self.rule_starts()) | set(self.added)
-        return [(start, start, self.end(start)) for start in sorted(starts - set(self.taken))]
+            return [(self.slot.instant(room), own, self.end(own, room))]
+        starts = ({own} if self.rule is None else self.rule_starts(room)) | {time.instant(room) for time in self.added}
+        return [(start, start, self.end(start, room)) for start in sorted(starts - {time.instant(room) for time in self.taken})]
+
+    def canonical(self):
+        """The octets of one that is for one instance, by which two of one revision are compared."""
+        start = "DTSTART;TZID=Z:" if self.zone else "DTSTART;VALUE=DATE:" if self.form == "date" else "DTSTART:"
+        length = (f"P{self.days}D" if self.days else "P") + (f"T{self.seconds}S" if self.seconds or not self.days else "")
+        lines = [start + self.own().text(), f"DURATION:{length}"]
+        for form, size in (("fixed", 16), ("floating", 15), ("date", 8)):
+            texts = sorted({utc(time.as_written()[1])[:size] for time in self.taken if time.form == form})
+            lines += [f"EXDATE{';VALUE=DATE' * (form == 'date')}:{','.join(texts)}" for _ in texts[:1]]
+        lines += ["BEGIN:VTIMEZONE", "TZID:Z", *ZONES[self.zone], "END:VTIMEZONE"] if self.zone else []
+        return "".join(line + "\r\n" for line in lines).encode()
+
+
+def changes(zone, year):
+    """The days of a year on which the clocks of a zone are set."""
+    days = [datetime(year, 1, 1) + timedelta(days=number) for number in range(365)]
+    return [day for day in days if zone and instant(day + timedelta(days=1), zone) - instant(day, zone) != 86_400]
+
+
+def some_days(rng, rooms, zones):
+    """Two days of one year, near changes of the clocks of rooms or of zones that are named."""
+    year = rng.choice([2025, 2026])
+    near = [day for zone in [*rooms, *rooms, *zones] for day in changes(zone, year)] or [datetime(year, 3, 31)]
+    first = rng.choice(near)
+    return [first, rng.choice([first + timedelta(days=rng.choice([-1, 1, 1, 2])), rng.choice(near)])]
 
 
 def when(rng, days):
-    """A local time on one of few days, half of them near a change of the clocks."""
-    day = rng.choice(days)
-    return day + timedelta(minutes=30 * rng.randrange(48))
+    """A local time on one of few days, half of them in the hours in which clocks are set."""
+    return rng.choice(days) + timedelta(minutes=30 * rng.randrange(rng.choice([8, 48])))
 
 
-def said(rng, days, slot, revision, zones, starts):
-    form = rng.choices(["fixed", "date", "floating"], [4, 1, 1])[0]
-    zone = rng.choice([None, *zones]) if form == "fixed" else None
-    local = when(rng, days)
-    if form == "date":
-        local = local.replace(hour=0, minute=0)
-    own = instant(local, zone)
-    others = [instant(when(rng, days), rng.choice([None, *zones])) for _ in range(rng.randrange(4))]
+def some_time(rng, scene, forms):
+    form = rng.choice(forms)
+    local = when(rng, scene.days)
+    return Time(form, midnight(local) if form == "date" else local, rng.choice([None, *scene.zones]) if form == "fixed" else None)
+
+
+# what the times of a stream are drawn from: days, the zones that are named, and those of its rooms
+Scene = collections.namedtuple("Scene", "days zones rooms")
+FORMS = ["fixed", "fixed", "fixed", "date", "date", "floating"]
+
+
+def said(rng, scene, slot, revision, starts, own=None):
+    own = own or some_time(rng, scene, FORMS)
+    form, local, zone = own
+    others = [some_time(rng, scene, FORMS) for _ in range(rng.randrange(4))]
     added = [] if slot is not None or rng.random() < 0.5 else others
     taken = [] if rng.random() < 0.6 else rng.sample([own, *others], rng.randrange(1, 2 + len(others)))
-    rule, rule_text = rule_for(rng, local, zone) if slot is None and rng.random() < 0.5 else (None, None)
-    given = sorted(rule.starts(local, zone))[:4] if rule else [own]
+    rule, rule_text = rule_for(rng, local, form, zone) if slot is None and rng.random() < 0.5 else (None, None)
+    given = [Time(form, day, zone) for day in sorted(rule.days(local, form, zone))[:4]] if rule else [own]
     if rule and rng.random() < 0.2:
         taken = taken + rng.sample(given, rng.randrange(1, 1 + len(given)))
     starts += [*given, *added]
+    added, taken = ([renamed(rng, time, scene.rooms, scene.zones) if rng.random() < 0.4 else time for time in times] for times in (added, taken))
     whole_days = rng.random() < 0.2
-    many = (1 if whole_days else 0, rng.choice([0, 1800]) if whole_days else rng.choice([0, 1800, 3600, 5400]))
+    days, seconds = (1 if whole_days else 0, rng.choice([0, 1800]) if whole_days else rng.choice([0, 1800, 3600, 5400]))
     if form == "date":
-        many = (rng.choice([0, 1, 1, 1, 2]), 0)
-    return Said(form=form, zone=zone, local=local, days=many[0], seconds=many[1], added=added, taken=taken,
-                rule=rule, rule_text=rule_text, slot=slot, revision=revision, names=[room for room in ROOMS if rng.random() < 0.8], cancelled=rng.random() < 0.1, without_start=False)
+        days, seconds = rng.choice([0, 1, 1, 1, 2]), 0
+    return Said(form=form, zone=zone, local=local, days=days, seconds=seconds, added=added, taken=taken, rule=rule, rule_text=rule_text, slot=slot,
+                revision=revision, names=[room for room in ROOMS if rng.random() < 0.8], cancelled=rng.random() < 0.1, without_start=False)
 
 
 def lines_of(rng, uid, event, alias, method):
     sequence, stamp = event.revision
     lines = ["BEGIN:VEVENT", f"UID:{uid}", f"SEQUENCE:{sequence}", f"DTSTAMP:{utc(stamp)}", "ORGANIZER:mailto:ann@example.com", *(f"ATTENDEE:{room}" for room in event.names)]
     if event.slot is not None and method != "ADD":
-        zone = rng.choice([None, *alias])
-        at = clock(event.slot, None)
-        if zone is None and rng.random() < 0.5:
-            lines.append(unfixed(rng, "RECURRENCE-ID", at, rng.choice(["date", "floating"]) if event.slot % 86_400 == 0 else "floating"))
-        else:
-            lines.append(written("RECURRENCE-ID", clock(event.slot, zone), zone, alias) if zone and instant(clock(event.slot, zone), zone) == event.slot else f"RECURRENCE-ID:{utc(event.slot)}")
+        lines.append(written(rng, "RECURRENCE-ID", event.slot, alias))
     if not event.without_start:
-        lines.append(written("DTSTART", event.local, event.zone, alias) if event.form == "fixed" else unfixed(rng, "DTSTART", event.local, event.form))
+        lines.append(written(rng, "DTSTART", event.own(), alias))
         length = (f"P{event.days}D" if event.days else "P") + (f"T{event.seconds // 60}M" if event.seconds or not event.days else "")
         end = event.local + timedelta(days=event.days, seconds=event.seconds)
-        if event.form != "fixed" and rng.random() < 0.5:
-            lines.append(unfixed(rng, "DTEND", end, event.form))
+        # a DTEND without zone is exact seconds later, also where these are days
+        if (event.form == "date" or (event.form == "floating" and not event.days)) and rng.random() < 0.5:
+            lines.append(written(rng, "DTEND", Time(event.form, end, None), alias))
         elif event.form != "date" or event.days != 1 or rng.random() < 0.5:
             # a date without DTEND and DURATION lasts a day
             lines.append(f"DURATION:{length}")
     if event.rule_text:
         lines.append(f"RRULE:{event.rule_text}")
     for name, times in (("RDATE", event.added), ("EXDATE", event.taken)):
-        lines += listed(rng, name, times)
+        lines += listed(rng, name, times, alias)
     if event.cancelled and method != "CANCEL":
         lines.append("STATUS:CANCELLED")
     return lines + ["END:VEVENT"]
 
 
-def stream(rng):
-    """Messages as (method, uid, events, octets)."""
-    year = rng.choice([2025, 2026])
-    days = [datetime(year, 3, 30 if year == 2025 else 29), datetime(year, 3, 31), datetime(year, 3, 9 if year == 2025 else 8), datetime(year, 11, 2 if year == 2025 else 1), datetime(year, 4, 6 if year == 2025 else 5)]
-    days = rng.sample(days, 2)
+def stream(rng, rooms):
+    """Messages to rooms of these zones as (method, uid, events, octets); None in place of the events where two are for one instance."""
     zones = rng.sample(list(ZONES), 2)
+    scene = Scene(some_days(rng, rooms, zones), zones, rooms)
     messages, starts, stamp = [], {}, 1_735_689_600
     for _ in range(rng.randrange(4, 12)):
         if messages and rng.random() < 0.2:
@@ -231,23 +306,30 @@ def stream(rng):
         uid = rng.choice("abc")
         own = starts.setdefault(uid, [])
         method = rng.choices(["REQUEST", "CANCEL", "ADD"], [6, 2, 1])[0]
-        # each message has a moment of its own, so no two bodies are of one revision
+        # each message has a moment of its own, so two bodies of one revision are of one message
         stamp += 1
         sequence = rng.randrange(3)
 
-        def slot():
-            return rng.choice(own) if own and rng.random() < 0.7 else instant(when(rng, days), None)
+        def slot(named):
+            """Of an instance that others of the message name already, now and then."""
+            if named and rng.random() < 0.4:
+                return renamed(rng, rng.choice(named), rooms, zones)
+            others = [time for time in own if time.as_written() not in [it.as_written() for it in named]]
+            time = rng.choice(others) if others and rng.random() < 0.7 else some_time(rng, scene, FORMS)
+            return renamed(rng, time, rooms, zones) if rng.random() < 0.4 else time
 
+        events = []
         if method == "ADD":
-            events = [said(rng, days, 0, (sequence, stamp), zones, []) for _ in range(rng.randrange(1, 3))]
-            for event in events:
-                event.slot, event.added, event.taken, event.rule_text = instant(event.local, event.zone), [], [], None
+            for _ in range(rng.randrange(1, 3)):
+                again = renamed(rng, events[0].slot, rooms, zones) if events and rng.random() < 0.4 else None
+                event = said(rng, scene, 0, (sequence, stamp), [], again)
+                event.slot = event.own()
+                events.append(event)
         else:
-            events = [said(rng, days, None, (sequence, stamp), zones, own)] if rng.random() < 0.8 else []
-            for _ in range(rng.randrange(0 if events else 1, 3)):
-                events.append(said(rng, days, slot(), (rng.randrange(3), stamp), zones, []))
-        if len({event.slot for event in events}) < len(events):
-            continue
+            events = [said(rng, scene, None, (sequence, stamp), own)] if rng.random() < 0.8 else []
+            for _ in range(rng.randrange(0 if events else 1, 4)):
+                named = [event.slot for event in events if event.slot]
+                events.append(said(rng, scene, slot(named), (rng.randrange(3), stamp), []))
         if method == "CANCEL" and rng.random() < 0.5:
             for event in events:
                 event.without_start, event.added, event.taken = True, [], []
@@ -257,17 +339,48 @@ def stream(rng):
         shuffled = rng.sample(events, len(events))
         text = ["BEGIN:VCALENDAR", "VERSION:2.0", f"METHOD:{method}", *named, *(line for event in shuffled for line in lines_of(rng, uid, event, alias, method)), "END:VCALENDAR"]
         octets = "".join(line + "\r\n" if len(line) <= 75 else line[:70] + "\r\n " + line[70:] + "\r\n" for line in text)
-        messages.append((method, uid, events, octets))
+        named = [event.slot.as_written() for event in events if event.slot]
+        messages.append((method, uid, events if len(set(named)) == len(named) else None, octets))
     return messages
+
+
+def preamble(rng, rooms):
+    """The rooms, each with its zone: the line of a zone before or after that of its room, and none for UTC now and then."""
+    lines = [f"now {NOW}", *(f"room {address}" for address in rooms)]
+    for address, zone in rooms.items():
+        if zone or rng.random() < 0.3:
+            lines.insert(rng.randrange(len(lines) + 1), f"zone {rng.choice([address, address, address.upper()])} {ROOM_ZONES[zone]}")
+    return lines
+
+
+def spoiled(rng, rooms, lines):
+    """The lines with one of a zone that makes them no preamble."""
+    room, words = rng.choice(list(rooms)), rng.choice(list(ROOM_ZONES.values()))
+    zoned = [line for line in lines if line.startswith("zone ")]
+    wrong = [f"zone mailto:r9@example.com {words}", f"zone {room}", f"zone {room} {rng.choice(NO_WORDS)}", f"zone {room} {rng.choice(NO_WORDS)}", f"zone  {room} {words}",
+             f"zone {room}  {words}", f"zone {room} {words} ", f"Zone {room} {words}", f"zone\t{room} {words}", f"zone {words} {room}", f"zone r1 {words}", "zone", "zone "]
+    wrong += [*zoned, *(f"{line.rsplit('.com', 1)[0]}.com {words}" for line in zoned)] * 2
+    line = rng.choice(wrong)
+    # of a room that has a zone the line is its second; else it stands alone
+    others = lines if line in zoned or line.split(" ")[:2] in [it.split(" ")[:2] for it in zoned] else [it for it in lines if it not in zoned]
+    # a zone of whom a box hosts as an organiser is none either
+    others = others + ["organiser mailto:r9@example.com"] * (rng.random() < 0.5)
+    return [*others[:1], line, *others[1:]] if rng.random() < 0.5 else [*others, line]
 
 
 # ---- the model of a room
 
 
+# of two parts of one revision the cancelled one counts, then the one that isn't for the room, then the one of the greater octets
+SET, ABSENT, CANCELLED = 0, 1, 2
+
+
 class Room:
-    def __init__(self, address):
-        # what would have been confirmed stays with each decline
-        self.address, self.parts, self.answers, self.wholes, self.beside = address, {}, {}, set(), {}
+    def __init__(self, address, zone):
+        # parts are by UID and instant; what would have been confirmed stays with each decline
+        self.address, self.zone, self.parts, self.answers, self.wholes, self.beside = address, zone, {}, {}, set(), {}
+        # how many events of messages gave way to another one of the same instant
+        self.given_way = 0
 
     def in_view(self, key):
         uid, slot = key
@@ -275,14 +388,14 @@ class Room:
             return key in self.parts
         revision = self.parts[key][0]
         whole = self.parts.get((uid, None))
-        return whole is None or revision > whole[0] or (revision == whole[0] and whole[1] != "cancelled")
+        return whole is None or revision > whole[0] or (revision == whole[0] and whole[1] != CANCELLED)
 
     def confirmed(self, accepted):
         """The instances of accepted parts in the view, without those that another part in the view is for."""
         found = []
         for key in accepted:
             uid, slot = key
-            for instance in self.parts[key][2].instances():
+            for instance in self.parts[key][3].instances(self.zone):
                 if slot is None and self.in_view((uid, instance[0])):
                     continue
                 found.append((uid, *instance))
@@ -291,10 +404,10 @@ class Room:
     def counts(self):
         """How many singles and how many series are confirmed."""
         accepted = [key for key, answer in self.answers.items() if answer]
-        wholes = {uid: self.parts[(uid, None)][2] for uid, slot in accepted if slot is None}
+        wholes = {uid: self.parts[(uid, None)][3] for uid, slot in accepted if slot is None}
         singles = 0
         for key in accepted:
-            on_rule = self.parts[key][2].rule_starts()
+            on_rule = self.parts[key][3].rule_starts(self.zone)
             singles += len([1 for instance in self.confirmed([key]) if key[1] is not None or instance[1] not in on_rule])
         return singles, len([1 for whole in wholes.values() if whole.rule])
 
@@ -303,22 +416,27 @@ class Room:
         if not for_room:
             return []
         whole = next((event.revision for event in events if event.slot is None), None)
-        before = {key: self.parts[key][:2] for key in self.parts if self.in_view(key)}
-        claims = []
+        before = {key: self.parts[key][:3] for key in self.parts if self.in_view(key)}
+        claims = {}
         for event in for_room if method == "CANCEL" else events:
             revision = max(event.revision, whole) if whole is not None else event.revision
-            kind = "cancelled" if method == "CANCEL" or event.cancelled else "set" if self.address in event.names else "absent"
-            claims.append(((uid, event.slot), (revision, kind, event)))
+            kind = CANCELLED if method == "CANCEL" or event.cancelled else SET if self.address in event.names else ABSENT
+            key = uid, event.slot and event.slot.instant(self.zone)
+            value = (revision, kind, event.canonical() if kind == SET and event.slot else b"", event)
+            self.given_way += key in claims
+            # of two for one instance in this room the greater counts
+            if key not in claims or claims[key][:3] < value[:3]:
+                claims[key] = value
         had_whole = uid in self.wholes
-        for key, value in claims:
-            if key not in self.parts or self.parts[key][:1] < value[:1]:
+        for key, value in claims.items():
+            if key not in self.parts or self.parts[key][:3] < value[:3]:
                 self.parts[key] = value
             if key[1] is None:
                 self.wholes.add(uid)
-        self.answers = {key: answer for key, answer in self.answers.items() if self.in_view(key) and before.get(key) == self.parts[key][:2]}
-        shown = [key for key, value in claims if self.in_view(key) and self.parts[key][:2] == value[:2]]
-        fresh = [key for key in shown if before.get(key) != self.parts[key][:2]]
-        asked = [key for key in fresh if self.parts[key][1] == "set"]
+        self.answers = {key: answer for key, answer in self.answers.items() if self.in_view(key) and before.get(key) == self.parts[key][:3]}
+        shown = [key for key, value in claims.items() if self.in_view(key) and self.parts[key][:3] == value[:3]]
+        fresh = [key for key in shown if before.get(key) != self.parts[key][:3]]
+        asked = [key for key in fresh if self.parts[key][1] == SET]
         if asked:
             held = self.confirmed([key for key, accepted in self.answers.items() if accepted] + asked)
             spans = sorted((start, end) for _, _, start, end in held if start < end)
@@ -326,9 +444,12 @@ class Room:
             self.answers.update({key: clear for key in asked})
             self.beside.update({key: held for key in asked})
         first = lambda key: (key[1] is not None, key[1] or 0)
-        words = [("ACCEPTED", None) if self.answers[key] else ("DECLINED", self.beside[key]) for key in sorted(shown, key=first) if self.parts[key][1] == "set"]
+        words = []
+        for key in sorted((key for key in shown if self.parts[key][1] == SET), key=first):
+            word = "ACCEPTED" if self.answers[key] else "DECLINED"
+            words.append((f"{word} {self.address} {uid} {'' if key[1] is None else utc(key[1])}", None if self.answers[key] else self.beside[key]))
         if method == "ADD" and fresh and not had_whole and uid not in self.wholes:
-            words.append(("REFRESH", None))
+            words.append((f"REFRESH {self.address} {uid}", None))
         return words
 
 
@@ -351,21 +472,35 @@ def unfolded(text):
 
 
 def answered(text):
-    words = []
+    """What each VEVENT says, or the line of a refusal, and what a decline names."""
+    words, uid, slot, method = [], "", "", ""
     for line in unfolded(text).split("\r\n"):
-        if line.startswith("ATTENDEE;PARTSTAT="):
-            words.append((line.split("=")[1].split(":")[0], None))
+        value = line.partition(":")[2]
+        if line.startswith("METHOD:"):
+            method = value
+        elif line.startswith("UID:"):
+            uid, slot = value, ""
+        elif line.startswith("RECURRENCE-ID"):
+            slot = value if line.startswith("RECURRENCE-ID:") else line
+        elif line.startswith("ATTENDEE;PARTSTAT="):
+            words.append((f"{line.split('=')[1].split(':')[0]} {value} {uid} {slot}", None))
+        elif line.startswith("ATTENDEE:"):
+            words.append((f"{method} {value} {uid}", None))
         elif line.startswith("REQUEST-STATUS:4.1;"):
             words[-1] = (words[-1][0], line.rpartition(";")[2])
-        elif line.startswith("METHOD:REFRESH"):
-            words.append(("REFRESH", None))
         elif line.startswith("REFUSED"):
             words.append((line, None))
     return words
 
 
-def kept_instances(text):
-    """The confirmed instances of a kept calendar: (uid, slot, start, end)."""
+def names_zone(text, words):
+    """Whether a kept calendar names the zone of its room by these words, and none where that is UTC."""
+    named = [(place, line) for place, line in enumerate(text.split("\r\n")) if line.startswith("X-ROOM-ZONE")]
+    return named == ([] if words == "+0000" else [(3, f"X-ROOM-ZONE:{words}")])
+
+
+def kept_instances(text, room):
+    """The confirmed instances of the kept calendar of a room of this zone: (uid, slot, start, end)."""
     zones, events, block, name = {}, [], None, None
     for line in unfolded(text).split("\r\n"):
         if line in ("BEGIN:VTIMEZONE", "BEGIN:VEVENT"):
@@ -384,7 +519,10 @@ def kept_instances(text):
         return datetime.strptime(text.rstrip("Z"), "%Y%m%dT%H%M%S" if "T" in text else "%Y%m%d")
 
     def times(lines):
-        return [int(local_of(text).replace(tzinfo=timezone.utc).timestamp()) for line in lines or [] for text in line.split(":", 1)[1].split(",")]
+        return [Time(form_of(text), local_of(text), None) for line in lines or [] for text in line.split(":", 1)[1].split(",")]
+
+    def form_of(text):
+        return "date" if len(text) == 8 else "fixed" if text.endswith("Z") else "floating"
 
     masters, found = [], []
     for event in events:
@@ -393,59 +531,133 @@ def kept_instances(text):
         local = local_of(value)
         text = event["DURATION"].split(":")[1][1:]
         days, _, rest = text.partition("T")
-        one = Said(zone=zone, local=local, days=int(days.rstrip("D") or 0), seconds=int(rest.rstrip("S") or 0), added=times(event.get("RDATE")), taken=times(event.get("EXDATE")),
+        one = Said(form="fixed" if zone else form_of(value), zone=zone, local=local, days=int(days.rstrip("D") or 0), seconds=int(rest.rstrip("S") or 0), added=times(event.get("RDATE")), taken=times(event.get("EXDATE")),
                    rule=kept_rule(event["RRULE"]) if "RRULE" in event else None, slot=times([event["RECURRENCE-ID"]])[0] if "RECURRENCE-ID" in event else None)
         masters.append((event["UID"].split(":")[1], one, "STATUS" in event))
     for uid, one, cancelled in masters:
-        hidden = {other.slot for name, other, _ in masters if name == uid and other.slot is not None} if one.slot is None else set()
-        found += [] if cancelled else [(uid, *instance) for instance in one.instances() if instance[0] not in hidden]
+        hidden = {other.slot.instant(room) for name, other, _ in masters if name == uid and other.slot is not None} if one.slot is None else set()
+        found += [] if cancelled else [(uid, *instance) for instance in one.instances(room) if instance[0] not in hidden]
     return sorted(found)
 
 
-def run(program, *words, given=""):
-    return subprocess.run([program, *words], input=given.encode(), capture_output=True, timeout=60).stdout.decode()
+# ---- both
+
+
+class Case:
+    """A stream, and what the program says to it."""
+
+    def __init__(self, seed, number):
+        rng = random.Random(f"messages {seed} {number}")
+        self.number = number
+        self.rooms = dict(zip(ROOMS[: rng.choice([1, 2, 2, 3, 3])], rng.sample([*ROOM_ZONES, None], 3)))
+        self.messages = stream(rng, list(self.rooms.values()))
+        lines = preamble(rng, self.rooms)
+        self.refused = rng.random() < 0.08
+        end = rng.choice(["\n", "\n", "\r\n"])
+        lines = spoiled(rng, self.rooms, lines) if self.refused else lines
+        self.text = "".join(line + end for line in [*lines, ""]) + "".join(message[3] for message in self.messages)
+
+    def runs(self):
+        """The words of each run, by its name."""
+        runs = {"serve": ["serve"]}
+        for place, room in enumerate(self.rooms):
+            runs |= {f"keep{place}": ["keep", room], f"certificate{place}": ["keep", "--certificate", room]}
+        return runs
+
+    def judged(self, outputs, checked, met):
+        """What differs, where these are the outputs of the runs, and this says what `check` says to a calendar and a certificate."""
+        if self.refused:
+            met["refused preambles"] += 1
+            yield from ((name, output) for name, output in outputs.items() if output)
+            return
+        rooms = [Room(address, zone) for address, zone in self.rooms.items()]
+        wanted = []
+        for number, (method, uid, events, _) in enumerate(self.messages, 1):
+            wanted += [(f"REFUSED;OBJECT={number}:54", None)] if events is None else [word for room in rooms for word in room.take(method, uid, events)]
+        found = answered(outputs["serve"])
+        said, expected = [word for word, _ in found], [word for word, _ in wanted]
+        met["objects"] += len(self.messages)
+        met.update(word.split(" ")[0].split(";")[0].lower() for word in said)
+        met["gave way"] += sum(room.given_way for room in rooms)
+        if said != expected:
+            yield "answers", said, expected
+        else:
+            yield from (("clash", data) for (word, data), (_, held) in zip(found, wanted) if word.startswith("DECLINED") and not names_clash(data, held))
+        for place, room in enumerate(rooms):
+            calendar, certificate = outputs[f"keep{place}"], outputs[f"certificate{place}"]
+            if not names_zone(calendar, ROOM_ZONES[room.zone]):
+                yield room.address, "names another zone", calendar[:200]
+            kept, held = kept_instances(calendar, room.zone), sorted(room.confirmed([key for key, answer in room.answers.items() if answer]))
+            if kept != held:
+                yield room.address, room.zone, kept, held
+            verdict = checked(calendar, certificate, room.address)
+            singles, series = room.counts()
+            if verdict != "yes\n" or f"SINGLES {singles}\nSERIES {series}\n" not in certificate:
+                yield room.address, verdict, certificate, f"SINGLES {singles}", f"SERIES {series}"
+
+
+def run(program, words, given=b""):
+    return subprocess.run([program, *words], input=given, capture_output=True, timeout=60, check=False)
+
+
+def played(program, case, met):
+    """Runs the program, and what differs."""
+    outputs = {}
+    for name, words in case.runs().items():
+        ran = run(program, words, case.text.encode())
+        outputs[name] = ran.stdout.decode()
+        wanted = (3, b"roombox: refused 90\n") if case.refused else (0, b"")
+        if (ran.returncode, ran.stderr) != wanted:
+            yield name, ran.returncode, ran.stderr.decode()
+
+    def checked(calendar, certificate, room):
+        with tempfile.TemporaryDirectory() as folder:
+            Path(folder, "c").write_text(calendar, newline="")
+            Path(folder, "k").write_text(certificate, newline="")
+            return run(program, ["check", f"{folder}/c", f"{folder}/k", room]).stdout.decode()
+
+    yield from case.judged(outputs, checked, met)
 
 
 def main():
-    words = argparse.ArgumentParser()
-    words.add_argument("program")
-    words.add_argument("--streams", type=int, default=300)
-    words.add_argument("--seed", type=int, default=1)
-    words = words.parse_args()
-    program, rng = str(Path(words.program).resolve()), random.Random(words.seed)
-    preamble = f"now {NOW}\n" + "".join(f"room {room}\n" for room in ROOMS) + "\n"
-    objects = differ = accepted = declined = 0
+    parser = argparse.ArgumentParser()
+    parser.add_argument("program", nargs="?")
+    parser.add_argument("--streams", type=int, default=300)
+    parser.add_argument("--seed", type=int, default=1)
+    parser.add_argument("--cases", type=Path)
+    parser.add_argument("--answers", type=Path)
+    words = parser.parse_args()
+    met, differ = collections.Counter(), 0
+    printed = outputs_of(words.answers.read_bytes().decode()) if words.answers else {}
     for number in range(words.streams):
-        messages = stream(rng)
-        text = preamble + "".join(message[3] for message in messages)
-        rooms = [Room(address) for address in ROOMS]
-        wanted = [word for method, uid, events, _ in messages for room in rooms for word in room.take(method, uid, events)]
-        found = answered(run(program, given=text))
-        objects += len(messages)
-        said, expected = [word for word, _ in found], [word for word, _ in wanted]
-        accepted += said.count("ACCEPTED")
-        declined += said.count("DECLINED")
-        wrong = [("answers", said, expected)] if said != expected else []
-        wrong += [("clash", data) for (word, data), (_, held) in zip(found, wanted) if not wrong and word == "DECLINED" and not names_clash(data, held)]
-        for room in rooms:
-            calendar = run(program, "keep", room.address, given=text)
-            certificate = run(program, "keep", "--certificate", room.address, given=text)
-            kept, held = kept_instances(calendar), sorted(room.confirmed([key for key, answer in room.answers.items() if answer]))
-            if kept != held:
-                wrong.append((room.address, kept, held))
-            with tempfile.TemporaryDirectory() as folder:
-                Path(folder, "c").write_text(calendar, newline="")
-                Path(folder, "k").write_text(certificate, newline="")
-                verdict = run(program, "check", f"{folder}/c", f"{folder}/k", room.address)
-            singles, series = room.counts()
-            if verdict != "yes\n" or f"SINGLES {singles}\nSERIES {series}\n" not in certificate:
-                wrong.append((room.address, verdict, certificate))
+        case = Case(words.seed, number)
+        if words.cases:
+            for name, run_words in case.runs().items():
+                Path(words.cases, f"{number:05}-{name}").write_text(case.text, newline="")
+                Path(words.cases, f"{number:05}-{name}.args").write_text("\n".join(run_words) + "\n")
+            continue
+        if words.answers:
+            wrong = list(case.judged({name: printed[f"{number:05}-{name}"] for name in case.runs()}, lambda *_: "yes\n", met))
+        else:
+            wrong = list(played(str(Path(words.program).resolve()), case, met))
         if wrong:
             differ += 1
-            print(f"stream {number}:", *wrong, sep="\n  ")
-            Path(f"/tmp/differs-{number}").write_text(text, newline="")
-    print(f"{words.streams} streams of {objects} objects compared ({accepted} accepted, {declined} declined), {differ} different")
+            print(f"stream {number}:", *wrong, sep="\n  ", flush=True)
+            Path(f"/tmp/differs-{number}").write_text(case.text, newline="")
+    print(f"{words.streams} streams: " + ", ".join(f"{count} {what}" for what, count in sorted(met.items())) + f"; {differ} differ")
     return 1 if differ else 0
+
+
+def outputs_of(text):
+    """What `rt try` printed for each case."""
+    outputs, name = {}, None
+    for line in text.splitlines(keepends=True):
+        if line.startswith("== "):
+            name = line[3:].strip()
+            outputs[name] = ""
+        elif name:
+            outputs[name] += line
+    return outputs
 
 
 if __name__ == "__main__":

@@ -6,18 +6,22 @@ each step computes every book anew from what its owner took.
     python3 tests/schedules_by_model.py --answers FILE [--schedules 500]      # and judges what was printed for them
     python3 tests/schedules_by_model.py --table N       # prints N schedules for crates/schedule_examples/data/random.txt, and the lines of stdout
     python3 tests/schedules_by_model.py --table N --days    # the same with whole days and times without zone
+    python3 tests/schedules_by_model.py --table N --zones   # the same, and with rooms that go by the clocks of zones
 
 A schedule has one to three rooms, one or two organisers, of which one may have the address of a room, and stores of two meetings: the whole and instances
 of it, each with its own attendees, agents, statuses and SEQUENCE; RRULE with an end and without, RDATE, EXDATE, nominal days, times in UTC and in a zone,
-whole days and times without zone, which are those of UTC in these rooms; stores that are refused. What was sent is delivered late, again, out of order, to others than it was for, or never; moments stand still and go back.
+whole days and times without zone, which each room reads on the clocks of its own zone; stores that are refused. What was sent is delivered late, again, out of
+order, to others than it was for, or never; moments stand still and go back.
 
 After each step are compared: all messages sent, octet by octet (the clash that a decline names is free: the two instances have to be there and to clash);
 what the room keeps whose step it was, or what the organiser shows of its meetings and sees of answers; and all of that at the end. And the simulation sees
-that what an organiser sees accepted is booked, that all that the organisers' texts show for a room is confirmed in its book, and that what is confirmed is
-clear. It ends with 1 where any of this failed.
+that what an organiser sees accepted is booked, that all that the organisers' texts show for a room, read on its clocks, is confirmed in its book, and that
+what is confirmed is clear. It ends with 1 where any of this failed.
 
-Days of rules are dateutil's, clocks are zoneinfo's. A rule without an end is followed for 500 days: all rules without one are daily or weekly, of intervals
-up to three days or two weeks, so they meet within 42 days on either side of a change of the clocks, or never.
+Days of rules are dateutil's, clocks are zoneinfo's. A rule without an end is followed for 500 days from January 2025 on: all rules without one are daily or
+weekly, of intervals up to three days or two weeks, so they meet within 42 days on either side of a change of the clocks, or never. Where zones change their
+clocks in the same weeks, so that there are fewer days between two changes, the intervals are one day or one week: all changes are on Sundays, and within
+the 500 days is each of them.
 """
 
 import argparse
@@ -35,6 +39,9 @@ from zoneinfo import ZoneInfo
 from dateutil.rrule import rrulestr
 
 from organisers_by_model import folded
+from room_zone_cases import DUBLIN, HAVANA, LORD_HOWE, SYDNEY
+from room_zone_cases import KOLKATA as KOLKATA_WORDS
+from room_zone_cases import NEW_YORK as NEW_YORK_WORDS
 
 EPOCH = datetime(1970, 1, 1)
 MOST = 2_147_483_647
@@ -43,8 +50,14 @@ NEW_YORK = ["BEGIN:STANDARD", "DTSTART:20071104T020000", "RRULE:FREQ=YEARLY;BYMO
             "BEGIN:DAYLIGHT", "DTSTART:20070311T020000", "RRULE:FREQ=YEARLY;BYMONTH=3;BYDAY=2SU", "TZOFFSETFROM:-0500", "TZOFFSETTO:-0400", "END:DAYLIGHT"]
 KOLKATA = ["BEGIN:STANDARD", "DTSTART:19700101T000000", "TZOFFSETFROM:+0530", "TZOFFSETTO:+0530", "END:STANDARD"]
 ZONES = {"America/New_York": NEW_YORK, "Asia/Kolkata": KOLKATA}
+# the zones of rooms, and the words for them; some change their clocks less than 42 days before or after New York does
+ROOM_ZONES = {None: "+0000", "America/New_York": NEW_YORK_WORDS, "Asia/Kolkata": KOLKATA_WORDS, "Australia/Sydney": SYDNEY, "Australia/Lord_Howe": LORD_HOWE,
+              "Europe/Dublin": DUBLIN, "America/Havana": HAVANA}
+NEAR_NEW_YORK = {"Australia/Sydney", "Australia/Lord_Howe", "Europe/Dublin", "America/Havana"}
 WEEKDAYS = ["MO", "TU", "WE", "TH", "FR", "SA", "SU"]
 FIRST_DAY = datetime(2025, 1, 6)
+# where rooms go by zones: days before changes of their clocks
+FIRST_DAYS = [datetime(2024, 10, 5), datetime(2024, 10, 26), datetime(2024, 11, 2), datetime(2025, 3, 8), datetime(2025, 3, 29), datetime(2025, 4, 5)]
 # where rules without an end are no longer followed
 HORIZON = int((FIRST_DAY + timedelta(days=500) - EPOCH).total_seconds())
 # so many schedules are one table
@@ -80,8 +93,8 @@ def clock(at, zone):
 
 
 @functools.lru_cache(maxsize=20_000)
-def rule_starts(text, local, zone, until_instant):
-    """The starts that a rule gives, up to its end, or for a rule without an end those before some instant."""
+def rule_starts(text, local, zone, by_clock, until_instant):
+    """The starts that a rule gives, up to its end, or for a rule without an end those before some instant. UNTIL is compared by the clock, or as an instant."""
     parts = dict(it.split("=") for it in text.split(";"))
     until = parts.pop("UNTIL", None)
     endless = until is None and "COUNT" not in parts
@@ -90,7 +103,7 @@ def rule_starts(text, local, zone, until_instant):
         at = instant(day, zone)
         if endless and at >= until_instant:
             break
-        if until and (f"{day:%Y%m%d}" > until if len(until) == 8 else at > instant(local_of(until), None)):
+        if until and (f"{day:%Y%m%d}" > until if len(until) == 8 else (instant(day, None) if by_clock else at) > instant(local_of(until), None)):
             break
         starts.append(at)
     return starts
@@ -116,7 +129,7 @@ class Component:
     def __init__(self, properties, zones):
         self.attendees = {}
         found = {}
-        # the forms and the instants of RDATE and EXDATE
+        # the forms of RDATE and EXDATE and their instants, of what isn't fixed those in UTC
         self.lists = {"RDATE": [], "EXDATE": []}
         for name, parameters, value in properties:
             if name == "ATTENDEE":
@@ -130,7 +143,6 @@ class Component:
         self.sequence, self.own_sequence = int(value_of("SEQUENCE", 0)), "SEQUENCE" in found
         self.stamp, self.summary, self.rule = value_of("DTSTAMP"), value_of("SUMMARY", ""), value_of("RRULE")
         self.cancelled = value_of("STATUS", "").upper() == "CANCELLED"
-        self.added, self.taken = ([at for _, at in self.lists[name]] for name in ("RDATE", "EXDATE"))
         self.slot = self.when(*found["RECURRENCE-ID"], zones) if "RECURRENCE-ID" in found else None
         self.fixed_slot = self.slot is None or form_of(*found["RECURRENCE-ID"]) == "fixed"
         self.suits = True
@@ -162,13 +174,28 @@ class Component:
                 seconds, number = seconds + int(number) * {"H": 3600, "M": 60, "S": 1}[character], ""
         return int(days[:-1] or 0) * (7 if days.endswith("W") else 1), seconds
 
-    def end(self, start):
-        """Days are added to the local time, the rest is exact."""
-        return (instant(clock(start, self.zone) + timedelta(days=self.days), self.zone) if self.days else start) + self.seconds
+    def clocks(self, room):
+        """The zone of the clocks that show the start, in a room of this zone."""
+        return self.zone if self.form == "fixed" else room
 
-    def starts(self, before=HORIZON):
-        on_rule = rule_starts(self.rule, self.local, self.zone, before) if self.rule else [self.start]
-        return {*on_rule, *self.added} - {*self.taken}
+    def own(self, room):
+        return instant(self.local, self.clocks(room))
+
+    def end(self, start, room):
+        """Days are added to the local time, of a date to its midnight, also where the clocks skip that; the rest is exact."""
+        if not self.days:
+            return start + self.seconds
+        zone = self.clocks(room)
+        local = clock(start, zone)
+        midnight = local.replace(hour=0, minute=0, second=0)
+        if self.form == "date" and instant(midnight, zone) == start:
+            local = midnight
+        return instant(local + timedelta(days=self.days), zone) + self.seconds
+
+    def starts(self, room, before=HORIZON):
+        on_rule = rule_starts(self.rule, self.local, self.clocks(room), self.form != "fixed", before) if self.rule else [self.own(room)]
+        times = {name: {at if form == "fixed" else instant(EPOCH + timedelta(seconds=at), room) for form, at in times} for name, times in self.lists.items()}
+        return {*on_rule, *times["RDATE"]} - times["EXDATE"]
 
     def content(self, names):
         """The lines that say when it is, in the one form that is written, by the names of the zones."""
@@ -232,13 +259,13 @@ class Message:
 # ---- writing
 
 
-def with_zones(method, blocks):
-    """An object of VEVENTs, each a component or None and a function of the names of the zones that gives its lines."""
+def with_zones(method, blocks, own=()):
+    """An object of VEVENTs, each a component or None and a function of the names of the zones that gives its lines; and own lines of it."""
     used = dict.fromkeys(component.zone for component, _ in blocks if component and component.zone)
     names = {zone: f"Z{number}" for number, zone in enumerate(used, 1)}
     zones = [line for zone in used for line in ["BEGIN:VTIMEZONE", f"TZID:{names[zone]}", *ZONES[zone], "END:VTIMEZONE"]]
     events = [line for _, lines in blocks for line in ["BEGIN:VEVENT", *lines(names), "END:VEVENT"]]
-    return [*HEAD, *[f"METHOD:{method}"] * bool(method), *zones, *events, "END:VCALENDAR"]
+    return [*HEAD, *[f"METHOD:{method}"] * bool(method), *own, *zones, *events, "END:VCALENDAR"]
 
 
 def instance_line(slot):
@@ -286,9 +313,9 @@ Decision = namedtuple("Decision", "number accepted moment held")
 
 
 class RoomBook:
-    def __init__(self, room, taken):
-        """From nothing, by all messages that the room took, with their moments; `reply` is the answer to the last."""
-        self.room, self.parts, self.components, self.answers, self.reply = room, [], {}, {}, None
+    def __init__(self, room, zone, taken):
+        """From nothing, by all messages that the room of this zone took, with their moments; `reply` is the answer to the last."""
+        self.room, self.zone, self.parts, self.components, self.answers, self.reply = room, zone, [], {}, {}, None
         for message, moment in taken:
             self.reply = self.take(message, moment)
         self.view = view_of(self.parts)
@@ -319,9 +346,11 @@ class RoomBook:
             if part.kind == SET and accepts(part):
                 component = self.components[part]
                 if part.slot is None:
-                    found += [(part.meeting, at, at, component.end(at)) for at in component.starts() if (part.meeting, at) not in for_instances]
+                    starts = [at for at in component.starts(self.zone) if (part.meeting, at) not in for_instances]
+                    found += [(part.meeting, at, at, component.end(at, self.zone)) for at in starts]
                 else:
-                    found.append((part.meeting, part.slot, component.start, component.end(component.start)))
+                    own = component.own(self.zone)
+                    found.append((part.meeting, part.slot, own, component.end(own, self.zone)))
         return found
 
     def booked(self):
@@ -349,7 +378,7 @@ class RoomBook:
                     blocks.append((self.components[part], self.kept(part, self.components[part])))
                 elif has_whole and part.slot is not None:
                     blocks.append((None, self.kept(part, None)))
-        return with_zones(None, blocks)
+        return with_zones(None, blocks, [f"X-ROOM-ZONE:{ROOM_ZONES[self.zone]}"] * bool(self.zone))
 
     def kept(self, part, component):
         def lines(names):
@@ -454,12 +483,14 @@ class World:
     """What was taken by whom, and all that was sent. The books are computed anew at each step."""
 
     def __init__(self, rooms, organisers):
+        """Of rooms, each with its zone."""
+        self.zones = rooms
         self.taken = {("room", it): [] for it in rooms} | {("organiser", it): [] for it in organisers}
         self.sent, self.met = [], Counter()
         self.compute()
 
     def compute(self):
-        self.rooms = {it: RoomBook(it, taken) for (kind, it), taken in self.taken.items() if kind == "room"}
+        self.rooms = {it: RoomBook(it, self.zones[it], taken) for (kind, it), taken in self.taken.items() if kind == "room"}
         self.organisers = {it: OrganiserBook(it, taken) for (kind, it), taken in self.taken.items() if kind == "organiser"}
 
     def play(self, step):
@@ -500,7 +531,7 @@ class World:
             shown = []
             for organiser in self.organisers.values():
                 for uid in organiser.stores:
-                    shown += shown_for(room, Message(organiser.text(uid)))
+                    shown += shown_for(room, self.zones[room], Message(organiser.text(uid)))
                     yield from self.not_booked(organiser, uid, room, book)
             self.met["shown instances"] += len(shown)
             if not set(shown) <= set(booked) or clash_in(shown):
@@ -518,13 +549,13 @@ class World:
                     yield f"{organiser.organiser} sees {room} accepted for {uid} {slot}, which isn't booked"
 
 
-def shown_for(room, text):
-    """The instances that an organiser's text shows confirmed for a room."""
+def shown_for(room, zone, text):
+    """The instances that an organiser's text shows confirmed for a room, on the clocks of its zone."""
     found, overrides = [], {it.slot for it in text.components}
     for it in text.components:
         if not it.cancelled and it.attendees.get(room, {}).get("PARTSTAT") == "ACCEPTED":
-            meeting = it.organiser, it.uid
-            found += [(meeting, at, at, it.end(at)) for at in it.starts() - overrides] if it.slot is None else [(meeting, it.slot, it.start, it.end(it.start))]
+            starts = {(at, at) for at in it.starts(zone) - overrides} if it.slot is None else {(it.slot, it.own(zone))}
+            found += [((it.organiser, it.uid), slot, at, it.end(at, zone)) for slot, at in starts]
     return found
 
 
@@ -538,8 +569,8 @@ def address(name):
 class Drawing:
     """One random schedule: who is hosted, and its steps, drawn beside the world that they lead to."""
 
-    # whether whole days and times without zone are drawn
-    with_days = True
+    # whether whole days and times without zone are drawn, and whether rooms have zones
+    with_days = with_zones = True
 
     def __init__(self, seed):
         self.draw = draw = random.Random(f"schedule {seed}")
@@ -549,6 +580,8 @@ class Drawing:
             self.organisers[-1] = "r1"
         self.people = [*self.rooms, *self.rooms, "zed", self.organisers[0]]
         self.uids = ["u", "v"][: draw.choice([1, 2, 2, 2])]
+        self.zones = {room: draw.choice([None, *ROOM_ZONES]) if Drawing.with_zones else None for room in self.rooms}
+        self.first = draw.choice([FIRST_DAY, *FIRST_DAYS]) if Drawing.with_zones else FIRST_DAY
         self.moment = datetime(2025, 1, 2)
         self.delivered = set()
 
@@ -575,7 +608,9 @@ class Drawing:
     def store(self, organiser):
         """An object to store, with faults now and then."""
         draw, uid = self.draw, self.draw.choice(self.uids)
-        start = FIRST_DAY + timedelta(days=draw.randrange(2), minutes=30 * draw.randrange(18, 21))
+        # of what is fixed: the zone by whose clocks it is drawn, so that in a room of that zone it is beside what isn't fixed
+        self.drawn_in = draw.choice([None, *self.zones.values()]) if Drawing.with_zones else None
+        start = self.first + timedelta(days=draw.randrange(2), minutes=30 * draw.randrange(18, 21))
         if Drawing.with_days and draw.random() < 0.25:
             # so that dates and times are at one instant
             start = start.replace(hour=0, minute=0)
@@ -613,7 +648,7 @@ class Drawing:
         elif draw.random() < 0.3:
             # one of another form is refused
             other = Drawing.with_days and draw.random() < 0.03
-            lines.append(self.timed("DTEND", own + timedelta(seconds=seconds), zone, ("floating" if form == "fixed" else "fixed") if other else form))
+            lines.append(self.timed("DTEND", own, zone, ("floating" if form == "fixed" else "fixed") if other else form, seconds))
         elif seconds or draw.random() < 0.5:
             lines.append(draw.choice([f"DURATION:PT{seconds // 60}M", f"DURATION:PT{seconds}S"]))
         if slot is None:
@@ -632,12 +667,17 @@ class Drawing:
         lines += [f"ATTENDEE{';SCHEDULE-AGENT=' + agent if agent else ''};CN=x:{address(name)}" for name, agent in named]
         return ["BEGIN:VEVENT", *lines, "END:VEVENT"]
 
-    def timed(self, name, at, zone, form="fixed"):
+    def fixed(self, at, later=0):
+        """In UTC, so many seconds after what the clocks show."""
+        return EPOCH + timedelta(seconds=instant(at, self.drawn_in) + later)
+
+    def timed(self, name, at, zone, form="fixed", later=0):
         """A property whose value is an instant, in UTC or by the clocks of a zone; or a time without zone, or a date."""
         if form == "date":
             return f"{name}{self.draw.choice([';VALUE=DATE', ';VALUE=DATE', ''])}:{at:%Y%m%d}"
         if form == "floating":
-            return f"{name}:{at:%Y%m%dT%H%M%S}"
+            return f"{name}:{at + timedelta(seconds=later):%Y%m%dT%H%M%S}"
+        at = self.fixed(at, later)
         if zone is None:
             return f"{name}:{at:%Y%m%dT%H%M%SZ}"
         self.zone_names[zone] = zone.split("/")[1]
@@ -647,7 +687,8 @@ class Drawing:
         """RRULE, RDATE and EXDATE of a whole meeting."""
         draw, lines = self.draw, []
         if draw.random() < 0.45:
-            lines.append("RRULE:" + self.rule(clock(instant(start, None), zone), start, form))
+            local = clock(instant(self.fixed(start), None), zone) if form == "fixed" else start
+            lines.append("RRULE:" + self.rule(local, start, form))
         near = [start + timedelta(days=it, minutes=draw.choice([0, 0, 60])) for it in range(5)]
         for name, chance in (("RDATE", 0.25), ("EXDATE", 0.25)):
             if draw.random() < chance:
@@ -656,20 +697,27 @@ class Drawing:
                 if Drawing.with_days and draw.random() < 0.5:
                     lines += [self.timed(name, it, None, draw.choice(["fixed", "date", "date", "floating"])) for it in dates]
                     continue
-                lines += [self.timed(name, it, draw.choice([None, zone])) for it in dates] if apart else [f"{name}:" + ",".join(f"{it:%Y%m%dT%H%M%SZ}" for it in dates)]
+                lines += [self.timed(name, it, draw.choice([None, zone])) for it in dates] if apart else [f"{name}:" + ",".join(f"{self.fixed(it):%Y%m%dT%H%M%SZ}" for it in dates)]
         return lines
 
     def rule(self, local, start, form_of_start):
         draw, own, other = self.draw, WEEKDAYS[local.weekday()], self.draw.choice(WEEKDAYS)
         weekly = ["FREQ=WEEKLY", f"FREQ=WEEKLY;BYDAY={other},{own}"]
         if draw.random() < 0.25:
+            if Drawing.with_zones and form_of_start == "date" and draw.random() < 0.9:
+                # whole days each day without an end are gone through to the year 9999 where the clocks are set, in each decision beside them
+                return "FREQ=WEEKLY"
+            if NEAR_NEW_YORK & {*self.zones.values()}:
+                return draw.choice(["FREQ=DAILY", *weekly])
             return draw.choice(["FREQ=DAILY", "FREQ=DAILY;INTERVAL=2", "INTERVAL=3;FREQ=DAILY", *weekly, "FREQ=WEEKLY;INTERVAL=2"])
         daily = ["FREQ=DAILY", "FREQ=DAILY", "FREQ=DAILY;INTERVAL=2", f"FREQ=DAILY;BYDAY={own},{other}"]
         monthly = ["FREQ=MONTHLY", f"FREQ=MONTHLY;BYDAY={(local.day + 6) // 7}{own}", f"FREQ=MONTHLY;BYMONTHDAY={local.day}"]
         form = draw.choice([*daily, *weekly, *monthly])
         if "MONTHLY" not in form and draw.random() < 0.3:
             until = start + timedelta(days=draw.randrange(0, 12))
-            if form_of_start != "fixed" and draw.random() < 0.5:
+            if form_of_start == "fixed":
+                until = self.fixed(until)
+            elif draw.random() < 0.5:
                 return f"{form};UNTIL={until + timedelta(seconds=draw.choice([0, 0, 1, 3600, 80_000])):%Y%m%dT%H%M%S}" + draw.choice(["", "Z"])
             return f"{form};UNTIL=" + draw.choice([f"{until:%Y%m%dT%H%M%SZ}", f"{until + timedelta(days=1):%Y%m%d}"])
         return f"COUNT={draw.choice([1, 2, 3, 3, 4, 5])};{form}"
@@ -703,10 +751,11 @@ class Case:
     def __init__(self, seed, steps, at_end=False):
         self.seed, self.at_end, self.columns, self.wanted, self.faults = seed, at_end, [], [], []
         drawing = Drawing(seed)
-        self.world = World([address(it) for it in drawing.rooms], [address(it) for it in drawing.organisers])
+        self.world = World({address(it): zone for it, zone in drawing.zones.items()}, [address(it) for it in drawing.organisers])
         # an address that is given twice counts once
         twice = [drawing.rooms[0]] * (drawing.draw.random() < 0.1)
         self.columns = [f"rooms {' '.join([*drawing.rooms, *twice])}", f"organisers {' '.join(drawing.organisers)}"]
+        self.columns += [f"zone {it} {ROOM_ZONES[zone]}" for it, zone in drawing.zones.items() if zone]
         for number in range(drawing.draw.randrange(2, steps + 1)):
             step = drawing.step(self.world)
             self.add(step)
@@ -835,11 +884,12 @@ def main():
     parser.add_argument("--answers", type=Path)
     parser.add_argument("--table", type=int)
     parser.add_argument("--days", action="store_true")
+    parser.add_argument("--zones", action="store_true")
     words = parser.parse_args()
     if words.table:
-        Drawing.with_days = words.days
+        Drawing.with_days, Drawing.with_zones = words.days or words.zones, words.zones
         for number in range(words.table):
-            case = Case(f"{'days' if words.days else 'table'} {number}", 16, at_end=True)
+            case = Case(f"{'zones' if words.zones else 'days' if words.days else 'table'} {number}", 16, at_end=True)
             print(case.line())
             print(f"schedule {case.seed}: " + " | ".join(said(it) for _, _, it in case.wanted), file=sys.stderr)
         return 0
