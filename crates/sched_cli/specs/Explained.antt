@@ -62,7 +62,7 @@ meanings =
     ∷ (82, codes "the certificate counts other singles or series than the calendar has for this room.")
     ∷ (83, codes "the two series of the pair behind it have instances that overlap, or arcs of their residues meet, or SPAN or RES isn't allowed of them.")
     ∷ (84, codes "a single overlaps with another, or with a series.")
-    ∷ (90, codes "the preamble can't be read; for `keep`, also a room that it doesn't name.")
+    ∷ (90, codes "the preamble can't be read, as where words mean no zone, or a zone is of no room or the second of one; for `keep`, also a room that it doesn't name.")
     ∷ []
 
 abbrev pub meaning_among : List (ℕ × List ℕ) → ℕ → List ℕ
