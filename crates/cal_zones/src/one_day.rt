@@ -4,6 +4,7 @@ ghost use Rattle.std.specs.Prelude.{◌≡◌, ℕ, ◌≤◌, true, false, map,
 ghost use Rattle.std.specs.List.{list_all, list_any};
 ghost use Rattle.std.specs.Ordering.{int_eq};
 ghost use Rattle.profile.specs.series.ZoneTexts.{YearRule, are_only, is_of_seven, are_seven, names_days, is_plain_yearly, is_one_day};
+ghost use Rattle.profile.specs.series.GeneralZoneTexts.{without_end};
 ghost use Rattle.cal_rules.specs.Views.{weekday_number_of};
 ghost use Rattle.cal_zones.specs.Shapes.{days_of, rule_named};
 ghost use Rattle.cal_zones.specs.Named.{NamesNone};
@@ -110,21 +111,19 @@ fn days_named(numbers: &[i16], entries: &[WeekdayNumber]) -> Option<MonthDays>
     weekday_named(numbers, entry)
 }
 
-/// Is it a YEARLY rule without INTERVAL, COUNT, UNTIL and BYSETPOS?
+/// Is it a YEARLY rule without INTERVAL and BYSETPOS? COUNT or UNTIL may end it.
 fn is_plain_yearly(rule: &RuleText) -> bool
-    ensures { result ≡ is_plain_yearly rule.now }
+    ensures { result ≡ is_plain_yearly (without_end rule.now) }
 {
     rule.frequency() == Frequency::Yearly
         && rule.interval() == 1
-        && rule.count().is_none()
-        && rule.until().is_none()
         && rule.positions().is_empty()
 }
 
-/// The one day of every year that a rule names. None where it names none or several, or ends.
-pub(crate) fn day_of_year(rule: &RuleText) -> Option<Yearly>
-    ensures found { IfSome result (λ r. is_one_day rule.now (rule_named r.month r.days) ≡ true) }
-    ensures none { IfNone result ((r : YearRule) → is_one_day rule.now r ≡ true → ⊥) }
+/// The one day of every year that a rule names, whether COUNT or UNTIL ends it or not (RFC 5545 3.3.10). None where it names none or several.
+pub fn day_named(rule: &RuleText) -> Option<Yearly>
+    ensures found { IfSome result (λ r. is_one_day (without_end rule.now) (rule_named r.month r.days) ≡ true) }
+    ensures none { IfNone result ((r : YearRule) → is_one_day (without_end rule.now) r ≡ true → ⊥) }
 {
     if !is_plain_yearly(rule) {
         return None;
@@ -132,4 +131,15 @@ pub(crate) fn day_of_year(rule: &RuleText) -> Option<Yearly>
     let month = only(rule.months())?;
     let days = days_named(rule.month_days(), rule.weekdays())?;
     Yearly::new(month, days)
+}
+
+/// The one day of every year that a rule names. None where it names none or several, or ends.
+pub(crate) fn day_of_year(rule: &RuleText) -> Option<Yearly>
+    ensures found { IfSome result (λ r. is_one_day rule.now (rule_named r.month r.days) ≡ true) }
+    ensures none { IfNone result ((r : YearRule) → is_one_day rule.now r ≡ true → ⊥) }
+{
+    if rule.count().is_some() || rule.until().is_some() {
+        return None;
+    }
+    day_named(rule)
 }

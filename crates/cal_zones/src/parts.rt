@@ -67,7 +67,7 @@ pub(crate) fn only_named<'c, 'a>(zone: &'c Component<'a>, name: &str) -> Option<
 }
 
 /// Is there such a property? Names are compared caseless.
-pub(crate) fn has_line(properties: &Properties<'_>, name: &str) -> bool
+pub fn has_line(properties: &Properties<'_>, name: &str) -> bool
     ensures missing { result ≡ false → IsMissing name.now properties.now }
     ensures present { result ≡ true → IsMissing name.now properties.now → ⊥ }
 {
@@ -89,7 +89,7 @@ fn is_date_time(line: Line<'_>) -> bool
 }
 
 /// The local time of a line. Refused with 40 where it is in UTC or in a zone, with 11 where it isn't one.
-fn read_local(line: Line<'_>) -> Result<LocalTime, Refusal>
+pub fn read_local(line: Line<'_>) -> Result<LocalTime, Refusal>
     ensures says { IfOk result (IsLocalLine (line_text line.entry)) }
     ensures fault { IfErr result (λ e. StartFault (line_text line.entry) e.number) }
     ensures fixed { IfErr result (λ e. IsFixedLine (line_text line.entry) → e.number ≡ 40) }
@@ -107,7 +107,7 @@ fn read_local(line: Line<'_>) -> Result<LocalTime, Refusal>
 }
 
 /// The offset of that name. Refused with 40 where it is missing or occurs twice, with 13 where it isn't one.
-fn read_offset(properties: &Properties<'_>, name: &str) -> Result<UtcOffset, Refusal>
+pub fn read_offset(properties: &Properties<'_>, name: &str) -> Result<UtcOffset, Refusal>
     ensures says { IfOk result (λ t. Says name.now true IsOffsetLine properties.now (Some t)) }
     ensures fault { IfErr result (λ e. OffsetFault name.now properties.now e.number) }
 {

@@ -1,9 +1,10 @@
 -- Worked examples of definitions, computed. Those of the other files are beside the crates that meet them: Lines in ical_lines,
 -- Objects in ical_tree, Days and Values in cal_days and ical_values, Instances in cal_events, Certificates in clash_cert,
 -- Revisions in itip_order, Messages in itip_messages, Rooms in room_books.
-use Rattle.std.proofs.Common.{decimal, ◌≡◌, ◌<◌, ◌∙◌, ℕ, ℤ, zero, suc, pos, negsuc, true, false, List, [], ◌∷◌, ◌++◌, Some, None, refl, sym, codes, length, ap, arith, get_or, lit<}
+use Rattle.std.proofs.Common.{decimal, ◌≡◌, ◌<◌, ◌∙◌, ℕ, ℤ, zero, suc, pos, negsuc, true, false, List, [], ◌∷◌, ◌++◌, Some, None, refl, sym, codes, length, ap, arith, get_or, lit<, ◌^◌}
 use Rattle.std.proofs.lemmas.Bool.{false≢true}
 use Rattle.std.proofs.lemmas.Fmt.{decimal_digit}
+use Rattle.std.proofs.lemmas.List.Elements.{All-nil}
 use Rattle.profile.specs.faults.Faults.{is_event_fault, is_calendar_fault, is_message_fault}
 use Rattle.profile.specs.text.Lines.{line_param}
 use Rattle.profile.specs.checker.Calendars.{CalendarTextFault, in_lines, in_tree}
@@ -17,7 +18,7 @@ use Rattle.profile.specs.events.Messages.{Message, NamesMethod}
 use Rattle.profile.specs.rooms.Messages.{Accept, SinglesLimit, no_content, list_lines, is_in_dates, cancels, is_addressed, parts_for, revision_beside, IsBody, object_lines, word}
 use Rattle.profile.specs.checker.Instances.{Instance}
 use Rattle.profile.specs.rooms.Rooms.{PartAnswer, Book, Claim, confirmed_singles, confirmed_series, is_confirmed, is_hidden, wants_whole}
-use Rattle.profile.specs.checker.Certificates.{Claims, SpellsCertificate}
+use Rattle.profile.specs.checker.Certificates.{Claims, IsApart, IsClaims, IsGroup, SpellsCertificate}
 use Rattle.profile.specs.rooms.Kept.{IsKept, first_parts, each_once, renamed}
 use Rattle.profile.specs.streams.Streams.{Now, Room, moments, organisers, Organiser, rooms, refused_line, AreObjects}
 
@@ -260,25 +261,36 @@ a_word_has_no_comma = refl
 
 -- the certificate of a calendar that confirms nothing, and of one that confirms a single
 abbrev counts_alone : ℕ → Claims
-counts_alone singles = record { singles = singles; series = 0; rows = [] }
+counts_alone singles = record { singles = singles; series = 0; groups = None; pairs = [] }
 
 abbrev lines_alone : ℕ → List (List ℕ)
 lines_alone singles = codes "ROOMCERT 1" ∷ (codes "SINGLES " ++ decimal singles) ∷ (codes "SERIES " ++ decimal 0) ∷ codes "DONE" ∷ []
 
+no_series_claimed : {singles : ℕ} → singles < 2 ^ 64 → IsClaims (counts_alone singles)
+no_series_claimed few = record {
+  singles = few;
+  series = lit< tt;
+  groups = All-nil (IsGroup 0);
+  groups_ordered = λ i j d e l. absurd (omega (arith, l));
+  pairs = All-nil (IsApart 0 []);
+  pairs_ordered = λ i j d e l. absurd (omega (arith, l));
+  all = λ i j p. let a = p.0 in let b = p.1 in let c = p.2 in absurd (omega (arith, a, b, c));
+}
+
 nothing_said : SpellsCertificate (codes "ROOMCERT 1\nSINGLES 0\nSERIES 0\nDONE\n") (counts_alone 0)
 nothing_said = record {
-  claims = record { singles = lit< tt; series = lit< tt; rows = refl };
+  claims = no_series_claimed (lit< tt);
   lines = lines_alone 0;
-  are = record { pairs = []; are = refl; is = refl };
+  are = record { groups = []; are_groups = tt; pairs = []; are_pairs = tt; is = refl };
   is = sym (ap (λ (d : List ℕ). codes "ROOMCERT 1\nSINGLES " ++ (d ++ (codes "\nSERIES " ++ (decimal 0 ++ codes "\nDONE\n")))) (decimal_digit 0 (lit< tt))
       ∙ ap (λ (d : List ℕ). codes "ROOMCERT 1\nSINGLES 0\nSERIES " ++ (d ++ codes "\nDONE\n")) (decimal_digit 0 (lit< tt)));
 }
 
 one_said : SpellsCertificate (codes "ROOMCERT 1\nSINGLES 1\nSERIES 0\nDONE\n") (counts_alone 1)
 one_said = record {
-  claims = record { singles = lit< tt; series = lit< tt; rows = refl };
+  claims = no_series_claimed (lit< tt);
   lines = lines_alone 1;
-  are = record { pairs = []; are = refl; is = refl };
+  are = record { groups = []; are_groups = tt; pairs = []; are_pairs = tt; is = refl };
   is = sym (ap (λ (d : List ℕ). codes "ROOMCERT 1\nSINGLES " ++ (d ++ (codes "\nSERIES " ++ (decimal 0 ++ codes "\nDONE\n")))) (decimal_digit 1 (lit< tt))
       ∙ ap (λ (d : List ℕ). codes "ROOMCERT 1\nSINGLES 1\nSERIES " ++ (d ++ codes "\nDONE\n")) (decimal_digit 0 (lit< tt)));
 }

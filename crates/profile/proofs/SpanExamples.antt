@@ -1,17 +1,17 @@
 -- From when on series do the same again, and after how many days, of one that is an hour long each Monday at 09:00 in UTC, and of a zone whose
 -- clocks are set back once.
-use Rattle.std.proofs.Common.{◌≡◌, refl, arith, ℕ, ◌*◌, ℤ, pos, negsuc, true, false, sym, subst, ap, true≢false, rules, unwrap_or, lit≤, [], ◌∷◌, Some, None, inl}
+use Rattle.std.proofs.Common.{◌≡◌, refl, arith, ℕ, ◌*◌, ℤ, pos, negsuc, true, false, zero, suc, ◌<◌, ◌≤ℤ◌, sym, subst, ap, true≢false, rules, unwrap_or, lit≤, [], ◌∷◌, Some, None, inl, inr}
 use Rattle.std.specs.Prelude.{Contains}
 use Rattle.std.proofs.lemmas.Int.{ints}
 use Rattle.std.proofs.lemmas.Bool.{eqb-true}
-use Rattle.profile.specs.events.Properties.{Fixed}
+use Rattle.profile.specs.events.Properties.{Fixed, length_seconds}
 use Rattle.profile.specs.series.Days.{Weekly}
 use Rattle.profile.specs.series.Rules.{Pattern, Rule}
 use Rattle.profile.specs.series.Periods.{IsMultiple, IsShift}
 use Rattle.profile.specs.series.Zones.{Observance, Single, IsFirstOf}
 use Rattle.profile.specs.events.EventComponents.{EventComponent}
 use Rattle.profile.specs.events.Events.{Event}
-use Rattle.profile.specs.events.Spans.{IsBoundOf, IsLeastPeriodOf, IsPastAll, IsPastOnsets, IsPeriodOf, IsSpan, has_end}
+use Rattle.profile.specs.events.Spans.{IsBoundOf, IsLeastPeriodOf, IsPastAll, IsPastOnsets, IsPeriodOf, IsSpan, IsWidthOf, has_end}
 
 -- ---- Mondays from 2025-01-06 on, but not 2025-01-13
 
@@ -92,26 +92,41 @@ a_week = record {
   least = λ n some is. let m = days_of n is in let e = m.1 in omega (arith, some, e);
 }
 
+only : {one : Event} → Contains (series ∷ []) one → one ≡ series
+only {one} (zero, l, e) = sym e
+only {one} (suc k, l, e) = absurd (omega (arith, l))
+
 -- two weeks settle it with itself too, ten days don't, nor does no day
-two_weeks : IsSpan series series (pos 1_736_758_801) 14
+two_weeks : IsSpan (series ∷ []) (pos 1_736_758_801) 14
 two_weeks = record {
   some = omega arith;
   most = lit≤ tt;
-  first_past = after_the_exception;
-  second_past = after_the_exception;
-  first_period = weeks 2;
-  second_period = weeks 2;
+  past = λ one c. subst (λ (a : Event). IsPastAll a (pos 1_736_758_801)) (sym (only c)) after_the_exception;
+  period = λ one c. subst (λ (a : Event). IsPeriodOf a 14) (sym (only c)) (weeks 2);
 }
 
-ten_days : (from : ℤ) → IsSpan series series from 10 → ⊥
-ten_days from span = let m = days_of 10 span.first_period in let e = m.1 in omega (arith, e)
+ten_days : (from : ℤ) → IsSpan (series ∷ []) from 10 → ⊥
+ten_days from span = let m = days_of 10 (span.period series (0, omega arith, refl)) in let e = m.1 in omega (arith, e)
 
-no_day : (from : ℤ) → IsSpan series series from 0 → ⊥
+no_day : (from : ℤ) → IsSpan (series ∷ []) from 0 → ⊥
 no_day from span = let l = span.some in omega (arith, l)
 
 -- the bound is an hour after the two weeks
-the_bound : IsBoundOf series series (pos 1_736_758_801) 14 (pos 1_737_972_001)
-the_bound = (pos 3600, pos 3600, (master, refl, inl (refl, refl)), (master, refl, inl (refl, refl)), refl)
+an_hour : (width : ℤ) → IsWidthOf series width → width ≤ℤ pos 3600
+an_hour width (m, is, inl (none, e)) =
+    let same : m ≡ master = ap (λ n. unwrap_or n master) (sym is) in
+    let f : width ≡ pos 3600 = rw e (ap (λ (n : EventComponent). pos (length_seconds n.times.length)) same) in
+    omega (arith, ints, f)
+an_hour width (m, is, inr (some, rest)) =
+    let same : m ≡ master = ap (λ n. unwrap_or n master) (sym is) in
+    let f = subst (λ (n : EventComponent). 0 < n.times.length.days) same some in
+    absurd (omega (arith, f))
+
+no_more : (one : Event) (width : ℤ) → Contains (series ∷ []) one → IsWidthOf one width → width ≤ℤ pos 3600
+no_more one width c is = an_hour width (subst (λ (a : Event). IsWidthOf a width) (only c) is)
+
+the_bound : IsBoundOf (series ∷ []) (pos 1_736_758_801) 14 (pos 1_737_972_001)
+the_bound = (pos 3600, record { one = (series, (0, omega arith, refl), (master, refl, inl (refl, refl))); none_greater = no_more }, refl)
 
 -- ---- a zone whose clocks are set back once, at 2025-11-02T06:00:00Z
 

@@ -1,6 +1,6 @@
 -- From which instant on, and after how many days, series do the same again, so that what they do in one period settles them (RFC 5545
 -- 3.3.10, 3.6.5, 3.8.5). A series is a meeting of a master by its rule alone: its exceptions are what EXDATE names and what overrides replace.
-use Rattle.std.specs.Prelude.{◌≡◌, ◌⊎◌, ℕ, ◌*◌, ◌≤◌, ◌<◌, Bool, true, false, ◌||◌, if◌then◌else◌, int_lt, List, [], Contains, Option, Some, is_some, IfSome, ℤ, pos, ◌+ℤ◌, ◌≤ℤ◌, ◌<ℤ◌}
+use Rattle.std.specs.Prelude.{◌≡◌, ◌⊎◌, ℕ, ◌*◌, ◌≤◌, ◌<◌, Bool, true, false, ◌||◌, List, [], ◌++◌, Contains, Option, Some, is_some, IfSome, ℤ, pos, ◌+ℤ◌, ◌≤ℤ◌, ◌<ℤ◌}
 use Rattle.profile.specs.checker.Instances.{Instance, horizon, AreClear, HasClash}
 use Rattle.profile.specs.text.Trees.{Tree}
 use Rattle.profile.specs.series.Rules.{Rule}
@@ -74,26 +74,25 @@ pub record IsPastAll (series : Event) (instant : ℤ) : Type 0 where
 abbrev pub IsLeastPast : Event → ℤ → Type 0
 IsLeastPast series instant = IsPastAll series instant × ((other : ℤ) → IsPastAll series other → instant ≤ℤ other)
 
--- ---- what settles two series, or one with itself
+-- ---- what settles series with others, or with themselves
 
 -- no instance of a series lasts longer
 abbrev pub IsWidthOf : Event → ℤ → Type 0
 IsWidthOf series width = (master : EventComponent) × (series.master ≡ Some master) × IsWidth master.times width
 
--- from this instant on both series do the same after so many days
-pub record IsSpan (a b : Event) (from : ℤ) (days : ℕ) : Type 0 where
+-- from this instant on each of these series does the same after so many days
+pub record IsSpan (all : List Event) (from : ℤ) (days : ℕ) : Type 0 where
   pub some : 0 < days
   pub most : days ≤ most_period
-  pub first_past : IsPastAll a from
-  pub second_past : IsPastAll b from
-  pub first_period : IsPeriodOf a days
-  pub second_period : IsPeriodOf b days
+  pub past : (series : Event) → Contains all series → IsPastAll series from
+  pub period : (series : Event) → Contains all series → IsPeriodOf series days
 
--- the greater of two
-abbrev pub greater : ℤ → ℤ → ℤ
-greater a b = if int_lt a b then b else a
+-- the width of one of these series that no other one's is greater than
+pub record IsGreatestWidth (all : List Event) (width : ℤ) : Type 0 where
+  pub one : (series : Event) × Contains all series × IsWidthOf series width
+  pub none_greater : (series : Event) (other : ℤ) → Contains all series → IsWidthOf series other → other ≤ℤ width
 
--- where they are settled: at the end of one period and the greater width after it. An instance that starts just before the end of the period
+-- where they are settled: at the end of one period and the greatest width after it. An instance that starts just before the end of the period
 -- may last into the next one
 abbrev pub span_end : ℤ → ℕ → ℤ → ℤ
 span_end from days width = (from +ℤ pos (86_400 * days)) +ℤ width
@@ -102,21 +101,29 @@ span_end from days width = (from +ℤ pos (86_400 * days)) +ℤ width
 abbrev pub StartsBelow : Event → ℤ → Instance → Type 0
 StartsBelow series bound instance = IsInstance series instance × (instance.start <ℤ bound)
 
--- the bound of a span of two series
-abbrev pub IsBoundOf : Event → Event → ℤ → ℕ → ℤ → Type 0
-IsBoundOf a b from days bound = (first : ℤ) × (second : ℤ) × IsWidthOf a first × IsWidthOf b second × (bound ≡ span_end from days (greater first second))
+-- the bound of a span of these series
+abbrev pub IsBoundOf : List Event → ℤ → ℕ → ℤ → Type 0
+IsBoundOf all from days bound = (width : ℤ) × IsGreatestWidth all width × (bound ≡ span_end from days width)
 
--- the span settles them: no two instances clash that start before its bound
-pub record SpanHolds (a b : Event) (from : ℤ) (days : ℕ) : Type 0 where
-  pub span : IsSpan a b from days
+-- the span settles each of these series with each of those: no two of their instances clash that start before its bound
+pub record SpanHolds (these those : List Event) (from : ℤ) (days : ℕ) : Type 0 where
+  pub span : IsSpan (these ++ those) from days
   pub bound : ℤ
-  pub is : IsBoundOf a b from days bound
-  pub clear : AreClear (StartsBelow a bound) (StartsBelow b bound)
+  pub is : IsBoundOf (these ++ those) from days bound
+  pub clear : (a b : Event) → Contains these a → Contains those b → AreClear (StartsBelow a bound) (StartsBelow b bound)
+
+-- an instance of one of these series and one of one of those clash that start before a bound
+pub record HaveClash (these those : List Event) (bound : ℤ) : Type 0 where
+  pub a : Event
+  pub b : Event
+  pub first : Contains these a
+  pub second : Contains those b
+  pub clash : HasClash (StartsBelow a bound) (StartsBelow b bound)
 
 -- it doesn't: it is no span of them, or two instances clash that start before its bound
-abbrev pub SpanFails : Event → Event → ℤ → ℕ → Type 0
-SpanFails a b from days =
-    (IsSpan a b from days → ⊥) ⊎ ((bound : ℤ) × IsBoundOf a b from days bound × HasClash (StartsBelow a bound) (StartsBelow b bound))
+abbrev pub SpanFails : (these those : List Event) → ℤ → ℕ → Type 0
+SpanFails these those from days =
+    (IsSpan (these ++ those) from days → ⊥) ⊎ ((bound : ℤ) × IsBoundOf (these ++ those) from days bound × HaveClash these those bound)
 
 -- ---- which series there are
 

@@ -6,7 +6,7 @@ use Rattle.std.specs.Str.{bytes_eq}
 use Rattle.profile.specs.text.Lines.{written}
 use Rattle.profile.specs.text.Values.{WritesStamp, escaped}
 use Rattle.profile.specs.checker.Calendars.{SpellsCalendar}
-use Rattle.profile.specs.checker.Certificates.{Claims, IsCertificateMade, SpellsCertificate}
+use Rattle.profile.specs.checker.Certificates.{Claims, IsCertificateWritten, SpellsCertificate}
 use Rattle.profile.specs.events.Confirmed.{Confirmed}
 use Rattle.profile.specs.rooms.Revisions.{Part, Slot, At, in_view, is_whole, same_meeting, slot_cmp}
 use Rattle.std.specs.declared.cmp.Ordering.TheVariants.{Less}
@@ -174,10 +174,10 @@ pub record IsKeptCalendar (room words : List ℕ) (book : Book) (octets : List �
   pub is : octets ≡ written (opening_lines None ++ room_zone_lines words) ++ zone_texts 0 (zones_kept entries)
       ++ written (flat_map (λ lines. lines) events ++ codes "END:VCALENDAR" ∷ [])
 
--- the certificate for it: the one that is made for what the calendar spells
+-- the certificate for it: the one that is written for what the calendar spells
 pub record IsKeptCertificate (room calendar certificate : List ℕ) : Type 0 where
   pub confirmed : Confirmed
   pub spells : SpellsCalendar room calendar confirmed
   pub c : Claims
-  pub made : IsCertificateMade confirmed c
+  pub is : IsCertificateWritten confirmed c
   pub text : SpellsCertificate certificate c
