@@ -1,8 +1,8 @@
 //! What a series does again after each of its periods, and that these are the multiples of the least one: laws, with nothing to do.
-ghost use Rattle.std.specs.Prelude.{◌↔◌, ◌≢◌, ℕ, ◌*◌, ◌<◌, ℤ, pos, true, false};
-ghost use Rattle.profile.specs.checker.Instances.{Instance, IsWithin};
+ghost use Rattle.std.specs.Prelude.{◌↔◌, ◌≢◌, ℕ, ◌*◌, ◌<◌, List, ◌++◌, Contains, ℤ, pos, true, false};
+ghost use Rattle.profile.specs.checker.Instances.{Instance, AreClear, IsWithin};
 ghost use Rattle.profile.specs.events.Events.{Event};
-ghost use Rattle.profile.specs.events.Spans.{IsSaidSeries, IsPastAll, IsPeriodOf, IsLeastPeriodOf};
+ghost use Rattle.profile.specs.events.Spans.{AreSaidSeries, IsSaidSeries, SpanHolds, IsPastAll, IsPeriodOf, IsLeastPeriodOf};
 ghost use Rattle.profile.specs.series.Periods.{IsMultiple};
 ghost use Rattle.profile.specs.series.Repeating.{IsCongruent, RepeatsFrom};
 ghost use Rattle.profile.specs.events.Starts.{IsInstance};
@@ -38,4 +38,14 @@ pub fn residues_settle()
         → IsWithin x.start x.end t → IsWithin y.start y.end t → ⊥ }
 {
     instances_last();
+}
+
+/// Where a span holds of series with others, none of the instances of these ever clashes with one of those: they do in each period after the first
+/// what they did in that. SPAN is the case of one series with one, a group the case of all its series with all of them.
+pub fn spans_settle()
+    ensures { (these those : List Event) (from : ℤ) (days : ℕ) → AreSaidSeries (these ++ those) → SpanHolds these those from days
+        → (a b : Event) → Contains these a → Contains those b → AreClear (IsInstance a) (IsInstance b) }
+{
+    instances_last();
+    series_repeat();
 }

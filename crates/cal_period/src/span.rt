@@ -1,42 +1,109 @@
-//! The span of two series: from which instant on, and after how many days, both do the same again.
-ghost use Rattle.std.specs.Prelude.{◌≡◌, ◌^◌, ◌≤◌, pos, negsuc, ◌≤ℤ◌, ◌<ℤ◌, MatchOption};
+//! The span of series: from which instant on, and after how many days, all of them do the same again.
+ghost use Rattle.std.specs.Prelude.{◌≡◌, ◌^◌, ◌≤◌, [], ◌∷◌, ◌++◌, List, map, pos, negsuc, ◌≤ℤ◌, ◌<ℤ◌, MatchOption};
+ghost use Rattle.std.specs.List.{AllZip};
 ghost use Rattle.profile.specs.series.Periods.{most_period};
+ghost use Rattle.profile.specs.events.Events.{Event};
 ghost use Rattle.profile.specs.events.Spans.{span_end};
+ghost use Rattle.profile.specs.checker.Certificates.{IsPlacedAt};
 ghost use Rattle.profile.specs.checker.Instances.{horizon};
 ghost use Rattle.cal_events.specs.Series.{series_said};
-ghost use Rattle.cal_period.specs.Spanning.{HasNoSpan, IsSpanOf, IsNextMidnight};
+ghost use Rattle.cal_period.specs.Spanning.{HasNoSpan, HasNoPeriodInCommon, HaveInCommon, IsSpanOf, IsNextMidnight};
 
-use crate::recurs::common_period;
 use cal_events::{HORIZON, Series};
+use cal_rules::common_multiple;
 use ical_values::DAY_SECONDS;
 
-/// A common period of two series.
+/// A common period of series.
 #[derive(Clone, Copy)]
-pub struct PairSpan {
-    /// The first 00:00:00Z from which on both do the same after each period, in seconds from 1970-01-01T00:00:00Z.
+pub struct CommonSpan {
+    /// The first 00:00:00Z from which on all do the same after each period, in seconds from 1970-01-01T00:00:00Z.
     pub from: i64,
-    /// The least number of days after which both do.
+    /// The least number of days after which all do.
     pub days: u64,
-    /// The end of the first period and the greater width after it. What starts before it settles whether they are clear.
+    /// The end of the first period and the greatest width after it. What starts before it settles whether they are clear.
     pub bound: i64,
 }
 
 /// The span of two series, or of one with itself. None where there is no common period of at most 2,932,897 days, and where the bound isn't
 /// before the horizon. No instance is looked at.
-pub fn span_of_pair(a: &Series, b: &Series) -> Option<PairSpan>
-    ensures { MatchOption result (HasNoSpan (series_said a.now) (series_said b.now)) (IsSpanOf (series_said a.now) (series_said b.now)) }
+pub fn span_of_pair(a: &Series, b: &Series) -> Option<CommonSpan>
+    ensures { MatchOption result (HasNoSpan (series_said a.now ∷ series_said b.now ∷ [])) (IsSpanOf (series_said a.now ∷ series_said b.now ∷ [])) }
 {
-    let days = common_period(a, b)?;
-    let past = a.regular_from().max(b.regular_from());
-    if past >= HORIZON {
-        return None;
+    Common::of(a)?.with(b)?.span()
+}
+
+/// The span of the series of these numbers, counted from 1: None also where there are none. No instance is looked at.
+pub fn span_of_members(series: &[Series], members: &[u64]) -> Option<CommonSpan>
+    ensures { (all : List Event) → AllZip (IsPlacedAt (map series_said series.now)) members.now all → MatchOption result (HasNoSpan all) (IsSpanOf all) }
+{
+    let (first, others) = members.split_first()?;
+    let mut common = Common::of(numbered(series, *first)?)?;
+    for number in others {
+        common = common.with(numbered(series, *number)?)?;
     }
-    let from = next_midnight(past);
-    let bound = span_end(from, days, a.width().max(b.width()));
-    if bound >= HORIZON {
-        return None;
+    common.span()
+}
+
+/// The series of a number, counted from 1.
+fn numbered(series: &[Series], number: u64) -> Option<&Series>
+    ensures { MatchOption result ((a : Event) → IsPlacedAt (map series_said series.now) number a → ⊥) (λ found. IsPlacedAt (map series_said series.now) number (series_said found.now)) }
+{
+    series.get(number.saturating_sub(1) as usize)
+}
+
+/// What series have in common.
+#[derive(Clone, Copy)]
+struct Common {
+    /// The least number of days after which all do the same.
+    days: u64,
+    /// The least instant from which on all do.
+    past: i64,
+    /// The greatest width.
+    width: i64,
+}
+
+impl Common {
+    /// Of one series. None where it has no period of at most 2,932,897 days.
+    fn of(series: &Series) -> Option<Common>
+        ensures { MatchOption result (HasNoPeriodInCommon (series_said series.now ∷ [])) (HaveInCommon (series_said series.now ∷ [])) }
+    {
+        Some(Common {
+            days: series.period_days()?,
+            past: series.regular_from(),
+            width: series.width(),
+        })
     }
-    Some(PairSpan { from, days, bound })
+
+    /// Of some series and one more. None where they have no common period of at most 2,932,897 days.
+    fn with(self, series: &Series) -> Option<Common>
+        ensures { (all : List Event) → HaveInCommon all self
+            → MatchOption result (HasNoPeriodInCommon (all ++ series_said series.now ∷ [])) (HaveInCommon (all ++ series_said series.now ∷ [])) }
+    {
+        Some(Common {
+            days: common_multiple(self.days, series.period_days()?)?,
+            past: self.past.max(series.regular_from()),
+            width: self.width.max(series.width()),
+        })
+    }
+
+    /// Their span. None where its bound isn't before the horizon.
+    fn span(self) -> Option<CommonSpan>
+        ensures { (all : List Event) → HaveInCommon all self → MatchOption result (HasNoSpan all) (IsSpanOf all) }
+    {
+        if self.past >= HORIZON {
+            return None;
+        }
+        let from = next_midnight(self.past);
+        let bound = span_end(from, self.days, self.width);
+        if bound >= HORIZON {
+            return None;
+        }
+        Some(CommonSpan {
+            from,
+            days: self.days,
+            bound,
+        })
+    }
 }
 
 /// The end of so many days from an instant on, and a width after it: instants and widths are in seconds. It requires an instant of the years 1 to 9999

@@ -1,7 +1,7 @@
 -- Which entries are chosen for pairs of series. Series are counted from 0, and their numbers in an old certificate from 1.
-use Rattle.std.specs.Prelude.{◌≡◌, ℕ, ◌+◌, ◌<◌, ◌==◌, List, [], All, Option, Some, length, slice_index_or}
+use Rattle.std.specs.Prelude.{◌≡◌, ℕ, suc, ◌-◌, ◌<◌, ◌==◌, List, AllPairs, Contains, Option, Some, length}
 use Rattle.std.specs.List.{slice_get}
-use Rattle.profile.specs.checker.Certificates.{Claims, Entry, End, IsEntry, IsEntryMade, IsSeriesAt, IsCertificateMade}
+use Rattle.profile.specs.checker.Certificates.{Claims, Entry, Pair, IsEntry, IsEntryMade, IsPair, IsPairBefore, IsSeriesAt, IsCertificateMade}
 use Rattle.profile.specs.events.Events.{Event}
 use Rattle.profile.specs.events.Confirmed.{Confirmed, IsOneOf}
 use Rattle.profile.specs.checker.Instances.{IsClear}
@@ -26,12 +26,11 @@ IsSaidOf old n m entry = (was : Confirmed) (a b : Event) → IsCertificateMade w
 abbrev pub IsEntryAt : Type 0 → List Event → ℕ → ℕ → Entry → Type 0
 IsEntryAt Known all i j entry = Known → (a b : Event) → slice_get all i ≡ Some a → slice_get all j ≡ Some b → IsEntryMade (i == j) a b entry
 
--- those of the series at a place, with itself and those after it up to an end
-pub record IsRowMade (Known : Type 0) (all : List Event) (i end : ℕ) (row : List Entry) : Type 0 where
-  pub long : length row + i ≡ end
-  pub good : All IsEntry row
-  pub made : (k : ℕ) → k < length row → IsEntryAt Known all i (i + k) (slice_index_or row k End)
-
--- those of the first series, each with itself and all after it
-abbrev pub AreRowsMade : Type 0 → List Event → List (List Entry) → Type 0
-AreRowsMade Known all rows = (i : ℕ) → i < length rows → IsRowMade Known all i (length all) (slice_index_or rows i [])
+-- the entries of all pairs of these series that come before the one of two places: each is made where so much is known, in order, and none is
+-- left out
+pub record ArePairsMade (Known : Type 0) (all : List Event) (i j : ℕ) (pairs : List Pair) : Type 0 where
+  pub good : (p : Pair) → Contains pairs p → IsPair (length all) p.first p.second × IsEntry p.entry
+  pub before : (p : Pair) → Contains pairs p → IsPairBefore p.first p.second (suc i) (suc j)
+  pub made : (p : Pair) → Contains pairs p → IsEntryAt Known all (p.first - 1) (p.second - 1) p.entry
+  pub ordered : AllPairs (λ p q. IsPairBefore p.first p.second q.first q.second) pairs
+  pub none_left : (n m : ℕ) → IsPair (length all) n m → IsPairBefore n m (suc i) (suc j) → (p : Pair) × Contains pairs p × (p.first ≡ n) × (p.second ≡ m)

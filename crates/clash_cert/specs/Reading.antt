@@ -1,7 +1,10 @@
--- What was read of the lines of entries, and what was written of them.
-use Rattle.std.specs.Prelude.{ℕ, ℤ, List, [], ◌∷◌, ◌++◌, ◌-◌, ◌≡◌, All, length, codes, decimal}
+-- What was read of the lines of a certificate, and what was written of them.
+use Rattle.std.specs.Prelude.{◌≡◌, ◌≢◌, ℕ, ◌<◌, ◌^◌, ℤ, List, [], ◌∷◌, ◌++◌, map, All, AllPairs, Option, Some, None, unwrap_or, codes, decimal}
+use Rattle.std.specs.List.{AllZip}
 use Rattle.profile.specs.text.Values.{WritesStamp}
-use Rattle.profile.specs.checker.Certificates.{Entry, Span, IsEntry, IsEntryText, IsPairLine, AreRows, AreRowLines, ArePairLines, AreLines, spelled}
+use Rattle.profile.specs.checker.Certificates.{Entry, Span, Pair, Group, Claims, IsEntry, IsEntryText, IsPairLine, IsGroup, IsGroupLine, AreLines, numbers_text, spelled}
+use Rattle.clash_cert.specs.declared.reading.Version.{Version}
+use Rattle.clash_cert.specs.declared.reading.Version.TheVariants.{First, Second}
 
 -- what comes before the words of an entry
 abbrev pub pair_names : ℕ → ℕ → List ℕ
@@ -15,62 +18,67 @@ IsNoEntry words = (entry : Entry) → IsEntry entry → IsEntryText entry words 
 abbrev pub IsNoSpan : List ℕ → Type 0
 IsNoSpan words = (from : ℤ) (days : ℕ) → IsEntry (Span from days) → IsEntryText (Span from days) words → ⊥
 
--- a line of that pair with this entry is at the front of the octets
-pub record IsPairAt (i j : ℕ) (entry : Entry) (bytes rest : List ℕ) : Type 0 where
-  pub good : IsEntry entry
-  pub line : List ℕ
-  pub of : IsPairLine i j entry line
-  pub is : bytes ≡ line ++ 10 ∷ rest
-
--- lines of series i with itself and those after it, with these entries, are
-pub record IsRowAt (i : ℕ) (row : List Entry) (bytes rest : List ℕ) : Type 0 where
-  pub entries : All IsEntry row
-  pub lines : List (List ℕ)
-  pub of : AreRowLines i i row lines
-  pub is : bytes ≡ spelled lines rest
-
--- rows of so many entries, of one less, and so on, so far
-abbrev pub AreFirstRows : ℕ → List (List Entry) → Type 0
-AreFirstRows n [] = Unit {0}
-AreFirstRows n (row ∷ rows) = (length row ≡ n) × All IsEntry row × AreFirstRows (n - 1) rows
-
--- lines of the first of so many series, with these rows of entries, are
-pub record AreRowsAt (n : ℕ) (rows : List (List Entry)) (bytes rest : List ℕ) : Type 0 where
-  pub are : AreFirstRows n rows
-  pub lines : List (List ℕ)
-  pub of : ArePairLines 1 rows lines
-  pub is : bytes ≡ spelled lines rest
-
--- the octets are the lines of all pairs of so many series, with these rows of entries, and the last line
-pub record AreEntriesOf (n : ℕ) (rows : List (List Entry)) (bytes : List ℕ) : Type 0 where
-  pub are : AreRows n rows
-  pub pairs : List (List ℕ)
-  pub of : ArePairLines 1 rows pairs
-  pub is : bytes ≡ spelled (pairs ++ codes "DONE" ∷ []) []
-
 -- they are the written form of no stamp
 abbrev pub IsNoStamp : List ℕ → Type 0
 IsNoStamp octets = (t : ℤ) → WritesStamp octets t → ⊥
 
--- a row of so many entries is at the front
-abbrev pub IsRowOf : ℕ → ℕ → List Entry → List ℕ → List ℕ → Type 0
-IsRowOf i count row bytes rest = (length row ≡ count) × IsRowAt i row bytes rest
+-- ---- one line
 
--- the rows of all of so many series are
-abbrev pub AreRowsOf : ℕ → List (List Entry) → List ℕ → List ℕ → Type 0
-AreRowsOf n rows bytes rest = (length rows ≡ n) × AreRowsAt n rows bytes rest
+-- the first line tells this version
+abbrev pub version_text : Version → List ℕ
+version_text First = codes "ROOMCERT 1"
+version_text Second = codes "ROOMCERT 2"
+
+abbrev pub IsVersionAt : Version → List ℕ → List ℕ → Type 0
+IsVersionAt version bytes rest = bytes ≡ version_text version ++ 10 ∷ rest
+
+abbrev pub LacksVersion : List ℕ → Type 0
+LacksVersion bytes = (version : Version) (rest : List ℕ) → bytes ≢ version_text version ++ 10 ∷ rest
+
+-- a line of that pair with this entry is at the front of the octets
+pub record IsPairAt (i j : ℕ) (entry : Entry) (bytes rest : List ℕ) : Type 0 where
+  pub good : IsEntry entry
+  pub line : List ℕ
+  pub of : IsPairLine (record { first = i; second = j; entry = entry }) line
+  pub is : bytes ≡ line ++ 10 ∷ rest
+
+-- none is
+abbrev pub LacksPair : ℕ → ℕ → List ℕ → Type 0
+LacksPair i j bytes =
+    (entry : Entry) (line rest : List ℕ) → IsEntry entry → IsPairLine (record { first = i; second = j; entry = entry }) line → bytes ≢ line ++ 10 ∷ rest
+
+-- a line of this group of so many series is at the front of the octets
+pub record IsGroupAt (n : ℕ) (group : Group) (bytes rest : List ℕ) : Type 0 where
+  pub good : IsGroup n group
+  pub line : List ℕ
+  pub of : IsGroupLine group line
+  pub is : bytes ≡ line ++ 10 ∷ rest
+
+-- none is
+abbrev pub LacksGroup : ℕ → List ℕ → Type 0
+LacksGroup n bytes = (group : Group) (line rest : List ℕ) → IsGroup n group → IsGroupLine group line → bytes ≢ line ++ 10 ∷ rest
+
+-- the words of a group of so many series, after `GROUP `
+pub record IsGroupOfWords (n : ℕ) (words : List ℕ) (group : Group) : Type 0 where
+  pub good : IsGroup n group
+  pub of : IsGroupLine group (codes "GROUP " ++ words)
+
+abbrev pub IsNoGroup : ℕ → List ℕ → Type 0
+IsNoGroup n words = (group : Group) → IsGroup n group → IsGroupLine group (codes "GROUP " ++ words) → ⊥
+
+-- numbers of 64 bits, at least one, with single spaces between them
+abbrev pub AreNumbers : List ℕ → List ℕ → Type 0
+AreNumbers numbers words = All (λ n. n < 2 ^ 64) numbers × (codes " " ++ words ≡ numbers_text numbers)
+
+abbrev pub AreNoNumbers : List ℕ → Type 0
+AreNoNumbers words = (numbers : List ℕ) → All (λ n. n < 2 ^ 64) numbers → codes " " ++ words ≢ numbers_text numbers
 
 -- ---- what is written
 
--- the lines of series i with these entries
-abbrev pub SpellsRow : ℕ → List Entry → List ℕ → Type 0
-SpellsRow i row text = (lines : List (List ℕ)) × AreRowLines i i row lines × (text ≡ spelled lines [])
+-- the lines of groups
+abbrev pub SpellsGroups : List Group → List ℕ → Type 0
+SpellsGroups groups text = (lines : List (List ℕ)) × AllZip IsGroupLine groups lines × (text ≡ spelled lines [])
 
--- those of series i and the ones after it
-abbrev pub SpellsRows : ℕ → List (List Entry) → List ℕ → Type 0
-SpellsRows i rows text = (lines : List (List ℕ)) × ArePairLines i rows lines × (text ≡ spelled lines [])
-
--- all lines
-abbrev pub SpellsLines : ℕ → List (List Entry) → List ℕ → Type 0
-SpellsLines singles rows text =
-    (lines : List (List ℕ)) × AreLines (record { singles = singles; series = length rows; rows = rows }) lines × (text ≡ spelled lines [])
+-- those of pairs
+abbrev pub SpellsPairs : List Pair → List ℕ → Type 0
+SpellsPairs pairs text = (lines : List (List ℕ)) × AllZip IsPairLine pairs lines × (text ≡ spelled lines [])

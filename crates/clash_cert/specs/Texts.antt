@@ -1,10 +1,12 @@
 -- What the steps of the reader say.
-use Rattle.std.specs.Prelude.{ℕ, List, ◌∷◌, ◌++◌, ◌^◌, ◌<◌, ◌≡◌, ◌≢◌, ◌==◌, Some, None, length, position, decimal, map, Vec}
+use Rattle.std.specs.Prelude.{◌≡◌, ◌≢◌, ◌⊎◌, ℕ, ◌==◌, ◌^◌, ◌<◌, List, ◌∷◌, ◌++◌, length, map, AllPairs, Contains, Option, Some, None, position, decimal, Vec}
 use Rattle.std.specs.declared.alloc.Global.{Global}
-use Rattle.profile.specs.checker.Certificates.{FirstWrong}
+use Rattle.profile.specs.checker.Certificates.{FirstWrong, IsPairBefore}
 use Rattle.profile.specs.checker.Certificates as said
 use Rattle.clash_cert.specs.declared.certificate.Entry.{Entry}
 use Rattle.clash_cert.specs.declared.certificate.Entry.TheVariants
+use Rattle.clash_cert.specs.declared.certificate.Pair.{Pair}
+use Rattle.clash_cert.specs.declared.group.Group.{Group}
 use Rattle.clash_cert.specs.declared.certificate.CertFault.{CertFault}
 use Rattle.clash_cert.specs.declared.certificate.CertFault.TheVariants.{Line, Memory}
 
@@ -43,7 +45,27 @@ abbrev pub entry_said : Entry → said.Entry
 entry_said TheVariants.End = said.End
 entry_said (TheVariants.Span from days) = said.Span from days
 entry_said (TheVariants.Res m) = said.Res m
+entry_said (TheVariants.Group n) = said.InGroup n
 
--- what the entries of all rows say
-abbrev pub rows_said : List (Vec Entry Global) → List (List said.Entry)
-rows_said rows = map (λ row. map entry_said row.items) rows
+abbrev pub pair_said : Pair → said.Pair
+pair_said p = record { first = p.first; second = p.second; entry = entry_said p.entry }
+
+abbrev pub group_said : Group → said.Group
+group_said g = record { from = g.from; days = g.days; members = g.members.items }
+
+abbrev pub groups_said : Option (Vec Group Global) → Option (List said.Group)
+groups_said None = None
+groups_said (Some groups) = Some (map group_said groups.items)
+
+-- what a certificate with these parts says
+abbrev pub claims_said : ℕ → ℕ → Option (Vec Group Global) → List Pair → said.Claims
+claims_said singles series groups pairs = record { singles = singles; series = series; groups = groups_said groups; pairs = map pair_said pairs }
+
+-- the pairs are in order
+abbrev pub AreSorted : List said.Pair → Type 0
+AreSorted = AllPairs (λ p q. IsPairBefore p.first p.second q.first q.second)
+
+-- the entry of two series; END where no pair is theirs
+pub data IsEntryAmong (pairs : List said.Pair) (i j : ℕ) : said.Entry → Type 0 where
+  theirs : (entry : said.Entry) → Contains pairs (record { first = i; second = j; entry = entry }) → IsEntryAmong pairs i j entry
+  none : ((p : said.Pair) → Contains pairs p → p.first ≡ i → p.second ≡ j → ⊥) → IsEntryAmong pairs i j said.End

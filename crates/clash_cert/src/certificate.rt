@@ -1,14 +1,15 @@
-//! The text of a certificate: lines ended by LF, `ROOMCERT 1`, `SINGLES k`, `SERIES n`, for all 1 <= i <= j <= n, by i and then by j, a line
-//! `PAIR i j END`, `PAIR i j SPAN from days` or `PAIR i j RES m`, and `DONE`, with nothing after. Numbers are decimal, of 64 bits, without
-//! leading zeros; an instant is `YYYYMMDDTHHMMSSZ` with seconds up to 59.
-ghost use Rattle.std.specs.Prelude.{ℕ, List, [], ◌≡◌, length, IfOk, IfErr, OnOk, OnErr};
-ghost use Rattle.std.specs.List.{slice_index_or};
-ghost use Rattle.profile.specs.checker.Certificates.{Claims, IsClaims, IsEntry, FirstWrong, SpellsCertificate, entry_of};
+//! The text of a certificate: lines ended by LF, `ROOMCERT 1` or `ROOMCERT 2`, `SINGLES k`, `SERIES n`; in version 2 any number of lines
+//! `GROUP from days i1 i2 ..` of at least two series each, ascending, which share none and come by their first ones; for all 1 <= i <= j <= n that
+//! aren't both in one group, by i and then by j, a line `PAIR i j END`, `PAIR i j SPAN from days` or `PAIR i j RES m`; and `DONE`, with nothing
+//! after. Numbers are decimal, of 64 bits, without leading zeros; an instant is `YYYYMMDDTHHMMSSZ` with seconds up to 59.
+ghost use Rattle.std.specs.Prelude.{ℕ, List, ◌≡◌, map, is_some, IfOk, IfErr, OnOk, OnErr};
+ghost use Rattle.profile.specs.checker.Certificates.{Claims, IsClaims, IsEntry, IsEntryOf, IsPair, FirstWrong, SpellsCertificate, groups_of};
 ghost use Rattle.ical_values.specs.Written.{Appends};
-ghost use Rattle.clash_cert.specs.Texts.{IsCertFault, entry_said, rows_said};
+ghost use Rattle.clash_cert.specs.Texts.{IsCertFault, AreSorted, IsEntryAmong, entry_said, group_said, pair_said, claims_said};
 ghost use Rattle.clash_cert.specs.Chosen.{IsSaidOf};
 
-use crate::reading::{Stop, after_count, after_line, line_of, read_entries};
+use crate::group::Group;
+use crate::reading::{Stop, after_count, after_version, line_of, read_statements};
 use crate::writing::write_text;
 use ical_values::Stamp;
 use std::alloc::{AllocError, Global};
@@ -37,45 +38,68 @@ pub enum Entry {
     /// Arcs of their residues modulo so many seconds don't meet, so no two of their instances ever share an instant. Which numbers these may be,
     /// the checker judges.
     Res(u64),
+    /// Both are in the group of this number, counted from 1: no line is about the two alone.
+    Group(u64),
 }
 
-/// What a certificate says: how many singles and how many series its calendar has, and an entry for each pair of series.
+/// The entry of two series, or of one with itself, by their numbers in the calendar, counted from 1. It is no `Group`.
+#[derive(Clone, Copy)]
+pub struct Pair {
+    pub first: u64,
+    pub second: u64,
+    pub entry: Entry,
+}
+
+/// What a certificate says: how many singles and how many series its calendar has, its groups of series, and an entry for each pair of series
+/// that aren't both in one group.
 #[derive(Drop)]
 pub struct Certificate {
     singles: u64,
-    // of each series with itself and those after it
-    rows: Vec<Vec<Entry>>,
+    series: u64,
+    // none in version 1
+    groups: Option<Vec<Group>>,
+    // by the first series, and then by the second
+    pairs: Vec<Pair>,
 }
 
 impl Model for Certificate {
-    ghost use Rattle.std.specs.Prelude.{length, map};
     ghost use Rattle.profile.specs.checker.Certificates.{Claims, IsClaims};
-    ghost use Rattle.clash_cert.specs.Texts.{rows_said};
+    ghost use Rattle.clash_cert.specs.Texts.{claims_said};
 
     ghost Value = { Claims };
 
-    ghost view = { λ c. record { singles = c.singles; series = length c.rows.items; rows = rows_said c.rows.items } };
+    ghost view = { λ c. claims_said c.singles c.series c.groups c.pairs.items };
 
-    ghost invariant = { λ c. IsClaims (record { singles = c.singles; series = length c.rows.items; rows = rows_said c.rows.items }) };
+    ghost invariant = { λ c. IsClaims (claims_said c.singles c.series c.groups c.pairs.items) };
 }
 
 impl Certificate {
-    /// The certificate of that many singles, with a row of entries for each series.
-    pub(crate) fn of(singles: u64, rows: Vec<Vec<Entry>>) -> Certificate
-        requires { IsClaims (record { singles = singles; series = length rows.items; rows = rows_said rows.items }) }
-        ensures { result ≡ record { singles = singles; series = length rows.items; rows = rows_said rows.items } }
+    /// The certificate of that many singles and series, with these groups and these entries.
+    pub(crate) fn of(
+        singles: u64,
+        series: u64,
+        groups: Option<Vec<Group>>,
+        pairs: Vec<Pair>,
+    ) -> Certificate
+        requires { IsClaims (claims_said singles series groups pairs.items) }
+        ensures { result ≡ claims_said singles series groups pairs.items }
     {
-        Certificate { singles, rows }
+        Certificate {
+            singles,
+            series,
+            groups,
+            pairs,
+        }
     }
 
     /// The certificate that the octets spell; else the number of the first wrong or missing line. It takes the time of the lines up to that,
-    /// and memory for the entries read.
+    /// and memory for the numbers of groups and for the entries read.
     pub fn read(alloc: Global, bytes: &[u8]) -> Result<Certificate, CertFault>
         ensures found { IfOk result (λ c. SpellsCertificate bytes.now c) }
         ensures only { IfOk result (λ c. (d : Claims) → SpellsCertificate bytes.now d → d ≡ c) }
         ensures fault { IfErr result (IsCertFault bytes.now) }
     {
-        let Some(rest) = after_line(bytes, b"ROOMCERT 1") else {
+        let Some((version, rest)) = after_version(bytes) else {
             return Err(CertFault::Line(1));
         };
         let Some((singles, rest)) = after_count(rest, b"SINGLES ") else {
@@ -85,8 +109,13 @@ impl Certificate {
             return Err(CertFault::Line(3));
         };
         one_certificate();
-        match read_entries(alloc, rest, series) {
-            Ok(rows) => Ok(Certificate { singles, rows }),
+        match read_statements(alloc, rest, version, series) {
+            Ok((groups, pairs)) => Ok(Certificate {
+                singles,
+                series,
+                groups,
+                pairs,
+            }),
             Err(Stop::At(rest)) => Err(CertFault::Line(line_of(bytes, rest))),
             Err(Stop::Memory) => Err(CertFault::Memory),
         }
@@ -98,7 +127,7 @@ impl Certificate {
         ensures err { OnErr result (out.new.items ≡ out.old.items) }
     {
         let before = out.len();
-        let written = write_text(out, self.singles, &self.rows);
+        let written = write_text(out, self.singles, self.series, &self.groups, &self.pairs);
         if written.is_err() {
             out.truncate(before);
         }
@@ -116,41 +145,67 @@ impl Certificate {
     pub fn series(&self) -> u64
         ensures { result ≡ self.now.series }
     {
-        self.rows.len() as u64
+        self.series
     }
 
-    /// What it says of a pair of series, counted from 1, the one that comes first in the calendar first.
-    pub fn entry(&self, i: u64, j: u64) -> Entry
-        ensures { entry_said result ≡ entry_of self.now i j }
+    /// Is it of version 2, which has groups, though there may be none?
+    pub(crate) fn has_groups(&self) -> bool
+        ensures { result ≡ is_some self.now.groups }
     {
-        let row = i.saturating_sub(1) as usize;
-        let place = j.saturating_sub(i) as usize;
-        entry_at(&self.rows, row, place)
+        self.groups.is_some()
     }
 
-    /// What it says of two of its series, the one that comes first in the calendar first or second.
+    /// Its groups of series, by their first ones. Version 1 has none.
+    pub fn groups(&self) -> &[Group]
+        ensures { map group_said result.now ≡ groups_of self.now }
+    {
+        match &self.groups {
+            Some(groups) => groups.as_slice(),
+            None => &[],
+        }
+    }
+
+    /// The entries of the pairs of series that aren't both in one group, by the first series and then by the second.
+    pub fn pairs(&self) -> &[Pair]
+        ensures { map pair_said result.now ≡ self.now.pairs }
+    {
+        &self.pairs
+    }
+
+    /// What it says of a pair of series, counted from 1, the one that comes first in the calendar first. `End` where there is no such pair.
+    pub fn entry(&self, i: u64, j: u64) -> Entry
+        ensures { IsPair self.now.series i j → IsEntryOf self.now i j (entry_said result) }
+    {
+        for (place, group) in self.groups().iter().enumerate() {
+            if group.has(i) && group.has(j) {
+                return Entry::Group(place as u64 + 1);
+            }
+        }
+        entry_at(&self.pairs, i, j)
+    }
+
+    /// What it says of two of its series, the one that comes first in the calendar first or second, where it has no groups.
     pub(crate) fn between(&self, first: u64, second: u64) -> Entry
         ensures good { IsEntry (entry_said result) }
         ensures said { IsSaidOf self.now first second (entry_said result) }
     {
         if first <= second {
-            self.entry(first, second)
+            entry_at(&self.pairs, first, second)
         } else {
-            self.entry(second, first)
+            entry_at(&self.pairs, second, first)
         }
     }
 }
 
-/// The entry at a place of a row, END where there is none.
-fn entry_at(rows: &[Vec<Entry>], row: usize, place: usize) -> Entry
-    ensures { entry_said result ≡ slice_index_or (slice_index_or (rows_said rows.now) row []) place (entry_said Entry.End) }
+/// The entry of two series, END where they have none.
+fn entry_at(pairs: &[Pair], first: u64, second: u64) -> Entry
+    requires { AreSorted (map pair_said pairs.now) }
+    ensures { IsEntryAmong (map pair_said pairs.now) first second (entry_said result) }
 {
-    match rows.get(row) {
-        Some(entries) => match entries.get(place) {
-            Some(entry) => *entry,
-            None => Entry::End,
-        },
-        None => Entry::End,
+    let place = pairs.partition_point(|pair| (pair.first, pair.second) < (first, second));
+    match pairs.get(place) {
+        Some(pair) if pair.first == first && pair.second == second => pair.entry,
+        _ => Entry::End,
     }
 }
 

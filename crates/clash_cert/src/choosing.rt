@@ -5,10 +5,10 @@ ghost use Rattle.profile.specs.checker.Instances.{IsClear};
 ghost use Rattle.profile.specs.checker.Certificates.{SpellsCertificate, CertificateHoldsFor, IsEntry, NoneSettle, IsEntryMade, IsCertificateMade};
 ghost use Rattle.profile.specs.events.Confirmed.{Confirmed, IsOneOf};
 ghost use Rattle.cal_events.specs.Series.{series_said};
-ghost use Rattle.clash_cert.specs.Texts.{entry_said, rows_said};
-ghost use Rattle.clash_cert.specs.Chosen.{AreKept, IsEntryAt, IsRowMade, AreRowsMade};
+ghost use Rattle.clash_cert.specs.Texts.{entry_said, pair_said};
+ghost use Rattle.clash_cert.specs.Chosen.{AreKept, IsEntryAt, ArePairsMade};
 
-use crate::certificate::{Certificate, Entry};
+use crate::certificate::{Certificate, Entry, Pair};
 use cal_events::{Calendar, Series};
 use cal_period::{settling_residues, span_of_pair};
 use ical_values::Stamp;
@@ -21,7 +21,7 @@ pub fn certificate_of(alloc: Global, calendar: &Calendar) -> Result<Certificate,
     ensures made { IfOk result (IsCertificateMade calendar.now) }
     ensures holds { IfOk result (λ c. IsClear (IsOneOf calendar.now) → (text : List ℕ) → SpellsCertificate text c → CertificateHoldsFor calendar.now text) }
 {
-    let nothing = Certificate::of(0, Vec::new(alloc));
+    let nothing = Certificate::of(0, 0, None, Vec::new(alloc));
     let singles = calendar.single_count();
     certificate_from(alloc, &nothing, &[], singles, calendar.series())
 }
@@ -38,45 +38,47 @@ pub fn certificate_from(
 ) -> Result<Certificate, AllocError>
     ensures { IfOk result (λ c. (all : Confirmed) → singles ≡ length all.singles → map series_said series.now ≡ all.series → AreKept old.now kept.now all.series → IsCertificateMade all c) }
 {
-    let rows = rows_of(alloc, old, kept, series)?;
-    Ok(Certificate::of(singles, rows))
+    let pairs = pairs_of(alloc, old, kept, series)?;
+    Ok(Certificate::of(singles, series.len() as u64, None, pairs))
 }
 
-/// A row of entries for each series, of it with itself and those after it.
-fn rows_of(
+/// The entries of all pairs of series.
+fn pairs_of(
     alloc: Global,
     old: &Certificate,
     kept: &[Option<u32>],
     series: &[Series],
-) -> Result<Vec<Vec<Entry>>, AllocError>
-    ensures count { IfOk result (λ rows. length rows.items ≡ length series.now) }
-    ensures made { IfOk result (λ rows. AreRowsMade (AreKept old.now kept.now (map series_said series.now)) (map series_said series.now) (rows_said rows.items)) }
+) -> Result<Vec<Pair>, AllocError>
+    ensures { IfOk result (λ pairs. ArePairsMade (AreKept old.now kept.now (map series_said series.now)) (map series_said series.now) (length series.now) (length series.now) (map pair_said pairs.items)) }
 {
-    let mut rows = Vec::new(alloc);
+    let mut pairs = Vec::new(alloc);
     for i in 0..series.len() {
-        let row = row_of(alloc, old, kept, series, i)?;
-        rows.push(row)?;
+        push_row(&mut pairs, old, kept, series, i)?;
     }
-    Ok(rows)
+    Ok(pairs)
 }
 
-/// The entries of the series at a place, with itself and those after it.
-fn row_of(
-    alloc: Global,
+/// Adds the entries of the series at a place, with itself and those after it.
+fn push_row(
+    pairs: &mut Vec<Pair>,
     old: &Certificate,
     kept: &[Option<u32>],
     series: &[Series],
     i: usize,
-) -> Result<Vec<Entry>, AllocError>
+) -> Result<(), AllocError>
     requires { i < length series.now }
-    ensures { IfOk result (λ row. IsRowMade (AreKept old.now kept.now (map series_said series.now)) (map series_said series.now) i (length series.now) (map entry_said row.items)) }
+    ensures { IfOk result (λ _. ArePairsMade (AreKept old.now kept.now (map series_said series.now)) (map series_said series.now) i i (map pair_said pairs.old.items)
+        → ArePairsMade (AreKept old.now kept.now (map series_said series.now)) (map series_said series.now) (i + 1) (i + 1) (map pair_said pairs.new.items)) }
 {
-    let mut row = Vec::new(alloc);
     for j in i..series.len() {
-        let entry = entry_at(alloc, old, kept, series, i, j)?;
-        row.push(entry)?;
+        let entry = entry_at(*pairs.allocator(), old, kept, series, i, j)?;
+        pairs.push(Pair {
+            first: i as u64 + 1,
+            second: j as u64 + 1,
+            entry,
+        })?;
     }
-    Ok(row)
+    Ok(())
 }
 
 /// The entry of the series at two places: what the old certificate says of them where both are kept.

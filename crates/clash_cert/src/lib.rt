@@ -4,12 +4,19 @@
 pub mod certificate;
 mod choosing;
 mod extending;
+pub mod group;
+mod grouping;
 mod looking;
 pub mod making;
+mod members;
 mod reading;
 mod writing;
 
-pub use certificate::{CertFault, Certificate, Entry, first_wrong_line_is_one, one_certificate};
+pub use certificate::{
+    CertFault, Certificate, Entry, Pair, first_wrong_line_is_one, one_certificate,
+};
 pub use choosing::{certificate_from, certificate_of};
 pub use extending::extend;
+pub use group::Group;
+pub use grouping::{certificate_written, group};
 pub use making::{Clash, Made, clash_of, make};

@@ -1,19 +1,28 @@
 //! Reading the lines of a certificate: each step says what stands at the front of the octets and what follows it, or that it doesn't stand
 //! there.
-ghost use Rattle.std.specs.Prelude.{◌≡◌, ◌^◌, ◌<◌, ◌≤◌, ◌-◌, ◌+◌, ◌∷◌, ◌++◌, suc, take, length, map, decimal, position, slice_index_or, ◌==◌, MatchOption, MatchResult};
+ghost use Rattle.std.specs.Prelude.{◌≡◌, ◌^◌, ◌<◌, ◌≤◌, ◌-◌, ◌+◌, ◌∷◌, ◌++◌, suc, take, length, map, decimal, position, slice_index_or, ◌==◌, MatchOption, MatchResult, IfOk};
 ghost use Rattle.std.specs.List.{count_by};
 ghost use Rattle.profile.specs.text.Values.{WritesStamp};
 ghost use Rattle.profile.specs.checker.Certificates.{IsEntry, IsEntryText, Span};
-ghost use Rattle.clash_cert.specs.Texts.{Lacks, LacksLine, LacksCount, LacksLf, IsCutAtLf, IsNoNumber, entry_said, rows_said};
-ghost use Rattle.clash_cert.specs.Places.{Pair, LacksPlace, MissesPlace, IsBroken, row_places, pair_places, line_places};
-ghost use Rattle.clash_cert.specs.Reading.{pair_names, IsNoEntry, IsNoSpan, IsNoStamp, IsPairAt, IsRowOf, AreRowsOf, AreEntriesOf};
+ghost use Rattle.clash_cert.specs.Texts.{Lacks, LacksLine, LacksCount, LacksLf, IsCutAtLf, IsNoNumber, entry_said, group_said, groups_said, pair_said};
+ghost use Rattle.clash_cert.specs.Reading.{pair_names, IsNoEntry, IsNoSpan, IsNoStamp, IsVersionAt, LacksVersion, IsGroupAt, LacksGroup, IsGroupOfWords, IsNoGroup, AreNumbers, AreNoNumbers, IsPairAt, LacksPair, AreStatementsOf, IsBroken, AreGroupsAt, BreaksGroups, ArePairsAt, BreaksPairs};
 ghost use Rattle.clash_cert.specs.Stops.{StopsAt};
 
-use crate::certificate::Entry;
+use crate::certificate::{Entry, Pair};
+use crate::group::Group;
+use crate::members::Members;
 use ical_values::Stamp;
 use itoa::Buffer;
 use std::alloc::{AllocError, AllocFailed, Global};
 use std::str;
+
+/// The version that the first line of a certificate tells.
+#[derive(Clone, Copy, PartialEq, Eq)]
+pub(crate) enum Version {
+    First,
+    /// It has groups.
+    Second,
+}
 
 /// Where reading stops before the end of a certificate.
 #[derive(Clone, Copy)]
@@ -44,69 +53,189 @@ impl<T: Drop> From<AllocFailed<T>> for Stop<'_> {
     }
 }
 
-/// Reads what follows the counts of a certificate of this many series: a row of entries for each, and the last line with nothing after it.
-pub(crate) fn read_entries<'a>(
+/// Reads what follows the counts of a certificate of this many series: the groups of version 2, the entries of all pairs that aren't both in one
+/// group, and the last line with nothing after it.
+pub(crate) fn read_statements<'a>(
     alloc: Global,
     bytes: &'a [u8],
+    version: Version,
     series: u64,
-) -> Result<Vec<Vec<Entry>>, Stop<'a>>
-    ensures { MatchResult result (λ rows. AreEntriesOf series (rows_said rows.items) bytes.now) (StopsAt (IsBroken (line_places series) bytes.now)) }
+) -> Result<(Option<Vec<Group>>, Vec<Pair>), Stop<'a>>
+    ensures { MatchResult result (λ p. AreStatementsOf version series (groups_said p.0) (map pair_said p.1.items) bytes.now) (StopsAt (IsBroken version series bytes.now)) }
 {
-    let (rows, rest) = read_rows(alloc, bytes, series)?;
+    let mut members = Members::none(alloc);
+    let (groups, rest) = match version {
+        Version::First => (None, bytes),
+        Version::Second => {
+            let (groups, rest) = read_groups(alloc, bytes, series, &mut members)?;
+            (Some(groups), rest)
+        }
+    };
+    let (pairs, rest) = read_pairs(alloc, rest, series, &members)?;
     let Some(left) = after_line(rest, b"DONE") else {
         return Err(Stop::At(rest));
     };
     if left.is_empty() {
-        Ok(rows)
+        Ok((groups, pairs))
     } else {
         Err(Stop::At(left))
     }
 }
 
-/// The rows of entries of this many series, and what follows their lines.
-fn read_rows<'a>(
+/// The groups whose lines come first, and what follows these. Of each series that is in one `members` knows that afterwards.
+fn read_groups<'a>(
     alloc: Global,
     bytes: &'a [u8],
     series: u64,
-) -> Result<(Vec<Vec<Entry>>, &'a [u8]), Stop<'a>>
-    ensures { MatchResult result (λ p. AreRowsOf series (rows_said p.0.items) bytes.now p.1.now) (StopsAt (MissesPlace (pair_places 1 series) bytes.now)) }
+    members: &mut Members,
+) -> Result<(Vec<Group>, &'a [u8]), Stop<'a>>
+    requires { IsOfGroups [] members.old }
+    ensures { MatchResult result (λ p. AreGroupsAt series (map group_said p.0.items) members.new bytes.now p.1.now) (StopsAt (BreaksGroups series bytes.now)) }
 {
-    let mut rows = Vec::new(alloc);
+    let mut groups: Vec<Group> = Vec::new(alloc);
     let mut rest = bytes;
-    for i in 0..series {
-        let (row, left) = read_row(alloc, rest, i + 1, series)?;
-        rows.push(row)?;
-        rest = left;
-    }
-    Ok((rows, rest))
-}
-
-/// The entries of series i with itself and those after it, and what follows their lines.
-fn read_row<'a>(
-    alloc: Global,
-    bytes: &'a [u8],
-    i: u64,
-    series: u64,
-) -> Result<(Vec<Entry>, &'a [u8]), Stop<'a>>
-    requires { (0 < i) × (i ≤ series) }
-    ensures { MatchResult result (λ p. IsRowOf i (suc series - i) (map entry_said p.0.items) bytes.now p.1.now)
-        (StopsAt (MissesPlace (row_places i i (suc series - i)) bytes.now)) }
-{
-    let mut row = Vec::new(alloc);
-    let mut rest = bytes;
-    for j in i - 1..series {
-        let Some((entry, left)) = read_pair(rest, i, j + 1) else {
+    while rest.starts_with(b"GROUP ") {
+        let Some((group, left)) = read_group(alloc, rest, series)? else {
             return Err(Stop::At(rest));
         };
-        row.push(entry)?;
+        if !comes_after(&groups, &group) || members.has_any(&group.members) {
+            return Err(Stop::At(rest));
+        }
+        members.add(groups.len(), &group.members)?;
+        groups.push(group)?;
         rest = left;
     }
-    Ok((row, rest))
+    Ok((groups, rest))
+}
+
+/// Does a group come after the last one, by its first series?
+fn comes_after(groups: &[Group], group: &Group) -> bool
+{
+    match groups.last() {
+        Some(last) => last.name().0 < group.name().0,
+        None => true,
+    }
+}
+
+/// The entries of all pairs of so many series that aren't both in one group, and what follows their lines.
+fn read_pairs<'a>(
+    alloc: Global,
+    bytes: &'a [u8],
+    series: u64,
+    members: &Members,
+) -> Result<(Vec<Pair>, &'a [u8]), Stop<'a>>
+    ensures { (groups : List said.Group) → IsOfGroups groups members.now → MatchResult result (λ p. ArePairsAt series groups (map pair_said p.0.items) bytes.now p.1.now) (StopsAt (BreaksPairs series groups bytes.now)) }
+{
+    let mut pairs = Vec::new(alloc);
+    let mut rest = bytes;
+    let mut next = members.first_pair(series);
+    while let Some((i, j)) = next {
+        let Some((entry, left)) = read_pair(rest, i, j) else {
+            return Err(Stop::At(rest));
+        };
+        pairs.push(Pair {
+            first: i,
+            second: j,
+            entry,
+        })?;
+        rest = left;
+        next = members.pair_after(series, i, j);
+    }
+    Ok((pairs, rest))
+}
+
+/// The version that the first line tells, and what follows that line.
+pub(crate) fn after_version(bytes: &[u8]) -> Option<(Version, &[u8])>
+    ensures { MatchOption result (LacksVersion bytes.now) (λ p. IsVersionAt p.0 bytes.now p.1.now) }
+{
+    if let Some(rest) = after_line(bytes, b"ROOMCERT 1") {
+        return Some((Version::First, rest));
+    }
+    let rest = after_line(bytes, b"ROOMCERT 2")?;
+    Some((Version::Second, rest))
+}
+
+/// The group of the line at the front of the octets, and what follows that line. None where there is no line of a group of so many series. Fails
+/// only when out of memory.
+pub(crate) fn read_group<'a>(
+    alloc: Global,
+    bytes: &'a [u8],
+    series: u64,
+) -> Result<Option<(Group, &'a [u8])>, AllocError>
+    ensures { IfOk result (λ found. MatchOption found (LacksGroup series bytes.now) (λ p. IsGroupAt series (group_said p.0) bytes.now p.1.now)) }
+{
+    let Some(rest) = after(bytes, b"GROUP ") else {
+        return Ok(None);
+    };
+    let Some((words, rest)) = cut_line(rest) else {
+        return Ok(None);
+    };
+    match group_of(alloc, words, series)? {
+        Some(group) => Ok(Some((group, rest))),
+        None => Ok(None),
+    }
+}
+
+/// The group of so many series that has these words. Fails only when out of memory.
+fn group_of(alloc: Global, words: &[u8], series: u64) -> Result<Option<Group>, AllocError>
+    ensures { IfOk result (λ found. MatchOption found (IsNoGroup series words.now) (λ group. IsGroupOfWords series words.now (group_said group))) }
+{
+    let Some((stamp, rest)) = words.split_at_checked(16) else {
+        return Ok(None);
+    };
+    let Some(from) = stamp_of(stamp) else {
+        return Ok(None);
+    };
+    let Some(digits) = after(rest, b" ") else {
+        return Ok(None);
+    };
+    let Some(mut numbers) = numbers_of(alloc, digits)? else {
+        return Ok(None);
+    };
+    if numbers.len() < 3 {
+        return Ok(None);
+    }
+    let days = numbers.remove(0);
+    if !are_members(&numbers, series) {
+        return Ok(None);
+    }
+    Ok(Some(Group {
+        from,
+        days,
+        members: numbers,
+    }))
+}
+
+/// The numbers that these words spell, with single spaces between them. Fails only when out of memory.
+fn numbers_of(alloc: Global, words: &[u8]) -> Result<Option<Vec<u64>>, AllocError>
+    ensures { IfOk result (λ found. MatchOption found (AreNoNumbers words.now) (λ numbers. AreNumbers numbers.items words.now)) }
+{
+    let mut numbers = Vec::new(alloc);
+    for word in words.split(|octet| *octet == b' ') {
+        let Some(number) = number_of(word) else {
+            return Ok(None);
+        };
+        numbers.push(number)?;
+    }
+    Ok(Some(numbers))
+}
+
+/// Are they numbers of so many series, ascending?
+fn are_members(numbers: &[u64], series: u64) -> bool
+{
+    let mut last = 0;
+    for number in numbers {
+        if *number <= last || series < *number {
+            return false;
+        }
+        last = *number;
+    }
+    true
 }
 
 /// The entry of a pair, if the text begins with the pair's line, and what follows that.
-fn read_pair<'a>(bytes: &'a [u8], i: u64, j: u64) -> Option<(Entry, &'a [u8])>
-    ensures { MatchOption result (LacksPlace (Pair i j) bytes.now) (λ p. IsPairAt i j (entry_said p.0) bytes.now p.1.now) }
+pub(crate) fn read_pair<'a>(bytes: &'a [u8], i: u64, j: u64) -> Option<(Entry, &'a [u8])>
+    ensures { MatchOption result (LacksPair i j bytes.now) (λ p. IsPairAt i j (entry_said p.0) bytes.now p.1.now) }
 {
     let rest = after_names(bytes, i, j)?;
     let (words, rest) = cut_line(rest)?;

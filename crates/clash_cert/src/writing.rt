@@ -1,11 +1,12 @@
 //! Writing the lines of a certificate.
-ghost use Rattle.std.specs.Prelude.{ℕ, List, ◌≡◌, ◌^◌, ◌≤◌, ◌+◌, ◌++◌, [], ◌∷◌, take, length, map, decimal, OnOk, OnErr};
-ghost use Rattle.profile.specs.checker.Certificates.{AreRows, IsEntryText, IsPairLine, spelled};
+ghost use Rattle.std.specs.Prelude.{ℕ, List, ◌≡◌, ◌++◌, [], ◌∷◌, take, length, map, decimal, All, OnOk, OnErr};
+ghost use Rattle.profile.specs.checker.Certificates.{IsClaims, IsEntry, IsEntryText, IsGroupLine, IsPairLine, SpellsCertificate};
 ghost use Rattle.ical_values.specs.Written.{Appends};
-ghost use Rattle.clash_cert.specs.Texts.{entry_said, rows_said};
-ghost use Rattle.clash_cert.specs.Reading.{SpellsLines, SpellsRow, SpellsRows};
+ghost use Rattle.clash_cert.specs.Texts.{claims_said, entry_said, group_said, pair_said};
+ghost use Rattle.clash_cert.specs.Reading.{SpellsGroups, SpellsPairs};
 
-use crate::certificate::Entry;
+use crate::certificate::{Entry, Pair};
+use crate::group::Group;
 use itoa::Buffer;
 use std::alloc::AllocError;
 
@@ -13,57 +14,82 @@ use std::alloc::AllocError;
 pub(crate) fn write_text(
     out: &mut Vec<u8>,
     singles: u64,
-    rows: &[Vec<Entry>],
+    series: u64,
+    groups: &Option<Vec<Group>>,
+    pairs: &[Pair],
 ) -> Result<(), AllocError>
-    requires { AreRows (length rows.now) (rows_said rows.now) }
-    ensures ok { OnOk result (Appends out.old.items out.new.items (SpellsLines singles (rows_said rows.now))) }
+    requires { IsClaims (claims_said singles series groups.now pairs.now) }
+    ensures ok { OnOk result (Appends out.old.items out.new.items (λ text. SpellsCertificate text (claims_said singles series groups.now pairs.now))) }
     ensures err { OnErr result (take (length out.old.items) out.new.items ≡ out.old.items) }
 {
-    write_number(out, b"ROOMCERT 1\nSINGLES ", singles, b"\nSERIES ")?;
-    write_number(out, b"", rows.len() as u64, b"\n")?;
-    write_rows(out, rows)?;
+    let version = match groups {
+        Some(_) => b"ROOMCERT 2\nSINGLES ",
+        None => b"ROOMCERT 1\nSINGLES ",
+    };
+    write_number(out, version, singles, b"\nSERIES ")?;
+    write_number(out, b"", series, b"\n")?;
+    if let Some(groups) = groups {
+        write_groups(out, groups)?;
+    }
+    write_pairs(out, pairs)?;
     out.extend_from_slice(b"DONE\n")?;
     Ok(())
 }
 
-/// Appends the lines of all pairs. After an error `out` may have grown.
-fn write_rows(out: &mut Vec<u8>, rows: &[Vec<Entry>]) -> Result<(), AllocError>
-    requires { AreRows (length rows.now) (rows_said rows.now) }
-    ensures ok { OnOk result (Appends out.old.items out.new.items (SpellsRows 1 (rows_said rows.now))) }
+/// Appends the lines of groups. After an error `out` may have grown.
+fn write_groups(out: &mut Vec<u8>, groups: &[Group]) -> Result<(), AllocError>
+    ensures ok { OnOk result (Appends out.old.items out.new.items (SpellsGroups (map group_said groups.now))) }
     ensures err { OnErr result (take (length out.old.items) out.new.items ≡ out.old.items) }
 {
-    for (place, row) in rows.iter().enumerate() {
-        write_row(out, place as u64 + 1, row)?;
+    for group in groups {
+        write_group(out, group)?;
     }
     Ok(())
 }
 
-/// Appends the lines of series i with itself and those after it. After an error `out` may have grown.
-fn write_row(out: &mut Vec<u8>, i: u64, row: &[Entry]) -> Result<(), AllocError>
-    requires { i + length row.now ≤ 2 ^ 64 }
-    ensures ok { OnOk result (Appends out.old.items out.new.items (SpellsRow i (map entry_said row.now))) }
+/// Appends the line of a group. After an error `out` may have grown.
+fn write_group(out: &mut Vec<u8>, group: &Group) -> Result<(), AllocError>
+    ensures ok { OnOk result (Appends out.old.items out.new.items (λ text. (line : List ℕ) × IsGroupLine (group_said group.now) line × (text ≡ line ++ 10 ∷ []))) }
     ensures err { OnErr result (take (length out.old.items) out.new.items ≡ out.old.items) }
 {
-    for (place, entry) in row.iter().enumerate() {
-        write_pair(out, i, i + place as u64, *entry)?;
+    out.extend_from_slice(b"GROUP ")?;
+    group.from.write(out)?;
+    write_number(out, b" ", group.days, b"")?;
+    for number in &group.members {
+        write_number(out, b" ", *number, b"")?;
+    }
+    out.extend_from_slice(b"\n")?;
+    Ok(())
+}
+
+/// Appends the lines of pairs. After an error `out` may have grown.
+fn write_pairs(out: &mut Vec<u8>, pairs: &[Pair]) -> Result<(), AllocError>
+    requires { All (λ p. IsEntry p.entry) (map pair_said pairs.now) }
+    ensures ok { OnOk result (Appends out.old.items out.new.items (SpellsPairs (map pair_said pairs.now))) }
+    ensures err { OnErr result (take (length out.old.items) out.new.items ≡ out.old.items) }
+{
+    for pair in pairs {
+        write_pair(out, pair)?;
     }
     Ok(())
 }
 
 /// Appends the line of a pair. After an error `out` may have grown.
-fn write_pair(out: &mut Vec<u8>, i: u64, j: u64, entry: Entry) -> Result<(), AllocError>
-    ensures ok { OnOk result (Appends out.old.items out.new.items (λ text. (line : List ℕ) × IsPairLine i j (entry_said entry) line × (text ≡ line ++ 10 ∷ []))) }
+fn write_pair(out: &mut Vec<u8>, pair: &Pair) -> Result<(), AllocError>
+    requires { IsEntry (entry_said pair.now.entry) }
+    ensures ok { OnOk result (Appends out.old.items out.new.items (λ text. (line : List ℕ) × IsPairLine (pair_said pair.now) line × (text ≡ line ++ 10 ∷ []))) }
     ensures err { OnErr result (take (length out.old.items) out.new.items ≡ out.old.items) }
 {
-    write_number(out, b"PAIR ", i, b" ")?;
-    write_number(out, b"", j, b" ")?;
-    write_entry(out, entry)?;
+    write_number(out, b"PAIR ", pair.first, b" ")?;
+    write_number(out, b"", pair.second, b" ")?;
+    write_entry(out, pair.entry)?;
     out.extend_from_slice(b"\n")?;
     Ok(())
 }
 
 /// Appends the words of an entry. After an error `out` may have grown.
 fn write_entry(out: &mut Vec<u8>, entry: Entry) -> Result<(), AllocError>
+    requires { IsEntry (entry_said entry) }
     ensures ok { OnOk result (Appends out.old.items out.new.items (IsEntryText (entry_said entry))) }
     ensures err { OnErr result (take (length out.old.items) out.new.items ≡ out.old.items) }
 {
@@ -75,6 +101,8 @@ fn write_entry(out: &mut Vec<u8>, entry: Entry) -> Result<(), AllocError>
             write_number(out, b" ", days, b"")?;
         }
         Entry::Res(modulus) => write_number(out, b"RES ", modulus, b"")?,
+        // no pair has it
+        Entry::Group(_) => unreachable!(),
     }
     Ok(())
 }

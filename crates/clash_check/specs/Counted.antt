@@ -1,8 +1,8 @@
--- How many instances are drawn for the entries of a certificate.
-use Rattle.std.specs.Prelude.{◌≡◌, ◌==◌, if◌then◌else◌, ℕ, suc, ◌+◌, ◌-◌, ℤ, List, length, All, AllPairs, Contains}
-use Rattle.std.specs.List.{sum_by, range_with_len}
+-- How many instances are drawn for the statements of a certificate.
+use Rattle.std.specs.Prelude.{◌≡◌, ◌==◌, if◌then◌else◌, ℕ, ◌+◌, ℤ, List, [], ◌∷◌, length, All, AllPairs, Contains}
+use Rattle.std.specs.List.{AllZip, sum_by}
 use Rattle.profile.specs.checker.Instances.{Instance, horizon}
-use Rattle.profile.specs.checker.Certificates.{Claims, Entry, End, Span, Res, IsPair, IsSeriesAt, entry_of}
+use Rattle.profile.specs.checker.Certificates.{Entry, End, Span, Res, InGroup, Group, Statement, OfGroup, OfPair, IsSeriesAt, AreSeriesAt}
 use Rattle.profile.specs.events.Events.{Event}
 use Rattle.profile.specs.events.Starts.{ComesBefore}
 use Rattle.profile.specs.events.Confirmed.{Confirmed}
@@ -14,11 +14,16 @@ pub record AreBelow (series : Event) (bound : ℤ) (instances : List Instance) :
   pub ordered : AllPairs ComesBefore instances
   pub all : (instance : Instance) → StartsBelow series bound instance → Contains instances instance
 
+-- of each of these series, in a list of its own
+abbrev pub AreAllBelow : List Event → ℤ → List (List Instance) → Type 0
+AreAllBelow all bound lists = AllZip (λ series. AreBelow series bound) all lists
+
 -- up to where an entry has two series compared; RES has none
 abbrev pub IsEntryBound : Event → Event → Entry → ℤ → Type 0
 IsEntryBound a b End bound = bound ≡ horizon
-IsEntryBound a b (Span from days) bound = IsBoundOf a b from days bound
+IsEntryBound a b (Span from days) bound = IsBoundOf (a ∷ b ∷ []) from days bound
 IsEntryBound a b (Res m) bound = ⊥
+IsEntryBound a b (InGroup n) bound = ⊥
 
 -- of two series with so many instances those of both, once where they are one series
 abbrev pub pair_count : ℕ → ℕ → ℕ → ℕ → ℕ
@@ -39,23 +44,31 @@ pub record IsComparedCount (all : Confirmed) (i j : ℕ) (entry : Entry) (n : �
   pub count : n ≡ pair_count i j (length xs) (length ys)
 
 -- so many are drawn for an entry: all that it has compared, and none for RES
-abbrev pub IsPairCount : Confirmed → ℕ → ℕ → Entry → ℕ → Type 0
-IsPairCount all i j End n = IsComparedCount all i j End n
-IsPairCount all i j (Span from days) n = IsComparedCount all i j (Span from days) n
-IsPairCount all i j (Res m) n = n ≡ 0
+abbrev pub IsEntryCount : Confirmed → ℕ → ℕ → Entry → ℕ → Type 0
+IsEntryCount all i j End n = IsComparedCount all i j End n
+IsEntryCount all i j (Span from days) n = IsComparedCount all i j (Span from days) n
+IsEntryCount all i j (Res m) n = n ≡ 0
+IsEntryCount all i j (InGroup g) n = ⊥
 
--- these many for the pairs of a certificate
-abbrev pub AreCounts : Confirmed → Claims → (ℕ → ℕ → ℕ) → Type 0
-AreCounts all c count = (i j : ℕ) → IsPair c.series i j → IsPairCount all i j (entry_of c i j) (count i j)
+-- a group has so many instances compared: those of each of its series that start before its bound
+pub record IsGroupCount (all : Confirmed) (group : Group) (n : ℕ) : Type 0 where
+  pub members : List Event
+  pub at : AreSeriesAt all group.members members
+  pub bound : ℤ
+  pub is : IsBoundOf members group.from group.days bound
+  pub lists : List (List Instance)
+  pub below : AreAllBelow members bound lists
+  pub count : n ≡ sum_by length lists
 
--- how many for the pairs of one series, from itself on and before a second one
-abbrev pub row_count : (ℕ → ℕ → ℕ) → ℕ → ℕ → ℕ
-row_count count i second = sum_by (count i) (range_with_len i (second - i))
+-- so many for a statement
+abbrev pub IsStatementCount : Confirmed → Statement → ℕ → Type 0
+IsStatementCount all (OfGroup group) n = IsGroupCount all group n
+IsStatementCount all (OfPair p) n = IsEntryCount all p.first p.second p.entry n
 
--- how many for the pairs of n series that come before a pair: those of all earlier series, and of the first one with those before the second
-abbrev pub count_before : (ℕ → ℕ → ℕ) → ℕ → ℕ → ℕ → ℕ
-count_before count n first second = sum_by (λ i. row_count count i (suc n)) (range_with_len 1 (first - 1)) + row_count count first second
+-- these many for some statements
+abbrev pub AreCounts : Confirmed → List Statement → List ℕ → Type 0
+AreCounts all = AllZip (IsStatementCount all)
 
--- how many for all pairs of n series
-abbrev pub count_all : (ℕ → ℕ → ℕ) → ℕ → ℕ
-count_all count n = sum_by (λ i. row_count count i (suc n)) (range_with_len 1 n)
+-- in all
+abbrev pub total : List ℕ → ℕ
+total = sum_by (λ n. n)

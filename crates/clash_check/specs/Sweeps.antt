@@ -1,6 +1,6 @@
 -- What a sweep says of two series, or of one by itself: whether two instances share an instant, of those that start before a bound.
-use Rattle.std.specs.Prelude.{◌≡◌, ◌≢◌, ℕ, ◌≤◌, ℤ, Bool, true, false}
-use Rattle.profile.specs.checker.Instances.{Instance}
+use Rattle.std.specs.Prelude.{◌≡◌, ◌≢◌, ℕ, ◌≤◌, ℤ, List, Contains, Bool, true, false}
+use Rattle.profile.specs.checker.Instances.{Instance, AreClear}
 use Rattle.profile.specs.events.Events.{Event}
 use Rattle.profile.specs.events.Starts.{SharesInstant}
 use Rattle.profile.specs.events.Spans.{StartsBelow}
@@ -35,3 +35,7 @@ IsApart a bound = (x y : Instance) → StartsBelow a bound x → StartsBelow a b
 abbrev pub AreDrawn : Bool → ℕ → ℕ → ℕ → Type 0
 AreDrawn true old new all = (n : ℕ) × (1 ≤ n) × (n ≤ all) × (new ≡ drawn_more old n)
 AreDrawn false old new all = new ≡ drawn_more old all
+
+-- no two instances clash that start before a bound, of one of these series and one of those
+abbrev pub HaveNoClash : (these those : List Event) → ℤ → Type 0
+HaveNoClash these those bound = (a b : Event) → Contains these a → Contains those b → AreClear (StartsBelow a bound) (StartsBelow b bound)

@@ -1,48 +1,49 @@
 -- What the checker's answers say.
-use Rattle.std.specs.Prelude.{ℕ, ℤ, List, ◌≡◌, ◌+◌, ◌-◌, ◌^◌, ◌≤◌, ◌<ℤ◌, ◌⊎◌, length, min}
+use Rattle.std.specs.Prelude.{ℕ, ℤ, List, ◌≡◌, ◌+◌, ◌-◌, ◌^◌, ◌≤◌, ◌<ℤ◌, ◌⊎◌, length, min, take, slice_index_or}
 use Rattle.profile.specs.checker.Instances.{Instance as SaidInstance, horizon, IsWithin}
 use Rattle.profile.specs.checker.Calendars.{SpellsCalendar, CalendarTextFault}
-use Rattle.profile.specs.checker.Certificates.{Claims, SpellsCertificate, entry_of, CertificateHoldsFor, IsWrongText, IsWrongCount, HasFailingEntry, HasClashes}
+use Rattle.profile.specs.checker.Certificates.{Claims, Statement, statements, SpellsCertificate, CertificateHoldsFor, IsWrongText, IsWrongCount, HasFailingStatement, HasClashes}
 use Rattle.profile.specs.events.Confirmed.{Confirmed}
 use Rattle.cal_events.specs.declared.instance.Instance.{Instance}
 use Rattle.cal_events.specs.declared.instance.OwnedKey.{OwnedKey}
 use Rattle.cal_events.specs.Calendar.{key_of, owned_key_of, HaveDifferentKeys, HaveOwnKeys}
-use Rattle.clash_check.specs.Counted.{AreCounts, count_all, count_before}
-use Rattle.clash_check.specs.Entries.{HasCompared}
+use Rattle.clash_check.specs.Counted.{AreCounts, total}
+use Rattle.clash_check.specs.Entries.{HasCompared, IsStopAt}
 use Rattle.clash_check.specs.Singles.{singles_count}
 use Rattle.clash_check.specs.declared.verdict.Checked.{Checked}
 use Rattle.clash_check.specs.declared.verdict.Verdict.{Verdict}
 use Rattle.clash_check.specs.declared.verdict.Verdict.TheVariants.{Yes, No}
 
--- yes where the certificate holds; else the first number that applies, with the line of 81 or the pair of 83
+-- yes where the certificate holds; else the first number that applies, with the line of 81 or the names of 83
 abbrev pub IsVerdict : Confirmed → List ℕ → Verdict → Type 0
 IsVerdict all text Yes = CertificateHoldsFor all text
 IsVerdict all text (No why) =
     ((why.second ≡ 0) × (IsWrongText text why.number why.first ⊎ IsWrongCount all text why.number why.first ⊎ HasClashes all text why.number why.first))
-    ⊎ HasFailingEntry all text why.number why.first why.second
+    ⊎ HasFailingStatement all text why.number why.first why.second
 
 -- a no of that number, with what it names
 abbrev pub IsNo : ℕ → ℕ → ℕ → Verdict → Type 0
 IsNo number first second Yes = ⊥
 IsNo number first second (No why) = (why.number ≡ number) × (why.first ≡ first) × (why.second ≡ second)
 
--- all instances that the entries of the certificate have compared were made, and those for the singles: each single, and at most three more
+-- all instances that the statements of the certificate have compared were made, and those for the singles: each single, and at most three more
 -- of each series
 abbrev pub MakesAll : Confirmed → List ℕ → ℕ → Type 0
 MakesAll all text made =
-    (c : Claims) → SpellsCertificate text c → (count : ℕ → ℕ → ℕ) → AreCounts all c count
-    → (n : ℕ) × (length all.singles ≤ n) × (n ≤ singles_count all) × (made ≡ min (count_all count c.series + n) (2 ^ 64 - 1))
+    (c : Claims) → SpellsCertificate text c → (counts : List ℕ) → AreCounts all (statements c) counts
+    → (n : ℕ) × (length all.singles ≤ n) × (n ≤ singles_count all) × (made ≡ min (total counts + n) (2 ^ 64 - 1))
 
--- those were made that the entries before a pair's have compared, and some of its own, at least one; none of its own where its entry is no
--- span of the pair or says RES
+-- those were made that the statements before the first failing one have compared, and some of its own, at least one; none of its own where its span
+-- is none of its series, or it says RES
 abbrev pub MakesSome : Confirmed → List ℕ → ℕ → ℕ → ℕ → Type 0
 MakesSome all text first second made =
-    (c : Claims) → SpellsCertificate text c → (count : ℕ → ℕ → ℕ) → AreCounts all c count
-    → (HasCompared all first second (entry_of c first second)
-    × ((n : ℕ) × (1 ≤ n) × (n ≤ count first second) × (made ≡ min (count_before count c.series first second + n) (2 ^ 64 - 1))))
-    ⊎ ((HasCompared all first second (entry_of c first second) → ⊥) × (made ≡ min (count_before count c.series first second) (2 ^ 64 - 1)))
+    (c : Claims) → SpellsCertificate text c → (counts : List ℕ) → AreCounts all (statements c) counts
+    → (place : ℕ) × (failing : Statement) × IsStopAt all (statements c) place first second failing
+    × ((HasCompared all failing
+    × ((n : ℕ) × (1 ≤ n) × (n ≤ slice_index_or counts place 0) × (made ≡ min (total (take place counts) + n) (2 ^ 64 - 1))))
+    ⊎ ((HasCompared all failing → ⊥) × (made ≡ min (total (take place counts)) (2 ^ 64 - 1))))
 
--- as far as 64 bits go: on yes and where a single clashes (84) all of them, where an entry fails (83) some, and none where the text or a count
+-- as far as 64 bits go: on yes and where a single clashes (84) all of them, where a statement fails (83) some, and none where the text or a count
 -- is wrong (81, 82)
 abbrev pub MakesFewFor : Confirmed → List ℕ → ℕ → Verdict → Type 0
 MakesFewFor all text made Yes = MakesAll all text made

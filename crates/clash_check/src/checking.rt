@@ -22,14 +22,14 @@ use cal_events::{
     Calendar, HORIZON, Instance, OwnedKey, Series, instances_last, known_by_start,
     one_calendar_text, series_are_said,
 };
-use cal_period::{residues_settle, series_repeat};
+use cal_period::{residues_settle, spans_settle};
 use clash_cert::{Clash, one_certificate};
 use ical_lines::Fault;
 use ical_values::Address;
 use std::alloc::{AllocError, Global};
 
 /// Does the certificate hold for the room's calendar? No for the first of: the calendar is refused (80), the
-/// certificate's text is wrong (81), a count isn't the calendar's (82), an entry doesn't hold (83), a single clashes with another or with
+/// certificate's text is wrong (81), a count isn't the calendar's (82), an entry or a group doesn't hold (83), a single clashes with another or with
 /// a series (84). Fails only when out of memory.
 pub fn check(
     alloc: Global,
@@ -76,12 +76,11 @@ pub fn judge_read(
 }
 
 /// A certificate that holds is enough: no two of all confirmed instances clash, of singles and of series. Of two series END says so by itself,
-/// SPAN because both do in each period after the first what they did in that, and RES because no arcs of their residues meet.
+/// SPAN and a group because all do in each period after the first what they did in that, and RES because no arcs of their residues meet.
 pub fn certificate_means_clear()
     ensures { (all : Confirmed) (text : List ℕ) → AreSaidSeries all.series → CertificateHoldsFor all text → IsClear (IsOneOf all) }
 {
-    instances_last();
-    series_repeat();
+    spans_settle();
     residues_settle();
 }
 

@@ -1,14 +1,14 @@
 //! Drawing the instances of a calendar, one by one.
-ghost use Rattle.std.specs.Prelude.{ℕ, ℤ, ◌≡◌, ◌<◌, ◌-◌, ◌<ℤ◌, IfOk, IfSome, Some, length, pos};
+ghost use Rattle.std.specs.Prelude.{ℕ, ℤ, ◌≡◌, ◌<◌, ◌-◌, ◌<ℤ◌, Contains, IfOk, IfSome, Some, length, pos};
 ghost use Rattle.std.specs.List.{slice_get};
 ghost use Rattle.profile.specs.checker.Instances.{horizon};
 ghost use Rattle.profile.specs.events.Events.{Event};
 ghost use Rattle.clash_check.specs.Opened.{IsFirstFrom, IsFirstBetween};
 
 use crate::drawn::Drawn;
-use crate::two_open::TwoOpen;
+use crate::open_series::OpenSeries;
 use cal_events::{Calendar, instances_last, known_by_start, series_are_said};
-use cal_period::{residues, residues_settle, series_repeat};
+use cal_period::{residues, residues_settle, spans_settle};
 use std::alloc::{AllocError, Global};
 
 /// What is wanted of a series: its instances that start from an instant on and before a bound.
@@ -18,16 +18,17 @@ pub(crate) struct Wanted {
     pub(crate) bound: i64,
 }
 
-/// A calendar whose instances are drawn. Two of its series are open at a time, so that those of a pair are drawn in turn without a new search.
+/// A calendar whose instances are drawn. Each of its series stays open, so that those of many are drawn in turn without a new search.
 #[derive(Drop)]
 pub struct Drawing<'a> {
     calendar: &'a Calendar,
     // of each series what is still to come
     wanted: Vec<Wanted>,
-    opened: TwoOpen<'a>,
+    opened: Vec<OpenSeries<'a>>,
     drawn: u64,
     ghost counted: { length wanted.items ≡ length calendar.now.series },
-    ghost same: { opened.calendar.now ≡ calendar.now },
+    ghost all_opened: { length opened.items ≡ length calendar.now.series },
+    ghost same: { (one : OpenSeries) → Contains opened.items one → one.calendar.now ≡ calendar.now },
 }
 
 impl<'a> Drawing<'a> {
@@ -42,7 +43,7 @@ impl<'a> Drawing<'a> {
         Ok(Drawing {
             calendar,
             wanted: nothing(alloc, calendar.series_count() as usize)?,
-            opened: TwoOpen::none(calendar),
+            opened: none_open(alloc, calendar)?,
             drawn: 0,
         })
     }
@@ -63,7 +64,7 @@ impl<'a> Drawn for Drawing<'a> {
         known_by_start();
         series_are_said();
         instances_last();
-        series_repeat();
+        spans_settle();
         residues_settle();
     }
 
@@ -99,7 +100,7 @@ impl<'a> Drawn for Drawing<'a> {
         let drawn = self.drawn;
         let place = place_of(i);
         let part = &mut self.wanted[place];
-        let Some((start, end)) = before(part.bound, self.opened.first_from(place, part.from)) else {
+        let Some((start, end)) = before(part.bound, self.opened[place].first_from(place, part.from)) else {
             return None;
         };
         part.from = start + 1;
@@ -148,4 +149,16 @@ fn nothing(alloc: Global, count: usize) -> Result<Vec<Wanted>, AllocError>
     ensures none { IfOk result (λ wanted. (place : ℕ) (part : Wanted) → slice_get wanted.items place ≡ Some part → part ≡ record { from = pos 0; bound = pos 0 }) }
 {
     vec![in alloc; Wanted { from: 0, bound: 0 }; count]
+}
+
+/// Of no series of a calendar instances are looked through yet. Fails only when out of memory.
+fn none_open(alloc: Global, calendar: &Calendar) -> Result<Vec<OpenSeries<'_>>, AllocError>
+    ensures count { IfOk result (λ opened. length opened.items ≡ length calendar.now.series) }
+    ensures same { IfOk result (λ opened. (one : OpenSeries) → Contains opened.items one → one.calendar.now ≡ calendar.now) }
+{
+    let mut opened = Vec::new(alloc);
+    for _ in 0..calendar.series_count() {
+        opened.push(OpenSeries::none(calendar))?;
+    }
+    Ok(opened)
 }

@@ -5,7 +5,7 @@ ghost use Rattle.clash_check.specs.Judgings.{IsVerdictOf, MakesFewOf};
 ghost use Rattle.clash_check.specs.Verdicts.{IsVerdict, MakesFew};
 
 use crate::drawn::Drawn;
-use crate::pairs::first_failing;
+use crate::statements::first_failing;
 use crate::singles::have_clash;
 use crate::verdict::{Checked, Verdict, Why};
 use clash_cert::{CertFault, Certificate};
@@ -62,8 +62,8 @@ fn judge_counted<D: Drawn>(
     ensures few { D.count drawn.old ≡ 0 → IfOk result (MakesFewOf (D.calendar drawn.old) certificate.now) }
 {
     drawn.is_drawable();
-    if let Some((i, j)) = first_failing(alloc, drawn, certificate)? {
-        return Ok(Checked::no_at(Why::ENTRY, i, j, drawn.drawn()));
+    if let Some((first, second)) = first_failing(alloc, drawn, certificate)? {
+        return Ok(Checked::no_at(Why::ENTRY, first, second, drawn.drawn()));
     }
     if have_clash(alloc, drawn)? {
         return Ok(Checked::no(Why::SINGLES, drawn.drawn()));

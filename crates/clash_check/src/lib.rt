@@ -5,14 +5,17 @@
 pub mod checking;
 pub mod drawing;
 pub mod drawn;
+mod group_sweep;
+mod groups;
 pub mod judging;
 pub mod law;
 mod open_series;
 mod pairs;
 mod residues;
 mod singles;
+mod span;
+mod statements;
 mod sweep;
-mod two_open;
 pub mod verdict;
 mod walk;
 

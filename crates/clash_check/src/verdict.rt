@@ -6,8 +6,8 @@ ghost use Rattle.clash_check.specs.Verdicts.{IsNo};
 #[derive(Clone, Copy, PartialEq, Eq)]
 pub struct Checked {
     pub verdict: Verdict,
-    /// How many instances were made, 2^64-1 at most: for each entry those of its two series that start before its bound, once where they are
-    /// one, up to the first entry that fails; and then each single, and at most three more for each series beside it. None for a refused
+    /// How many instances were made, 2^64-1 at most: for each group those of each of its series, once, that start before its bound, and for each entry
+    /// those of its two series, once where they are one, up to the first that fails; and then each single, and at most three more for each series beside it. None for a refused
     /// calendar, or a wrong text or count.
     pub made: u64,
 }
@@ -21,8 +21,8 @@ pub enum Verdict {
 }
 
 /// Why a certificate doesn't hold: the calendar is refused (80), the certificate's text is wrong
-/// (81, `first` is its first wrong or missing line), a count isn't the calendar's (82), an entry
-/// doesn't hold (83, `first` and `second` are its pair, counted from 1), a single clashes (84). Elsewhere `first`
+/// (81, `first` is its first wrong or missing line), a count isn't the calendar's (82), an entry or a group
+/// doesn't hold (83, `first` and `second` are its pair or its first two series, counted from 1), a single clashes (84). Elsewhere `first`
 /// and `second` are 0.
 #[derive(Clone, Copy, PartialEq, Eq)]
 pub struct Why {
@@ -41,7 +41,7 @@ impl Why {
     /// A count isn't the calendar's.
     pub const COUNTS: u8 = 82;
 
-    /// An entry doesn't hold.
+    /// An entry or a group doesn't hold.
     pub const ENTRY: u8 = 83;
 
     /// A single clashes with another, or with a series.

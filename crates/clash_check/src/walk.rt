@@ -63,10 +63,17 @@ impl Walk {
     pub(crate) fn is_met_by(&self, other: Span) -> bool
         ensures { MatchBool result (MeetsLast self.now.last other) (MeetsNone self.now.last other) }
     {
-        match self.last {
-            Some(last) => other.start < other.end && other.start < last.end,
-            None => false,
-        }
+        meets(self.last, other)
+    }
+}
+
+/// Whether the one of those behind that ends last is still going on when another starts. One of no length starts in none.
+pub(crate) fn meets(last: Option<Span>, other: Span) -> bool
+    ensures { MatchBool result (MeetsLast last other) (MeetsNone last other) }
+{
+    match last {
+        Some(last) => other.start < other.end && other.start < last.end,
+        None => false,
     }
 }
 
@@ -87,7 +94,7 @@ pub(crate) fn draw_span<D: Drawn>(drawn: &mut D, series: u64) -> Option<Span>
 }
 
 /// The one that ends last, of one and of another, where there is one.
-fn later_end(last: Option<Span>, next: Span) -> Span
+pub(crate) fn later_end(last: Option<Span>, next: Span) -> Span
     ensures { EndsLater last next result }
 {
     match last {

@@ -5,7 +5,7 @@ ghost use Rattle.indexmap.specs.IndexMap.{values};
 ghost use Rattle.ical_values.specs.Octets.{address_octets};
 ghost use Rattle.cal_zones.specs.RoomZones.{words_of};
 ghost use Rattle.itip_order.specs.Parts.{part_of};
-ghost use Rattle.profile.specs.checker.Certificates.{Claims, IsCertificateMade, SpellsCertificate};
+ghost use Rattle.profile.specs.checker.Certificates.{Claims, IsCertificateWritten, SpellsCertificate};
 ghost use Rattle.profile.specs.rooms.Kept.{IsKeptCalendar, room_zone_lines};
 ghost use Rattle.profile.specs.text.Lines.{written};
 ghost use Rattle.profile.specs.rooms.Revisions.{is_whole};
@@ -21,7 +21,7 @@ use crate::slots::{is_touched, put_in_order};
 use crate::taking::is_accept;
 use cal_events::Calendar;
 use cal_zones::RoomZone;
-use clash_cert::certificate_of;
+use clash_cert::certificate_written;
 use ical_values::Address;
 use itip_messages::{ObjectWriter, Zones, write_body, write_slot};
 use itip_order::{Body, Part, Slot};
@@ -71,11 +71,11 @@ fn write_room_zone(object: &mut ObjectWriter, zone: &RoomZone) -> Result<(), All
     object.named("X-ROOM-ZONE:", words.as_str())
 }
 
-/// The octets of the certificate that is made for a calendar, which is clear.
+/// The octets of the certificate that is written for a calendar, which is clear.
 pub(crate) fn certificate_octets(alloc: Global, calendar: &Calendar) -> Result<Vec<u8>, AllocError>
-    ensures { IfOk result (λ octets. (c : Claims) × IsCertificateMade calendar.now c × SpellsCertificate octets.items c) }
+    ensures { IfOk result (λ octets. (c : Claims) × IsCertificateWritten calendar.now c × SpellsCertificate octets.items c) }
 {
-    let certificate = certificate_of(alloc, calendar)?;
+    let certificate = certificate_written(alloc, calendar)?;
     let mut octets = Vec::new(alloc);
     certificate.write(&mut octets)?;
     Ok(octets)

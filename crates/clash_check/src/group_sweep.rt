@@ -1,0 +1,79 @@
+//! A sweep through the instances of several series that start before a bound, all of them in order of start: each is drawn once.
+ghost use Rattle.std.specs.Prelude.{ℕ, List, ◌≡◌, ◌<◌, AllPairs, Contains, length, IfOk, MatchBool};
+ghost use Rattle.std.specs.List.{sum_by};
+ghost use Rattle.profile.specs.checker.Instances.{Instance};
+ghost use Rattle.profile.specs.checker.Certificates.{AreSeriesAt};
+ghost use Rattle.profile.specs.events.Events.{Event};
+ghost use Rattle.profile.specs.events.Spans.{HaveClash};
+ghost use Rattle.clash_check.specs.Counted.{AreAllBelow};
+ghost use Rattle.clash_check.specs.Draws.{IsPlace};
+ghost use Rattle.clash_check.specs.Sweeps.{HaveNoClash, AreDrawn};
+
+use crate::drawn::Drawn;
+use crate::walk::{draw_span, later_end, meets};
+use cal_events::Span;
+use std::alloc::{AllocError, Global};
+use std::cmp::Reverse;
+use std::collections::BinaryHeap;
+
+/// The next instance of a series. The one that starts first is the least.
+#[derive(Clone, Copy, PartialEq, Eq, PartialOrd, Ord)]
+struct Next {
+    start: i64,
+    end: i64,
+    series: u64,
+}
+
+/// Do two instances of these series clash, of one series or of two, that start before a bound? Each instance is drawn once: on no all of them were,
+/// on yes some. Fails only when out of memory.
+pub(crate) fn sweep_group<D: Drawn>(
+    alloc: Global,
+    drawn: &mut D,
+    members: &[u64],
+    bound: i64,
+) -> Result<bool, AllocError>
+    requires places { (i : ℕ) → Contains members.now i → IsPlace (length (D.calendar drawn.old).series) i }
+    requires ascending { AllPairs ◌<◌ members.now }
+    ensures calendar { D.calendar drawn.new ≡ D.calendar drawn.old }
+    ensures clash { IfOk result (λ found. (all : List Event) → AreSeriesAt (D.calendar drawn.old) members.now all
+        → MatchBool found (HaveClash all all bound) (HaveNoClash all all bound)) }
+    ensures count { IfOk result (λ found. (all : List Event) → AreSeriesAt (D.calendar drawn.old) members.now all
+        → (lists : List (List Instance)) → AreAllBelow all bound lists
+        → AreDrawn found (D.count drawn.old) (D.count drawn.new) (sum_by length lists)) }
+{
+    drawn.is_drawable();
+    let mut coming = BinaryHeap::new(alloc);
+    for number in members {
+        drawn.begin(*number, i64::MIN, bound);
+        push_next(&mut coming, drawn, *number)?;
+    }
+    let mut last = None;
+    while let Some(Reverse(next)) = coming.pop() {
+        let span = Span {
+            start: next.start,
+            end: next.end,
+        };
+        if meets(last, span) {
+            return Ok(true);
+        }
+        last = Some(later_end(last, span));
+        push_next(&mut coming, drawn, next.series)?;
+    }
+    Ok(false)
+}
+
+/// Draws the next instance of a series, where there is one. Fails only when out of memory.
+fn push_next<D: Drawn>(
+    coming: &mut BinaryHeap<Reverse<Next>>,
+    drawn: &mut D,
+    series: u64,
+) -> Result<(), AllocError> {
+    if let Some(span) = draw_span(drawn, series) {
+        coming.push(Reverse(Next {
+            start: span.start,
+            end: span.end,
+            series,
+        }))?;
+    }
+    Ok(())
+}
