@@ -93,7 +93,7 @@ pub record HasGroupLines (n : ℕ) (groups : List Group) (bytes rest : List ℕ)
 -- they are all of them
 pub record AreGroupsAt (n : ℕ) (groups : List Group) (members : Members) (bytes rest : List ℕ) : Type 0 where
   pub lines : HasGroupLines n groups bytes rest
-  pub members : IsOfGroups groups members
+  pub known : IsOfGroups groups members
   pub last : Lacks (codes "GROUP ") rest
 
 -- the entries of all pairs that have a line before the next one, in order
@@ -135,7 +135,7 @@ pub record AreVersionGroups (version : Version) (n : ℕ) (read : Option (List G
   pub groups : List Group
   pub is : read ≡ groups_in version groups
   pub are : AreGroupsOf version n groups bytes rest
-  pub members : IsOfGroups groups members
+  pub known : IsOfGroups groups members
 
 -- all that follows the counts of a certificate
 pub record AreStatementsOf (version : Version) (n : ℕ) (read : Option (List Group)) (pairs : List Pair) (bytes : List ℕ) : Type 0 where
