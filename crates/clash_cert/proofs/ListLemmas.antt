@@ -2,6 +2,7 @@
 use Rattle.std.proofs.Common.{◌≡◌, ℕ, zero, suc, ◌+◌, ◌<◌, ◌≤◌, List, [], ◌∷◌, ◌++◌, Contains, length, get_or, subst, sym, refl, ap, ◌∙◌, inl, inr, arith}
 use Rattle.std.specs.Prelude.{◌⊎◌, All, AllPairs}
 use Rattle.std.specs.List.{AllZip}
+use Rattle.std.proofs.lemmas.Bool.{cases_order}
 use Rattle.std.proofs.lemmas.List.{length-append, get_or_append_left, get_or-append-add}
 use Rattle.std.proofs.lemmas.List.Elements.{All-contains, Contains-append_left, Contains-append_right}
 
@@ -97,3 +98,18 @@ module _ {X : Type 0} where
         split [] z (suc k, w, e) = absurd (omega (arith, w))
         split (x ∷ xs) z (zero, w, e) = inl (zero, omega arith, e)
         split (x ∷ xs) z (suc k, w, e) = elim (split xs z (k, omega (arith, w), e)) [ | inl there ↦ inl (in_tail x xs z there) | inr same ↦ inr same ]
+
+-- a number is one of these, or it isn't
+pub contained : (ns : List ℕ) (i : ℕ) → Contains ns i ⊎ (Contains ns i → ⊥)
+contained [] i = inr (none_in_nil i)
+contained (m ∷ ns) i =
+    elim (cases_order m i) [
+      | inl e ↦ inl (zero, omega arith, e)
+      | inr v ↦ elim (contained ns i) [
+        | inl there ↦ inl (in_tail m ns i there)
+        | inr none ↦ inr (λ c. elim (in_cons m ns i c) [
+          | inl e ↦ elim v [ | inl lt ↦ absurd (omega (arith, e, lt)) | inr lt ↦ absurd (omega (arith, e, lt)) ]
+          | inr there ↦ none there
+        ])
+      ]
+    ]

@@ -8,7 +8,7 @@ use Rattle.profile.specs.checker.Certificates.{Entry, End, Pair, Group, IsEntry,
 use Rattle.clash_cert.specs.Reading.{IsPairAt}
 use Rattle.clash_cert.specs.Walked.{HasLine, IsBeforeNext, IsNextOf, IsNextAfter, IsPairFrom, AreEntriesBefore, HasPairLines}
 use Rattle.clash_cert.proofs.TextLemmas.{spelled-append}
-use Rattle.clash_cert.proofs.ListLemmas.{zip_append, none_in_nil, in_head, in_tail, in_cons, all_of, all_front, all_back, pairs_nil, pairs_push, pairs_back, pairs_across}
+use Rattle.clash_cert.proofs.ListLemmas.{zip_append, none_in_nil, in_head, in_tail, in_cons, contained, all_of, pairs_nil, pairs_push}
 
 -- ---- the order of pairs
 
@@ -154,20 +154,6 @@ module _ (n : ℕ) (groups : List Group) where
   }
 
   -- ---- where entries are missing, END completes them
-
-  contained : (ns : List ℕ) (i : ℕ) → Contains ns i ⊎ (Contains ns i → ⊥)
-  contained [] i = inr (none_in_nil i)
-  contained (m ∷ ns) i =
-      elim (cases_order m i) [
-        | inl e ↦ inl (zero, omega arith, e)
-        | inr v ↦ elim (contained ns i) [
-          | inl there ↦ inl (in_tail m ns i there)
-          | inr none ↦ inr (λ c. elim (in_cons m ns i c) [
-            | inl e ↦ elim v [ | inl lt ↦ absurd (omega (arith, e, lt)) | inr lt ↦ absurd (omega (arith, e, lt)) ]
-            | inr there ↦ none there
-          ])
-        ]
-      ]
 
   pub together : (gs : List Group) (i j : ℕ) → AreTogether gs i j ⊎ (AreTogether gs i j → ⊥)
   together [] i j = inr (λ t. none_in_nil t.0 t.1)
