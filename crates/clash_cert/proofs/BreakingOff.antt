@@ -8,13 +8,14 @@ use Rattle.std.proofs.lemmas.Fmt.{decimal_injective}
 use Rattle.profile.specs.text.Values.{WritesStamp}
 use Rattle.profile.specs.checker.Certificates.{Pair, Group, Claims, IsClaims, IsEntry, IsGroup, IsGroupLine, IsPairLine, IsPair, IsPairBefore, IsApart, AreInOrder, AreTogether, AreLines, groups_of, numbers_text, version_line, spelled, SpellsCertificate, FirstWrong}
 use Rattle.clash_cert.specs.Texts.{Lacks, LacksLine}
-use Rattle.clash_cert.specs.Reading.{version_text}
-use Rattle.clash_cert.specs.Walked.{HasLine, AreEntriesBefore, HasGroupLines, HasPairLines, AreGroupsOf, AreAllGroups, AreStatementsOf, BreaksGroups, BreaksPairs, BreaksInGroups, BreaksInPairs, LacksDone, HasMore, IsBroken, groups_in}
+use Rattle.clash_cert.specs.Reading.{IsGroupAt, LacksGroup, version_text}
+use Rattle.clash_cert.specs.Walked.{HasLine, AreEntriesBefore, HasGroupLines, HasPairLines, AreGroupsOf, AreAllGroups, AreStatementsOf, BreaksGroups, BreaksPairs, BreaksInGroups, BreaksInPairs, LacksDone, HasMore, IsBroken, IsNextGroup, groups_in}
 use Rattle.clash_cert.specs.declared.reading.Version.{Version}
 use Rattle.clash_cert.specs.declared.reading.Version.TheVariants.{First, Second}
-use Rattle.clash_cert.proofs.TextLemmas.{cancel, spelled-append, breaks}
+use Rattle.clash_cert.proofs.TextLemmas.{cancel, one_line, spelled-append, breaks}
+use Rattle.clash_cert.proofs.FreeLines.{group_free}
 use Rattle.clash_cert.proofs.ListLemmas.{zip_append, zip_cut, zip_none, none_in_nil, in_head, in_cons, all_front, all_back, pairs_head, pairs_back, pairs_across}
-use Rattle.clash_cert.proofs.OneContent.{Begin, first_octet, others_of, groups_begin, after_groups, one_groups, one_pairs}
+use Rattle.clash_cert.proofs.OneContent.{Begin, first_octet, others_of, groups_begin, after_groups, one_group, one_groups, one_pairs}
 use Rattle.clash_cert.proofs.Walking.{before_self, complete, complete_all}
 use Rattle.clash_cert.proofs.WrongLines.{Stops, wrong_at, head_lines, IsHeaded, version_is}
 
@@ -229,8 +230,16 @@ module _ (one_stamp : (text : List ℕ) (a b : ℤ) → WritesStamp text a → W
             let fine : All (IsGroup n) (front ++ h ∷ hs) = subst (All (IsGroup n)) f good in
             let order : AllPairs AreInOrder (front ++ h ∷ hs) = subst (AllPairs AreInOrder) f claims.groups_ordered in
             let same : b.groups ≡ front = one_groups one_stamp one_form n b.groups front b.lines.lines head.few_series b.lines.good (all_front (IsGroup n) front (h ∷ hs) fine) b.lines.of v in
-            b.lacks h line after (All-contains (IsGroup n) (front ++ h ∷ hs) h fine (Contains-append_right front (h ∷ hs) h (in_head h hs)))
-            (λ g c. pairs_across AreInOrder front (h ∷ hs) g h order (subst (λ (gs : List Group). Contains gs g) same c) (in_head h hs)) u.0 e
+            lacks h (All-contains (IsGroup n) (front ++ h ∷ hs) h fine (Contains-append_right front (h ∷ hs) h (in_head h hs)))
+            (λ g c. pairs_across AreInOrder front (h ∷ hs) g h order (subst (λ (gs : List Group). Contains gs g) same c) (in_head h hs)) u.0 b.lacks
+          where
+            lacks : (h : Group) → IsGroup n h → IsNextGroup b.groups h → IsGroupLine h line → LacksGroup n rest ⊎ ((g : Group) × (left : List ℕ) × IsGroupAt n g rest left × (IsNextGroup b.groups g → ⊥)) → ⊥
+            lacks h fine next w (inl none) = none h line after fine w e
+            lacks h fine next w (inr (g, left, at, other)) =
+                let same : line ≡ at.line =
+                one_line line at.line after left (group_free n h line head.few_series fine w) (group_free n g at.line head.few_series at.good at.of) (sym e ∙ at.is) in
+                let one : h ≡ g = one_group one_stamp one_form n h g line head.few_series fine at.good w (subst (IsGroupLine g) (sym same) at.of) in
+                other (subst (IsNextGroup b.groups) one next)
 
     pub stops_in_groups : Stops text (head_lines version singles n ++ b.lines.lines) rest
     stops_in_groups =

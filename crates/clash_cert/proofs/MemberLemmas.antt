@@ -38,10 +38,10 @@ get_push_cases (z ∷ xs) y (suc k) x e =
       | inr last ↦ inr (let f = last.0 in omega (arith, f), last.1)
     ]
 
-place_of : (groups : List Group) (g : Group) → Contains groups g → (place : ℕ) × (slice_get groups place ≡ Some g)
+pub place_of : (groups : List Group) (g : Group) → Contains groups g → (place : ℕ) × (slice_get groups place ≡ Some g)
 place_of groups g (k, w, e) = (k, slice_get-get_or groups k g w ∙ ap Some e)
 
-of_place : (groups : List Group) (place : ℕ) (g : Group) → slice_get groups place ≡ Some g → Contains groups g
+pub of_place : (groups : List Group) (place : ℕ) (g : Group) → slice_get groups place ≡ Some g → Contains groups g
 of_place groups place g e = (place, slice_get_within groups place g e, get_or_from_slice_get groups place g g e)
 
 -- ---- none at first

@@ -5,7 +5,7 @@ use Rattle.std.specs.Ordering.{nat_cmp}
 use Rattle.std.specs.BTreeMap.{get}
 use Rattle.profile.specs.checker.Certificates.{Pair, Group, IsGroup, IsGroupLine, IsPairLine, IsPair, IsPairBefore, IsApart, AreInOrder, AreTogether, first_of, spelled}
 use Rattle.clash_cert.specs.Texts.{Lacks, LacksLine}
-use Rattle.clash_cert.specs.Reading.{LacksPair}
+use Rattle.clash_cert.specs.Reading.{IsGroupAt, LacksGroup, LacksPair}
 use Rattle.clash_cert.specs.declared.members.Member.{Member}
 use Rattle.clash_cert.specs.declared.members.Members.{Members}
 use Rattle.clash_cert.specs.declared.members.Run.{Run}
@@ -160,7 +160,7 @@ pub record BreaksGroups (n : ℕ) (bytes rest : List ℕ) : Type 0 where
   pub groups : List Group
   pub lines : HasGroupLines n groups bytes rest
   pub begins : (words : List ℕ) × (rest ≡ codes "GROUP " ++ words)
-  pub lacks : (group : Group) (line after : List ℕ) → IsGroup n group → IsNextGroup groups group → IsGroupLine group line → rest ≢ line ++ 10 ∷ after
+  pub lacks : LacksGroup n rest ⊎ ((group : Group) × (left : List ℕ) × IsGroupAt n group rest left × (IsNextGroup groups group → ⊥))
 
 -- where the line of the next pair is missing
 pub record BreaksPairs (n : ℕ) (groups : List Group) (bytes rest : List ℕ) : Type 0 where

@@ -134,7 +134,7 @@ fn begins_group(bytes: &[u8]) -> bool
 
 /// May a group come after these? It comes after the last one, by its first series, and shares none with them.
 fn may_follow(groups: &[Group], members: &Members, group: &Group) -> bool
-    ensures { IsOfGroups (map group_said groups.now) members.now → AllPairs AreInOrder (map group_said groups.now) → AllPairs ◌<◌ group.now.members.items
+    ensures { IsOfGroups (map group_said groups.now) members.now → AllPairs AreInOrder (map group_said groups.now)
         → IsTrue result ↔ IsNextGroup (map group_said groups.now) (group_said group.now) }
 {
     comes_after(groups, group) && !members.has_any(&group.members)
