@@ -1,5 +1,5 @@
 -- What is known of the series that are in groups, and how the pairs that have a line are found by that.
-use Rattle.std.proofs.Common.{◌≡◌, ◌≢◌, ℕ, zero, suc, ◌+◌, ◌<◌, ◌≤◌, ◌==◌, Bool, true, false, cond, List, [], ◌∷◌, ◌++◌, Contains, length, get_or, append_assoc, append-nil, subst, sym, refl, ap, ◌∙◌, inl, inr, arith}
+use Rattle.std.proofs.Common.{◌≡◌, ◌≢◌, ℕ, zero, suc, ◌+◌, ◌-◌, ◌<◌, ◌≤◌, ◌==◌, Bool, true, false, cond, List, [], ◌∷◌, ◌++◌, Contains, length, get_or, take, drop, append_assoc, append-nil, subst, sym, refl, ap, ◌∙◌, inl, inr, arith}
 use Rattle.std.specs.Prelude.{◌⊎◌, AllPairs, Option, Some, None, IfSome, MatchOption}
 use Rattle.std.specs.List.{slice_get}
 use Rattle.std.specs.Ordering.{nat_cmp, is_eq}
@@ -7,6 +7,8 @@ use Rattle.std.specs.BTreeMap.{get, is_at, Updates, IsEmpty}
 use Rattle.std.specs.Map.{lookup}
 use Rattle.std.proofs.lemmas.Bool.{cases_order}
 use Rattle.std.proofs.lemmas.Bool.Decides.{nat_tests}
+use Rattle.std.proofs.lemmas.List.{length-drop, take-append-drop}
+use Rattle.std.proofs.Math.Seq.{drop-cons}
 use Rattle.std.proofs.lemmas.Option.{same_Some, none-some, slice_get-get_or, slice_get_within, get_or_from_slice_get}
 use Rattle.std.proofs.lemmas.List.Elements.{Contains-append_cases, Contains-append_left}
 use Rattle.profile.specs.checker.Certificates.{Group, IsPair, IsPairBefore, AreTogether}
@@ -439,3 +441,15 @@ added_all group numbers old new after groups added a of place is order apart = r
 
         own : p ≡ length groups → IsAdded new group a.done i → (m : Member) × (member_of new i ≡ Some m) × (m.group ≡ p)
         own last w = (w.m, w.is, w.of ∙ place ∙ sym last)
+
+-- a list and its last number
+pub none_left_over : (xs : List ℕ) → length xs < 1 → xs ≡ []
+none_left_over [] h = refl
+none_left_over (x ∷ xs) h = absurd (omega (arith, h))
+
+pub push_last : (xs : List ℕ) → 1 ≤ length xs → xs ≡ take (length xs - 1) xs ++ get_or xs (length xs - 1) 0 ∷ []
+push_last xs h =
+    let k = length xs - 1 in
+    let long = length-drop (suc k) xs in
+    let rest : drop (suc k) xs ≡ [] = none_left_over (drop (suc k) xs) (omega (arith, long, h)) in
+    sym (take-append-drop k xs) ∙ ap (λ (ys : List ℕ). take k xs ++ ys) (drop-cons xs k 0 (omega (arith, h)) ∙ ap (λ (ys : List ℕ). get_or xs k 0 ∷ ys) rest)

@@ -2,7 +2,7 @@
 //! a line are gone through without a look at each pair of a group.
 ghost use Rattle.std.specs.Prelude.{ℕ, List, ◌≡◌, ◌↔◌, ◌<◌, ◌≤◌, ◌++◌, [], ◌∷◌, AllPairs, IsTrue, MatchOption, OnOk, is_some, length, suc};
 ghost use Rattle.std.specs.List.{list_any};
-ghost use Rattle.profile.specs.checker.Certificates.{Group};
+ghost use Rattle.profile.specs.checker.Certificates.{Group, IsPair};
 ghost use Rattle.clash_cert.specs.Walked.{AreApart, IsApartIn, IsNextAfter, IsNextFrom, IsOfGroups, IsRunEnd, member_of};
 
 use std::alloc::{AllocError, Global};
@@ -77,7 +77,7 @@ impl Members {
 
     /// The first that has one after a pair.
     pub(crate) fn pair_after(&self, series: u64, i: u64, j: u64) -> Option<(u64, u64)>
-        ensures { (groups : List Group) → IsOfGroups groups self.now → i ≤ j → j ≤ series → IsNextAfter i j series groups result }
+        ensures { (groups : List Group) → IsOfGroups groups self.now → IsPair series i j → IsNextAfter i j series groups result }
     {
         if j < series {
             return self.pair_from(series, i, j + 1);
