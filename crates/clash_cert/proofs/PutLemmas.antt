@@ -1,12 +1,14 @@
 -- What is appended, piece after piece.
-use Rattle.std.proofs.Common.{◌≡◌, ◌∙◌, drop, ℕ, ◌+◌, ◌<◌, ◌≤◌, List, [], ◌∷◌, ◌++◌, length, take, append_assoc, append-nil, sym, refl, ap, arith}
-use Rattle.std.specs.Prelude.{codes, decimal}
+use Rattle.std.proofs.Common.{◌≡◌, ◌∙◌, drop, ℕ, ◌+◌, ◌<◌, ◌≤◌, List, [], ◌∷◌, ◌++◌, length, get_or, map, take, subst, append_assoc, append-nil, sym, refl, ap, arith}
+use Rattle.std.specs.Prelude.{All, codes, decimal}
 use Rattle.std.specs.List.{AllZip}
-use Rattle.std.proofs.lemmas.List.{length-take, take-append-le, take-append-drop}
+use Rattle.std.proofs.lemmas.List.{length-take, take-append-le, take-append-drop, take_more, map-append, length-map, get_or-map}
+use Rattle.std.proofs.lemmas.List.Elements.{All-get_or}
 use Rattle.std.proofs.lemmas.Grind.{flat_map-append}
 use Rattle.std.proofs.Math.Seq.{take-append_seam}
-use Rattle.profile.specs.checker.Certificates.{Pair, Group, IsPairLine, IsGroupLine, numbers_text, spelled}
+use Rattle.profile.specs.checker.Certificates.{Claims, IsClaims, numbers_text, spelled, version_line, groups_of, SpellsCertificate}
 use Rattle.ical_values.specs.Written.{Appends}
+use Rattle.clash_cert.specs.Reading.{SpellsGroups, SpellsPairs}
 use Rattle.clash_cert.proofs.TextLemmas.{spelled-append, spelled_rest}
 
 -- what was there stays
@@ -87,3 +89,40 @@ head_put version singles series out a b d e f g =
   where
     grouped : (out v l a s b n : List ℕ) → ((out ++ v) ++ ((l ++ a) ++ (s ++ (l ++ b)))) ++ ([] ++ (n ++ l)) ≡ out ++ (v ++ (l ++ ((a ++ s) ++ (l ++ ((b ++ n) ++ (l ++ []))))))
     grouped out v l a s b n = simp (append_assoc, append-nil)
+
+-- ---- the text in four
+
+pub text_put : (c : Claims) (out a b d e : List ℕ) → IsClaims c
+    → a ≡ out ++ spelled (version_line c.groups ∷ (codes "SINGLES " ++ decimal c.singles) ∷ (codes "SERIES " ++ decimal c.series) ∷ []) []
+    → Appends a b (SpellsGroups (groups_of c)) → Appends b d (SpellsPairs c.pairs) → e ≡ d ++ codes "DONE\n" → Appends out e (λ text. SpellsCertificate text c)
+text_put c out a b d e claims h (first, (groups, are, is), f) (second, (pairs, of, k), g) last =
+    let head : List (List ℕ) = version_line c.groups ∷ (codes "SINGLES " ++ decimal c.singles) ∷ (codes "SERIES " ++ decimal c.series) ∷ [] in
+    let done : List (List ℕ) = codes "DONE" ∷ [] in
+    (
+      spelled (head ++ (groups ++ (pairs ++ done))) [],
+      record { claims = claims; lines = head ++ (groups ++ (pairs ++ done)); are = record { groups = groups; are_groups = are; pairs = pairs; are_pairs = of; is = refl }; is = refl },
+      last ∙ ap (λ t. t ++ codes "DONE\n") (g ∙ ap (λ t. t ++ second) (f ∙ ap (λ t. t ++ first) h))
+          ∙ grouped out (spelled head []) first second (spelled done [])
+          ∙ ap (λ t. out ++ (spelled head [] ++ (t ++ (second ++ spelled done [])))) is
+          ∙ ap (λ t. out ++ (spelled head [] ++ (spelled groups [] ++ (t ++ spelled done [])))) k
+          ∙ ap (λ t. out ++ t) (sym (whole head groups pairs done)),
+    )
+  where
+    grouped : (out h g p d : List ℕ) → (((out ++ h) ++ g) ++ p) ++ d ≡ out ++ (h ++ (g ++ (p ++ d)))
+    grouped out h g p d = simp append_assoc
+
+    behind : (ls ms : List (List ℕ)) → spelled (ls ++ ms) [] ≡ spelled ls [] ++ spelled ms []
+    behind ls ms = spelled-append ls ms [] ∙ spelled_rest ls (spelled ms [])
+
+    whole : (h g p d : List (List ℕ)) → spelled (h ++ (g ++ (p ++ d))) [] ≡ spelled h [] ++ (spelled g [] ++ (spelled p [] ++ spelled d []))
+    whole h g p d = behind h (g ++ (p ++ d)) ∙ ap (λ t. spelled h [] ++ t) (behind g (p ++ d) ∙ ap (λ t. spelled g [] ++ t) (behind p d))
+
+-- ---- what was said so far
+
+pub one_more_said : {A B : Type 0} (f : A → B) (xs : List A) (place : ℕ) (x : A) → place < length xs → x ≡ get_or xs place x → map f (take (place + 1) xs) ≡ map f (take place xs) ++ f x ∷ []
+one_more_said f xs place x within is = ap (map f) (take_more xs place x within ∙ ap (λ e. take place xs ++ e ∷ []) (sym is)) ∙ map-append f (take place xs) (x ∷ [])
+
+pub said_at : {A B : Type 0} (P : B → Type 0) (f : A → B) (xs : List A) (place : ℕ) (x : A) → All P (map f xs) → place < length xs → x ≡ get_or xs place x → P (f x)
+said_at P f xs place x h within is =
+    let long = length-map xs f in
+    subst P (get_or-map f xs place x (f x) within ∙ ap f (sym is)) (All-get_or P (map f xs) place (f x) (omega (arith, within, long)) h)
