@@ -7,12 +7,12 @@ use Rattle.std.proofs.lemmas.List.{length-append, length-take-le}
 use Rattle.std.specs.Fmt.{digits}
 use Rattle.std.specs.Str.Parse.{digits_value}
 use Rattle.std.proofs.lemmas.Fmt.{digits_value-decimal}
-use Rattle.std.proofs.lemmas.List.Elements.{All-nil, All-cons, All-head}
+use Rattle.std.proofs.lemmas.List.Elements.{All-nil, All-cons, All-contains}
 use Rattle.std.proofs.lemmas.List.Kept.{AllPairs-cons}
 use Rattle.std.proofs.lemmas.Int.{ints}
 use Rattle.profile.specs.series.Days.{days_before_year, days_of_months}
 use Rattle.profile.specs.text.Values.{WritesStamp, IsClockSeconds}
-use Rattle.profile.specs.checker.Certificates.{Claims, Pair, Group, Entry, End, Span, Res, IsEntry, IsClaims, IsGroup, IsApart, IsPair, IsPairBefore, IsPairLine, IsGroupLine, AreInOrder, AreTogether, AreLines, groups_of, spelled, SpellsCertificate, BeginsWell, FirstWrong, IsSeriesAt, IsCertificateMade}
+use Rattle.profile.specs.checker.Certificates.{Claims, Pair, Group, Entry, End, Span, Res, IsEntry, IsEntryText, IsClaims, IsGroup, IsApart, IsPair, IsPairBefore, IsPairLine, IsGroupLine, AreInOrder, AreTogether, AreLines, groups_of, spelled, SpellsCertificate, BeginsWell, FirstWrong, IsSeriesAt, IsCertificateMade}
 use Rattle.profile.specs.events.Events.{Event}
 use Rattle.profile.specs.events.Confirmed.{Confirmed}
 use Rattle.clash_cert.specs.Chosen.{AreKept}
@@ -20,9 +20,9 @@ use Rattle.clash_cert.specs.Texts.{Lacks, IsNoNumber}
 use Rattle.clash_cert.specs.Reading.{IsNoEntry, IsNoSpan, IsNoGroup}
 use Rattle.clash_cert.proofs.TextLemmas.{cancel, digits_model, same_lines, spelled-take, AreFree-take}
 use Rattle.clash_cert.proofs.FreeLines.{certificate_free}
-use Rattle.clash_cert.proofs.OneContent.{after_number, groups_begin}
+use Rattle.clash_cert.proofs.OneContent.{after_number}
 use Rattle.clash_cert.proofs.Words.{no_entry, no_modulus, no_stamp, no_days, not_sixty}
-use Rattle.clash_cert.proofs.GroupWords.{group_other}
+use Rattle.clash_cert.proofs.GroupWords.{group_other, within_of, ascending_of}
 
 -- ---- without series
 
@@ -36,10 +36,6 @@ one_group_in_order groups few i j d lt w = absurd (omega (arith, few, lt, w))
 -- where there are no groups, no two are in one
 not_together : (i j : ℕ) → AreTogether [] i j → ⊥
 not_together i j (group, there, first, second) = let within = there.1 in omega (arith, within)
-
--- of either version
-without : ℕ → Option (List Group) → Claims
-without singles groups = record { singles = singles; series = 0; groups = groups; pairs = [] }
 
 without_is : (singles : ℕ) → singles < 2 ^ 64 → IsClaims (record { singles = singles; series = 0; groups = None; pairs = [] })
 without_is singles few = record {
@@ -200,6 +196,9 @@ two (suc (suc zero)) (suc (suc zero)) h = inr (inr (refl, refl))
 two (suc (suc zero)) (suc (suc (suc j))) h = absurd (omega (arith, h))
 two (suc (suc (suc i))) j h = absurd (omega (arith, h))
 
+abbrev Before : Pair → Pair → Type 0
+Before p q = IsPairBefore p.first p.second q.first q.second
+
 -- each with itself, and the first with the second
 of_two : SpellsCertificate (codes "ROOMCERT 1\nSINGLES 0\nSERIES 2\nPAIR 1 1 END\nPAIR 1 2 SPAN 20250116T000000Z 7\nPAIR 2 2 END\nDONE\n")
     (record {
@@ -249,9 +248,6 @@ of_two = record {
 
     other : Pair
     other = record { first = 2; second = 2; entry = End }
-
-    abbrev Before : Pair → Pair → Type 0
-    Before p q = IsPairBefore p.first p.second q.first q.second
 
 -- ---- a group
 
@@ -315,8 +311,8 @@ of_group = record {
       from = march_is_clock;
       days = lit< tt;
       some = lit≤ tt;
-      within = λ i there. ?;
-      ascending = ?;
+      within = within_of 2 (1 ∷ 2 ∷ []) refl;
+      ascending = ascending_of 2 0 (1 ∷ 2 ∷ []) refl;
     }
 
 -- its numbers ascend
@@ -361,6 +357,77 @@ no_leading_zero =
 
 no_zero_of_res : IsNoEntry (codes "RES 07")
 no_zero_of_res = no_modulus (codes "RES 07") (codes "07") refl no_zero
+
+-- ---- the first wrong line
+
+-- a line that begins with P, and is the fourth, is of a pair
+of_pair : (c : Claims) (lines : List (List ℕ)) (line : List ℕ) → AreLines c lines → get_or lines 3 [] ≡ line → get_or line 0 0 ≡ 80 → (p : Pair) × Contains c.pairs p × IsPairLine p line
+of_pair c lines line are at first = go (groups_of c) are.groups are.are_groups c.pairs are.pairs are.are_pairs (sym (ap (λ (ls : List (List ℕ)). get_or ls 3 []) are.is) ∙ at)
+  where
+    go : (gs : List Group) (groups : List (List ℕ)) → AllZip IsGroupLine gs groups → (ps : List Pair) (pairs : List (List ℕ)) → AllZip IsPairLine ps pairs
+        → get_or (groups ++ (pairs ++ codes "DONE" ∷ [])) 0 [] ≡ line → (p : Pair) × Contains ps p × IsPairLine p line
+    go [] [] w [] [] v e = absurd (let last : 68 ≡ 80 = ap (λ t. get_or t 0 0) e ∙ first in omega (arith, last))
+    go [] [] w [] (l ∷ ls) v e = absurd v
+    go [] [] w (p ∷ ps) [] v e = absurd v
+    go [] [] w (p ∷ ps) (l ∷ ls) v e = (p, (0, omega arith, refl), subst (IsPairLine p) e v.0)
+    go [] (l ∷ ls) w ps pairs v e = absurd w
+    go (g ∷ gs) [] w ps pairs v e = absurd w
+    go (g ∷ gs) (l ∷ ls) w ps pairs v e = absurd (let other : 71 ≡ 80 = sym (ap (λ t. get_or t 0 0) w.0.2) ∙ ap (λ t. get_or t 0 0) e ∙ first in omega (arith, other))
+
+-- the line of a pair with second 60 is of none
+no_pair : (p : Pair) → p.first < 2 ^ 64 → p.second < 2 ^ 64 → IsEntry p.entry → IsPairLine p (codes "PAIR 1 1 SPAN 20250116T000060Z 7") → ⊥
+unfolding digits
+no_pair p h k good (text, w, e) =
+    let second : decimal p.second ++ 32 ∷ text ≡ codes "1 SPAN 20250116T000060Z 7" =
+    after_number p.first 1 (decimal p.second ++ 32 ∷ text) (codes "1 SPAN 20250116T000060Z 7") h (lit< tt) (cancel (codes "PAIR ") (decimal p.first ++ 32 ∷ (decimal p.second ++ 32 ∷ text)) (codes "1 1 SPAN 20250116T000060Z 7") (sym e)) in
+    let words : text ≡ codes "SPAN 20250116T000060Z 7" = after_number p.second 1 text (codes "SPAN 20250116T000060Z 7") k (lit< tt) second in
+    no_second_60 p.entry good (subst (IsEntryText p.entry) words w)
+
+-- so that one is the first wrong one
+wrong_text : List ℕ
+wrong_text = codes "ROOMCERT 1\nSINGLES 0\nSERIES 1\nPAIR 1 1 SPAN 20250116T000060Z 7\nDONE\n"
+
+four_lines : List (List ℕ)
+four_lines = codes "ROOMCERT 1" ∷ codes "SINGLES 0" ∷ codes "SERIES 1" ∷ codes "PAIR 1 1 SPAN 20250116T000060Z 7" ∷ []
+
+begins_wrong : BeginsWell wrong_text 4 → ⊥
+unfolding wrong_text four_lines
+begins_wrong b =
+    let taken : take 4 b.lines ≡ four_lines =
+    same_lines (take 4 b.lines) four_lines b.rest (codes "DONE\n") (AreFree-take 4 b.lines (certificate_free b.c b.lines b.claims b.are)) (refl, (refl, (refl, (refl, tt)))) (length-take-le 4 b.lines b.within) (sym b.is) in
+    let pair = of_pair b.c b.lines (codes "PAIR 1 1 SPAN 20250116T000060Z 7") b.are (taken_at b.lines ∙ ap (λ (ls : List (List ℕ)). get_or ls 3 []) taken) refl in
+    let apart = All-contains (IsApart b.c.series (groups_of b.c)) b.c.pairs pair.0 b.claims.pairs pair.1 in
+    let few = b.claims.series in
+    let within = apart.pair in
+    no_pair pair.0 (omega (arith, few, within)) (omega (arith, few, within)) apart.entry pair.2
+  where
+    taken_at : (ls : List (List ℕ)) → get_or ls 3 [] ≡ get_or (take 4 ls) 3 []
+    taken_at [] = refl
+    taken_at (a ∷ []) = refl
+    taken_at (a ∷ c ∷ []) = refl
+    taken_at (a ∷ c ∷ d ∷ []) = refl
+    taken_at (a ∷ c ∷ d ∷ e ∷ ls) = refl
+
+wrong_line : FirstWrong wrong_text 4
+unfolding digits wrong_text
+wrong_line = record {
+  counted = lit< tt;
+  none = λ c s.
+      let all = ap length s.are.is in
+      let groups = length-append s.are.groups (s.are.pairs ++ codes "DONE" ∷ []) in
+      let pairs = length-append s.are.pairs (codes "DONE" ∷ []) in
+      begins_wrong (record { c = c; rest = spelled (drop 4 s.lines) []; claims = s.claims; lines = s.lines; are = s.are; within = omega (arith, all, groups, pairs); is = s.is ∙ spelled-take 4 s.lines [] });
+  before = record {
+    c = record { singles = 0; series = 1; groups = None; pairs = record { first = 1; second = 1; entry = End } ∷ [] };
+    rest = codes "PAIR 1 1 SPAN 20250116T000060Z 7\nDONE\n";
+    claims = one_is End tt;
+    lines = codes "ROOMCERT 1" ∷ codes "SINGLES 0" ∷ codes "SERIES 1" ∷ codes "PAIR 1 1 END" ∷ codes "DONE" ∷ [];
+    are = record { groups = []; are_groups = tt; pairs = codes "PAIR 1 1 END" ∷ []; are_pairs = ((codes "END", refl, refl), tt); is = refl };
+    within = lit≤ tt;
+    is = refl;
+  };
+  here = begins_wrong;
+}
 
 -- ---- an old certificate
 
