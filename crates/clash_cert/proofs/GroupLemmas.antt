@@ -75,9 +75,10 @@ may_follow_then groups group members true after e of order =
 may_follow_then groups group members false after e of order =
     ((λ f. next_from groups group order after (shares_none groups members of group.members (sym e))), (λ next. refl))
 
-pub may_follow_else : (groups : List Group) (group : Group) (members : Members) → (IsAfterLast groups group → ⊥) → IsOfGroups groups members → AllPairs AreInOrder groups
-    → IsTrue false ↔ IsNextGroup groups group
-may_follow_else groups group members other of order = ((λ f. absurd (true≢false (sym f))), (λ next. absurd (other (before_last groups group next))))
+pub may_follow_else : (groups : List Group) (group : Group) (members : Members) (b : Bool) → IsTrue b ↔ IsAfterLast groups group → b ≡ false → IsOfGroups groups members → AllPairs AreInOrder groups
+    → IsTrue b ↔ IsNextGroup groups group
+may_follow_else groups group members true after e of order = absurd (true≢false e)
+may_follow_else groups group members false after e of order = ((λ f. absurd (true≢false (sym f))), (λ next. absurd (true≢false (sym (after.1 (before_last groups group next))))))
 
 -- ---- their lines
 

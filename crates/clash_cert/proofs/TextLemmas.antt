@@ -344,3 +344,12 @@ at_no_value (Err f) P Q e m = (f, m)
 pub none_exit : {A : Type 0} (r : Option A) (P : Type 0) (Q : A → Type 0) → r ≡ None → P → MatchOption r P Q
 none_exit (Some x) P Q e p = absurd (none-some x (sym e))
 none_exit None P Q e p = p
+
+-- what is said of a value, and what where there is none
+pub match_some : {A : Type 0} (r : Option A) (P : Type 0) (Q : A → Type 0) (x : A) → r ≡ Some x → MatchOption r P Q → Q x
+match_some (Some y) P Q x e m = subst Q (same_Some y x e) m
+match_some None P Q x e m = absurd (none-some x e)
+
+pub match_none : {A : Type 0} (r : Option A) (P : Type 0) (Q : A → Type 0) → r ≡ None → MatchOption r P Q → P
+match_none (Some y) P Q e m = absurd (none-some y (sym e))
+match_none None P Q e m = m

@@ -20,6 +20,6 @@ returns-then-i-series c groups of pair =
     next_row n i c.args.j groups c.pair_from-then-i-series.result (omega (arith, c.if-j-series.false))
     (subst (λ m. IsNextFrom m m n groups c.pair_from-then-i-series.result) next (c.pair_from-then-i-series.ensures groups of (omega arith) (omega arith)))
 
-pub returns-else-i-series : goal.returns-else-i-series
-returns-else-i-series c groups of pair =
+pub returns : goal.returns
+returns c groups of pair =
     none_after c.args.series c.args.i c.args.j groups (omega (arith, c.if-i-series.false)) (omega (arith, c.if-j-series.false))
