@@ -80,6 +80,9 @@ pub may_follow_else : (groups : List Group) (group : Group) (members : Members) 
 may_follow_else groups group members true after e of order = absurd (true≢false e)
 may_follow_else groups group members false after e of order = ((λ f. absurd (true≢false (sym f))), (λ next. absurd (true≢false (sym (after.1 (before_last groups group next))))))
 
+pub not_next : (groups : List Group) (group : Group) (b : Bool) → IsTrue b ↔ IsNextGroup groups group → b ≡ false → IsNextGroup groups group → ⊥
+not_next groups group b may e next = true≢false (sym (may.1 next) ∙ e)
+
 -- ---- their lines
 
 pub groups_start : (n : ℕ) (bytes : List ℕ) → HasGroupLines n [] bytes bytes

@@ -46,6 +46,11 @@ pub before_later : (p q i j : ℕ) → IsPairBefore p q i j → IsPairBefore p q
 before_later p q i j (inl l) = inl l
 before_later p q i j (inr (e, l)) = inr (e, omega (arith, l))
 
+-- the next one has a line
+pub next_has : (From : ℕ → ℕ → Type 0) (n : ℕ) (groups : List Group) (next : Option (ℕ × ℕ)) → IsNextOf From n groups next → IfSome next (λ p. HasLine n groups p.0 p.1)
+next_has From n groups None x = tt
+next_has From n groups (Some p) x = x.is.0
+
 -- ---- entries, one after another
 
 module _ (n : ℕ) (groups : List Group) where
