@@ -109,7 +109,7 @@ module _ (text : List ℕ) (front : List (List ℕ)) (rest : List ℕ) (stops : 
       ended : (s.lines ≡ front) × (rest ≡ []) → ⊥
       ended w = stops.end c s.claims (subst (AreLines c) w.0 s.are) w.1
 
-  wrong_here : FirstWrong text (suc (length front))
+  pub wrong_here : FirstWrong text (suc (length front))
   wrong_here =
       let begins = stops.begins in
       let same : length front ≡ suc (length front) - 1 = omega arith in
