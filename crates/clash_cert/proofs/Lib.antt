@@ -3,11 +3,12 @@ pub mod FreeLines
 pub mod ListLemmas
 pub mod OneContent
 pub mod SortedNumbers
+pub mod SortedPairs
 pub mod Words
 pub mod GroupWords
 pub mod PutLemmas
 pub mod MemberLemmas
-pub mod GroupLemmas
+pub mod NextGroups
 pub mod Walking
 pub mod WrongLines
 pub mod BreakingOff

@@ -1,5 +1,5 @@
 -- The walk through the lines of groups and of pairs: which pairs have a line, what was read of them, and where reading breaks off.
-use Rattle.std.specs.Prelude.{◌≡◌, ◌≢◌, ◌⊎◌, ℕ, suc, ◌-◌, ◌<◌, ◌≤◌, List, [], ◌∷◌, ◌++◌, length, All, AllPairs, Contains, Option, Some, None, IfSome, MatchOption, codes}
+use Rattle.std.specs.Prelude.{◌≡◌, ◌≢◌, ◌⊎◌, ℕ, suc, ◌-◌, ◌<◌, ◌≤◌, ◌==◌, ltb, Bool, ◌||◌, ◌&&◌, List, [], ◌∷◌, ◌++◌, length, All, AllPairs, Contains, Option, Some, None, IfSome, MatchOption, codes}
 use Rattle.std.specs.List.{AllZip, slice_get}
 use Rattle.std.specs.Ordering.{nat_cmp}
 use Rattle.std.specs.BTreeMap.{get}
@@ -41,6 +41,10 @@ IsRunEnd None number last = last ≡ number
 IsRunEnd (Some run) number last = ((run.first ≡ suc number) × (last ≡ run.last)) ⊎ ((run.first ≡ suc number → ⊥) × (last ≡ number))
 
 -- ---- which pairs have a line
+
+-- a pair comes before another: the test
+abbrev pub is_pair_before : ℕ → ℕ → ℕ → ℕ → Bool
+is_pair_before i j first second = ltb i first || ((i == first) && ltb j second)
 
 -- a pair of n series that aren't both in one group
 pub record HasLine (n : ℕ) (groups : List Group) (i j : ℕ) : Type 0 where

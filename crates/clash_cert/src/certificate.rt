@@ -2,10 +2,11 @@
 //! `GROUP from days i1 i2 ..` of at least two series each, ascending, which share none and come by their first ones; for all 1 <= i <= j <= n that
 //! aren't both in one group, by i and then by j, a line `PAIR i j END`, `PAIR i j SPAN from days` or `PAIR i j RES m`; and `DONE`, with nothing
 //! after. Numbers are decimal, of 64 bits, without leading zeros; an instant is `YYYYMMDDTHHMMSSZ` with seconds up to 59.
-ghost use Rattle.std.specs.Prelude.{ℕ, List, ◌≡◌, map, is_some, IfOk, IfErr, OnOk, OnErr};
+ghost use Rattle.std.specs.Prelude.{ℕ, List, ◌≡◌, ◌↔◌, ◌<◌, AllPairs, Contains, map, is_some, IfOk, IfErr, IsTrue, OnOk, OnErr};
 ghost use Rattle.profile.specs.checker.Certificates.{Claims, IsClaims, IsEntry, IsEntryOf, IsPair, FirstWrong, SpellsCertificate, groups_of};
 ghost use Rattle.ical_values.specs.Written.{Appends};
 ghost use Rattle.clash_cert.specs.Texts.{IsCertFault, AreSorted, IsEntryAmong, entry_said, group_said, pair_said, claims_said};
+ghost use Rattle.clash_cert.specs.Walked.{is_pair_before};
 ghost use Rattle.clash_cert.specs.Chosen.{IsSaidOf};
 
 use crate::group::Group;
@@ -177,12 +178,13 @@ impl Certificate {
     pub fn entry(&self, i: u64, j: u64) -> Entry
         ensures { IsPair self.now.series i j → IsEntryOf self.now i j (entry_said result) }
     {
+        let pairs = self.pairs.as_slice();
         for (place, group) in self.groups().iter().enumerate() {
-            if group.has(i) && group.has(j) {
+            if has_both(group, i, j) {
                 return Entry::Group(place as u64 + 1);
             }
         }
-        entry_at(&self.pairs, i, j)
+        entry_at(pairs, i, j)
     }
 
     /// What it says of two of its series, the one that comes first in the calendar first or second, where it has no groups.
@@ -198,16 +200,41 @@ impl Certificate {
     }
 }
 
+/// Are both series of one group?
+fn has_both(group: &Group, i: u64, j: u64) -> bool
+    ensures { AllPairs ◌<◌ (group_said group.now).members → IsTrue result ↔ (Contains (group_said group.now).members i × Contains (group_said group.now).members j) }
+{
+    group.has(i) && group.has(j)
+}
+
 /// The entry of two series, END where they have none.
 fn entry_at(pairs: &[Pair], first: u64, second: u64) -> Entry
     requires { AreSorted (map pair_said pairs.now) }
     ensures { IsEntryAmong (map pair_said pairs.now) first second (entry_said result) }
 {
-    let place = pairs.partition_point(|pair| (pair.first, pair.second) < (first, second));
-    match pairs.get(place) {
-        Some(pair) if pair.first == first && pair.second == second => pair.entry,
-        _ => Entry::End,
+    let place = pairs.partition_point(|pair| comes_before(pair, first, second));
+    let Some(pair) = pairs.get(place) else {
+        return Entry::End;
+    };
+    if is_of(pair, first, second) {
+        pair.entry
+    } else {
+        Entry::End
     }
+}
+
+/// Does a pair come before these two series?
+fn comes_before(pair: &Pair, first: u64, second: u64) -> bool
+    ensures { result ≡ is_pair_before pair.now.first pair.now.second first second }
+{
+    pair.first < first || (pair.first == first && pair.second < second)
+}
+
+/// Is it the pair of these two series?
+fn is_of(pair: &Pair, first: u64, second: u64) -> bool
+    ensures { IsTrue result ↔ ((pair.now.first ≡ first) × (pair.now.second ≡ second)) }
+{
+    pair.first == first && pair.second == second
 }
 
 /// A text spells at most one certificate, and a certificate has one text. With the contracts of `read` and `write`: what was written is read as

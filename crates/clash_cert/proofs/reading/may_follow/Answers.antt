@@ -3,7 +3,7 @@ use Rattle.std.specs.Prelude.{is_some}
 use Rattle.std.specs.List.{list_any}
 use Rattle.clash_cert.specs.Texts.{group_said}
 use Rattle.clash_cert.specs.Walked.{member_of}
-use Rattle.clash_cert.proofs.GroupLemmas.{may_follow_then, may_follow_else}
+use Rattle.clash_cert.proofs.NextGroups.{may_follow_then, may_follow_else}
 use Rattle.clash_cert.proofs.reading.may_follow.Goals as goal
 
 pub returns-then-comes_after : goal.returns-then-comes_after

@@ -5,7 +5,7 @@ use Rattle.profile.specs.checker.Certificates.{Group, AreInOrder}
 use Rattle.clash_cert.specs.Texts.{group_said}
 use Rattle.clash_cert.specs.Reading.{IsGroupAt, LacksGroup}
 use Rattle.clash_cert.specs.Walked.{AreApart, HasGroupLines, IsNextGroup, IsOfGroups}
-use Rattle.clash_cert.proofs.GroupLemmas.{groups_more, breaks_behind, next_apart, not_next}
+use Rattle.clash_cert.proofs.NextGroups.{groups_more, breaks_behind, next_apart, not_next}
 use Rattle.clash_cert.proofs.reading.read_groups.Goals as goal
 
 pub returns-then-not-may_follow : goal.returns-then-not-may_follow
