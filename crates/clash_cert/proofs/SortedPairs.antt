@@ -175,7 +175,7 @@ module _ (c : Claims) (claims : IsClaims c) (items : List Group) (same : map gro
         let back : (place + 1) - 1 ≡ place = omega arith in
         let there : slice_get (map group_said items) place ≡ Some (group_said g) =
         slice_get-get_or (map group_said items) place (group_said g) (omega (arith, w, long)) ∙ ap Some (get_or-map group_said items place g (group_said g) w ∙ ap group_said (sym e)) in
-        (omega arith, group_said g, ap (slice_get (groups_of c)) back ∙ ap (λ (gs : List said.Group). slice_get gs place) (sym same) ∙ there, has.0, has.1)
+        (omega arith, (group_said g, ap (slice_get (groups_of c)) back ∙ ap (λ (gs : List said.Group). slice_get gs place) (sym same) ∙ there, has.0, has.1))
 
     -- or it hasn't
     pub group_lacks : b ≡ false → (d : Group) → Contains (group_said (get_or items place d)).members i → Contains (group_said (get_or items place d)).members j → ⊥
