@@ -9,9 +9,6 @@ use Rattle.cal_period.proofs.common.Common.of.Goals as goal
 pub returns-in_err-period_days : goal.returns-in_err-period_days
 returns-in_err-period_days c = none_exit _ _ _ c.from_residual.ensures (none_of_last [] (series_said c.args.series.now) c.in_err-period_days.ensures)
 
-pub returns-in_err-period_days : goal.returns-in_err-period_days
-returns-in_err-period_days c = none_exit _ _ _ c.from_residual.ensures (none_of_one (series_said c.args.series.now) c.in_err-period_days.ensures)
-
 pub returns : goal.returns
 returns c =
     let a = series_said c.args.series.now in
