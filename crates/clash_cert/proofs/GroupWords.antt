@@ -1,6 +1,6 @@
 -- The words of a group, and numbers, each after a space.
 use Rattle.std.proofs.Common.{◌≡◌, ◌≢◌, ℕ, ℤ, suc, ◌+◌, ◌^◌, ◌<◌, ◌≤◌, ◌==◌, Bool, true, false, cond, not, ◌&&◌, List, [], ◌∷◌, ◌++◌, length, get_or, take, drop, subst, sym, refl, ap, ◌∙◌, append_assoc, append-nil, lit<, arith}
-use Rattle.std.specs.Prelude.{All, AllPairs, Contains, Option, Some, None, codes, decimal, position, eqb, ltb, leb}
+use Rattle.std.specs.Prelude.{All, AllPairs, Contains, Some, None, codes, decimal, position, eqb, ltb, leb}
 use Rattle.std.specs.List.{position_or_len, remove}
 use Rattle.std.proofs.lemmas.Bool.{and_parts, and_from, true≢false}
 use Rattle.std.proofs.lemmas.Bool.Decides.{nat_tests}

@@ -1,5 +1,4 @@
-use Rattle.std.proofs.Common.{◌≡◌, ◌∙◌, ◌++◌, ◌<◌, ◌≤◌, ◌^◌, ℕ, List, length, take, drop, sym, ap, arith, rules}
-use Rattle.std.proofs.lemmas.List.{take-append-drop}
+use Rattle.std.proofs.Common.{◌∙◌, ap, arith, rules}
 use Rattle.profile.specs.text.Values.{IsClockSeconds}
 use Rattle.clash_cert.specs.Reading.{ascend}
 use Rattle.clash_cert.proofs.TextLemmas.{match_some, match_none}
