@@ -112,7 +112,8 @@ fn read_groups<'a>(
 }
 
 /// Does a group come after the last one, by its first series?
-fn comes_after(groups: &[Group], group: &Group) -> bool {
+fn comes_after(groups: &[Group], group: &Group) -> bool
+{
     match groups.last() {
         Some(last) => last.name().0 < group.name().0,
         None => true,
