@@ -66,8 +66,7 @@ pub text_put : (c : Claims) (out a b d e : List ℕ) → IsClaims c
     → Appends a b (SpellsGroups (groups_of c)) → Appends b d (SpellsPairs c.pairs) → e ≡ d ++ codes "DONE\n" → Appends out e (λ text. SpellsCertificate text c)
 text_put c out a b d e claims h (first, (groups, are, is), f) (second, (pairs, of, k), g) last =
     let head : List (List ℕ) = version_line c.groups ∷ (codes "SINGLES " ++ decimal c.singles) ∷ (codes "SERIES " ++ decimal c.series) ∷ [] in
-    let done : List (List ℕ) = codes "DONE" ∷ [] in
-    (
+    let done : List (List ℕ) = codes "DONE" ∷ [] in (
       spelled (head ++ (groups ++ (pairs ++ done))) [],
       record { claims = claims; lines = head ++ (groups ++ (pairs ++ done)); are = record { groups = groups; are_groups = are; pairs = pairs; are_pairs = of; is = refl }; is = refl },
       last ∙ ap (λ t. t ++ codes "DONE\n") (g ∙ ap (λ t. t ++ second) (f ∙ ap (λ t. t ++ first) h))
