@@ -41,20 +41,20 @@ one_numbers (n ∷ ns) (m ∷ ms) h k e =
 -- ---- the lines of groups before those of pairs
 
 -- lines that begin so
-abbrev Begin : ℕ → List (List ℕ) → Type 0
+abbrev pub Begin : ℕ → List (List ℕ) → Type 0
 Begin c [] = Unit {0}
 Begin c (l ∷ ls) = (get_or l 0 0 ≡ c) × Begin c ls
 
 -- what the first line begins with
-abbrev first_octet : List (List ℕ) → ℕ
+abbrev pub first_octet : List (List ℕ) → ℕ
 first_octet ls = get_or (get_or ls 0 []) 0 0
 
-abbrev others_of : List (List ℕ) → List (List ℕ)
+abbrev pub others_of : List (List ℕ) → List (List ℕ)
 others_of [] = []
 others_of (l ∷ ls) = ls
 
 -- lines that begin so, before a line that doesn't
-same_begin : (c : ℕ) (xs ys more rest : List (List ℕ)) → Begin c xs → Begin c ys → first_octet more ≢ c → first_octet rest ≢ c → xs ++ more ≡ ys ++ rest → xs ≡ ys
+pub same_begin : (c : ℕ) (xs ys more rest : List (List ℕ)) → Begin c xs → Begin c ys → first_octet more ≢ c → first_octet rest ≢ c → xs ++ more ≡ ys ++ rest → xs ≡ ys
 same_begin c [] [] more rest h k m r e = refl
 same_begin c [] (y ∷ ys) more rest h k m r e = absurd (m (ap first_octet e ∙ k.0))
 same_begin c (x ∷ xs) [] more rest h k m r e = absurd (r (sym (ap first_octet e) ∙ h.0))
@@ -64,14 +64,14 @@ same_begin c (x ∷ xs) (y ∷ ys) more rest h k m r e =
     ap (λ (z : List ℕ). z ∷ xs) first ∙ ap (λ (zs : List (List ℕ)). y ∷ zs) others
 
 -- they begin with G
-groups_begin : (groups : List Group) (lines : List (List ℕ)) → AllZip IsGroupLine groups lines → Begin 71 lines
+pub groups_begin : (groups : List Group) (lines : List (List ℕ)) → AllZip IsGroupLine groups lines → Begin 71 lines
 groups_begin [] [] w = tt
 groups_begin [] (l ∷ ls) w = absurd w
 groups_begin (g ∷ gs) [] w = absurd w
 groups_begin (g ∷ gs) (l ∷ ls) w = (ap (λ t. get_or t 0 0) w.0.2, groups_begin gs ls w.1)
 
 -- the line after them doesn't
-after_groups : (pairs : List Pair) (lines : List (List ℕ)) → AllZip IsPairLine pairs lines → first_octet (lines ++ codes "DONE" ∷ []) ≢ 71
+pub after_groups : (pairs : List Pair) (lines : List (List ℕ)) → AllZip IsPairLine pairs lines → first_octet (lines ++ codes "DONE" ∷ []) ≢ 71
 after_groups [] [] w e = let last : 68 ≡ 71 = e in omega (arith, last)
 after_groups [] (l ∷ ls) w e = absurd w
 after_groups (p ∷ ps) [] w e = absurd w
@@ -128,7 +128,7 @@ module _ (one_stamp : (text : List ℕ) (a b : ℤ) → WritesStamp text a → W
       (one_number p.second q.second text word few_j few_l second)
       (one_entry p.entry q.entry text h.entry k.entry w (subst (IsEntryText q.entry) (sym same) v))
 
-  one_pairs : (n : ℕ) (groups others : List Group) (ps qs : List Pair) (lines : List (List ℕ)) → n < 2 ^ 64 → All (IsApart n groups) ps → All (IsApart n others) qs
+  pub one_pairs : (n : ℕ) (groups others : List Group) (ps qs : List Pair) (lines : List (List ℕ)) → n < 2 ^ 64 → All (IsApart n groups) ps → All (IsApart n others) qs
       → AllZip IsPairLine ps lines → AllZip IsPairLine qs lines → ps ≡ qs
   one_pairs n groups others [] [] lines few h k e f = refl
   one_pairs n groups others [] (q ∷ qs) [] few h k e f = absurd f
@@ -158,7 +158,7 @@ module _ (one_stamp : (text : List ℕ) (a b : ℤ) → WritesStamp text a → W
       (one_numbers (g.days ∷ g.members) (h.days ∷ h.members)
       (All-cons (λ n. n < 2 ^ 64) g.days g.members good.days (few_members n g few good)) (All-cons (λ n. n < 2 ^ 64) h.days h.members fine.days (few_members n h few fine)) numbers)
 
-  one_groups : (n : ℕ) (gs hs : List Group) (lines : List (List ℕ)) → n < 2 ^ 64 → All (IsGroup n) gs → All (IsGroup n) hs → AllZip IsGroupLine gs lines → AllZip IsGroupLine hs lines → gs ≡ hs
+  pub one_groups : (n : ℕ) (gs hs : List Group) (lines : List (List ℕ)) → n < 2 ^ 64 → All (IsGroup n) gs → All (IsGroup n) hs → AllZip IsGroupLine gs lines → AllZip IsGroupLine hs lines → gs ≡ hs
   one_groups n [] [] lines few h k e f = refl
   one_groups n [] (y ∷ hs) [] few h k e f = absurd f
   one_groups n [] (y ∷ hs) (l ∷ ls) few h k e f = absurd e

@@ -108,6 +108,7 @@ impl Certificate {
         let Some((series, rest)) = after_count(rest, b"SERIES ") else {
             return Err(CertFault::Line(3));
         };
+        ical_values::stamp::one_stamp();
         one_certificate();
         match read_statements(alloc, rest, version, series) {
             Ok((groups, pairs)) => Ok(Certificate {

@@ -1,11 +1,13 @@
 //! Reading the lines of a certificate: each step says what stands at the front of the octets and what follows it, or that it doesn't stand
 //! there.
-ghost use Rattle.std.specs.Prelude.{◌≡◌, ◌^◌, ◌<◌, ◌≤◌, ◌-◌, ◌+◌, ◌∷◌, ◌++◌, suc, take, length, map, decimal, position, slice_index_or, ◌==◌, MatchOption, MatchResult, IfOk};
+ghost use Rattle.std.specs.Prelude.{List, ℕ, ◌≡◌, ◌↔◌, ◌^◌, ◌<◌, ◌≤◌, ◌-◌, ◌+◌, [], ◌∷◌, ◌++◌, suc, take, length, map, codes, decimal, position, slice_index_or, ◌==◌, AllPairs, IsTrue, MatchBool, MatchOption, MatchResult, IfOk};
 ghost use Rattle.std.specs.List.{count_by};
 ghost use Rattle.profile.specs.text.Values.{WritesStamp};
-ghost use Rattle.profile.specs.checker.Certificates.{IsEntry, IsEntryText, Span};
+ghost use Rattle.profile.specs.checker.Certificates.{AreInOrder, IsEntry, IsEntryText, Span};
+ghost use Rattle.profile.specs.checker.Certificates as said;
 ghost use Rattle.clash_cert.specs.Texts.{Lacks, LacksLine, LacksCount, LacksLf, IsCutAtLf, IsNoNumber, entry_said, group_said, groups_said, pair_said};
-ghost use Rattle.clash_cert.specs.Reading.{pair_names, IsNoEntry, IsNoSpan, IsNoStamp, IsVersionAt, LacksVersion, IsGroupAt, LacksGroup, IsGroupOfWords, IsNoGroup, AreNumbers, AreNoNumbers, IsNumberAt, LacksNumber, IsCutAtSpace, ascend, IsPairAt, LacksPair, AreStatementsOf, IsBroken, AreGroupsAt, BreaksGroups, ArePairsAt, BreaksPairs};
+ghost use Rattle.clash_cert.specs.Reading.{pair_names, IsNoEntry, IsNoSpan, IsNoStamp, IsVersionAt, LacksVersion, IsGroupAt, LacksGroup, IsGroupOfWords, IsNoGroup, AreNumbers, AreNoNumbers, IsNumberAt, LacksNumber, IsCutAtSpace, ascend, IsPairAt, LacksPair};
+ghost use Rattle.clash_cert.specs.Walked.{AreGroupsAt, ArePairsAt, AreStatementsOf, AreVersionGroups, BreaksGroups, BreaksInGroups, BreaksPairs, IsAfterLast, IsBroken, IsNextGroup, IsOfGroups};
 ghost use Rattle.clash_cert.specs.Stops.{StopsAt};
 
 use crate::certificate::{Entry, Pair};
@@ -67,13 +69,7 @@ pub(crate) fn read_statements<'a>(
     ensures { MatchResult result (λ p. AreStatementsOf version series (groups_said p.0) (map pair_said p.1.items) bytes.now) (StopsAt (IsBroken version series bytes.now)) }
 {
     let mut members = Members::none(alloc);
-    let (groups, rest) = match version {
-        Version::First => (None, bytes),
-        Version::Second => {
-            let (groups, rest) = read_groups(alloc, bytes, series, &mut members)?;
-            (Some(groups), rest)
-        }
-    };
+    let (groups, rest) = read_version_groups(alloc, bytes, version, series, &mut members)?;
     let (pairs, rest) = read_pairs(alloc, rest, series, &members)?;
     let Some(left) = after_line(rest, b"DONE") else {
         return Err(Stop::At(rest));
@@ -85,7 +81,28 @@ pub(crate) fn read_statements<'a>(
     }
 }
 
-/// The groups whose lines come first, and what follows these. Of each series that is in one `members` knows that afterwards.
+/// The groups of a certificate of this version, which the first doesn't have, and what follows their lines. Of each series that is in one
+/// `members` knows that afterwards.
+fn read_version_groups<'a>(
+    alloc: Global,
+    bytes: &'a [u8],
+    version: Version,
+    series: u64,
+    members: &mut Members,
+) -> Result<(Option<Vec<Group>>, &'a [u8]), Stop<'a>>
+    requires { IsOfGroups [] members.old }
+    ensures { MatchResult result (λ p. AreVersionGroups version series (groups_said p.0) members.new bytes.now p.1.now) (StopsAt (BreaksInGroups version series bytes.now)) }
+{
+    match version {
+        Version::First => Ok((None, bytes)),
+        Version::Second => {
+            let (groups, rest) = read_groups(alloc, bytes, series, members)?;
+            Ok((Some(groups), rest))
+        }
+    }
+}
+
+/// The groups whose lines come first, and what follows these.
 fn read_groups<'a>(
     alloc: Global,
     bytes: &'a [u8],
@@ -97,11 +114,11 @@ fn read_groups<'a>(
 {
     let mut groups: Vec<Group> = Vec::new(alloc);
     let mut rest = bytes;
-    while rest.starts_with(b"GROUP ") {
+    while begins_group(rest) {
         let Some((group, left)) = read_group(alloc, rest, series)? else {
             return Err(Stop::At(rest));
         };
-        if !comes_after(&groups, &group) || members.has_any(&group.members) {
+        if !may_follow(&groups, members, &group) {
             return Err(Stop::At(rest));
         }
         members.add(groups.len(), &group.members)?;
@@ -111,8 +128,24 @@ fn read_groups<'a>(
     Ok((groups, rest))
 }
 
+/// Do the octets begin as the line of a group does?
+fn begins_group(bytes: &[u8]) -> bool
+    ensures { MatchBool result ((words : List ℕ) × (bytes.now ≡ codes "GROUP " ++ words)) (Lacks (codes "GROUP ") bytes.now) }
+{
+    after(bytes, b"GROUP ").is_some()
+}
+
+/// May a group come after these? It comes after the last one, by its first series, and shares none with them.
+fn may_follow(groups: &[Group], members: &Members, group: &Group) -> bool
+    ensures { IsOfGroups (map group_said groups.now) members.now → AllPairs AreInOrder (map group_said groups.now)
+        → IsTrue result ↔ IsNextGroup (map group_said groups.now) (group_said group.now) }
+{
+    comes_after(groups, group) && !members.has_any(&group.members)
+}
+
 /// Does a group come after the last one, by its first series?
 fn comes_after(groups: &[Group], group: &Group) -> bool
+    ensures { IsTrue result ↔ IsAfterLast (map group_said groups.now) (group_said group.now) }
 {
     match groups.last() {
         Some(last) => last.name().0 < group.name().0,
