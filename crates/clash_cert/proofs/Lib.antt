@@ -11,4 +11,6 @@ pub mod TurnLemmas
 pub mod KeptLemmas
 pub mod LookedLemmas
 pub mod ChosenLemmas
+pub mod MarkLemmas
+pub mod GroupLemmas
 mod Worked
