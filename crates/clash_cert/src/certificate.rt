@@ -156,6 +156,13 @@ impl Certificate {
         self.groups.is_some()
     }
 
+    /// What it says is what a certificate may say: a law, as others see its value alone.
+    pub(crate) fn says_claims(&self)
+        ensures { IsClaims self.now }
+    {
+        let _ = &self.series;
+    }
+
     /// Its groups of series, by their first ones. Version 1 has none.
     pub fn groups(&self) -> &[Group]
         ensures { map group_said result.now ≡ groups_of self.now }

@@ -5,7 +5,7 @@ pub mod certificate;
 mod choosing;
 mod extending;
 pub mod group;
-mod grouping;
+pub mod grouping;
 mod looking;
 pub mod making;
 mod members;
@@ -18,5 +18,5 @@ pub use certificate::{
 pub use choosing::{certificate_from, certificate_of};
 pub use extending::extend;
 pub use group::Group;
-pub use grouping::{certificate_written, group};
+pub use grouping::certificate_written;
 pub use making::{Clash, Made, clash_of, make};
