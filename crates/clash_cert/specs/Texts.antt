@@ -6,7 +6,7 @@ use Rattle.profile.specs.checker.Certificates as said
 use Rattle.clash_cert.specs.declared.certificate.Entry.{Entry}
 use Rattle.clash_cert.specs.declared.certificate.Entry.TheVariants
 use Rattle.clash_cert.specs.declared.certificate.Pair.{Pair}
-use Rattle.clash_cert.specs.declared.group.Group.{Group}
+use Rattle.clash_cert.specs.declared.groups.Group.{Group}
 use Rattle.clash_cert.specs.declared.certificate.CertFault.{CertFault}
 use Rattle.clash_cert.specs.declared.certificate.CertFault.TheVariants.{Line, Memory}
 

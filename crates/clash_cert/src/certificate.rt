@@ -8,7 +8,7 @@ ghost use Rattle.ical_values.specs.Written.{Appends};
 ghost use Rattle.clash_cert.specs.Texts.{IsCertFault, AreSorted, IsEntryAmong, entry_said, group_said, pair_said, claims_said};
 ghost use Rattle.clash_cert.specs.Chosen.{IsSaidOf};
 
-use crate::group::Group;
+use crate::groups::Group;
 use crate::reading::{Stop, after_count, after_version, line_of, read_statements};
 use crate::writing::write_text;
 use ical_values::Stamp;

@@ -11,7 +11,7 @@ ghost use Rattle.clash_cert.specs.Walked.{AreGroupsAt, ArePairsAt, AreStatements
 ghost use Rattle.clash_cert.specs.Stops.{StopsAt};
 
 use crate::certificate::{Entry, Pair};
-use crate::group::Group;
+use crate::groups::Group;
 use crate::members::Members;
 use ical_values::Stamp;
 use itoa::Buffer;

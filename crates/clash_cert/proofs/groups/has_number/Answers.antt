@@ -2,7 +2,7 @@ use Rattle.std.proofs.Common.{rules, sym}
 use Rattle.std.specs.Prelude.{ltb}
 use Rattle.std.proofs.lemmas.List.Sorted.{IsPartitionPoint-from_clause}
 use Rattle.clash_cert.proofs.SortedNumbers.{parted, found, not_found}
-use Rattle.clash_cert.proofs.group.has_number.Goals as goal
+use Rattle.clash_cert.proofs.groups.has_number.Goals as goal
 
 pub returns-in-Some : goal.returns-in-Some
 returns-in-Some c up =
