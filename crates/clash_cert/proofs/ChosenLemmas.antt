@@ -1,94 +1,100 @@
 -- The certificate that is made, from the entries that are chosen for its pairs.
-use Rattle.std.proofs.Common.{◌≡◌, ℕ, zero, suc, ◌+◌, ◌-◌, ◌*◌, ◌^◌, ◌<◌, ◌==◌, Bool, ℤ, pos, ◌≤ℤ◌, ◌<ℤ◌, List, [], ◌∷◌, ◌++◌, length, get_or, subst, sym, refl, ap, ◌∙◌, inl, inr, arith}
-use Rattle.std.specs.Prelude.{Some, All, Vec, map}
+use Rattle.std.proofs.Common.{◌≡◌, ◌≢◌, ℕ, suc, ◌+◌, ◌-◌, ◌*◌, ◌^◌, ◌<◌, ◌≤◌, ◌==◌, Bool, ℤ, pos, ◌≤ℤ◌, ◌<ℤ◌, List, [], ◌∷◌, ◌++◌, length, get_or, subst, sym, refl, ap, ◌∙◌, inl, inr, arith}
+use Rattle.std.specs.Prelude.{Some, None, All, AllPairs, Contains}
 use Rattle.std.specs.List.{slice_get}
 use Rattle.std.proofs.lemmas.Int.{ints}
 use Rattle.std.proofs.lemmas.Bool.{cases_lt}
 use Rattle.std.proofs.lemmas.Bool.Decides.{nat_tests}
-use Rattle.std.proofs.lemmas.List.{length-append, length-map}
-use Rattle.std.proofs.lemmas.List.Elements.{All-nil, All-push}
+use Rattle.std.proofs.lemmas.List.Quantifiers.{all_pairs_push}
+use Rattle.std.proofs.lemmas.List.Elements.{All-nil, Contains-get_or, Contains-push, Contains-push_cases, Contains-append_left}
 use Rattle.profile.specs.checker.Instances.{horizon}
-use Rattle.profile.specs.checker.Certificates.{Entry, End, Claims, IsClaims, IsEntry, AreRows, IsPair, entry_of, IsLeastSpan, IsEntryMade, IsCertificateMade}
+use Rattle.profile.specs.checker.Certificates.{Entry, Pair, Claims, IsClaims, IsApart, IsEntry, IsGroup, IsPair, IsPairBefore, IsLeastSpan, IsEntryMade, IsCertificateMade}
 use Rattle.profile.specs.text.Values.{IsClockSeconds}
 use Rattle.profile.specs.events.Events.{Event}
-use Rattle.profile.specs.events.Spans.{IsWidthOf, IsBoundOf, greater}
+use Rattle.profile.specs.events.Spans.{IsBoundOf}
 use Rattle.profile.specs.events.Confirmed.{Confirmed}
-use Rattle.clash_cert.specs.declared.certificate.Entry.{Entry as Kept}
-use Rattle.clash_cert.specs.Texts.{entry_said, rows_said}
-use Rattle.clash_cert.specs.Chosen.{IsEntryAt, IsRowMade, AreRowsMade}
-use Rattle.std.specs.declared.alloc.Global.{Global}
+use Rattle.cal_period.proofs.Entries.{no_less}
+use Rattle.clash_cert.specs.Chosen.{IsEntryAt, ArePairsMade}
 
 -- a stamp is there for the beginning of a span
-pub clock_of_span : ((a : Event) (w : ℤ) → IsWidthOf a w → pos 0 ≤ℤ w) → (a b : Event) (from : ℤ) (days : ℕ) (bound : ℤ) → IsLeastSpan a b from days → IsBoundOf a b from days bound → bound <ℤ horizon
+pub clock_of_span : (all : List Event) (from : ℤ) (days : ℕ) (bound : ℤ) → IsLeastSpan all from days → IsBoundOf all from days bound → bound <ℤ horizon
     → IsClockSeconds from
-clock_of_span some a b from days bound least (v, w, of_v, of_w, e) before =
+clock_of_span all from days bound least (width, is, e) before =
     let n = least.midnight.0 in
-    let is = least.midnight.1 in
-    let at : pos 0 ≤ℤ from = subst (λ t. pos 0 ≤ℤ t) (sym is) (omega (arith, ints)) in
-    let wide : pos 0 ≤ℤ greater v w = grind (arith, ints, some a v of_v, some b w of_w) in
+    let midnight = least.midnight.1 in
+    let at : pos 0 ≤ℤ from = subst (λ t. pos 0 ≤ℤ t) (sym midnight) (omega (arith, ints)) in
+    let wide : pos 0 ≤ℤ width = let (master, is, wide) = is.one.2 in no_less master.times width wide in
     let long : pos 0 ≤ℤ pos (86_400 * days) = omega (arith, ints) in
     (omega (arith, ints, at), omega (arith, ints, wide, long, e, before))
 
--- ---- rows
+-- ---- pairs
 
-last_of : (row : List Entry) (entry : Entry) → get_or (row ++ entry ∷ []) (length row) End ≡ entry
-last_of [] entry = refl
-last_of (x ∷ row) entry = last_of row entry
-
-front_of : (row : List Entry) (entry : Entry) (k : ℕ) → k < length row → get_or (row ++ entry ∷ []) k End ≡ get_or row k End
-front_of [] entry k w = absurd (omega (arith, w))
-front_of (x ∷ row) entry zero w = refl
-front_of (x ∷ row) entry (suc k) w = front_of row entry k (omega (arith, w))
-
-last_row : (rows : List (List Entry)) (row : List Entry) → get_or (rows ++ row ∷ []) (length rows) [] ≡ row
-last_row [] row = refl
-last_row (x ∷ rows) row = last_row rows row
-
-front_row : (rows : List (List Entry)) (row : List Entry) (k : ℕ) → k < length rows → get_or (rows ++ row ∷ []) k [] ≡ get_or rows k []
-front_row [] row k w = absurd (omega (arith, w))
-front_row (x ∷ rows) row zero w = refl
-front_row (x ∷ rows) row (suc k) w = front_row rows row k (omega (arith, w))
+-- what comes before a pair and isn't it
+abbrev IsBefore : Pair → Pair → Type 0
+IsBefore p q = IsPairBefore p.first p.second q.first q.second
 
 module _ (Known : Type 0) (all : List Event) where
-  pub row_made_start : (i : ℕ) → IsRowMade Known all i i []
-  row_made_start i = record { long = omega arith; good = All-nil IsEntry; made = λ k w. absurd (omega (arith, w)) }
+  pub pairs_start : ArePairsMade Known all 0 0 []
+  pairs_start = record {
+    good = λ p c. absurd (omega (arith, c.1));
+    before = λ p c. absurd (omega (arith, c.1));
+    made = λ p c. absurd (omega (arith, c.1));
+    ordered = λ k l d less within. absurd (omega (arith, within));
+    none_left = λ n m (some, order, most) before. elim before [ inl less ↦ absurd (omega (arith, less, some)) | inr (same, less) ↦ absurd (omega (arith, less, some, order)) ];
+  }
 
-  pub row_made_more : (i j : ℕ) (row : List Entry) (entry : Entry) → IsRowMade Known all i j row → IsEntry entry → IsEntryAt Known all i j entry → IsRowMade Known all i (j + 1) (row ++ entry ∷ [])
-  row_made_more i j row entry r good made =
-      let n = length-append row (entry ∷ []) in
-      let long = r.long in
-      record {
-        long = omega (arith, n, long);
-        good = All-push IsEntry row entry r.good good;
-        made = λ k w. elim (cases_lt k (length row)) [
-          | inl less ↦ subst (IsEntryAt Known all i (i + k)) (sym (front_of row entry k less)) (r.made k less)
-          | inr from ↦
-              let last : k ≡ length row = omega (arith, from, w, n) in
-              let place : i + k ≡ j = omega (arith, last, long) in
-              let here : get_or (row ++ entry ∷ []) k End ≡ entry = ap (λ m. get_or (row ++ entry ∷ []) m End) last ∙ last_of row entry in
-              subst (λ m. IsEntryAt Known all i m (get_or (row ++ entry ∷ []) k End)) (sym place) (subst (IsEntryAt Known all i j) (sym here) made)
+  -- the entry of the next pair is added
+  module _ (i j : ℕ) (pairs : List Pair) (entry : Entry) (order : i ≤ j) (within : j < length all) (r : ArePairsMade Known all i j pairs) (good : IsEntry entry) (made : IsEntryAt Known all i j entry) where
+    abbrev new : Pair
+    new = record { first = i + 1; second = j + 1; entry = entry }
+
+    of_pairs : (P : Pair → Type 0) → ((p : Pair) → Contains pairs p → P p) → P new → (p : Pair) → Contains (pairs ++ new ∷ []) p → P p
+    of_pairs P old last p c = elim (Contains-push_cases pairs new p c) [ inl there ↦ old p there | inr same ↦ subst P same last ]
+
+    made_new : IsEntryAt Known all (new.first - 1) (new.second - 1) entry
+    made_new =
+        let first : (i + 1) - 1 ≡ i = omega arith in
+        let second : (j + 1) - 1 ≡ j = omega arith in
+        subst (λ n. IsEntryAt Known all n (new.second - 1) entry) (sym first) (subst (λ m. IsEntryAt Known all i m entry) (sym second) made)
+
+    later : (n m : ℕ) → IsPairBefore n m (suc i) (suc j) → IsPairBefore n m (suc i) (suc (j + 1))
+    later n m before = elim before [ inl less ↦ inl less | inr (same, less) ↦ inr (same, omega (arith, less)) ]
+
+    before_new : (n m : ℕ) → IsPairBefore n m (suc i) (suc j) → IsPairBefore n m (i + 1) (j + 1)
+    before_new n m before = elim before [ inl less ↦ inl (omega (arith, less)) | inr (same, less) ↦ inr (omega (arith, same), omega (arith, less)) ]
+
+    left : (n m : ℕ) → IsPair (length all) n m → IsPairBefore n m (suc i) (suc j) → (p : Pair) × Contains (pairs ++ new ∷ []) p × (p.first ≡ n) × (p.second ≡ m)
+    left n m pair before = let (p, there, first, second) = r.none_left n m pair before in (p, Contains-append_left pairs (new ∷ []) p there, first, second)
+
+    pub pairs_more : ArePairsMade Known all i (j + 1) (pairs ++ new ∷ [])
+    pairs_more = record {
+      good = of_pairs (λ p. IsPair (length all) p.first p.second × IsEntry p.entry) r.good ((omega arith, omega (arith, order), omega (arith, within)), good);
+      before = of_pairs (λ p. IsPairBefore p.first p.second (suc i) (suc (j + 1))) (λ p c. later p.first p.second (r.before p c)) (inr (omega arith, omega arith));
+      made = of_pairs (λ p. IsEntryAt Known all (p.first - 1) (p.second - 1) p.entry) r.made made_new;
+      ordered = all_pairs_push IsBefore pairs new r.ordered (λ k d l. let p = get_or pairs k d in before_new p.first p.second (r.before p (Contains-get_or pairs k d l)));
+      none_left = λ n m pair before. elim before [
+        | inl less ↦ left n m pair (inl less)
+        | inr (same, less) ↦ elim (cases_lt m (suc j)) [
+          | inl earlier ↦ left n m pair (inr (same, earlier))
+          | inr from ↦ (new, Contains-push pairs new, omega (arith, same), omega (arith, less, from))
+        ]
+      ];
+    }
+
+  -- all pairs of a series are there
+  pub row_end : (i : ℕ) (pairs : List Pair) → ArePairsMade Known all i (length all) pairs → ArePairsMade Known all (i + 1) (i + 1) pairs
+  row_end i pairs r = record {
+    good = r.good;
+    before = λ p c. elim (r.before p c) [ inl less ↦ inl (omega (arith, less)) | inr (same, less) ↦ inl (omega (arith, same)) ];
+    made = r.made;
+    ordered = r.ordered;
+    none_left = λ n m pair before.
+        let (some, order, most) = pair in
+        elim (cases_lt n (suc i)) [
+          | inl less ↦ r.none_left n m pair (inl less)
+          | inr from ↦ r.none_left n m pair (inr (elim before [ inl less ↦ omega (arith, from, less) | inr (same, less) ↦ absurd (omega (arith, same, less, order)) ], omega (arith, most)))
         ];
-      }
-
-  pub rows_made_more : (i : ℕ) (rows : List (List Entry)) (row : List Entry) → AreRowsMade Known all rows → length rows ≡ i → IsRowMade Known all i (length all) row → AreRowsMade Known all (rows ++ row ∷ [])
-  rows_made_more i rows row r e made k w = elim (cases_lt k (length rows)) [
-    | inl less ↦ subst (IsRowMade Known all k (length all)) (sym (front_row rows row k less)) (r k less)
-    | inr from ↦
-        let n = length-append rows (row ∷ []) in
-        let last : k ≡ length rows = omega (arith, from, w, n) in
-        let here : get_or (rows ++ row ∷ []) k [] ≡ row = ap (λ m. get_or (rows ++ row ∷ []) m []) last ∙ last_row rows row in
-        subst (λ m. IsRowMade Known all m (length all) (get_or (rows ++ row ∷ []) k [])) (sym (last ∙ e)) (subst (IsRowMade Known all i (length all)) (sym here) made)
-  ]
-
--- so many rows of these lengths
-rows_are : (n : ℕ) (rows : List (List Entry)) → length rows ≡ n → ((i : ℕ) → i < length rows → (length (get_or rows i []) + i ≡ n) × All IsEntry (get_or rows i [])) → AreRows n rows
-rows_are zero [] e h = refl
-rows_are zero (row ∷ rows) e h = absurd (omega (arith, e))
-rows_are (suc n) [] e h = absurd (omega (arith, e))
-rows_are (suc n) (row ∷ rows) e h =
-    let first = h 0 (omega arith) in
-    let long = first.0 in
-    (omega (arith, long), first.1, rows_are n rows (omega (arith, e)) (λ i w. let next = h (suc i) (omega (arith, w)) in let count = next.0 in (omega (arith, count), next.1)))
+  }
 
 -- ---- the certificate
 
@@ -96,36 +102,36 @@ rows_are (suc n) (row ∷ rows) e h =
 same_place : (i j : ℕ) → 0 < i → 0 < j → ((i - 1) == (j - 1)) ≡ (i == j)
 same_place i j first second = grind (arith, nat_tests)
 
--- of these series, and of rows as they are kept
-module _ (Known : Type 0) (all : List Event) (singles : ℕ) (rows : List (Vec Kept Global)) (few_singles : singles < 2 ^ 64) (few : length rows < 2 ^ 64) (count : length rows ≡ length all) (made : AreRowsMade Known all (rows_said rows)) where
+-- of these series, and of the entries of their pairs
+module _ (Known : Type 0) (all : List Event) (singles n : ℕ) (pairs : List Pair) (few_singles : singles < 2 ^ 64) (few : n < 2 ^ 64) (count : n ≡ length all) (made : ArePairsMade Known all n n pairs) where
   abbrev claims_of : Claims
-  claims_of = record { singles = singles; series = length rows; rows = rows_said rows }
+  claims_of = record { singles = singles; series = n; groups = None; pairs = pairs }
 
-  row_count : length (rows_said rows) ≡ length rows
-  row_count = length-map rows (λ row. map entry_said row.items)
+  apart : (p : Pair) → Contains pairs p → IsApart n [] p
+  apart p c =
+      let (some, order, most) = (made.good p c).0 in
+      record { pair = (some, order, omega (arith, most, count)); entry = (made.good p c).1; apart = λ (group, there, first, second). omega (arith, there.1) }
 
-  pub claims_kept : IsClaims (record { singles = singles; series = length rows; rows = rows_said rows })
+  pub claims_kept : IsClaims claims_of
   claims_kept = record {
     singles = few_singles;
     series = few;
-    rows = rows_are (length rows) (rows_said rows) row_count (λ i w. let row = made i w in let long = row.long in (omega (arith, long, count), row.good));
+    groups = All-nil (IsGroup n);
+    groups_ordered = λ k l d less within. absurd (omega (arith, within));
+    pairs = λ k d l. apart (get_or pairs k d) (Contains-get_or pairs k d l);
+    pairs_ordered = made.ordered;
+    all = λ i j (some, order, most). inr (made.none_left i j (some, order, omega (arith, most, count)) (inl (omega (arith, order, most))));
   }
 
-  entry_made : Known → (i j : ℕ) → IsPair (length rows) i j → (a b : Event) → slice_get all (i - 1) ≡ Some a → slice_get all (j - 1) ≡ Some b → IsEntryMade (i == j) a b (entry_of claims_of i j)
-  entry_made known i j pair a b at_a at_b =
-      let first = pair.0 in
-      let order = pair.1 in
-      let last = pair.2 in
-      let row = made (i - 1) (omega (arith, first, order, last, row_count)) in
-      let long = row.long in
-      let there : (i - 1) + (j - i) ≡ j - 1 = omega (arith, first, order) in
-      let here : IsEntryAt Known all (i - 1) (j - 1) (entry_of claims_of i j) =
-      subst (λ k. IsEntryAt Known all (i - 1) k (entry_of claims_of i j)) there (row.made (j - i) (omega (arith, first, order, last, long, count))) in
-      subst (λ (own : Bool). IsEntryMade own a b (entry_of claims_of i j)) (same_place i j first (omega (arith, first, order))) (here known a b at_a at_b)
+  entry_made : Known → (p : Pair) → Contains pairs p → (a b : Event) → slice_get all (p.first - 1) ≡ Some a → slice_get all (p.second - 1) ≡ Some b → IsEntryMade (p.first == p.second) a b p.entry
+  entry_made known p c a b at_a at_b =
+      let (some, order, most) = (made.good p c).0 in
+      subst (λ (own : Bool). IsEntryMade own a b p.entry) (same_place p.first p.second some (omega (arith, some, order))) (made.made p c known a b at_a at_b)
 
-  pub certificate_kept : Known → (confirmed : Confirmed) → singles ≡ length confirmed.singles → all ≡ confirmed.series → IsCertificateMade confirmed (record { singles = singles; series = length rows; rows = rows_said rows })
+  pub certificate_kept : Known → (confirmed : Confirmed) → singles ≡ length confirmed.singles → all ≡ confirmed.series → IsCertificateMade confirmed claims_of
   certificate_kept known confirmed of are = record {
     claims = claims_kept;
     counts = record { singles = of; series = count ∙ ap length are };
-    entries = λ i j pair a b at_a at_b. entry_made known i j pair a b (ap (λ xs. slice_get xs (i - 1)) are ∙ at_a) (ap (λ xs. slice_get xs (j - 1)) are ∙ at_b);
+    version = refl;
+    entries = λ p c a b at_a at_b. entry_made known p c a b (ap (λ xs. slice_get xs (p.first - 1)) are ∙ at_a) (ap (λ xs. slice_get xs (p.second - 1)) are ∙ at_b);
   }

@@ -1,11 +1,11 @@
 -- The words of a group, and numbers, each after a space.
-use Rattle.std.proofs.Common.{◌≡◌, ◌≢◌, ℕ, ℤ, suc, ◌+◌, ◌^◌, ◌<◌, ◌≤◌, ◌==◌, Bool, true, false, cond, not, ◌&&◌, List, [], ◌∷◌, ◌++◌, length, get_or, take, drop, subst, sym, refl, ap, ◌∙◌, append_assoc, append-nil, lit<, arith}
-use Rattle.std.specs.Prelude.{All, AllPairs, Contains, Option, Some, None, codes, decimal, position, eqb, ltb, leb}
+use Rattle.std.proofs.Common.{◌≡◌, ◌≢◌, ℕ, ℤ, suc, ◌^◌, ◌<◌, ◌≤◌, ◌==◌, Bool, true, false, cond, not, ◌&&◌, List, [], ◌∷◌, ◌++◌, length, get_or, take, drop, subst, sym, refl, ap, ◌∙◌, append_assoc, append-nil, lit<, arith}
+use Rattle.std.specs.Prelude.{All, AllPairs, Contains, Some, None, codes, decimal, position, eqb, ltb, leb}
 use Rattle.std.specs.List.{position_or_len, remove}
 use Rattle.std.proofs.lemmas.Bool.{and_parts, and_from, true≢false}
 use Rattle.std.proofs.lemmas.Bool.Decides.{nat_tests}
 use Rattle.std.proofs.lemmas.Option.{same_Some, none-some}
-use Rattle.std.proofs.lemmas.List.{length-append, take-append-drop, take_all, drop_all}
+use Rattle.std.proofs.lemmas.List.{take-append-drop, take_all, drop_all}
 use Rattle.std.proofs.lemmas.List.Elements.{All-nil, All-cons, All-head, All-tail, All-append, All-contains, All-contains_itself, All-weaker}
 use Rattle.std.proofs.lemmas.List.Kept.{AllPairs-cons}
 use Rattle.std.proofs.lemmas.Fmt.{decimal_injective}
@@ -13,7 +13,7 @@ use Rattle.std.proofs.lemmas.Grind.{flat_map-append}
 use Rattle.std.proofs.Math.Seq.{take-append_seam, drop-append_seam}
 use Rattle.profile.specs.text.Values.{WritesStamp, IsClockSeconds}
 use Rattle.profile.specs.checker.Certificates.{Group, IsGroup, IsGroupLine, numbers_text}
-use Rattle.clash_cert.specs.Texts.{Lacks, LacksLf, IsCutAtLf, IsNoNumber}
+use Rattle.clash_cert.specs.Texts.{LacksLf, IsCutAtLf, IsNoNumber}
 use Rattle.clash_cert.specs.Reading.{AreNumbers, AreNoNumbers, IsNumberAt, LacksNumber, IsCutAtSpace, ascend, IsGroupAt, LacksGroup, IsGroupOfWords, IsNoGroup}
 use Rattle.clash_cert.proofs.TextLemmas.{cancel, free_of, lf_free, number_free, position_at, same_front}
 use Rattle.clash_cert.proofs.FreeLines.{stamp_length, group_free, few_members}
@@ -58,9 +58,6 @@ cut_not_found text h =
     go true e f = absurd (none-some _ (sym f))
     go false e f = grind (arith, nat_tests)
 
-pub no_next_space : (text : List ℕ) → Lacks (codes " ") text → LacksNumber text
-no_next_space text lacks first others h e = lacks (decimal first ++ numbers_text others) e
-
 module _ (text digits word rest : List ℕ) (begins : text ≡ codes " " ++ digits) (cut : IsCutAtSpace digits word rest) where
   -- whichever numbers there are, this is the word of the first
   word_there : (first : ℕ) (others : List ℕ) → first < 2 ^ 64 → text ≡ numbers_text (first ∷ others) → (word ≡ decimal first) × (rest ≡ numbers_text others)
@@ -91,10 +88,6 @@ pub record AreFirstNumbers (text numbers rest : List ℕ) : Type 0 where
   pub is : text ≡ numbers_text numbers ++ rest
   pub only : (all : List ℕ) → All (λ n. n < 2 ^ 64) all → text ≡ numbers_text all → (others : List ℕ) × All (λ n. n < 2 ^ 64) others × (all ≡ numbers ++ others) × (rest ≡ numbers_text others)
 
-pub none_first : (text numbers : List ℕ) → numbers ≡ [] → AreFirstNumbers text numbers text
-none_first text numbers none =
-    subst (λ ns. AreFirstNumbers text ns text) (sym none) (record { few = All-nil (λ n. n < 2 ^ 64); is = refl; only = λ all few e. (all, few, refl, e) })
-
 pub one_first : (text numbers rest more left : List ℕ) (n : ℕ) → AreFirstNumbers text numbers rest → rest ≢ [] → IsNumberAt n rest left → more ≡ numbers ++ n ∷ [] → AreFirstNumbers text more left
 one_first text numbers rest more left n first some next e = subst (λ ns. AreFirstNumbers text ns left) (sym e) (record {
   few = All-append (λ i. i < 2 ^ 64) numbers (n ∷ []) first.few (All-cons (λ i. i < 2 ^ 64) n [] next.few (All-nil (λ i. i < 2 ^ 64)));
@@ -120,9 +113,6 @@ no_more text numbers rest first some lacks all few e = let g = first.only all fe
     go : (others : List ℕ) → All (λ n. n < 2 ^ 64) others → rest ≡ numbers_text others → ⊥
     go [] h f = some f
     go (n ∷ others) h f = lacks n others (All-head (λ i. i < 2 ^ 64) n others h) f
-
-pub all_first : (text numbers rest : List ℕ) → AreFirstNumbers text numbers rest → rest ≡ [] → AreNumbers numbers text
-all_first text numbers rest first end = (first.few, first.is ∙ ap (λ l. numbers_text numbers ++ l) end ∙ append-nil (numbers_text numbers))
 
 -- ---- numbers of series, ascending
 
@@ -248,17 +238,7 @@ module _ (n : ℕ) (words first last : List ℕ) (few : n < 2 ^ 64) (parts : wor
               of = (first, w, ap (λ l. codes "GROUP " ++ l) (parts ∙ ap (λ l. first ++ l) (are.1 ∙ ap numbers_text split)));
             }
 
-  pub group_too_few : length words < 16 → IsNoGroup n words
-  group_too_few short group good (stamp, w, e) =
-      let n = ap length e in
-      let k = stamp_length stamp group.from w in
-      let m : length (stamp ++ numbers_text (group.days ∷ group.members)) ≡ length stamp + length (numbers_text (group.days ∷ group.members)) = length-append stamp (numbers_text (group.days ∷ group.members)) in
-      omega (arith, short, n, k, m)
-
 -- ---- the line of a group
-
-pub no_group_front : (n : ℕ) (bytes : List ℕ) → Lacks (codes "GROUP ") bytes → LacksGroup n bytes
-no_group_front n bytes lacks group line rest good (stamp, w, e) f = lacks ((stamp ++ numbers_text (group.days ∷ group.members)) ++ 10 ∷ rest) (f ∙ ap (λ l. l ++ 10 ∷ rest) e)
 
 module _ (n : ℕ) (bytes rest : List ℕ) (few : n < 2 ^ 64) (begins : bytes ≡ codes "GROUP " ++ rest) where
   -- the words of a line are before the first LF

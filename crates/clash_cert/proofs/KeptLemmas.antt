@@ -1,54 +1,61 @@
 -- An entry that is kept is the one that is made.
-use Rattle.std.proofs.Common.{◌≡◌, ℕ, zero, suc, ◌-◌, ◌<◌, ◌≤◌, ◌==◌, Bool, false, List, [], ◌∷◌, length, subst, sym, refl, ap, ◌∙◌, arith, lit<}
-use Rattle.std.specs.Prelude.{Option, Some, None, Result, Ok, Err, IfOk, All, slice_index_or}
+use Rattle.std.proofs.Common.{◌≡◌, ℕ, zero, suc, ◌-◌, ◌<◌, ◌≤◌, ◌==◌, Bool, false, List, [], subst, sym, refl, ap, ◌∙◌, ◌∷◌, inl, inr, arith, lit<}
+use Rattle.std.specs.Prelude.{⊤, Option, Some, None, Result, Ok, Err, IfOk, Contains, unwrap_or, slice_index_or}
 use Rattle.std.specs.List.{slice_get}
 use Rattle.std.proofs.lemmas.Option.{slice_get_within, same_Some, none-some}
 use Rattle.std.proofs.lemmas.Bool.Decides.{nat_tests}
-use Rattle.std.proofs.lemmas.List.Elements.{All-head, All-tail}
+use Rattle.std.proofs.lemmas.List.Elements.{All-contains}
 use Rattle.profile.specs.events.Events.{Event}
 use Rattle.profile.specs.events.Confirmed.{Confirmed}
-use Rattle.profile.specs.checker.Certificates.{Claims, Entry, End, IsEntry, IsClaims, AreRows, entry_of, IsEntryMade, IsSeriesAt, IsCertificateMade}
+use Rattle.profile.specs.checker.Certificates.{Claims, Entry, End, Pair, Group, groups_of, IsApart, IsEntry, IsClaims, IsPair, IsEntryMade, IsSeriesAt, IsCertificateMade}
+use Rattle.clash_cert.specs.Texts.{IsEntryAmong, theirs, none}
 use Rattle.clash_cert.specs.Chosen.{AreKept, IsSaidOf, IsEntryAt}
+use Rattle.clash_cert.proofs.ChosenLemmas.{pairs_start, certificate_kept}
 use Rattle.clash_cert.proofs.TurnLemmas.{entry_turned}
-
--- ---- each entry of a certificate is one
-
-row_entry : (row : List Entry) (k : ℕ) → All IsEntry row → IsEntry (slice_index_or row k End)
-row_entry [] k h = tt
-row_entry (entry ∷ row) zero h = All-head IsEntry entry row h
-row_entry (entry ∷ row) (suc k) h = row_entry row k (All-tail IsEntry entry row h)
-
-rows_entry : (n : ℕ) (rows : List (List Entry)) (i k : ℕ) → AreRows n rows → IsEntry (slice_index_or (slice_index_or rows i []) k End)
-rows_entry n [] i k h = tt
-rows_entry zero (row ∷ rows) i k h = absurd (let none = ap length h in omega (arith, none))
-rows_entry (suc n) (row ∷ rows) zero k h = row_entry row k h.1
-rows_entry (suc n) (row ∷ rows) (suc i) k h = rows_entry n rows i k h.2
-
-pub entry_good : (c : Claims) (i j : ℕ) → IsClaims c → IsEntry (entry_of c i j)
-entry_good c i j is = rows_entry c.series c.rows (i - 1) (j - i) is.rows
 
 -- ---- of two series of one calendar
 
 other_way : (i j : ℕ) → j < i → ((j == i) ≡ false) × ((i == j) ≡ false)
 other_way i j less = (grind (arith, nat_tests), grind (arith, nat_tests))
 
-module _ (c : Claims) (was : Confirmed) (made : IsCertificateMade was c) (i j : ℕ) (a b : Event) (first : 0 < i) (second : 0 < j) (at_a : IsSeriesAt was i a) (at_b : IsSeriesAt was j b) where
-  pub in_order : i ≤ j → IsEntryMade (i == j) a b (entry_of c i j)
-  in_order order =
+-- of a certificate of version 1 each pair has an entry
+pub entry_there : (c : Claims) (was : Confirmed) → IsCertificateMade was c → (i j : ℕ) → IsPair c.series i j → (p : Pair) × Contains c.pairs p × (p.first ≡ i) × (p.second ≡ j)
+entry_there c was made i j pair = elim (made.claims.all i j pair) [
+  | inl (group, there, first, second) ↦ absurd (none_in group (subst (λ groups. Contains (unwrap_or groups []) group) made.version there))
+  | inr there ↦ there
+]
+  where
+    none_in : (group : Group) → Contains [] group → ⊥
+    none_in group (k, l, e) = omega (arith, l)
+
+module _ (c : Claims) (was : Confirmed) (made : IsCertificateMade was c) where
+  entry_made : (i j : ℕ) (a b : Event) (entry : Entry) → IsPair c.series i j → IsSeriesAt was i a → IsSeriesAt was j b → IsEntryAmong c.pairs i j entry → IsEntryMade (i == j) a b entry
+  entry_made i j a b e pair at_a at_b (theirs entry there) = made.entries (record { first = i; second = j; entry = entry }) there a b at_a at_b
+  entry_made i j a b e pair at_a at_b (none out) = let (p, there, first, second) = entry_there c was made i j pair in absurd (out p there first second)
+
+  in_order : (i j : ℕ) (a b : Event) (entry : Entry) → 0 < i → i ≤ j → IsSeriesAt was i a → IsSeriesAt was j b → IsEntryAmong c.pairs i j entry → IsEntryMade (i == j) a b entry
+  in_order i j a b entry first order at_a at_b among =
       let within = slice_get_within was.series (j - 1) b at_b in
       let count = made.counts.series in
-      let last : j ≤ c.series = omega (arith, within, count, second) in
-      made.entries i j (first, order, last) a b at_a at_b
+      entry_made i j a b entry (first, order, omega (arith, within, count, first, order)) at_a at_b among
 
-  pub out_of_order : j < i → IsEntryMade (i == j) a b (entry_of c j i)
-  out_of_order less =
-      let within = slice_get_within was.series (i - 1) a at_a in
-      let count = made.counts.series in
-      let last : i ≤ c.series = omega (arith, within, count, first) in
+  out_of_order : (i j : ℕ) (a b : Event) (entry : Entry) → 0 < j → j < i → IsSeriesAt was i a → IsSeriesAt was j b → IsEntryAmong c.pairs j i entry → IsEntryMade (i == j) a b entry
+  out_of_order i j a b entry second less at_a at_b among =
       let other = other_way i j less in
-      let there : IsEntryMade (j == i) b a (entry_of c j i) = made.entries j i (second, omega (arith, less), last) b a at_b at_a in
-      let turned = entry_turned b a (entry_of c j i) (subst (λ (own : Bool). IsEntryMade own b a (entry_of c j i)) other.0 there) in
-      subst (λ (own : Bool). IsEntryMade own a b (entry_of c j i)) (sym other.1) turned
+      let there = in_order j i b a entry second (omega (arith, less)) at_b at_a among in
+      let turned = entry_turned b a entry (subst (λ (own : Bool). IsEntryMade own b a entry) other.0 there) in
+      subst (λ (own : Bool). IsEntryMade own a b entry) (sym other.1) turned
+
+-- what is found among the pairs of a certificate, the lesser number first
+pub said_in_order : (c : Claims) (i j : ℕ) (entry : Entry) → i ≤ j → IsEntryAmong c.pairs i j entry → IsSaidOf c i j entry
+said_in_order c i j entry order among was a b made first second at_a at_b = in_order c was made i j a b entry first order at_a at_b among
+
+pub said_out_of_order : (c : Claims) (i j : ℕ) (entry : Entry) → j < i → IsEntryAmong c.pairs j i entry → IsSaidOf c i j entry
+said_out_of_order c i j entry less among was a b made first second at_a at_b = out_of_order c was made i j a b entry second less at_a at_b among
+
+pub good_among : (c : Claims) (i j : ℕ) (entry : Entry) → IsClaims c → IsEntryAmong c.pairs i j entry → IsEntry entry
+good_among c i j e is (theirs entry there) = (All-contains (IsApart c.series (groups_of c)) c.pairs (record { first = i; second = j; entry = entry }) is.pairs there).entry
+good_among c i j e is (none out) = tt
 
 -- ---- of two series that are kept
 
@@ -77,14 +84,10 @@ if_ok_then (Err e) P Q f p = tt
 
 -- ---- from nothing
 
-pub nothing_kept : (all : List Event) → AreKept (record { singles = 0; series = 0; rows = [] }) [] all
+pub nothing_kept : (all : List Event) → AreKept (record { singles = 0; series = 0; groups = None; pairs = [] }) [] all
 nothing_kept all = record {
   was = record { singles = []; series = [] };
-  made = record {
-    claims = record { singles = lit< tt; series = lit< tt; rows = refl };
-    counts = record { singles = refl; series = refl };
-    entries = λ i j pair. absurd (let first = pair.0 in let order = pair.1 in let last = pair.2 in omega (arith, first, order, last));
-  };
+  made = certificate_kept ⊤ [] 0 0 [] (lit< tt) (lit< tt) refl (pairs_start ⊤ []) tt (record { singles = []; series = [] }) refl refl;
   counted = λ i n e. absurd (none-some (Some n) e);
   same = λ i n a e. absurd (none-some (Some n) e);
   once = λ i j n e. absurd (none-some (Some n) e);

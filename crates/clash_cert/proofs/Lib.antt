@@ -18,4 +18,6 @@ pub mod TurnLemmas
 pub mod KeptLemmas
 pub mod LookedLemmas
 pub mod ChosenLemmas
+pub mod MarkLemmas
+pub mod GroupingLemmas
 mod Worked

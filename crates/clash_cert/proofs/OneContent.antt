@@ -7,7 +7,7 @@ use Rattle.std.proofs.lemmas.List.{append_cancel_left, append_cancel_right}
 use Rattle.std.proofs.lemmas.List.Elements.{All-cons, All-head, All-tail}
 use Rattle.std.proofs.lemmas.Fmt.{decimal_injective}
 use Rattle.profile.specs.text.Values.{WritesStamp}
-use Rattle.profile.specs.checker.Certificates.{Entry, End, Span, Res, InGroup, Pair, Group, Claims, IsClaims, IsEntry, IsEntryText, IsGroup, IsApart, IsPairLine, IsGroupLine, AreLines, numbers_text, version_line, groups_of, spelled, SpellsCertificate, BeginsWell, FirstWrong}
+use Rattle.profile.specs.checker.Certificates.{Entry, End, Span, Res, InGroup, Pair, Group, Claims, IsEntry, IsEntryText, IsGroup, IsApart, IsPairLine, IsGroupLine, numbers_text, version_line, groups_of, spelled, SpellsCertificate, BeginsWell, FirstWrong}
 use Rattle.clash_cert.proofs.TextLemmas.{cancel, cut_front, cut_rest, number_free, same_front, all_lines, spelled-take}
 use Rattle.clash_cert.proofs.FreeLines.{stamp_length, few_members, certificate_free}
 

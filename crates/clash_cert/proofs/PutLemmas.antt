@@ -4,9 +4,8 @@ use Rattle.std.specs.Prelude.{All, codes, decimal}
 use Rattle.std.specs.List.{AllZip}
 use Rattle.std.proofs.lemmas.List.{length-take, take-append-le, take-append-drop, take_more, map-append, length-map, get_or-map}
 use Rattle.std.proofs.lemmas.List.Elements.{All-get_or}
-use Rattle.std.proofs.lemmas.Grind.{flat_map-append}
 use Rattle.std.proofs.Math.Seq.{take-append_seam}
-use Rattle.profile.specs.checker.Certificates.{Claims, IsClaims, numbers_text, spelled, version_line, groups_of, SpellsCertificate}
+use Rattle.profile.specs.checker.Certificates.{Claims, IsClaims, spelled, version_line, groups_of, SpellsCertificate}
 use Rattle.ical_values.specs.Written.{Appends}
 use Rattle.clash_cert.specs.Reading.{SpellsGroups, SpellsPairs}
 use Rattle.clash_cert.proofs.TextLemmas.{spelled-append, spelled_rest}
@@ -22,10 +21,6 @@ keeps_more old now new more e f =
 
 pub keeps_through : (old now new : List ℕ) → take (length old) now ≡ old → take (length now) new ≡ now → take (length old) new ≡ old
 keeps_through old now new e f = keeps_more old now new (drop (length now) new) e (sym (take-append-drop (length now) new) ∙ ap (λ l. l ++ drop (length now) new) f)
-
--- nothing was appended yet
-pub put_none : {A : Type 0} (IsLine : A → List ℕ → Type 0) (old : List ℕ) → Appends old old (λ text. (lines : List (List ℕ)) × AllZip IsLine [] lines × (text ≡ spelled lines []))
-put_none IsLine old = ([], ([], tt, refl), sym (append-nil old))
 
 -- one more line
 pub put_line : {A : Type 0} (IsLine : A → List ℕ → Type 0) (before : List A) (a : A) (old now new : List ℕ)
@@ -47,12 +42,6 @@ put_line IsLine before a old now new (text, (lines, are, is), e) (more, (line, o
     joined : text ++ more ≡ spelled (lines ++ line ∷ []) []
     joined = ap (λ t. t ++ more) is ∙ ap (λ t. spelled lines [] ++ t) k ∙ sym (spelled_rest lines (line ++ 10 ∷ [])) ∙ sym (spelled-append lines (line ∷ []) [])
 
--- one more number
-pub put_number : (before : List ℕ) (n : ℕ) (old now new : List ℕ) → now ≡ old ++ numbers_text before → new ≡ now ++ (codes " " ++ (decimal n ++ codes "")) → new ≡ old ++ numbers_text (before ++ n ∷ [])
-put_number before n old now new e f =
-    f ∙ ap (λ t. t ++ (codes " " ++ (decimal n ++ []))) e ∙ append_assoc old (numbers_text before) (numbers_text (n ∷ []))
-    ∙ ap (λ t. old ++ t) (sym (flat_map-append (λ i. codes " " ++ decimal i) before (n ∷ [])))
-
 -- the words of SPAN in three steps
 pub span_put : (stamp days out a b d : List ℕ) → a ≡ out ++ codes "SPAN " → b ≡ a ++ stamp → d ≡ b ++ (codes " " ++ (days ++ codes ""))
     → d ≡ out ++ (codes "SPAN " ++ (stamp ++ (codes " " ++ days)))
@@ -70,26 +59,6 @@ pair_put i j text out a b d e h k f g =
     grouped : (out p i s j w n : List ℕ) → (((out ++ (p ++ (i ++ s))) ++ ([] ++ (j ++ s))) ++ w) ++ n ≡ out ++ ((p ++ (i ++ (s ++ (j ++ (s ++ w))))) ++ n)
     grouped out p i s j w n = simp append_assoc
 
--- the line of a group in five
-pub group_put : (stamp days numbers out a b d e f : List ℕ) → a ≡ out ++ codes "GROUP " → b ≡ a ++ stamp → d ≡ b ++ (codes " " ++ (days ++ codes "")) → e ≡ d ++ numbers → f ≡ e ++ codes "\n"
-    → f ≡ out ++ ((codes "GROUP " ++ (stamp ++ (codes " " ++ (days ++ numbers)))) ++ 10 ∷ [])
-group_put stamp days numbers out a b d e f g h i j k =
-    k ∙ ap (λ t. t ++ 10 ∷ []) (j ∙ ap (λ t. t ++ numbers) (i ∙ ap (λ t. t ++ (codes " " ++ (days ++ []))) (h ∙ ap (λ t. t ++ stamp) g)))
-    ∙ grouped out (codes "GROUP ") stamp (codes " ") days numbers (10 ∷ [])
-  where
-    grouped : (out w s l n m r : List ℕ) → ((((out ++ w) ++ s) ++ (l ++ (n ++ []))) ++ m) ++ r ≡ out ++ ((w ++ (s ++ (l ++ (n ++ m)))) ++ r)
-    grouped out w s l n m r = simp (append_assoc, append-nil)
-
--- the first three lines in three
-pub head_put : (version singles series out a b d : List ℕ) → a ≡ out ++ version → b ≡ a ++ (codes "\nSINGLES " ++ (singles ++ codes "\nSERIES ")) → d ≡ b ++ (codes "" ++ (series ++ codes "\n"))
-    → d ≡ out ++ spelled (version ∷ (codes "SINGLES " ++ singles) ∷ (codes "SERIES " ++ series) ∷ []) []
-head_put version singles series out a b d e f g =
-    g ∙ ap (λ t. t ++ ([] ++ (series ++ codes "\n"))) (f ∙ ap (λ t. t ++ (codes "\nSINGLES " ++ (singles ++ codes "\nSERIES "))) e)
-    ∙ grouped out version (10 ∷ []) (codes "SINGLES ") singles (codes "SERIES ") series
-  where
-    grouped : (out v l a s b n : List ℕ) → ((out ++ v) ++ ((l ++ a) ++ (s ++ (l ++ b)))) ++ ([] ++ (n ++ l)) ≡ out ++ (v ++ (l ++ ((a ++ s) ++ (l ++ ((b ++ n) ++ (l ++ []))))))
-    grouped out v l a s b n = simp (append_assoc, append-nil)
-
 -- ---- the text in four
 
 pub text_put : (c : Claims) (out a b d e : List ℕ) → IsClaims c
@@ -97,8 +66,7 @@ pub text_put : (c : Claims) (out a b d e : List ℕ) → IsClaims c
     → Appends a b (SpellsGroups (groups_of c)) → Appends b d (SpellsPairs c.pairs) → e ≡ d ++ codes "DONE\n" → Appends out e (λ text. SpellsCertificate text c)
 text_put c out a b d e claims h (first, (groups, are, is), f) (second, (pairs, of, k), g) last =
     let head : List (List ℕ) = version_line c.groups ∷ (codes "SINGLES " ++ decimal c.singles) ∷ (codes "SERIES " ++ decimal c.series) ∷ [] in
-    let done : List (List ℕ) = codes "DONE" ∷ [] in
-    (
+    let done : List (List ℕ) = codes "DONE" ∷ [] in (
       spelled (head ++ (groups ++ (pairs ++ done))) [],
       record { claims = claims; lines = head ++ (groups ++ (pairs ++ done)); are = record { groups = groups; are_groups = are; pairs = pairs; are_pairs = of; is = refl }; is = refl },
       last ∙ ap (λ t. t ++ codes "DONE\n") (g ∙ ap (λ t. t ++ second) (f ∙ ap (λ t. t ++ first) h))

@@ -38,31 +38,6 @@ pub both : (a b bytes rest : List ℕ) (r : Option (Bor (List ℕ))) → bytes �
 both a b bytes rest None e h = λ tail f. h tail (cancel a rest (b ++ tail) (sym e ∙ f ∙ append_assoc a b tail))
 both a b bytes rest (Some x) e h = e ∙ ap (λ l. a ++ l) h ∙ sym (append_assoc a b x.now)
 
--- a line of a word, two numbers and a word: `p i j w`, parted by `s`
-module _ (p i s bytes rest : List ℕ) (e : bytes ≡ p ++ rest) where
-  pub no_first : (t : List ℕ) → Lacks (i ++ s) rest → LacksLine (p ++ (i ++ (s ++ t))) bytes
-  no_first t lacks tail f = lacks (t ++ 10 ∷ tail) (cancel p rest ((i ++ s) ++ (t ++ 10 ∷ tail)) (sym e ∙ f ∙ grouped p i s t (10 ∷ tail)))
-    where
-      grouped : (p i s t u : List ℕ) → (p ++ (i ++ (s ++ t))) ++ u ≡ p ++ ((i ++ s) ++ (t ++ u))
-      grouped p i s t u = simp append_assoc
-
-  pub both_numbers : (j w end last : List ℕ) (r : Option (Bor (List ℕ))) → end ≡ s ++ (w ++ 10 ∷ []) → rest ≡ (i ++ s) ++ last
-      → MatchOption r (Lacks (j ++ end) last) (λ x. last ≡ (j ++ end) ++ x.now)
-      → MatchOption r (LacksLine (p ++ (i ++ (s ++ (j ++ (s ++ w))))) bytes) (λ x. bytes ≡ (p ++ (i ++ (s ++ (j ++ (s ++ w))))) ++ 10 ∷ x.now)
-  both_numbers j w end last r at f h = go r h
-    where
-      grouped : (p i s j w n u : List ℕ) → (p ++ (i ++ (s ++ (j ++ (s ++ w))))) ++ (n ++ u) ≡ p ++ ((i ++ s) ++ ((j ++ (s ++ (w ++ n))) ++ u))
-      grouped p i s j w n u = simp append_assoc
-
-      whole : (u : List ℕ) → (p ++ (i ++ (s ++ (j ++ (s ++ w))))) ++ 10 ∷ u ≡ p ++ ((i ++ s) ++ ((j ++ end) ++ u))
-      whole u = grouped p i s j w (10 ∷ []) u ∙ ap (λ x. p ++ ((i ++ s) ++ ((j ++ x) ++ u))) (sym at)
-
-      go : (r : Option (Bor (List ℕ))) → MatchOption r (Lacks (j ++ end) last) (λ x. last ≡ (j ++ end) ++ x.now)
-          → MatchOption r (LacksLine (p ++ (i ++ (s ++ (j ++ (s ++ w))))) bytes) (λ x. bytes ≡ (p ++ (i ++ (s ++ (j ++ (s ++ w))))) ++ 10 ∷ x.now)
-      go None lacks = λ tail g.
-          lacks tail (cancel (i ++ s) last ((j ++ end) ++ tail) (sym f ∙ cancel p rest ((i ++ s) ++ ((j ++ end) ++ tail)) (sym e ∙ g ∙ whole tail)))
-      go (Some x) is = e ∙ ap (λ l. p ++ l) (f ∙ ap (λ l. (i ++ s) ++ l) is) ∙ sym (whole x.now)
-
 -- no octet is this one
 abbrev pub free_of : ℕ → List ℕ → Bool
 free_of d [] = true
@@ -312,10 +287,6 @@ other_count bytes word rest digits tail e cut none n end h f =
     let k = position_at (decimal n) end (decimal_free n h) in
     let same : length digits ≡ length (decimal n) = same_Some _ _ (sym cut.at ∙ ap (position (λ octet. octet == 10)) g ∙ k) in
     none n h (same_front digits (decimal n) (10 ∷ tail) (10 ∷ end) same (sym cut.parts ∙ g))
-
-pub count_from_parts : (bytes word rest digits tail : List ℕ) (n : ℕ) → bytes ≡ word ++ rest → IsCutAtLf rest digits tail → digits ≡ decimal n → bytes ≡ (word ++ decimal n) ++ 10 ∷ tail
-count_from_parts bytes word rest digits tail n e cut d =
-    e ∙ ap (λ l. word ++ l) (cut.parts ∙ ap (λ l. l ++ 10 ∷ tail) d) ∙ sym (append_assoc word (decimal n) (10 ∷ tail))
 
 -- the number that was read is printed as the digits
 pub not_printed : {E : Type 0} (digits printed : List ℕ) (r : Result ℕ E) (n m : ℕ) (b : Bool) → r ≡ Ok n → r ≡ Ok m → digits ≡ decimal n → printed ≡ decimal m

@@ -1,12 +1,12 @@
 -- The entry of two series is that of the same two the other way round.
-use Rattle.std.proofs.Common.{◌≡◌, ℕ, ℤ, false, sym, ap, ◌∙◌, arith}
+use Rattle.std.proofs.Common.{◌≡◌, ℕ, zero, suc, ℤ, false, List, [], ◌∷◌, sym, arith, lit<}
+use Rattle.std.specs.Prelude.{Contains}
 use Rattle.std.proofs.lemmas.Bool.{true≢false}
-use Rattle.std.proofs.lemmas.Int.{ints}
 use Rattle.profile.specs.series.Repeating.{IsCongruent, ArcsMeet}
 use Rattle.profile.specs.events.Events.{Event}
-use Rattle.profile.specs.events.Spans.{IsSpan, IsBoundOf, greater, span_end}
+use Rattle.profile.specs.events.Spans.{IsSpan, IsBoundOf}
 use Rattle.profile.specs.events.Residues.{AreArcsApart, ResiduesHold, IsLeastStride}
-use Rattle.profile.specs.checker.Certificates.{Entry, End, Span, Res, IsLeastSpan, AreSettling, NoneSettle, IsEntryMade}
+use Rattle.profile.specs.checker.Certificates.{Entry, End, Span, Res, InGroup, IsLeastSpan, IsShortSpan, AreSettling, NoneSettle, IsEntryMade}
 
 -- ---- residues
 
@@ -33,33 +33,42 @@ none_turned a b none m settling = none m (settling_turned b a m settling)
 
 -- ---- spans
 
-span_turned : (a b : Event) (from : ℤ) (days : ℕ) → IsSpan a b from days → IsSpan b a from days
-span_turned a b from days is = record {
-  some = is.some;
-  most = is.most;
-  first_past = is.second_past;
-  second_past = is.first_past;
-  first_period = is.second_period;
-  second_period = is.first_period;
-}
+-- the span of some series is that of a list of the same ones
+module _ (these those : List Event) (there : (a : Event) → Contains these a → Contains those a) (back : (a : Event) → Contains those a → Contains these a) where
+  span_same : (from : ℤ) (days : ℕ) → IsSpan these from days → IsSpan those from days
+  span_same from days is = record { some = is.some; most = is.most; past = λ a c. is.past a (back a c); period = λ a c. is.period a (back a c) }
 
-least_turned : (a b : Event) (from : ℤ) (days : ℕ) → IsLeastSpan a b from days → IsLeastSpan b a from days
-least_turned a b from days is = record {
-  span = span_turned a b from days is.span;
-  midnight = is.midnight;
-  first = λ n p q. is.first n q p;
-  least = λ n some p q. is.least n some q p;
-}
+  bound_same : (from : ℤ) (days : ℕ) (bound : ℤ) → IsBoundOf these from days bound → IsBoundOf those from days bound
+  bound_same from days bound (width, is, e) = (
+    width,
+    record { one = (is.one.0, there is.one.0 is.one.1, is.one.2); none_greater = λ a w c. is.none_greater a w (back a c) },
+    e,
+  )
 
-greater_turned : (x y : ℤ) → greater x y ≡ greater y x
-greater_turned x y = grind (arith, ints)
+  least_same : (from : ℤ) (days : ℕ) → IsLeastSpan these from days → IsLeastSpan those from days
+  least_same from days is = record {
+    span = span_same from days is.span;
+    midnight = is.midnight;
+    first = λ n past. is.first n (λ a c. past a (there a c));
+    least = λ n some periods. is.least n some (λ a c. periods a (there a c));
+  }
 
-bound_turned : (a b : Event) (from : ℤ) (days : ℕ) (bound : ℤ) → IsBoundOf a b from days bound → IsBoundOf b a from days bound
-bound_turned a b from days bound (w, v, of_w, of_v, e) = (v, w, of_v, of_w, e ∙ ap (span_end from days) (greater_turned w v))
+  short_same : (from : ℤ) (days : ℕ) → IsShortSpan these from days → IsShortSpan those from days
+  short_same from days is = record { least = least_same from days is.least; bound = is.bound; is = bound_same from days is.bound is.is; before = is.before }
+
+-- two are the same two the other way round
+two_turned : {X : Type 0} (a b x : X) → Contains (a ∷ b ∷ []) x → Contains (b ∷ a ∷ []) x
+two_turned a b x (zero, l, e) = (1, lit< tt, e)
+two_turned a b x (suc zero, l, e) = (0, lit< tt, e)
+two_turned a b x (suc (suc k), l, e) = absurd (omega (arith, l))
+
+short_turned : (a b : Event) (from : ℤ) (days : ℕ) → IsShortSpan (a ∷ b ∷ []) from days → IsShortSpan (b ∷ a ∷ []) from days
+short_turned a b from days is = short_same (a ∷ b ∷ []) (b ∷ a ∷ []) (two_turned a b) (two_turned b a) from days is
 
 -- ---- entries
 
 pub entry_turned : (a b : Event) (entry : Entry) → IsEntryMade false a b entry → IsEntryMade false b a entry
 entry_turned a b (Res m) made = settling_turned a b m made
-entry_turned a b (Span from days) (none, least, (bound, of, before)) = (none_turned a b none, least_turned a b from days least, (bound, bound_turned a b from days bound of, before))
-entry_turned a b End (none, late) = (none_turned a b none, λ from days bound least of. late from days bound (least_turned b a from days least) (bound_turned b a from days bound of))
+entry_turned a b (Span from days) (none, short) = (none_turned a b none, short_turned a b from days short)
+entry_turned a b End (none, late) = (none_turned a b none, λ from days short. late from days (short_turned b a from days short))
+entry_turned a b (InGroup n) made = absurd made

@@ -1,5 +1,5 @@
 -- The words of an entry, and the line of a pair.
-use Rattle.std.proofs.Common.{◌≡◌, ◌≢◌, ℕ, ℤ, ◌+◌, ◌/◌, ◌<◌, ◌≤◌, ◌==◌, Bool, true, false, List, ◌∷◌, ◌++◌, length, get_or, subst, sym, refl, ap, ◌∙◌, append_assoc, arith}
+use Rattle.std.proofs.Common.{◌≡◌, ◌≢◌, ℕ, ℤ, ◌+◌, ◌/◌, ◌≤◌, ◌==◌, Bool, true, false, List, ◌∷◌, ◌++◌, length, get_or, subst, sym, refl, ap, ◌∙◌, append_assoc, arith}
 use Rattle.std.specs.Prelude.{Option, Some, None, MatchOption, Result, Ok, Err, IfOk, OnErr, codes, decimal, position}
 use Rattle.std.specs.Result.{result_ok}
 use Rattle.std.specs.Str.{bytes_eq}
@@ -7,7 +7,6 @@ use Rattle.std.proofs.lemmas.Slice.Eq.{bytes_eq-Decides}
 use Rattle.std.proofs.lemmas.Bool.Decides.{nat_tests}
 use denote.Ref.{Bor}
 use Rattle.std.proofs.lemmas.Option.{same_Some, none-some}
-use Rattle.std.proofs.lemmas.List.{length-append}
 use Rattle.std.proofs.lemmas.Bool.{true≢false}
 use Rattle.profile.specs.text.Values.{SpellsStamp, WritesStamp, SpellsClock, two_digits, four_digits}
 use Rattle.profile.specs.checker.Certificates.{Entry, End, Span, Res, IsEntry, IsEntryText, InGroup}
@@ -58,20 +57,8 @@ not_sixty text t (local, w, e) f =
 
 -- ---- the words of an entry
 
--- SPAN's words begin so
-pub no_span : (words : List ℕ) → Lacks (codes "SPAN ") words → IsNoSpan words
-no_span words lacks from days h (stamp, w, e) = lacks (stamp ++ (codes " " ++ decimal days)) e
-
 -- what follows is a stamp, a space and a number
 module _ (words rest : List ℕ) (begins : words ≡ codes "SPAN " ++ rest) where
-  pub words_short : length rest < 16 → IsNoSpan words
-  words_short short from days h (stamp, w, e) =
-      let same : rest ≡ stamp ++ (codes " " ++ decimal days) = cancel (codes "SPAN ") _ _ (sym begins ∙ e) in
-      let n = ap length same in
-      let k = stamp_length stamp from w in
-      let m : length (stamp ++ (codes " " ++ decimal days)) ≡ length stamp + length (codes " " ++ decimal days) = length-append stamp (codes " " ++ decimal days) in
-      omega (arith, short, n, k, m)
-
   module _ (first last : List ℕ) (parts : rest ≡ first ++ last) (long : length first ≡ 16) where
     stamps : (from : ℤ) (days : ℕ) → (t : IsEntryText (Span from days) words) → (first ≡ t.0) × (last ≡ codes " " ++ decimal days)
     stamps from days (stamp, w, e) =

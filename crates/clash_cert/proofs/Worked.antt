@@ -1,6 +1,6 @@
 -- The definitions at worked examples: texts that spell a certificate, and texts that don't.
-use Rattle.std.proofs.Common.{ℕ, zero, suc, ◌-◌, ◌*◌, ◌^◌, ◌<◌, ◌≤◌, ◌⊎◌, List, ◌≡◌, ◌≢◌, ◌∙◌, ◌++◌, pos, [], ◌∷◌, get_or, take, drop, length, refl, sym, ap, subst, lit<, lit≤, inl, inr, Bool, false, arith}
-use Rattle.std.specs.Prelude.{Option, Some, None, All, AllPairs, Contains, codes, decimal}
+use Rattle.std.proofs.Common.{ℕ, zero, suc, ◌-◌, ◌^◌, ◌<◌, ◌≤◌, ◌⊎◌, List, ◌≡◌, ◌≢◌, ◌∙◌, ◌++◌, pos, [], ◌∷◌, get_or, take, drop, length, refl, sym, ap, subst, lit<, lit≤, inl, inr, false, arith}
+use Rattle.std.specs.Prelude.{Option, Some, None, AllPairs, Contains, codes, decimal}
 use Rattle.std.specs.List.{slice_get, AllZip}
 use Rattle.std.proofs.lemmas.Option.{same_Some, none-some}
 use Rattle.std.proofs.lemmas.List.{length-append, length-take-le}

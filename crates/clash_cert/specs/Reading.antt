@@ -79,7 +79,7 @@ pub record IsNumberAt (n : ℕ) (text rest : List ℕ) : Type 0 where
   pub is : text ≡ codes " " ++ (decimal n ++ rest)
   pub only : (first : ℕ) (others : List ℕ) → first < 2 ^ 64 → text ≡ numbers_text (first ∷ others) → (first ≡ n) × (rest ≡ numbers_text others)
 
--- the text spells no numbers, but for none at all
+-- the text spells no list of numbers that has a first one
 abbrev pub LacksNumber : List ℕ → Type 0
 LacksNumber text = (first : ℕ) (others : List ℕ) → first < 2 ^ 64 → text ≢ numbers_text (first ∷ others)
 

@@ -9,7 +9,7 @@ ghost use Rattle.clash_cert.specs.Texts.{IsCertFault, AreSorted, IsEntryAmong, e
 ghost use Rattle.clash_cert.specs.Walked.{is_pair_before};
 ghost use Rattle.clash_cert.specs.Chosen.{IsSaidOf};
 
-use crate::group::Group;
+use crate::groups::Group;
 use crate::reading::{Stop, after_count, after_version, line_of, read_statements};
 use crate::writing::write_text;
 use ical_values::Stamp;
@@ -155,6 +155,13 @@ impl Certificate {
         ensures { result ≡ is_some self.now.groups }
     {
         self.groups.is_some()
+    }
+
+    /// What it says is what a certificate may say: a law, as others see its value alone.
+    pub(crate) fn says_claims(&self)
+        ensures { IsClaims self.now }
+    {
+        let _ = &self.series;
     }
 
     /// Its groups of series, by their first ones. Version 1 has none.

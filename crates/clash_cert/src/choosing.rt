@@ -1,6 +1,6 @@
 //! The certificate that is made: an entry for each pair of series, by what they say alone. What an old certificate says of two of its series is
 //! still so while they are the same.
-ghost use Rattle.std.specs.Prelude.{ℕ, List, ◌≡◌, ◌<◌, ◌==◌, Bool, None, length, map, IfOk, slice_index_or};
+ghost use Rattle.std.specs.Prelude.{ℕ, List, ◌≡◌, ◌+◌, ◌<◌, ◌==◌, Bool, None, length, map, IfOk, OnOk, slice_index_or};
 ghost use Rattle.profile.specs.checker.Instances.{IsClear};
 ghost use Rattle.profile.specs.checker.Certificates.{SpellsCertificate, CertificateHoldsFor, IsEntry, NoneSettle, IsEntryMade, IsCertificateMade};
 ghost use Rattle.profile.specs.events.Confirmed.{Confirmed, IsOneOf};
@@ -66,9 +66,9 @@ fn push_row(
     series: &[Series],
     i: usize,
 ) -> Result<(), AllocError>
-    requires { i < length series.now }
-    ensures { IfOk result (λ _. ArePairsMade (AreKept old.now kept.now (map series_said series.now)) (map series_said series.now) i i (map pair_said pairs.old.items)
-        → ArePairsMade (AreKept old.now kept.now (map series_said series.now)) (map series_said series.now) (i + 1) (i + 1) (map pair_said pairs.new.items)) }
+    requires within { i < length series.now }
+    requires made { ArePairsMade (AreKept old.now kept.now (map series_said series.now)) (map series_said series.now) i i (map pair_said pairs.old.items) }
+    ensures { OnOk result (ArePairsMade (AreKept old.now kept.now (map series_said series.now)) (map series_said series.now) (i + 1) (i + 1) (map pair_said pairs.new.items)) }
 {
     for j in i..series.len() {
         let entry = entry_at(*pairs.allocator(), old, kept, series, i, j)?;

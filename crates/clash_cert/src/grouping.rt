@@ -1,15 +1,17 @@
 //! Certificate version 2: one group of all series that spans settle, so that each is gone through once.
-ghost use Rattle.std.specs.Prelude.{ℕ, List, ◌≡◌, ◌↔◌, ◌<◌, ◌⊎◌, true, map, AllPairs, Contains, IfOk, IsTrue, MatchOption};
+ghost use Rattle.std.specs.Prelude.{ℕ, List, ◌≡◌, ◌+◌, ◌^◌, ◌≤◌, ◌<◌, ◌||◌, false, None, suc, length, map, All, AllPairs, IfOk, MatchOption, slice_index_or};
 ghost use Rattle.profile.specs.checker.Instances.{IsClear};
-ghost use Rattle.profile.specs.checker.Certificates.{Pair as SaidPair, SpellsCertificate, CertificateHoldsFor, IsCertificateMade, IsCertificateWritten, IsGrouped, HasNoGroup, HasSpan};
+ghost use Rattle.profile.specs.checker.Certificates.{SpellsCertificate, CertificateHoldsFor, IsClaims, IsCertificateMade, IsCertificateWritten, IsGrouped, HasNoGroup, IsPair};
 ghost use Rattle.profile.specs.events.Confirmed.{IsOneOf};
+ghost use Rattle.profile.specs.text.Values.{IsClockSeconds};
 ghost use Rattle.clash_cert.specs.Texts.{pair_said};
+ghost use Rattle.clash_cert.specs.Grouped.{HaveSpan, AreMarked, are_among, apart_of, marked_from, spans, with_group};
 
 use crate::certificate::{Certificate, Entry, Pair};
 use crate::choosing::certificate_of;
-use crate::group::{Group, has_number};
+use crate::groups::{Group, has_number};
 use cal_events::Calendar;
-use cal_period::span_of_members;
+use cal_period::{CommonSpan, span_of_members};
 use ical_values::Stamp;
 use std::alloc::{AllocError, Global};
 
@@ -25,31 +27,19 @@ pub fn group(
     ensures { IsCertificateMade calendar.now certificate.now
         → IfOk result (λ found. MatchOption found (HasNoGroup calendar.now certificate.now) (IsGrouped calendar.now certificate.now)) }
 {
-    if certificate.has_groups() || certificate.series() != calendar.series_count() {
+    let series = calendar.series();
+    if certificate.has_groups() || certificate.series() != series.len() as u64 {
         return Ok(None);
     }
+    certificate.says_claims();
     let members = with_span(alloc, certificate)?;
     if members.len() < 2 {
         return Ok(None);
     }
-    let Some(span) = span_of_members(calendar.series(), &members) else {
-        return Ok(None);
-    };
-    let pairs = pairs_apart(alloc, certificate.pairs(), &members)?;
-    // a span begins in 1970 at the earliest, and ends before the horizon
-    let from = Stamp::of_instant(span.from).unwrap();
-    let mut groups = Vec::new(alloc);
-    groups.push(Group {
-        from,
-        days: span.days,
-        members,
-    })?;
-    Ok(Some(Certificate::of(
-        certificate.singles(),
-        certificate.series(),
-        Some(groups),
-        pairs,
-    )))
+    match span_of_members(series, &members) {
+        Some(span) => Ok(Some(with_group(alloc, certificate, members, span)?)),
+        None => Ok(None),
+    }
 }
 
 /// The certificate that a room writes for a calendar that is known to be clear: the one of version 2 that `group` gives, else the one of version 1
@@ -65,48 +55,100 @@ pub fn certificate_written(alloc: Global, calendar: &Calendar) -> Result<Certifi
     }
 }
 
+/// The certificate with one group, of these series, and the entries that stay beside it.
+fn with_group(
+    alloc: Global,
+    certificate: &Certificate,
+    members: Vec<u64>,
+    span: CommonSpan,
+) -> Result<Certificate, AllocError>
+    requires version { certificate.now.groups ≡ None }
+    requires have { HaveSpan certificate.now members.items }
+    requires some { 2 ≤ length members.items }
+    requires clock { IsClockSeconds span.from }
+    ensures { IfOk result (λ grouped. grouped ≡ with_group certificate.now (record { from = span.from; days = span.days; members = members.items })) }
+{
+    certificate.says_claims();
+    let pairs = pairs_apart(alloc, certificate.pairs(), &members)?;
+    // a span begins in 1970 at the earliest, and ends before the horizon
+    let from = Stamp::of_instant(span.from).unwrap();
+    let mut groups = Vec::new(alloc);
+    groups.push(Group {
+        from,
+        days: span.days,
+        members,
+    })?;
+    let singles = certificate.singles();
+    Ok(Certificate::of(singles, certificate.series(), Some(groups), pairs))
+}
+
 /// The numbers of the series that have SPAN, ascending.
 fn with_span(alloc: Global, certificate: &Certificate) -> Result<Vec<u64>, AllocError>
-    requires { certificate.now.series < 2 ^ 63 }
-    ensures are { IfOk result (λ numbers. (i : ℕ) → Contains numbers.items i ↔ HasSpan certificate.now i) }
-    ensures ascending { IfOk result (λ numbers. AllPairs ◌<◌ numbers.items) }
+    requires claims { IsClaims certificate.now }
+    requires few { certificate.now.series < 2 ^ 63 }
+    ensures { IfOk result (λ numbers. HaveSpan certificate.now numbers.items) }
 {
     let marks = span_marks(alloc, certificate)?;
+    numbers_marked(alloc, &marks)
+}
+
+/// Of each series whether it has SPAN.
+fn span_marks(alloc: Global, certificate: &Certificate) -> Result<Vec<bool>, AllocError>
+    requires claims { IsClaims certificate.now }
+    requires few { certificate.now.series < 2 ^ 63 }
+    ensures count { IfOk result (λ marks. length marks.items ≡ certificate.now.series) }
+    ensures are { IfOk result (λ marks. AreMarked certificate.now.pairs marks.items) }
+{
+    let mut marks = vec![in alloc; false; certificate.series() as usize]?;
+    for pair in certificate.pairs() {
+        mark(&mut marks, pair);
+    }
+    Ok(marks)
+}
+
+/// Marks the two series of a pair, where its entry is SPAN.
+fn mark(marks: &mut [bool], pair: &Pair)
+    requires { IsPair (length marks.old) pair.now.first pair.now.second }
+    ensures count { length marks.new ≡ length marks.old }
+    ensures are { (place : ℕ) → place < length marks.old → slice_index_or marks.new place false ≡ (slice_index_or marks.old place false || spans (suc place) (pair_said pair.now)) }
+{
+    if let Entry::Span { .. } = pair.entry {
+        marks[pair.first as usize - 1] = true;
+        marks[pair.second as usize - 1] = true;
+    }
+}
+
+/// The numbers of the series that are marked, counted from 1.
+fn numbers_marked(alloc: Global, marks: &[bool]) -> Result<Vec<u64>, AllocError>
+    ensures { IfOk result (λ numbers. numbers.items ≡ marked_from 1 marks.now) }
+{
     let mut numbers = Vec::new(alloc);
-    for (place, has_span) in marks.iter().enumerate() {
-        if *has_span {
+    for (place, is_marked) in marks.iter().enumerate() {
+        if *is_marked {
             numbers.push(place as u64 + 1)?;
         }
     }
     Ok(numbers)
 }
 
-/// Of each series whether it has SPAN.
-fn span_marks(alloc: Global, certificate: &Certificate) -> Result<Vec<bool>, AllocError>
-    requires { certificate.now.series < 2 ^ 63 }
-    ensures count { IfOk result (λ marks. length marks.items ≡ certificate.now.series) }
-    ensures are { IfOk result (λ marks. (place : ℕ) → slice_get marks.items place ≡ Some true ↔ HasSpan certificate.now (suc place)) }
-{
-    let mut marks = vec![in alloc; false; certificate.series() as usize]?;
-    for pair in certificate.pairs() {
-        if let Entry::Span { .. } = pair.entry {
-            marks[pair.first as usize - 1] = true;
-            marks[pair.second as usize - 1] = true;
-        }
-    }
-    Ok(marks)
-}
-
 /// The pairs that aren't both among these series, which ascend.
 fn pairs_apart(alloc: Global, pairs: &[Pair], members: &[u64]) -> Result<Vec<Pair>, AllocError>
     requires { AllPairs ◌<◌ members.now }
-    ensures { IfOk result (λ kept. AreApartOf (map pair_said pairs.now) members.now (map pair_said kept.items)) }
+    ensures { IfOk result (λ kept. map pair_said kept.items ≡ apart_of members.now (map pair_said pairs.now)) }
 {
     let mut kept = Vec::new(alloc);
     for pair in pairs {
-        if !has_number(members, pair.first) || !has_number(members, pair.second) {
+        if !are_both_among(members, pair) {
             kept.push(*pair)?;
         }
     }
     Ok(kept)
+}
+
+/// Are both series of a pair among these, which ascend?
+fn are_both_among(members: &[u64], pair: &Pair) -> bool
+    requires { AllPairs ◌<◌ members.now }
+    ensures { result ≡ are_among members.now (pair_said pair.now) }
+{
+    has_number(members, pair.first) && has_number(members, pair.second)
 }

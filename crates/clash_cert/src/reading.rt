@@ -11,12 +11,15 @@ ghost use Rattle.clash_cert.specs.Walked.{AreGroupsAt, ArePairsAt, AreStatements
 ghost use Rattle.clash_cert.specs.Stops.{StopsAt};
 
 use crate::certificate::{Entry, Pair};
-use crate::group::Group;
+use crate::groups::Group;
 use crate::members::Members;
 use ical_values::Stamp;
 use itoa::Buffer;
 use std::alloc::{AllocError, AllocFailed, Global};
 use std::str;
+
+/// How many numbers the line of a group has at least: its days, and two series.
+const DAYS_AND_TWO: usize = 3;
 
 /// The version that the first line of a certificate tells.
 #[derive(Clone, Copy, PartialEq, Eq)]
@@ -222,7 +225,7 @@ fn group_of(alloc: Global, words: &[u8], series: u64) -> Result<Option<Group>, A
     let Some(mut numbers) = numbers_of(alloc, rest)? else {
         return Ok(None);
     };
-    if numbers.len() < 3 {
+    if numbers.len() < DAYS_AND_TWO {
         return Ok(None);
     }
     let days = numbers.remove(0);

@@ -6,7 +6,7 @@ ghost use Rattle.clash_cert.specs.Texts.{claims_said, entry_said, group_said, gr
 ghost use Rattle.clash_cert.specs.Reading.{SpellsGroups, SpellsPairs};
 
 use crate::certificate::{Entry, Pair};
-use crate::group::Group;
+use crate::groups::Group;
 use itoa::Buffer;
 use std::alloc::AllocError;
 

@@ -1,5 +1,4 @@
-use Rattle.std.proofs.Common.{◌≡◌, ◌∙◌, ◌++◌, ◌<◌, ◌≤◌, ◌^◌, ℕ, List, length, take, drop, sym, ap, arith, rules}
-use Rattle.std.proofs.lemmas.List.{take-append-drop}
+use Rattle.std.proofs.Common.{◌∙◌, ap, arith, rules}
 use Rattle.profile.specs.text.Values.{IsClockSeconds}
 use Rattle.clash_cert.specs.Reading.{ascend}
 use Rattle.clash_cert.proofs.TextLemmas.{match_some, match_none}
@@ -19,13 +18,13 @@ returns-in_default-2 c =
     group_lacks_numbers c.args.series words c.in-Some.stamp.now c.in-Some.rest.now c.ranges.series.fits (both_parts 16 words c.in-Some.stamp.now c.in-Some.rest.now cut.1 cut.2) cut.3
     (match_none _ _ _ c.in_default-2.is c.in_ok-numbers.ensures)
 
-pub returns-then-len-lt3 : goal.returns-then-len-lt3
-returns-then-len-lt3 c =
+pub returns-then-len-lt-DAYS_AND_TWO : goal.returns-then-len-lt-DAYS_AND_TWO
+returns-then-len-lt-DAYS_AND_TWO c =
     let cut = c.in-Some.ensures.cases in
     let words = c.args.words.now in
     let are = match_some _ _ _ c.in-Some-2.numbers c.in-Some-2.is c.in_ok-numbers.ensures in
     let long = c.len.ensures in
-    let short = c.if-len-lt3.true in
+    let short = c.if-len-lt-DAYS_AND_TWO.true in
     group_too_short c.args.series words c.in-Some.stamp.now c.in-Some.rest.now c.ranges.series.fits (both_parts 16 words c.in-Some.stamp.now c.in-Some.rest.now cut.1 cut.2) cut.3
     c.in-Some-2.numbers.items are (omega (arith, long, short))
 
@@ -36,7 +35,7 @@ returns-then-not-are_members c =
     let numbers = c.in-Some-2.numbers.items in
     let are = match_some _ _ _ c.in-Some-2.numbers c.in-Some-2.is c.in_ok-numbers.ensures in
     let long = c.len.ensures in
-    let some = c.if-len-lt3.false in
+    let some = c.if-len-lt-DAYS_AND_TWO.false in
     let members = c.remove-days.new.self.items in
     let split = first_apart numbers members c.remove-days.result (omega (arith, long, some)) c.remove-days.ensures.value c.remove-days.ensures.items in
     group_other c.args.series words c.in-Some.stamp.now c.in-Some.rest.now c.ranges.series.fits (both_parts 16 words c.in-Some.stamp.now c.in-Some.rest.now cut.1 cut.2) cut.3 numbers are c.remove-days.result members split
@@ -49,7 +48,7 @@ returns c =
     let numbers = c.in-Some-2.numbers.items in
     let are = match_some _ _ _ c.in-Some-2.numbers c.in-Some-2.is c.in_ok-numbers.ensures in
     let long = c.len.ensures in
-    let some = c.if-len-lt3.false in
+    let some = c.if-len-lt-DAYS_AND_TWO.false in
     let members = c.remove-days.new.self.items in
     let split = first_apart numbers members c.remove-days.result (omega (arith, long, some)) c.remove-days.ensures.value c.remove-days.ensures.items in
     let range : IsClockSeconds c.in-Some-stamp_of.from = search rules in

@@ -1,5 +1,5 @@
 use Rattle.clash_cert.proofs.TextLemmas.{none_exit}
-use Rattle.clash_cert.proofs.GroupWords.{no_next_space, no_next_number, next_there}
+use Rattle.clash_cert.proofs.GroupWords.{no_next_number, next_there}
 use Rattle.clash_cert.proofs.reading.next_number.Goals as goal
 
 pub returns-in_err-number : goal.returns-in_err-number

@@ -1,4 +1,3 @@
-use Rattle.std.proofs.Common.{◌≡◌, ◌≢◌, [], ap, length}
 use Rattle.clash_cert.proofs.GroupWords.{no_more, one_first, not_empty}
 use Rattle.clash_cert.proofs.reading.numbers_of.Goals as goal
 

@@ -1,7 +1,5 @@
-use Rattle.std.proofs.Common.{◌++◌, ◌∷◌, [], codes, decimal, refl}
-use Rattle.profile.specs.checker.Certificates.{numbers_text}
 use Rattle.ical_values.proofs.Exits.{any_err}
-use Rattle.clash_cert.proofs.PutLemmas.{keeps_all, keeps_more, keeps_through, group_put}
+use Rattle.clash_cert.proofs.PutLemmas.{keeps_all, keeps_more, keeps_through}
 use Rattle.clash_cert.proofs.writing.write_group.Goals as goal
 
 pub returns-in_err-write_number-clause-err : goal.returns-in_err-write_number-clause-err

@@ -1,4 +1,4 @@
-use Rattle.std.proofs.Common.{◌≡◌, ◌++◌, take, length}
+use Rattle.std.proofs.Common.{◌≡◌, ◌++◌, take}
 use Rattle.profile.specs.checker.Certificates.{numbers_text}
 use Rattle.clash_cert.proofs.writing.write_numbers.Given as goal
 

@@ -1,4 +1,4 @@
-use Rattle.std.proofs.Common.{◌≡◌, ◌∙◌, ◌++◌, ◌∷◌, [], List, ℕ, codes, decimal, subst, ap}
+use Rattle.std.proofs.Common.{◌∙◌, ◌++◌, ◌∷◌, [], List, ℕ, codes, decimal, subst, ap}
 use Rattle.profile.specs.checker.Certificates.{Group, spelled}
 use Rattle.ical_values.specs.Written.{Appends}
 use Rattle.clash_cert.specs.Texts.{claims_said}
