@@ -13,7 +13,7 @@ use Rattle.profile.specs.checker.Certificates as said
 use Rattle.clash_cert.specs.Texts.{AreSorted, IsEntryAmong, theirs, none, entry_said, group_said, pair_said}
 use Rattle.clash_cert.specs.Walked.{is_pair_before}
 use Rattle.clash_cert.specs.declared.certificate.Pair.{Pair}
-use Rattle.clash_cert.specs.declared.group.Group.{Group}
+use Rattle.clash_cert.specs.declared.groups.Group.{Group}
 use Rattle.clash_cert.proofs.ListLemmas.{none_in_nil, in_head, in_tail, in_cons}
 use Rattle.clash_cert.proofs.Walking.{before_self, before_through}
 
