@@ -1,12 +1,12 @@
 -- The span of series is made of the least instants and numbers of days.
-use Rattle.std.proofs.Common.{◌≡◌, ◌∙◌, refl, sym, subst, inl, inr, ◌⊎◌, arith, ℕ, zero, suc, ◌+◌, ◌*◌, ◌/◌, ◌<◌, ◌≤◌, unsigned_abs, List, [], ◌∷◌, ◌++◌, ℤ, pos, ◌≤ℤ◌, ◌<ℤ◌}
+use Rattle.std.proofs.Common.{◌≡◌, ◌∙◌, refl, sym, subst, inl, inr, ◌⊎◌, arith, ℕ, ◌+◌, ◌*◌, ◌/◌, unsigned_abs, List, [], ◌∷◌, ◌++◌, ℤ, pos, ◌≤ℤ◌, ◌<ℤ◌}
 use Rattle.std.proofs.lemmas.Int.{ints, by_lt_z}
 use Rattle.std.proofs.lemmas.List.Elements.{Contains-append_left, Contains-append_cases, Contains-push}
 use Rattle.std.specs.Prelude.{false, Option, Some, None, Contains, IfSome, int_le}
 use Rattle.std.specs.Int.{int_max}
 use Rattle.profile.specs.checker.Instances.{horizon}
 use Rattle.profile.specs.checker.Certificates.{IsLeastSpan}
-use Rattle.profile.specs.series.Periods.{HasNoMultiple, IsLeastMultiple, IsMultiple, most_period}
+use Rattle.profile.specs.series.Periods.{HasNoMultiple, IsLeastMultiple, IsMultiple}
 use Rattle.profile.specs.events.Events.{Event}
 use Rattle.profile.specs.events.Spans.{HasNoPeriodOf, IsBoundOf, IsGreatestWidth, IsHalfDayPast, IsLeastPast, IsLeastPeriodOf, IsPastAll, IsPeriodOf, IsWidthOf, span_end}
 use Rattle.cal_events.proofs.shared_lemmas.InOneOrder.{first_or_later, none_in}
@@ -47,9 +47,6 @@ first_in a = (0, omega arith, refl)
 
 only_in : (a b : Event) → Contains (a ∷ []) b → a ≡ b
 only_in a b c = elim (first_or_later a b [] c) [ inl same ↦ same | inr more ↦ absurd (none_in b more) ]
-
-pub none_of_one : (a : Event) → HasNoPeriodOf a → HasNoPeriodInCommon (a ∷ [])
-none_of_one a none n some each = none n some (each a (first_in a))
 
 pub one_in_common : (a : Event) (common : Common) → IsLeastPeriodOf a common.days → IsLeastPast a common.past → IsWidthOf a common.width → HaveInCommon (a ∷ []) common
 one_in_common a common period past width = record {

@@ -1,9 +1,8 @@
 -- A series has one width, and series together one greatest width.
-use Rattle.std.proofs.Common.{◌≡◌, ◌∙◌, refl, sym, subst, inl, inr, ◌⊎◌, arith, ℕ, ◌<◌, ◌≤◌, List, ℤ, pos, ◌+ℤ◌, ◌-ℤ◌, ◌≤ℤ◌}
+use Rattle.std.proofs.Common.{◌≡◌, ◌∙◌, refl, sym, subst, inl, inr, arith, List, ℤ, pos, ◌+ℤ◌, ◌-ℤ◌, ◌≤ℤ◌}
 use Rattle.std.proofs.lemmas.Int.{ints, by_lt_z}
 use Rattle.std.proofs.lemmas.Bool.{cases_lt}
 use Rattle.std.proofs.lemmas.Option.{same_Some}
-use Rattle.std.specs.Prelude.{Some, Contains}
 use Rattle.profile.specs.series.Zones.{Zone, Constant, Single, Pair, IsBounds}
 use Rattle.profile.specs.events.Properties.{length_seconds}
 use Rattle.profile.specs.events.ZonedTimes.{EventTimes, clock_of}

@@ -1,145 +1,106 @@
--- The group that a certificate gives, and the entries that stay beside it.
-use Rattle.std.proofs.Common.{◌≡◌, ◌∙◌, ◌⊎◌, ℤ, ℕ, zero, suc, ◌+◌, ◌-◌, ◌^◌, ◌<◌, ◌≤◌, ◌==◌, Bool, true, false, cond, List, [], ◌∷◌, ◌++◌, length, get_or, take, subst, sym, refl, ap, inl, inr, arith}
-use Rattle.std.specs.Prelude.{Some, None, unwrap_or, IsTrue, ◌↔◌, Contains, not}
-use Rattle.std.specs.List.{AllZip, slice_get}
-use Rattle.std.proofs.lemmas.Bool.{true≢false, false≢true, cases_Bool, eqb-true, eq-eqb, not-true, and_parts, and_from}
-use Rattle.std.proofs.lemmas.List.Elements.{All-contains, All-nil, All-cons, Contains-get_or, filter_more}
-use Rattle.std.proofs.lemmas.List.Folds.{Any-from_list_any, list_any-from_Any}
-use Rattle.std.proofs.lemmas.List.Kept.{AllPairs-filter}
-use Rattle.profile.specs.checker.Certificates.{Pair, Group, Claims, groups_of, IsClaims, IsApart, IsGroup, IsPairBefore, AreTogether, IsPlacedAt, IsShortSpan, IsGroupMade, IsGrouped, HasNoGroup}
-use Rattle.profile.specs.text.Values.{IsClockSeconds}
-use Rattle.profile.specs.events.Events.{Event}
-use Rattle.profile.specs.events.Confirmed.{Confirmed}
-use Rattle.cal_events.proofs.shared_lemmas.InOneOrder.{in_filtered, of_filtered, one_order, later}
-use Rattle.clash_cert.specs.Grouped.{HaveSpan, is_among, are_among, apart_of, with_group}
-use Rattle.clash_cert.proofs.MarkLemmas.{within_series}
+-- Groups, one after another: which may come next, and where none does.
+use Rattle.std.proofs.Common.{◌≡◌, ℕ, zero, suc, ◌-◌, ◌<◌, ◌≤◌, Bool, true, false, not, List, [], ◌∷◌, ◌++◌, Contains, length, get_or, subst, sym, refl, ap, ◌∙◌, inl, inr, arith}
+use Rattle.std.specs.Prelude.{◌⊎◌, ◌↔◌, All, AllPairs, Option, Some, None, IfSome, IsTrue, is_some, codes}
+use Rattle.std.specs.List.{AllZip, slice_get, list_any}
+use Rattle.std.proofs.lemmas.Bool.{cases_order, true≢false}
+use Rattle.std.proofs.lemmas.Option.{same_Some, slice_get-get_or}
+use Rattle.std.proofs.lemmas.List.Elements.{All-nil, All-push}
+use Rattle.std.proofs.lemmas.List.Folds.{list_any_at, Any-from_list_any}
+use Rattle.profile.specs.checker.Certificates.{Group, IsGroup, IsGroupLine, AreInOrder, first_of, spelled}
+use Rattle.clash_cert.specs.Texts.{Lacks}
+use Rattle.clash_cert.specs.Reading.{IsGroupAt, LacksGroup}
+use Rattle.clash_cert.specs.Walked.{member_of, IsOfGroups, AreApart, IsNextGroup, IsAfterLast, HasGroupLines, AreGroupsAt, BreaksGroups}
+use Rattle.clash_cert.specs.declared.members.Member.{Member}
+use Rattle.clash_cert.specs.declared.members.Members.{Members}
+use Rattle.clash_cert.proofs.TextLemmas.{spelled-append}
+use Rattle.clash_cert.proofs.ListLemmas.{zip_append, pairs_nil, pairs_push}
+use Rattle.clash_cert.proofs.MemberLemmas.{place_of, of_place}
 
--- ---- numbers among some
+-- ---- a group that comes after the last one comes after each
 
-pub of_among : (members : List ℕ) (n : ℕ) → is_among members n ≡ true → Contains members n
-of_among members n is = let (k, m, l, e, same) = Any-from_list_any (λ m. m == n) members is in subst (Contains members) (eqb-true m n same) (k, l, e)
+after_last : (groups : List Group) (group : Group) → AllPairs AreInOrder groups → IsAfterLast groups group → (g : Group) → Contains groups g → first_of g < first_of group
+after_last groups group order after g (k, w, e) =
+    let last : Group = get_or groups (length groups - 1) g in
+    let here : slice_get groups (length groups - 1) ≡ Some last = slice_get-get_or groups (length groups - 1) g (omega (arith, w)) in
+    let later : first_of last < first_of group = subst (λ (x : Option Group). IfSome x (λ y. first_of y < first_of group)) here after in
+    elim (cases_order k (length groups - 1)) [
+      | inl same ↦ subst (λ (x : Group). first_of x < first_of group) (ap (λ i. get_or groups i g) (sym same) ∙ e) later
+      | inr v ↦ elim v [
+        | inl lt ↦
+          let first = (subst (λ (x : Group). AreInOrder x last) e (order k (length groups - 1) g lt (omega (arith, w)))).first in
+          omega (arith, first, later)
+        | inr lt ↦ absurd (omega (arith, lt, w))
+      ]
+    ]
 
-pub in_among : (members : List ℕ) (n : ℕ) → Contains members n → is_among members n ≡ true
-in_among members n (k, l, e) = list_any-from_Any (λ m. m == n) members (k, n, l, e, eq-eqb n n refl)
+before_last : (groups : List Group) (group : Group) → IsNextGroup groups group → IsAfterLast groups group
+before_last groups group next = go (slice_get groups (length groups - 1)) refl
+  where
+    go : (found : Option Group) → slice_get groups (length groups - 1) ≡ found → IfSome (slice_get groups (length groups - 1)) (λ last. first_of last < first_of group)
+    go None e = subst (λ (x : Option Group). IfSome x (λ last. first_of last < first_of group)) (sym e) tt
+    go (Some last) e =
+        subst (λ (x : Option Group). IfSome x (λ last. first_of last < first_of group)) (sym e) (next last (of_place groups (length groups - 1) last e)).first
 
--- a test that tells it
-pub among_is : (members : List ℕ) (n : ℕ) (r : Bool) → (IsTrue r ↔ Contains members n) → r ≡ is_among members n
-among_is members n true iff = sym (in_among members n (iff.0 refl))
-among_is members n false iff = elim (cases_Bool (is_among members n)) [ inl is ↦ absurd (false≢true (iff.1 (of_among members n is))) | inr none ↦ sym none ]
+-- ---- and shares no series
 
--- ---- the entries beside them
+module _ (groups : List Group) (members : Members) (of : IsOfGroups groups members) (numbers : List ℕ) where
+  shares_none : list_any (λ i. is_some (member_of members i)) numbers ≡ false → AreApart groups numbers
+  shares_none none g i c d (k, w, e) =
+      let place = place_of groups g c in
+      let m = of.all place.0 i g place.1 d in
+      let at : is_some (member_of members (get_or numbers k i)) ≡ true = ap (λ j. is_some (member_of members j)) e ∙ ap is_some m.1 in
+      true≢false (sym (list_any_at (λ i. is_some (member_of members i)) numbers k i w at) ∙ none)
 
-pub apart_more : (members : List ℕ) (pairs : List Pair) (k : ℕ) (p : Pair) (b : Bool) → k < length pairs → get_or pairs k p ≡ p → b ≡ are_among members p
-    → apart_of members (take (k + 1) pairs) ≡ apart_of members (take k pairs) ++ cond (not b) (p ∷ []) []
-apart_more members pairs k p b within at is =
-    filter_more (λ q. not (are_among members q)) pairs k p within
-    ∙ ap (λ q. apart_of members (take k pairs) ++ cond (not (are_among members q)) (q ∷ []) []) at
-    ∙ ap (λ c. apart_of members (take k pairs) ++ cond (not c) (p ∷ []) []) (sym is)
+  shares_one : list_any (λ i. is_some (member_of members i)) numbers ≡ true → AreApart groups numbers → ⊥
+  shares_one some apart =
+      let any = Any-from_list_any (λ i. is_some (member_of members i)) numbers some in
+      go any.1 (any.0, any.2, any.3) (member_of members any.1) refl (sym any.4)
+    where
+      go : (i : ℕ) → Contains numbers i → (m : Option Member) → member_of members i ≡ m → true ≡ is_some (member_of members i) → ⊥
+      go i c None e t = true≢false (t ∙ ap is_some e)
+      go i c (Some m) e t =
+          let w = of.known i m e in
+          apart w.group i (of_place groups m.group w.group w.is) (w.run i (omega arith) w.least) c
 
--- each of them is one of the entries, and not of two of these series
-pub apart_is : (members : List ℕ) (pairs : List Pair) (p : Pair) → Contains (apart_of members pairs) p → Contains pairs p × (Contains members p.first → Contains members p.second → ⊥)
-apart_is members pairs p here =
-    let (there, test) = of_filtered (λ q. not (are_among members q)) pairs p here in
-    (there, λ first second. true≢false (sym (and_from (is_among members p.first) (is_among members p.second) (in_among members p.first first) (in_among members p.second second)) ∙ not-true (are_among members p) test))
+next_from : (groups : List Group) (group : Group) → AllPairs AreInOrder groups → IsAfterLast groups group → AreApart groups group.members → IsNextGroup groups group
+next_from groups group order after apart g c = record { first = after_last groups group order after g c; apart = λ i a b. apart g i c a b }
 
--- each entry is one of them, or of two of these series
-pub apart_or : (members : List ℕ) (pairs : List Pair) (p : Pair) → Contains pairs p → (Contains members p.first × Contains members p.second) ⊎ Contains (apart_of members pairs) p
-apart_or members pairs p there = elim (cases_Bool (are_among members p)) [
-  | inl both ↦ let (first, second) = and_parts (is_among members p.first) (is_among members p.second) both in inl (of_among members p.first first, of_among members p.second second)
-  | inr apart ↦ inr (in_filtered (λ q. not (are_among members q)) pairs p there (ap not apart))
-]
+pub next_apart : (groups : List Group) (group : Group) → IsNextGroup groups group → AreApart groups group.members
+next_apart groups group next g i c a b = (next g c).apart i a b
 
--- ---- series by their numbers
+pub may_follow_then : (groups : List Group) (group : Group) (members : Members) (b : Bool) → IsAfterLast groups group → b ≡ list_any (λ i. is_some (member_of members i)) group.members
+    → IsOfGroups groups members → AllPairs AreInOrder groups → IsTrue (not b) ↔ IsNextGroup groups group
+may_follow_then groups group members true after e of order =
+    ((λ f. absurd (true≢false (sym f))), (λ next. absurd (shares_one groups members of group.members (sym e) (next_apart groups group next))))
+may_follow_then groups group members false after e of order =
+    ((λ f. next_from groups group order after (shares_none groups members of group.members (sym e))), (λ next. refl))
 
-element_at : {X : Type 0} (xs : List X) (k : ℕ) → k < length xs → (x : X) × (slice_get xs k ≡ Some x)
-element_at [] k within = absurd (omega (arith, within))
-element_at (x ∷ xs) zero within = (x, refl)
-element_at (x ∷ xs) (suc k) within = element_at xs k (omega (arith, within))
+pub may_follow_else : (groups : List Group) (group : Group) (members : Members) (b : Bool) → IsTrue b ↔ IsAfterLast groups group → b ≡ false → IsOfGroups groups members → AllPairs AreInOrder groups
+    → IsTrue b ↔ IsNextGroup groups group
+may_follow_else groups group members true after e of order = absurd (true≢false e)
+may_follow_else groups group members false after e of order = ((λ f. absurd (true≢false (sym f))), (λ next. absurd (true≢false (sym (after.1 (before_last groups group next))))))
 
-placed : (all : List Event) (members : List ℕ) → ((i : ℕ) → Contains members i → (0 < i) × (i ≤ length all)) → (those : List Event) × AllZip (IsPlacedAt all) members those
-placed all [] good = ([], tt)
-placed all (i ∷ members) good =
-    let (some, most) = good i (0, omega arith, refl) in
-    let (a, at) = element_at all (i - 1) (omega (arith, some, most)) in
-    let (those, are) = placed all members (λ j c. good j (later i j members c)) in
-    (a ∷ those, (at, are))
+pub not_next : (groups : List Group) (group : Group) (b : Bool) → IsTrue b ↔ IsNextGroup groups group → b ≡ false → IsNextGroup groups group → ⊥
+not_next groups group b may e next = true≢false (sym (may.1 next) ∙ e)
 
--- ---- the group
+-- ---- their lines
 
-module _ (c : Claims) (is : IsClaims c) (members : List ℕ) (have : HaveSpan c members) where
-  within : (i : ℕ) → Contains members i → (0 < i) × (i ≤ c.series)
-  within i here = within_series c is i ((have.are i).0 here)
+pub groups_start : (n : ℕ) (bytes : List ℕ) → HasGroupLines n [] bytes bytes
+groups_start n bytes = record { good = All-nil (IsGroup n); ordered = pairs_nil AreInOrder; lines = []; of = tt; is = refl }
 
-  module _ (from : ℤ) (days : ℕ) (clock : IsClockSeconds from) (few : days < 2 ^ 64) (some : 2 ≤ length members) where
-    abbrev group : Group
-    group = record { from = from; days = days; members = members }
+pub groups_more : (n : ℕ) (groups : List Group) (group : Group) (bytes rest left : List ℕ) → HasGroupLines n groups bytes rest → IsGroupAt n group rest left → IsNextGroup groups group
+    → HasGroupLines n (groups ++ group ∷ []) bytes left
+groups_more n groups group bytes rest left w at next = record {
+  good = All-push (IsGroup n) groups group w.good at.good;
+  ordered = pairs_push AreInOrder groups group w.ordered next;
+  lines = w.lines ++ at.line ∷ [];
+  of = zip_append IsGroupLine groups (group ∷ []) w.lines (at.line ∷ []) w.of (at.of, tt);
+  is = w.is ∙ ap (spelled w.lines) at.is ∙ sym (spelled-append w.lines (at.line ∷ []) left);
+}
 
-    good : IsGroup c.series group
-    good = record { from = clock; days = few; some = some; within = within; ascending = have.ascending }
+pub breaks_at : (n : ℕ) (groups : List Group) (bytes rest : List ℕ) → HasGroupLines n groups bytes rest → (words : List ℕ) × (rest ≡ codes "GROUP " ++ words) → LacksGroup n rest → BreaksGroups n bytes rest
+breaks_at n groups bytes rest w begins none = record { groups = groups; lines = w; begins = begins; lacks = inl none }
 
-    one_group : (p : Pair) → AreTogether (group ∷ []) p.first p.second → Contains members p.first × Contains members p.second
-    one_group p (other, (zero, l, e), first, second) = (subst (λ (g : Group). Contains g.members p.first) (sym e) first, subst (λ (g : Group). Contains g.members p.second) (sym e) second)
-    one_group p (other, (suc k, l, e), first, second) = absurd (omega (arith, l))
-
-    apart : (p : Pair) → Contains (apart_of members c.pairs) p → IsApart c.series (group ∷ []) p
-    apart p here =
-        let (there, none) = apart_is members c.pairs p here in
-        let was = All-contains (IsApart c.series (groups_of c)) c.pairs p is.pairs there in
-        record { pair = was.pair; entry = was.entry; apart = λ together. let (first, second) = one_group p together in none first second }
-
-    module _ (version : c.groups ≡ None) where
-      none_before : (i j : ℕ) → AreTogether (groups_of c) i j → ⊥
-      none_before i j (other, here, first, second) = let (k, l, e) = subst (λ groups. Contains (unwrap_or groups []) other) version here in omega (arith, l)
-
-      pub claims_grouped : IsClaims (with_group c group)
-      claims_grouped = record {
-        singles = is.singles;
-        series = is.series;
-        groups = All-cons (IsGroup c.series) group [] good (All-nil (IsGroup c.series));
-        groups_ordered = λ i j d less last. absurd (omega (arith, less, last));
-        pairs = λ k d l. apart (get_or (apart_of members c.pairs) k d) (Contains-get_or (apart_of members c.pairs) k d l);
-        pairs_ordered = AllPairs-filter (λ p q. IsPairBefore p.first p.second q.first q.second) (λ q. not (are_among members q)) c.pairs is.pairs_ordered;
-        all = λ i j pair. elim (is.all i j pair) [
-          | inl together ↦ absurd (none_before i j together)
-          | inr (p, there, first, second) ↦ elim (apart_or members c.pairs p there) [
-            | inl (one, other) ↦ inl (group, (0, omega arith, refl), subst (Contains members) first one, subst (Contains members) second other)
-            | inr kept ↦ inr (p, kept, first, second)
-          ]
-        ];
-      }
-
-  -- of what is confirmed
-  module _ (confirmed : Confirmed) (count : c.series ≡ length confirmed.series) where
-    -- such a group has just these series
-    same_members : (other : Group) → IsGroupMade confirmed c other → other.members ≡ members
-    same_members other made =
-        one_order ◌<◌ (λ i less. omega (arith, less)) (λ i j k less more. omega (arith, less, more)) other.members members made.good.ascending have.ascending
-        (λ i here. (have.are i).1 ((made.are i).0 here)) (λ i here. (made.are i).1 ((have.are i).0 here))
-
-    pub too_few : length members < 2 → HasNoGroup confirmed c
-    too_few few other made = let some = made.good.some in let same = ap length (same_members other made) in omega (arith, few, some, same)
-
-    pub no_span : ((all : List Event) → AllZip (IsPlacedAt confirmed.series) members all → (from : ℤ) (days : ℕ) → IsShortSpan all from days → ⊥) → HasNoGroup confirmed c
-    no_span none other made = none made.all (subst (λ numbers. AllZip (IsPlacedAt confirmed.series) numbers made.all) (same_members other made) made.placed) other.from other.days made.span
-
-    -- there they are
-    pub members_placed : (all : List Event) × AllZip (IsPlacedAt confirmed.series) members all
-    members_placed = placed confirmed.series members (λ i here. let (some, most) = within i here in (some, omega (arith, most, count)))
-
-    pub grouped : (from : ℤ) (days : ℕ) → IsClockSeconds from → days < 2 ^ 64 → 2 ≤ length members → c.groups ≡ None → (all : List Event) → AllZip (IsPlacedAt confirmed.series) members all
-        → IsShortSpan all from days → IsGrouped confirmed c (with_group c (record { from = from; days = days; members = members }))
-    grouped from days clock few some version all at span = record {
-      claims = claims_grouped from days clock few some version;
-      singles = refl;
-      series = refl;
-      group = group from days clock few some;
-      made = record { are = have.are; good = good from days clock few some; all = all; placed = at; span = span };
-      groups = refl;
-      pairs = λ p here. (apart_is members c.pairs p here).0;
-    }
-
--- ---- as it is made of its parts
-
-pub same_claims : (c : Claims) (group : Group) (singles series : ℕ) (groups : List Group) (pairs : List Pair) → singles ≡ c.singles → series ≡ c.series → groups ≡ group ∷ [] → pairs ≡ apart_of group.members c.pairs
-    → with_group c group ≡ record { singles = singles; series = series; groups = Some groups; pairs = pairs }
-same_claims c group singles series groups pairs of_singles of_series of_groups of_pairs = rw (of_singles, of_series, of_groups, of_pairs) refl
+pub breaks_behind : (n : ℕ) (groups : List Group) (group : Group) (bytes rest left : List ℕ) → HasGroupLines n groups bytes rest → (words : List ℕ) × (rest ≡ codes "GROUP " ++ words) → IsGroupAt n group rest left
+    → (IsNextGroup groups group → ⊥) → BreaksGroups n bytes rest
+breaks_behind n groups group bytes rest left w begins at other = record { groups = groups; lines = w; begins = begins; lacks = inr (group, left, at, other) }

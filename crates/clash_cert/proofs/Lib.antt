@@ -1,10 +1,16 @@
 pub mod TextLemmas
-pub mod PlaceLemmas
-pub mod WrongLines
+pub mod FreeLines
+pub mod ListLemmas
 pub mod OneContent
-pub mod Walking
+pub mod SortedNumbers
 pub mod Words
-pub mod WholeText
+pub mod GroupWords
+pub mod PutLemmas
+pub mod MemberLemmas
+pub mod GroupLemmas
+pub mod Walking
+pub mod WrongLines
+pub mod BreakingOff
 pub mod StopLemmas
 pub mod MakingLemmas
 pub mod TurnLemmas
@@ -12,5 +18,5 @@ pub mod KeptLemmas
 pub mod LookedLemmas
 pub mod ChosenLemmas
 pub mod MarkLemmas
-pub mod GroupLemmas
+pub mod GroupingLemmas
 mod Worked

@@ -1,6 +1,6 @@
 pub mod Texts
-pub mod Places
 pub mod Reading
+pub mod Walked
 pub mod Stops
 pub mod Chosen
 pub mod Grouped

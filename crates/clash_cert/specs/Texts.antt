@@ -1,12 +1,12 @@
 -- What the steps of the reader say.
-use Rattle.std.specs.Prelude.{◌≡◌, ◌≢◌, ◌⊎◌, ℕ, ◌==◌, ◌^◌, ◌<◌, List, ◌∷◌, ◌++◌, length, map, AllPairs, Contains, Option, Some, None, position, decimal, Vec}
+use Rattle.std.specs.Prelude.{◌≡◌, ◌≢◌, ℕ, ◌==◌, ◌^◌, ◌<◌, List, ◌∷◌, ◌++◌, length, map, AllPairs, Contains, Option, Some, None, position, decimal, Vec}
 use Rattle.std.specs.declared.alloc.Global.{Global}
 use Rattle.profile.specs.checker.Certificates.{FirstWrong, IsPairBefore}
 use Rattle.profile.specs.checker.Certificates as said
 use Rattle.clash_cert.specs.declared.certificate.Entry.{Entry}
 use Rattle.clash_cert.specs.declared.certificate.Entry.TheVariants
 use Rattle.clash_cert.specs.declared.certificate.Pair.{Pair}
-use Rattle.clash_cert.specs.declared.group.Group.{Group}
+use Rattle.clash_cert.specs.declared.groups.Group.{Group}
 use Rattle.clash_cert.specs.declared.certificate.CertFault.{CertFault}
 use Rattle.clash_cert.specs.declared.certificate.CertFault.TheVariants.{Line, Memory}
 

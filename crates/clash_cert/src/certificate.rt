@@ -8,7 +8,7 @@ ghost use Rattle.ical_values.specs.Written.{Appends};
 ghost use Rattle.clash_cert.specs.Texts.{IsCertFault, AreSorted, IsEntryAmong, entry_said, group_said, pair_said, claims_said};
 ghost use Rattle.clash_cert.specs.Chosen.{IsSaidOf};
 
-use crate::group::Group;
+use crate::groups::Group;
 use crate::reading::{Stop, after_count, after_version, line_of, read_statements};
 use crate::writing::write_text;
 use ical_values::Stamp;
@@ -108,6 +108,7 @@ impl Certificate {
         let Some((series, rest)) = after_count(rest, b"SERIES ") else {
             return Err(CertFault::Line(3));
         };
+        ical_values::stamp::one_stamp();
         one_certificate();
         match read_statements(alloc, rest, version, series) {
             Ok((groups, pairs)) => Ok(Certificate {

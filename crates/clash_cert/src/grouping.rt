@@ -9,7 +9,7 @@ ghost use Rattle.clash_cert.specs.Grouped.{HaveSpan, AreMarked, are_among, apart
 
 use crate::certificate::{Certificate, Entry, Pair};
 use crate::choosing::certificate_of;
-use crate::group::{Group, has_number};
+use crate::groups::{Group, has_number};
 use cal_events::Calendar;
 use cal_period::{CommonSpan, span_of_members};
 use ical_values::Stamp;

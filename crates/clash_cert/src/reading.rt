@@ -1,20 +1,25 @@
 //! Reading the lines of a certificate: each step says what stands at the front of the octets and what follows it, or that it doesn't stand
 //! there.
-ghost use Rattle.std.specs.Prelude.{◌≡◌, ◌^◌, ◌<◌, ◌≤◌, ◌-◌, ◌+◌, ◌∷◌, ◌++◌, suc, take, length, map, decimal, position, slice_index_or, ◌==◌, MatchOption, MatchResult, IfOk};
+ghost use Rattle.std.specs.Prelude.{List, ℕ, ◌≡◌, ◌↔◌, ◌^◌, ◌<◌, ◌≤◌, ◌-◌, ◌+◌, [], ◌∷◌, ◌++◌, suc, take, length, map, codes, decimal, position, slice_index_or, ◌==◌, AllPairs, IsTrue, MatchBool, MatchOption, MatchResult, IfOk};
 ghost use Rattle.std.specs.List.{count_by};
 ghost use Rattle.profile.specs.text.Values.{WritesStamp};
-ghost use Rattle.profile.specs.checker.Certificates.{IsEntry, IsEntryText, Span};
+ghost use Rattle.profile.specs.checker.Certificates.{AreInOrder, IsEntry, IsEntryText, Span};
+ghost use Rattle.profile.specs.checker.Certificates as said;
 ghost use Rattle.clash_cert.specs.Texts.{Lacks, LacksLine, LacksCount, LacksLf, IsCutAtLf, IsNoNumber, entry_said, group_said, groups_said, pair_said};
-ghost use Rattle.clash_cert.specs.Reading.{pair_names, IsNoEntry, IsNoSpan, IsNoStamp, IsVersionAt, LacksVersion, IsGroupAt, LacksGroup, IsGroupOfWords, IsNoGroup, AreNumbers, AreNoNumbers, IsPairAt, LacksPair, AreStatementsOf, IsBroken, AreGroupsAt, BreaksGroups, ArePairsAt, BreaksPairs};
+ghost use Rattle.clash_cert.specs.Reading.{pair_names, IsNoEntry, IsNoSpan, IsNoStamp, IsVersionAt, LacksVersion, IsGroupAt, LacksGroup, IsGroupOfWords, IsNoGroup, AreNumbers, AreNoNumbers, IsNumberAt, LacksNumber, IsCutAtSpace, ascend, IsPairAt, LacksPair};
+ghost use Rattle.clash_cert.specs.Walked.{AreGroupsAt, ArePairsAt, AreStatementsOf, AreVersionGroups, BreaksGroups, BreaksInGroups, BreaksPairs, IsAfterLast, IsBroken, IsNextGroup, IsOfGroups};
 ghost use Rattle.clash_cert.specs.Stops.{StopsAt};
 
 use crate::certificate::{Entry, Pair};
-use crate::group::Group;
+use crate::groups::Group;
 use crate::members::Members;
 use ical_values::Stamp;
 use itoa::Buffer;
 use std::alloc::{AllocError, AllocFailed, Global};
 use std::str;
+
+/// How many numbers the line of a group has at least: its days, and two series.
+const DAYS_AND_TWO: usize = 3;
 
 /// The version that the first line of a certificate tells.
 #[derive(Clone, Copy, PartialEq, Eq)]
@@ -64,13 +69,7 @@ pub(crate) fn read_statements<'a>(
     ensures { MatchResult result (λ p. AreStatementsOf version series (groups_said p.0) (map pair_said p.1.items) bytes.now) (StopsAt (IsBroken version series bytes.now)) }
 {
     let mut members = Members::none(alloc);
-    let (groups, rest) = match version {
-        Version::First => (None, bytes),
-        Version::Second => {
-            let (groups, rest) = read_groups(alloc, bytes, series, &mut members)?;
-            (Some(groups), rest)
-        }
-    };
+    let (groups, rest) = read_version_groups(alloc, bytes, version, series, &mut members)?;
     let (pairs, rest) = read_pairs(alloc, rest, series, &members)?;
     let Some(left) = after_line(rest, b"DONE") else {
         return Err(Stop::At(rest));
@@ -82,7 +81,28 @@ pub(crate) fn read_statements<'a>(
     }
 }
 
-/// The groups whose lines come first, and what follows these. Of each series that is in one `members` knows that afterwards.
+/// The groups of a certificate of this version, which the first doesn't have, and what follows their lines. Of each series that is in one
+/// `members` knows that afterwards.
+fn read_version_groups<'a>(
+    alloc: Global,
+    bytes: &'a [u8],
+    version: Version,
+    series: u64,
+    members: &mut Members,
+) -> Result<(Option<Vec<Group>>, &'a [u8]), Stop<'a>>
+    requires { IsOfGroups [] members.old }
+    ensures { MatchResult result (λ p. AreVersionGroups version series (groups_said p.0) members.new bytes.now p.1.now) (StopsAt (BreaksInGroups version series bytes.now)) }
+{
+    match version {
+        Version::First => Ok((None, bytes)),
+        Version::Second => {
+            let (groups, rest) = read_groups(alloc, bytes, series, members)?;
+            Ok((Some(groups), rest))
+        }
+    }
+}
+
+/// The groups whose lines come first, and what follows these.
 fn read_groups<'a>(
     alloc: Global,
     bytes: &'a [u8],
@@ -94,11 +114,11 @@ fn read_groups<'a>(
 {
     let mut groups: Vec<Group> = Vec::new(alloc);
     let mut rest = bytes;
-    while rest.starts_with(b"GROUP ") {
+    while begins_group(rest) {
         let Some((group, left)) = read_group(alloc, rest, series)? else {
             return Err(Stop::At(rest));
         };
-        if !comes_after(&groups, &group) || members.has_any(&group.members) {
+        if !may_follow(&groups, members, &group) {
             return Err(Stop::At(rest));
         }
         members.add(groups.len(), &group.members)?;
@@ -108,8 +128,24 @@ fn read_groups<'a>(
     Ok((groups, rest))
 }
 
+/// Do the octets begin as the line of a group does?
+fn begins_group(bytes: &[u8]) -> bool
+    ensures { MatchBool result ((words : List ℕ) × (bytes.now ≡ codes "GROUP " ++ words)) (Lacks (codes "GROUP ") bytes.now) }
+{
+    after(bytes, b"GROUP ").is_some()
+}
+
+/// May a group come after these? It comes after the last one, by its first series, and shares none with them.
+fn may_follow(groups: &[Group], members: &Members, group: &Group) -> bool
+    ensures { IsOfGroups (map group_said groups.now) members.now → AllPairs AreInOrder (map group_said groups.now)
+        → IsTrue result ↔ IsNextGroup (map group_said groups.now) (group_said group.now) }
+{
+    comes_after(groups, group) && !members.has_any(&group.members)
+}
+
 /// Does a group come after the last one, by its first series?
 fn comes_after(groups: &[Group], group: &Group) -> bool
+    ensures { IsTrue result ↔ IsAfterLast (map group_said groups.now) (group_said group.now) }
 {
     match groups.last() {
         Some(last) => last.name().0 < group.name().0,
@@ -186,13 +222,10 @@ fn group_of(alloc: Global, words: &[u8], series: u64) -> Result<Option<Group>, A
     let Some(from) = stamp_of(stamp) else {
         return Ok(None);
     };
-    let Some(digits) = after(rest, b" ") else {
+    let Some(mut numbers) = numbers_of(alloc, rest)? else {
         return Ok(None);
     };
-    let Some(mut numbers) = numbers_of(alloc, digits)? else {
-        return Ok(None);
-    };
-    if numbers.len() < 3 {
+    if numbers.len() < DAYS_AND_TWO {
         return Ok(None);
     }
     let days = numbers.remove(0);
@@ -206,22 +239,52 @@ fn group_of(alloc: Global, words: &[u8], series: u64) -> Result<Option<Group>, A
     }))
 }
 
-/// The numbers that these words spell, with single spaces between them. Fails only when out of memory.
-fn numbers_of(alloc: Global, words: &[u8]) -> Result<Option<Vec<u64>>, AllocError>
-    ensures { IfOk result (λ found. MatchOption found (AreNoNumbers words.now) (λ numbers. AreNumbers numbers.items words.now)) }
+/// The numbers that a text spells, each after a space. Fails only when out of memory.
+fn numbers_of(alloc: Global, text: &[u8]) -> Result<Option<Vec<u64>>, AllocError>
+    ensures { IfOk result (λ found. MatchOption found (AreNoNumbers text.now) (λ numbers. AreNumbers numbers.items text.now)) }
 {
     let mut numbers = Vec::new(alloc);
-    for word in words.split(|octet| *octet == b' ') {
-        let Some(number) = number_of(word) else {
+    let mut rest = text;
+    while !rest.is_empty() {
+        let Some((number, left)) = next_number(rest) else {
             return Ok(None);
         };
         numbers.push(number)?;
+        rest = left;
     }
     Ok(Some(numbers))
 }
 
+/// The number after the space at the front of a text, and what follows it.
+fn next_number(text: &[u8]) -> Option<(u64, &[u8])>
+    ensures { MatchOption result (LacksNumber text.now) (λ p. IsNumberAt p.0 text.now p.1.now) }
+{
+    let digits = after(text, b" ")?;
+    let (word, rest) = cut_word(digits);
+    let number = number_of(word)?;
+    Some((number, rest))
+}
+
+/// What comes before the first space, and the rest from that on.
+fn cut_word(text: &[u8]) -> (&[u8], &[u8])
+    ensures { IsCutAtSpace text.now result.0.now result.1.now }
+{
+    match first_space(text) {
+        Some(end) => text.split_at(end),
+        None => (text, &[]),
+    }
+}
+
+/// Where the first space is.
+fn first_space(text: &[u8]) -> Option<usize>
+    ensures { result ≡ position (λ octet. octet == 32) text.now }
+{
+    text.iter().position(|octet| *octet == b' ')
+}
+
 /// Are they numbers of so many series, ascending?
 fn are_members(numbers: &[u64], series: u64) -> bool
+    ensures { result ≡ ascend series 0 numbers.now }
 {
     let mut last = 0;
     for number in numbers {

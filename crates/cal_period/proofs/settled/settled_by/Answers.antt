@@ -1,5 +1,4 @@
-use Rattle.std.proofs.Common.{◌≡◌, refl, inl, inr, arith, sym, subst, to_z, of_z, w64, FitsSigned, rules, to_z-of_z}
-use Rattle.std.proofs.lemmas.Int.{ints}
+use Rattle.std.proofs.Common.{◌≡◌, refl, inl, inr, sym, subst, to_z, of_z, w64, FitsSigned, rules, to_z-of_z}
 use Rattle.cal_events.specs.Series.{series_said}
 use Rattle.cal_period.specs.Onward.{Settles}
 use Rattle.cal_period.specs.Spanning.{AreComparedTo}

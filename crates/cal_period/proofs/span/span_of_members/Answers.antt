@@ -1,4 +1,4 @@
-use Rattle.std.proofs.Common.{◌≡◌, ◌+◌, suc, ℕ, arith, length, map, subst}
+use Rattle.std.proofs.Common.{◌≡◌, ◌+◌, suc, arith, length, map, subst}
 use Rattle.cal_events.specs.Series.{series_said}
 use Rattle.cal_period.proofs.EveryPair.{none_exit}
 use Rattle.cal_period.proofs.Numbered.{IsOfFirst, at_first, at_other, no_such, none_at_first, none_at_other, none_of_first, none_of_none, of_all, of_first}

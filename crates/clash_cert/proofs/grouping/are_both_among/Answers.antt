@@ -1,6 +1,6 @@
 use Rattle.std.proofs.Common.{◌∙◌, ◌&&◌, sym, ap}
 use Rattle.clash_cert.specs.Grouped.{is_among}
-use Rattle.clash_cert.proofs.GroupLemmas.{among_is}
+use Rattle.clash_cert.proofs.GroupingLemmas.{among_is}
 use Rattle.clash_cert.proofs.grouping.are_both_among.Goals as goal
 
 pub returns-then-has_number : goal.returns-then-has_number

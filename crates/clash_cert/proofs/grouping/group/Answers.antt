@@ -5,7 +5,7 @@ use Rattle.profile.specs.checker.Certificates.{Claims, IsPlacedAt, IsGrouped}
 use Rattle.profile.specs.events.Events.{Event}
 use Rattle.cal_events.specs.Series.{series_said}
 use Rattle.clash_cert.proofs.ChosenLemmas.{clock_of_span}
-use Rattle.clash_cert.proofs.GroupLemmas.{too_few, no_span, members_placed, grouped}
+use Rattle.clash_cert.proofs.GroupingLemmas.{too_few, no_span, members_placed, grouped}
 use Rattle.clash_cert.proofs.grouping.group.Goals as goal
 
 pub returns-then-len-lt2 : goal.returns-then-len-lt2

@@ -4,7 +4,7 @@ use Rattle.clash_cert.specs.declared.certificate.Pair.{Pair}
 use Rattle.clash_cert.specs.Texts.{pair_said}
 use Rattle.clash_cert.specs.Grouped.{apart_of}
 use Rattle.clash_cert.proofs.MarkLemmas.{said_there}
-use Rattle.clash_cert.proofs.GroupLemmas.{apart_more}
+use Rattle.clash_cert.proofs.GroupingLemmas.{apart_more}
 use Rattle.clash_cert.proofs.grouping.pairs_apart.Goals as goal
 use Rattle.clash_cert.proofs.grouping.pairs_apart.Goals.{then-not-are_both_among+in_ok-push, else-not-are_both_among}
 

@@ -2,10 +2,10 @@ use Rattle.std.proofs.Common.{◌≡◌, ◌∙◌, ℕ, ℤ, List, [], ◌∷�
 use Rattle.std.specs.Prelude.{Option, IfSome}
 use Rattle.std.proofs.lemmas.Int.{to_z-of_z}
 use Rattle.profile.specs.checker.Certificates.{Group, IsClaims}
-use Rattle.clash_cert.specs.declared.group.Group.{Group as Kept}
+use Rattle.clash_cert.specs.declared.groups.Group.{Group as Kept}
 use Rattle.clash_cert.specs.Texts.{group_said, pair_said}
 use Rattle.clash_cert.specs.Grouped.{apart_of}
-use Rattle.clash_cert.proofs.GroupLemmas.{claims_grouped, same_claims}
+use Rattle.clash_cert.proofs.GroupingLemmas.{claims_grouped, same_claims}
 use Rattle.clash_cert.proofs.grouping.with_group.Goals as goal
 
 pub of-requires : goal.of-requires

@@ -1,4 +1,4 @@
-use Rattle.std.proofs.Common.{◌≡◌, ◌∙◌, arith, ℤ, pos, ◌≤ℤ◌, ◌<ℤ◌, to_z, of_z, w64, FitsSigned, rules, to_z-of_z}
+use Rattle.std.proofs.Common.{◌≡◌, ◌∙◌, arith, ℤ, to_z, of_z, w64, FitsSigned, rules, to_z-of_z}
 use Rattle.std.proofs.lemmas.Int.{ints}
 use Rattle.std.specs.Int.{int_max}
 use Rattle.cal_events.specs.Series.{series_said}
