@@ -11,7 +11,9 @@ pub mod Multiples
 pub mod SaidSeries
 pub mod SeriesLaw
 pub mod Settling
+pub mod Widths
 pub mod Spanning
+pub mod Numbered
 pub mod Members
 pub mod OnsetTheorem
 pub mod NearOnsets

@@ -1,5 +1,5 @@
 -- The words of an entry, and the line of a pair.
-use Rattle.std.proofs.Common.{◌≡◌, ◌≢◌, ℕ, ℤ, ◌+◌, ◌/◌, ◌<◌, ◌≤◌, ◌==◌, Bool, true, false, List, ◌∷◌, ◌++◌, length, get_or, subst, sym, refl, ap, ◌∙◌, append_assoc, arith}
+use Rattle.std.proofs.Common.{◌≡◌, ◌≢◌, ℕ, ℤ, ◌+◌, ◌/◌, ◌≤◌, ◌==◌, Bool, true, false, List, ◌∷◌, ◌++◌, length, get_or, subst, sym, refl, ap, ◌∙◌, append_assoc, arith}
 use Rattle.std.specs.Prelude.{Option, Some, None, MatchOption, Result, Ok, Err, IfOk, OnErr, codes, decimal, position}
 use Rattle.std.specs.Result.{result_ok}
 use Rattle.std.specs.Str.{bytes_eq}
@@ -7,16 +7,13 @@ use Rattle.std.proofs.lemmas.Slice.Eq.{bytes_eq-Decides}
 use Rattle.std.proofs.lemmas.Bool.Decides.{nat_tests}
 use denote.Ref.{Bor}
 use Rattle.std.proofs.lemmas.Option.{same_Some, none-some}
-use Rattle.std.proofs.lemmas.List.{length-append}
 use Rattle.std.proofs.lemmas.Bool.{true≢false}
 use Rattle.profile.specs.text.Values.{SpellsStamp, WritesStamp, SpellsClock, two_digits, four_digits}
-use Rattle.profile.specs.checker.Certificates.{Entry, End, Span, Res, IsEntry, IsEntryText}
+use Rattle.profile.specs.checker.Certificates.{Entry, End, Span, Res, IsEntry, IsEntryText, InGroup}
 use Rattle.clash_cert.specs.Texts.{Lacks, LacksLf, IsCutAtLf, IsNoNumber}
-use Rattle.clash_cert.specs.Places.{Pair, LacksPlace}
-use Rattle.clash_cert.specs.Reading.{pair_names, IsNoEntry, IsNoSpan, IsPairAt}
+use Rattle.clash_cert.specs.Reading.{pair_names, IsNoEntry, IsNoSpan, IsPairAt, LacksPair}
 use Rattle.clash_cert.proofs.TextLemmas.{cancel, position_at, same_front}
-use Rattle.clash_cert.proofs.PlaceLemmas.{entry_free}
-use Rattle.clash_cert.proofs.OneContent.{stamp_length}
+use Rattle.clash_cert.proofs.FreeLines.{entry_free, stamp_length}
 
 -- ---- seconds
 
@@ -60,20 +57,8 @@ not_sixty text t (local, w, e) f =
 
 -- ---- the words of an entry
 
--- SPAN's words begin so
-pub no_span : (words : List ℕ) → Lacks (codes "SPAN ") words → IsNoSpan words
-no_span words lacks from days h (stamp, w, e) = lacks (stamp ++ (codes " " ++ decimal days)) e
-
 -- what follows is a stamp, a space and a number
 module _ (words rest : List ℕ) (begins : words ≡ codes "SPAN " ++ rest) where
-  pub words_short : length rest < 16 → IsNoSpan words
-  words_short short from days h (stamp, w, e) =
-      let same : rest ≡ stamp ++ (codes " " ++ decimal days) = cancel (codes "SPAN ") _ _ (sym begins ∙ e) in
-      let n = ap length same in
-      let k = stamp_length stamp from w in
-      let m : length (stamp ++ (codes " " ++ decimal days)) ≡ length stamp + length (codes " " ++ decimal days) = length-append stamp (codes " " ++ decimal days) in
-      omega (arith, short, n, k, m)
-
   module _ (first last : List ℕ) (parts : rest ≡ first ++ last) (long : length first ≡ 16) where
     stamps : (from : ℤ) (days : ℕ) → (t : IsEntryText (Span from days) words) → (first ≡ t.0) × (last ≡ codes " " ++ decimal days)
     stamps from days (stamp, w, e) =
@@ -98,6 +83,7 @@ pub no_entry : (words : List ℕ) → words ≢ codes "END" → Lacks (codes "RE
 no_entry words other lacks none End h e = other e
 no_entry words other lacks none (Span from days) h w = none from days h w
 no_entry words other lacks none (Res m) h e = lacks (decimal m) e
+no_entry words other lacks none (InGroup n) h e = absurd h
 
 pub or_span : {A : Type 0} (words : List ℕ) (r : Option A) (P : A → Type 0) → words ≢ codes "END" → Lacks (codes "RES ") words → MatchOption r (IsNoSpan words) P → MatchOption r (IsNoEntry words) P
 or_span words None P other lacks none = no_entry words other lacks none
@@ -108,6 +94,7 @@ pub no_modulus : (words digits : List ℕ) → words ≡ codes "RES " ++ digits 
 no_modulus words digits begins none End h e = let first : 82 ≡ 69 = ap (λ l. get_or l 0 0) (sym begins ∙ e) in omega (arith, first)
 no_modulus words digits begins none (Span from days) h (stamp, w, e) = let first : 82 ≡ 83 = ap (λ l. get_or l 0 0) (sym begins ∙ e) in omega (arith, first)
 no_modulus words digits begins none (Res m) h e = none m h (cancel (codes "RES ") _ _ (sym begins ∙ e))
+no_modulus words digits begins none (InGroup n) h e = absurd h
 
 -- ---- the line of a pair
 
@@ -118,21 +105,21 @@ names_first i j text tail = grouped (codes "PAIR ") (decimal i) (codes " ") (dec
     grouped : (p i s j w u : List ℕ) → (p ++ (i ++ (s ++ (j ++ (s ++ w))))) ++ u ≡ (p ++ (i ++ (s ++ (j ++ s)))) ++ (w ++ u)
     grouped p i s j w u = simp append_assoc
 
-pub no_names : (i j : ℕ) (bytes : List ℕ) → Lacks (pair_names i j) bytes → LacksPlace (Pair i j) bytes
-no_names i j bytes lacks line rest (h, k, (entry, is, (text, w, e))) f = lacks (text ++ 10 ∷ rest) (f ∙ ap (λ l. l ++ 10 ∷ rest) e ∙ names_first i j text (10 ∷ rest))
+pub no_names : (i j : ℕ) (bytes : List ℕ) → Lacks (pair_names i j) bytes → LacksPair i j bytes
+no_names i j bytes lacks entry line rest is (text, w, e) f = lacks (text ++ 10 ∷ rest) (f ∙ ap (λ l. l ++ 10 ∷ rest) e ∙ names_first i j text (10 ∷ rest))
 
 module _ (i j : ℕ) (bytes rest : List ℕ) (begins : bytes ≡ pair_names i j ++ rest) where
   -- the words of a line's entry are before the first LF
   words_there : (line tail text : List ℕ) → bytes ≡ line ++ 10 ∷ tail → line ≡ codes "PAIR " ++ (decimal i ++ (codes " " ++ (decimal j ++ (codes " " ++ text)))) → rest ≡ text ++ 10 ∷ tail
   words_there line tail text f e = cancel (pair_names i j) _ _ (sym begins ∙ f ∙ ap (λ l. l ++ 10 ∷ tail) e ∙ names_first i j text (10 ∷ tail))
 
-  pub no_lf : LacksLf rest → LacksPlace (Pair i j) bytes
-  no_lf none line tail (h, k, (entry, is, (text, w, e))) f =
+  pub no_lf : LacksLf rest → LacksPair i j bytes
+  no_lf none entry line tail is (text, w, e) f =
       let at = position_at text tail (entry_free entry text is w) in
       none-some (length text) (sym none ∙ ap (position (λ octet. octet == 10)) (words_there line tail text f e) ∙ at)
 
-  pub no_words : (words tail : List ℕ) → IsCutAtLf rest words tail → IsNoEntry words → LacksPlace (Pair i j) bytes
-  no_words words tail cut none line end (h, k, (entry, is, (text, w, e))) f =
+  pub no_words : (words tail : List ℕ) → IsCutAtLf rest words tail → IsNoEntry words → LacksPair i j bytes
+  no_words words tail cut none entry line end is (text, w, e) f =
       let there = words_there line end text f e in
       let at = position_at text end (entry_free entry text is w) in
       let same : length words ≡ length text = same_Some _ _ (sym cut.at ∙ ap (position (λ octet. octet == 10)) there ∙ at) in

@@ -1,8 +1,8 @@
 -- What was read of the lines of a certificate, and what was written of them.
-use Rattle.std.specs.Prelude.{◌≡◌, ◌≢◌, ℕ, ◌<◌, ◌^◌, ℤ, List, [], ◌∷◌, ◌++◌, map, All, AllPairs, Option, Some, None, unwrap_or, codes, decimal}
-use Rattle.std.specs.List.{AllZip}
+use Rattle.std.specs.Prelude.{◌≡◌, ◌≢◌, ℕ, ◌<◌, ◌^◌, ◌==◌, ltb, leb, Bool, true, ◌&&◌, ℤ, List, [], ◌∷◌, ◌++◌, take, drop, All, codes, decimal}
+use Rattle.std.specs.List.{AllZip, position_or_len}
 use Rattle.profile.specs.text.Values.{WritesStamp}
-use Rattle.profile.specs.checker.Certificates.{Entry, Span, Pair, Group, Claims, IsEntry, IsEntryText, IsPairLine, IsGroup, IsGroupLine, AreLines, numbers_text, spelled}
+use Rattle.profile.specs.checker.Certificates.{Entry, Span, Pair, Group, IsEntry, IsEntryText, IsPairLine, IsGroup, IsGroupLine, numbers_text, spelled}
 use Rattle.clash_cert.specs.declared.reading.Version.{Version}
 use Rattle.clash_cert.specs.declared.reading.Version.TheVariants.{First, Second}
 
@@ -66,12 +66,32 @@ pub record IsGroupOfWords (n : ℕ) (words : List ℕ) (group : Group) : Type 0 
 abbrev pub IsNoGroup : ℕ → List ℕ → Type 0
 IsNoGroup n words = (group : Group) → IsGroup n group → IsGroupLine group (codes "GROUP " ++ words) → ⊥
 
--- numbers of 64 bits, at least one, with single spaces between them
+-- numbers of 64 bits, each after a space
 abbrev pub AreNumbers : List ℕ → List ℕ → Type 0
-AreNumbers numbers words = All (λ n. n < 2 ^ 64) numbers × (codes " " ++ words ≡ numbers_text numbers)
+AreNumbers numbers text = All (λ n. n < 2 ^ 64) numbers × (text ≡ numbers_text numbers)
 
 abbrev pub AreNoNumbers : List ℕ → Type 0
-AreNoNumbers words = (numbers : List ℕ) → All (λ n. n < 2 ^ 64) numbers → codes " " ++ words ≢ numbers_text numbers
+AreNoNumbers text = (numbers : List ℕ) → All (λ n. n < 2 ^ 64) numbers → text ≢ numbers_text numbers
+
+-- a space and this number are at the front, and whichever numbers the text spells, this is the first one
+pub record IsNumberAt (n : ℕ) (text rest : List ℕ) : Type 0 where
+  pub few : n < 2 ^ 64
+  pub is : text ≡ codes " " ++ (decimal n ++ rest)
+  pub only : (first : ℕ) (others : List ℕ) → first < 2 ^ 64 → text ≡ numbers_text (first ∷ others) → (first ≡ n) × (rest ≡ numbers_text others)
+
+-- the text spells no numbers, but for none at all
+abbrev pub LacksNumber : List ℕ → Type 0
+LacksNumber text = (first : ℕ) (others : List ℕ) → first < 2 ^ 64 → text ≢ numbers_text (first ∷ others)
+
+-- the first space is between the two parts, at the front of the second; if there is none, the first is all
+pub record IsCutAtSpace (text word rest : List ℕ) : Type 0 where
+  pub word_is : word ≡ take (position_or_len (λ octet. octet == 32) text) text
+  pub rest_is : rest ≡ drop (position_or_len (λ octet. octet == 32) text) text
+
+-- numbers up to n, each greater than the one before, and the first than this
+abbrev pub ascend : ℕ → ℕ → List ℕ → Bool
+ascend n last [] = true
+ascend n last (number ∷ numbers) = ltb last number && (leb number n && ascend n number numbers)
 
 -- ---- what is written
 

@@ -1,5 +1,5 @@
 -- What the steps of the reader say.
-use Rattle.std.specs.Prelude.{◌≡◌, ◌≢◌, ◌⊎◌, ℕ, ◌==◌, ◌^◌, ◌<◌, List, ◌∷◌, ◌++◌, length, map, AllPairs, Contains, Option, Some, None, position, decimal, Vec}
+use Rattle.std.specs.Prelude.{◌≡◌, ◌≢◌, ℕ, ◌==◌, ◌^◌, ◌<◌, List, ◌∷◌, ◌++◌, length, map, AllPairs, Contains, Option, Some, None, position, decimal, Vec}
 use Rattle.std.specs.declared.alloc.Global.{Global}
 use Rattle.profile.specs.checker.Certificates.{FirstWrong, IsPairBefore}
 use Rattle.profile.specs.checker.Certificates as said

@@ -5,7 +5,7 @@ ghost use Rattle.std.specs.List.{count_by};
 ghost use Rattle.profile.specs.text.Values.{WritesStamp};
 ghost use Rattle.profile.specs.checker.Certificates.{IsEntry, IsEntryText, Span};
 ghost use Rattle.clash_cert.specs.Texts.{Lacks, LacksLine, LacksCount, LacksLf, IsCutAtLf, IsNoNumber, entry_said, group_said, groups_said, pair_said};
-ghost use Rattle.clash_cert.specs.Reading.{pair_names, IsNoEntry, IsNoSpan, IsNoStamp, IsVersionAt, LacksVersion, IsGroupAt, LacksGroup, IsGroupOfWords, IsNoGroup, AreNumbers, AreNoNumbers, IsPairAt, LacksPair, AreStatementsOf, IsBroken, AreGroupsAt, BreaksGroups, ArePairsAt, BreaksPairs};
+ghost use Rattle.clash_cert.specs.Reading.{pair_names, IsNoEntry, IsNoSpan, IsNoStamp, IsVersionAt, LacksVersion, IsGroupAt, LacksGroup, IsGroupOfWords, IsNoGroup, AreNumbers, AreNoNumbers, IsNumberAt, LacksNumber, IsCutAtSpace, ascend, IsPairAt, LacksPair, AreStatementsOf, IsBroken, AreGroupsAt, BreaksGroups, ArePairsAt, BreaksPairs};
 ghost use Rattle.clash_cert.specs.Stops.{StopsAt};
 
 use crate::certificate::{Entry, Pair};
@@ -15,6 +15,9 @@ use ical_values::Stamp;
 use itoa::Buffer;
 use std::alloc::{AllocError, AllocFailed, Global};
 use std::str;
+
+/// How many numbers the line of a group has at least: its days, and two series.
+const DAYS_AND_TWO: usize = 3;
 
 /// The version that the first line of a certificate tells.
 #[derive(Clone, Copy, PartialEq, Eq)]
@@ -186,13 +189,10 @@ fn group_of(alloc: Global, words: &[u8], series: u64) -> Result<Option<Group>, A
     let Some(from) = stamp_of(stamp) else {
         return Ok(None);
     };
-    let Some(digits) = after(rest, b" ") else {
+    let Some(mut numbers) = numbers_of(alloc, rest)? else {
         return Ok(None);
     };
-    let Some(mut numbers) = numbers_of(alloc, digits)? else {
-        return Ok(None);
-    };
-    if numbers.len() < 3 {
+    if numbers.len() < DAYS_AND_TWO {
         return Ok(None);
     }
     let days = numbers.remove(0);
@@ -206,22 +206,52 @@ fn group_of(alloc: Global, words: &[u8], series: u64) -> Result<Option<Group>, A
     }))
 }
 
-/// The numbers that these words spell, with single spaces between them. Fails only when out of memory.
-fn numbers_of(alloc: Global, words: &[u8]) -> Result<Option<Vec<u64>>, AllocError>
-    ensures { IfOk result (λ found. MatchOption found (AreNoNumbers words.now) (λ numbers. AreNumbers numbers.items words.now)) }
+/// The numbers that a text spells, each after a space. Fails only when out of memory.
+fn numbers_of(alloc: Global, text: &[u8]) -> Result<Option<Vec<u64>>, AllocError>
+    ensures { IfOk result (λ found. MatchOption found (AreNoNumbers text.now) (λ numbers. AreNumbers numbers.items text.now)) }
 {
     let mut numbers = Vec::new(alloc);
-    for word in words.split(|octet| *octet == b' ') {
-        let Some(number) = number_of(word) else {
+    let mut rest = text;
+    while !rest.is_empty() {
+        let Some((number, left)) = next_number(rest) else {
             return Ok(None);
         };
         numbers.push(number)?;
+        rest = left;
     }
     Ok(Some(numbers))
 }
 
+/// The number after the space at the front of a text, and what follows it.
+fn next_number(text: &[u8]) -> Option<(u64, &[u8])>
+    ensures { MatchOption result (LacksNumber text.now) (λ p. IsNumberAt p.0 text.now p.1.now) }
+{
+    let digits = after(text, b" ")?;
+    let (word, rest) = cut_word(digits);
+    let number = number_of(word)?;
+    Some((number, rest))
+}
+
+/// What comes before the first space, and the rest from that on.
+fn cut_word(text: &[u8]) -> (&[u8], &[u8])
+    ensures { IsCutAtSpace text.now result.0.now result.1.now }
+{
+    match first_space(text) {
+        Some(end) => text.split_at(end),
+        None => (text, &[]),
+    }
+}
+
+/// Where the first space is.
+fn first_space(text: &[u8]) -> Option<usize>
+    ensures { result ≡ position (λ octet. octet == 32) text.now }
+{
+    text.iter().position(|octet| *octet == b' ')
+}
+
 /// Are they numbers of so many series, ascending?
 fn are_members(numbers: &[u64], series: u64) -> bool
+    ensures { result ≡ ascend series 0 numbers.now }
 {
     let mut last = 0;
     for number in numbers {

@@ -1,8 +1,8 @@
 //! Writing the lines of a certificate.
-ghost use Rattle.std.specs.Prelude.{ℕ, List, ◌≡◌, ◌++◌, [], ◌∷◌, take, length, map, decimal, All, OnOk, OnErr};
-ghost use Rattle.profile.specs.checker.Certificates.{IsClaims, IsEntry, IsEntryText, IsGroupLine, IsPairLine, SpellsCertificate};
+ghost use Rattle.std.specs.Prelude.{ℕ, List, ◌≡◌, ◌++◌, [], ◌∷◌, take, length, map, unwrap_or, codes, decimal, All, OnOk, OnErr};
+ghost use Rattle.profile.specs.checker.Certificates.{IsClaims, IsEntry, IsEntryText, IsGroupLine, IsPairLine, SpellsCertificate, numbers_text, spelled, version_line};
 ghost use Rattle.ical_values.specs.Written.{Appends};
-ghost use Rattle.clash_cert.specs.Texts.{claims_said, entry_said, group_said, pair_said};
+ghost use Rattle.clash_cert.specs.Texts.{claims_said, entry_said, group_said, groups_said, pair_said};
 ghost use Rattle.clash_cert.specs.Reading.{SpellsGroups, SpellsPairs};
 
 use crate::certificate::{Entry, Pair};
@@ -22,17 +22,46 @@ pub(crate) fn write_text(
     ensures ok { OnOk result (Appends out.old.items out.new.items (λ text. SpellsCertificate text (claims_said singles series groups.now pairs.now))) }
     ensures err { OnErr result (take (length out.old.items) out.new.items ≡ out.old.items) }
 {
-    let version = match groups {
-        Some(_) => b"ROOMCERT 2\nSINGLES ",
-        None => b"ROOMCERT 1\nSINGLES ",
-    };
-    write_number(out, version, singles, b"\nSERIES ")?;
-    write_number(out, b"", series, b"\n")?;
-    if let Some(groups) = groups {
-        write_groups(out, groups)?;
-    }
+    write_head(out, version_line(groups), singles, series)?;
+    write_groups(out, listed(groups))?;
     write_pairs(out, pairs)?;
     out.extend_from_slice(b"DONE\n")?;
+    Ok(())
+}
+
+/// The line that tells the version: the second has groups.
+fn version_line(groups: &Option<Vec<Group>>) -> &'static [u8]
+    ensures { result.now ≡ version_line (groups_said groups.now) }
+{
+    match groups {
+        Some(_) => b"ROOMCERT 2",
+        None => b"ROOMCERT 1",
+    }
+}
+
+/// The groups that there are.
+fn listed(groups: &Option<Vec<Group>>) -> &[Group]
+    ensures { map group_said result.now ≡ unwrap_or (groups_said groups.now) [] }
+{
+    match groups {
+        Some(groups) => groups.as_slice(),
+        None => &[],
+    }
+}
+
+/// Appends the first three lines. After an error `out` may have grown.
+fn write_head(
+    out: &mut Vec<u8>,
+    version: &[u8],
+    singles: u64,
+    series: u64,
+) -> Result<(), AllocError>
+    ensures ok { OnOk result (out.new.items ≡ out.old.items ++ spelled (version.now ∷ (codes "SINGLES " ++ decimal singles) ∷ (codes "SERIES " ++ decimal series) ∷ []) []) }
+    ensures err { OnErr result (take (length out.old.items) out.new.items ≡ out.old.items) }
+{
+    out.extend_from_slice(version)?;
+    write_number(out, b"\nSINGLES ", singles, b"\nSERIES ")?;
+    write_number(out, b"", series, b"\n")?;
     Ok(())
 }
 
@@ -55,10 +84,19 @@ fn write_group(out: &mut Vec<u8>, group: &Group) -> Result<(), AllocError>
     out.extend_from_slice(b"GROUP ")?;
     group.from.write(out)?;
     write_number(out, b" ", group.days, b"")?;
-    for number in &group.members {
+    write_numbers(out, &group.members)?;
+    out.extend_from_slice(b"\n")?;
+    Ok(())
+}
+
+/// Appends numbers, each after a space. After an error `out` may have grown.
+fn write_numbers(out: &mut Vec<u8>, numbers: &[u64]) -> Result<(), AllocError>
+    ensures ok { OnOk result (out.new.items ≡ out.old.items ++ numbers_text numbers.now) }
+    ensures err { OnErr result (take (length out.old.items) out.new.items ≡ out.old.items) }
+{
+    for number in numbers {
         write_number(out, b" ", *number, b"")?;
     }
-    out.extend_from_slice(b"\n")?;
     Ok(())
 }
 

@@ -2,7 +2,7 @@ use Rattle.std.proofs.Common.{◌≡◌, ◌++◌, codes, decimal, subst, sym, r
 use Rattle.profile.specs.checker.Certificates.{Entry, Span, IsEntryText}
 use Rattle.clash_cert.specs.Texts.{entry_said}
 use Rattle.ical_values.proofs.Exits.{any_err}
-use Rattle.clash_cert.proofs.Walking.{keeps_all, keeps_more, keeps_through, span_put}
+use Rattle.clash_cert.proofs.PutLemmas.{keeps_all, keeps_more, keeps_through, span_put}
 use Rattle.clash_cert.proofs.writing.write_entry.Goals as goal
 
 pub returns-in_err-write_number-in-Span-clause-err :

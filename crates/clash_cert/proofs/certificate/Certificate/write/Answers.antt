@@ -1,21 +1,18 @@
-use Rattle.std.proofs.Common.{length, map, subst, sym}
-use Rattle.std.proofs.lemmas.List.{length-map}
-use Rattle.profile.specs.checker.Certificates.{Claims, SpellsCertificate}
+use Rattle.std.proofs.Common.{List, ap, subst, sym, ◌∙◌}
+use Rattle.std.specs.Prelude.{OnOk}
+use Rattle.profile.specs.checker.Certificates.{Claims, IsClaims, SpellsCertificate}
 use Rattle.ical_values.specs.Written.{Appends}
-use Rattle.clash_cert.specs.Texts.{entry_said, rows_said}
-use Rattle.clash_cert.specs.Reading.{SpellsLines}
-use Rattle.clash_cert.proofs.WholeText.{certificate_put, ok_also}
+use Rattle.clash_cert.specs.declared.certificate.Pair.{Pair}
+use Rattle.clash_cert.specs.Texts.{claims_said}
 use Rattle.clash_cert.proofs.certificate.Certificate.write.Goals as goal
+
+pub write_text-written-requires : goal.write_text-written-requires
+write_text-written-requires c =
+    let s = c.self.inside in
+    subst (λ (pairs : List Pair). IsClaims (claims_said s.singles s.series s.groups pairs)) (sym c.deref.ensures.value) c.self.invariant
 
 pub returns-else-is_err-clause-ok : goal.returns-else-is_err-clause-ok
 returns-else-is_err-clause-ok c =
-    let old = c.args.out.now.items in
-    let new = c.write_text-written.new.out.items in
-    let singles = c.self.inside.singles in
-    let rows = c.self.inside.rows.items in
-    ok_also c.write_text-written.result _ _
-    (λ put.
-    subst (λ (claims : Claims). Appends old new (λ text. SpellsCertificate text claims)) c.self.view_is
-    (certificate_put old new singles (length rows) (rows_said rows) (sym (length-map rows (λ row. map entry_said row.items))) c.self.invariant
-    (subst (λ items. Appends old new (SpellsLines singles (rows_said items))) c.deref.ensures.value put)))
-    c.write_text-written.ensures.ok
+    let s = c.self.inside in
+    subst (λ (claims : Claims). OnOk c.write_text-written.result (Appends c.args.out.now.items c.write_text-written.new.out.items (λ text. SpellsCertificate text claims)))
+    (ap (claims_said s.singles s.series s.groups) c.deref.ensures.value ∙ c.self.view_is) c.write_text-written.ensures.ok
