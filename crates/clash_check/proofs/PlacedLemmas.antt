@@ -40,13 +40,18 @@ series_of all (i ∷ numbers) within =
     let (those, are) = series_of all numbers (λ k c. within k (later_in i k numbers c)) in
     (a ∷ those, (at, are))
 
+pub at_place : (all : Confirmed) (numbers : List ℕ) (those : List Event) → AreSeriesAt all numbers those → (i : ℕ) → Contains numbers i → (a : Event) × Contains those a × IsSeriesAt all i a
+at_place all [] those are i c = absurd (none_in i c)
+at_place all (k ∷ numbers) [] are i c = absurd are
+at_place all (k ∷ numbers) (b ∷ those) (here, rest) i (zero, l, e) = (b, first_in b those, subst (λ n. IsSeriesAt all n b) e here)
+at_place all (k ∷ numbers) (b ∷ those) (here, rest) i (suc n, l, e) =
+    let (a, c, at) = at_place all numbers those rest i (n, omega (arith, l), e) in
+    (a, later_in b a those c, at)
+
 pub at_number : (all : Confirmed) (numbers : List ℕ) (those : List Event) → AreSeriesAt all numbers those → (i : ℕ) → Contains numbers i → (a : Event) → IsSeriesAt all i a → Contains those a
-at_number all [] those are i c a at = absurd (none_in i c)
-at_number all (k ∷ numbers) [] are i c a at = absurd are
-at_number all (k ∷ numbers) (b ∷ those) (here, rest) i (zero, l, e) a at =
-    let same : IsSeriesAt all i b = subst (λ n. IsSeriesAt all n b) e here in
-    subst (Contains (b ∷ those)) (one_series all i b a same at) (first_in b those)
-at_number all (k ∷ numbers) (b ∷ those) (here, rest) i (suc n, l, e) a at = later_in b a those (at_number all numbers those rest i (n, omega (arith, l), e) a at)
+at_number all numbers those are i has a at =
+    let (b, c, here) = at_place all numbers those are i has in
+    subst (Contains those) (one_series all i b a here at) c
 
 pub number_of : (all : Confirmed) (numbers : List ℕ) (those : List Event) → AreSeriesAt all numbers those → (a : Event) → Contains those a → (i : ℕ) × Contains numbers i × IsSeriesAt all i a
 number_of all [] [] are a c = absurd (none_in a c)

@@ -1,7 +1,7 @@
 -- The statements of a certificate, judged one after another.
 use Rattle.std.proofs.Common.{◌≡◌, ◌∙◌, ap, sym, refl, subst, arith, ℕ, zero, suc, ◌+◌, ◌<◌, ◌≤◌, List, [], ◌∷◌, ◌++◌, length, map, take, drop, get_or, inl, inr}
-use Rattle.std.specs.Prelude.{All, Option, Some, None}
-use Rattle.std.proofs.lemmas.List.{append-nil, append_assoc, take_all, take_more, take-append-drop, drop_more, map-append}
+use Rattle.std.specs.Prelude.{All, Contains, Option, Some, None}
+use Rattle.std.proofs.lemmas.List.{append_assoc, take_all, take_more, take-append-drop, drop_more, length-map}
 use Rattle.std.proofs.lemmas.List.Elements.{All-nil, All-cons, All-append}
 use Rattle.std.proofs.lemmas.List.Sums.{sum_by-cons, sum_by-append}
 use Rattle.profile.specs.checker.Certificates.{Statement, StatementHolds, StatementFails, IsFirstFailing, IsNamedBy}
@@ -141,3 +141,6 @@ get_or-mapped f (x ∷ xs) (suc k) d e l = get_or-mapped f xs k d e (omega (arit
 
 pub mapped_at : {X Y : Type 0} (f : X → Y) (xs : List X) (k : ℕ) (x : X) → k < length xs → x ≡ get_or xs k x → f x ≡ get_or (map f xs) k (f x)
 mapped_at f xs k x l e = ap f e ∙ sym (get_or-mapped f xs k x (f x) l)
+
+pub mapped_in : {X Y : Type 0} (f : X → Y) (xs : List X) (x : X) → Contains xs x → Contains (map f xs) (f x)
+mapped_in f xs x (k, l, e) = let n = length-map xs f in (k, omega (arith, n, l), get_or-mapped f xs k x (f x) l ∙ ap f e)
