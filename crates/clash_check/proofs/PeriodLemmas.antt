@@ -169,8 +169,8 @@ module _ (all : Confirmed) (numbers : List ℕ) (n : ℕ) (width other m : ℤ) 
       same_int : (a b : ℤ) → a ≤ℤ b → b ≤ℤ a → a ≡ b
       same_int a b l m = omega (arith, ints, l, m)
 
-  pub widest_next : m ≡ int_max other width → IsWidestOf all numbers (n + 1) m
-  widest_next e = elim (max_cases other width m e) [
+  pub widest_next : (v : ℤ) → v ≡ other → m ≡ int_max v width → IsWidestOf all numbers (n + 1) m
+  widest_next v e f = elim (max_cases other width m (f ∙ ap (λ w. int_max w width) e)) [
     | inl (less, same) ↦ subst (IsWidestOf all numbers (n + 1)) (sym same) (by_new less)
     | inr (most, same) ↦ subst (IsWidestOf all numbers (n + 1)) (sym same) (by_old most)
   ]

@@ -7,16 +7,9 @@ use Rattle.profile.specs.checker.Certificates.{IsSeriesAt, AreSeriesAt}
 use Rattle.profile.specs.events.Events.{Event}
 use Rattle.profile.specs.events.Confirmed.{Confirmed}
 use Rattle.clash_check.specs.Draws.{IsPlace}
+use Rattle.clash_check.proofs.SweepLemmas.{series_there}
 
 -- ---- the series at a place
-
-some_at : {X : Type 0} (xs : List X) (k : ℕ) → k < length xs → (x : X) × (slice_get xs k ≡ Some x)
-some_at [] k w = absurd (omega (arith, w))
-some_at (x ∷ xs) zero w = (x, refl)
-some_at (x ∷ xs) (suc k) w = some_at xs k (omega (arith, w))
-
-there : (all : Confirmed) (i : ℕ) → IsPlace (length all.series) i → (a : Event) × IsSeriesAt all i a
-there all i p = let b = p.0 in let c = p.1 in some_at all.series (i - 1) (omega (arith, b, c))
 
 pub one_series : (all : Confirmed) (i : ℕ) (a b : Event) → IsSeriesAt all i a → IsSeriesAt all i b → a ≡ b
 one_series all i a b here there = same_Some a b (sym here ∙ there)
@@ -36,7 +29,7 @@ later_in x y xs (k, l, e) = (suc k, omega (arith, l), e)
 pub series_of : (all : Confirmed) (numbers : List ℕ) → ((i : ℕ) → Contains numbers i → IsPlace (length all.series) i) → (those : List Event) × AreSeriesAt all numbers those
 series_of all [] within = ([], tt)
 series_of all (i ∷ numbers) within =
-    let (a, at) = there all i (within i (first_in i numbers)) in
+    let (a, at) = series_there all i (within i (first_in i numbers)) in
     let (those, are) = series_of all numbers (λ k c. within k (later_in i k numbers c)) in
     (a ∷ those, (at, are))
 
