@@ -191,7 +191,12 @@ widest_all all numbers n width e widest those some are = record { one = one; non
         let (k, l, f) = place_of numbers i has in
         widest.most k (omega (arith, l, e)) a w (subst (λ p. IsSeriesAt all p a) (sym f) at) of
 
--- ---- a span has one bound
+-- ---- the bound of a span
+
+pub bound_of : (those : List Event) (from width bound t w : ℤ) (days : ℕ) → t ≡ from → w ≡ width → IsGreatestWidth those width → bound ≡ span_end t days w → IsBoundOf those from days bound
+bound_of those from width bound t w days e f greatest is = (width, greatest, is ∙ ap (λ x. span_end x days w) e ∙ ap (span_end from days) f)
+
+-- there is one
 
 greatest_is_one : (those : List Event) (v w : ℤ) → IsGreatestWidth those v → IsGreatestWidth those w → v ≡ w
 greatest_is_one those v w first second =

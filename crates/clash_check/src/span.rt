@@ -65,7 +65,7 @@ fn is_multiple(days: u64, period: u64) -> bool
 
 /// The greatest width of these series, of which there is one at least: in seconds.
 pub(crate) fn greatest_width<D: Drawn>(drawn: &D, numbers: &[u64]) -> i64
-    requires places { (i : ℕ) → Contains numbers.now i → IsPlace (length (D.calendar drawn.now).series) i }
+    requires { (i : ℕ) → Contains numbers.now i → IsPlace (length (D.calendar drawn.now).series) i }
     ensures is { (all : List Event) → 0 < length numbers.now → AreSeriesAt (D.calendar drawn.now) numbers.now all → IsGreatestWidth all result }
     ensures range { (pos 0 ≤ℤ result) × (result <ℤ pos (2 ^ 50)) }
 {

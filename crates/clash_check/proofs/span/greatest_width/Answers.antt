@@ -4,7 +4,7 @@ use Rattle.clash_check.proofs.PeriodLemmas.{IsWidestOf, widest_next, widest_all}
 use Rattle.clash_check.proofs.span.greatest_width.Goals as goal
 
 pub width-requires : goal.width-requires
-width-requires g c = c.requires.places _ (Contains-get_or c.args.numbers.now c.loop-number.number-index 0 c.loop-number-test.true)
+width-requires g c = c.requires _ (Contains-get_or c.args.numbers.now c.loop-number.number-index 0 c.loop-number-test.true)
 
 pub loop-number-preserved : goal.loop-number-preserved
 loop-number-preserved g c =
