@@ -1,13 +1,13 @@
 -- The statements of a certificate, judged one after another.
-use Rattle.std.proofs.Common.{◌≡◌, ◌∙◌, ap, sym, refl, subst, arith, ℕ, zero, suc, ◌+◌, ◌<◌, ◌≤◌, List, [], ◌∷◌, ◌++◌, length, map, take, drop, get_or, inl, inr}
-use Rattle.std.specs.Prelude.{All, Contains, Option, Some, None}
+use Rattle.std.proofs.Common.{◌≡◌, ◌∙◌, ap, sym, refl, subst, arith, ℕ, zero, suc, ◌+◌, ◌<◌, ◌≤◌, List, [], ◌∷◌, ◌++◌, length, map, take, drop, get_or, inl, inr, true, false, Bool}
+use Rattle.std.specs.Prelude.{All, Contains, MatchBool, Option, Some, None}
 use Rattle.std.proofs.lemmas.List.{append_assoc, take_all, take_more, take-append-drop, drop_more, length-map}
-use Rattle.std.proofs.lemmas.List.Elements.{All-nil, All-cons, All-append}
+use Rattle.std.proofs.lemmas.List.Elements.{All-nil, All-cons, All-append, All-weaker}
 use Rattle.std.proofs.lemmas.List.Sums.{sum_by-cons, sum_by-append}
-use Rattle.profile.specs.checker.Certificates.{Statement, StatementHolds, StatementFails, IsFirstFailing, IsNamedBy}
+use Rattle.profile.specs.checker.Certificates.{Claims, Group, Pair, Statement, OfGroup, OfPair, IsClaims, IsApart, IsPair, groups_of, statements, StatementHolds, StatementFails, IsFirstFailing, IsNamedBy}
 use Rattle.profile.specs.events.Confirmed.{Confirmed}
 use Rattle.clash_check.specs.Counted.{IsStatementCount, AreCounts, total}
-use Rattle.clash_check.specs.Entries.{IsMore, HasCompared, FailsDrawn, AllHold, OneFails, AreJudged}
+use Rattle.clash_check.specs.Entries.{IsMore, HasCompared, FailsDrawn, IsStatementDrawn, AllHold, OneFails, AreJudged, ArePairOf}
 use Rattle.clash_check.proofs.PlacedLemmas.{zip_split}
 
 -- ---- how many
@@ -132,6 +132,19 @@ module _ (all : Confirmed) (those : List Statement) (k : ℕ) (calendar : Confir
     drawn = λ counts most are counted. fails_then (HasCompared all one) old mid new (total counts) most (at.so_far.drawn counts are) (drawn most counted);
   }
 
+  -- by a judgement of it
+  module _ (r : Bool) (judged : MatchBool r (StatementHolds calendar one) (StatementFails calendar one)) (drawn : (n : ℕ) → IsStatementCount calendar one n → IsStatementDrawn calendar one r mid new n) where
+    pub judged_next : r ≡ true → (calendar' : Confirmed) → calendar' ≡ calendar → AreHeldTo all those (k + 1) calendar' old new
+    judged_next e calendar' same =
+        held_next calendar' same (subst (λ x. StatementHolds x one) at.same (subst (λ b. MatchBool b (StatementHolds calendar one) (StatementFails calendar one)) e judged))
+        (subst (λ x. (n : ℕ) → IsStatementCount x one n → IsMore mid new n) at.same (subst (λ b. (n : ℕ) → IsStatementCount calendar one n → IsStatementDrawn calendar one b mid new n) e drawn))
+
+    pub judged_failing : r ≡ false → (i j : ℕ) → IsNamedBy one i j → OneFails all those i j old new
+    judged_failing e i j named =
+        held_failing (subst (λ x. StatementFails x one) at.same (subst (λ b. MatchBool b (StatementHolds calendar one) (StatementFails calendar one)) e judged)) i j named
+        (subst (λ x. (n : ℕ) → IsStatementCount x one n → FailsDrawn (HasCompared x one) mid new n) at.same
+        (subst (λ b. (n : ℕ) → IsStatementCount calendar one n → IsStatementDrawn calendar one b mid new n) e drawn))
+
 -- ---- of what is mapped
 
 get_or-mapped : {X Y : Type 0} (f : X → Y) (xs : List X) (k : ℕ) (d : X) (e : Y) → k < length xs → get_or (map f xs) k e ≡ f (get_or xs k d)
@@ -144,3 +157,30 @@ mapped_at f xs k x l e = ap f e ∙ sym (get_or-mapped f xs k x (f x) l)
 
 pub mapped_in : {X Y : Type 0} (f : X → Y) (xs : List X) (x : X) → Contains xs x → Contains (map f xs) (f x)
 mapped_in f xs x (k, l, e) = let n = length-map xs f in (k, omega (arith, n, l), get_or-mapped f xs k x (f x) l ∙ ap f e)
+
+-- the statement of an element of a list
+module _ {X Y : Type 0} (say : X → Y) (state : Y → Statement) (xs : List X) (k : ℕ) (x : X) (l : k < length xs) (is : x ≡ get_or xs k x) where
+  pub stated_within : k < length (map state (map say xs))
+  stated_within = let m = length-map xs say in let n = length-map (map say xs) state in omega (arith, l, m, n)
+
+  pub stated_at : state (say x) ≡ get_or (map state (map say xs)) k (state (say x))
+  stated_at = mapped_at state (map say xs) k (say x) (let m = length-map xs say in omega (arith, l, m)) (mapped_at say xs k x l is)
+
+  pub said_in : Contains (map say xs) (say x)
+  said_in = mapped_in say xs x (k, l, sym is)
+
+-- ---- groups, and then pairs
+
+pub pairs_of : (all : Confirmed) (c : Claims) → IsClaims c → c.series ≡ length all.series → All (ArePairOf (length all.series)) c.pairs
+pairs_of all c claims counts =
+    All-weaker (IsApart c.series (groups_of c)) (ArePairOf (length all.series)) (λ p apart. (subst (λ n. IsPair n p.first p.second) counts apart.pair, apart.entry)) c.pairs claims.pairs
+
+pub group_fails : (all : Confirmed) (c : Claims) (groups : List Group) → groups ≡ groups_of c → (i j old new : ℕ) → OneFails all (map OfGroup groups) i j old new → OneFails all (statements c) i j old new
+group_fails all c groups are i j old new f =
+    one_fails_before all (map OfGroup (groups_of c)) (map OfPair c.pairs) i j old new (subst (λ l. OneFails all (map OfGroup l) i j old new) are f)
+
+pub all_judged : (all calendar : Confirmed) (c : Claims) (groups : List Group) (pairs : List Pair) → groups ≡ groups_of c → pairs ≡ c.pairs → calendar ≡ all → (old mid new : ℕ)
+    → AllHold all (map OfGroup groups) old mid → (found : Option (ℕ × ℕ)) → AreJudged calendar (map OfPair pairs) found mid new → AreJudged all (statements c) found old new
+all_judged all calendar c groups pairs are too same old mid new first found judged =
+    judged_then all (map OfGroup (groups_of c)) old mid (subst (λ l. AllHold all (map OfGroup l) old mid) are first) (map OfPair c.pairs) found new
+    (subst (λ (x : Confirmed). AreJudged x (map OfPair c.pairs) found mid new) same (subst (λ l. AreJudged calendar (map OfPair l) found mid new) too judged))

@@ -1,6 +1,6 @@
 //! The statements of a certificate in the order of its text, each judged by what is drawn of its series, or by their residues.
 ghost use Rattle.std.specs.Prelude.{◌≡◌, length, map, All, IfOk};
-ghost use Rattle.profile.specs.checker.Certificates.{OfGroup, OfPair, IsGroup, statements};
+ghost use Rattle.profile.specs.checker.Certificates.{OfGroup, OfPair, IsClaims, IsGroup, statements};
 ghost use Rattle.clash_cert.specs.Texts.{group_said, pair_said};
 ghost use Rattle.clash_check.specs.Entries.{AreJudged, ArePairOf};
 
@@ -17,7 +17,8 @@ pub(crate) fn first_failing<D: Drawn>(
     drawn: &mut D,
     certificate: &Certificate,
 ) -> Result<Option<(u64, u64)>, AllocError>
-    requires { certificate.now.series ≡ length (D.calendar drawn.old).series }
+    requires claims { IsClaims certificate.now }
+    requires counts { certificate.now.series ≡ length (D.calendar drawn.old).series }
     ensures calendar { D.calendar drawn.new ≡ D.calendar drawn.old }
     ensures judged { IfOk result (λ found. AreJudged (D.calendar drawn.old) (statements certificate.now) found (D.count drawn.old) (D.count drawn.new)) }
 {
