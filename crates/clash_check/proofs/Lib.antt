@@ -11,3 +11,5 @@ pub mod SpanLemmas
 pub mod VerdictLemmas
 pub mod ClashLemmas
 pub mod FreeLemmas
+pub mod ComingLemmas
+pub mod GroupSweepLemmas
