@@ -628,6 +628,7 @@ def main():
         line(work, 1, seconds, f"{size / seconds / 1e6:.0f} MB/s", peak)
     # their own modules use this one
     from boxes import boxes
+    from groups import groups
     from hostile import hostile_sizes
     from residues import residues
     from schedules import schedules
@@ -635,6 +636,7 @@ def main():
 
     spans(program, sys.argv[3])
     residues(program)
+    groups(program)
     schedules(sys.argv[4])
     boxes(program)
     hostile_sizes(program, "--large" in sys.argv)

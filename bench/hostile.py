@@ -232,6 +232,20 @@ def greatest_series(count):
     return judged([EMPTY], certificate, 1, rb"^no 81 %d\n$" % (count + 4))
 
 
+def greatest_group(count):
+    """A certificate of one group of so many series, which the calendar doesn't have."""
+    numbers = (b" %d" % number for number in range(1, count + 1))
+    certificate = itertools.chain([b"ROOMCERT 2\nSINGLES 0\nSERIES %d\nGROUP 20250101T000000Z 7" % count], numbers, [b"\nDONE\n"])
+    return judged([EMPTY], certificate, 1, rb"^no 82\n$")
+
+
+def most_groups(count):
+    """A certificate of so many groups of two, each with a series of the first half and one of the second, and without the line of the first pair."""
+    groups = (b"GROUP 20250101T000000Z 7 %d %d\n" % (number, count + number) for number in range(1, count + 1))
+    certificate = itertools.chain([b"ROOMCERT 2\nSINGLES 0\nSERIES %d\n" % (2 * count)], groups, [b"DONE\n"])
+    return judged([EMPTY], certificate, 1, rb"^no 81 %d\n$" % (count + 4))
+
+
 # ---- streams and files
 
 
@@ -266,6 +280,8 @@ def rows(program, is_large):
     yield "their certificate checked", 20, 64, lambda count: judged_room(program, count), empty, pairs, False
     yield "singles beside 64 series", 1_000, 10_000, full_room, nothing, 10, False
     yield "pairs of a certificate of 2^64 - 1 series", 100_000, 1_000_000, greatest_series, empty, 10, False
+    yield "series of one group of a certificate", 100_000, 1_000_000, greatest_group, empty, 10, False
+    yield "groups of a certificate", 100_000, 1_000_000, most_groups, empty, 10, False
     large = 1 << 30 if is_large else 10_000_000
     count = large // len(SMALLEST) // 100_000 * 100_000 - (100_000 if is_large else 0)
     yield "the smallest objects", count // 10, count, objects, nothing, 10, False

@@ -8,8 +8,8 @@
     python3 tests/certificate_by_dateutil.py --judged CALENDAR CERTIFICATE
 
 The first fills rooms with random series and singles, and compares the kept certificate with that of the kept calendar; the checker has to say yes to it.
-The second makes random calendars, some of which clash, and certificates by strangers, whose entries say RES of any number, SPAN and END; the checker has to
-say of each what is said here, and with worked_examples to make as many instances, or fewer beside singles. The third does for the streams in examples/
+The second makes random calendars, some of which clash, and certificates by strangers, whose entries say RES of any number, SPAN and END, and some of which
+have groups; the checker has to say of each what is said here, and with worked_examples to make as many instances, or fewer beside singles. The third does for the streams in examples/
 what the first does for random rooms.
 
 The others print: the certificate of a calendar, by which the files `certificate-NAME` of worked_examples were made of `calendar-NAME`; the residues of its
@@ -440,21 +440,37 @@ class Calendar:
         m = lcm(a.event.stride(), b.event.stride()) * DAY
         if self.settled(i, j, m):
             return f"RES {m}"
-        periods = a.event.period(), b.event.period()
-        days = lcm(*periods) if None not in periods else None
-        if days is None or days > MOST:
-            return "END"
-        day = -(-max(a.past(), b.past()) // DAY)
-        bound = (day + days) * DAY + max(a.event.width(), b.event.width())
-        return f"SPAN {stamp(day * DAY)} {days}" if bound < HORIZON else "END"
+        span = self.span((i, j))
+        return f"SPAN {stamp(span[0])} {span[1]}" if span else "END"
 
     def pairs(self):
         return [(i, j) for i in range(len(self.series)) for j in range(i, len(self.series))]
 
-    def certificate(self, entry=None):
-        """The text that is made, or the one of other entries: what `entry` says of a pair."""
-        entries = [f"PAIR {i + 1} {j + 1} {(entry or self.entry)(i, j)}" for i, j in self.pairs()]
-        return "\n".join(["ROOMCERT 1", f"SINGLES {len(self.singles)}", f"SERIES {len(self.series)}", *entries, "DONE", ""])
+    def certificate(self, entry=None, groups=None):
+        """The text that is made, or the one of other entries: what `entry` says of a pair. With groups, each an instant, days and numbers from 0, it is of
+        version 2."""
+        together = [{*numbers} for _, _, numbers in groups or []]
+        entries = [f"PAIR {i + 1} {j + 1} {(entry or self.entry)(i, j)}" for i, j in self.pairs() if not any({i, j} <= it for it in together)]
+        lines = [f"GROUP {stamp(start)} {days} {' '.join(str(it + 1) for it in numbers)}" for start, days, numbers in groups or []]
+        version = 1 if groups is None else 2
+        return "\n".join([f"ROOMCERT {version}", f"SINGLES {len(self.singles)}", f"SERIES {len(self.series)}", *lines, *entries, "DONE", ""])
+
+    def span(self, numbers):
+        """From which midnight on, and after how many days, these series do the same, and where that is settled; None where it isn't before year 10000."""
+        events = [self.series[it].event for it in numbers]
+        periods = [it.period() for it in events]
+        days = lcm(*periods) if None not in periods else None
+        if days is None or days > MOST:
+            return None
+        day = -(-max(self.series[it].past() for it in numbers) // DAY)
+        bound = (day + days) * DAY + max(it.width() for it in events)
+        return (day * DAY, days) if bound < HORIZON else None
+
+    def written(self):
+        """The text that a room writes: one group of all series that have SPAN, where their common span is short enough, else the one that is made."""
+        numbers = sorted({it for pair in self.pairs() if self.entry(*pair).startswith("SPAN") for it in pair})
+        span = self.span(numbers) if len(numbers) > 1 else None
+        return self.certificate(groups=[(*span, numbers)] if span else None)
 
     def most_beside(self):
         """How many instances are drawn for the singles at the most: each itself, and of each series those that start less than its width before it ends."""
@@ -472,17 +488,23 @@ class Calendar:
     def spans_below(self, i, bound):
         return ((start, self.series[i].event.end(start)) for start in self.series[i].starts(bound))
 
+    def bound(self, numbers, start, days):
+        """Up to where a span has these series compared; None where it is none of theirs."""
+        events = [self.series[it].event for it in numbers]
+        periods = [it.period() for it in events]
+        if not 1 <= days <= MOST or None in periods or days % lcm(*periods) or start < max(self.series[it].past() for it in numbers):
+            return None
+        return start + days * DAY + max(it.width() for it in events)
+
     def fails(self, i, j, entry):
         """Whether the entry of a pair doesn't hold, and how many instances are drawn for that, start by start."""
         words, bound = entry.split(), HORIZON
         if words[0] == "RES":
             return not self.settled(i, j, int(words[1])), 0
         if words[0] == "SPAN":
-            start, days, a, b = moment(words[1]), int(words[2]), self.series[i], self.series[j]
-            periods = a.event.period(), b.event.period()
-            if not 1 <= days <= MOST or None in periods or days % lcm(*periods) or start < max(a.past(), b.past()):
+            bound = self.bound((i, j), moment(words[1]), int(words[2]))
+            if bound is None:
                 return True, 0
-            bound = start + days * DAY + max(a.event.width(), b.event.width())
         walks = [Walk(self.spans_below(it, bound)) for it in dict.fromkeys((i, j))]
         while any(walk.next for walk in walks):
             walk = min((it for it in walks if it.next), key=lambda it: it.next[0])
@@ -491,6 +513,20 @@ class Calendar:
                 return True, sum(it.drawn for it in walks)
             walk.go()
         return False, sum(it.drawn for it in walks)
+
+    def group_fails(self, start, days, numbers):
+        """Whether a group doesn't hold, and how many instances are drawn for that at the most: all that start before the later of two that share an instant,
+        and the next one of each series."""
+        bound = self.bound(numbers, start, days)
+        if bound is None:
+            return True, 0
+        spans = sorted((*span, it) for it in numbers for span in self.spans_below(it, bound))
+        last = None
+        for place, (begun, end, _) in enumerate(spans):
+            if last is not None and begun < end and begun < last:
+                return True, place + sum(1 for it in numbers if any(later[2] == it for later in spans[place:]))
+            last = max(end, last) if last is not None else end
+        return False, len(spans)
 
     def clashes_with_singles(self):
         """Whether a single clashes, and how many instances are drawn for that: first each single, then of each series those beside the singles that it reaches."""
@@ -516,12 +552,19 @@ class Calendar:
     def judged(self, text):
         """What the checker says of a certificate's text, which is one, with this calendar's counts: yes, or no with its number and pair. And how many instances
         it makes: exactly, and the most that it may where there are singles."""
-        entries, drawn = iter(text.splitlines()[3:-1]), 0
-        for i, j in self.pairs():
-            failed, more = self.fails(i, j, next(entries).split(" ", 3)[3])
+        drawn = 0
+        for line in text.splitlines()[3:-1]:
+            words = line.split()
+            if words[0] == "GROUP":
+                numbers = [int(it) - 1 for it in words[3:]]
+                failed, more = self.group_fails(moment(words[1]), int(words[2]), numbers)
+                named = numbers[:2]
+            else:
+                named = [int(it) - 1 for it in words[1:3]]
+                failed, more = self.fails(*named, line.split(" ", 3)[3])
             drawn += more
             if failed:
-                return f"no 83 {i + 1} {j + 1}", drawn, drawn
+                return f"no 83 {named[0] + 1} {named[1] + 1}", drawn, drawn
         failed, more = self.clashes_with_singles()
         return "no 84 0 0" if failed else "yes", drawn + more, drawn + self.most_beside()
 
@@ -633,16 +676,16 @@ def kept(program, stream, *words):
 
 
 def compared(program, stream):
-    """The kept certificate is that of the kept calendar, and the checker says yes. Its entries, or None where it differs."""
+    """The kept certificate is that of the kept calendar, and the checker says yes. The words of its lines, or None where it differs."""
     text, found = kept(program, stream), kept(program, stream, "--certificate")
-    wanted = Calendar(text, ROOM).certificate()
+    wanted = Calendar(text, ROOM).written()
     with tempfile.TemporaryDirectory() as folder:
         paths = [Path(folder, name) for name in ("r1.ics", "r1.cert")]
         for path, octets in zip(paths, (text, found)):
             path.write_text(octets, newline="")
         answer = subprocess.run([program, "check", *paths, ROOM], capture_output=True, timeout=600).stdout
     if found == wanted and answer == b"yes\n":
-        return [it.split(" ")[3] for it in found.splitlines() if it.startswith("PAIR")]
+        return [it.split(" ")[0 if it.startswith("GROUP") else 3] for it in found.splitlines() if it.startswith(("GROUP", "PAIR"))]
     print(f"different: {answer!r}\n{text}\n{found}\n{wanted}")
     return None
 
@@ -655,7 +698,7 @@ def rooms(program, count, seed):
         found = compared(program, f"{NOW}room {ROOM}\n\n" + "".join(messages))
         different += found is None
         entries += found or []
-    print(f"{count} rooms, {different} different; of the entries {', '.join(f'{entries.count(it)} say {it}' for it in ('RES', 'SPAN', 'END'))}")
+    print(f"{count} rooms, {different} different; of the lines {', '.join(f'{entries.count(it)} say {it}' for it in ('GROUP', 'RES', 'SPAN', 'END'))}")
     return different
 
 
@@ -691,6 +734,22 @@ def strange(chance, calendar, i, j, made_ones):
     return f"SPAN 20250107T000000Z {days}"
 
 
+def strange_groups(chance, calendar):
+    """Groups that a stranger may write: by the span that is common to some series, or by other numbers. None in version 1."""
+    numbers = [*range(len(calendar.series))]
+    if len(numbers) < 2 or chance.random() < 0.4:
+        return chance.choice([None, None, []])
+    chance.shuffle(numbers)
+    cut = chance.randint(2, len(numbers))
+    groups = [sorted(it) for it in (numbers[:cut], numbers[cut:]) if len(it) > 1]
+    found = []
+    for group in sorted(groups):
+        start, days = calendar.span(group) or (86_400 * chance.randint(20_000, 20_500), 7 * chance.randint(1, 60))
+        days *= chance.choice([1, 1, 1, 2]) if days < MOST // 2 else 1
+        found.append((start + chance.choice([0, 0, 0, DAY, -DAY]), days + chance.choice([0, 0, 0, 0, 1]), group))
+    return found
+
+
 def said_by(program, calendar, certificate):
     """What the program says of a certificate, in the words of here."""
     with tempfile.TemporaryDirectory() as folder:
@@ -718,7 +777,7 @@ def strangers(program, count, seed, worked=None):
         text = calendar_text(chance)
         calendar = Calendar(text, ROOM)
         made_ones = chance.choice([1, 0.8])
-        certificate = calendar.certificate(lambda i, j: strange(chance, calendar, i, j, made_ones))
+        certificate = calendar.certificate(lambda i, j: strange(chance, calendar, i, j, made_ones), strange_groups(chance, calendar))
         verdict, _, most = calendar.judged(certificate)
         verdicts.append(verdict[:5])
         said, made = counted_by(worked, text, certificate) if worked else (said_by(program, text, certificate), most)
@@ -749,7 +808,7 @@ def printed(mode, path, *rest):
     """What is asked of one calendar."""
     calendar = Calendar(read(path), rest[0] if mode == "--of" and rest else ROOM)
     if mode == "--of":
-        return calendar.certificate()
+        return calendar.written()
     if mode == "--residues":
         return f"{calendar.series[0].event.residues(int(rest[0]))}\n"
     verdict, made, most = calendar.judged(read(rest[0]))

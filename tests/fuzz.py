@@ -123,6 +123,9 @@ X-ROOM-ZONE:noon
 X-A;B="c:d":
 :
 ROOMCERT 1
+ROOMCERT 2
+GROUP 20250101T000000Z 7 1 2
+GROUP 99991231T235959Z 2932897 1 2 3 64
 SINGLES 1
 SERIES 1
 SERIES 18446744073709551615
@@ -383,8 +386,12 @@ def check_case(spoiler):
     files = {"calendar": spoiler.spoiled("calendar", both), "certificate": spoiler.spoiled("certificate", spoiler.chance.choice((0, 0, 1, 3)))}
     if spoiler.chance.random() < 0.5:
         counts = [spoiler.chance.randrange(4), spoiler.chance.choice((0, 0, 1, 2))]
-        files["certificate"] = b"ROOMCERT 1\nSINGLES %d\nSERIES %d\n" % (*counts,) + b"".join(
-            b"PAIR %d %d END\n" % (i, j) for i in range(1, counts[1] + 1) for j in range(i, counts[1] + 1)) + b"DONE\n"
+        if counts[1] == 2 and spoiler.chance.random() < 0.5:
+            days = spoiler.chance.choice((7, 146097, spoiler.chance.randrange(3_000_000)))
+            files["certificate"] = b"ROOMCERT 2\nSINGLES %d\nSERIES 2\nGROUP 20300101T000000Z %d 1 2\nDONE\n" % (counts[0], days)
+        else:
+            files["certificate"] = b"ROOMCERT 1\nSINGLES %d\nSERIES %d\n" % (*counts,) + b"".join(
+                b"PAIR %d %d END\n" % (i, j) for i in range(1, counts[1] + 1) for j in range(i, counts[1] + 1)) + b"DONE\n"
     return Case(["check", "calendar", "certificate", ROOM], files=files)
 
 

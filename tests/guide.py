@@ -556,8 +556,11 @@ def kept_series(cases, program):
     certified("so is an instance with a VEVENT of its own", one.replace("SINGLES 0", "SINGLES 1"), recurring(), moved)
     # the last start is on the 12th, also where it is excepted
     excepted = recurring(lines=("EXDATE:20250310T090000Z,20250311T090000Z,20250312T090000Z",))
-    certified("two series that residues don't settle", beside.replace("1 2 RES 86400", "1 2 SPAN 20250313T000000Z 1"), recurring(), before)
-    certified("one all of whose starts are excepted", beside.replace("1 2 RES 86400", "1 2 SPAN 20250313T000000Z 1"), excepted, before)
+    group = "ROOMCERT 2\nSINGLES 0\nSERIES 2\nGROUP 20250313T000000Z 1 1 2\nDONE\n"
+    certified("two series that residues don't settle are a group", group, recurring(), before)
+    certified("one all of whose starts are excepted", group, excepted, before)
+    certified("a third at an hour of its own is beside the group", group.replace("SERIES 2", "SERIES 3").replace("DONE", "PAIR 1 3 RES 86400\nPAIR 2 3 RES 86400\nPAIR 3 3 RES 86400\nDONE"),
+              recurring(), before, recurring("u", start="20250310T110000Z", rule="FREQ=DAILY"))
     certified("two that no number of days settles", beside.replace("1 2 RES 86400", "1 2 END"), recurring(rule="FREQ=YEARLY;INTERVAL=21"), before)
     certified("a series all of whose starts are excepted", one, excepted)
 
@@ -573,6 +576,13 @@ def kept_series(cases, program):
         cases.holds(f"a RES of {what}", judged(one.replace("86400", str(seconds)), recurring()), "no 83 1 1\n")
     cases.holds("a RES whose arcs meet", judged(beside, recurring(), before), "no 83 1 2\n")
     cases.holds("a SPAN instead of it", judged(beside.replace("RES 86400", "SPAN 20250313T000000Z 1"), recurring(), before), "yes\n")
+    cases.holds("a line for each of them", judged(beside.replace("1 2 RES 86400", "1 2 SPAN 20250313T000000Z 1"), recurring(), before), "yes\n")
+    cases.holds("a group instead of that", judged(group, recurring(), before), "yes\n")
+    cases.holds("a group of them from the last start on", judged(group.replace("20250313T000000Z", "20250312T090000Z"), recurring(), before), "no 83 1 2\n")
+    cases.holds("a group of no days", judged(group.replace("Z 1 ", "Z 0 "), recurring(), before), "no 83 1 2\n")
+    cases.holds("a group in version 1", judged(group.replace("ROOMCERT 2", "ROOMCERT 1"), recurring(), before), "no 81 4\n")
+    cases.holds("a group and a line of its pair", judged(group.replace("DONE", "PAIR 1 1 RES 86400\nDONE"), recurring(), before), "no 81 5\n")
+    cases.holds("version 2 without a group", judged(beside.replace("ROOMCERT 1", "ROOMCERT 2").replace("1 2 RES 86400", "1 2 SPAN 20250313T000000Z 1"), recurring(), before), "yes\n")
 
 
 def numbers_of_guide():

@@ -11,6 +11,7 @@ pub mod Multiples
 pub mod SaidSeries
 pub mod SeriesLaw
 pub mod Settling
+pub mod Widths
 pub mod Spanning
 pub mod Members
 pub mod OnsetTheorem

@@ -8,7 +8,7 @@ use Rattle.std.specs.Prelude.{◌↔◌, Some}
 use Rattle.profile.specs.series.Days.{Frequency, Daily, Weekly, Monthly, Yearly}
 use Rattle.profile.specs.series.Rules.{Pattern, Rule}
 use Rattle.profile.specs.series.Zones.{Zone, Constant, Single, Pair}
-use Rattle.profile.specs.series.Periods.{IsMultiple, IsInStep, IsShift, IsPeriod, HasNoPeriod, most_period}
+use Rattle.profile.specs.series.Periods.{IsMultiple, IsLeastMultiple, IsInStep, IsShift, IsPeriod, HasNoPeriod, most_period}
 use Rattle.profile.specs.events.ZonedTimes.{clock_of}
 use Rattle.profile.specs.events.EventComponents.{EventComponent}
 use Rattle.profile.specs.events.Events.{Event}
@@ -75,6 +75,23 @@ module _ (P : ℕ → Type 0) (closed : AreClosed P) (d : ℕ) (some : 0 < d) (i
     λ p. (n / d, (let e = div-add-mod' n d in let r = no_rest n p in omega (arith, e, r))),
     λ (k, e). subst P (sym e) (times k),
   )
+
+-- the least multiple of two numbers divides each
+pub common_multiples : (a b m n : ℕ) → IsLeastMultiple a b m → (IsMultiple n a × IsMultiple n b) ↔ IsMultiple n m
+common_multiples a b m n is =
+    multiples (λ k. IsMultiple k a × IsMultiple k b) both m is.some (is.of_first, is.of_second) (λ k some (p, q). is.least k some p q) n
+  where
+    both : AreClosed (λ k. IsMultiple k a × IsMultiple k b)
+    both = record {
+      none = (none_multiple a, none_multiple b);
+      sum = λ k l (p, q) (r, s). (sum_multiple k l a p r, sum_multiple k l b q s);
+      left = λ k l (p, q) (r, s) _. (left_multiple k l a p r, left_multiple k l b q s);
+    }
+
+-- a multiple isn't less
+pub least_multiple : (n d : ℕ) → 0 < n → IsMultiple n d → d ≤ n
+least_multiple n d some (zero, e) = let z : 0 * d ≡ 0 = omega arith in absurd (omega (arith, some, e, z))
+least_multiple n d some (suc k, e) = let f : suc k * d ≡ d + k * d = omega arith in omega (arith, e, f)
 
 -- ---- rules
 

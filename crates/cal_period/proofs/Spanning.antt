@@ -1,23 +1,19 @@
--- The span of two series is made of the least instants and numbers of days.
-use Rattle.std.proofs.Common.{◌≡◌, ◌∙◌, refl, sym, subst, ap, inl, inr, arith, ℕ, ◌+◌, ◌*◌, ◌/◌, unsigned_abs, ℤ, pos, ◌≤ℤ◌, ◌<ℤ◌}
-use Rattle.std.proofs.lemmas.Int.{ints}
-use Rattle.std.proofs.lemmas.Option.{same_Some}
-use Rattle.std.specs.Prelude.{false, Option, Some, None, IfSome, int_le}
+-- The span of series is made of the least instants and numbers of days.
+use Rattle.std.proofs.Common.{◌≡◌, ◌∙◌, refl, sym, subst, inl, inr, ◌⊎◌, arith, ℕ, zero, suc, ◌+◌, ◌*◌, ◌/◌, ◌<◌, ◌≤◌, unsigned_abs, List, [], ◌∷◌, ◌++◌, ℤ, pos, ◌≤ℤ◌, ◌<ℤ◌}
+use Rattle.std.proofs.lemmas.Int.{ints, by_lt_z}
+use Rattle.std.proofs.lemmas.List.Elements.{Contains-append_left, Contains-append_cases, Contains-push}
+use Rattle.std.specs.Prelude.{false, Option, Some, None, Contains, IfSome, int_le}
 use Rattle.std.specs.Int.{int_max}
 use Rattle.profile.specs.checker.Instances.{horizon}
 use Rattle.profile.specs.checker.Certificates.{IsLeastSpan}
-use Rattle.profile.specs.series.Zones.{Zone, IsBounds}
-use Rattle.profile.specs.events.ZonedTimes.{EventTimes, clock_of}
-use Rattle.profile.specs.events.EventComponents.{EventComponent}
+use Rattle.profile.specs.series.Periods.{HasNoMultiple, IsLeastMultiple, IsMultiple, most_period}
 use Rattle.profile.specs.events.Events.{Event}
-use Rattle.profile.specs.events.Spans.{IsHalfDayPast, IsPastAll, IsLeastPast, IsPeriodOf, IsWidthOf, IsBoundOf, greater, span_end}
-use Rattle.profile.specs.events.Starts.{IsWidth}
-use Rattle.cal_period.specs.Recurring.{HasNoCommon, IsLeastCommon}
-use Rattle.cal_period.specs.Spanning.{HasNoSpan, IsNextMidnight}
-use Rattle.cal_period.proofs.Entries.{no_less}
-
-int_same : {a b : ℤ} → a ≤ℤ b → b ≤ℤ a → a ≡ b
-int_same {a} {b} l m = omega (arith, ints, l, m)
+use Rattle.profile.specs.events.Spans.{HasNoPeriodOf, IsBoundOf, IsGreatestWidth, IsHalfDayPast, IsLeastPast, IsLeastPeriodOf, IsPastAll, IsPeriodOf, IsWidthOf, span_end}
+use Rattle.cal_events.proofs.shared_lemmas.InOneOrder.{first_or_later, none_in}
+use Rattle.cal_period.specs.Spanning.{HasNoPeriodInCommon, HasNoSpan, HaveInCommon, IsCommonPeriod, IsNextMidnight, IsPastEach}
+use Rattle.cal_period.specs.declared.common.Common.{Common}
+use Rattle.cal_period.proofs.Multiples.{common_multiples, least_multiple, series_multiples}
+use Rattle.cal_period.proofs.Widths.{greatest_is_one, some_greatest, width_is_one}
 
 -- ---- a later instant is past all too
 
@@ -35,117 +31,165 @@ later_past a p q l is = record {
   last = λ r e ends t s m. let k = is.last r e ends t s m in omega (arith, ints, k, l);
 }
 
--- ---- a series has one width
+-- the greater of two numbers is one of them
+int_max_is : (x y : ℤ) → (int_max x y ≡ x) ⊎ (int_max x y ≡ y)
+int_max_is x y = by_lt_z x y (λ less. inr (grind (arith, ints, less))) (λ most. inl (grind (arith, ints, most)))
 
-least_offset : (z : Zone) (l g m h : ℤ) → IsBounds z l g → IsBounds z m h → m ≤ℤ l
-least_offset z l g m h b c =
-    let r = b.reaches_least in
-    let o = c.ordered in
-    elim (c.one r.0 l r.1) [ inl e ↦ omega (arith, ints, e) | inr e ↦ omega (arith, ints, e, o) ]
-
-greatest_offset : (z : Zone) (l g m h : ℤ) → IsBounds z l g → IsBounds z m h → g ≤ℤ h
-greatest_offset z l g m h b c =
-    let r = b.reaches_greatest in
-    let o = c.ordered in
-    elim (c.one r.0 g r.1) [ inl e ↦ omega (arith, ints, e, o) | inr e ↦ omega (arith, ints, e) ]
-
-one_width : (times : EventTimes) (v w : ℤ) → IsWidth times v → IsWidth times w → v ≡ w
-one_width times v w (inl (none, e)) (inl (zero, f)) = e ∙ sym f
-one_width times v w (inl (none, e)) (inr (some, x)) = absurd (omega (arith, none, some))
-one_width times v w (inr (some, x)) (inl (none, e)) = absurd (omega (arith, none, some))
-one_width times v w (inr (some, (l, g, b, e))) (inr (more, (m, h, c, f))) =
-    let z = clock_of times.zone in
-    let p = least_offset z l g m h b c in
-    let q = least_offset z m h l g c b in
-    let s = greatest_offset z l g m h b c in
-    let t = greatest_offset z m h l g c b in
-    omega (arith, ints, p, q, s, t, e, f)
-
-pub width_is_one : (a : Event) (v w : ℤ) → IsWidthOf a v → IsWidthOf a w → v ≡ w
-width_is_one a v w (m, is, f) (n, same, g) = one_width m.times v w f (subst (λ (x : EventComponent). IsWidth x.times w) (same_Some n m (sym same ∙ is)) g)
-
-pub some_width : (a : Event) (w : ℤ) → IsWidthOf a w → pos 0 ≤ℤ w
-some_width a w (m, is, f) = no_less m.times w f
-
--- ---- where there is none
-
-pub none_common : (a b : Event) → HasNoCommon (IsPeriodOf a) (IsPeriodOf b) → HasNoSpan a b
-none_common a b none from days bound least is =
-    let s = least.span in
-    let m = none days s.some s.first_period s.second_period in
-    let most = s.most in
-    absurd (omega (arith, m, most))
-
-greatest_by : (x y : ℤ) → (x ≤ℤ greater x y) × (y ≤ℤ greater x y)
-greatest_by x y = (grind (arith, ints), grind (arith, ints))
-
-module _ (a b : Event) (p q past : ℤ) (first : IsLeastPast a p) (second : IsLeastPast b q) (is_past : past ≡ int_max p q) where
-  past_least : (t : ℤ) → IsPastAll a t → IsPastAll b t → past ≤ℤ t
-  past_least t f s = let l = first.1 t f in let m = second.1 t s in grind (arith, ints, l, m, is_past)
-
-  past_first : p ≤ℤ past
-  past_first = grind (arith, ints, is_past)
-
-  past_second : q ≤ℤ past
-  past_second = grind (arith, ints, is_past)
-
-  pub none_late : horizon ≤ℤ past → HasNoSpan a b
-  none_late late from days bound least is =
-      let l = past_least from least.span.first_past least.span.second_past in
-      let w = some_width a is.0 is.2 in
-      let g = (greatest_by is.0 is.1).0 in
-      let e = is.4 in
-      omega (arith, ints, late, l, w, g, e)
-
-  module _ (midnight : ℤ) (next : IsNextMidnight past midnight) (days : ℕ) (common : IsLeastCommon (IsPeriodOf a) (IsPeriodOf b) days) where
-    first_midnight : (n : ℕ) → IsPastAll a (pos (86_400 * n)) → IsPastAll b (pos (86_400 * n)) → midnight ≤ℤ pos (86_400 * n)
-    first_midnight n f s = next.first n (past_least (pos (86_400 * n)) f s)
-
-    pub least_span : IsLeastSpan a b midnight days
-    least_span =
-        let n = next.not_before in
-        let l = past_first in
-        let m = past_second in
-        record {
-          span = record {
-            some = common.some;
-            most = common.most;
-            first_past = later_past a p midnight (omega (arith, ints, n, l)) first.0;
-            second_past = later_past b q midnight (omega (arith, ints, n, m)) second.0;
-            first_period = common.first;
-            second_period = common.second;
-          };
-          midnight = next.is;
-          first = first_midnight;
-          least = common.least;
-        }
-
-    module _ (v w bound : ℤ) (of_a : IsWidthOf a v) (of_b : IsWidthOf b w) (is_bound : bound ≡ span_end midnight days (int_max v w)) where
-      same_greater : int_max v w ≡ greater v w
-      same_greater = grind (arith, ints)
-
-      pub bound_of : IsBoundOf a b midnight days bound
-      bound_of = (v, w, of_a, of_b, is_bound ∙ ap (span_end midnight days) same_greater)
-
-      pub none_far : horizon ≤ℤ bound → HasNoSpan a b
-      none_far far from more end least is =
-          let n = least.midnight.0 in
-          let e = least.midnight.1 in
-          let f = first_midnight n (subst (IsPastAll a) e least.span.first_past) (subst (IsPastAll b) e least.span.second_past) in
-          let d = common.least more least.span.some least.span.first_period least.span.second_period in
-          let x = width_is_one a is.0 v is.2 of_a in
-          let y = width_is_one b is.1 w is.3 of_b in
-          let g : greater is.0 is.1 ≡ int_max v w = rw (x, y) (sym same_greater) in
-          let u = is.4 in
-          omega (arith, ints, far, is_bound, f, e, d, g, u)
-
-pub below : (z : ℤ) → int_le horizon z ≡ false → z <ℤ horizon
-below z e = grind (arith, ints, e)
-
--- the greater of two widths is one
+-- so the greater of two widths is in their range
 pub width_in_range : (v w m : ℤ) → m ≡ int_max v w → (pos 0 ≤ℤ v) × (v <ℤ pos 1_125_899_906_842_624) → (pos 0 ≤ℤ w) × (w <ℤ pos 1_125_899_906_842_624)
     → (pos 0 ≤ℤ m) × (m <ℤ pos 1_125_899_906_842_624)
 width_in_range v w m e (p, q) (r, s) = (grind (arith, ints, e, p, r), grind (arith, ints, e, q, s))
+
+-- ---- what one series has
+
+first_in : (a : Event) → Contains (a ∷ []) a
+first_in a = (0, omega arith, refl)
+
+only_in : (a b : Event) → Contains (a ∷ []) b → a ≡ b
+only_in a b c = elim (first_or_later a b [] c) [ inl same ↦ same | inr more ↦ absurd (none_in b more) ]
+
+pub none_of_one : (a : Event) → HasNoPeriodOf a → HasNoPeriodInCommon (a ∷ [])
+none_of_one a none n some each = none n some (each a (first_in a))
+
+pub one_in_common : (a : Event) (common : Common) → IsLeastPeriodOf a common.days → IsLeastPast a common.past → IsWidthOf a common.width → HaveInCommon (a ∷ []) common
+one_in_common a common period past width = record {
+  some = period.some;
+  periods = λ n.
+      let m = series_multiples a common.days n period in
+      (λ each. m.0 (each a (first_in a)), λ multiple b c. subst (λ s. IsPeriodOf s n) (only_in a b c) (m.1 multiple));
+  past = λ b c. subst (λ s. IsPastAll s common.past) (only_in a b c) past.0;
+  least = λ t each. past.1 t (each a (first_in a));
+  width = record {
+    one = (a, first_in a, width);
+    none_greater = λ b other c is.
+        let same = width_is_one a other common.width (subst (λ s. IsWidthOf s other) (sym (only_in a b c)) is) width in
+        omega (arith, ints, same);
+  };
+}
+
+-- ---- what some series and one more have
+
+module _ (all : List Event) (b : Event) where
+  abbrev more : List Event
+  more = all ++ b ∷ []
+
+  last_in : Contains more b
+  last_in = Contains-push all b
+
+  of_all : (s : Event) → Contains all s → Contains more s
+  of_all s c = Contains-append_left all (b ∷ []) s c
+
+  each_more : (P : Event → Type 0) → ((s : Event) → Contains all s → P s) → P b → (s : Event) → Contains more s → P s
+  each_more P each is s c = elim (Contains-append_cases all (b ∷ []) s c) [ inl before ↦ each s before | inr last ↦ subst P (only_in b s last) is ]
+
+  pub none_of_last : HasNoPeriodOf b → HasNoPeriodInCommon more
+  none_of_last none n some each = none n some (each b last_in)
+
+  module _ (old : Common) (have : HaveInCommon all old) (days : ℕ) (period : IsLeastPeriodOf b days) where
+    of_both : (n : ℕ) → IsCommonPeriod more n → IsMultiple n old.days × IsMultiple n days
+    of_both n each = ((have.periods n).0 (λ s c. each s (of_all s c)), (series_multiples b days n period).0 (each b last_in))
+
+    pub none_of_more : HasNoMultiple old.days days → HasNoPeriodInCommon more
+    none_of_more none n some each = let (first, second) = of_both n each in none n some first second
+
+    module _ (new : Common) (multiple : IsLeastMultiple old.days days new.days) where
+      periods : (n : ℕ) → (IsCommonPeriod more n → IsMultiple n new.days) × (IsMultiple n new.days → IsCommonPeriod more n)
+      periods n =
+          let m = common_multiples old.days days new.days n multiple in (
+            λ each. m.0 (of_both n each),
+            λ is.
+                let (first, second) = m.1 is in
+                each_more (λ s. IsPeriodOf s n) ((have.periods n).1 first) ((series_multiples b days n period).1 second),
+          )
+
+      module _ (p w : ℤ) (past : IsLeastPast b p) (width : IsWidthOf b w) (is_past : new.past ≡ int_max old.past p) (is_width : new.width ≡ int_max old.width w) where
+        is_past_each : IsPastEach more new.past
+        is_past_each =
+            each_more (λ s. IsPastAll s new.past) (λ s c. later_past s old.past new.past (grind (arith, ints, is_past)) (have.past s c))
+            (later_past b p new.past (grind (arith, ints, is_past)) past.0)
+
+        is_least : (t : ℤ) → IsPastEach more t → new.past ≤ℤ t
+        is_least t each =
+            let l = have.least t (λ s c. each s (of_all s c)) in
+            let m = past.1 t (each b last_in) in
+            grind (arith, ints, l, m, is_past)
+
+        no_more : (s : Event) (other : ℤ) → Contains more s → IsWidthOf s other → other ≤ℤ new.width
+        no_more s other c is = each_more (λ s. IsWidthOf s other → other ≤ℤ new.width) (λ s c of. let l = have.width.none_greater s other c of in grind (arith, ints, l, is_width))
+            (λ of. let same = width_is_one b other w of width in grind (arith, ints, same, is_width)) s c is
+
+        greatest : IsGreatestWidth more new.width
+        greatest = record { one = by (int_max_is old.width w); none_greater = no_more }
+          where
+            by : (int_max old.width w ≡ old.width) ⊎ (int_max old.width w ≡ w) → (s : Event) × Contains more s × IsWidthOf s new.width
+            by (inl e) = let (a, in_a, is) = have.width.one in (a, of_all a in_a, subst (IsWidthOf a) (sym (is_width ∙ e)) is)
+            by (inr e) = (b, last_in, subst (IsWidthOf b) (sym (is_width ∙ e)) width)
+
+        pub more_in_common : HaveInCommon more new
+        more_in_common = record {
+          some = multiple.some;
+          periods = periods;
+          past = is_past_each;
+          least = is_least;
+          width = greatest;
+        }
+
+-- ---- their span
+
+pub none_in_common : (all : List Event) → HasNoPeriodInCommon all → HasNoSpan all
+none_in_common all none from days short =
+    let s = short.least.span in
+    let m = none days s.some s.period in
+    let most = s.most in
+    omega (arith, m, most)
+
+-- of two series, where the first has no period
+pub none_first : (a b : Event) → HasNoPeriodInCommon (a ∷ []) → HasNoSpan (a ∷ b ∷ [])
+none_first a b none = none_in_common (a ∷ b ∷ []) (λ n some each. none n some (λ s c. subst (λ x. IsPeriodOf x n) (only_in a s c) (each a (0, omega arith, refl))))
+
+module _ (all : List Event) (common : Common) (have : HaveInCommon all common) where
+  pub none_late : horizon ≤ℤ common.past → HasNoSpan all
+  none_late late from days short =
+      let l = have.least from short.least.span.past in
+      let w = some_greatest all short.is.0 short.is.1 in
+      let e = short.is.2 in
+      let b = short.before in
+      omega (arith, ints, late, l, w, e, b)
+
+  module _ (midnight : ℤ) (next : IsNextMidnight common.past midnight) where
+    first_midnight : (n : ℕ) → IsPastEach all (pos (86_400 * n)) → midnight ≤ℤ pos (86_400 * n)
+    first_midnight n past = next.first n (have.least (pos (86_400 * n)) past)
+
+    pub least_span : IsLeastSpan all midnight common.days
+    least_span = record {
+      span = record {
+        some = have.some;
+        most = common.few;
+        past = λ s c. later_past s common.past midnight next.not_before (have.past s c);
+        period = (have.periods common.days).1 (1, omega arith);
+      };
+      midnight = next.is;
+      first = first_midnight;
+      least = λ n some each. least_multiple n common.days some ((have.periods n).0 each);
+    }
+
+    module _ (bound : ℤ) (is : bound ≡ span_end midnight common.days common.width) where
+      pub bound_of : IsBoundOf all midnight common.days bound
+      bound_of = (common.width, have.width, is)
+
+      pub none_far : horizon ≤ℤ bound → HasNoSpan all
+      none_far far from days short =
+          let n = short.least.midnight.0 in
+          let e = short.least.midnight.1 in
+          let f = first_midnight n (subst (IsPastEach all) e short.least.span.past) in
+          let d = least_multiple days common.days short.least.span.some ((have.periods days).0 short.least.span.period) in
+          let w = greatest_is_one all short.is.0 common.width short.is.1 have.width in
+          let u = short.is.2 in
+          let b = short.before in
+          omega (arith, ints, far, is, f, e, d, w, u, b)
+
+pub below : (z : ℤ) → int_le horizon z ≡ false → z <ℤ horizon
+below z e = grind (arith, ints, e)
 
 -- ---- the midnight after an instant
 

@@ -17,7 +17,7 @@ use Rattle.profile.specs.events.Spans.{IsWidthOf}
 use Rattle.profile.specs.checker.Certificates.{AreSettling, NoneSettle}
 use Rattle.cal_period.specs.Around.{AreApart, AreAround, IsApart}
 use Rattle.cal_period.specs.Strides.{HasLongStride}
-use Rattle.cal_period.proofs.Spanning.{width_is_one}
+use Rattle.cal_period.proofs.Widths.{width_is_one}
 
 -- ---- turns
 

@@ -1,11 +1,11 @@
 -- The span of series.
-use Rattle.std.specs.Prelude.{◌≡◌, ◌⊎◌, ◌↔◌, ℕ, ◌*◌, ◌^◌, ◌<◌, ◌≤◌, List, [], ◌∷◌, Contains, ℤ, pos, ◌≤ℤ◌, ◌<ℤ◌}
+use Rattle.std.specs.Prelude.{◌≡◌, ◌⊎◌, ◌↔◌, ℕ, ◌*◌, ◌<◌, List, [], ◌∷◌, Contains, ℤ, pos, ◌≤ℤ◌, ◌<ℤ◌}
 use Rattle.profile.specs.checker.Instances.{horizon}
 use Rattle.profile.specs.checker.Certificates.{IsLeastSpan, IsShortSpan}
 use Rattle.profile.specs.series.Periods.{IsMultiple, most_period}
 use Rattle.profile.specs.events.Events.{Event}
 use Rattle.profile.specs.events.Spans.{IsBoundOf, IsGreatestWidth, IsPastAll, IsPeriodOf}
-use Rattle.cal_period.specs.declared.span.Common.{Common}
+use Rattle.cal_period.specs.declared.common.Common.{Common}
 use Rattle.cal_period.specs.declared.span.CommonSpan.{CommonSpan}
 
 -- all these series do the same after so many days
@@ -23,12 +23,10 @@ HasNoPeriodInCommon all = (n : ℕ) → 0 < n → IsCommonPeriod all n → most_
 -- this is what they have in common
 pub record HaveInCommon (all : List Event) (common : Common) : Type 0 where
   pub some : 0 < common.days
-  pub most : common.days ≤ most_period
   pub periods : (n : ℕ) → IsCommonPeriod all n ↔ IsMultiple n common.days
   pub past : IsPastEach all common.past
   pub least : (t : ℤ) → IsPastEach all t → common.past ≤ℤ t
   pub width : IsGreatestWidth all common.width
-  pub range : (pos 0 ≤ℤ common.width) × (common.width <ℤ pos (2 ^ 50))
 
 -- they have no span whose bound is before the horizon
 abbrev pub HasNoSpan : List Event → Type 0

@@ -47,5 +47,6 @@ pub fn spans_settle()
         → (a b : Event) → Contains these a → Contains those b → AreClear (IsInstance a) (IsInstance b) }
 {
     instances_last();
+    zones_repeat();
     series_repeat();
 }

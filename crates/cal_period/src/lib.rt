@@ -8,6 +8,7 @@ mod arcs;
 mod beside;
 mod by_residues;
 mod clash;
+mod common;
 mod law;
 mod near;
 mod new_series;

@@ -6,6 +6,7 @@ ghost use Rattle.cal_period.specs.Spanning.{AreComparedTo};
 use crate::law::series_repeat;
 use crate::span::span_of_pair;
 use cal_events::{HORIZON, Series, instances_last, known_by_start, series_are_said};
+use cal_zones::zones_repeat;
 
 /// Where no two instances that start before this instant share one, none do at all: the end of one common period and the greater width after it,
 /// where that is before the horizon, else the horizon.
@@ -16,6 +17,7 @@ pub(crate) fn settled_by(a: &Series, b: &Series) -> i64
     known_by_start();
     series_are_said();
     instances_last();
+    zones_repeat();
     series_repeat();
     match span_of_pair(a, b) {
         Some(span) => span.bound,

@@ -1,5 +1,5 @@
 //! The span of series: from which instant on, and after how many days, all of them do the same again.
-ghost use Rattle.std.specs.Prelude.{◌≡◌, ◌^◌, ◌≤◌, [], ◌∷◌, ◌++◌, List, map, pos, negsuc, ◌≤ℤ◌, ◌<ℤ◌, MatchOption};
+ghost use Rattle.std.specs.Prelude.{◌≡◌, ◌^◌, ◌≤◌, [], ◌∷◌, List, map, pos, negsuc, ◌≤ℤ◌, ◌<ℤ◌, MatchOption};
 ghost use Rattle.std.specs.List.{AllZip};
 ghost use Rattle.profile.specs.series.Periods.{most_period};
 ghost use Rattle.profile.specs.events.Events.{Event};
@@ -7,10 +7,10 @@ ghost use Rattle.profile.specs.events.Spans.{span_end};
 ghost use Rattle.profile.specs.checker.Certificates.{IsPlacedAt};
 ghost use Rattle.profile.specs.checker.Instances.{horizon};
 ghost use Rattle.cal_events.specs.Series.{series_said};
-ghost use Rattle.cal_period.specs.Spanning.{HasNoSpan, HasNoPeriodInCommon, HaveInCommon, IsSpanOf, IsNextMidnight};
+ghost use Rattle.cal_period.specs.Spanning.{HasNoSpan, IsSpanOf, IsNextMidnight};
 
-use cal_events::{HORIZON, Series};
-use cal_rules::common_multiple;
+use crate::common::Common;
+use cal_events::Series;
 use ical_values::DAY_SECONDS;
 
 /// A common period of series.
@@ -51,61 +51,6 @@ fn numbered(series: &[Series], number: u64) -> Option<&Series>
     series.get(number.saturating_sub(1) as usize)
 }
 
-/// What series have in common.
-#[derive(Clone, Copy)]
-struct Common {
-    /// The least number of days after which all do the same.
-    days: u64,
-    /// The least instant from which on all do.
-    past: i64,
-    /// The greatest width.
-    width: i64,
-}
-
-impl Common {
-    /// Of one series. None where it has no period of at most 2,932,897 days.
-    fn of(series: &Series) -> Option<Common>
-        ensures { MatchOption result (HasNoPeriodInCommon (series_said series.now ∷ [])) (HaveInCommon (series_said series.now ∷ [])) }
-    {
-        Some(Common {
-            days: series.period_days()?,
-            past: series.regular_from(),
-            width: series.width(),
-        })
-    }
-
-    /// Of some series and one more. None where they have no common period of at most 2,932,897 days.
-    fn with(self, series: &Series) -> Option<Common>
-        ensures { (all : List Event) → HaveInCommon all self
-            → MatchOption result (HasNoPeriodInCommon (all ++ series_said series.now ∷ [])) (HaveInCommon (all ++ series_said series.now ∷ [])) }
-    {
-        Some(Common {
-            days: common_multiple(self.days, series.period_days()?)?,
-            past: self.past.max(series.regular_from()),
-            width: self.width.max(series.width()),
-        })
-    }
-
-    /// Their span. None where its bound isn't before the horizon.
-    fn span(self) -> Option<CommonSpan>
-        ensures { (all : List Event) → HaveInCommon all self → MatchOption result (HasNoSpan all) (IsSpanOf all) }
-    {
-        if self.past >= HORIZON {
-            return None;
-        }
-        let from = next_midnight(self.past);
-        let bound = span_end(from, self.days, self.width);
-        if bound >= HORIZON {
-            return None;
-        }
-        Some(CommonSpan {
-            from,
-            days: self.days,
-            bound,
-        })
-    }
-}
-
 /// The end of so many days from an instant on, and a width after it: instants and widths are in seconds. It requires an instant of the years 1 to 9999
 /// or the first one after these, at most 2,932,897 days, and a width from 0 on and below 2^50.
 pub fn span_end(from: i64, days: u64, width: i64) -> i64
@@ -118,7 +63,7 @@ pub fn span_end(from: i64, days: u64, width: i64) -> i64
 }
 
 /// The first 00:00:00Z from 1970 on that isn't before an instant.
-fn next_midnight(instant: i64) -> i64
+pub(crate) fn next_midnight(instant: i64) -> i64
     requires { instant <ℤ horizon }
     ensures midnight { IsNextMidnight instant result }
     ensures range { (pos 0 ≤ℤ result) × (result ≤ℤ horizon) }

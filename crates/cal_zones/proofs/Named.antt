@@ -1,5 +1,5 @@
 -- The day that BYMONTHDAY and BYDAY name: there is at most one.
-use Rattle.std.proofs.Common.{◌≡◌, ◌∙◌, refl, ap, sym, subst, inl, inr, ◌⊎◌, ℕ, ◌+◌, ◌≤◌, Bool, true, false, ◌&&◌, ◌==◌, List, [], ◌∷◌, length, map, Option, Some, None, arith, ℤ, pos, neg_ℤ}
+use Rattle.std.proofs.Common.{◌≡◌, ◌∙◌, refl, ap, sym, subst, inl, inr, ◌⊎◌, ℕ, ◌+◌, ◌≤◌, Bool, true, false, ◌&&◌, ◌==◌, List, [], ◌∷◌, length, map, Option, Some, None, is_none, arith, ℤ, pos, neg_ℤ}
 use Rattle.std.specs.List.{list_all, list_any, range_with_len}
 use Rattle.std.specs.Option.{IfSome, IfNone}
 use Rattle.std.specs.Ordering.{int_eq}
@@ -9,7 +9,7 @@ use Rattle.std.proofs.lemmas.List.Folds.{list_all-map}
 use Rattle.jiff_core.proofs.SignedLemmas.{signed_arith}
 use Rattle.profile.specs.series.Days.{days_in_month}
 use Rattle.profile.specs.faults.Faults.{is_between}
-use Rattle.profile.specs.series.Rules.{WeekdayNumber, RuleText, is_missing}
+use Rattle.profile.specs.series.Rules.{WeekdayNumber, RuleText, is_missing, is_yearly}
 use Rattle.profile.specs.series.ZoneTexts.{MonthDays, OnDay, FromStart, FromEnd, InWeek, YearRule, are_only, is_weekday, is_of_seven, are_seven, names_days, is_each_year, is_plain_yearly, is_one_day}
 use Rattle.cal_zones.specs.Named.{NamesNone}
 
@@ -220,6 +220,14 @@ one_day_parts rule r h =
     let b = and_parts (is_plain_yearly rule && are_only (λ x. x == r.month) rule.months) (names_days r.days rule.month_days rule.weekdays) a.0 in
     let c = and_parts (is_plain_yearly rule) (are_only (λ x. x == r.month) rule.months) b.0 in
     record { plain = c.0; month = c.1; days = b.1; each = a.1 }
+
+-- neither COUNT nor UNTIL ends it
+pub none_ends : (rule : RuleText) (r : YearRule) → is_one_day rule r ≡ true → (is_none rule.count ≡ true) × (is_none rule.until ≡ true)
+none_ends rule r h =
+    let a = and_parts (is_yearly rule.frequency && (rule.interval == 1) && is_none rule.count && is_none rule.until) (is_missing rule.positions) (one_day_parts rule r h).plain in
+    let b = and_parts (is_yearly rule.frequency && (rule.interval == 1) && is_none rule.count) (is_none rule.until) a.0 in
+    let c = and_parts (is_yearly rule.frequency && (rule.interval == 1)) (is_none rule.count) b.0 in
+    (c.1, b.1)
 
 -- a rule names at most one month and day
 pub one_named : (rule : RuleText) (month : ℕ) (days : MonthDays) (r : YearRule) → are_only (λ x. x == month) rule.months ≡ true

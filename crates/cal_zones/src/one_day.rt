@@ -115,9 +115,7 @@ fn days_named(numbers: &[i16], entries: &[WeekdayNumber]) -> Option<MonthDays>
 fn is_plain_yearly(rule: &RuleText) -> bool
     ensures { result ≡ is_plain_yearly (without_end rule.now) }
 {
-    rule.frequency() == Frequency::Yearly
-        && rule.interval() == 1
-        && rule.positions().is_empty()
+    rule.frequency() == Frequency::Yearly && rule.interval() == 1 && rule.positions().is_empty()
 }
 
 /// The one day of every year that a rule names, whether COUNT or UNTIL ends it or not (RFC 5545 3.3.10). None where it names none or several.

@@ -1,5 +1,5 @@
 -- Lines: where they end, and that a text has one way to be cut into lines.
-use Rattle.std.proofs.Common.{◌≡◌, ◌≢◌, ◌==◌, ℕ, zero, suc, ◌+◌, ◌-◌, ◌^◌, ◌<◌, Bool, true, false, cond, not, ◌&&◌, List, [], ◌∷◌, ◌++◌, length, get_or, take, drop, subst, sym, refl, ap, ◌∙◌, append_assoc, arith}
+use Rattle.std.proofs.Common.{◌≡◌, ◌≢◌, ◌==◌, ℕ, zero, suc, ◌+◌, ◌-◌, ◌^◌, ◌<◌, Bool, true, false, cond, not, ◌&&◌, List, [], ◌∷◌, ◌++◌, length, get_or, take, drop, subst, sym, refl, ap, ◌∙◌, append_assoc, lit<, arith}
 use Rattle.std.specs.Prelude.{Option, Some, None, MatchOption, position, decimal}
 use Rattle.std.specs.Prelude.{Result, Ok, Err, ltb, MatchResult}
 use Rattle.std.specs.Result.{result_ok}
@@ -63,71 +63,88 @@ module _ (p i s bytes rest : List ℕ) (e : bytes ≡ p ++ rest) where
           lacks tail (cancel (i ++ s) last ((j ++ end) ++ tail) (sym f ∙ cancel p rest ((i ++ s) ++ ((j ++ end) ++ tail)) (sym e ∙ g ∙ whole tail)))
       go (Some x) is = e ∙ ap (λ l. p ++ l) (f ∙ ap (λ l. (i ++ s) ++ l) is) ∙ sym (whole x.now)
 
+-- no octet is this one
+abbrev pub free_of : ℕ → List ℕ → Bool
+free_of d [] = true
+free_of d (c ∷ cs) = not (c == d) && free_of d cs
+
 -- no octet is an LF
 abbrev pub lf_free : List ℕ → Bool
-lf_free [] = true
-lf_free (c ∷ cs) = not (c == 10) && lf_free cs
+lf_free = free_of 10
+
+pub free_of-append : (d : ℕ) (a b : List ℕ) → free_of d a ≡ true → free_of d b ≡ true → free_of d (a ++ b) ≡ true
+free_of-append d [] b h k = k
+free_of-append d (c ∷ a) b h k =
+    let p = and_parts (not (c == d)) (free_of d a) h in
+    and_from (not (c == d)) (free_of d (a ++ b)) p.0 (free_of-append d a b p.1 k)
 
 pub lf_free-append : (a b : List ℕ) → lf_free a ≡ true → lf_free b ≡ true → lf_free (a ++ b) ≡ true
-lf_free-append [] b h k = k
-lf_free-append (c ∷ a) b h k =
-    let p = and_parts (not (c == 10)) (lf_free a) h in
-    and_from (not (c == 10)) (lf_free (a ++ b)) p.0 (lf_free-append a b p.1 k)
+lf_free-append = free_of-append 10
 
-not_lf : (c : ℕ) → not (c == 10) ≡ true → c ≢ 10
-not_lf c h e = grind (arith, nat_tests)
+other_octet : (c d : ℕ) → not (c == d) ≡ true → c ≢ d
+other_octet c d h e = grind (arith, nat_tests)
 
--- a text is cut at its first LF in one way
-pub one_cut : (a b x y : List ℕ) → lf_free a ≡ true → lf_free b ≡ true → a ++ 10 ∷ x ≡ b ++ 10 ∷ y → x ≡ y
-one_cut [] [] x y h k e = cc
-one_cut [] (d ∷ b) x y h k e =
-    let p = and_parts (not (d == 10)) (lf_free b) k in
-    let f : 10 ≡ d = cc in
-    absurd (not_lf d p.0 (sym f))
-one_cut (c ∷ a) [] x y h k e =
-    let p = and_parts (not (c == 10)) (lf_free a) h in
-    let f : c ≡ 10 = cc in
-    absurd (not_lf c p.0 f)
-one_cut (c ∷ a) (d ∷ b) x y h k e =
-    let p = and_parts (not (c == 10)) (lf_free a) h in
-    let q = and_parts (not (d == 10)) (lf_free b) k in
-    let f : a ++ 10 ∷ x ≡ b ++ 10 ∷ y = cc in
-    one_cut a b x y p.1 q.1 f
+-- a text is cut in one way at the first octet that is this one
+pub cut_rest : (d : ℕ) (a b x y : List ℕ) → free_of d a ≡ true → free_of d b ≡ true → a ++ d ∷ x ≡ b ++ d ∷ y → x ≡ y
+cut_rest d [] [] x y h k e = cc
+cut_rest d [] (c ∷ b) x y h k e =
+    let p = and_parts (not (c == d)) (free_of d b) k in
+    let f : d ≡ c = cc in
+    absurd (other_octet c d p.0 (sym f))
+cut_rest d (c ∷ a) [] x y h k e =
+    let p = and_parts (not (c == d)) (free_of d a) h in
+    let f : c ≡ d = cc in
+    absurd (other_octet c d p.0 f)
+cut_rest d (c ∷ a) (c' ∷ b) x y h k e =
+    let p = and_parts (not (c == d)) (free_of d a) h in
+    let q = and_parts (not (c' == d)) (free_of d b) k in
+    let f : a ++ d ∷ x ≡ b ++ d ∷ y = cc in
+    cut_rest d a b x y p.1 q.1 f
 
-digit_free : (c : ℕ) → is_ascii_digit c ≡ true → not (c == 10) ≡ true
-digit_free c h = grind (arith, nat_tests)
-
--- and the same line comes before it
-pub one_line : (a b x y : List ℕ) → lf_free a ≡ true → lf_free b ≡ true → a ++ 10 ∷ x ≡ b ++ 10 ∷ y → a ≡ b
-one_line [] [] x y h k e = refl
-one_line [] (d ∷ b) x y h k e =
-    let p = and_parts (not (d == 10)) (lf_free b) k in
-    let f : 10 ≡ d = cc in
-    absurd (not_lf d p.0 (sym f))
-one_line (c ∷ a) [] x y h k e =
-    let p = and_parts (not (c == 10)) (lf_free a) h in
-    let f : c ≡ 10 = cc in
-    absurd (not_lf c p.0 f)
-one_line (c ∷ a) (d ∷ b) x y h k e =
-    let p = and_parts (not (c == 10)) (lf_free a) h in
-    let q = and_parts (not (d == 10)) (lf_free b) k in
-    let f : a ++ 10 ∷ x ≡ b ++ 10 ∷ y = cc in
-    let g : c ≡ d = cc in
-    let r : a ≡ b = one_line a b x y p.1 q.1 f in
+-- and the same comes before it
+pub cut_front : (d : ℕ) (a b x y : List ℕ) → free_of d a ≡ true → free_of d b ≡ true → a ++ d ∷ x ≡ b ++ d ∷ y → a ≡ b
+cut_front d [] [] x y h k e = refl
+cut_front d [] (c ∷ b) x y h k e =
+    let p = and_parts (not (c == d)) (free_of d b) k in
+    let f : d ≡ c = cc in
+    absurd (other_octet c d p.0 (sym f))
+cut_front d (c ∷ a) [] x y h k e =
+    let p = and_parts (not (c == d)) (free_of d a) h in
+    let f : c ≡ d = cc in
+    absurd (other_octet c d p.0 f)
+cut_front d (c ∷ a) (c' ∷ b) x y h k e =
+    let p = and_parts (not (c == d)) (free_of d a) h in
+    let q = and_parts (not (c' == d)) (free_of d b) k in
+    let f : a ++ d ∷ x ≡ b ++ d ∷ y = cc in
+    let g : c ≡ c' = cc in
+    let r : a ≡ b = cut_front d a b x y p.1 q.1 f in
     cc
 
--- digits have no LF
-digits_free : (ds : List ℕ) → all_ascii_digits ds ≡ true → lf_free ds ≡ true
-digits_free [] h = refl
-digits_free (c ∷ ds) h =
+-- the same of lines
+pub one_cut : (a b x y : List ℕ) → lf_free a ≡ true → lf_free b ≡ true → a ++ 10 ∷ x ≡ b ++ 10 ∷ y → x ≡ y
+one_cut = cut_rest 10
+
+pub one_line : (a b x y : List ℕ) → lf_free a ≡ true → lf_free b ≡ true → a ++ 10 ∷ x ≡ b ++ 10 ∷ y → a ≡ b
+one_line = cut_front 10
+
+-- digits are none of the octets below theirs
+digit_free : (d c : ℕ) → d < 48 → is_ascii_digit c ≡ true → not (c == d) ≡ true
+digit_free d c low h = grind (arith, nat_tests)
+
+digits_free : (d : ℕ) → d < 48 → (ds : List ℕ) → all_ascii_digits ds ≡ true → free_of d ds ≡ true
+digits_free d low [] h = refl
+digits_free d low (c ∷ ds) h =
     let p = and_parts (is_ascii_digit c) (all_ascii_digits ds) h in
-    and_from (not (c == 10)) (lf_free ds) (digit_free c p.0) (digits_free ds p.1)
+    and_from (not (c == d)) (free_of d ds) (digit_free d c low p.0) (digits_free d low ds p.1)
 
 pub digits_model : IsNumeralModel (λ ds. all_ascii_digits ds ≡ true) (digits_value 10)
 digits_model = numerals_by_value (λ ds. all_ascii_digits ds ≡ true) tells_all_ascii_digits
 
+pub number_free : (d : ℕ) → d < 48 → (n : ℕ) → n < 2 ^ 64 → free_of d (decimal n) ≡ true
+number_free d low n h = digits_free d low (decimal n) (digits_decimal digits_model n h)
+
 pub decimal_free : (n : ℕ) → n < 2 ^ 64 → lf_free (decimal n) ≡ true
-decimal_free n h = digits_free (decimal n) (digits_decimal digits_model n h)
+decimal_free = number_free 10 (lit< tt)
 
 len_at : (a rest : List ℕ) → lf_free a ≡ true → position_or_len (λ octet. octet == 10) (a ++ 10 ∷ rest) ≡ length a
 len_at [] rest h = refl
@@ -179,6 +196,17 @@ same_lines (l ∷ ls) (m ∷ ms) x y h k n e =
     let rest = one_cut l m (spelled ls x) (spelled ms y) h.0 k.0 e in
     let first : l ≡ m = one_line l m (spelled ls x) (spelled ms y) h.0 k.0 e in
     let others : ls ≡ ms = same_lines ls ms x y h.1 k.1 (omega (arith, n)) rest in
+    ap (λ (z : List ℕ). z ∷ ls) first ∙ ap (λ (zs : List (List ℕ)). m ∷ zs) others
+
+-- and so are all lines of a text
+pub all_lines : (ls ms : List (List ℕ)) → AreFree ls → AreFree ms → spelled ls [] ≡ spelled ms [] → ls ≡ ms
+all_lines [] [] h k e = refl
+all_lines [] (m ∷ ms) h k e = absurd (let n = ap length e in let long = length-append m (10 ∷ spelled ms []) in omega (arith, n, long))
+all_lines (l ∷ ls) [] h k e = absurd (let n = ap length e in let long = length-append l (10 ∷ spelled ls []) in omega (arith, n, long))
+all_lines (l ∷ ls) (m ∷ ms) h k e =
+    let rest = one_cut l m (spelled ls []) (spelled ms []) h.0 k.0 e in
+    let first : l ≡ m = one_line l m (spelled ls []) (spelled ms []) h.0 k.0 e in
+    let others : ls ≡ ms = all_lines ls ms h.1 k.1 rest in
     ap (λ (z : List ℕ). z ∷ ls) first ∙ ap (λ (zs : List (List ℕ)). m ∷ zs) others
 
 pub spelled-take : (n : ℕ) (ls : List (List ℕ)) (rest : List ℕ) → spelled ls rest ≡ spelled (take n ls) (spelled (drop n ls) rest)

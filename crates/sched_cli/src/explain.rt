@@ -138,7 +138,7 @@ pub fn explanation(number: u8) -> Option<&'static str>
             "82: the certificate counts other singles or series than the calendar has for this room. What to do: look at the spelling of ROOM first.\n",
         ),
         83 => Some(
-            "83: the two series of the pair behind it have instances that overlap, or arcs of their residues meet, or SPAN or RES isn't allowed of them. What to do: write END for the pair; where it is 83 again, the calendar isn't clear.\n",
+            "83: the two series behind it, or those of the group that begins with them, have instances that overlap, or arcs of their residues meet, or SPAN, RES or GROUP isn't allowed of them. What to do: write END for each pair; where it is 83 again, the calendar isn't clear.\n",
         ),
         84 => Some(
             "84: a single overlaps with another, or with a series. What to do: compare the calendar's times: the calendar isn't clear.\n",

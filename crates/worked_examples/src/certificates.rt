@@ -3,7 +3,7 @@
 
 ghost use Rattle.std.specs.Prelude.{◌<◌};
 
-use clash_cert::{CertFault, Certificate, Entry};
+use clash_cert::{CertFault, Certificate, Entry, Group};
 use clash_check::{Checked, Verdict};
 use example_cases::answers::append;
 use example_cases::spelled::{escaped, octets_of};
@@ -31,15 +31,29 @@ pub fn write_answer(alloc: Global, case: Case<'_>) -> Result<String, NoAnswer> {
     Ok(escaped(alloc, out.as_slice())?)
 }
 
-/// Its counts, and the entry of each pair.
+/// Its counts, its groups, and the entry of each pair.
 fn content(alloc: Global, certificate: &Certificate) -> Result<String, NoAnswer> {
     let singles = certificate.singles();
     let series = certificate.series();
     let mut list = format!(in alloc; "{singles} singles, {series} series")?;
+    for group in certificate.groups() {
+        add_group(alloc, group, &mut list)?;
+    }
     for i in 0..series {
         add_entries(alloc, certificate, i + 1, &mut list)?;
     }
     Ok(list)
+}
+
+/// Adds the days and the first instant of a group, and its series.
+fn add_group(alloc: Global, group: &Group, list: &mut String) -> Result<(), NoAnswer> {
+    let item = format!(in alloc; "{} days from {} of", group.days, group.from.instant())?;
+    append(list, ", ", item.as_str())?;
+    for number in &group.members {
+        let word = format!(in alloc; "{number}")?;
+        append(list, " ", word.as_str())?;
+    }
+    Ok(())
 }
 
 /// Adds the entries of a series with itself and with those after it.
@@ -65,6 +79,7 @@ fn entry_text(alloc: Global, entry: Entry) -> Result<String, NoAnswer> {
             Ok(format!(in alloc; "{days} days from {}", from.instant())?)
         }
         Entry::Res(m) => Ok(format!(in alloc; "residues modulo {m}")?),
+        Entry::Group(number) => Ok(format!(in alloc; "in group {number}")?),
     }
 }
 

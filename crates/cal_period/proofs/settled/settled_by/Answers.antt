@@ -11,12 +11,11 @@ returns-in-Some-clause-settles c =
     let a = c.args.a.now in
     let b = c.args.b.now in
     let is = c.in-Some.ensures in
-    let before = is.2 in
     let fits : FitsSigned w64 c.in-Some.span.bound = search rules in
     let cast : to_z w64 (of_z w64 c.in-Some.span.bound) ≡ c.in-Some.span.bound = to_z-of_z fits in
     subst (Settles (series_said a) (series_said b)) (sym cast)
-    (span_settles c.instances_last.ensures.said c.series_repeat.ensures.earlier (series_said a) (series_said b) c.in-Some.span.from c.in-Some.span.bound c.in-Some.span.days is.0.span is.1 (omega (arith, ints, before))
-    (c.known_by_start.ensures a) (c.series_are_said.ensures a) (c.series_are_said.ensures b))
+    (span_settles (record { last = c.instances_last.ensures.said; repeat = c.series_repeat.ensures.earlier; zones = c.zones_repeat.ensures.said }) (series_said a) (series_said b) c.in-Some.span.from c.in-Some.span.bound c.in-Some.span.days
+    is.0.span is.1 (c.series_are_said.ensures a) (c.series_are_said.ensures b))
 
 pub returns-in-Some-clause-least : goal.returns-in-Some-clause-least
 returns-in-Some-clause-least c =
