@@ -13,7 +13,8 @@ use Rattle.profile.specs.events.Events.{Event}
 use Rattle.profile.specs.events.Confirmed.{Confirmed}
 use Rattle.profile.specs.events.Spans.{IsPastAll, IsLeastPast, IsPeriodOf, HasNoPeriodOf, IsSpan, IsBoundOf, IsGreatestWidth, IsWidthOf, span_end}
 use Rattle.profile.specs.series.Periods.{IsMultiple, most_period}
-use Rattle.cal_period.proofs.Spanning.{later_past, width_is_one}
+use Rattle.cal_period.proofs.Spanning.{later_past}
+use Rattle.cal_period.proofs.Widths.{greatest_is_one, width_is_one}
 use Rattle.clash_check.proofs.PlacedLemmas.{at_number, at_place, number_of}
 
 -- ---- one series
@@ -197,12 +198,6 @@ pub bound_of : (those : List Event) (from width bound t w : ℤ) (days : ℕ) �
 bound_of those from width bound t w days e f greatest is = (width, greatest, is ∙ ap (λ x. span_end x days w) e ∙ ap (span_end from days) f)
 
 -- there is one
-
-greatest_is_one : (those : List Event) (v w : ℤ) → IsGreatestWidth those v → IsGreatestWidth those w → v ≡ w
-greatest_is_one those v w first second =
-    let l = second.none_greater first.one.0 v first.one.1 first.one.2 in
-    let m = first.none_greater second.one.0 w second.one.1 second.one.2 in
-    omega (arith, ints, l, m)
 
 pub one_bound : (those : List Event) (from : ℤ) (days : ℕ) (x y : ℤ) → IsBoundOf those from days x → IsBoundOf those from days y → x ≡ y
 one_bound those from days x y (v, first, e) (w, second, f) = e ∙ ap (span_end from days) (greatest_is_one those v w first second) ∙ sym f

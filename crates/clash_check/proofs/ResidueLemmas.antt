@@ -12,7 +12,7 @@ use Rattle.profile.specs.events.Residues.{AreResidues, IsModulus, AreArcsApart, 
 use Rattle.profile.specs.events.Spans.{IsWidthOf}
 use Rattle.profile.specs.series.Repeating.{ArcsMeet, IsCongruent}
 use Rattle.cal_period.specs.Around.{AreAround, AreApart, IsApart}
-use Rattle.cal_period.proofs.Spanning.{width_is_one}
+use Rattle.cal_period.proofs.Widths.{width_is_one}
 use Rattle.clash_check.specs.Counted.{IsEntryCount}
 use Rattle.clash_check.specs.Draws.{IsDrawable, LastsAbout}
 use Rattle.clash_check.specs.Entries.{IsEntryDrawn}
