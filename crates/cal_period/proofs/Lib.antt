@@ -13,6 +13,7 @@ pub mod SeriesLaw
 pub mod Settling
 pub mod Widths
 pub mod Spanning
+pub mod Numbered
 pub mod Members
 pub mod OnsetTheorem
 pub mod NearOnsets

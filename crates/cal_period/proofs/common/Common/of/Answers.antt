@@ -1,9 +1,13 @@
-use Rattle.std.proofs.Common.{◌≡◌, sym, subst, arith, to_z, of_z, w64}
+use Rattle.std.proofs.Common.{[], ◌≡◌, sym, subst, arith, to_z, of_z, w64}
 use Rattle.std.proofs.lemmas.Int.{ints}
 use Rattle.profile.specs.events.Spans.{IsLeastPast, IsWidthOf}
 use Rattle.cal_events.specs.Series.{series_said}
-use Rattle.cal_period.proofs.Spanning.{one_in_common}
+use Rattle.cal_period.proofs.EveryPair.{none_exit}
+use Rattle.cal_period.proofs.Spanning.{none_of_last, one_in_common}
 use Rattle.cal_period.proofs.common.Common.of.Goals as goal
+
+pub returns-in_err-period_days : goal.returns-in_err-period_days
+returns-in_err-period_days c = none_exit _ _ _ c.from_residual.ensures (none_of_last [] (series_said c.args.series.now) c.in_err-period_days.ensures)
 
 pub returns : goal.returns
 returns c =
