@@ -1,8 +1,14 @@
 pub mod WalkLemmas
 pub mod Counts
 pub mod SweepLemmas
+pub mod PlacedLemmas
+pub mod PeriodLemmas
 pub mod EntryLemmas
 pub mod ResidueLemmas
+pub mod GroupLemmas
+pub mod StatementLemmas
+pub mod SaidLemmas
+pub mod NeverBoth
 pub mod SingleLemmas
 pub mod JudgingLemmas
 pub mod OpenLemmas
