@@ -1,16 +1,13 @@
 -- What is to come of the series of a calendar, before and after a draw.
-use Rattle.std.proofs.Common.{◌≡◌, ◌≢◌, ◌∙◌, refl, sym, ap, subst, inl, inr, arith, ℕ, zero, suc, ◌-◌, ◌<◌, List, [], ◌∷◌, ◌++◌, map, length, set, get_or, ℤ, pos, ◌+ℤ◌, ◌≤ℤ◌, ◌<ℤ◌}
+use Rattle.std.proofs.Common.{◌≡◌, ◌≢◌, ◌∙◌, sym, ap, subst, inl, inr, arith, ℕ, ◌-◌, ◌<◌, List, [], map, length, set, get_or, ℤ, pos, ◌+ℤ◌, ◌≤ℤ◌, ◌<ℤ◌}
 use Rattle.std.specs.Prelude.{Option, Some, None, MatchOption, ◌↔◌, Contains}
 use Rattle.std.specs.List.{slice_get}
 use Rattle.std.proofs.lemmas.Bool.{cases_lt, cases_eq}
 use Rattle.std.proofs.lemmas.Int.{ints}
 use Rattle.std.proofs.lemmas.List.{length-map, length-set, get_or-set_same, get_or-set_other}
 use Rattle.std.proofs.lemmas.Option.{same_Some, slice_get-get_or, slice_get_past}
-use Rattle.profile.specs.checker.Instances.{AreClear}
 use Rattle.profile.specs.checker.Certificates.{IsSeriesAt}
 use Rattle.profile.specs.events.Events.{Event}
-use Rattle.profile.specs.events.Starts.{IsInstance}
-use Rattle.profile.specs.events.Spans.{IsSaidSeries, AreSaidSeries, SpanHolds}
 use Rattle.profile.specs.events.Confirmed.{Confirmed}
 use Rattle.cal_events.specs.Series.{series_said}
 use Rattle.cal_events.specs.declared.series.Series.{Series}
@@ -191,17 +188,3 @@ still_same all opened place one same own other (k, w, e) =
           subst (λ (o : OpenSeries). o.calendar.now ≡ all) is own
       | inr differ ↦ same other (k, within, sym (get_or-set_other opened place k one other differ) ∙ e)
     ]
-
--- ---- a series by itself
-
--- a VEVENT says it, also where it is named twice
-pub said_twice : (series : Event) → ∥ IsSaidSeries series ∥₁ → AreSaidSeries (series ∷ series ∷ [])
-said_twice series said one (zero, w, e) = subst (λ (m : Event). ∥ IsSaidSeries m ∥₁) e said
-said_twice series said one (suc zero, w, e) = subst (λ (m : Event). ∥ IsSaidSeries m ∥₁) e said
-said_twice series said one (suc (suc k), w, e) = absurd (omega (arith, w))
-
-pub alone_clear : ((these those : List Event) (from : ℤ) (days : ℕ) → AreSaidSeries (these ++ those) → SpanHolds these those from days
-    → (a b : Event) → Contains these a → Contains those b → AreClear (IsInstance a) (IsInstance b))
-    → (series : Event) (from : ℤ) (days : ℕ) → ∥ IsSaidSeries series ∥₁ → SpanHolds (series ∷ []) (series ∷ []) from days → AreClear (IsInstance series) (IsInstance series)
-alone_clear settles series from days said holds =
-    settles (series ∷ []) (series ∷ []) from days (said_twice series said) holds series series (zero, omega arith, refl) (zero, omega arith, refl)
