@@ -380,8 +380,8 @@ module _ (all : Confirmed) (drawable : IsDrawable all) (members : List ℕ) (pla
         let (j, in_j, at_j) = member_of all members events b are d in
         at.clear i j x.start x.end y.start y.end (gone i a in_i at_i x h) (gone j b in_j at_j y k)
         (λ one start. clash.differ (
-            let same : b ≡ a = same_Some b a (sym at_j ∙ ap (λ n. slice_get all.series (n - 1)) (sym one) ∙ at_i) in
-            ap (λ (z : SaidInstance). z.key) ((known_at all drawable i a at_i).one x y h.0 (subst (λ (s : Event). IsInstance s y) same k.0) start)))
+        let same : b ≡ a = same_Some b a (sym at_j ∙ ap (λ n. slice_get all.series (n - 1)) (sym one) ∙ at_i) in
+        ap (λ (z : SaidInstance). z.key) ((known_at all drawable i a at_i).one x y h.0 (subst (λ (s : Event). IsInstance s y) same k.0) start)))
         (record { instant = t; before = clash.before; in_first = clash.in_first; in_second = clash.in_second })
 
   -- ---- at its next instance
