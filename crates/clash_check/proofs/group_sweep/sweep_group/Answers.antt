@@ -1,9 +1,8 @@
-use Rattle.std.proofs.Common.{◌≡◌, ◌∙◌, ℕ, ℤ, ◌<◌, ◌≤◌, ◌-◌, ◌^◌, sym, subst, ap, refl, arith, rules, length, [], get_or, take, List, to_z-of_z, w64, FitsSigned, Fits}
-use Rattle.std.specs.Prelude.{◌↔◌, negsuc, Contains, ◌≤ℤ◌}
+use Rattle.std.proofs.Common.{◌∙◌, ℤ, ◌<◌, ◌-◌, sym, subst, refl, arith, rules, length, get_or, take, to_z-of_z, w64, FitsSigned}
+use Rattle.std.specs.Prelude.{◌↔◌, negsuc}
 use Rattle.std.specs.BinaryHeap.{heap_items}
 use Rattle.std.proofs.lemmas.Int.{ints}
 use Rattle.std.proofs.lemmas.List.{take_more, take_all, get_or_default}
-use Rattle.profile.specs.events.Properties.{first_second}
 use Rattle.profile.specs.events.Confirmed.{Confirmed}
 use Rattle.cal_events.specs.declared.sweep.Span.{Span}
 use Rattle.clash_check.specs.Draws.{IsPlace, IsSpanBetween}
