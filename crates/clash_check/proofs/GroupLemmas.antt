@@ -46,16 +46,16 @@ module _ (all : Confirmed) (group : Group) where
         → MatchBool (not found) (StatementHolds all (OfGroup group)) (StatementFails all (OfGroup group))
     group_judged good h = elim found as (λ (v : Bool). OfThem (λ those. MatchBool v (HaveClash those those bound) (HaveNoClash those those bound))
         → MatchBool (not v) (StatementHolds all (OfGroup group)) (StatementFails all (OfGroup group))) [
-      | true ↦ λ h.
-          let (those, are) = series_of all group.members good.within in
-          (those, are, inr (bound, twice_bound those group.from group.days bound (is those are), h those are))
-      | false ↦ λ h those are. record {
+          | true ↦ λ h.
+              let (those, are) = series_of all group.members good.within in
+              (those, are, inr (bound, twice_bound those group.from group.days bound (is those are), h those are))
+          | false ↦ λ h those are. record {
             span = twice_span those group.from group.days (span those are);
             bound = bound;
             is = twice_bound those group.from group.days bound (is those are);
             clear = h those are;
           }
-    ] h
+        ] h
 
     pub group_drawn : (old new : ℕ) → OfThem (λ those. (lists : List (List Instance)) → AreAllBelow those bound lists → AreDrawn found old new (sum_by length lists))
         → (n : ℕ) → IsStatementCount all (OfGroup group) n → IsStatementDrawn all (OfGroup group) (not found) old new n

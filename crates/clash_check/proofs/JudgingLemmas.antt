@@ -1,6 +1,6 @@
 -- The judgement of a certificate by what is drawn.
-use Rattle.std.proofs.Common.{◌≡◌, ◌∙◌, ap, sym, refl, subst, inl, inr, ◌⊎◌, ℕ, zero, suc, ◌+◌, ◌-◌, ◌≤◌, arith, List, [], ◌∷◌}
-use Rattle.std.specs.Prelude.{Some, Contains, min}
+use Rattle.std.proofs.Common.{◌≡◌, ◌∙◌, ap, sym, refl, subst, inl, inr, ℕ, zero, suc, ◌+◌, ◌-◌, ◌≤◌, arith, List, [], ◌∷◌}
+use Rattle.std.specs.Prelude.{Some, Contains}
 use Rattle.std.specs.List.{slice_get}
 use Rattle.std.proofs.lemmas.Option.{slice_get-get_or}
 use Rattle.profile.specs.checker.Instances.{AreClear, HasClash}
@@ -9,9 +9,9 @@ use Rattle.profile.specs.events.Events.{Event}
 use Rattle.profile.specs.events.Starts.{IsInstance}
 use Rattle.profile.specs.events.Confirmed.{Confirmed, IsOneOf}
 use Rattle.profile.specs.events.Residues.{ResiduesHold}
-use Rattle.clash_check.specs.Counted.{IsStatementCount, AreCounts, total}
+use Rattle.clash_check.specs.Counted.{AreCounts}
 use Rattle.clash_check.specs.Draws.{IsDrawable}
-use Rattle.clash_check.specs.Entries.{HasCompared, FailsDrawn, AllHold, OneFails}
+use Rattle.clash_check.specs.Entries.{AllHold, OneFails}
 use Rattle.clash_check.specs.Judgings.{SpellsOnly, IsVerdictOf}
 use Rattle.clash_check.specs.Singles.{IsEachClear, AreSinglesDrawn}
 use Rattle.clash_check.specs.Verdicts.{IsVerdict, IsNo, MakesAll, MakesSome, MakesSomeOf, MakesFewFor}

@@ -1,5 +1,5 @@
 -- No statement both holds and fails.
-use Rattle.std.proofs.Common.{◌≡◌, ap, sym, refl, subst, inl, inr, ℕ, List, ◌++◌, ℤ}
+use Rattle.std.proofs.Common.{subst, inl, inr, ℕ, List, ◌++◌, ℤ}
 use Rattle.profile.specs.checker.Certificates.{Entry, End, Span, Res, InGroup, Statement, OfGroup, OfPair, EntryHolds, EntryFails, StatementHolds, StatementFails}
 use Rattle.profile.specs.events.Events.{Event}
 use Rattle.profile.specs.events.Confirmed.{Confirmed}

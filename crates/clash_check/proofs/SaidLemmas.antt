@@ -1,5 +1,5 @@
 -- What a certificate of which all statements hold says of two series.
-use Rattle.std.proofs.Common.{◌≡◌, ◌⊎◌, sym, subst, inl, inr, arith, ℕ, List, ◌++◌, map, length, ℤ}
+use Rattle.std.proofs.Common.{◌⊎◌, subst, inl, inr, arith, ℕ, List, ◌++◌, map, ℤ}
 use Rattle.std.specs.Prelude.{All, Contains}
 use Rattle.std.proofs.lemmas.List.Elements.{All-contains, Contains-append_left, Contains-append_right}
 use Rattle.profile.proofs.MadeCertificates.{placed_there}

@@ -4,7 +4,7 @@ use Rattle.std.specs.Prelude.{All, Contains, MatchBool, Option, Some, None}
 use Rattle.std.proofs.lemmas.List.{append_assoc, take_all, take_more, take-append-drop, drop_more, length-map}
 use Rattle.std.proofs.lemmas.List.Elements.{All-nil, All-cons, All-append, All-weaker}
 use Rattle.std.proofs.lemmas.List.Sums.{sum_by-cons, sum_by-append}
-use Rattle.profile.specs.checker.Certificates.{Claims, Group, Pair, Statement, OfGroup, OfPair, IsClaims, IsApart, IsPair, groups_of, statements, StatementHolds, StatementFails, IsFirstFailing, IsNamedBy}
+use Rattle.profile.specs.checker.Certificates.{Claims, Group, Pair, Statement, OfGroup, OfPair, IsClaims, IsApart, IsPair, groups_of, statements, StatementHolds, StatementFails, IsNamedBy}
 use Rattle.profile.specs.events.Confirmed.{Confirmed}
 use Rattle.clash_check.specs.Counted.{IsStatementCount, AreCounts, total}
 use Rattle.clash_check.specs.Entries.{IsMore, HasCompared, FailsDrawn, IsStatementDrawn, AllHold, OneFails, AreJudged, ArePairOf}

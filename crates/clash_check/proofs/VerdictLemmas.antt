@@ -3,7 +3,7 @@ use Rattle.std.proofs.Common.{◌≡◌, ℕ, zero, List, ◌∷◌, ◌⊎◌, 
 use Rattle.std.specs.Prelude.{◌↔◌, All, Contains, Result, Ok, Err, IfOk}
 use Rattle.std.proofs.lemmas.List.Elements.{All-contains, Contains-append_right}
 use Rattle.profile.specs.events.Confirmed.{Confirmed}
-use Rattle.profile.specs.checker.Certificates.{Claims, Statement, SpellsCertificate, HasCounts, StatementHolds, StatementsHold, CertificateHoldsFor, IsWrongText, IsWrongCount, HasFailingStatement, HasClashes, IsFirstFailing, statements}
+use Rattle.profile.specs.checker.Certificates.{Claims, Statement, SpellsCertificate, HasCounts, StatementHolds, CertificateHoldsFor, IsWrongText, IsWrongCount, HasFailingStatement, HasClashes, IsFirstFailing, statements}
 use Rattle.profile.specs.checker.Calendars.{SpellsCalendar, CalendarTextFault, CertificateHolds}
 use Rattle.cal_events.specs.Calendar.{HaveDifferentKeys, HaveOwnKeys}
 use Rattle.clash_check.specs.declared.verdict.Checked.{Checked}

@@ -5,8 +5,8 @@ ghost use Rattle.clash_check.specs.Judgings.{IsVerdictOf, MakesFewOf};
 ghost use Rattle.clash_check.specs.Verdicts.{IsVerdict, MakesFew};
 
 use crate::drawn::Drawn;
-use crate::statements::first_failing;
 use crate::singles::have_clash;
+use crate::statements::first_failing;
 use crate::verdict::{Checked, Verdict, Why};
 use clash_cert::{CertFault, Certificate};
 use std::alloc::{AllocError, Global};

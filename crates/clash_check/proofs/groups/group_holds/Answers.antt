@@ -4,7 +4,6 @@ use Rattle.std.specs.List.{sum_by}
 use Rattle.std.proofs.lemmas.Bool.{true≢false}
 use Rattle.profile.specs.checker.Instances.{Instance}
 use Rattle.profile.specs.checker.Certificates.{AreSeriesAt}
-use Rattle.profile.specs.events.Events.{Event}
 use Rattle.profile.specs.events.Spans.{HaveClash, IsBoundOf, IsSpan}
 use Rattle.clash_cert.specs.Texts.{group_said}
 use Rattle.clash_check.specs.Counted.{AreAllBelow}
@@ -29,7 +28,7 @@ returns-then-not-is_span g c =
     let fits : FitsSigned w64 c.instant-from.result = search rules in
     let same : to_z w64 (of_z w64 c.instant-from.result) ≡ group.from = to_z-of_z fits ∙ c.instant-from.ensures.value in
     let none : OfThem all group (λ those. IsSpan those group.from group.days → ⊥) = λ those are span.
-        true≢false (sym ((c.is_span.ensures.is those (subst (λ l. AreSeriesAt all l those) (sym c.deref.ensures.value) are)).1 (subst (λ (t : ℤ). IsSpan those t group.days) (sym same) span)) ∙ c.if-not-is_span.true) in
+    true≢false (sym ((c.is_span.ensures.is those (subst (λ l. AreSeriesAt all l those) (sym c.deref.ensures.value) are)).1 (subst (λ (t : ℤ). IsSpan those t group.days) (sym same) span)) ∙ c.if-not-is_span.true) in
     record {
       calendar = refl;
       holds = no_group all group none c.requires;
@@ -52,10 +51,10 @@ returns g c =
     let two = c.requires.some in
     let some : 0 < length c.deref-2.result.now = omega (arith, long, two) in
     let span : OfThem all group (λ those. IsSpan those group.from group.days) = λ those are.
-        subst (λ (t : ℤ). IsSpan those t group.days) same ((c.is_span.ensures.is those (subst (λ l. AreSeriesAt all l those) (sym c.deref.ensures.value) are)).0 c.if-not-is_span.false) in
+    subst (λ (t : ℤ). IsSpan those t group.days) same ((c.is_span.ensures.is those (subst (λ l. AreSeriesAt all l those) (sym c.deref.ensures.value) are)).0 c.if-not-is_span.false) in
     let is : OfThem all group (λ those. IsBoundOf those group.from group.days bound) = λ those are.
-        bound_of those group.from c.greatest_width.result bound _ _ group.days same width
-        (c.greatest_width.ensures.is those some (subst (λ l. AreSeriesAt all l those) (sym c.deref-2.ensures.value) are)) c.span_end-bound.ensures in
+    bound_of those group.from c.greatest_width.result bound _ _ group.days same width
+    (c.greatest_width.ensures.is those some (subst (λ l. AreSeriesAt all l those) (sym c.deref-2.ensures.value) are)) c.span_end-bound.ensures in
     record {
       calendar = c.sweep_group.ensures.calendar;
       holds = group_judged all group bound span is found c.requires (λ those are.

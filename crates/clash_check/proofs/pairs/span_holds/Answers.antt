@@ -1,4 +1,4 @@
-use Rattle.std.proofs.Common.{◌≡◌, ◌∙◌, ℤ, sym, subst, inl, rules, refl, length, List, [], ◌∷◌, arith, to_z, of_z, to_z-of_z, w64, FitsSigned}
+use Rattle.std.proofs.Common.{◌≡◌, ◌∙◌, ℤ, sym, subst, inl, rules, refl, [], ◌∷◌, arith, to_z, of_z, to_z-of_z, w64, FitsSigned}
 use Rattle.std.specs.Prelude.{MatchBool}
 use Rattle.std.proofs.lemmas.Bool.{true≢false}
 use Rattle.profile.specs.checker.Instances.{AreClear, HasClash}
@@ -15,7 +15,7 @@ returns-then-not-is_span g c =
     let fits : FitsSigned w64 c.args.from = search rules in
     let same : to_z w64 (of_z w64 c.args.from) ≡ c.args.from = to_z-of_z fits in
     let none = λ (a b : Event) (here : IsSeriesAt all c.args.i a) (there : IsSeriesAt all c.args.j b) (s : IsSpan (a ∷ b ∷ []) c.args.from c.args.days).
-        true≢false (sym ((c.is_span.ensures.is (a ∷ b ∷ []) (here, (there, tt))).1 (subst (λ (t : ℤ). IsSpan (a ∷ b ∷ []) t c.args.days) (sym same) s)) ∙ c.if-not-is_span.true) in
+    true≢false (sym ((c.is_span.ensures.is (a ∷ b ∷ []) (here, (there, tt))).1 (subst (λ (t : ℤ). IsSpan (a ∷ b ∷ []) t c.args.days) (sym same) s)) ∙ c.if-not-is_span.true) in
     record {
       calendar = refl;
       holds = λ a b here there. inl (none a b here there);
@@ -33,9 +33,9 @@ returns g c =
     let end : FitsSigned w64 bound = search rules in
     let at : to_z w64 (of_z w64 bound) ≡ bound = to_z-of_z end in
     let span : IsSpanAt all c.args.i c.args.j c.args.from c.args.days = λ a b here there.
-        subst (λ (t : ℤ). IsSpan (a ∷ b ∷ []) t c.args.days) same ((c.is_span.ensures.is (a ∷ b ∷ []) (here, (there, tt))).0 c.if-not-is_span.false) in
+    subst (λ (t : ℤ). IsSpan (a ∷ b ∷ []) t c.args.days) same ((c.is_span.ensures.is (a ∷ b ∷ []) (here, (there, tt))).0 c.if-not-is_span.false) in
     let is : IsBoundAt all c.args.i c.args.j c.args.from c.args.days bound = λ a b here there.
-        bound_of (a ∷ b ∷ []) c.args.from c.greatest_width-width.result bound _ _ c.args.days same width (c.greatest_width-width.ensures.is (a ∷ b ∷ []) (omega arith) (here, (there, tt))) c.span_end.ensures in
+    bound_of (a ∷ b ∷ []) c.args.from c.greatest_width-width.result bound _ _ c.args.days same width (c.greatest_width-width.ensures.is (a ∷ b ∷ []) (omega arith) (here, (there, tt))) c.span_end.ensures in
     record {
       calendar = c.are_clear.ensures.calendar;
       holds = λ a b here there. span_judged a b c.args.from c.args.days bound (span a b here there) (is a b here there) c.are_clear.result

@@ -1,4 +1,4 @@
-use Rattle.std.proofs.Common.{◌≡◌, ℕ, length, map, subst, sym}
+use Rattle.std.proofs.Common.{length, map, subst, sym}
 use Rattle.std.specs.Prelude.{All}
 use Rattle.std.proofs.lemmas.Result.{IfOk-weaker}
 use Rattle.profile.specs.checker.Certificates.{IsGroup, OfGroup, OfPair, groups_of, statements}

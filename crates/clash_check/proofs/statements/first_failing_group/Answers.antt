@@ -1,4 +1,4 @@
-use Rattle.std.proofs.Common.{◌≡◌, length, map, subst, sym}
+use Rattle.std.proofs.Common.{length, map, subst, sym}
 use Rattle.std.proofs.lemmas.List.Elements.{All-contains}
 use Rattle.profile.specs.checker.Certificates.{IsGroup, OfGroup}
 use Rattle.profile.specs.events.Confirmed.{Confirmed}

@@ -1,4 +1,4 @@
-use Rattle.std.proofs.Common.{◌≡◌, length, map, refl, subst, sym}
+use Rattle.std.proofs.Common.{length, map, refl, subst, sym}
 use Rattle.std.proofs.lemmas.List.Elements.{All-contains}
 use Rattle.profile.specs.checker.Certificates.{IsPair, OfPair}
 use Rattle.profile.specs.events.Confirmed.{Confirmed}
