@@ -1,6 +1,6 @@
 use Rattle.std.proofs.Common.{◌≡◌, ◌∙◌, ◌++◌, codes}
+use Rattle.std.proofs.lemmas.Result.{on_ok_weaker}
 use Rattle.cal_zones.specs.RoomZones.{words_of}
-use Rattle.clash_cert.proofs.WholeText.{ok_also}
 use Rattle.profile.specs.rooms.Kept.{room_zone_lines}
 use Rattle.profile.specs.text.Lines.{folded, written}
 use Rattle.room_books.proofs.texts_lemmas.RoomLines.{utc_unnamed, zone_named}
@@ -12,7 +12,7 @@ returns c =
     let old = c.args.object.now in
     let new = c.named.new.self in
     let text = c.as_str.result.now in
-    ok_also c.named.result (new ≡ old ++ folded (codes "X-ROOM-ZONE:" ++ text)) (new ≡ old ++ written (room_zone_lines (words_of zone)))
+    on_ok_weaker c.named.result
     (zone_named zone old new text c.is_utc.result c.is_utc.ensures c.if-is_utc.false (c.as_str.ensures.value ∙ c.in_ok-words.ensures)) c.named.ensures.ok
 
 pub returns-then-is_utc : goal.returns-then-is_utc
