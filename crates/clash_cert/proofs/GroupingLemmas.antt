@@ -1,12 +1,12 @@
 -- The group that a certificate gives, and the entries that stay beside it.
 use Rattle.std.proofs.Common.{◌≡◌, ◌∙◌, ◌⊎◌, ℤ, ℕ, zero, suc, ◌+◌, ◌-◌, ◌^◌, ◌<◌, ◌≤◌, ◌==◌, Bool, true, false, cond, List, [], ◌∷◌, ◌++◌, length, get_or, take, subst, sym, refl, ap, inl, inr, arith}
-use Rattle.std.specs.Prelude.{Option, Some, None, is_some, unwrap_or, IsTrue, ◌↔◌, Contains, not}
+use Rattle.std.specs.Prelude.{Some, None, unwrap_or, IsTrue, ◌↔◌, Contains, not}
 use Rattle.std.specs.List.{AllZip, slice_get}
 use Rattle.std.proofs.lemmas.Bool.{true≢false, false≢true, cases_Bool, eqb-true, eq-eqb, not-true, and_parts, and_from}
 use Rattle.std.proofs.lemmas.List.Elements.{All-contains, All-nil, All-cons, Contains-get_or, filter_more}
 use Rattle.std.proofs.lemmas.List.Folds.{Any-from_list_any, list_any-from_Any}
 use Rattle.std.proofs.lemmas.List.Kept.{AllPairs-filter}
-use Rattle.profile.specs.checker.Certificates.{Pair, Group, Claims, groups_of, IsClaims, IsApart, IsGroup, IsPairBefore, AreTogether, HasSpan, IsPlacedAt, IsShortSpan, IsCertificateMade, IsGroupMade, IsGrouped, HasNoGroup}
+use Rattle.profile.specs.checker.Certificates.{Pair, Group, Claims, groups_of, IsClaims, IsApart, IsGroup, IsPairBefore, AreTogether, IsPlacedAt, IsShortSpan, IsGroupMade, IsGrouped, HasNoGroup}
 use Rattle.profile.specs.text.Values.{IsClockSeconds}
 use Rattle.profile.specs.events.Events.{Event}
 use Rattle.profile.specs.events.Confirmed.{Confirmed}
@@ -137,12 +137,6 @@ module _ (c : Claims) (is : IsClaims c) (members : List ℕ) (have : HaveSpan c 
       groups = refl;
       pairs = λ p here. (apart_is members c.pairs p here).0;
     }
-
--- ---- where there is none
-
-pub none_of : {X : Type 0} (o : Option X) → is_some o ≡ false → o ≡ None
-none_of None e = refl
-none_of (Some x) e = absurd (true≢false e)
 
 -- ---- as it is made of its parts
 

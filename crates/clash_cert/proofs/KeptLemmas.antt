@@ -7,7 +7,7 @@ use Rattle.std.proofs.lemmas.Bool.Decides.{nat_tests}
 use Rattle.std.proofs.lemmas.List.Elements.{All-contains}
 use Rattle.profile.specs.events.Events.{Event}
 use Rattle.profile.specs.events.Confirmed.{Confirmed}
-use Rattle.profile.specs.checker.Certificates.{Claims, Entry, End, Pair, Group, groups_of, IsApart, IsEntry, IsClaims, IsPair, IsEntryMade, IsSeriesAt, IsCertificateMade}
+use Rattle.profile.specs.checker.Certificates.{Claims, Entry, Pair, Group, groups_of, IsApart, IsEntry, IsClaims, IsPair, IsEntryMade, IsSeriesAt, IsCertificateMade}
 use Rattle.clash_cert.specs.Texts.{IsEntryAmong, theirs, none}
 use Rattle.clash_cert.specs.Chosen.{AreKept, IsSaidOf, IsEntryAt}
 use Rattle.clash_cert.proofs.ChosenLemmas.{pairs_start, certificate_kept}

@@ -1,5 +1,5 @@
 //! Certificate version 2: one group of all series that spans settle, so that each is gone through once.
-ghost use Rattle.std.specs.Prelude.{ℕ, List, ◌≡◌, ◌+◌, ◌^◌, ◌≤◌, ◌<◌, ◌||◌, false, None, suc, length, map, All, AllPairs, IfOk, MatchOption, slice_index_or};
+ghost use Rattle.std.specs.Prelude.{ℕ, List, ◌≡◌, ◌+◌, ◌^◌, ◌≤◌, ◌<◌, ◌||◌, false, None, suc, length, map, AllPairs, IfOk, MatchOption, slice_index_or};
 ghost use Rattle.profile.specs.checker.Instances.{IsClear};
 ghost use Rattle.profile.specs.checker.Certificates.{SpellsCertificate, CertificateHoldsFor, IsClaims, IsCertificateMade, IsCertificateWritten, IsGrouped, HasNoGroup, IsPair};
 ghost use Rattle.profile.specs.events.Confirmed.{IsOneOf};

@@ -1,8 +1,8 @@
 -- What is to come of the series of a calendar, before and after a draw.
 use Rattle.std.proofs.Common.{◌≡◌, ◌≢◌, ◌∙◌, sym, ap, subst, inl, inr, arith, ℕ, ◌-◌, ◌<◌, List, [], map, length, set, get_or, ℤ, pos, ◌+ℤ◌, ◌≤ℤ◌, ◌<ℤ◌}
-use Rattle.std.specs.Prelude.{Option, Some, None, MatchOption, ◌↔◌}
+use Rattle.std.specs.Prelude.{Option, Some, None, MatchOption, ◌↔◌, Contains}
 use Rattle.std.specs.List.{slice_get}
-use Rattle.std.proofs.lemmas.Bool.{cases_lt}
+use Rattle.std.proofs.lemmas.Bool.{cases_lt, cases_eq}
 use Rattle.std.proofs.lemmas.Int.{ints}
 use Rattle.std.proofs.lemmas.List.{length-map, length-set, get_or-set_same, get_or-set_other}
 use Rattle.std.proofs.lemmas.Option.{same_Some, slice_get-get_or, slice_get_past}
@@ -16,6 +16,7 @@ use Rattle.clash_check.specs.Draws.{IsPlace, IsSpanBetween}
 use Rattle.clash_check.specs.Opened.{IsFirstFrom, IsFirstBetween}
 use Rattle.clash_check.specs.Drawings.{IsComing}
 use Rattle.clash_check.specs.declared.drawing.Wanted.{Wanted}
+use Rattle.clash_check.specs.declared.open_series.OpenSeries.{OpenSeries}
 
 -- ---- the list of what is wanted
 
@@ -164,3 +165,26 @@ wanted_at ws series i place part count counted at is =
     let some = counted.0 in
     let most = counted.1 in
     ap (slice_get ws) (sym at) ∙ slice_get-get_or ws place part (omega (arith, count, at, some, most)) ∙ ap Some (sym is)
+
+-- ---- the series that are open
+
+-- the one at a place is among them
+pub opened_at : (opened : List OpenSeries) (series : List Event) (i place : ℕ) (one : OpenSeries) → length opened ≡ length series → IsPlace (length series) i → place ≡ i - 1 → one ≡ get_or opened place one
+    → Contains opened one
+opened_at opened series i place one count counted at is =
+    let some = counted.0 in
+    let most = counted.1 in
+    (place, omega (arith, count, at, some, most), sym is)
+
+-- and all of them stay of the calendar where that one does
+pub still_same : (all : Confirmed) (opened : List OpenSeries) (place : ℕ) (one : OpenSeries) → ((other : OpenSeries) → Contains opened other → other.calendar.now ≡ all) → one.calendar.now ≡ all
+    → (other : OpenSeries) → Contains (set opened place one) other → other.calendar.now ≡ all
+still_same all opened place one same own other (k, w, e) =
+    let long = length-set opened place one in
+    let within : k < length opened = omega (arith, w, long) in
+    elim (cases_eq k place) [
+      | inl at ↦
+          let is : one ≡ other = sym (get_or-set_same opened place one other (omega (arith, within, at))) ∙ ap (λ n. get_or (set opened place one) n other) (sym at) ∙ e in
+          subst (λ (o : OpenSeries). o.calendar.now ≡ all) is own
+      | inr differ ↦ same other (k, within, sym (get_or-set_other opened place k one other differ) ∙ e)
+    ]

@@ -1,8 +1,14 @@
 pub mod WalkLemmas
 pub mod Counts
 pub mod SweepLemmas
+pub mod PlacedLemmas
+pub mod PeriodLemmas
 pub mod EntryLemmas
 pub mod ResidueLemmas
+pub mod GroupLemmas
+pub mod StatementLemmas
+pub mod SaidLemmas
+pub mod NeverBoth
 pub mod SingleLemmas
 pub mod JudgingLemmas
 pub mod OpenLemmas
@@ -11,3 +17,5 @@ pub mod SpanLemmas
 pub mod VerdictLemmas
 pub mod ClashLemmas
 pub mod FreeLemmas
+pub mod ComingLemmas
+pub mod GroupSweepLemmas

@@ -12,12 +12,13 @@ use Rattle.profile.specs.events.Residues.{AreResidues, IsModulus, AreArcsApart, 
 use Rattle.profile.specs.events.Spans.{IsWidthOf}
 use Rattle.profile.specs.series.Repeating.{ArcsMeet, IsCongruent}
 use Rattle.cal_period.specs.Around.{AreAround, AreApart, IsApart}
-use Rattle.cal_period.proofs.Spanning.{width_is_one}
-use Rattle.clash_check.specs.Counted.{IsPairCount}
+use Rattle.cal_period.proofs.Widths.{width_is_one}
+use Rattle.clash_check.specs.Counted.{IsEntryCount}
 use Rattle.clash_check.specs.Draws.{IsDrawable, LastsAbout}
 use Rattle.clash_check.specs.Entries.{IsEntryDrawn}
 use Rattle.clash_check.specs.Singles.{week, HasNoSharer}
-use Rattle.clash_check.proofs.EntryLemmas.{one_place, two_places, rest_of_multiple}
+use Rattle.clash_check.proofs.EntryLemmas.{one_place, two_places}
+use Rattle.clash_check.proofs.PeriodLemmas.{rest_of_multiple}
 use Rattle.clash_check.proofs.SweepLemmas.{series_there, series_in}
 
 -- ---- which numbers m may be
@@ -103,7 +104,7 @@ residues_judged all i j pair m false told =
     let (b, there) = series_there all j (omega (arith, x, y), z) in
     (a, b, here, there, λ hold. false≢true ((told a b here there).1 hold))
 
-pub residues_drawn : (all : Confirmed) (i j m : ℕ) (r : Bool) (old n : ℕ) → IsPairCount all i j (Res m) n → IsEntryDrawn all i j (Res m) r old old n
+pub residues_drawn : (all : Confirmed) (i j m : ℕ) (r : Bool) (old n : ℕ) → IsEntryCount all i j (Res m) n → IsEntryDrawn all i j (Res m) r old old n
 residues_drawn all i j m true old n none = omega (arith, none)
 residues_drawn all i j m false old n none = inr (λ compared. compared, omega arith)
 

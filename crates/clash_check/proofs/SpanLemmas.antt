@@ -1,60 +1,33 @@
--- Where a certificate holds, nothing clashes: END settles a pair of series by itself, a span by what both do in one period, and residues for all time.
-use Rattle.std.proofs.Common.{◌≡◌, ◌≢◌, ◌∙◌, refl, sym, ap, subst, inl, inr, arith, true, false, ℕ, suc, ◌-◌, ◌*◌, ◌<◌, ◌≤◌, ℤ, pos, ◌+ℤ◌, ◌-ℤ◌, ◌≤ℤ◌, ◌<ℤ◌, List, [], length}
+-- Where a certificate holds, nothing clashes: END settles a pair of series by itself, a span and a group by what all do in one period, and residues for
+-- all time.
+use Rattle.std.proofs.Common.{◌≡◌, ◌≢◌, ◌∙◌, refl, sym, ap, subst, inl, inr, arith, true, false, ℕ, zero, suc, ◌-◌, ◌==◌, ◌<◌, ◌≤◌, ℤ, List, [], ◌∷◌, ◌++◌, length, get_or}
 use Rattle.std.proofs.Math.Logic.{∥∥₁_elim}
 use mathlib.Core.HLevel.{⊥_prop}
 use Rattle.std.specs.Prelude.{Some, Contains}
 use Rattle.std.specs.List.{slice_get}
-use Rattle.std.proofs.lemmas.Int.{ints, by_lt_z}
 use Rattle.std.proofs.lemmas.Bool.{cases_lt, cases_eq}
-use Rattle.std.proofs.lemmas.Option.{same_Some, slice_get-get_or, slice_get_within, get_or_from_slice_get}
-use Rattle.profile.specs.checker.Instances.{Key, Instance, horizon, IsWithin, AreClashing, AreClear, IsClear}
-use Rattle.profile.specs.checker.Certificates.{Entry, End, Span, Res, EntryHolds, IsSeriesAt, CertificateHoldsFor, entry_of}
-use Rattle.profile.specs.series.Repeating.{LastsAtMost, RepeatsFrom}
+use Rattle.std.proofs.lemmas.List.Elements.{Contains-append_cases}
+use Rattle.std.proofs.lemmas.Option.{same_Some, slice_get-get_or}
+use Rattle.profile.proofs.MadeCertificates.{series_at}
+use Rattle.profile.specs.checker.Instances.{Instance, IsWithin, AreClashing, AreClear, IsClear}
+use Rattle.profile.specs.checker.Certificates.{Entry, End, Span, Res, InGroup, EntryHolds, IsSeriesAt, CertificateHoldsFor}
 use Rattle.profile.specs.events.Residues.{ResiduesHold}
 use Rattle.profile.specs.events.EventComponents.{EventComponent}
 use Rattle.profile.specs.events.Events.{Event}
-use Rattle.profile.specs.events.Starts.{IsInstance, IsStart, EndsAt, key_at}
+use Rattle.profile.specs.events.Starts.{IsInstance, key_at}
 use Rattle.profile.specs.events.Confirmed.{Confirmed, IsInSeries, IsOneOf}
-use Rattle.profile.specs.events.Spans.{IsPeriodOf, IsPastAll, IsWidthOf, IsSaidSeries, AreSaidSeries, SpanHolds, greater}
-use Rattle.profile.proofs.Repeats.{always}
-use Rattle.clash_check.specs.Draws.{IsSpanOf}
+use Rattle.profile.specs.events.Spans.{IsSaidSeries, AreSaidSeries, SpanHolds}
 use Rattle.clash_check.proofs.EntryLemmas.{one_place, two_places}
+use Rattle.clash_check.proofs.PlacedLemmas.{one_series}
+use Rattle.clash_check.proofs.SaidLemmas.{said_of}
 
--- ---- the instances of a series that a VEVENT says
-
--- an instance is at a start of the master, and known by it
-pub record IsAtStart (master : EventComponent) (b : Instance) : Type 0 where
-  pub starts : IsStart master [] b.start
-  pub key : b.key ≡ key_at master b.start
-  pub ends : EndsAt master.times b.start b.end
-
-pub at_start : (series : Event) (s : IsSaidSeries series) (b : Instance) → IsInstance series b → IsAtStart s.master b
-at_start series s b (inl own) =
+-- an instance of a series that a VEVENT says is known by its start
+key_of : (series : Event) (s : IsSaidSeries series) (b : Instance) → IsInstance series b → b.key ≡ key_at s.master b.start
+key_of series s b (inl own) =
     let same : own.master ≡ s.master = same_Some own.master s.master (sym own.is ∙ ap (λ (m : Event). m.master) s.is) in
-    let none = ap (λ (m : Event). m.overrides) s.is in
-    record {
-      starts = subst (λ (m : EventComponent). IsStart m [] b.start) same (subst (λ l. IsStart own.master l b.start) none own.starts);
-      key = own.key ∙ ap (λ m. key_at m b.start) same;
-      ends = subst (λ (m : EventComponent). EndsAt m.times b.start b.end) same own.ends;
-    }
-at_start series s b (inr other) =
+    own.key ∙ ap (λ m. key_at m b.start) same
+key_of series s b (inr other) =
     let (place, few, e) = subst (λ (l : List EventComponent). Contains l other.override) (ap (λ (m : Event). m.overrides) s.is) other.is in absurd (omega (arith, few))
-
-same_int : {a b : ℤ} → a ≤ℤ b → b ≤ℤ a → a ≡ b
-same_int {a} {b} l m = omega (arith, ints, l, m)
-
--- keys that differ differ at other starts that are as far apart too
-keys_differ : (m n : EventComponent) (a c d : ℤ) → key_at m a ≢ key_at n c → key_at m (a -ℤ d) ≢ key_at n (c -ℤ d)
-keys_differ m n a c d differ same =
-    let slots = ap (λ (k : Key). k.slot) same in
-    let both : a ≡ c = same_int (omega (arith, ints, slots)) (omega (arith, ints, slots)) in
-    differ (ap (λ (k : Key). record { organiser = k.organiser; uid = k.uid; slot = a }) same ∙ ap (λ t. key_at n t) both)
-
-greater_first : (a b : ℤ) → a ≤ℤ greater a b
-greater_first a b = grind (arith, ints)
-
-greater_second : (a b : ℤ) → b ≤ℤ greater a b
-greater_second a b = grind (arith, ints)
 
 -- a clash is one of the second with the first too
 turned : (a b : Instance) (t : ℤ) → AreClashing a b t → AreClashing b a t
@@ -76,140 +49,80 @@ TwoSettle =
 -- two of one start have one key
 one_residues_clear : OneSettles → (a b : Event) (m : ℕ) → IsSaidSeries a → ResiduesHold true a b m → AreClear (IsInstance a) (IsInstance a)
 one_residues_clear settles a b m p holds x y t in_x in_y clash =
-    settles a b m x y t p holds in_x in_y (λ same. clash.differ ((at_start a p x in_x).key ∙ ap (key_at p.master) same ∙ sym (at_start a p y in_y).key)) clash.in_first clash.in_second
+    settles a b m x y t p holds in_x in_y (λ same. clash.differ (key_of a p x in_x ∙ ap (key_at p.master) same ∙ sym (key_of a p y in_y))) clash.in_first clash.in_second
 
 -- that some VEVENT says it is enough
 pub residues_clear : OneSettles → (series : Event) (m : ℕ) → ∥ IsSaidSeries series ∥₁ → ResiduesHold true series series m → AreClear (IsInstance series) (IsInstance series)
 residues_clear settles series m said holds x y t in_x in_y clash = ∥∥₁_elim said ⊥_prop (λ p. one_residues_clear settles series series m p holds x y t in_x in_y clash)
 
--- ---- two instances of a pair whose span holds, or of one series by itself
+-- ---- a span that holds
 
-module _
-    (lasts : (series : Event) (width : ℤ) → IsSaidSeries series → IsWidthOf series width → (b : Instance) → IsInstance series b → b.end ≤ℤ (b.start +ℤ width))
-    (repeats : (series : Event) (from : ℤ) (days : ℕ) → IsSaidSeries series → IsPastAll series from → IsPeriodOf series days → RepeatsFrom (IsSpanOf series) from (pos (86_400 * days))) where
-  short : (series : Event) (own width : ℤ) → IsSaidSeries series → IsWidthOf series own → own ≤ℤ width → LastsAtMost (IsSpanOf series) width
-  short series own width said is most start end (b, of, s, e) = let l = lasts series own said is b of in omega (arith, ints, l, most, s, e)
+abbrev pub SpansSettle : Type 0
+SpansSettle =
+    (these those : List Event) (from : ℤ) (days : ℕ) → AreSaidSeries (these ++ those) → SpanHolds these those from days
+    → (a b : Event) → Contains these a → Contains those b → AreClear (IsInstance a) (IsInstance b)
 
-  span_clear : (a b : Event) (from : ℤ) (days : ℕ) → IsSaidSeries a → IsSaidSeries b → SpanHolds a b from days → AreClear (IsInstance a) (IsInstance b)
-  span_clear a b from days p q holds x y t in_a in_b clash =
-      always (IsSpanOf a) (IsSpanOf b) Differ from period width (omega (arith, ints, some))
-      (short a first width p first_is (greater_first first second)) (short b second width q second_is (greater_second first second))
-      (repeats a from days p holds.span.first_past holds.span.first_period) (repeats b from days q holds.span.second_past holds.span.second_period)
-      (λ u v. keys_differ p.master q.master u v period) below
-      x.start x.end y.start y.end t (x, in_a, refl, refl) (y, in_b, refl, refl)
-      (λ same. clash.differ (at_a.key ∙ same ∙ sym at_b.key)) clash.in_first clash.in_second
-    where
-      period : ℤ
-      period = pos (86_400 * days)
+-- of series of a list with some of the same list
+spans_clear : SpansSettle → (all these those : List Event) → AreSaidSeries all → ((series : Event) → Contains these series → Contains all series) → ((series : Event) → Contains those series → Contains all series)
+    → (from : ℤ) (days : ℕ) → SpanHolds these those from days → (a b : Event) → Contains these a → Contains those b → AreClear (IsInstance a) (IsInstance b)
+spans_clear settle all these those said within with from days holds a b first second = settle these those from days each holds a b first second
+  where
+    each : AreSaidSeries (these ++ those)
+    each series c = elim (Contains-append_cases these those series c) [ inl d ↦ said series (within series d) | inr d ↦ said series (with series d) ]
 
-      some : 0 < days
-      some = holds.span.some
+-- each by itself
+pub settled_of : SpansSettle → (all : List Event) → AreSaidSeries all → (those : List Event) → ((series : Event) → Contains those series → Contains all series)
+    → (from : ℤ) (days : ℕ) → SpanHolds those those from days → (series : Event) → Contains those series → AreClear (IsInstance series) (IsInstance series)
+settled_of settle all said those within from days holds series there = spans_clear settle all those those said within within from days holds series series there there
 
-      first : ℤ
-      first = holds.is.0
+-- ---- what is said of two series
 
-      second : ℤ
-      second = holds.is.1
+module _ (spans : SpansSettle) (two : TwoSettle) (one : OneSettles) (all : Confirmed) (said : AreSaidSeries all.series) where
+  alone : (a : Event) → Contains all.series a → (series : Event) → Contains (a ∷ []) series → Contains all.series series
+  alone a there series (zero, l, e) = subst (Contains all.series) e there
+  alone a there series (suc n, l, e) = absurd (omega (arith, l))
 
-      first_is : IsWidthOf a first
-      first_is = holds.is.2
-
-      second_is : IsWidthOf b second
-      second_is = holds.is.3
-
-      width : ℤ
-      width = greater first second
-
-      Differ : ℤ → ℤ → Type 0
-      Differ u v = key_at p.master u ≢ key_at q.master v
-
-      at_a : IsAtStart p.master x
-      at_a = at_start a p x in_a
-
-      at_b : IsAtStart q.master y
-      at_b = at_start b q y in_b
-
-      -- the later start is before the horizon
-      below : (k l m n r : ℤ) → IsSpanOf a k l → IsSpanOf b m n → Differ k m → k <ℤ ((from +ℤ period) +ℤ width) → m <ℤ ((from +ℤ period) +ℤ width)
-          → IsWithin k l r → IsWithin m n r → ⊥
-      below k l m n r (v, of_a, ks, le) (w, of_b, ms, ne) differ k_less m_less i j = by_lt_z k m (λ less. shared m (omega (arith, ints, less), omega (arith, ints, i0, j1, j0, i1)) (omega (arith, ints), omega (arith, ints, j0, j1)) (omega (arith, ints, ms, b_dated)))
-          (λ most. shared k (omega (arith, ints), omega (arith, ints, i0, i1)) (omega (arith, ints, most), omega (arith, ints, i0, j1)) (omega (arith, ints, ks, a_dated)))
-        where
-          i0 : k ≤ℤ r
-          i0 = i.0
-
-          i1 : r <ℤ l
-          i1 = i.1
-
-          j0 : m ≤ℤ r
-          j0 = j.0
-
-          j1 : r <ℤ n
-          j1 = j.1
-
-          at_v : IsAtStart p.master v
-          at_v = at_start a p v of_a
-
-          at_w : IsAtStart q.master w
-          at_w = at_start b q w of_b
-
-          a_dated : v.start <ℤ horizon
-          a_dated = at_v.starts.in_dates.1
-
-          b_dated : w.start <ℤ horizon
-          b_dated = at_w.starts.in_dates.1
-
-          shared : (s : ℤ) → IsWithin k l s → IsWithin m n s → s <ℤ horizon → ⊥
-          shared s g h before = holds.clear v w s (of_a, omega (arith, ints, ks, k_less, is_bound)) (of_b, omega (arith, ints, ms, m_less, is_bound)) (record {
-            differ = λ same. differ (ap (key_at p.master) (sym ks) ∙ sym at_v.key ∙ same ∙ at_w.key ∙ ap (key_at q.master) ms);
-            before = before;
-            in_first = (omega (arith, ints, ks, g.0), omega (arith, ints, le, g.1));
-            in_second = (omega (arith, ints, ms, h.0), omega (arith, ints, ne, h.1));
-          })
-            where
-              is_bound : holds.bound ≡ ((from +ℤ period) +ℤ width)
-              is_bound = holds.is.4
-
-  -- that some VEVENT says it is enough
-  pub alone_clear : (series : Event) (from : ℤ) (days : ℕ) → ∥ IsSaidSeries series ∥₁ → SpanHolds series series from days → AreClear (IsInstance series) (IsInstance series)
-  alone_clear series from days said holds x y t in_x in_y clash = ∥∥₁_elim said ⊥_prop (λ p. span_clear series series from days p p holds x y t in_x in_y clash)
-
-  entry_clear : TwoSettle → OneSettles → (all : Confirmed) (i j : ℕ) (entry : Entry) (a b : Event) → IsSaidSeries a → IsSaidSeries b → IsSeriesAt all i a → IsSeriesAt all j b → EntryHolds all i j entry
-      → AreClear (IsInstance a) (IsInstance b)
-  entry_clear two one all i j End a b p q at_i at_j holds = holds a b at_i at_j
-  entry_clear two one all i j (Span from days) a b p q at_i at_j holds = span_clear a b from days p q (holds a b at_i at_j)
-  entry_clear two one all i j (Res m) a b p q at_i at_j holds = elim (cases_eq i j) [
+  residues_two : (i j m : ℕ) (a b : Event) → IsSaidSeries a → IsSaidSeries b → IsSeriesAt all i a → IsSeriesAt all j b → ResiduesHold (i == j) a b m → AreClear (IsInstance a) (IsInstance b)
+  residues_two i j m a b p q at_i at_j holds = elim (cases_eq i j) [
     | inl same ↦
-        let e : a ≡ b = same_Some a b (sym at_i ∙ ap (λ k. slice_get all.series (k - 1)) same ∙ at_j) in
-        subst (λ s. AreClear (IsInstance a) (IsInstance s)) e
-        (one_residues_clear one a b m p (subst (λ own. ResiduesHold own a b m) (one_place i j same) (holds a b at_i at_j)))
-    | inr differ ↦ λ x y t in_x in_y clash.
-        two a b m x y t p q (subst (λ own. ResiduesHold own a b m) (two_places i j differ) (holds a b at_i at_j)) in_x in_y clash.in_first clash.in_second
+        let e : a ≡ b = one_series all j a b (subst (λ k. IsSeriesAt all k a) same at_i) at_j in
+        subst (λ s. AreClear (IsInstance a) (IsInstance s)) e (one_residues_clear one a b m p (subst (λ own. ResiduesHold own a b m) (one_place i j same) holds))
+    | inr differ ↦ λ x y t in_x in_y clash. two a b m x y t p q (subst (λ own. ResiduesHold own a b m) (two_places i j differ) holds) in_x in_y clash.in_first clash.in_second
   ]
+
+  entry_clear : (i j : ℕ) (entry : Entry) (a b : Event) → IsSeriesAt all i a → IsSeriesAt all j b → EntryHolds all i j entry → AreClear (IsInstance a) (IsInstance b)
+  entry_clear i j End a b at_i at_j holds = holds a b at_i at_j
+  entry_clear i j (Span from days) a b at_i at_j holds =
+      spans_clear spans all.series (a ∷ []) (b ∷ []) said (alone a (series_at all i a at_i)) (alone b (series_at all j b at_j)) from days (holds a b at_i at_j) a b
+      (zero, omega arith, refl) (zero, omega arith, refl)
+  entry_clear i j (Res m) a b at_i at_j holds = λ x y t in_a in_b clash.
+      ∥∥₁_elim (said a (series_at all i a at_i)) ⊥_prop (λ p.
+      ∥∥₁_elim (said b (series_at all j b at_j)) ⊥_prop (λ q. residues_two i j m a b p q at_i at_j (holds a b at_i at_j) x y t in_a in_b clash))
+  entry_clear i j (InGroup n) a b at_i at_j holds = absurd holds
 
   -- ---- all that is confirmed
 
-  module _ (two : TwoSettle) (one : OneSettles) (all : Confirmed) (text : List ℕ) (said : AreSaidSeries all.series) (holds : CertificateHoldsFor all text) where
+  module _ (text : List ℕ) (holds : CertificateHoldsFor all text) where
     -- the series at two places, in their order
-    pair_clear : (i j : ℕ) (a b : Event) → i ≤ j → j < length all.series → slice_get all.series i ≡ Some a → slice_get all.series j ≡ Some b → AreClear (IsInstance a) (IsInstance b)
-    pair_clear i j a b order within at_i at_j x y t in_a in_b clash =
-        let claims = holds.c in
-        let first : suc i - 1 ≡ i = omega arith in
-        let second : suc j - 1 ≡ j = omega arith in
+    pair_clear : (i j : ℕ) (a b : Event) → 0 < i → i ≤ j → j ≤ length all.series → IsSeriesAt all i a → IsSeriesAt all j b → AreClear (IsInstance a) (IsInstance b)
+    pair_clear i j a b some order most at_i at_j =
         let series = holds.counts.series in
-        let entry = holds.entries (suc i) (suc j) (omega arith, omega (arith, order), omega (arith, within, series)) in
-        ∥∥₁_elim (said a (i, slice_get_within all.series i a at_i, get_or_from_slice_get all.series i a a at_i)) ⊥_prop (λ p.
-        ∥∥₁_elim (said b (j, slice_get_within all.series j b at_j, get_or_from_slice_get all.series j b b at_j)) ⊥_prop (λ q.
-        entry_clear two one all (suc i) (suc j) (entry_of claims (suc i) (suc j)) a b p q (ap (slice_get all.series) first ∙ at_i) (ap (slice_get all.series) second ∙ at_j) entry x y t in_a in_b clash))
+        elim (said_of all holds.c holds.spells.claims holds.counts holds.statements i j (some, order, omega (arith, most, series))) [
+          | inl s ↦ spans_clear spans all.series s.those s.those said s.within s.within s.from s.days s.holds a b (s.first a at_i) (s.second b at_j)
+          | inr (entry, h) ↦ entry_clear i j entry a b at_i at_j h
+        ]
 
     series_clear : (x y : Instance) (t : ℤ) → IsInSeries all.series x → IsInSeries all.series y → AreClashing x y t → ⊥
     series_clear x y t (a, (i, v, e), in_a) (b, (j, w, f), in_b) clash =
-        let at_i : slice_get all.series i ≡ Some a = slice_get-get_or all.series i a v ∙ ap Some e in
-        let at_j : slice_get all.series j ≡ Some b = slice_get-get_or all.series j b w ∙ ap Some f in
+        let at_i : IsSeriesAt all (suc i) a = at_next i a v e in
+        let at_j : IsSeriesAt all (suc j) b = at_next j b w f in
         elim (cases_lt j i) [
-          | inl less ↦ pair_clear j i b a (omega (arith, less)) v at_j at_i y x t in_b in_a (turned x y t clash)
-          | inr most ↦ pair_clear i j a b most w at_i at_j x y t in_a in_b clash
+          | inl less ↦ pair_clear (suc j) (suc i) b a (omega arith) (omega (arith, less)) (omega (arith, v)) at_j at_i y x t in_b in_a (turned x y t clash)
+          | inr most ↦ pair_clear (suc i) (suc j) a b (omega arith) (omega (arith, most)) (omega (arith, w)) at_i at_j x y t in_a in_b clash
         ]
+      where
+        at_next : (k : ℕ) (s : Event) → k < length all.series → get_or all.series k s ≡ s → IsSeriesAt all (suc k) s
+        at_next k s l e = let first : suc k - 1 ≡ k = omega arith in ap (slice_get all.series) first ∙ slice_get-get_or all.series k s l ∙ ap Some e
 
     pub certificate_clear : IsClear (IsOneOf all)
     certificate_clear x y t (inl single) other clash = holds.singles x y t single other clash

@@ -38,12 +38,12 @@ known_at all drawable i a e = drawable.known a (series_in all i a e)
 
 -- ---- two spans
 
-turned : (s e u v : ℤ) → SharesInstant s e u v → SharesInstant u v s e
+pub turned : (s e u v : ℤ) → SharesInstant s e u v → SharesInstant u v s e
 turned s e u v h = record { instant = h.instant; before = h.before; in_first = h.in_second; in_second = h.in_first }
 
 module _ (Is : ℤ → ℤ → Type 0) (place : ℤ) (last : Option Span) (ends : IsLastBehind Is place last) (next : Span) where
   -- it meets none of those behind
-  meets_none : MeetsNone last next → (s e : ℤ) → IsBehind Is place s e → SharesInstant s e next.start next.end → ⊥
+  pub meets_none : MeetsNone last next → (s e : ℤ) → IsBehind Is place s e → SharesInstant s e next.start next.end → ⊥
   meets_none none s e h share = go last ends none
     where
       go : (o : Option Span) → IsLastBehind Is place o → MeetsNone o next → ⊥
@@ -52,7 +52,7 @@ module _ (Is : ℤ → ℤ → Type 0) (place : ℤ) (last : Option Span) (ends 
       go (Some l) ends (inr over) = let k = ends.1 s e h in omega (arith, ints, k, over, share.in_first.1, share.in_second.0)
 
   -- it meets the last of them
-  met : ((s e : ℤ) → IsBehind Is place s e → s ≤ℤ next.start) → next.start <ℤ horizon → (m : MeetsLast last next)
+  pub met : ((s e : ℤ) → IsBehind Is place s e → s ≤ℤ next.start) → next.start <ℤ horizon → (m : MeetsLast last next)
       → IsBehind Is place m.0.start m.0.end × SharesInstant m.0.start m.0.end next.start next.end
   met early before m =
       let l = m.0 in
@@ -97,16 +97,16 @@ has_shared a bound s e u v known ((x, is, p, q), l) ((y, it, m, n), k) less h = 
   shared = shared_as x y s e u v p q m n h;
 }
 
-as_span : (a : Event) (bound : ℤ) (x : SaidInstance) → StartsBelow a bound x → IsBelow a bound x.start x.end
+pub as_span : (a : Event) (bound : ℤ) (x : SaidInstance) → StartsBelow a bound x → IsBelow a bound x.start x.end
 as_span a bound x h = ((x, h.0, refl, refl), h.1)
 
-start_before : (a : Event) (bound s e : ℤ) → AreKnownByStart a → IsBelow a bound s e → s <ℤ horizon
+pub start_before : (a : Event) (bound s e : ℤ) → AreKnownByStart a → IsBelow a bound s e → s <ℤ horizon
 start_before a bound s e known ((x, is, p, q), l) = let d = (known.dates x is).1 in omega (arith, ints, d, p)
 
 -- ---- a walk
 
 -- what comes in the same way
-still : (Is Old New : ℤ → ℤ → Type 0) (bound : ℤ) (walk : Walk) → ((s e : ℤ) → New s e ↔ Old s e) → IsWalkOf Is Old bound walk → IsWalkOf Is New bound walk
+pub still : (Is Old New : ℤ → ℤ → Type 0) (bound : ℤ) (walk : Walk) → ((s e : ℤ) → New s e ↔ Old s e) → IsWalkOf Is Old bound walk → IsWalkOf Is New bound walk
 still Is Old New bound walk same is = record {
   next = is.next;
   rest = λ s e. (λ n. (is.rest s e).0 ((same s e).0 n), λ h. (same s e).1 ((is.rest s e).1 h));
@@ -137,7 +137,7 @@ all_behind : (a : Event) (bound : ℤ) (walk : Walk) → walk.next ≡ None → 
 all_behind a bound walk end x h = (as_span a bound x h, let at : walk_place bound walk.next ≡ bound = ap (walk_place bound) end in let l = h.1 in omega (arith, ints, at, l))
 
 -- its next one
-next_of : (Is Coming : ℤ → ℤ → Type 0) (bound : ℤ) (walk : Walk) (next : Span) → IsWalkOf Is Coming bound walk → walk.next ≡ Some next → Is next.start next.end
+pub next_of : (Is Coming : ℤ → ℤ → Type 0) (bound : ℤ) (walk : Walk) (next : Span) → IsWalkOf Is Coming bound walk → walk.next ≡ Some next → Is next.start next.end
 next_of Is Coming bound walk next is e = subst (λ (o : Option Span). IfSome o (λ x. Is x.start x.end)) e is.next
 
 -- ---- a sweep through one series

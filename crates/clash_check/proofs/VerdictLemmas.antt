@@ -1,8 +1,9 @@
 -- A verdict is yes exactly where the certificate holds.
-use Rattle.std.proofs.Common.{◌≡◌, ℕ, List, ◌⊎◌, refl, subst, inl, inr}
-use Rattle.std.specs.Prelude.{◌↔◌, Result, Ok, Err, IfOk}
+use Rattle.std.proofs.Common.{◌≡◌, ℕ, zero, List, ◌∷◌, ◌⊎◌, refl, sym, subst, inl, inr, arith}
+use Rattle.std.specs.Prelude.{◌↔◌, All, Contains, Result, Ok, Err, IfOk}
+use Rattle.std.proofs.lemmas.List.Elements.{All-contains, Contains-append_right}
 use Rattle.profile.specs.events.Confirmed.{Confirmed}
-use Rattle.profile.specs.checker.Certificates.{Claims, IsPair, SpellsCertificate, HasCounts, EntryFails, CertificateHoldsFor, IsWrongText, IsWrongCount, HasFailingEntry, HasClashes, entry_of}
+use Rattle.profile.specs.checker.Certificates.{Claims, Statement, SpellsCertificate, HasCounts, StatementHolds, CertificateHoldsFor, IsWrongText, IsWrongCount, HasFailingStatement, HasClashes, IsFirstFailing, statements}
 use Rattle.profile.specs.checker.Calendars.{SpellsCalendar, CalendarTextFault, CertificateHolds}
 use Rattle.cal_events.specs.Calendar.{HaveDifferentKeys, HaveOwnKeys}
 use Rattle.clash_check.specs.declared.verdict.Checked.{Checked}
@@ -10,7 +11,7 @@ use Rattle.clash_check.specs.declared.verdict.Verdict.{Verdict}
 use Rattle.clash_check.specs.declared.verdict.Verdict.TheVariants.{Yes, No}
 use Rattle.clash_check.specs.declared.verdict.Why.{Why}
 use Rattle.clash_check.specs.Verdicts.{IsVerdict, IsNo, MakesFew, IsRefusedCalendar, IsJudgement}
-use Rattle.clash_check.proofs.EntryLemmas.{never_both}
+use Rattle.clash_check.proofs.NeverBoth.{never_both}
 
 no_is_not_yes : (why : Why) → No why ≡ Yes → ⊥
 no_is_not_yes why e = cc
@@ -19,14 +20,20 @@ no_is_not_yes why e = cc
 abbrev OneCertificate : Type 0
 OneCertificate = (text : List ℕ) (c d : Claims) → SpellsCertificate text c → SpellsCertificate text d → d ≡ c
 
+-- where all hold, none is the first that doesn't
+none_fails : (all : Confirmed) (those : List Statement) → All (StatementHolds all) those → (failing : Statement) → IsFirstFailing all those failing → ⊥
+none_fails all those hold failing f =
+    never_both all failing
+    (All-contains (StatementHolds all) those failing hold
+    (subst (λ l. Contains l failing) (sym f.are) (Contains-append_right f.before (failing ∷ f.after) failing (zero, omega arith, refl)))) f.fails
+
 -- none of the reasons holds of a certificate that holds
 fails : OneCertificate → (all : Confirmed) (text : List ℕ) (number line second : ℕ)
-    → ((second ≡ 0) × (IsWrongText text number line ⊎ IsWrongCount all text number line ⊎ HasClashes all text number line)) ⊎ HasFailingEntry all text number line second
+    → ((second ≡ 0) × (IsWrongText text number line ⊎ IsWrongCount all text number line ⊎ HasClashes all text number line)) ⊎ HasFailingStatement all text number line second
     → CertificateHoldsFor all text → ⊥
 fails one all text number line second (inr f) s =
     let same : f.c ≡ s.c = one text s.c f.c s.spells f.spells in
-    never_both all line second (entry_of s.c line second) (s.entries line second (subst (λ (c : Claims). IsPair c.series line second) same f.pair))
-    (subst (λ (c : Claims). EntryFails all line second (entry_of c line second)) same f.fails)
+    none_fails all (statements s.c) s.statements f.failing (subst (λ (c : Claims). IsFirstFailing all (statements c) f.failing) same f.first_failing)
 fails one all text number line second (inl h) s =
     elim h.1 [
       | inl t ↦ t.wrong.none s.c s.spells

@@ -1,5 +1,5 @@
 -- What a calendar that hands out its instances one by one shows of itself.
-use Rattle.std.specs.Prelude.{◌≡◌, [], ◌∷◌, ℕ, pos, true, ◌+◌, ◌-◌, ◌^◌, ◌<◌, ◌≤◌, ℤ, ◌+ℤ◌, ◌-ℤ◌, ◌≤ℤ◌, ◌<ℤ◌, if◌then◌else◌, min, Option, Some, is_some, Contains}
+use Rattle.std.specs.Prelude.{◌≡◌, List, ℕ, pos, true, ◌+◌, ◌-◌, ◌^◌, ◌<◌, ◌≤◌, ℤ, ◌+ℤ◌, ◌-ℤ◌, ◌≤ℤ◌, ◌<ℤ◌, if◌then◌else◌, min, Option, Some, is_some, Contains}
 use Rattle.std.specs.List.{slice_get}
 use Rattle.profile.specs.checker.Instances.{Instance, AreClear}
 use Rattle.profile.specs.events.Events.{Event}
@@ -40,8 +40,8 @@ pub record IsDrawable (all : Confirmed) : Type 0 where
   pub own : HaveOwnKeys all
   pub known : (series : Event) → Contains all.series series → AreKnownByStart series
   pub lengths : (series : Event) → Contains all.series series → (width : ℤ) → IsWidthOf series width → LastsAbout series width
-  pub settled : (series : Event) → Contains all.series series → (from : ℤ) (days : ℕ) → SpanHolds (series ∷ []) (series ∷ []) from days
-      → AreClear (IsInstance series) (IsInstance series)
+  pub settled : (those : List Event) → ((series : Event) → Contains those series → Contains all.series series) → (from : ℤ) (days : ℕ) → SpanHolds those those from days
+      → (series : Event) → Contains those series → AreClear (IsInstance series) (IsInstance series)
   pub apart : (series : Event) → Contains all.series series → (m : ℕ) → ResiduesHold true series series m → AreClear (IsInstance series) (IsInstance series)
   pub starts : (series : Event) → Contains all.series series → (m : ℕ) → 0 < m → (b : Instance) → IsInstance series b
       → ((residue : ℕ) → IsResidue series m residue → IsCongruent m b.start (pos residue) → ⊥) → ⊥

@@ -1,11 +1,10 @@
 -- What is said of the statements of a certificate: which of them is the first that doesn't hold, and how many instances that took.
-use Rattle.std.specs.Prelude.{◌≡◌, ◌⊎◌, ℕ, ◌+◌, ◌-◌, ◌^◌, ◌≤◌, Bool, true, false, min, MatchOption, List, [], ◌∷◌, All, take, slice_index_or, Option, Some}
-use Rattle.std.specs.List.{slice_get}
-use Rattle.profile.specs.checker.Certificates.{Entry, End, Span, Res, InGroup, Pair, Statement, OfGroup, OfPair, IsPair, IsEntry, IsSeriesAt, AreSeriesAt, StatementHolds, StatementFails, IsFirstFailing, IsNamedBy}
+use Rattle.std.specs.Prelude.{◌≡◌, ◌⊎◌, ℕ, ◌+◌, ◌-◌, ◌^◌, ◌≤◌, Bool, true, false, min, MatchOption, List, [], ◌∷◌, All, Option}
+use Rattle.profile.specs.checker.Certificates.{Entry, End, Span, Res, InGroup, Pair, Statement, OfGroup, OfPair, IsPair, IsEntry, IsSeriesAt, AreSeriesAt, StatementHolds, IsFirstFailing, IsNamedBy}
 use Rattle.profile.specs.events.Events.{Event}
 use Rattle.profile.specs.events.Confirmed.{Confirmed}
 use Rattle.profile.specs.events.Spans.{IsSpan}
-use Rattle.clash_check.specs.Counted.{AreCounts, total}
+use Rattle.clash_check.specs.Counted.{AreCounts, IsStatementCount, total}
 
 -- so many more, as far as 64 bits go
 abbrev pub IsMore : ℕ → ℕ → ℕ → Type 0
@@ -32,35 +31,34 @@ abbrev pub FailsDrawn : Type 0 → ℕ → ℕ → ℕ → Type 0
 FailsDrawn Compared old new most = (Compared × IsSomeMore old new most) ⊎ ((Compared → ⊥) × IsMore old new 0)
 
 -- and where it holds all of them were
+abbrev pub IsDrawn : Type 0 → Bool → ℕ → ℕ → ℕ → Type 0
+IsDrawn Compared true old new most = IsMore old new most
+IsDrawn Compared false old new most = FailsDrawn Compared old new most
+
 abbrev pub IsEntryDrawn : Confirmed → ℕ → ℕ → Entry → Bool → ℕ → ℕ → ℕ → Type 0
-IsEntryDrawn all i j entry true old new most = IsMore old new most
-IsEntryDrawn all i j entry false old new most = FailsDrawn (HasEntryCompared all i j entry) old new most
+IsEntryDrawn all i j entry = IsDrawn (HasEntryCompared all i j entry)
 
 abbrev pub IsStatementDrawn : Confirmed → Statement → Bool → ℕ → ℕ → ℕ → Type 0
-IsStatementDrawn all statement true old new most = IsMore old new most
-IsStatementDrawn all statement false old new most = FailsDrawn (HasCompared all statement) old new most
+IsStatementDrawn all statement = IsDrawn (HasCompared all statement)
 
 -- ---- of some statements, one after another
 
--- all hold, or these name the first that doesn't
-abbrev pub AreJudged : Confirmed → List Statement → Option (ℕ × ℕ) → Type 0
-AreJudged all those found =
-    MatchOption found (All (StatementHolds all) those) (λ p. (failing : Statement) × IsFirstFailing all those failing × IsNamedBy failing p.0 p.1)
+-- all hold, and all of them were drawn
+pub record AllHold (all : Confirmed) (those : List Statement) (old new : ℕ) : Type 0 where
+  pub hold : All (StatementHolds all) those
+  pub drawn : (counts : List ℕ) → AreCounts all those counts → IsMore old new (total counts)
 
--- the statement at this place is the first that doesn't hold, and these name it
-pub record IsStopAt (all : Confirmed) (those : List Statement) (place first second : ℕ) (failing : Statement) : Type 0 where
-  pub at : slice_get those place ≡ Some failing
-  pub before : All (StatementHolds all) (take place those)
-  pub fails : StatementFails all failing
+-- these name the first that doesn't hold: of those before it all were drawn, and of it some
+pub record OneFails (all : Confirmed) (those : List Statement) (first second old new : ℕ) : Type 0 where
+  pub failing : Statement
+  pub stop : IsFirstFailing all those failing
   pub named : IsNamedBy failing first second
+  pub drawn : (counts : List ℕ) (most : ℕ) → AreCounts all stop.before counts → IsStatementCount all failing most
+      → FailsDrawn (HasCompared all failing) (old + total counts) new most
 
--- all were drawn of those that hold, up to that one, and some of it
-abbrev pub AreAllDrawn : Confirmed → List Statement → Option (ℕ × ℕ) → ℕ → ℕ → Type 0
-AreAllDrawn all those found old new =
-    (counts : List ℕ) → AreCounts all those counts
-    → MatchOption found (IsMore old new (total counts))
-    (λ p. (place : ℕ) × (failing : Statement) × IsStopAt all those place p.0 p.1 failing
-    × FailsDrawn (HasCompared all failing) (old + total (take place counts)) new (slice_index_or counts place 0))
+-- the first that doesn't hold is named so, or all hold
+abbrev pub AreJudged : Confirmed → List Statement → Option (ℕ × ℕ) → ℕ → ℕ → Type 0
+AreJudged all those found old new = MatchOption found (AllHold all those old new) (λ p. OneFails all those p.0 p.1 old new)
 
 -- a pair of so many series, with an entry that a line says
 abbrev pub ArePairOf : ℕ → Pair → Type 0

@@ -8,3 +8,4 @@ pub mod Verdicts
 pub mod Judgings
 pub mod Opened
 pub mod Drawings
+pub mod Comings

@@ -1,14 +1,14 @@
 -- What the checker's answers say.
-use Rattle.std.specs.Prelude.{ℕ, ℤ, List, ◌≡◌, ◌+◌, ◌-◌, ◌^◌, ◌≤◌, ◌<ℤ◌, ◌⊎◌, length, min, take, slice_index_or}
+use Rattle.std.specs.Prelude.{ℕ, ℤ, List, ◌≡◌, ◌+◌, ◌-◌, ◌^◌, ◌≤◌, ◌<ℤ◌, ◌⊎◌, length, min}
 use Rattle.profile.specs.checker.Instances.{Instance as SaidInstance, horizon, IsWithin}
 use Rattle.profile.specs.checker.Calendars.{SpellsCalendar, CalendarTextFault}
-use Rattle.profile.specs.checker.Certificates.{Claims, Statement, statements, SpellsCertificate, CertificateHoldsFor, IsWrongText, IsWrongCount, HasFailingStatement, HasClashes}
+use Rattle.profile.specs.checker.Certificates.{Claims, Statement, statements, SpellsCertificate, CertificateHoldsFor, IsWrongText, IsWrongCount, IsFirstFailing, IsNamedBy, HasFailingStatement, HasClashes}
 use Rattle.profile.specs.events.Confirmed.{Confirmed}
 use Rattle.cal_events.specs.declared.instance.Instance.{Instance}
 use Rattle.cal_events.specs.declared.instance.OwnedKey.{OwnedKey}
 use Rattle.cal_events.specs.Calendar.{key_of, owned_key_of, HaveDifferentKeys, HaveOwnKeys}
-use Rattle.clash_check.specs.Counted.{AreCounts, total}
-use Rattle.clash_check.specs.Entries.{HasCompared, IsStopAt}
+use Rattle.clash_check.specs.Counted.{AreCounts, IsStatementCount, total}
+use Rattle.clash_check.specs.Entries.{HasCompared}
 use Rattle.clash_check.specs.Singles.{singles_count}
 use Rattle.clash_check.specs.declared.verdict.Checked.{Checked}
 use Rattle.clash_check.specs.declared.verdict.Verdict.{Verdict}
@@ -35,13 +35,16 @@ MakesAll all text made =
 
 -- those were made that the statements before the first failing one have compared, and some of its own, at least one; none of its own where its span
 -- is none of its series, or it says RES
+pub record MakesSomeOf (all : Confirmed) (c : Claims) (first second made : ℕ) : Type 0 where
+  pub failing : Statement
+  pub stop : IsFirstFailing all (statements c) failing
+  pub named : IsNamedBy failing first second
+  pub made_for : (counts : List ℕ) (most : ℕ) → AreCounts all stop.before counts → IsStatementCount all failing most
+      → (HasCompared all failing × ((n : ℕ) × (1 ≤ n) × (n ≤ most) × (made ≡ min (total counts + n) (2 ^ 64 - 1))))
+      ⊎ ((HasCompared all failing → ⊥) × (made ≡ min (total counts) (2 ^ 64 - 1)))
+
 abbrev pub MakesSome : Confirmed → List ℕ → ℕ → ℕ → ℕ → Type 0
-MakesSome all text first second made =
-    (c : Claims) → SpellsCertificate text c → (counts : List ℕ) → AreCounts all (statements c) counts
-    → (place : ℕ) × (failing : Statement) × IsStopAt all (statements c) place first second failing
-    × ((HasCompared all failing
-    × ((n : ℕ) × (1 ≤ n) × (n ≤ slice_index_or counts place 0) × (made ≡ min (total (take place counts) + n) (2 ^ 64 - 1))))
-    ⊎ ((HasCompared all failing → ⊥) × (made ≡ min (total (take place counts)) (2 ^ 64 - 1))))
+MakesSome all text first second made = (c : Claims) → SpellsCertificate text c → MakesSomeOf all c first second made
 
 -- as far as 64 bits go: on yes and where a single clashes (84) all of them, where a statement fails (83) some, and none where the text or a count
 -- is wrong (81, 82)

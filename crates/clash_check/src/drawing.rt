@@ -4,6 +4,7 @@ ghost use Rattle.std.specs.List.{slice_get};
 ghost use Rattle.profile.specs.checker.Instances.{horizon};
 ghost use Rattle.profile.specs.events.Events.{Event};
 ghost use Rattle.clash_check.specs.Opened.{IsFirstFrom, IsFirstBetween};
+ghost use Rattle.clash_check.specs.declared.open_series.OpenSeries.{OpenSeries};
 
 use crate::drawn::Drawn;
 use crate::open_series::OpenSeries;
@@ -100,7 +101,8 @@ impl<'a> Drawn for Drawing<'a> {
         let drawn = self.drawn;
         let place = place_of(i);
         let part = &mut self.wanted[place];
-        let Some((start, end)) = before(part.bound, self.opened[place].first_from(place, part.from)) else {
+        let found = self.opened[place].first_from(place, part.from);
+        let Some((start, end)) = before(part.bound, found) else {
             return None;
         };
         part.from = start + 1;
@@ -156,9 +158,10 @@ fn none_open(alloc: Global, calendar: &Calendar) -> Result<Vec<OpenSeries<'_>>, 
     ensures count { IfOk result (λ opened. length opened.items ≡ length calendar.now.series) }
     ensures same { IfOk result (λ opened. (one : OpenSeries) → Contains opened.items one → one.calendar.now ≡ calendar.now) }
 {
-    let mut opened = Vec::new(alloc);
-    for _ in 0..calendar.series_count() {
-        opened.push(OpenSeries::none(calendar))?;
-    }
-    Ok(opened)
+    // A push would take a struct that lends by value, which the borrow checker doesn't cover.
+    calendar
+        .series()
+        .iter()
+        .map(|_| OpenSeries::none(calendar))
+        .collect(alloc)
 }

@@ -1,6 +1,7 @@
 //! A sweep through the instances of several series that start before a bound, all of them in order of start: each is drawn once.
-ghost use Rattle.std.specs.Prelude.{ℕ, List, ◌≡◌, ◌<◌, AllPairs, Contains, length, IfOk, MatchBool};
+ghost use Rattle.std.specs.Prelude.{ℕ, ℤ, List, ◌≡◌, ◌≢◌, ◌↔◌, ◌<◌, AllPairs, Contains, length, IfOk, OnOk, MatchBool};
 ghost use Rattle.std.specs.List.{sum_by};
+ghost use Rattle.std.specs.BinaryHeap.{heap_items, IsHeap};
 ghost use Rattle.profile.specs.checker.Instances.{Instance};
 ghost use Rattle.profile.specs.checker.Certificates.{AreSeriesAt};
 ghost use Rattle.profile.specs.events.Events.{Event};
@@ -8,6 +9,7 @@ ghost use Rattle.profile.specs.events.Spans.{HaveClash};
 ghost use Rattle.clash_check.specs.Counted.{AreAllBelow};
 ghost use Rattle.clash_check.specs.Draws.{IsPlace};
 ghost use Rattle.clash_check.specs.Sweeps.{HaveNoClash, AreDrawn};
+ghost use Rattle.clash_check.specs.Comings.{next_cmp, DrawsNext};
 
 use crate::drawn::Drawn;
 use crate::walk::{draw_span, later_end, meets};
@@ -22,6 +24,18 @@ struct Next {
     start: i64,
     end: i64,
     series: u64,
+}
+
+impl Next {
+    /// When it starts and ends.
+    fn span(self) -> Span
+        ensures { result ≡ record { start = self.start; end = self.end } }
+    {
+        Span {
+            start: self.start,
+            end: self.end,
+        }
+    }
 }
 
 /// Do two instances of these series clash, of one series or of two, that start before a bound? Each instance is drawn once: on no all of them were,
@@ -42,6 +56,8 @@ pub(crate) fn sweep_group<D: Drawn>(
         → AreDrawn found (D.count drawn.old) (D.count drawn.new) (sum_by length lists)) }
 {
     drawn.is_drawable();
+    // Only for the proof: a count has 64 bits.
+    let _count = drawn.drawn();
     let mut coming = BinaryHeap::new(alloc);
     for number in members {
         drawn.begin(*number, i64::MIN, bound);
@@ -49,10 +65,7 @@ pub(crate) fn sweep_group<D: Drawn>(
     }
     let mut last = None;
     while let Some(Reverse(next)) = coming.pop() {
-        let span = Span {
-            start: next.start,
-            end: next.end,
-        };
+        let span = next.span();
         if meets(last, span) {
             return Ok(true);
         }
@@ -67,7 +80,13 @@ fn push_next<D: Drawn>(
     coming: &mut BinaryHeap<Reverse<Next>>,
     drawn: &mut D,
     series: u64,
-) -> Result<(), AllocError> {
+) -> Result<(), AllocError>
+    requires { IsPlace (length (D.calendar drawn.old).series) series }
+    ensures calendar { D.calendar drawn.new ≡ D.calendar drawn.old }
+    ensures next { OnOk result (DrawsNext (D.coming drawn.old series) (D.coming drawn.new series) (D.count drawn.old) (D.count drawn.new) series (heap_items coming.old) (heap_items coming.new)) }
+    ensures others { (j : ℕ) → j ≢ series → (start end : ℤ) → D.coming drawn.new j start end ↔ D.coming drawn.old j start end }
+    ensures order { OnOk result (IsHeap next_cmp (heap_items coming.old) → IsHeap next_cmp (heap_items coming.new)) }
+{
     if let Some(span) = draw_span(drawn, series) {
         coming.push(Reverse(Next {
             start: span.start,

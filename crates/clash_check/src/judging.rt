@@ -1,12 +1,12 @@
 //! Judging: does a certificate's text hold for the calendar that instances are drawn from?
 ghost use Rattle.std.specs.Prelude.{◌≡◌, length, IfOk};
-ghost use Rattle.profile.specs.checker.Certificates.{Claims, HasCounts, SpellsCertificate};
+ghost use Rattle.profile.specs.checker.Certificates.{IsClaims, HasCounts};
 ghost use Rattle.clash_check.specs.Judgings.{IsVerdictOf, MakesFewOf};
 ghost use Rattle.clash_check.specs.Verdicts.{IsVerdict, MakesFew};
 
 use crate::drawn::Drawn;
-use crate::statements::first_failing;
 use crate::singles::have_clash;
+use crate::statements::first_failing;
 use crate::verdict::{Checked, Verdict, Why};
 use clash_cert::{CertFault, Certificate};
 use std::alloc::{AllocError, Global};
@@ -38,6 +38,7 @@ fn judge_certificate<D: Drawn>(
     drawn: &mut D,
     certificate: &Certificate,
 ) -> Result<Checked, AllocError>
+    requires { IsClaims certificate.now }
     ensures calendar { D.calendar drawn.new ≡ D.calendar drawn.old }
     ensures verdict { IfOk result (λ checked. IsVerdictOf (D.calendar drawn.old) certificate.now checked.verdict) }
     ensures made { IfOk result (λ checked. checked.made ≡ D.count drawn.new) }
@@ -55,7 +56,8 @@ fn judge_counted<D: Drawn>(
     drawn: &mut D,
     certificate: &Certificate,
 ) -> Result<Checked, AllocError>
-    requires { HasCounts (D.calendar drawn.old) certificate.now }
+    requires claims { IsClaims certificate.now }
+    requires counts { HasCounts (D.calendar drawn.old) certificate.now }
     ensures calendar { D.calendar drawn.new ≡ D.calendar drawn.old }
     ensures verdict { IfOk result (λ checked. IsVerdictOf (D.calendar drawn.old) certificate.now checked.verdict) }
     ensures made { IfOk result (λ checked. checked.made ≡ D.count drawn.new) }

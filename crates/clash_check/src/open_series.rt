@@ -1,5 +1,5 @@
 //! A series whose instances are looked through by start: from where the last one was found, not anew.
-ghost use Rattle.std.specs.Prelude.{◌≡◌, ◌≢◌, ◌<◌, ◌<ℤ◌, IsTrue, IfSome, length, Some, None};
+ghost use Rattle.std.specs.Prelude.{◌≡◌, ◌≢◌, ◌<◌, ◌<ℤ◌, IfSome, length, Some, None};
 ghost use Rattle.std.specs.List.{slice_get};
 ghost use Rattle.profile.specs.checker.Instances.{horizon};
 ghost use Rattle.profile.specs.events.Events.{Event};
@@ -45,13 +45,6 @@ impl<'a> OpenSeries<'a> {
         self.next()
     }
 
-    /// Is the series at that place open, with those from that instant on still to come?
-    pub(crate) fn is_at(&self, place: usize, from: i64) -> bool
-        ensures { IsTrue result → (self.now.place ≡ place) × (self.now.from ≡ from) × (self.now.starts ≢ None) }
-    {
-        self.place == place && self.from == from && self.starts.is_some()
-    }
-
     /// Opens the series at a place, from an instant on, where it isn't open there.
     fn open(&mut self, place: usize, from: i64)
         requires { place < length self.old.calendar.now.series }
@@ -60,7 +53,6 @@ impl<'a> OpenSeries<'a> {
         ensures from { self.new.from ≡ from }
         ensures some { self.new.starts ≢ None }
     {
-        // The test of `is_at`, whose call the proof of what follows doesn't take.
         let is_there = self.place == place && self.from == from && self.starts.is_some();
         if !is_there {
             self.reopen(place, from);

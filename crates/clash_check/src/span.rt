@@ -1,5 +1,5 @@
 //! Whether series do the same after so many days, from an instant on, and how long the longest of them last.
-ghost use Rattle.std.specs.Prelude.{ℕ, List, [], ◌≡◌, ◌↔◌, ◌^◌, ◌<◌, ◌≤◌, Contains, pos, ◌≤ℤ◌, ◌<ℤ◌, true, length, IsTrue};
+ghost use Rattle.std.specs.Prelude.{ℕ, List, ◌≡◌, ◌↔◌, ◌^◌, ◌<◌, ◌≤◌, Contains, pos, ◌≤ℤ◌, ◌<ℤ◌, true, length, IsTrue};
 ghost use Rattle.profile.specs.checker.Certificates.{IsSeriesAt, AreSeriesAt};
 ghost use Rattle.profile.specs.events.Events.{Event};
 ghost use Rattle.profile.specs.events.Spans.{IsGreatestWidth, IsPastAll, IsPeriodOf, IsSpan};
@@ -18,7 +18,7 @@ pub(crate) fn is_span<D: Drawn>(drawn: &D, numbers: &[u64], from: i64, days: u64
     ensures is { (all : List Event) → AreSeriesAt (D.calendar drawn.now) numbers.now all → IsTrue result ↔ IsSpan all from days }
     ensures few { result ≡ true → days ≤ most_period }
 {
-    is_days(days) && numbers.iter().all(|number| repeats(drawn, *number, from, days))
+    is_days(days) && all_repeat(drawn, numbers, from, days)
 }
 
 /// May a span have so many days?
@@ -26,6 +26,20 @@ fn is_days(days: u64) -> bool
     ensures { IsTrue result ↔ (0 < days) × (days ≤ most_period) }
 {
     0 < days && days <= MOST_DAYS
+}
+
+/// Do all these series do the same after so many days, from an instant on?
+fn all_repeat<D: Drawn>(drawn: &D, numbers: &[u64], from: i64, days: u64) -> bool
+    requires places { (i : ℕ) → Contains numbers.now i → IsPlace (length (D.calendar drawn.now).series) i }
+    requires days { (0 < days) × (days ≤ most_period) }
+    ensures { (all : List Event) → AreSeriesAt (D.calendar drawn.now) numbers.now all → IsTrue result ↔ ((a : Event) → Contains all a → IsPastAll a from × IsPeriodOf a days) }
+{
+    for number in numbers {
+        if !repeats(drawn, *number, from, days) {
+            return false;
+        }
+    }
+    true
 }
 
 /// Does a series do the same after so many days, from an instant on?
@@ -51,7 +65,7 @@ fn is_multiple(days: u64, period: u64) -> bool
 
 /// The greatest width of these series, of which there is one at least: in seconds.
 pub(crate) fn greatest_width<D: Drawn>(drawn: &D, numbers: &[u64]) -> i64
-    requires places { (i : ℕ) → Contains numbers.now i → IsPlace (length (D.calendar drawn.now).series) i }
+    requires { (i : ℕ) → Contains numbers.now i → IsPlace (length (D.calendar drawn.now).series) i }
     ensures is { (all : List Event) → 0 < length numbers.now → AreSeriesAt (D.calendar drawn.now) numbers.now all → IsGreatestWidth all result }
     ensures range { (pos 0 ≤ℤ result) × (result <ℤ pos (2 ^ 50)) }
 {

@@ -1,8 +1,8 @@
 //! The statements of a certificate in the order of its text, each judged by what is drawn of its series, or by their residues.
 ghost use Rattle.std.specs.Prelude.{◌≡◌, length, map, All, IfOk};
-ghost use Rattle.profile.specs.checker.Certificates.{OfGroup, OfPair, IsGroup, statements};
+ghost use Rattle.profile.specs.checker.Certificates.{OfGroup, OfPair, IsClaims, IsGroup, statements};
 ghost use Rattle.clash_cert.specs.Texts.{group_said, pair_said};
-ghost use Rattle.clash_check.specs.Entries.{AreJudged, AreAllDrawn, ArePairOf};
+ghost use Rattle.clash_check.specs.Entries.{AreJudged, ArePairOf};
 
 use crate::drawn::Drawn;
 use crate::groups::group_holds;
@@ -17,10 +17,10 @@ pub(crate) fn first_failing<D: Drawn>(
     drawn: &mut D,
     certificate: &Certificate,
 ) -> Result<Option<(u64, u64)>, AllocError>
-    requires { certificate.now.series ≡ length (D.calendar drawn.old).series }
+    requires claims { IsClaims certificate.now }
+    requires counts { certificate.now.series ≡ length (D.calendar drawn.old).series }
     ensures calendar { D.calendar drawn.new ≡ D.calendar drawn.old }
-    ensures judged { IfOk result (λ found. AreJudged (D.calendar drawn.old) (statements certificate.now) found) }
-    ensures count { IfOk result (λ found. AreAllDrawn (D.calendar drawn.old) (statements certificate.now) found (D.count drawn.old) (D.count drawn.new)) }
+    ensures judged { IfOk result (λ found. AreJudged (D.calendar drawn.old) (statements certificate.now) found (D.count drawn.old) (D.count drawn.new)) }
 {
     if let Some(named) = first_failing_group(alloc, drawn, certificate.groups())? {
         return Ok(Some(named));
@@ -36,8 +36,7 @@ fn first_failing_group<D: Drawn>(
 ) -> Result<Option<(u64, u64)>, AllocError>
     requires { All (IsGroup (length (D.calendar drawn.old).series)) (map group_said groups.now) }
     ensures calendar { D.calendar drawn.new ≡ D.calendar drawn.old }
-    ensures judged { IfOk result (λ found. AreJudged (D.calendar drawn.old) (map OfGroup (map group_said groups.now)) found) }
-    ensures count { IfOk result (λ found. AreAllDrawn (D.calendar drawn.old) (map OfGroup (map group_said groups.now)) found (D.count drawn.old) (D.count drawn.new)) }
+    ensures judged { IfOk result (λ found. AreJudged (D.calendar drawn.old) (map OfGroup (map group_said groups.now)) found (D.count drawn.old) (D.count drawn.new)) }
 {
     for group in groups {
         if !group_holds(alloc, drawn, group)? {
@@ -55,8 +54,7 @@ fn first_failing_pair<D: Drawn>(
 ) -> Result<Option<(u64, u64)>, AllocError>
     requires { All (ArePairOf (length (D.calendar drawn.old).series)) (map pair_said pairs.now) }
     ensures calendar { D.calendar drawn.new ≡ D.calendar drawn.old }
-    ensures judged { IfOk result (λ found. AreJudged (D.calendar drawn.old) (map OfPair (map pair_said pairs.now)) found) }
-    ensures count { IfOk result (λ found. AreAllDrawn (D.calendar drawn.old) (map OfPair (map pair_said pairs.now)) found (D.count drawn.old) (D.count drawn.new)) }
+    ensures judged { IfOk result (λ found. AreJudged (D.calendar drawn.old) (map OfPair (map pair_said pairs.now)) found (D.count drawn.old) (D.count drawn.new)) }
 {
     for pair in pairs {
         if !entry_holds(alloc, drawn, pair.entry, pair.first, pair.second)? {

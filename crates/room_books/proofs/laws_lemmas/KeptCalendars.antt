@@ -33,7 +33,7 @@ use Rattle.itip_order.proofs.Lasting.{view_taken}
 use Rattle.itip_order.proofs.Lists.{in_head, in_tail, any_at, any_from}
 use Rattle.itip_order.proofs.Registers.{same_part_is, same_part_refl}
 use Rattle.itip_messages.proofs.shared_lemmas.ContentLines.{LinesBack, ReadsLines, no_method}
-use Rattle.profile.proofs.MadeCertificates.{made_holds}
+use Rattle.profile.proofs.MadeCertificates.{written_holds}
 use Rattle.room_books.specs.Slots.{Reordered}
 use Rattle.room_books.specs.Room.{Pairwise}
 use Rattle.room_books.specs.Texts.{SpellsConfirmed}
@@ -520,7 +520,7 @@ keeps_pass back reads zone_back one room words zone named book keeps calendar c 
     record {
       confirmed = k.confirmed;
       spells = k.spells;
-      holds = made_holds k.confirmed (subst (λ (all : Confirmed). IsClear (IsOneOf all)) same clear) k.c certificate k.made k.text;
+      holds = written_holds k.confirmed (subst (λ (all : Confirmed). IsClear (IsOneOf all)) same clear) k.c certificate k.is k.text;
     }
 
 pub kept_same : LinesBack → ReadsLines → ZoneBack → (room words : List ℕ) (zone : Option Zone) (book : Book) → IsRoomZone words zone → IsReached room zone book → (calendar : List ℕ) → IsKeptCalendar room words book calendar

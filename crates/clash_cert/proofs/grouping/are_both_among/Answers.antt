@@ -1,4 +1,4 @@
-use Rattle.std.proofs.Common.{◌≡◌, ◌∙◌, ◌&&◌, sym, ap}
+use Rattle.std.proofs.Common.{◌∙◌, ◌&&◌, sym, ap}
 use Rattle.clash_cert.specs.Grouped.{is_among}
 use Rattle.clash_cert.proofs.GroupingLemmas.{among_is}
 use Rattle.clash_cert.proofs.grouping.are_both_among.Goals as goal

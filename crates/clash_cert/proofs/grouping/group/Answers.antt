@@ -1,12 +1,11 @@
-use Rattle.std.proofs.Common.{◌≡◌, ◌∙◌, List, ℕ, map, length, subst, sym, ap, rules}
+use Rattle.std.proofs.Common.{◌∙◌, List, ℕ, length, subst, sym, ap, rules}
 use Rattle.std.specs.List.{AllZip}
 use Rattle.std.proofs.lemmas.List.{length-map}
-use Rattle.profile.specs.checker.Certificates.{Claims, IsPlacedAt, IsGrouped, IsClaims}
+use Rattle.profile.specs.checker.Certificates.{Claims, IsPlacedAt, IsGrouped}
 use Rattle.profile.specs.events.Events.{Event}
 use Rattle.cal_events.specs.Series.{series_said}
-use Rattle.cal_period.proofs.EveryPair.{where_none, where_some}
 use Rattle.clash_cert.proofs.ChosenLemmas.{clock_of_span}
-use Rattle.clash_cert.proofs.GroupingLemmas.{too_few, no_span, members_placed, grouped, none_of}
+use Rattle.clash_cert.proofs.GroupingLemmas.{too_few, no_span, members_placed, grouped}
 use Rattle.clash_cert.proofs.grouping.group.Goals as goal
 
 pub returns-then-len-lt2 : goal.returns-then-len-lt2

@@ -1,4 +1,4 @@
-use Rattle.std.proofs.Common.{◌≡◌, ◌∙◌, ◌+◌, ◌++◌, ◌∷◌, List, [], map, take, Vec, Global, true, false, refl, sym, ap}
+use Rattle.std.proofs.Common.{◌∙◌, ◌++◌, ◌∷◌, [], map, take, Vec, Global, true, false, refl, sym, ap}
 use Rattle.std.proofs.lemmas.List.{map-append, append-nil}
 use Rattle.clash_cert.specs.declared.certificate.Pair.{Pair}
 use Rattle.clash_cert.specs.Texts.{pair_said}

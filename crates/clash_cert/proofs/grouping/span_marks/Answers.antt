@@ -2,7 +2,7 @@ use Rattle.std.proofs.Common.{◌≡◌, ◌∙◌, ◌+◌, ◌<◌, ◌++◌, 
 use Rattle.std.proofs.Math.Seq.{take-append_seam}
 use Rattle.std.proofs.lemmas.List.{length-map, take_all}
 use Rattle.std.proofs.lemmas.List.Elements.{All-contains, All-replicate}
-use Rattle.profile.specs.checker.Certificates.{IsApart, IsPair, groups_of}
+use Rattle.profile.specs.checker.Certificates.{IsApart, groups_of}
 use Rattle.clash_cert.specs.Texts.{pair_said}
 use Rattle.clash_cert.specs.Grouped.{AreMarked, spans}
 use Rattle.clash_cert.proofs.MarkLemmas.{none_marked, marked_more, said_there}

@@ -1,5 +1,5 @@
-use Rattle.std.proofs.Common.{◌≡◌, ◌∙◌, List, ℕ, Bool, ap, subst, sym}
-use Rattle.clash_cert.specs.Grouped.{HaveSpan, AreMarked, marked_from}
+use Rattle.std.proofs.Common.{◌∙◌, ap, subst, sym}
+use Rattle.clash_cert.specs.Grouped.{HaveSpan, marked_from}
 use Rattle.clash_cert.proofs.KeptLemmas.{if_ok_then}
 use Rattle.clash_cert.proofs.MarkLemmas.{have_span}
 use Rattle.clash_cert.proofs.grouping.with_span.Goals as goal

@@ -4,12 +4,12 @@ use mathlib.Core.HLevel.{⊥_prop}
 use Rattle.profile.specs.checker.Instances.{Instance, AreClear}
 use Rattle.profile.specs.events.Starts.{IsInstance}
 use Rattle.profile.specs.events.Residues.{IsResidue, ResiduesHold}
-use Rattle.profile.specs.events.Spans.{IsWidthOf, SpanHolds}
+use Rattle.profile.specs.events.Spans.{IsWidthOf, IsSaidSeries}
 use Rattle.profile.specs.series.Repeating.{IsCongruent}
 use Rattle.cal_events.specs.Series.{series_said, AreKnownByStart}
 use Rattle.clash_check.specs.Draws.{LastsAbout}
 use Rattle.clash_check.proofs.OpenLemmas.{of_all}
-use Rattle.clash_check.proofs.SpanLemmas.{alone_clear, residues_clear}
+use Rattle.clash_check.proofs.SpanLemmas.{settled_of, residues_clear}
 use Rattle.clash_check.proofs.drawing.DrawingDrawn.is_drawable.Goals as goal
 
 pub returns : goal.returns
@@ -26,8 +26,7 @@ returns c =
         most = λ b of. (lasts.series s width b is of).1;
         least = λ b of. lasts.series_third s width b is of;
       });
-      settled = of_all (λ series. (from : ℤ) (days : ℕ) → SpanHolds series series from days → AreClear (IsInstance series) (IsInstance series)) xs all.series are
-          (λ s from days holds. alone_clear (λ series width said is b of. (lasts.said series width b said is of).1) c.series_repeat.ensures.earlier (series_said s) from days (c.series_are_said.ensures s) holds);
+      settled = settled_of c.spans_settle.ensures all.series (of_all (λ series. ∥ IsSaidSeries series ∥₁) xs all.series are c.series_are_said.ensures);
       apart = of_all (λ series. (m : ℕ) → ResiduesHold true series series m → AreClear (IsInstance series) (IsInstance series)) xs all.series are
           (λ s m holds. residues_clear c.residues_settle.ensures.one (series_said s) m (c.series_are_said.ensures s) holds);
       starts = of_all (λ series. (m : ℕ) → 0 < m → (b : Instance) → IsInstance series b → ((residue : ℕ) → IsResidue series m residue → IsCongruent m b.start (pos residue) → ⊥) → ⊥) xs all.series are

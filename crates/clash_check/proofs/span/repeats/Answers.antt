@@ -1,7 +1,7 @@
 use Rattle.std.proofs.Common.{refl, rules, w64, FitsSigned}
 use Rattle.clash_check.proofs.SweepLemmas.{series_there}
-use Rattle.clash_check.proofs.EntryLemmas.{repeats_past, repeats_never, no_period, no_multiple}
-use Rattle.clash_check.proofs.pairs.repeats.Goals as goal
+use Rattle.clash_check.proofs.PeriodLemmas.{repeats_past, repeats_never, no_period, no_multiple}
+use Rattle.clash_check.proofs.span.repeats.Goals as goal
 
 pub is_multiple-requires : goal.is_multiple-requires
 is_multiple-requires g c = let (a, at) = series_there (g.D.Drawn.calendar c.args.drawn.now) c.args.i c.requires.place in (c.in-Some.ensures a at).some
