@@ -138,8 +138,8 @@ module _ (n : ℕ) (groups : List Group) (pairs : List Pair) where
           elim (in_cons q qs p c) [
             | inl same ↦ (q, qs, refl, ap (λ (r : Pair). r.first) same ∙ f, ap (λ (r : Pair). r.second) same ∙ g)
             | inr later ↦ absurd (not_read q qs rest (e.all q.first q.second (its_pair q qs rest)
-            (subst (λ m. IsPairBefore q.first q.second m j) f (subst (λ m. IsPairBefore q.first q.second p.first m) g
-            (pairs_head (λ p q. IsPairBefore p.first p.second q.first q.second) q qs p (pairs_back (λ p q. IsPairBefore p.first p.second q.first q.second) pairs (q ∷ qs) rest.ordered) later)))))
+                (subst (λ m. IsPairBefore q.first q.second m j) f (subst (λ m. IsPairBefore q.first q.second p.first m) g
+                (pairs_head (λ p q. IsPairBefore p.first p.second q.first q.second) q qs p (pairs_back (λ p q. IsPairBefore p.first p.second q.first q.second) pairs (q ∷ qs) rest.ordered) later)))))
           ]
 
 -- ----
@@ -299,7 +299,7 @@ module _ (one_stamp : (text : List ℕ) (a b : ℤ) → WritesStamp text a → W
         let lines : g.lines.lines ++ w.0 ≡ g.lines.lines = ap (λ (ls : List (List ℕ)). g.lines.lines ++ ls) nothing ∙ append-nil g.lines.lines in
         record {
           same = one_groups one_stamp one_form n (groups_of c) groups g.lines.lines head.few_series (good_groups c (g.lines.lines ++ tail) claims o) g.lines.good
-          (subst (λ (ls : List (List ℕ)). AllZip IsGroupLine (groups_of c) ls) lines them) g.lines.of;
+              (subst (λ (ls : List (List ℕ)). AllZip IsGroupLine (groups_of c) ls) lines them) g.lines.of;
           series = o.series;
           pairs = o.pairs;
           are_pairs = o.are_pairs;
@@ -457,7 +457,7 @@ module _ (one_stamp : (text : List ℕ) (a b : ℤ) → WritesStamp text a → W
       claims = claims_read;
       lines = head_lines version singles n ++ (s.are_groups.lines.lines ++ (s.are_pairs.lines ++ codes "DONE" ∷ []));
       are = subst (λ (gs : Option (List Group)). AreLines (claims_of gs pairs) (head_lines version singles n ++ (s.are_groups.lines.lines ++ (s.are_pairs.lines ++ codes "DONE" ∷ [])))) (sym s.is)
-      (made_lines s.groups pairs s.are_groups.lines.lines s.are_pairs.lines same_groups s.are_groups.lines.of s.are_pairs.of);
+          (made_lines s.groups pairs s.are_groups.lines.lines s.are_pairs.lines same_groups s.are_groups.lines.of s.are_pairs.of);
       is =
           spelled_so s.groups s.rest s.are_groups None pairs (codes "DONE" ++ 10 ∷ []) s.are_pairs
           ∙ sym (spelled-append (head_lines version singles n ++ (s.are_groups.lines.lines ++ s.are_pairs.lines)) (codes "DONE" ∷ []) [])

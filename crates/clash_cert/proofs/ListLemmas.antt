@@ -90,14 +90,14 @@ module _ {X : Type 0} where
     pub pairs_push : (xs : List X) (y : X) → AllPairs R xs → ((x : X) → Contains xs x → R x y) → AllPairs R (xs ++ y ∷ [])
     pairs_push [] y p h = pairs_cons y [] (λ z c. absurd (none_in_nil z c)) pairs_nil
     pairs_push (x ∷ xs) y p h =
-        pairs_cons x (xs ++ y ∷ []) (λ z c. elim (split xs z c) [ | inl there ↦ pairs_head x xs z p there | inr same ↦ subst (R x) same (h x (in_head x xs)) ])
+        pairs_cons x (xs ++ y ∷ []) (λ z c. elim (split xs z c) [ inl there ↦ pairs_head x xs z p there | inr same ↦ subst (R x) same (h x (in_head x xs)) ])
         (pairs_push xs y (pairs_tail x xs p) (λ z c. h z (in_tail x xs z c)))
       where
         split : (xs : List X) (z : X) → Contains (xs ++ y ∷ []) z → Contains xs z ⊎ (y ≡ z)
         split [] z (zero, w, e) = inr e
         split [] z (suc k, w, e) = absurd (omega (arith, w))
         split (x ∷ xs) z (zero, w, e) = inl (zero, omega arith, e)
-        split (x ∷ xs) z (suc k, w, e) = elim (split xs z (k, omega (arith, w), e)) [ | inl there ↦ inl (in_tail x xs z there) | inr same ↦ inr same ]
+        split (x ∷ xs) z (suc k, w, e) = elim (split xs z (k, omega (arith, w), e)) [ inl there ↦ inl (in_tail x xs z there) | inr same ↦ inr same ]
 
 -- a number is one of these, or it isn't
 pub contained : (ns : List ℕ) (i : ℕ) → Contains ns i ⊎ (Contains ns i → ⊥)
@@ -108,7 +108,7 @@ contained (m ∷ ns) i =
       | inr v ↦ elim (contained ns i) [
         | inl there ↦ inl (in_tail m ns i there)
         | inr none ↦ inr (λ c. elim (in_cons m ns i c) [
-          | inl e ↦ elim v [ | inl lt ↦ absurd (omega (arith, e, lt)) | inr lt ↦ absurd (omega (arith, e, lt)) ]
+          | inl e ↦ elim v [ inl lt ↦ absurd (omega (arith, e, lt)) | inr lt ↦ absurd (omega (arith, e, lt)) ]
           | inr there ↦ none there
         ])
       ]

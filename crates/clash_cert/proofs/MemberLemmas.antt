@@ -151,7 +151,7 @@ module _ (n : ℕ) (groups : List Group) (first second i j : ℕ) (s : AreSkippe
   row_skipped place row p q pair from (inl (same, before)) =
       elim (cases_order q j) [
         | inl e ↦ here (omega (arith, e))
-        | inr v ↦ elim v [ | inl lt ↦ s.none p q pair from (inr (same, lt)) | inr lt ↦ here (omega (arith, lt)) ]
+        | inr v ↦ elim v [ inl lt ↦ s.none p q pair from (inr (same, lt)) | inr lt ↦ here (omega (arith, lt)) ]
       ]
     where
       here : j ≤ q → AreTogether groups p q
@@ -172,7 +172,7 @@ module _ (n : ℕ) (groups : List Group) (first second i j : ℕ) (s : AreSkippe
       from_here (inr (e, f)) =
           elim (cases_order second place) [
             | inl g ↦ inr (e, g)
-            | inr v ↦ elim v [ | inl lt ↦ inl (inr (e, lt)) | inr lt ↦ absurd (let more = a.least in omega (arith, f, lt, more)) ]
+            | inr v ↦ elim v [ inl lt ↦ inl (inr (e, lt)) | inr lt ↦ absurd (let more = a.least in omega (arith, f, lt, more)) ]
           ]
 
       none : (p q : ℕ) → IsPair n p q → IsPairFrom first second p q → IsPairBefore p q i place → AreTogether groups p q
@@ -193,7 +193,7 @@ module _ (n : ℕ) (groups : List Group) (first second i j : ℕ) (s : AreSkippe
       none p q pair from (inl less) =
           elim (cases_order p i) [
             | inl e ↦ row_skipped (suc n) (λ k a b. row k a (omega (arith, b))) p q pair from (inl (e, omega (arith, pair.2)))
-            | inr v ↦ elim v [ | inl lt ↦ row_skipped (suc n) (λ k a b. row k a (omega (arith, b))) p q pair from (inr lt) | inr lt ↦ absurd (omega (arith, less, lt)) ]
+            | inr v ↦ elim v [ inl lt ↦ row_skipped (suc n) (λ k a b. row k a (omega (arith, b))) p q pair from (inr lt) | inr lt ↦ absurd (omega (arith, less, lt)) ]
           ]
 
 pub none_left : (n : ℕ) (groups : List Group) (first second i : ℕ) → n < i → AreSkipped n groups first second i i → IsNextFrom first second n groups None
@@ -225,9 +225,9 @@ next_first n groups next = next_of (IsPairFrom 1 1) (IsPairBefore 0 0) n groups 
         elim (cases_order 1 p) [
           | inl e ↦ elim (cases_order 1 q) [
             | inl f ↦ inr (e, f)
-            | inr v ↦ elim v [ | inl lt ↦ inl (inr (e, lt)) | inr lt ↦ absurd (omega (arith, lt, pair.0, pair.1)) ]
+            | inr v ↦ elim v [ inl lt ↦ inl (inr (e, lt)) | inr lt ↦ absurd (omega (arith, lt, pair.0, pair.1)) ]
           ]
-          | inr v ↦ elim v [ | inl lt ↦ inl (inl lt) | inr lt ↦ absurd (omega (arith, lt, pair.0)) ]
+          | inr v ↦ elim v [ inl lt ↦ inl (inl lt) | inr lt ↦ absurd (omega (arith, lt, pair.0)) ]
         ]
 
 pub next_in_row : (n i j : ℕ) (groups : List Group) (next : Option (ℕ × ℕ)) → IsNextFrom i (suc j) n groups next → IsNextAfter i j n groups next
@@ -243,7 +243,7 @@ next_in_row n i j groups next = next_of (IsPairFrom i (suc j)) (IsPairBefore i j
     from p q pair (inr (e, a)) =
         elim (cases_order (suc j) q) [
           | inl f ↦ inr (e, f)
-          | inr v ↦ elim v [ | inl lt ↦ inl (inr (e, lt)) | inr lt ↦ absurd (omega (arith, a, lt)) ]
+          | inr v ↦ elim v [ inl lt ↦ inl (inr (e, lt)) | inr lt ↦ absurd (omega (arith, a, lt)) ]
         ]
 
 pub next_row : (n i j : ℕ) (groups : List Group) (next : Option (ℕ × ℕ)) → n ≤ j → IsNextFrom (suc i) (suc i) n groups next → IsNextAfter i j n groups next
@@ -260,9 +260,9 @@ next_row n i j groups next end = next_of (IsPairFrom (suc i) (suc i)) (IsPairBef
         elim (cases_order (suc i) p) [
           | inl e ↦ elim (cases_order (suc i) q) [
             | inl f ↦ inr (e, f)
-            | inr v ↦ elim v [ | inl lt ↦ inl (inr (e, lt)) | inr lt ↦ absurd (omega (arith, lt, e, pair.1)) ]
+            | inr v ↦ elim v [ inl lt ↦ inl (inr (e, lt)) | inr lt ↦ absurd (omega (arith, lt, e, pair.1)) ]
           ]
-          | inr v ↦ elim v [ | inl lt ↦ inl (inl lt) | inr lt ↦ absurd (omega (arith, lt, a)) ]
+          | inr v ↦ elim v [ inl lt ↦ inl (inl lt) | inr lt ↦ absurd (omega (arith, lt, a)) ]
         ]
 
 pub none_after : (n i j : ℕ) (groups : List Group) → n ≤ i → n ≤ j → IsNextAfter i j n groups None
@@ -303,7 +303,7 @@ pub added_start : (group : ℕ) (numbers : List ℕ) (old : Members) → AreAdde
 added_start group numbers old = record { done = []; whole = sym (append-nil numbers); first = refl; added = λ order i c. absurd (none_in_nil i c); others = λ i c. refl }
 
 module _ (group x last : ℕ) (numbers front : List ℕ) (old now new : Members) (after : Option Run) (a : AreAdded group numbers (front ++ x ∷ []) old now after) (end : IsRunEnd after x last)
-  (put : Updates nat_cmp now.by_number new.by_number x (Some (record { group = group; last = last }))) where
+    (put : Updates nat_cmp now.by_number new.by_number x (Some (record { group = group; last = last }))) where
   here : member_of new x ≡ Some (record { group = group; last = last })
   here = put.1
 
@@ -330,7 +330,7 @@ module _ (group x last : ℕ) (numbers front : List ℕ) (old now new : Members)
         of = refl;
         least = omega (arith, e);
         run = λ j least most. (zero, omega arith, let same : x ≡ j = omega (arith, e, least, most) in same);
-        ends = λ c. elim (in_cons x a.done (suc last) c) [ | inl f ↦ absurd (omega (arith, f, e)) | inr there ↦ none (subst (λ k. Contains a.done (suc k)) e there) ];
+        ends = λ c. elim (in_cons x a.done (suc last) c) [ inl f ↦ absurd (omega (arith, f, e)) | inr there ↦ none (subst (λ k. Contains a.done (suc k)) e there) ];
       }
 
       joined : (run : Run) (rest : List ℕ) → a.done ≡ run.first ∷ rest → (m : Member) → member_of now run.first ≡ Some m → m.last ≡ run.last → run.first ≡ suc x → last ≡ run.last → IsAdded new group (x ∷ a.done) x
@@ -361,9 +361,9 @@ module _ (group x last : ℕ) (numbers front : List ℕ) (old now new : Members)
           elim (in_cons run.first rest (suc x) (subst (λ (ns : List ℕ). Contains ns (suc x)) e c)) [
             | inl s ↦ other s
             | inr there ↦
-              let less : run.first < suc x = pairs_head ◌<◌ run.first rest (suc x) (subst (AllPairs ◌<◌) e (ascend order)) there in
-              let more : x < run.first = later order run.first (subst (λ (ns : List ℕ). Contains ns run.first) (sym e) (in_head run.first rest)) in
-              absurd (omega (arith, less, more))
+                let less : run.first < suc x = pairs_head ◌<◌ run.first rest (suc x) (subst (AllPairs ◌<◌) e (ascend order)) there in
+                let more : x < run.first = later order run.first (subst (λ (ns : List ℕ). Contains ns run.first) (sym e) (in_head run.first rest)) in
+                absurd (omega (arith, less, more))
           ]
 
       go : (r : Option Run) → IsRunAt now group a.done r → IsRunEnd r x last → IsAdded new group (x ∷ a.done) x
@@ -382,7 +382,7 @@ module _ (group x last : ℕ) (numbers front : List ℕ) (old now new : Members)
         of = w.of;
         least = w.least;
         run = λ j from to. in_tail x a.done j (w.run j from to);
-        ends = λ d. elim (in_cons x a.done (suc w.m.last) d) [ | inl s ↦ absurd (omega (arith, s, more, least)) | inr there ↦ w.ends there ];
+        ends = λ d. elim (in_cons x a.done (suc w.m.last) d) [ inl s ↦ absurd (omega (arith, s, more, least)) | inr there ↦ w.ends there ];
       }
 
   pub added_more : AreAdded group numbers front old new (Some (record { first = x; last = last }))

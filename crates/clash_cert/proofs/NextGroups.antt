@@ -27,8 +27,8 @@ after_last groups group order after g (k, w, e) =
       | inl same ↦ subst (λ (x : Group). first_of x < first_of group) (ap (λ i. get_or groups i g) (sym same) ∙ e) later
       | inr v ↦ elim v [
         | inl lt ↦
-          let first = (subst (λ (x : Group). AreInOrder x last) e (order k (length groups - 1) g lt (omega (arith, w)))).first in
-          omega (arith, first, later)
+            let first = (subst (λ (x : Group). AreInOrder x last) e (order k (length groups - 1) g lt (omega (arith, w)))).first in
+            omega (arith, first, later)
         | inr lt ↦ absurd (omega (arith, lt, w))
       ]
     ]

@@ -23,7 +23,7 @@ pub before_from : (i j k l : ℕ) → is_pair_before i j k l ≡ true → IsPair
 before_from i j k l h =
     elim (cases_order i k) [
       | inl e ↦ inr (e, grind (arith, nat_tests, h, e))
-      | inr v ↦ elim v [ | inl lt ↦ inl lt | inr lt ↦ absurd (grind (arith, nat_tests, h, lt)) ]
+      | inr v ↦ elim v [ inl lt ↦ inl lt | inr lt ↦ absurd (grind (arith, nat_tests, h, lt)) ]
     ]
 
 pub test_from : (i j k l : ℕ) → IsPairBefore i j k l → is_pair_before i j k l ≡ true
@@ -48,7 +48,7 @@ module _ (pairs : List Pair) (first second : ℕ) (up : AreSorted (map pair_said
   before_at i j d lt w =
       let long = length-map pairs pair_said in
       let r : IsPairBefore (get_or (map pair_said pairs) i (pair_said d)).first (get_or (map pair_said pairs) i (pair_said d)).second
-          (get_or (map pair_said pairs) j (pair_said d)).first (get_or (map pair_said pairs) j (pair_said d)).second = up i j (pair_said d) lt (omega (arith, w, long)) in
+      (get_or (map pair_said pairs) j (pair_said d)).first (get_or (map pair_said pairs) j (pair_said d)).second = up i j (pair_said d) lt (omega (arith, w, long)) in
       let a : get_or (map pair_said pairs) i (pair_said d) ≡ pair_said (get_or pairs i d) = get_or-map pair_said pairs i d (pair_said d) (omega (arith, lt, w)) in
       let b : get_or (map pair_said pairs) j (pair_said d) ≡ pair_said (get_or pairs j d) = get_or-map pair_said pairs j d (pair_said d) w in
       subst (λ (q : said.Pair). IsPairBefore (get_or pairs i d).first (get_or pairs i d).second q.first q.second) b
@@ -63,9 +63,9 @@ module _ (pairs : List Pair) (first second : ℕ) (up : AreSorted (map pair_said
         | inl e ↦ subst (λ k. test (get_or pairs k d) ≡ true) (sym e) h
         | inr v ↦ elim v [
           | inl lt ↦
-            let p = get_or pairs i d in
-            let q = get_or pairs j d in
-            test_from p.first p.second first second (before_through p.first p.second q.first q.second first second (before_at i j d lt w) (before_from q.first q.second first second h))
+              let p = get_or pairs i d in
+              let q = get_or pairs j d in
+              test_from p.first p.second first second (before_through p.first p.second q.first q.second first second (before_at i j d lt w) (before_from q.first q.second first second h))
           | inr lt ↦ absurd (omega (arith, lt, le))
         ]
       ]
@@ -79,8 +79,8 @@ module _ (pairs : List Pair) (first second : ℕ) (up : AreSorted (map pair_said
     -- no pair has these names if not the one at the place
     pub entry_none : ((one : Pair) → at < length pairs → get_or pairs at one ≡ one → one.first ≡ first → one.second ≡ second → ⊥) → IsEntryAmong (map pair_said pairs) first second said.End
     entry_none other = none (λ p c f g.
-      let from = of_map pair_said pairs p c in
-      at_place from.0 from.1 (ap (λ (q : said.Pair). q.first) from.2 ∙ f) (ap (λ (q : said.Pair). q.second) from.2 ∙ g))
+        let from = of_map pair_said pairs p c in
+        at_place from.0 from.1 (ap (λ (q : said.Pair). q.first) from.2 ∙ f) (ap (λ (q : said.Pair). q.second) from.2 ∙ g))
       where
         at_place : (q : Pair) → Contains pairs q → q.first ≡ first → q.second ≡ second → ⊥
         at_place q (k, w, e) f g =
@@ -88,12 +88,12 @@ module _ (pairs : List Pair) (first second : ℕ) (up : AreSorted (map pair_said
               | inl same ↦ other q (omega (arith, w, same)) (ap (λ i. get_or pairs i q) (sym same) ∙ e) f g
               | inr v ↦ elim v [
                 | inl lt ↦
-                  let passes : test q ≡ true = subst (λ (r : Pair). test r ≡ true) e (point.0 k q (omega arith) lt) in
-                  before_self first second (named q (before_from q.first q.second first second passes))
+                    let passes : test q ≡ true = subst (λ (r : Pair). test r ≡ true) e (point.0 k q (omega arith) lt) in
+                    before_self first second (named q (before_from q.first q.second first second passes))
                 | inr lt ↦
-                  let d = get_or pairs at q in
-                  let less : IsPairBefore d.first d.second first second = later d (subst (λ (r : Pair). IsPairBefore d.first d.second r.first r.second) e (before_at at k q lt w)) in
-                  true≢false (sym (test_from d.first d.second first second less) ∙ point.1 at q (omega arith) (omega (arith, lt, w)))
+                    let d = get_or pairs at q in
+                    let less : IsPairBefore d.first d.second first second = later d (subst (λ (r : Pair). IsPairBefore d.first d.second r.first r.second) e (before_at at k q lt w)) in
+                    true≢false (sym (test_from d.first d.second first second less) ∙ point.1 at q (omega arith) (omega (arith, lt, w)))
               ]
             ]
           where
@@ -149,7 +149,7 @@ pub both_more : (groups : List Group) (i j place : ℕ) → NoneHasBoth groups i
 both_more groups i j place before here k d lt a b =
     elim (cases_order k place) [
       | inl e ↦ here d (subst (λ m. Contains (group_said (get_or groups m d)).members i) e a) (subst (λ m. Contains (group_said (get_or groups m d)).members j) e b)
-      | inr v ↦ elim v [ | inl less ↦ before k d less a b | inr more ↦ absurd (omega (arith, lt, more)) ]
+      | inr v ↦ elim v [ inl less ↦ before k d less a b | inr more ↦ absurd (omega (arith, lt, more)) ]
     ]
 
 pub none_together : (groups : List Group) (i j : ℕ) → NoneHasBoth groups i j (length groups) → AreTogether (map group_said groups) i j → ⊥
@@ -162,7 +162,7 @@ none_together groups i j before (g, c, a, b) =
 
 module _ (c : Claims) (claims : IsClaims c) (items : List Group) (same : map group_said items ≡ groups_of c) (i j : ℕ) where
   module _ (place : ℕ) (g : Group) (w : place < length items) (e : g ≡ get_or items place g) (b : Bool)
-    (both : AllPairs ◌<◌ (group_said g).members → IsTrue b ↔ (Contains (group_said g).members i × Contains (group_said g).members j)) where
+      (both : AllPairs ◌<◌ (group_said g).members → IsTrue b ↔ (Contains (group_said g).members i × Contains (group_said g).members j)) where
     ascends : AllPairs ◌<◌ (group_said g).members
     ascends =
         subst (λ (h : Group). AllPairs ◌<◌ (group_said h).members) (sym e) (group_ascends items c.series (subst (All (IsGroup c.series)) (sym same) claims.groups) place g w)

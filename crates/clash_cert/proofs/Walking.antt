@@ -28,9 +28,9 @@ before_or_from p q i j =
     elim (cases_order p i) [
       | inl e ↦ elim (cases_order q j) [
         | inl f ↦ inr (inr (sym e, sym f))
-        | inr v ↦ elim v [ | inl lt ↦ inl (inr (e, lt)) | inr lt ↦ inr (inl (inr (sym e, lt))) ]
+        | inr v ↦ elim v [ inl lt ↦ inl (inr (e, lt)) | inr lt ↦ inr (inl (inr (sym e, lt))) ]
       ]
-      | inr w ↦ elim w [ | inl lt ↦ inl (inl lt) | inr lt ↦ inr (inl (inl lt)) ]
+      | inr w ↦ elim w [ inl lt ↦ inl (inl lt) | inr lt ↦ inr (inl (inl lt)) ]
     ]
 
 -- before the one in the next place
@@ -39,7 +39,7 @@ before_next p q i j (inl l) = inl (inl l)
 before_next p q i j (inr (e, l)) =
     elim (cases_order q j) [
       | inl f ↦ inr (e, f)
-      | inr v ↦ elim v [ | inl lt ↦ inl (inr (e, lt)) | inr lt ↦ absurd (omega (arith, l, lt)) ]
+      | inr v ↦ elim v [ inl lt ↦ inl (inr (e, lt)) | inr lt ↦ absurd (omega (arith, l, lt)) ]
     ]
 
 pub before_later : (p q i j : ℕ) → IsPairBefore p q i j → IsPairBefore p q i (suc j)
@@ -61,7 +61,7 @@ module _ (n : ℕ) (groups : List Group) where
     good = e.good;
     before = all_of (λ p. IsBeforeNext then p.first p.second) pairs (λ p c. less p.first p.second (All-contains (λ p. IsBeforeNext next p.first p.second) pairs p e.before c));
     ordered = e.ordered;
-    all = λ i j pair b. elim (none i j pair b) [ | inl old ↦ e.all i j pair old | inr together ↦ inl together ];
+    all = λ i j pair b. elim (none i j pair b) [ inl old ↦ e.all i j pair old | inr together ↦ inl together ];
   }
 
   pub entries_start : AreEntriesBefore n groups (Some (1, 1)) []
@@ -85,10 +85,10 @@ module _ (n : ℕ) (groups : List Group) where
       record {
         good = All-push (IsApart n groups) pairs p e.good (record { pair = has.pair; entry = good; apart = has.apart });
         before = All-push (λ p. IsBeforeNext (Some (i, suc j)) p.first p.second) pairs p
-        (all_of (λ p. IsBeforeNext (Some (i, suc j)) p.first p.second) pairs (λ q c. before_later q.first q.second i j (All-contains (λ p. IsBeforeNext (Some (i, j)) p.first p.second) pairs q e.before c))) last;
+            (all_of (λ p. IsBeforeNext (Some (i, suc j)) p.first p.second) pairs (λ q c. before_later q.first q.second i j (All-contains (λ p. IsBeforeNext (Some (i, j)) p.first p.second) pairs q e.before c))) last;
         ordered = pairs_push (λ p q. IsPairBefore p.first p.second q.first q.second) pairs p e.ordered (λ q c. All-contains (λ p. IsBeforeNext (Some (i, j)) p.first p.second) pairs q e.before c);
         all = λ k l pair b. elim (before_next k l i j b) [
-          | inl old ↦ elim (e.all k l pair old) [ | inl together ↦ inl together | inr f ↦ inr (f.0, Contains-append_left pairs (p ∷ []) f.0 f.1, f.2, f.3) ]
+          | inl old ↦ elim (e.all k l pair old) [ inl together ↦ inl together | inr f ↦ inr (f.0, Contains-append_left pairs (p ∷ []) f.0 f.1, f.2, f.3) ]
           | inr same ↦ inr (p, here, sym same.0, sym same.1)
         ];
       }
@@ -110,7 +110,7 @@ module _ (n : ℕ) (groups : List Group) where
               before_one k l pair (inr (e, a)) =
                   elim (cases_order i k) [
                     | inl f ↦ inr (f, omega (arith, a, pair.0, pair.1))
-                    | inr v ↦ elim v [ | inl lt ↦ inl lt | inr lt ↦ absurd (omega (arith, lt, e, pair.0)) ]
+                    | inr v ↦ elim v [ inl lt ↦ inl lt | inr lt ↦ absurd (omega (arith, lt, e, pair.0)) ]
                   ]
 
       none : (i j : ℕ) → IsPair n i j → IsBeforeNext next i j → IsPairBefore i j 1 1 ⊎ AreTogether groups i j
@@ -202,14 +202,14 @@ module _ (n : ℕ) (groups : List Group) where
   one_filled i j pairs pair e =
       elim (together groups i j) [
         | inl t ↦ filled_none (Some (i, suc j)) pairs
-        (entries_to (Some (i, j)) (Some (i, suc j)) pairs (λ p q b. before_later p q i j b)
-        (λ p q here b. elim (before_next p q i j b) [
-          | inl c ↦ inl c
-          | inr same ↦ inr (subst (λ m. AreTogether groups m q) (sym same.0) (subst (AreTogether groups i) (sym same.1) t))
-        ]) e)
+            (entries_to (Some (i, j)) (Some (i, suc j)) pairs (λ p q b. before_later p q i j b)
+            (λ p q here b. elim (before_next p q i j b) [
+              | inl c ↦ inl c
+              | inr same ↦ inr (subst (λ m. AreTogether groups m q) (sym same.0) (subst (AreTogether groups i) (sym same.1) t))
+            ]) e)
         | inr apart ↦ filled_more (Some (i, suc j)) pairs ((record { first = i; second = j; entry = End }) ∷ []) ((codes "PAIR " ++ (decimal i ++ (codes " " ++ (decimal j ++ (codes " " ++ codes "END"))))) ∷ [])
-        ((codes "END", refl, refl), tt)
-        (filled_none (Some (i, suc j)) (pairs ++ (record { first = i; second = j; entry = End }) ∷ []) (entries_push i j pairs End e (record { pair = pair; apart = apart }) tt))
+            ((codes "END", refl, refl), tt)
+            (filled_none (Some (i, suc j)) (pairs ++ (record { first = i; second = j; entry = End }) ∷ []) (entries_push i j pairs End e (record { pair = pair; apart = apart }) tt))
       ]
 
   -- those of a series with so many more ones
@@ -226,7 +226,7 @@ module _ (n : ℕ) (groups : List Group) where
       none p q pair (inl l) =
           elim (cases_order p i) [
             | inl f ↦ inl (inr (f, omega (arith, pair.2, sum)))
-            | inr v ↦ elim v [ | inl lt ↦ inl (inl lt) | inr lt ↦ absurd (omega (arith, l, lt)) ]
+            | inr v ↦ elim v [ inl lt ↦ inl (inl lt) | inr lt ↦ absurd (omega (arith, l, lt)) ]
           ]
   row_filled i j (suc count) pairs some least sum e =
       let one = one_filled i j pairs (some, least, omega (arith, sum)) e in

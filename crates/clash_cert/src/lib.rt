@@ -4,8 +4,8 @@
 pub mod certificate;
 mod choosing;
 mod extending;
-pub mod groups;
 mod grouping;
+pub mod groups;
 mod looking;
 pub mod making;
 mod members;
@@ -17,6 +17,6 @@ pub use certificate::{
 };
 pub use choosing::{certificate_from, certificate_of};
 pub use extending::extend;
-pub use groups::Group;
 pub use grouping::{certificate_written, group};
+pub use groups::Group;
 pub use making::{Clash, Made, clash_of, make};

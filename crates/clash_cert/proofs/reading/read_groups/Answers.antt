@@ -40,6 +40,6 @@ loop-alloc-preserved c =
     let said : map group_said c.push.new.self.items ≡ groups ++ group ∷ [] = ap (map group_said) c.in_ok-push.ensures.items ∙ map-append group_said old (c.in-Some.group ∷ []) in (
       subst (λ (gs : List Group). HasGroupLines n gs bytes left) (sym said) (groups_more n groups group bytes rest left inv.0 at next),
       subst (λ (gs : List Group). IsOfGroups gs c.add.new.self) (sym said)
-      (c.in_ok-add.ensures groups group inv.1 (c.len.ensures ∙ c.loop-alloc.groups.ok.0 ∙ sym (length-map old group_said)) same (subst (AllPairs ◌<◌) same at.good.ascending)
-      (subst (AreApart groups) same (next_apart groups group next))),
+          (c.in_ok-add.ensures groups group inv.1 (c.len.ensures ∙ c.loop-alloc.groups.ok.0 ∙ sym (length-map old group_said)) same (subst (AllPairs ◌<◌) same at.good.ascending)
+          (subst (AreApart groups) same (next_apart groups group next))),
     )

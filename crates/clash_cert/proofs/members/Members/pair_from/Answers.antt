@@ -26,9 +26,9 @@ loop-place-preserved c =
     let other = c.if-i-series.false in (
       omega (arith, most, other),
       λ groups of some least.
-      let next : suc i ≡ i + 1 = omega arith in
-      subst (λ m. AreSkipped n groups c.args.first c.args.second m m) next
-      (row_done n groups c.args.first c.args.second i c.loop-place.j (c.loop-place.invariant.1 groups of some least) (c.in_default.ensures groups of)),
+          let next : suc i ≡ i + 1 = omega arith in
+          subst (λ m. AreSkipped n groups c.args.first c.args.second m m) next
+          (row_done n groups c.args.first c.args.second i c.loop-place.j (c.loop-place.invariant.1 groups of some least) (c.in_default.ensures groups of)),
     )
 
 pub loop-place-init : goal.loop-place-init
