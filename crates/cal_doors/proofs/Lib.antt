@@ -7,4 +7,5 @@ pub mod Offsets
 pub mod Afterwards
 pub mod Same
 pub mod General
+pub mod DayNames
 mod Examples

@@ -6,7 +6,10 @@ mod check;
 mod condition;
 mod end;
 mod law;
+mod part;
 mod places;
+mod read;
+mod rule;
 mod run;
 mod zone;
 
