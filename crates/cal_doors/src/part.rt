@@ -70,8 +70,11 @@ fn first_run(alloc: Global, properties: &Properties<'_>, times: &Times) -> Resul
         return Ok(Run::once(times.start, times.from, times.to));
     };
     let rule = read_ending(alloc, line.value(), times.from)?;
-    let run = Run::yearly(times.start, rule.day, times.from, times.to, rule.end);
-    Ok(run.ok_or(Refusal::ZONE_SHAPE)?)
+    let Some(run) = Run::yearly(times.start, rule.day, times.from, times.to, rule.end) else {
+        // It doesn't come to this: a day that is read is one of every year.
+        return Err(Fault::Refused(Refusal::ZONE_SHAPE));
+    };
+    Ok(run)
 }
 
 /// Adds a run for each local time of the RDATEs. Refused with 40 where one says something else.
