@@ -14,6 +14,6 @@ mod run;
 mod zone;
 
 pub use end::{End, YearDay};
-pub use law::zones_are_general;
+pub use law::{date_at_start_adds_nothing, zones_are_general};
 pub use run::Run;
 pub use zone::GeneralZone;

@@ -50,5 +50,5 @@ returns-clause-says c =
     let line = line_text c.in-Some.line in
     let rule = c.in_ok-rule.rule in
     let there : OccursAtMostOnce (codes "RRULE") lines (Some line) = rw c.in-Some.is at c.in_ok-line.ensures.found in
-    yearly_first lines times.start times.from times.to line rule (run_of c.in-Some-yearly.run) there
+    yearly_first lines times.start times.from times.to line rule (run_of c.in-Some-yearly.run') there
     (subst (λ (s : List ℕ). SpellsEnding times.from s (ending_of rule)) c.value.ensures c.in_ok-rule.ensures.says) c.in-Some-yearly.ensures.run
