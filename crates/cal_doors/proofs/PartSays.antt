@@ -166,10 +166,13 @@ module _ (from to : ℤ) (line : List ℕ) where
 
   -- one of them is no local time
   pub text_fault : (left rest : Lines) (text : List ℕ) (old mid : List Run) (n : ℕ) → TextsAdded from to line left old mid → left ≡ text ∷ rest → DateFault text n → LineFault line n
-  text_fault left rest text old mid n t e f = (f.0, λ dates is.
-      let all : texts_of line ≡ t.seen ++ text ∷ rest = t.parted ∙ ap (λ l. t.seen ++ l) e in
-      let there = zip_at SpellsLocal t.seen text rest dates (subst (λ (l : Lines). AllZip SpellsLocal l dates) all is.2) in
-      f.1 there.0 there.1)
+  text_fault left rest text old mid n t e f = (
+    f.0,
+    λ dates is.
+        let all : texts_of line ≡ t.seen ++ text ∷ rest = t.parted ∙ ap (λ l. t.seen ++ l) e in
+        let there = zip_at SpellsLocal t.seen text rest dates (subst (λ (l : Lines). AllZip SpellsLocal l dates) all is.2) in
+        f.1 there.0 there.1,
+  )
 
 -- ---- the lines of RDATE
 
