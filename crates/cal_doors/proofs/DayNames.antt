@@ -1,5 +1,5 @@
 -- The day that a rule names, by the first entries of its lists. For `year_day` and what it calls.
-use Rattle.std.proofs.Common.{◌≡◌, ◌∙◌, ap, sym, subst, refl, inl, inr, ◌⊎◌, ℕ, ◌≤◌, ◌<◌, Bool, true, false, ◌&&◌, ◌==◌, List, [], ◌∷◌, arith, ℤ, pos, negsuc, neg_ℤ, Option, Some, None, Result, Ok, Err, nat_abs, w16, to_z, of_z}
+use Rattle.std.proofs.Common.{◌≡◌, ◌∙◌, ap, sym, refl, ℕ, ◌≤◌, Bool, true, false, ◌==◌, List, [], ◌∷◌, arith, ℤ, pos, negsuc, neg_ℤ, Some, None, Result, Ok, Err, nat_abs, w16, to_z, of_z}
 use Rattle.std.specs.Prelude.{slice_get}
 use Rattle.std.specs.List.{list_all, reduce}
 use Rattle.std.specs.Ordering.{int_eq}

@@ -1,5 +1,5 @@
 -- What the readers of a part of a VTIMEZONE in general say, put together.
-use Rattle.std.proofs.Common.{◌≡◌, ◌∙◌, ap, sym, refl, subst, inl, inr, ◌⊎◌, ℕ, true, false, cond, ◌==◌, List, [], ◌∷◌, ◌++◌, length, map, codes, arith, append_assoc, append-nil, ℤ, Option, Some, None}
+use Rattle.std.proofs.Common.{◌≡◌, ◌∙◌, ap, sym, refl, subst, inl, inr, ℕ, true, false, cond, ◌==◌, List, [], ◌∷◌, ◌++◌, length, codes, arith, append_assoc, append-nil, ℤ, Some, None}
 use Rattle.std.specs.Prelude.{Contains}
 use Rattle.std.specs.List.{AllZip, flat_map, slice_split}
 use Rattle.std.proofs.lemmas.List.{map-append}
@@ -10,13 +10,12 @@ use Rattle.profile.specs.events.Properties.{is_of, lines_named, OccursAtMostOnce
 use Rattle.profile.specs.series.Zones.{Observance}
 use Rattle.profile.specs.series.ZoneTexts.{IsLocalLine, IsOffsetLine, time_names}
 use Rattle.profile.specs.series.GeneralZones.{End, Run}
-use Rattle.profile.specs.series.GeneralZoneTexts as texts
-use Rattle.profile.specs.series.GeneralZoneTexts.{IsRunAt, IsDatesLine, IsNoDatesLine, SaysDates, SpellsEnding, IsEndingLine, IsFirstRun, SaysRuns, PartsSayRuns, RunsFault, once, yearly, missing, twice, fixed, bad_start, bad_from, bad_to}
+use Rattle.profile.specs.series.GeneralZoneTexts.{IsRunAt, IsDatesLine, SaysDates, SpellsEnding, IsEndingLine, IsFirstRun, SaysRuns, PartsSayRuns, RunsFault, once, yearly, missing, twice, fixed, bad_start, bad_from, bad_to}
 use Rattle.cal_zones.specs.Read.{StartFault, IsNotOnce, OffsetFault}
 use Rattle.cal_zones.proofs.Reading.{said}
 use Rattle.cal_doors.specs.Ends.{end_of}
 use Rattle.cal_doors.specs.Runs.{run_of, runs_in, IsYearlyRun}
-use Rattle.cal_doors.specs.Reading.{ending_of, AreTimes, HasTimes, SaysFirst, AreRunsAt, AddsRuns, AddsLine, AddsDates, AddsPart, DateFault, LineFault, DatesFault}
+use Rattle.cal_doors.specs.Reading.{ending_of, AreTimes, SaysFirst, AreRunsAt, AddsRuns, AddsLine, AddsDates, AddsPart, DateFault, LineFault, DatesFault}
 use Rattle.cal_doors.specs.declared.run.Run as kept
 use Rattle.cal_doors.specs.declared.rule.EndingRule.{EndingRule}
 

@@ -1,4 +1,4 @@
-use Rattle.std.proofs.Common.{◌≡◌, ◌∙◌, ◌+◌, ◌∷◌, [], ap, drop, map, sym, rules, arith}
+use Rattle.std.proofs.Common.{◌≡◌, ◌+◌, ◌∷◌, [], ap, drop, map, sym}
 use Rattle.std.proofs.lemmas.List.{drop_all}
 use Rattle.ical_lines.specs.Text.{line_text}
 use Rattle.ical_tree.proofs.OneLine.{at_place}

@@ -1,4 +1,4 @@
-use Rattle.std.proofs.Common.{◌≡◌, ◌∙◌, ap, codes, sym, subst, ℕ, List, refl, Some}
+use Rattle.std.proofs.Common.{◌≡◌, codes, sym, subst, ℕ, List, refl, Some}
 use Rattle.ical_lines.specs.Fault.{RefusesBy}
 use Rattle.ical_lines.specs.Text.{line_text}
 use Rattle.ical_lines.specs.declared.fault.Refusal.{Refusal}

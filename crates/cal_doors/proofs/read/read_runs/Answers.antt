@@ -1,4 +1,4 @@
-use Rattle.std.proofs.Common.{◌≡◌, ◌≢◌, ◌+◌, ◌<◌, ◌≤◌, [], List, arith, length, get_or, drop, ap, refl, sym, subst}
+use Rattle.std.proofs.Common.{◌≡◌, ◌≢◌, ◌+◌, ◌<◌, ◌≤◌, List, arith, length, get_or, drop, ap, refl, sym, subst}
 use Rattle.std.proofs.lemmas.Bool.Decides.{nat_tests}
 use Rattle.std.proofs.lemmas.List.{drop_all}
 use Rattle.ical_tree.specs.Tree.{component_lines, component_children}
@@ -8,7 +8,7 @@ use Rattle.profile.specs.series.GeneralZoneTexts.{RunsFault, GeneralPartsFault, 
 use Rattle.cal_zones.specs.Read.{parts_in, zone_parts}
 use Rattle.cal_zones.proofs.PartLemmas.{is_among, drop_other, drop_part}
 use Rattle.cal_zones.proofs.Reading.{fault_exit}
-use Rattle.cal_doors.specs.Runs.{run_of, runs_in}
+use Rattle.cal_doors.specs.Runs.{runs_in}
 use Rattle.cal_doors.proofs.PartSays.{PartsAdded, no_parts, next_part, parts_say, none_say, no_length, some_length}
 use Rattle.cal_doors.proofs.read.read_runs.Goals as goal
 use Rattle.cal_doors.proofs.read.read_runs.Goals.{then-is_part+in_ok-add_part, else-is_part}
