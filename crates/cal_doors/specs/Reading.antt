@@ -1,9 +1,6 @@
 -- What the reader of a VTIMEZONE in general sees.
 use Rattle.std.specs.Prelude.{◌≡◌, ◌<◌, ℕ, true, List, [], ◌∷◌, ◌++◌, codes, Some, ℤ}
 use Rattle.std.specs.List.{AllZip}
-use Rattle.ical_lines.specs.Fault.{RefusesBy}
-use Rattle.ical_lines.specs.declared.fault.Fault.{Fault}
-use Rattle.ical_lines.specs.declared.fault.Fault.TheVariants.{Refused, Memory}
 use Rattle.profile.specs.events.Properties.{Says, SomeLine}
 use Rattle.profile.specs.text.Values.{SpellsLocal}
 use Rattle.profile.specs.series.Zones.{Observance, local_time}
@@ -74,8 +71,3 @@ LineFault line number = (number ≡ 40) × IsNoDatesLine line
 -- one of them isn't
 abbrev pub DatesFault : List (List ℕ) → ℕ → Type 0
 DatesFault lines number = (number ≡ 40) × SomeLine (codes "RDATE") IsNoDatesLine lines
-
--- out of memory stays, and any refusal becomes 40
-abbrev pub IsShapeFault : Fault → Fault → Type 0
-IsShapeFault Memory result = result ≡ Memory
-IsShapeFault (Refused _) result = RefusesBy (λ n. n ≡ 40) result × (result ≡ Memory → ⊥)

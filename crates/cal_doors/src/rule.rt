@@ -9,7 +9,8 @@ ghost use Rattle.profile.specs.series.GeneralZoneTexts.{without_end, IsEndOf, Sp
 ghost use Rattle.cal_rules.specs.Views.{weekday_number_of, until_of};
 ghost use Rattle.cal_zones.specs.Shapes.{days_of, rule_named};
 ghost use Rattle.cal_doors.specs.Ends.{end_of};
-ghost use Rattle.cal_doors.specs.Reading.{ending_of, IsShapeFault};
+ghost use Rattle.cal_zones.specs.Read.{IsShapeFault};
+ghost use Rattle.cal_doors.specs.Reading.{ending_of};
 
 use crate::end::{End, YearDay};
 use cal_rules::{RuleText, Until, WeekdayNumber, one_rule};
@@ -57,6 +58,7 @@ fn year_day(rule: &RuleText) -> Option<YearDay>
     ensures found { IfSome result (λ day. is_one_day (without_end rule.now) (rule_named day.month day.days) ≡ true) }
     ensures none { IfNone result ((r : texts.YearRule) → is_one_day (without_end rule.now) r ≡ true → ⊥) }
 {
+    // Whether it names one; which one is then told by the first entries of its lists.
     let _ = day_named(rule)?;
     let month = *rule.months().first()?;
     let days = days_written(rule.month_days(), rule.weekdays())?;
