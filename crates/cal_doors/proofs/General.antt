@@ -17,7 +17,7 @@ module _ (A B : Onset → Type 0) (there : (x : Onset) → A x → B x) (back : 
   shows_back : (t local : ℤ) → ShowsBy (InForce B) t local → ShowsBy (InForce A) t local
   shows_back t local (p, at, e) = (p, in_force B A back there t p at, e)
 
-  means : (local t : ℤ) → MeansBy (InForce A) A local t → MeansBy (InForce B) B local t
+  pub means : (local t : ℤ) → MeansBy (InForce A) A local t → MeansBy (InForce B) B local t
   means local t (inl h) = inl (record { shown = shows t local h.shown; least = λ u s. h.least u (shows_back u local s) })
   means local t (inr h) = inr (record {
     never = λ u s. h.never u (shows_back u local s);

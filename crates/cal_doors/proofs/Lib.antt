@@ -7,4 +7,7 @@ pub mod Offsets
 pub mod Afterwards
 pub mod Same
 pub mod General
+pub mod Again
+pub mod DayNames
+pub mod PartSays
 mod Examples

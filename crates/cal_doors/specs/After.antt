@@ -27,3 +27,8 @@ pub record IsOnceAt (only from to : ℤ) (zone : Zone) : Type 0 where
 pub record IsGeneral (z : Zone) : Type 0 where
   pub offset : (instant offset : ℤ) → IsOffsetAt z instant offset ↔ IsGeneralOffsetAt (runs_of z) instant offset
   pub meaning : (local t : ℤ) → Means z local t ↔ MeansGenerally (runs_of z) local t
+
+-- two zones in general have the same offset in force, and their local times mean the same
+pub record AreSameZones (zone other : List Run) : Type 0 where
+  pub offset : (instant offset : ℤ) → IsGeneralOffsetAt zone instant offset ↔ IsGeneralOffsetAt other instant offset
+  pub meaning : (local t : ℤ) → MeansGenerally zone local t ↔ MeansGenerally other local t

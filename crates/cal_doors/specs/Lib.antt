@@ -4,3 +4,4 @@ pub mod Passing
 pub mod Conditions
 pub mod After
 pub mod Found
+pub mod Reading

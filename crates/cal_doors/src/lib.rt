@@ -6,11 +6,14 @@ mod check;
 mod condition;
 mod end;
 mod law;
+mod part;
 mod places;
+mod read;
+mod rule;
 mod run;
 mod zone;
 
 pub use end::{End, YearDay};
-pub use law::zones_are_general;
+pub use law::{date_at_start_adds_nothing, zones_are_general};
 pub use run::Run;
 pub use zone::GeneralZone;

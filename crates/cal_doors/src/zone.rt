@@ -1,8 +1,12 @@
 //! A zone in general, and the zone of the accepted form that it is from an instant on.
 
 use crate::after::{offset_at, zone_after};
+use crate::read::read_runs;
 use crate::run::Run;
 use cal_zones::Zone;
+use ical_lines::Fault;
+use ical_tree::Component;
+use std::alloc::Global;
 
 /// A zone in general: runs of onsets.
 #[derive(Drop)]
@@ -11,7 +15,10 @@ pub struct GeneralZone {
 }
 
 impl GeneralZone {
-    ghost use Rattle.std.specs.Prelude.{◌≡◌, IfSome};
+    ghost use Rattle.std.specs.Prelude.{◌≡◌, IfSome, IfOk, IfErr};
+    ghost use Rattle.ical_lines.specs.Fault.{RefusesBy};
+    ghost use Rattle.ical_tree.specs.Tree.{tree_of};
+    ghost use Rattle.profile.specs.series.GeneralZoneTexts.{SaysGeneralZone, GeneralZoneFault};
     ghost use Rattle.profile.specs.series.GeneralZones.{IsSameFrom};
     ghost use Rattle.cal_zones.specs.Kinds.{zone_of};
     ghost use Rattle.cal_doors.specs.Runs.{runs_in};
@@ -22,6 +29,18 @@ impl GeneralZone {
         ensures { general_of result ≡ runs_in runs.items }
     {
         GeneralZone { runs }
+    }
+
+    /// The zone that a VTIMEZONE says: the runs of its parts, in their order (RFC 5545 3.6.5). Refused is one without a part, and one of
+    /// whose parts something is wrong: with 11 where a DTSTART is no local time, with 13 where an offset is none; else with 40. That is where DTSTART, TZOFFSETFROM or
+    /// TZOFFSETTO is missing or occurs twice, where DTSTART is in UTC or in a zone, where an RDATE isn't of local times, and where
+    /// RRULE occurs twice, isn't of one day a year or is ended by a date.
+    pub fn read(alloc: Global, zone: &Component) -> Result<GeneralZone, Fault>
+        ensures says { IfOk result (λ z. SaysGeneralZone (tree_of zone.now) (general_of z)) }
+        ensures fault { IfErr result (RefusesBy (GeneralZoneFault (tree_of zone.now))) }
+    {
+        let runs = read_runs(alloc, zone)?;
+        Ok(GeneralZone { runs })
     }
 
     /// The zone of the accepted form that does the same from an instant on: the same offset is in force at each instant, and each local time that no

@@ -1,0 +1,292 @@
+-- What the readers of a part of a VTIMEZONE in general say, put together.
+use Rattle.std.proofs.Common.{◌≡◌, ◌∙◌, ap, sym, refl, subst, inl, inr, ℕ, true, false, cond, ◌==◌, List, [], ◌∷◌, ◌++◌, length, codes, arith, append_assoc, append-nil, ℤ, Some, None}
+use Rattle.std.specs.Prelude.{Contains}
+use Rattle.std.specs.List.{AllZip, flat_map, slice_split}
+use Rattle.std.proofs.lemmas.List.{map-append}
+use Rattle.std.proofs.lemmas.List.Elements.{Contains-append_right}
+use Rattle.profile.specs.text.Lines.{line_value}
+use Rattle.profile.specs.text.Values.{SpellsLocal}
+use Rattle.profile.specs.events.Properties.{is_of, lines_named, OccursAtMostOnce, IsMissing, Says}
+use Rattle.profile.specs.series.Zones.{Observance}
+use Rattle.profile.specs.series.ZoneTexts.{IsLocalLine, IsOffsetLine, time_names}
+use Rattle.profile.specs.series.GeneralZones.{End, Run}
+use Rattle.profile.specs.series.GeneralZoneTexts.{IsRunAt, IsDatesLine, SaysDates, SpellsEnding, IsEndingLine, IsFirstRun, SaysRuns, PartsSayRuns, RunsFault, once, yearly, missing, twice, fixed, bad_start, bad_from, bad_to}
+use Rattle.cal_zones.specs.Read.{StartFault, IsNotOnce, OffsetFault}
+use Rattle.cal_zones.proofs.Reading.{said}
+use Rattle.cal_doors.specs.Ends.{end_of}
+use Rattle.cal_doors.specs.Runs.{run_of, runs_in, IsYearlyRun}
+use Rattle.cal_doors.specs.Reading.{ending_of, AreTimes, SaysFirst, AreRunsAt, AddsRuns, AddsLine, AddsDates, AddsPart, DateFault, LineFault, DatesFault}
+use Rattle.cal_doors.specs.declared.run.Run as kept
+use Rattle.cal_doors.specs.declared.rule.EndingRule.{EndingRule}
+
+abbrev Lines : Type 0
+Lines = List (List ℕ)
+
+-- ---- faults of times
+
+pub not_one : (name : List ℕ) (lines : Lines) → Contains time_names name → IsNotOnce name lines → RunsFault lines 40
+not_one name lines c (inl h) = missing name c h
+not_one name lines c (inr h) = twice name c h
+
+pub start_fault : (lines : Lines) (line : List ℕ) (n : ℕ) → Contains (lines_named (codes "DTSTART") lines) line → StartFault line n → RunsFault lines n
+start_fault lines line n c (inl (e, h)) = subst (RunsFault lines) (sym e) (fixed (line, c, h))
+start_fault lines line n c (inr (e, h)) = subst (RunsFault lines) (sym e) (bad_start (line, c, h))
+
+pub from_fault : (lines : Lines) (n : ℕ) → OffsetFault (codes "TZOFFSETFROM") lines n → RunsFault lines n
+from_fault lines n (inl (e, h)) = subst (RunsFault lines) (sym e) (not_one (codes "TZOFFSETFROM") lines (1, omega arith, refl) h)
+from_fault lines n (inr (e, h)) = subst (RunsFault lines) (sym e) (bad_from h)
+
+pub to_fault : (lines : Lines) (n : ℕ) → OffsetFault (codes "TZOFFSETTO") lines n → RunsFault lines n
+to_fault lines n (inl (e, h)) = subst (RunsFault lines) (sym e) (not_one (codes "TZOFFSETTO") lines (2, omega arith, refl) h)
+to_fault lines n (inr (e, h)) = subst (RunsFault lines) (sym e) (bad_to h)
+
+-- ---- the first run
+
+abbrev pub with_offsets : ℤ → ℤ → Observance
+with_offsets from to = record { day = 0; second = 0; rule = None; offset_from = from; offset_to = to }
+
+module _ (lines : Lines) (start from to : ℤ) where
+  pub once_first : (run : Run) → IsRunAt (with_offsets from to) start run → IsMissing (codes "RRULE") lines → SaysFirst lines start from to run
+  once_first run at none =
+      subst (SaysFirst lines start from to) (sym at.is)
+      (record { times = record { start_there = at.at; second = at.in_day; before = refl; after = refl }; first = once none refl })
+
+  pub yearly_first : (line : List ℕ) (r : EndingRule) (run : Run) → OccursAtMostOnce (codes "RRULE") lines (Some line) → SpellsEnding from (line_value line) (ending_of r)
+      → IsYearlyRun start r.day from to (end_of r.end) run → SaysFirst lines start from to run
+  yearly_first line r run one spelled is =
+      let says : Says (codes "RRULE") true (IsEndingLine run.observance.offset_from) lines (Some (ending_of r)) =
+      subst (λ (z : ℤ). Says (codes "RRULE") true (IsEndingLine z) lines (Some (ending_of r))) (sym is.before) (said (IsEndingLine from) (codes "RRULE") lines line (ending_of r) one spelled) in
+      record {
+        times = record { start_there = is.start_there; second = is.second; before = is.before; after = is.after };
+        first = subst (λ (e : End). IsFirstRun lines run.observance (record { observance = run.observance; end = e })) (sym is.end_there) (yearly (ending_of r) says is.rule);
+      }
+
+  pub all_say : (first : Run) (more : List Run) (dates : List ℤ) → AreTimes lines start from to → SaysFirst lines start from to first → SaysDates lines dates
+      → AreRunsAt from to dates more → SaysRuns lines (first ∷ more)
+  all_say first more dates times is said_dates at = record {
+    o = first.observance;
+    times = record {
+      start = subst (λ (t : ℤ). Says (codes "DTSTART") true IsLocalLine lines (Some t)) (sym is.times.start_there) times.says_start;
+      second = is.times.second;
+      from = subst (λ (t : ℤ). Says (codes "TZOFFSETFROM") true IsOffsetLine lines (Some t)) (sym is.times.before) times.says_from;
+      to = subst (λ (t : ℤ). Says (codes "TZOFFSETTO") true IsOffsetLine lines (Some t)) (sym is.times.after) times.says_to;
+    };
+    first = first;
+    is_first = is.first;
+    dates = dates;
+    says_dates = said_dates;
+    others = more;
+    at_dates = at first.observance is.times.before is.times.after;
+    all = refl;
+  }
+
+  -- the first run went behind the others, and those of the RDATEs behind it
+  pub part_added : (first : kept.Run) (old mid new : List kept.Run) → AreTimes lines start from to → SaysFirst lines start from to (run_of first) → mid ≡ old ++ first ∷ []
+      → AddsDates from to lines (runs_in mid) (runs_in new) → AddsPart lines (runs_in old) (runs_in new)
+  part_added first old mid new times is push (dates, says_dates, adds) =
+      let behind : runs_in mid ≡ runs_in old ++ run_of first ∷ [] = ap runs_in push ∙ map-append run_of old (first ∷ []) in (
+        run_of first ∷ adds.more,
+        all_say (run_of first) adds.more dates times is says_dates adds.at_dates,
+        adds.behind ∙ ap (λ l. l ++ adds.more) behind ∙ append_assoc (runs_in old) (run_of first ∷ []) adds.more,
+      )
+
+-- ---- two lists, place by place
+
+pub zip_append : {A B : Type 0} (R : A → B → Type 0) (xs ys : List A) (us vs : List B) → AllZip R xs us → AllZip R ys vs → AllZip R (xs ++ ys) (us ++ vs)
+zip_append R [] ys [] vs h k = k
+zip_append R [] ys (u ∷ us) vs h k = absurd h
+zip_append R (x ∷ xs) ys [] vs h k = absurd h
+zip_append R (x ∷ xs) ys (u ∷ us) vs h k = (h.0, zip_append R xs ys us vs h.1 k)
+
+pub zip_at : {A B : Type 0} (R : A → B → Type 0) (seen : List A) (x : A) (rest : List A) (us : List B) → AllZip R (seen ++ x ∷ rest) us → (u : B) × R x u
+zip_at R [] x rest [] h = absurd h
+zip_at R [] x rest (u ∷ us) h = (u, h.0)
+zip_at R (y ∷ seen) x rest [] h = absurd h
+zip_at R (y ∷ seen) x rest (u ∷ us) h = zip_at R seen x rest us h.1
+
+-- a list behind all others
+behind_all : {A : Type 0} (xss : List (List A)) (ys : List A) → flat_map (λ xs. xs) (xss ++ ys ∷ []) ≡ flat_map (λ xs. xs) xss ++ ys
+behind_all [] ys = append-nil ys
+behind_all (xs ∷ xss) ys = ap (λ l. xs ++ l) (behind_all xss ys) ∙ sym (append_assoc xs (flat_map (λ zs. zs) xss) ys)
+
+-- ---- runs that are added
+
+module _ (from to : ℤ) where
+  pub no_runs : (old : List Run) → AddsRuns from to [] old old
+  no_runs old = record { more = []; behind = sym (append-nil old); at_dates = λ o e f. tt }
+
+  pub one_run : (local : ℤ) (old new : List kept.Run) (run : kept.Run) → ((o : Observance) → o.offset_from ≡ from → o.offset_to ≡ to → IsRunAt o local (run_of run)) → new ≡ old ++ run ∷ []
+      → AddsRuns from to (local ∷ []) (runs_in old) (runs_in new)
+  one_run local old new run at push = record {
+    more = run_of run ∷ [];
+    behind = ap runs_in push ∙ map-append run_of old (run ∷ []);
+    at_dates = λ o e f. (at o e f, tt);
+  }
+
+  pub then_more : (xs ys : List ℤ) (old mid new : List Run) → AddsRuns from to xs old mid → AddsRuns from to ys mid new → AddsRuns from to (xs ++ ys) old new
+  then_more xs ys old mid new a b = record {
+    more = a.more ++ b.more;
+    behind = b.behind ∙ ap (λ l. l ++ b.more) a.behind ∙ append_assoc old a.more b.more;
+    at_dates = λ o e f. zip_append (IsRunAt o) xs ys a.more b.more (a.at_dates o e f) (b.at_dates o e f);
+  }
+
+-- ---- the texts of a line of RDATE
+
+abbrev pub texts_of : List ℕ → Lines
+texts_of line = slice_split (λ c. c == 44) (line_value line)
+
+-- the runs of the texts so far were added, and the others are left
+pub record TextsAdded (from to : ℤ) (line : List ℕ) (left : Lines) (old new : List Run) : Type 0 where
+  pub seen : Lines
+  pub parted : texts_of line ≡ seen ++ left
+  pub dates : List ℤ
+  pub spelled : AllZip SpellsLocal seen dates
+  pub adds : AddsRuns from to dates old new
+
+module _ (from to : ℤ) (line : List ℕ) where
+  pub none_added : (left : Lines) (old : List Run) → texts_of line ≡ left → TextsAdded from to line left old old
+  none_added left old e = record { seen = []; parted = e; dates = []; spelled = tt; adds = no_runs from to old }
+
+  pub text_added : (left rest : Lines) (text : List ℕ) (old mid new : List Run) → TextsAdded from to line left old mid → left ≡ text ∷ rest
+      → (local : ℤ) → SpellsLocal text local → AddsRuns from to (local ∷ []) mid new → TextsAdded from to line rest old new
+  text_added left rest text old mid new t e local s a = record {
+    seen = t.seen ++ text ∷ [];
+    parted = t.parted ∙ ap (λ l. t.seen ++ l) e ∙ sym (append_assoc t.seen (text ∷ []) rest);
+    dates = t.dates ++ local ∷ [];
+    spelled = zip_append SpellsLocal t.seen (text ∷ []) t.dates (local ∷ []) t.spelled (s, tt);
+    adds = then_more from to t.dates (local ∷ []) old mid new t.adds a;
+  }
+
+  -- none is left
+  pub texts_added : (left : Lines) (old new : List Run) → TextsAdded from to line left old new → left ≡ [] → (dates : List ℤ) × AllZip SpellsLocal (texts_of line) dates × AddsRuns from to dates old new
+  texts_added left old new t e =
+      let all : texts_of line ≡ t.seen = t.parted ∙ ap (λ l. t.seen ++ l) e ∙ append-nil t.seen in
+      (t.dates, subst (λ (l : Lines). AllZip SpellsLocal l t.dates) (sym all) t.spelled, t.adds)
+
+  -- one of them is no local time
+  pub text_fault : (left rest : Lines) (text : List ℕ) (old mid : List Run) (n : ℕ) → TextsAdded from to line left old mid → left ≡ text ∷ rest → DateFault text n → LineFault line n
+  text_fault left rest text old mid n t e f = (
+    f.0,
+    λ dates is.
+        let all : texts_of line ≡ t.seen ++ text ∷ rest = t.parted ∙ ap (λ l. t.seen ++ l) e in
+        let there = zip_at SpellsLocal t.seen text rest dates (subst (λ (l : Lines). AllZip SpellsLocal l dates) all is.2) in
+        f.1 there.0 there.1,
+  )
+
+-- ---- the lines of RDATE
+
+-- the runs of the RDATEs so far were added, and the lines that are left follow
+pub record LinesAdded (from to : ℤ) (lines left : Lines) (old new : List Run) : Type 0 where
+  pub done : Lines
+  pub parted : lines_named (codes "RDATE") lines ≡ done ++ lines_named (codes "RDATE") left
+  pub each : List (List ℤ)
+  pub spelled : AllZip IsDatesLine done each
+  pub adds : AddsRuns from to (flat_map (λ xs. xs) each) old new
+
+module _ (from to : ℤ) (lines : Lines) where
+  pub none_passed : (left : Lines) (old : List Run) → left ≡ lines → LinesAdded from to lines left old old
+  none_passed left old e = record { done = []; parted = sym (ap (lines_named (codes "RDATE")) e); each = []; spelled = tt; adds = no_runs from to old }
+
+  named_next : (left rest done : Lines) (line : List ℕ) → lines_named (codes "RDATE") lines ≡ done ++ lines_named (codes "RDATE") left → left ≡ line ∷ rest → is_of (codes "RDATE") line ≡ true
+      → lines_named (codes "RDATE") lines ≡ done ++ line ∷ lines_named (codes "RDATE") rest
+  named_next left rest done line e s h =
+      e ∙ ap (λ l. done ++ lines_named (codes "RDATE") l) s
+      ∙ ap (λ b. done ++ cond b (line ∷ lines_named (codes "RDATE") rest) (lines_named (codes "RDATE") rest)) h
+
+  pub line_added : (left rest : Lines) (line : List ℕ) (old mid new : List Run) → LinesAdded from to lines left old mid → left ≡ line ∷ rest → is_of (codes "RDATE") line ≡ true
+      → AddsLine from to line mid new → LinesAdded from to lines rest old new
+  line_added left rest line old mid new t s h (dates, is, adds) = record {
+    done = t.done ++ line ∷ [];
+    parted = named_next left rest t.done line t.parted s h ∙ sym (append_assoc t.done (line ∷ []) (lines_named (codes "RDATE") rest));
+    each = t.each ++ dates ∷ [];
+    spelled = zip_append IsDatesLine t.done (line ∷ []) t.each (dates ∷ []) t.spelled (is, tt);
+    adds = subst (λ ds. AddsRuns from to ds old new) (sym (behind_all t.each dates)) (then_more from to (flat_map (λ xs. xs) t.each) dates old mid new t.adds adds);
+  }
+
+  pub other_passed : (left rest : Lines) (line : List ℕ) (old new : List Run) → LinesAdded from to lines left old new → left ≡ line ∷ rest → is_of (codes "RDATE") line ≡ false
+      → LinesAdded from to lines rest old new
+  other_passed left rest line old new t s h = record {
+    done = t.done;
+    parted = t.parted ∙ ap (λ l. t.done ++ lines_named (codes "RDATE") l) s
+        ∙ ap (λ b. t.done ++ cond b (line ∷ lines_named (codes "RDATE") rest) (lines_named (codes "RDATE") rest)) h;
+    each = t.each;
+    spelled = t.spelled;
+    adds = t.adds;
+  }
+
+  -- no line is left
+  pub lines_added : (left : Lines) (old new : List Run) → LinesAdded from to lines left old new → left ≡ [] → AddsDates from to lines old new
+  lines_added left old new t e =
+      let all : lines_named (codes "RDATE") lines ≡ t.done = t.parted ∙ ap (λ l. t.done ++ lines_named (codes "RDATE") l) e ∙ append-nil t.done in
+      (flat_map (λ xs. xs) t.each, (t.each, subst (λ (l : Lines). AllZip IsDatesLine l t.each) (sym all) t.spelled, refl), t.adds)
+
+  -- one of them isn't of local times
+  pub line_fault : (left rest : Lines) (line : List ℕ) (old mid : List Run) (n : ℕ) → LinesAdded from to lines left old mid → left ≡ line ∷ rest → is_of (codes "RDATE") line ≡ true
+      → LineFault line n → DatesFault lines n
+  line_fault left rest line old mid n t s h f =
+      let all = named_next left rest t.done line t.parted s h in (
+        f.0,
+        (line, subst (λ (l : Lines). Contains l line) (sym all) (Contains-append_right t.done (line ∷ lines_named (codes "RDATE") rest) line (0, omega arith, refl)), f.1),
+      )
+
+-- ---- the parts
+
+-- a part says one run at least
+says_some : (lines : Lines) (runs : List Run) → SaysRuns lines runs → runs ≡ [] → ⊥
+says_some lines runs s e = let none : s.first ∷ s.others ≡ [] = sym s.all ∙ e in cc
+
+-- whether runs were added is seen from how many there are
+pub no_length : (runs : List kept.Run) → length runs ≡ 0 → runs_in runs ≡ []
+no_length [] h = refl
+no_length (r ∷ rs) h = absurd (omega arith)
+
+pub some_length : (runs : List kept.Run) → (length runs ≡ 0 → ⊥) → runs_in runs ≡ [] → ⊥
+some_length [] h e = h refl
+some_length (r ∷ rs) h e = cc
+
+-- the runs of the parts so far were added, and these parts are left
+pub record PartsAdded (parts left : List Lines) (runs : List Run) : Type 0 where
+  pub done : List Lines
+  pub parted : parts ≡ done ++ left
+  pub each : List (List Run)
+  pub say : AllZip SaysRuns done each
+  pub all : runs ≡ flat_map (λ xs. xs) each
+
+module _ (parts : List Lines) where
+  pub no_parts : (left : List Lines) → left ≡ parts → PartsAdded parts left []
+  no_parts left e = record { done = []; parted = sym e; each = []; say = tt; all = refl }
+
+  pub next_part : (left rest : List Lines) (part : Lines) (old new : List Run) → PartsAdded parts left old → left ≡ part ∷ rest → AddsPart part old new → PartsAdded parts rest new
+  next_part left rest part old new t s (more, says, behind) = record {
+    done = t.done ++ part ∷ [];
+    parted = t.parted ∙ ap (λ l. t.done ++ l) s ∙ sym (append_assoc t.done (part ∷ []) rest);
+    each = t.each ++ more ∷ [];
+    say = zip_append SaysRuns t.done (part ∷ []) t.each (more ∷ []) t.say (says, tt);
+    all = behind ∙ ap (λ l. l ++ more) t.all ∙ sym (behind_all t.each more);
+  }
+
+  -- none is left, and there are runs
+  pub parts_say : (left : List Lines) (runs : List Run) → PartsAdded parts left runs → left ≡ [] → (runs ≡ [] → ⊥) → PartsSayRuns parts runs
+  parts_say left runs t e some =
+      let all : parts ≡ t.done = t.parted ∙ ap (λ l. t.done ++ l) e ∙ append-nil t.done in
+      let says : AllZip SaysRuns parts t.each = subst (λ (l : List Lines). AllZip SaysRuns l t.each) (sym all) t.say in
+      record {
+        some = λ none. some (t.all ∙ ap (flat_map (λ xs. xs)) (none_each t.each (subst (λ (l : List Lines). AllZip SaysRuns l t.each) none says)));
+        each = t.each;
+        say = says;
+        all = t.all;
+      }
+    where
+      none_each : (each : List (List Run)) → AllZip SaysRuns [] each → each ≡ []
+      none_each [] h = refl
+      none_each (x ∷ xs) h = absurd h
+
+  -- and there is none
+  pub none_say : (left : List Lines) (runs : List Run) → PartsAdded parts left runs → left ≡ [] → runs ≡ [] → parts ≡ []
+  none_say left runs t e none = t.parted ∙ ap (λ l. t.done ++ l) e ∙ append-nil t.done ∙ no_done t.done t.each t.say (sym t.all ∙ none)
+    where
+      no_done : (done : List Lines) (each : List (List Run)) → AllZip SaysRuns done each → flat_map (λ xs. xs) each ≡ [] → done ≡ []
+      no_done [] each h k = refl
+      no_done (x ∷ xs) [] h k = absurd h
+      no_done (x ∷ xs) ([] ∷ each) h k = absurd (says_some x [] h.0 refl)
+      no_done (x ∷ xs) ((r ∷ rs) ∷ each) h k = cc

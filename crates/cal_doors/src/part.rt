@@ -1,0 +1,130 @@
+//! A part of a VTIMEZONE, STANDARD or DAYLIGHT, and the runs that its DTSTART, RRULE and RDATEs say (RFC 5545 3.6.5).
+
+ghost use Rattle.std.specs.Prelude.{◌≡◌, true, IfOk, IfErr, OnOk};
+ghost use Rattle.ical_lines.specs.Fault.{RefusesBy};
+ghost use Rattle.ical_lines.specs.Text.{line_text};
+ghost use Rattle.ical_tree.specs.Tree.{component_name, component_lines};
+ghost use Rattle.profile.specs.events.Properties.{is_date_time};
+ghost use Rattle.profile.specs.series.ZoneTexts.{is_part};
+ghost use Rattle.profile.specs.series.GeneralZoneTexts.{RunsFault};
+ghost use Rattle.cal_doors.specs.Runs.{run_of, runs_in};
+ghost use Rattle.cal_doors.specs.Reading.{AreTimes, SaysFirst, AddsDate, AddsLine, AddsDates, AddsPart, DateFault, LineFault, DatesFault};
+
+use crate::rule::read_ending;
+use crate::run::Run;
+use cal_zones::{read_local, read_offset};
+use ical_lines::{Fault, Line, Refusal};
+use ical_tree::{Component, Properties};
+use ical_values::{LocalTime, UtcOffset};
+use std::alloc::Global;
+
+/// Whether a component is a part.
+pub(crate) fn is_part(component: &Component) -> bool
+    ensures { result ≡ is_part (component_name component.now) }
+{
+    component.is_named("STANDARD") || component.is_named("DAYLIGHT")
+}
+
+/// Adds the runs of a part: the first, and one for each local time of its RDATEs. Refused with 40, 11 or 13.
+pub(crate) fn add_part(alloc: Global, part: &Component, runs: &mut Vec<Run>) -> Result<(), Fault>
+    ensures adds { OnOk result (AddsPart (component_lines part.now) (runs_in runs.old.items) (runs_in runs.new.items)) }
+    ensures fault { IfErr result (RefusesBy (RunsFault (component_lines part.now))) }
+{
+    let properties = Properties::of(alloc, part)?;
+    let times = read_times(&properties)?;
+    let first = first_run(alloc, &properties, &times)?;
+    runs.push(first)?;
+    add_dates(&properties, &times, runs)?;
+    Ok(())
+}
+
+/// DTSTART, TZOFFSETFROM and TZOFFSETTO of a part.
+#[derive(Clone, Copy)]
+struct Times {
+    start: LocalTime,
+    from: UtcOffset,
+    to: UtcOffset,
+}
+
+/// The times of a part. Refused with 40 where one of the three is missing or occurs twice, or DTSTART isn't a local time without a zone;
+/// with 11 or 13 where a value isn't one.
+fn read_times(properties: &Properties<'_>) -> Result<Times, Refusal>
+    ensures says { IfOk result (λ t. AreTimes properties.now t.start t.from t.to) }
+    ensures fault { IfErr result (λ e. RunsFault properties.now e.number) }
+{
+    let line = properties.required("DTSTART", Refusal::ZONE_SHAPE)?;
+    let start = read_local(line)?;
+    let from = read_offset(properties, "TZOFFSETFROM")?;
+    let to = read_offset(properties, "TZOFFSETTO")?;
+    Ok(Times { start, from, to })
+}
+
+/// The first run of a part with these times: at DTSTART alone, or by its one RRULE. Refused with 40 where there are two, or it isn't a rule of
+/// one day a year.
+fn first_run(alloc: Global, properties: &Properties<'_>, times: &Times) -> Result<Run, Fault>
+    requires { AreTimes properties.now times.now.start times.now.from times.now.to }
+    ensures says { IfOk result (λ run. SaysFirst properties.now times.now.start times.now.from times.now.to (run_of run)) }
+    ensures fault { IfErr result (RefusesBy (RunsFault properties.now)) }
+{
+    let Some(line) = properties.optional("RRULE", Refusal::ZONE_SHAPE)? else {
+        return Ok(Run::once(times.start, times.from, times.to));
+    };
+    let rule = read_ending(alloc, line.value(), times.from)?;
+    let Some(run) = Run::yearly(times.start, rule.day, times.from, times.to, rule.end) else {
+        // It doesn't come to this: a day that is read is one of every year.
+        return Err(Fault::Refused(Refusal::ZONE_SHAPE));
+    };
+    Ok(run)
+}
+
+/// Adds a run for each local time of the RDATEs. Refused with 40 where one says something else.
+fn add_dates(properties: &Properties<'_>, times: &Times, runs: &mut Vec<Run>) -> Result<(), Fault>
+    ensures adds { OnOk result (AddsDates times.now.from times.now.to properties.now (runs_in runs.old.items) (runs_in runs.new.items)) }
+    ensures fault { IfErr result (RefusesBy (DatesFault properties.now)) }
+{
+    for line in properties.lines() {
+        if line.is_named("RDATE") {
+            add_line(*line, times, runs)?;
+        }
+    }
+    Ok(())
+}
+
+/// Adds a run for each local time of a line.
+fn add_line(line: Line<'_>, times: &Times, runs: &mut Vec<Run>) -> Result<(), Fault>
+    ensures adds { OnOk result (AddsLine times.now.from times.now.to (line_text line.entry) (runs_in runs.old.items) (runs_in runs.new.items)) }
+    ensures fault { IfErr result (RefusesBy (LineFault (line_text line.entry))) }
+{
+    if line.param("TZID").is_some() {
+        return Err(Fault::Refused(Refusal::ZONE_SHAPE));
+    }
+    if !is_date_time(line) {
+        return Err(Fault::Refused(Refusal::ZONE_SHAPE));
+    }
+    for text in line.value().split(',') {
+        add_date(text, times, runs)?;
+    }
+    Ok(())
+}
+
+/// Adds the run at the local time of a text.
+fn add_date(text: &str, times: &Times, runs: &mut Vec<Run>) -> Result<(), Fault>
+    ensures adds { OnOk result (AddsDate times.now.from times.now.to text.now (runs_in runs.old.items) (runs_in runs.new.items)) }
+    ensures fault { IfErr result (RefusesBy (DateFault text.now)) }
+{
+    let Ok(local) = LocalTime::read(text) else {
+        return Err(Fault::Refused(Refusal::ZONE_SHAPE));
+    };
+    runs.push(Run::once(local, times.from, times.to))?;
+    Ok(())
+}
+
+/// Whether a line's value is a date-time. It is where VALUE isn't written.
+fn is_date_time(line: Line<'_>) -> bool
+    ensures { result ≡ is_date_time (line_text line.entry) }
+{
+    match line.param("VALUE") {
+        None => true,
+        Some(word) => word.eq_ignore_ascii_case("DATE-TIME"),
+    }
+}
