@@ -1,7 +1,7 @@
 -- What the heap of a sweep through several series holds: the next instance of each that has one, once.
-use Rattle.std.proofs.Common.{◌≡◌, ◌≢◌, ◌∙◌, ap, sym, refl, subst, inl, inr, ◌⊎◌, ℕ, ◌+◌, ◌<◌, ◌≤◌, ◌==◌, zero, suc, Bool, true, false, cond, arith, List, [], ◌∷◌, ◌++◌, length, ℤ, ◌-ℤ◌, ◌<ℤ◌, ◌≤ℤ◌, unsigned_abs}
-use Rattle.std.specs.Prelude.{Option, Some, None, Contains, count_by, AllPairs, IfSome}
-use Rattle.std.specs.List.{sum_by, AllByRecursion}
+use Rattle.std.proofs.Common.{◌≡◌, ◌≢◌, ◌∙◌, ap, sym, refl, subst, inl, inr, ℕ, ◌+◌, ◌<◌, ◌≤◌, ◌==◌, zero, suc, Bool, true, false, cond, arith, List, [], ◌∷◌, ℤ, ◌-ℤ◌, ◌<ℤ◌, ◌≤ℤ◌, unsigned_abs}
+use Rattle.std.specs.Prelude.{Option, Some, None, Contains, count_by, IfSome}
+use Rattle.std.specs.List.{sum_by}
 use Rattle.std.specs.List.Sorted.{IsPermutation}
 use Rattle.std.specs.Ordering.{is_lt, int_cmp, ordering_then}
 use Rattle.std.specs.BinaryHeap.{IsUpperBound}
@@ -158,9 +158,9 @@ put_there members k walk hs new w member heap put = go w.next refl put
     go (Some y) e put = record {
       of = λ h c. elim (first_or_later (item_of k y) h hs (Contains-permutation new (item_of k y ∷ hs) h (IsPermutation-sym (item_of k y ∷ hs) new put) c)) [
         | inl is ↦ (
-            subst (λ (x : Reverse Next). Contains members x.0.series) is member,
-            subst (λ (x : Reverse Next). (with k w walk x.0.series).next ≡ Some (span_at x)) is (own ∙ e),
-          )
+          subst (λ (x : Reverse Next). Contains members x.0.series) is member,
+          subst (λ (x : Reverse Next). (with k w walk x.0.series).next ≡ Some (span_at x)) is (own ∙ e),
+        )
         | inr there ↦ old h there
       ];
       each = λ j x c is. Contains-permutation (item_of k y ∷ hs) new (item_of j x) put (elim (cases_eq j k) [

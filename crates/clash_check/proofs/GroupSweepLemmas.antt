@@ -1,18 +1,18 @@
 -- How a sweep through several series goes on.
 use Rattle.std.proofs.Common.{◌≡◌, ◌≢◌, ◌∙◌, ap, sym, refl, subst, inl, inr, ◌⊎◌, ℕ, ◌+◌, ◌-◌, ◌^◌, ◌<◌, ◌≤◌, zero, suc, Bool, true, false, arith, rules, List, [], ◌∷◌, ◌++◌, length, get_or, take, ℤ, ◌<ℤ◌, ◌≤ℤ◌}
 use Rattle.std.specs.Prelude.{Option, Some, None, ◌↔◌, IfSome, Contains, AllPairs, MatchOption, int_lt, if◌then◌else◌}
-use Rattle.std.specs.List.{sum_by, AllZip, slice_get}
+use Rattle.std.specs.List.{sum_by, slice_get}
 use Rattle.std.specs.List.Sorted.{IsPermutation}
 use Rattle.std.specs.BinaryHeap.{IsHeap, IsUpperBound}
 use Rattle.std.specs.declared.cmp.Reverse.{Reverse}
 use Rattle.std.proofs.lemmas.Bool.{cases_eq, cases_order}
-use Rattle.std.proofs.lemmas.Int.{ints, by_lt_z}
+use Rattle.std.proofs.lemmas.Int.{ints}
 use Rattle.std.proofs.lemmas.Option.{same_Some, slice_get_within, get_or_from_slice_get}
 use Rattle.std.proofs.lemmas.List.{get_or_default}
 use Rattle.std.proofs.lemmas.List.Sums.{sum_by-cons, sum_by_push}
 use Rattle.std.proofs.lemmas.List.Elements.{Contains-push, Contains-push_cases, Contains-append_left}
 use Rattle.std.proofs.lemmas.List.Sorted.{Contains-permutation, IsPermutation-sym}
-use Rattle.profile.specs.checker.Instances.{Key, Instance as SaidInstance, horizon, AreClear, AreClashing}
+use Rattle.profile.specs.checker.Instances.{Key, Instance as SaidInstance, horizon}
 use Rattle.profile.specs.checker.Certificates.{IsSeriesAt, AreSeriesAt}
 use Rattle.profile.specs.events.Properties.{first_second}
 use Rattle.profile.specs.events.Events.{Event}
@@ -20,11 +20,10 @@ use Rattle.profile.specs.events.Starts.{IsInstance, SharesInstant}
 use Rattle.profile.specs.events.Confirmed.{Confirmed}
 use Rattle.profile.specs.events.Spans.{StartsBelow, HaveClash}
 use Rattle.cal_events.specs.Calendar.{HaveOwnKeys}
-use Rattle.cal_events.specs.Series.{AreKnownByStart}
 use Rattle.cal_events.specs.declared.sweep.Span.{Span}
-use Rattle.cal_events.proofs.shared_lemmas.InOneOrder.{later, none_in, first_or_later, head_pairs, tail_pairs}
-use Rattle.clash_check.specs.Comings.{next_cmp, item_of, span_at, IsPut, DrawsNext}
-use Rattle.clash_check.specs.Counted.{AreBelow, AreAllBelow}
+use Rattle.cal_events.proofs.shared_lemmas.InOneOrder.{later, none_in, head_pairs, tail_pairs}
+use Rattle.clash_check.specs.Comings.{next_cmp, item_of, span_at, DrawsNext}
+use Rattle.clash_check.specs.Counted.{AreAllBelow}
 use Rattle.clash_check.specs.Draws.{IsPlace, IsDrawable, IsSpanBetween, drawn_more, one_if}
 use Rattle.clash_check.specs.Sweeps.{HaveNoClash, AreDrawn}
 use Rattle.clash_check.specs.Walks.{IsBelow, walk_place, IsBehind, IsLastBehind, IsWalkOf, BeginsWalk, GoesPast, MeetsLast, MeetsNone, EndsLater}
@@ -32,8 +31,8 @@ use Rattle.clash_check.specs.declared.group_sweep.Next.{Next}
 use Rattle.clash_check.specs.declared.walk.Walk.{Walk}
 use Rattle.clash_check.proofs.Counts.{drawn_for, first_counted, past_counted, some_counted, all_counted}
 use Rattle.clash_check.proofs.WalkLemmas.{below_one, at_first, gone_past}
-use Rattle.clash_check.proofs.SweepLemmas.{turned, meets_none, met, as_span, start_before, still, next_of, known_at, series_in, series_there}
-use Rattle.clash_check.proofs.ComingLemmas.{with, with_same, with_other, IsHeapOf, IsHeapBut, none_yet, but_new, but_popped, put_there, starts_first, far_in, nearer}
+use Rattle.clash_check.proofs.SweepLemmas.{turned, meets_none, met, as_span, start_before, still, next_of, known_at, series_there}
+use Rattle.clash_check.proofs.ComingLemmas.{with, with_same, with_other, IsHeapOf, none_yet, but_new, but_popped, put_there, starts_first, far_in, nearer}
 
 -- ---- where the walks are
 
@@ -380,8 +379,8 @@ module _ (all : Confirmed) (drawable : IsDrawable all) (members : List ℕ) (pla
         let (j, in_j, at_j) = member_of all members events b are d in
         at.clear i j x.start x.end y.start y.end (gone i a in_i at_i x h) (gone j b in_j at_j y k)
         (λ one start. clash.differ (
-            let same : b ≡ a = same_Some b a (sym at_j ∙ ap (λ n. slice_get all.series (n - 1)) (sym one) ∙ at_i) in
-            ap (λ (z : SaidInstance). z.key) ((known_at all drawable i a at_i).one x y h.0 (subst (λ (s : Event). IsInstance s y) same k.0) start)))
+        let same : b ≡ a = same_Some b a (sym at_j ∙ ap (λ n. slice_get all.series (n - 1)) (sym one) ∙ at_i) in
+        ap (λ (z : SaidInstance). z.key) ((known_at all drawable i a at_i).one x y h.0 (subst (λ (s : Event). IsInstance s y) same k.0) start)))
         (record { instant = t; before = clash.before; in_first = clash.in_first; in_second = clash.in_second })
 
   -- ---- at its next instance

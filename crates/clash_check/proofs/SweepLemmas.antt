@@ -22,7 +22,7 @@ use Rattle.clash_check.proofs.Counts.{drawn_for, first_counted, past_counted, so
 
 -- ---- the series at a place
 
-pub some_at : {X : Type 0} (xs : List X) (k : ℕ) → k < length xs → (x : X) × (slice_get xs k ≡ Some x)
+some_at : {X : Type 0} (xs : List X) (k : ℕ) → k < length xs → (x : X) × (slice_get xs k ≡ Some x)
 some_at [] k w = absurd (omega (arith, w))
 some_at (x ∷ xs) zero w = (x, refl)
 some_at (x ∷ xs) (suc k) w = some_at xs k (omega (arith, w))
@@ -117,7 +117,7 @@ still Is Old New bound walk same is = record {
 abbrev pub steps_left : ℤ → Walk → ℕ
 steps_left bound walk = unsigned_abs (bound -ℤ walk_place bound walk.next)
 
-pub place_within : (Is Coming : ℤ → ℤ → Type 0) (bound : ℤ) → ((s e : ℤ) → Is s e → s <ℤ bound) → (walk : Walk) → IsWalkOf Is Coming bound walk → walk_place bound walk.next ≤ℤ bound
+place_within : (Is Coming : ℤ → ℤ → Type 0) (bound : ℤ) → ((s e : ℤ) → Is s e → s <ℤ bound) → (walk : Walk) → IsWalkOf Is Coming bound walk → walk_place bound walk.next ≤ℤ bound
 place_within Is Coming bound below walk is = go walk.next is.next
   where
     go : (o : Option Span) → IfSome o (λ x. Is x.start x.end) → walk_place bound o ≤ℤ bound

@@ -1,9 +1,8 @@
-use Rattle.std.proofs.Common.{◌≡◌, ◌∙◌, ℕ, ℤ, ◌<◌, ◌≤◌, ◌-◌, ◌^◌, sym, subst, ap, refl, arith, rules, length, [], get_or, take, List, to_z-of_z, w64, FitsSigned, Fits}
-use Rattle.std.specs.Prelude.{◌↔◌, negsuc, Contains, ◌≤ℤ◌}
+use Rattle.std.proofs.Common.{◌∙◌, ℤ, ◌<◌, ◌-◌, sym, subst, refl, arith, rules, length, get_or, take, to_z-of_z, w64, FitsSigned}
+use Rattle.std.specs.Prelude.{◌↔◌, negsuc}
 use Rattle.std.specs.BinaryHeap.{heap_items}
 use Rattle.std.proofs.lemmas.Int.{ints}
 use Rattle.std.proofs.lemmas.List.{take_more, take_all, get_or_default}
-use Rattle.profile.specs.events.Properties.{first_second}
 use Rattle.profile.specs.events.Confirmed.{Confirmed}
 use Rattle.cal_events.specs.declared.sweep.Span.{Span}
 use Rattle.clash_check.specs.Draws.{IsPlace, IsSpanBetween}
@@ -28,11 +27,11 @@ loop-number-preserved g c = λ bound same.
     let k = get_or members i 0 in
     let within : i < length members = c.loop-number-test.true in
     rw (take_more members i 0 within) (begun_more (g.D.Drawn.calendar c.args.drawn.now) c.is_drawable.ensures (take i members) k bound
-        (λ j there same. let less = taken_less members i j c.requires.ascending within there in omega (arith, less, same))
-        _ _ _ (g.D.Drawn.coming c.loop-number.drawn) (g.D.Drawn.coming c.begin.new.self) (g.D.Drawn.coming c.push_next.new.drawn) _ _ _ _ _ _ (negsuc 9223372036854775807) (omega (arith, ints))
-        (c.loop-number.invariant bound same) c.begin.ensures.calendar c.begin.ensures.count
-        (λ a at. subst (λ (b : ℤ). (s e : ℤ) → g.D.Drawn.coming c.begin.new.self k s e ↔ IsSpanBetween a (negsuc 9223372036854775807) b s e) (sym same) (c.begin.ensures.coming a at))
-        c.begin.ensures.others c.in_ok-push_next.ensures.calendar c.in_ok-push_next.ensures.next c.in_ok-push_next.ensures.others c.in_ok-push_next.ensures.order)
+    (λ j there same. let less = taken_less members i j c.requires.ascending within there in omega (arith, less, same))
+    _ _ _ (g.D.Drawn.coming c.loop-number.drawn) (g.D.Drawn.coming c.begin.new.self) (g.D.Drawn.coming c.push_next.new.drawn) _ _ _ _ _ _ (negsuc 9223372036854775807) (omega (arith, ints))
+    (c.loop-number.invariant bound same) c.begin.ensures.calendar c.begin.ensures.count
+    (λ a at. subst (λ (b : ℤ). (s e : ℤ) → g.D.Drawn.coming c.begin.new.self k s e ↔ IsSpanBetween a (negsuc 9223372036854775807) b s e) (sym same) (c.begin.ensures.coming a at))
+    c.begin.ensures.others c.in_ok-push_next.ensures.calendar c.in_ok-push_next.ensures.next c.in_ok-push_next.ensures.others c.in_ok-push_next.ensures.order)
 
 pub push_next-requires : goal.push_next-requires
 push_next-requires g c =
@@ -73,7 +72,7 @@ push_next-requires-in-Some g c =
 pub loop-next-smaller : goal.loop-next-smaller
 loop-next-smaller g c =
     let l = group_fewer (g.D.Drawn.calendar c.args.drawn.now) c.is_drawable.ensures c.args.members.now c.requires.places _ _ (g.D.Drawn.coming c.loop-next.drawn) _ _ _ _ (c.loop-next.invariant _ refl)
-        c.in-Some.field-0 _ c.in-Some.ensures.permutation (g.D.Drawn.coming c.push_next-in-Some.new.drawn) _ _ c.in_ok-push_next-2.ensures.next in
+    c.in-Some.field-0 _ c.in-Some.ensures.permutation (g.D.Drawn.coming c.push_next-in-Some.new.drawn) _ _ c.in_ok-push_next-2.ensures.next in
     omega (arith, l)
 
 pub loop-next-preserved : goal.loop-next-preserved
