@@ -60,7 +60,7 @@ meanings =
     ∷ (80, codes "the calendar is refused: it isn't one that roombox reads.")
     ∷ (81, codes "the certificate's line of the number behind it is wrong or missing.")
     ∷ (82, codes "the certificate counts other singles or series than the calendar has for this room.")
-    ∷ (83, codes "the two series of the pair behind it have instances that overlap, or arcs of their residues meet, or SPAN or RES isn't allowed of them.")
+    ∷ (83, codes "the two series behind it, or those of the group that begins with them, have instances that overlap, or arcs of their residues meet, or SPAN, RES or GROUP isn't allowed of them.")
     ∷ (84, codes "a single overlaps with another, or with a series.")
     ∷ (90, codes "the preamble can't be read, as where words mean no zone, or a zone is of no room or the second of one; for `keep`, also a room that it doesn't name.")
     ∷ []
