@@ -181,7 +181,8 @@ impl Certificate {
         &self.pairs
     }
 
-    /// What it says of a pair of series, counted from 1, the one that comes first in the calendar first. `End` where there is no such pair.
+    /// What it says of a pair of its series, counted from 1, the one that comes first in the calendar first, or of one with itself. Of other numbers it
+    /// says nothing of meaning.
     pub fn entry(&self, i: u64, j: u64) -> Entry
         ensures { IsPair self.now.series i j → IsEntryOf self.now i j (entry_said result) }
     {
