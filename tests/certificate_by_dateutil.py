@@ -494,7 +494,7 @@ class Calendar:
         periods = [it.period() for it in events]
         if not 1 <= days <= MOST or None in periods or days % lcm(*periods) or start < max(self.series[it].past() for it in numbers):
             return None
-        return start + days * DAY + max(it.width() for it in events)
+        return min(start + days * DAY + max(it.width() for it in events), HORIZON)
 
     def fails(self, i, j, entry):
         """Whether the entry of a pair doesn't hold, and how many instances are drawn for that, start by start."""
@@ -745,7 +745,8 @@ def strange_groups(chance, calendar):
     found = []
     for group in sorted(groups):
         start, days = calendar.span(group) or (86_400 * chance.randint(20_000, 20_500), 7 * chance.randint(1, 60))
-        days *= chance.choice([1, 1, 1, 2]) if days < MOST // 2 else 1
+        # an endless rule of dateutil has no day past year 9999
+        days *= chance.choice([1, 1, 1, 2]) if start + 3 * days * DAY < HORIZON else 1
         found.append((start + chance.choice([0, 0, 0, DAY, -DAY]), days + chance.choice([0, 0, 0, 0, 1]), group))
     return found
 
