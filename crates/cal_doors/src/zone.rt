@@ -31,10 +31,10 @@ impl GeneralZone {
         GeneralZone { runs }
     }
 
-    /// The zone that a VTIMEZONE says: the runs of its parts, in their order (RFC 5545 3.6.5). Refused is one without a part, and one of
-    /// whose parts something is wrong: with 11 where a DTSTART is no local time, with 13 where an offset is none; else with 40. That is where DTSTART, TZOFFSETFROM or
-    /// TZOFFSETTO is missing or occurs twice, where DTSTART is in UTC or in a zone, where an RDATE isn't of local times, and where
-    /// RRULE occurs twice, isn't of one day a year or is ended by a date.
+    /// The zone that a VTIMEZONE says: the runs of its parts, in their order (RFC 5545 3.6.5). Refused with 11 where a DTSTART is no local time,
+    /// with 13 where an offset is none; else with 40: where there is no part, where DTSTART, TZOFFSETFROM or TZOFFSETTO is missing or occurs
+    /// twice, where DTSTART is in UTC or in a zone, where an RDATE isn't of local times, and where RRULE occurs twice, isn't of one day a year
+    /// or is ended by a date. Fails also when out of memory.
     pub fn read(alloc: Global, zone: &Component) -> Result<GeneralZone, Fault>
         ensures says { IfOk result (λ z. SaysGeneralZone (tree_of zone.now) (general_of z)) }
         ensures fault { IfErr result (RefusesBy (GeneralZoneFault (tree_of zone.now))) }
