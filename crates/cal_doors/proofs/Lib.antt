@@ -8,6 +8,5 @@ pub mod Afterwards
 pub mod Same
 pub mod General
 pub mod Again
-pub mod DayNames
 pub mod PartSays
 mod Examples

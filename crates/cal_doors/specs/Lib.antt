@@ -5,3 +5,7 @@ pub mod Conditions
 pub mod After
 pub mod Found
 pub mod Reading
+pub mod Named
+pub mod Used
+pub mod Between
+pub mod Adapted

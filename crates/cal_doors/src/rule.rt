@@ -58,45 +58,11 @@ fn year_day(rule: &RuleText) -> Option<YearDay>
     ensures found { IfSome result (λ day. is_one_day (without_end rule.now) (rule_named day.month day.days) ≡ true) }
     ensures none { IfNone result ((r : texts.YearRule) → is_one_day (without_end rule.now) r ≡ true → ⊥) }
 {
-    // Whether it names one; which one is then told by the first entries of its lists.
-    let _ = day_named(rule)?;
-    let month = *rule.months().first()?;
-    let days = days_written(rule.month_days(), rule.weekdays())?;
-    Some(YearDay { month, days })
-}
-
-/// The day of its month that BYMONTHDAY and BYDAY name, where they name one.
-fn days_written(numbers: &[i16], entries: &[WeekdayNumber]) -> Option<MonthDays>
-    ensures { (month : ℕ) (days : texts.MonthDays) → is_each_year month days ≡ true
-        → names_days days numbers.now (map weekday_number_of entries.now) ≡ true → MatchOption result ⊥ (λ d. days_of d ≡ days) }
-{
-    match entries.first() {
-        None => Some(MonthDays::Day(u8::try_from(*numbers.first()?).ok()?)),
-        Some(entry) => weekday_written(numbers, *entry),
-    }
-}
-
-/// The day of its month that BYMONTHDAY and the one entry of BYDAY name, where they name one.
-fn weekday_written(numbers: &[i16], entry: WeekdayNumber) -> Option<MonthDays>
-    ensures { (month : ℕ) (days : texts.MonthDays) → is_each_year month days ≡ true
-        → names_days days numbers.now (weekday_number_of entry ∷ []) ≡ true → MatchOption result ⊥ (λ d. days_of d ≡ days) }
-{
-    let WeekdayNumber { number, weekday } = entry;
-    match number {
-        0 => {
-            let first = u8::try_from(*numbers.iter().min()?).ok()?;
-            Some(MonthDays::Week { first, weekday })
-        }
-        1..=4 => Some(MonthDays::FromStart {
-            number: number as u8,
-            weekday,
-        }),
-        -4..=-1 => Some(MonthDays::FromEnd {
-            number: number.unsigned_abs() as u8,
-            weekday,
-        }),
-        _ => None,
-    }
+    let rule = day_named(rule)?;
+    Some(YearDay {
+        month: rule.month(),
+        days: rule.days(),
+    })
 }
 
 /// Where COUNT or UNTIL ends a rule, in a part with this TZOFFSETFROM. None where a date does.

@@ -1,12 +1,13 @@
 //! A zone in general, and the zone of the accepted form that it is from an instant on.
 
 use crate::after::{offset_at, zone_after};
+use crate::between::{ending, going_on, has_begun, last_of_all};
 use crate::read::read_runs;
 use crate::run::Run;
 use cal_zones::Zone;
 use ical_lines::Fault;
 use ical_tree::Component;
-use std::alloc::Global;
+use std::alloc::{AllocError, Global};
 
 /// A zone in general: runs of onsets.
 #[derive(Drop)]
@@ -19,7 +20,8 @@ impl GeneralZone {
     ghost use Rattle.ical_lines.specs.Fault.{RefusesBy};
     ghost use Rattle.ical_tree.specs.Tree.{tree_of};
     ghost use Rattle.profile.specs.series.GeneralZoneTexts.{SaysGeneralZone, GeneralZoneFault};
-    ghost use Rattle.profile.specs.series.GeneralZones.{IsSameFrom};
+    ghost use Rattle.profile.specs.series.GeneralZones.{IsSameFrom, IsSameBetween};
+    ghost use Rattle.profile.specs.doors.Adapting.{IsOverAt, IsSameFor};
     ghost use Rattle.cal_zones.specs.Kinds.{zone_of};
     ghost use Rattle.cal_doors.specs.Runs.{runs_in};
     ghost use Rattle.cal_doors.specs.Found.{general_of};
@@ -59,5 +61,30 @@ impl GeneralZone {
         zone.one_meaning();
         let _ = zone.offsets();
         Some(zone)
+    }
+
+    /// The zone of the accepted form that does the same from an instant to another, where an onset comes up to the first: the same offset is in
+    /// force at each instant between, and each local time means the same that is shown neither before the one nor after the other. None
+    /// where none is found: runs that would set nothing more up to the later instant go on after it, or else all end with it.
+    pub fn between(&self, alloc: Global, from: i64, to: i64) -> Result<Option<Zone>, AllocError>
+        ensures { IfOk result (λ found. IfSome found (λ zone. IsSameBetween (general_of self.now) (zone_of zone) from to)) }
+    {
+        let runs = self.runs.as_slice();
+        if !has_begun(runs, from) {
+            return Ok(None);
+        }
+        let longer = GeneralZone::of(going_on(alloc, runs, to)?);
+        if let Some(zone) = longer.from_instant(from) {
+            return Ok(Some(zone));
+        }
+        let shorter = GeneralZone::of(ending(alloc, runs, to)?);
+        Ok(shorter.from_instant(from))
+    }
+
+    /// No onset is later than this. None where a rule doesn't end, or its onsets are counted.
+    pub fn last_onset(&self) -> Option<i64>
+        ensures { IfSome result (IsOverAt (general_of self.now)) }
+    {
+        last_of_all(self.runs.as_slice())
     }
 }

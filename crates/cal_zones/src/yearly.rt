@@ -47,6 +47,20 @@ impl Yearly {
         Some(Yearly { month, days })
     }
 
+    /// BYMONTH, from 1 to 12.
+    pub fn month(self) -> u8
+        ensures { result ≡ self.month }
+    {
+        self.month
+    }
+
+    /// The day of that month.
+    pub fn days(self) -> MonthDays
+        ensures { result ≡ self.days }
+    {
+        self.days
+    }
+
     /// Whether another names the same day of the same month, in the same words.
     pub(crate) fn is_same(self, other: Yearly) -> bool
         ensures { result ≡ true → (self.month ≡ other.month) × (self.days ≡ other.days) }

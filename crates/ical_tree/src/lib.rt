@@ -7,6 +7,7 @@ pub mod law;
 pub mod own_lines;
 pub mod properties;
 pub mod read;
+mod same;
 pub mod write;
 
 pub use component::Component;

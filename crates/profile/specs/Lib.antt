@@ -18,3 +18,5 @@ pub mod text
 pub mod faults
 -- the written form of a zone
 pub mod written
+-- what becomes of an object before a room reads it
+pub mod doors

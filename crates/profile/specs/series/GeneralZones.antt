@@ -84,3 +84,11 @@ pub record IsSameFrom (zone : List Run) (other : Zone) (from : ℤ) : Type 0 whe
   pub offset_back : (instant offset : ℤ) → from ≤ℤ instant → IsOffsetAt other instant offset → IsGeneralOffsetAt zone instant offset
   pub means_there : (local t : ℤ) → (from +ℤ pos 86_399) ≤ℤ local → MeansGenerally zone local t → Means other local t
   pub means_back : (local t : ℤ) → (from +ℤ pos 86_399) ≤ℤ local → Means other local t → MeansGenerally zone local t
+
+-- it does the same as a zone in general from one instant to another: the same offset is in force at each instant between, and each local time
+-- means the same that is shown neither before the one nor after the other
+pub record IsSameBetween (zone : List Run) (other : Zone) (from to : ℤ) : Type 0 where
+  pub offset_there : (instant offset : ℤ) → from ≤ℤ instant → instant ≤ℤ to → IsGeneralOffsetAt zone instant offset → IsOffsetAt other instant offset
+  pub offset_back : (instant offset : ℤ) → from ≤ℤ instant → instant ≤ℤ to → IsOffsetAt other instant offset → IsGeneralOffsetAt zone instant offset
+  pub means_there : (local t : ℤ) → (from +ℤ pos 86_399) ≤ℤ local → (local +ℤ pos 86_399) ≤ℤ to → MeansGenerally zone local t → Means other local t
+  pub means_back : (local t : ℤ) → (from +ℤ pos 86_399) ≤ℤ local → (local +ℤ pos 86_399) ≤ℤ to → Means other local t → MeansGenerally zone local t

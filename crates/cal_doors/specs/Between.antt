@@ -1,0 +1,26 @@
+-- What runs of onsets are up to an instant.
+use Rattle.std.specs.Prelude.{◌≡◌, ◌↔◌, Bool, true, List, Option, Some, ℤ, pos, ◌+ℤ◌, ◌≤ℤ◌}
+use Rattle.profile.specs.series.Zones.{Zone, Onset}
+use Rattle.profile.specs.series.GeneralZones.{Run, IsRunOnset, IsGeneralOnset, IsSameBetween}
+use Rattle.profile.specs.doors.Adapting.{tables_end, IsOverAt}
+
+-- an onset has come
+abbrev pub HasBegun : List Run → ℤ → Type 0
+HasBegun zone instant = (onset : Onset) × IsGeneralOnset zone onset × (onset.instant ≤ℤ instant)
+
+-- up to an instant a run has the onsets of another
+abbrev pub IsSameRunUpTo : ℤ → Run → Run → Type 0
+IsSameRunUpTo to run other = (onset : Onset) → onset.instant ≤ℤ to → IsRunOnset run onset ↔ IsRunOnset other onset
+
+-- up to an instant the onsets of two zones are the same
+abbrev pub AreSameUpTo : ℤ → List Run → List Run → Type 0
+AreSameUpTo to zone other = (onset : Onset) → onset.instant ≤ℤ to → IsGeneralOnset zone onset ↔ IsGeneralOnset other onset
+
+-- a zone does the same from an instant on, as long as local times go on that end by the last
+abbrev pub LastsAsLong : List Run → Zone → ℤ → Option ℤ → Type 0
+LastsAsLong zone other from last = (end : ℤ) × (last ≡ Some end) × IsSameBetween zone other from (end +ℤ pos 86_399)
+
+-- it does up to the end of the onsets that are stated, in 2036 or later
+abbrev pub GoesOn : List Run → Zone → Bool → ℤ → Type 0
+GoesOn zone other goes_on from =
+    (to : ℤ) × (goes_on ≡ true) × (tables_end ≤ℤ to) × IsOverAt zone to × IsSameBetween zone other from to

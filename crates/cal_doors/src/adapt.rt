@@ -1,0 +1,83 @@
+//! An object made readable for a room: VTIMEZONEs that say more than a room reads give way to some that do the same.
+
+ghost use Rattle.std.specs.Prelude.{◌≡◌, true, map, string_bytes, Option, option_map, IfOk, IfSome};
+ghost use Rattle.ical_tree.specs.Tree.{tree_of};
+ghost use Rattle.profile.specs.text.Trees.{Tree};
+ghost use Rattle.profile.specs.doors.Adapting.{IsAdapted};
+ghost use Rattle.cal_doors.specs.Adapted.{listed_of, AreListed};
+
+use crate::changes::{changes_of, names_going_on};
+use crate::named::NamedZones;
+use crate::right::is_right;
+use crate::splice::spliced;
+use crate::uses::uses_of;
+use ical_lines::{Fault, Limits, Unfolded};
+use ical_tree::{Component, read_object};
+use std::alloc::{AllocError, Global};
+
+/// An object that is handed on.
+#[derive(Drop)]
+pub struct Adapted {
+    pub octets: Vec<u8>,
+    /// The names of the zones that go on beyond what is stated of them.
+    pub going_on: Vec<String>,
+}
+
+/// The object with VTIMEZONEs that a room reads, in the place of those that its times name and a room doesn't read. None where there are none,
+/// where it is no object within the limits of a message, and where one of them can't be had: then it is handed on as it is. Each takes
+/// the place of what its name means at the door: the VTIMEZONE of the object, or that of the list where it is missing or has no part. All
+/// other lines are those of the object, octet by octet. What is made is read again, and handed on only if it is right.
+pub fn adapt(
+    alloc: Global,
+    octets: &[u8],
+    listed: Option<&NamedZones<'_, '_>>,
+) -> Result<Option<Adapted>, AllocError>
+    requires { AreListed listed }
+    ensures { IfOk result (λ found. IfSome found (λ a. IsAdapted (listed_of listed) octets.now (map string_bytes a.going_on.items) a.octets.items)) }
+{
+    let Some(text) = text_of(alloc, octets)? else {
+        return Ok(None);
+    };
+    let Some(object) = object_of(alloc, &text)? else {
+        return Ok(None);
+    };
+    let Some(uses) = uses_of(alloc, &object)? else {
+        return Ok(None);
+    };
+    let zones = NamedZones::of(alloc, &object)?;
+    let Some(changes) = changes_of(alloc, &uses, &zones, listed)? else {
+        return Ok(None);
+    };
+    if changes.is_empty() {
+        return Ok(None);
+    }
+    let adapted = spliced(alloc, octets, &object, &changes)?;
+    if !is_right(alloc, adapted.as_slice(), &object, &uses, &zones, &changes)? {
+        return Ok(None);
+    }
+    Ok(Some(Adapted {
+        octets: adapted,
+        going_on: names_going_on(alloc, &changes)?,
+    }))
+}
+
+/// The lines of octets within the limits of a message. None where they aren't.
+pub(crate) fn text_of(alloc: Global, octets: &[u8]) -> Result<Option<Unfolded<'_>>, AllocError> {
+    match Unfolded::read(alloc, octets, Limits::Message) {
+        Ok(text) => Ok(Some(text)),
+        Err(Fault::Memory) => Err(AllocError),
+        Err(Fault::Refused(_)) => Ok(None),
+    }
+}
+
+/// The object that lines spell, within the limits of a message. None where they spell none.
+pub(crate) fn object_of<'a>(
+    alloc: Global,
+    text: &'a Unfolded<'_>,
+) -> Result<Option<Component<'a>>, AllocError> {
+    match read_object(alloc, text, Limits::Message) {
+        Ok(object) => Ok(Some(object)),
+        Err(Fault::Memory) => Err(AllocError),
+        Err(Fault::Refused(_)) => Ok(None),
+    }
+}

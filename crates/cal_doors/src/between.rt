@@ -1,0 +1,98 @@
+//! What some runs are between two instants: onsets after the later one are left aside.
+
+ghost use Rattle.std.specs.Prelude.{◌≡◌, true, IfOk, IfSome};
+ghost use Rattle.profile.specs.doors.Adapting.{IsOverAt};
+ghost use Rattle.cal_doors.specs.Runs.{runs_in};
+ghost use Rattle.cal_doors.specs.Between.{HasBegun, AreSameUpTo};
+
+use crate::end::End;
+use crate::places::latest_place;
+use crate::run::Run;
+use std::alloc::{AllocError, Global};
+
+/// Whether an onset comes up to an instant. It isn't known where the onsets are counted.
+pub(crate) fn has_begun(runs: &[Run], instant: i64) -> bool
+    ensures { result ≡ true → HasBegun (runs_in runs.now) instant }
+{
+    let Some(place) = latest_place(runs, instant) else {
+        return false;
+    };
+    begins_by(&runs[place], instant)
+}
+
+/// Whether the latest onset of a run up to an instant is known.
+fn begins_by(run: &Run, instant: i64) -> bool {
+    match run.latest_bound(instant) {
+        Some(latest) => latest <= instant && run.begins_at(latest),
+        None => false,
+    }
+}
+
+/// The same runs up to an instant, where those whose rule would set nothing more up to it go on after it.
+pub(crate) fn going_on(alloc: Global, runs: &[Run], to: i64) -> Result<Vec<Run>, AllocError>
+    ensures { IfOk result (λ others. AreSameUpTo to (runs_in runs.now) (runs_in others.items)) }
+{
+    let mut others = Vec::new(alloc);
+    for run in runs {
+        if run.first_bound() <= to {
+            others.push(run.going_on(to))?;
+        }
+    }
+    Ok(others)
+}
+
+/// The same runs up to an instant, where none has an onset after it. It isn't so where the onsets are counted.
+pub(crate) fn ending(alloc: Global, runs: &[Run], to: i64) -> Result<Vec<Run>, AllocError>
+    ensures { IfOk result (λ others. AreSameUpTo to (runs_in runs.now) (runs_in others.items)) }
+{
+    let mut others = Vec::new(alloc);
+    for run in runs {
+        if run.first_bound() <= to {
+            others.push(run.ending(to))?;
+        }
+    }
+    Ok(others)
+}
+
+impl Run {
+    ghost use Rattle.cal_doors.specs.Runs.{run_of};
+    ghost use Rattle.cal_doors.specs.Between.{IsSameRunUpTo};
+
+    /// The same up to an instant, and without an end where its rule sets nothing more up to it.
+    fn going_on(&self, to: i64) -> Run
+        ensures { IsSameRunUpTo to (run_of self.now) (run_of result) }
+    {
+        let End::At(until) = self.end else {
+            return *self;
+        };
+        let endless = self.endless();
+        if !endless.is_quiet(until, to) {
+            return *self;
+        }
+        endless
+    }
+
+    /// The same up to an instant, after which it has none where they aren't counted.
+    fn ending(&self, to: i64) -> Run
+        ensures { IsSameRunUpTo to (run_of self.now) (run_of result) }
+    {
+        let mut run = *self;
+        run.end = match self.end {
+            End::Never => End::At(to),
+            End::At(until) => End::At(until.min(to)),
+            End::After(count) => End::After(count),
+        };
+        run
+    }
+}
+
+/// No onset is later than this. None where a rule doesn't end, or its onsets are counted.
+pub(crate) fn last_of_all(runs: &[Run]) -> Option<i64>
+    ensures { IfSome result (λ last. IsOverAt (runs_in runs.now) last) }
+{
+    let mut last = i64::MIN;
+    for run in runs {
+        last = last.max(run.last_bound()?);
+    }
+    Some(last)
+}

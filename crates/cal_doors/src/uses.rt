@@ -1,0 +1,194 @@
+//! Which zones the times of an object name, from when on and until when.
+
+ghost use Rattle.std.specs.Prelude.{◌≡◌, ◌≤ℤ◌, ℕ, ℤ, true, IfOk, IfSome};
+ghost use Rattle.ical_lines.specs.Text.{line_text};
+ghost use Rattle.ical_tree.specs.Tree.{component_lines, tree_of};
+ghost use Rattle.profile.specs.text.Values.{SpellsDuration};
+ghost use Rattle.profile.specs.doors.Uses.{is_time_line, SaysLocal, EventEndsBy, RuleEndsBy};
+ghost use Rattle.profile.specs.series.Rules.{RuleText};
+ghost use Rattle.profile.specs.series.RuleTexts.{SpellsRule};
+ghost use Rattle.cal_doors.specs.Used.{AreUses, AreUsesWith, LineEndsBy};
+
+use cal_rules::{RuleText, Until};
+use ical_lines::{Fault, Line};
+use ical_tree::Component;
+use ical_values::{DAY_SECONDS, Duration, LocalTime};
+use indexmap::IndexMap;
+use std::alloc::{AllocError, Global};
+
+/// The local times that name a zone, in seconds.
+#[derive(Clone, Copy)]
+pub(crate) struct Use {
+    /// None of them is earlier.
+    pub(crate) first: i64,
+    /// None of those in VEVENTs that name the zone is later, and none that their rules give. None where they go on, or it isn't known.
+    pub(crate) last: Option<i64>,
+}
+
+/// The zones that times name.
+pub(crate) type Uses = IndexMap<String, Use>;
+
+/// The zones that the VEVENTs of an object name. None where a text with TZID is no local time.
+pub(crate) fn uses_of(alloc: Global, object: &Component) -> Result<Option<Uses>, AllocError>
+    ensures { IfOk result (λ found. IfSome found (λ uses. AreUses (tree_of object.now) uses.entries)) }
+{
+    let mut uses = IndexMap::new(alloc);
+    for child in object.children() {
+        if child.is_named("VEVENT") && !add_event(alloc, child, &mut uses)? {
+            return Ok(None);
+        }
+    }
+    Ok(Some(uses))
+}
+
+/// Adds the zones that a VEVENT names. False where a text with TZID is no local time.
+fn add_event(alloc: Global, event: &Component, uses: &mut Uses) -> Result<bool, AllocError>
+    ensures { IfOk result (λ all. all ≡ true → AreUsesWith (component_lines event.now) uses.old.entries uses.new.entries) }
+{
+    let last = event_end(alloc, event)?;
+    for line in event.lines() {
+        if is_time_line(line) && !add_line(alloc, line, last, uses)? {
+            return Ok(false);
+        }
+    }
+    Ok(true)
+}
+
+/// Adds the zone that a line of times names, if it names one. False where a text of it is no local time.
+fn add_line(
+    alloc: Global,
+    line: Line<'_>,
+    last: Option<i64>,
+    uses: &mut Uses,
+) -> Result<bool, AllocError> {
+    let Some(name) = line.param("TZID") else {
+        return Ok(true);
+    };
+    let Some(first) = first_local(line) else {
+        return Ok(false);
+    };
+    widen(alloc, uses, name, Use { first, last })?;
+    Ok(true)
+}
+
+/// The first of the local times of a line. None where one of its texts is none.
+fn first_local(line: Line<'_>) -> Option<i64>
+    ensures { IfSome result (λ first. (local : ℤ) → SaysLocal (line_text line.entry) local → first ≤ℤ local) }
+{
+    let mut first = i64::MAX;
+    for text in line.value().split(',') {
+        let local = LocalTime::read(text).ok()?;
+        first = first.min(local.seconds());
+    }
+    Some(first)
+}
+
+/// Adds local times that name a zone.
+fn widen(alloc: Global, uses: &mut Uses, name: &str, more: Use) -> Result<(), AllocError> {
+    let both = match uses.get(name) {
+        None => more,
+        Some(earlier) => Use {
+            first: earlier.first.min(more.first),
+            last: later(earlier.last, more.last),
+        },
+    };
+    let name = String::from_str(alloc, name)?;
+    uses.insert(name, both)?;
+    Ok(())
+}
+
+/// The later of two ends. None where one of them is none.
+fn later(one: Option<i64>, other: Option<i64>) -> Option<i64> {
+    Some(one?.max(other?))
+}
+
+/// The end of the local times of a VEVENT, and of those that its rule gives. None where they go on, or it isn't known.
+fn event_end(alloc: Global, event: &Component) -> Result<Option<i64>, AllocError>
+    ensures { IfOk result (λ found. IfSome found (EventEndsBy (component_lines event.now))) }
+{
+    let mut last = i64::MIN;
+    for line in event.lines() {
+        let Some(end) = line_end(alloc, line)? else {
+            return Ok(None);
+        };
+        last = last.max(end);
+    }
+    Ok(Some(last))
+}
+
+/// The end of what a line says of local times: of its own, or of the starts by a rule. None where they go on, where it isn't known, and for a
+/// length of nominal days.
+fn line_end(alloc: Global, line: Line<'_>) -> Result<Option<i64>, AllocError>
+    ensures { IfOk result (λ found. IfSome found (LineEndsBy (line_text line.entry))) }
+{
+    if line.is_named("RRULE") {
+        return rule_end(alloc, line.value());
+    }
+    if line.is_named("DURATION") {
+        return Ok(duration_end(line.value()));
+    }
+    if is_time_line(line) {
+        return Ok(Some(last_local(line)));
+    }
+    Ok(Some(i64::MIN))
+}
+
+/// The end of the local times at which a rule lets an event start. None where it has no UNTIL, or isn't read.
+fn rule_end(alloc: Global, text: &str) -> Result<Option<i64>, AllocError>
+    ensures { IfOk result (λ found. IfSome found (λ last. (rule : RuleText) × SpellsRule text.now rule × RuleEndsBy rule last)) }
+{
+    let rule = match RuleText::read(alloc, text) {
+        Ok(rule) => rule,
+        Err(Fault::Memory) => return Err(AllocError),
+        Err(Fault::Refused(_)) => return Ok(None),
+    };
+    let Some(until) = rule.until() else {
+        return Ok(None);
+    };
+    Ok(Some(until_end(&until)))
+}
+
+/// A day after the local time that UNTIL names, or the instant.
+fn until_end(until: &Until) -> i64 {
+    let named = match until {
+        Until::Date(day) => day.number() as i64 * DAY_SECONDS as i64,
+        Until::Local(local) => local.seconds(),
+        Until::Utc(stamp) => stamp.instant(),
+    };
+    named + DAY_SECONDS as i64
+}
+
+/// No end for a length of nominal days, or for one that isn't read; one of seconds alone doesn't matter.
+fn duration_end(text: &str) -> Option<i64>
+    ensures { IfSome result (λ _. (days seconds : ℕ) → SpellsDuration text.now days seconds → days ≡ 0) }
+{
+    let length = Duration::read(text).ok()?;
+    if length.days > 0 {
+        return None;
+    }
+    Some(i64::MIN)
+}
+
+/// The last of the local times of a line; the least number where it says none.
+fn last_local(line: Line<'_>) -> i64
+    ensures { (local : ℤ) → SaysLocal (line_text line.entry) local → local ≤ℤ result }
+{
+    let mut last = i64::MIN;
+    for text in line.value().split(',') {
+        if let Ok(local) = LocalTime::read(text) {
+            last = last.max(local.seconds());
+        }
+    }
+    last
+}
+
+/// Whether the values of a line are times.
+fn is_time_line(line: Line<'_>) -> bool
+    ensures { result ≡ is_time_line (line_text line.entry) }
+{
+    line.is_named("DTSTART")
+        || line.is_named("DTEND")
+        || line.is_named("RECURRENCE-ID")
+        || line.is_named("RDATE")
+        || line.is_named("EXDATE")
+}

@@ -1,0 +1,3 @@
+-- what becomes of an object before a room reads it
+pub mod Uses
+pub mod Adapting

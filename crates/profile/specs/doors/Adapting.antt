@@ -1,0 +1,95 @@
+-- An object made readable for a room: VTIMEZONEs that say more than a room reads give way to some that do the same at each time that the
+-- object names there (RFC 5545 3.6.5). All other lines stay as they are.
+use Rattle.std.specs.Prelude.{◌≡◌, ℕ, ◌⊎◌, Bool, true, not, List, [], filter, codes, Option, Some, None, ℤ, pos, ◌+ℤ◌, ◌-ℤ◌, ◌≤ℤ◌}
+use Rattle.std.specs.List.{list_any}
+use Rattle.std.specs.Str.{bytes_eq}
+use Rattle.profile.specs.text.Lines.{logical_lines, reads_as_lines, is_same_name}
+use Rattle.profile.specs.text.Objects.{IsObject}
+use Rattle.profile.specs.text.Trees.{Tree, tree_name, tree_own, tree_inside}
+use Rattle.profile.specs.series.Zones.{Zone, Onset}
+use Rattle.profile.specs.series.ZoneTexts.{SaysZone, is_part, parts_by}
+use Rattle.profile.specs.series.GeneralZones.{Run, IsGeneralOnset, IsSameFrom, IsSameBetween}
+use Rattle.profile.specs.series.GeneralZoneTexts.{SaysGeneralZone}
+use Rattle.profile.specs.events.ZonedTimes.{zone_named, SaysZoneOf}
+use Rattle.profile.specs.doors.Uses.{NamesZone, NamesLocal, EndsBy}
+
+-- ---- where a zone comes from
+
+-- there is no such VTIMEZONE, or it has neither STANDARD nor DAYLIGHT
+abbrev pub SaysNothing : Option Tree → Type 0
+SaysNothing None = Unit {0}
+SaysNothing (Some zone) = parts_by is_part zone ≡ []
+
+-- the VTIMEZONE of that name in a list of VTIMEZONEs, which is an object of them, if there is a list
+abbrev pub IsListed : Option Tree → List ℕ → Tree → Type 0
+IsListed None name zone = ⊥
+IsListed (Some zones) name zone = zone_named name zones ≡ Some zone
+
+-- what a name means at the door: the VTIMEZONE of the object, or that of the list where it says nothing
+abbrev pub IsMeant : Option Tree → Tree → List ℕ → Tree → Type 0
+IsMeant listed object name zone =
+    ((zone_named name object ≡ Some zone) × (SaysNothing (Some zone) → ⊥)) ⊎ (SaysNothing (zone_named name object) × IsListed listed name zone)
+
+-- ---- what takes its place
+
+-- 2036-01-01T00:00:00Z: programs write their zones up to some year not before this; this profile's choice
+abbrev pub tables_end : ℤ
+tables_end = pos 2_082_758_400
+
+-- no onset is later than that instant
+abbrev pub IsOverAt : List Run → ℤ → Type 0
+IsOverAt zone to = (onset : Onset) → IsGeneralOnset zone onset → onset.instant ≤ℤ to
+
+-- a zone does the same as one in general for local times from the first on, which end by the last, if they end: always, or as long as they do; or,
+-- where it may go on, up to the end of the onsets that are stated, in 2036 or later. That it then goes on by the same rules is
+-- this profile's choice: the tables of the programs end there, their zones don't
+pub data IsSameFor (zone : List Run) (other : Zone) (may_go_on : Bool) (first : ℤ) (last : Option ℤ) : Type 0 where
+  always : IsSameFrom zone other (first -ℤ pos 86_399) → IsSameFor zone other may_go_on first last
+  as_long : (end : ℤ) → last ≡ Some end → IsSameBetween zone other (first -ℤ pos 86_399) (end +ℤ pos 86_399) → IsSameFor zone other may_go_on first last
+  goes_on : (to : ℤ) → may_go_on ≡ true → tables_end ≤ℤ to → IsOverAt zone to → IsSameBetween zone other (first -ℤ pos 86_399) to
+      → IsSameFor zone other may_go_on first last
+
+-- the zone does the same as what the name means at the door, for each time that the object names there
+pub record TakesPlace (listed : Option Tree) (object : Tree) (name : List ℕ) (may_go_on : Bool) (other : Zone) : Type 0 where
+  pub meant : Tree
+  pub is_meant : IsMeant listed object name meant
+  pub zone : List Run
+  pub says : SaysGeneralZone meant zone
+  pub first : ℤ
+  pub from_first : (local : ℤ) → NamesLocal object name local → first ≤ℤ local
+  pub last : Option ℤ
+  pub to_last : (end : ℤ) → last ≡ Some end → EndsBy object name end
+  pub same : IsSameFor zone other may_go_on first last
+
+-- the VTIMEZONE that a name means afterwards is one that a room reads: the one before, or one whose zone takes the place of that
+pub record IsGiven (listed : Option Tree) (before after : Tree) (name : List ℕ) (may_go_on : Bool) : Type 0 where
+  pub part : Tree
+  pub there : zone_named name after ≡ Some part
+  pub zone : Zone
+  pub says : SaysZone part zone
+  pub same : (zone_named name before ≡ Some part) ⊎ TakesPlace listed before name may_go_on zone
+
+-- ---- the object
+
+-- what is inside, but for its VTIMEZONEs
+abbrev pub without_zones : Tree → List Tree
+without_zones object = filter (λ part. not (is_same_name (tree_name part) (codes "VTIMEZONE"))) (tree_inside object)
+
+-- the octets are an object within the limits of a message
+pub record IsOf (octets : List ℕ) (object : Tree) : Type 0 where
+  pub lines : reads_as_lines true octets ≡ true
+  pub spelled : IsObject true object (logical_lines octets)
+
+-- the octets came in, and these others are handed on: of the VTIMEZONEs that its times name one at least wasn't read by a room, and now each is.
+-- Only zones of these names go on beyond what is stated
+pub record IsAdapted (listed : Option Tree) (octets : List ℕ) (going_on : List (List ℕ)) (adapted : List ℕ) : Type 0 where
+  pub before : Tree
+  pub came : IsOf octets before
+  pub after : Tree
+  pub goes : IsOf adapted after
+  pub own : tree_own after ≡ tree_own before
+  pub others : without_zones after ≡ without_zones before
+  pub zones : (name : List ℕ) → NamesZone before name → IsGiven listed before after name (list_any (bytes_eq name) going_on)
+  pub unread : List ℕ
+  pub named : NamesZone before unread
+  pub needed : (zone : Zone) → SaysZoneOf (zone_named unread before) zone → ⊥
