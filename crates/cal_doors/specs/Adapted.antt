@@ -1,11 +1,20 @@
--- The list of VTIMEZONEs at the door.
-use Rattle.std.specs.Prelude.{Option, None, Some, option_map}
+-- What is made of an object at the door.
+use Rattle.std.specs.Prelude.{◌≡◌, ℕ, List, Option, None, Some, option_map, String}
 use Rattle.ical_tree.specs.Tree.{tree_of}
-use Rattle.profile.specs.text.Trees.{Tree}
+use Rattle.profile.specs.text.Trees.{Tree, tree_own}
+use Rattle.profile.specs.series.Zones.{Zone}
+use Rattle.profile.specs.series.ZoneTexts.{SaysZone}
+use Rattle.profile.specs.events.ZonedTimes.{zone_named, SaysZoneOf}
+use Rattle.profile.specs.doors.Uses.{NamesZone}
+use Rattle.profile.specs.doors.Adapting.{IsOf, TakesPlace, without_zones}
+use Rattle.cal_zones.specs.Kinds.{zone_of}
 use Rattle.cal_doors.specs.Named.{AreNamed}
+use Rattle.cal_doors.specs.Used.{held}
 use Rattle.cal_doors.specs.declared.named.NamedZones.{NamedZones}
+use Rattle.cal_doors.specs.declared.uses.Use.{Use}
+use Rattle.cal_doors.specs.declared.choice.Choice.{Choice}
 
--- the object that the list is, if there is one
+-- the object that the list of VTIMEZONEs is, if there is one
 abbrev pub listed_of : Option (Bor NamedZones) → Option Tree
 listed_of listed = option_map (λ zones. tree_of zones.now.object.now) listed
 
@@ -13,3 +22,29 @@ listed_of listed = option_map (λ zones. tree_of zones.now.object.now) listed
 abbrev pub AreListed : Option (Bor NamedZones) → Type 0
 AreListed None = Unit {0}
 AreListed (Some zones) = AreNamed zones.now
+
+-- no room reads what the name means in the object
+abbrev pub IsUnread : Tree → List ℕ → Type 0
+IsUnread object name = (zone : Zone) → SaysZoneOf (zone_named name object) zone → ⊥
+
+-- a room reads it
+abbrev pub IsReadable : Tree → List ℕ → Type 0
+IsReadable object name = (part : Tree) × (zone : Zone) × (zone_named name object ≡ Some part) × SaysZone part zone
+
+-- these take the place of what the object's names mean that no room reads; the others are read
+pub record AreChanges {X Y : Type 0} (listed : Option Tree) (object : Tree) (uses : List (String X × Use)) (changes : List (String Y × Choice)) : Type 0 where
+  pub used : (name : List ℕ) (c : Choice) → held name changes ≡ Some c → (u : Use) × (held name uses ≡ Some u)
+  pub unread : (name : List ℕ) (c : Choice) → held name changes ≡ Some c → IsUnread object name
+  pub replaced : (name : List ℕ) (c : Choice) → held name changes ≡ Some c → TakesPlace listed object name c.goes_on (zone_of c.zone)
+  pub kept : (name : List ℕ) (u : Use) → held name uses ≡ Some u → held name changes ≡ None → IsReadable object name
+
+-- the octets are an object with the lines of another, but for VTIMEZONEs. Each name that is used means its change, or what it meant before
+pub record IsRight {X Y : Type 0} (before : Tree) (uses : List (String X × Use)) (changes : List (String Y × Choice)) (octets : List ℕ) : Type 0 where
+  pub after : Tree
+  pub is : IsOf octets after
+  pub own : tree_own after ≡ tree_own before
+  pub others : without_zones after ≡ without_zones before
+  pub changed : (name : List ℕ) (u : Use) (c : Choice) → held name uses ≡ Some u → held name changes ≡ Some c
+      → (part : Tree) × (zone_named name after ≡ Some part) × SaysZone part (zone_of c.zone)
+  pub kept : (name : List ℕ) (u : Use) → held name uses ≡ Some u → held name changes ≡ None
+      → (part : Tree) × (zone_named name after ≡ Some part) × (zone_named name before ≡ Some part)

@@ -16,15 +16,15 @@ abbrev pub held : {Y A : Type 0} → List ℕ → List (String Y × A) → Optio
 held name entries = lookup (λ key. bytes_eq name (string_bytes key)) entries
 
 -- a use is about the local times of a line of a VEVENT, and of the VEVENT
-pub record Covers (lines : List (List ℕ)) (line : List ℕ) (use : Use) : Type 0 where
-  pub from_first : (local : ℤ) → SaysLocal line local → use.first ≤ℤ local
-  pub to_last : (end : ℤ) → use.last ≡ Some end → EventEndsBy lines end
+pub record Covers (lines : List (List ℕ)) (line : List ℕ) (u : Use) : Type 0 where
+  pub from_first : (local : ℤ) → SaysLocal line local → u.first ≤ℤ local
+  pub to_last : (end : ℤ) → u.last ≡ Some end → EventEndsBy lines end
 
 -- of each zone that these VEVENTs name there is a use that is about all lines in it, and of no other zone
 pub record AreUsesOf {Y : Type 0} (events : List (List (List ℕ))) (entries : List (String Y × Use)) : Type 0 where
   pub covered : (name : List ℕ) (lines : List (List ℕ)) (line : List ℕ) → Contains events lines → IsLineIn name lines line
-      → (use : Use) × (held name entries ≡ Some use) × Covers lines line use
-  pub named : (name : List ℕ) (use : Use) → held name entries ≡ Some use
+      → (u : Use) × (held name entries ≡ Some u) × Covers lines line u
+  pub named : (name : List ℕ) (u : Use) → held name entries ≡ Some u
       → (lines : List (List ℕ)) × (line : List ℕ) × Contains events lines × IsLineIn name lines line
 
 abbrev pub AreUses : {Y : Type 0} → Tree → List (String Y × Use) → Type 0

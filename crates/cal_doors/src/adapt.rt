@@ -1,8 +1,6 @@
 //! An object made readable for a room: VTIMEZONEs that say more than a room reads give way to some that do the same.
 
-ghost use Rattle.std.specs.Prelude.{◌≡◌, true, map, string_bytes, Option, option_map, IfOk, IfSome};
-ghost use Rattle.ical_tree.specs.Tree.{tree_of};
-ghost use Rattle.profile.specs.text.Trees.{Tree};
+ghost use Rattle.std.specs.Prelude.{map, string_bytes, IfOk, IfSome};
 ghost use Rattle.profile.specs.doors.Adapting.{IsAdapted};
 ghost use Rattle.cal_doors.specs.Adapted.{listed_of, AreListed};
 

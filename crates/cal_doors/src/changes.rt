@@ -1,6 +1,13 @@
 //! Which VTIMEZONEs of an object have to change, and into what.
 
-ghost use Rattle.std.specs.Prelude.{◌≡◌, true, map, string_bytes, IfOk, IfSome};
+ghost use Rattle.std.specs.Prelude.{◌≡◌, ℕ, List, true, map, string_bytes, IfOk, IfSome, Some};
+ghost use Rattle.std.specs.List.{list_any};
+ghost use Rattle.std.specs.Str.{bytes_eq};
+ghost use Rattle.ical_tree.specs.Tree.{tree_of};
+ghost use Rattle.cal_doors.specs.Named.{AreNamed};
+ghost use Rattle.cal_doors.specs.Used.{AreUses, held};
+ghost use Rattle.cal_doors.specs.Adapted.{AreListed, listed_of, AreChanges};
+ghost use Rattle.cal_doors.specs.declared.choice.Choice.{Choice};
 
 use crate::choice::{Choice, choose};
 use crate::named::NamedZones;
@@ -32,7 +39,12 @@ pub(crate) fn changes_of(
     uses: &Uses,
     zones: &NamedZones<'_, '_>,
     listed: Option<&NamedZones<'_, '_>>,
-) -> Result<Option<Changes>, AllocError> {
+) -> Result<Option<Changes>, AllocError>
+    requires uses { AreUses (tree_of zones.now.object.now) uses.now.entries }
+    requires zones { AreNamed zones.now }
+    requires listed { AreListed listed }
+    ensures { IfOk result (λ found. IfSome found (λ changes. AreChanges (listed_of listed) (tree_of zones.now.object.now) uses.now.entries changes.entries)) }
+{
     let mut changes = IndexMap::new(alloc);
     for (name, times) in uses.iter() {
         match need_of(alloc, name.as_str(), *times, zones, listed)? {
@@ -116,7 +128,10 @@ fn general_zone(alloc: Global, zone: &Component) -> Result<Option<GeneralZone>, 
 }
 
 /// The names of the zones that go on beyond what is stated.
-pub(crate) fn names_going_on(alloc: Global, changes: &Changes) -> Result<Vec<String>, AllocError> {
+pub(crate) fn names_going_on(alloc: Global, changes: &Changes) -> Result<Vec<String>, AllocError>
+    ensures { IfOk result (λ names. (name : List ℕ) (c : Choice) → held name changes.now.entries ≡ Some c → c.goes_on ≡ true
+        → list_any (bytes_eq name) (map string_bytes names.items) ≡ true) }
+{
     let mut names = Vec::new(alloc);
     for (name, choice) in changes.iter() {
         if choice.goes_on {

@@ -1,6 +1,9 @@
 //! Whether an object that was made of another is right: it is read again, and compared.
 
 ghost use Rattle.std.specs.Prelude.{◌≡◌, true, IfOk};
+ghost use Rattle.ical_tree.specs.Tree.{tree_of};
+ghost use Rattle.cal_doors.specs.Named.{AreNamed};
+ghost use Rattle.cal_doors.specs.Adapted.{IsRight};
 
 use crate::adapt::{object_of, text_of};
 use crate::changes::Changes;
@@ -20,7 +23,11 @@ pub(crate) fn is_right(
     uses: &Uses,
     zones: &NamedZones<'_, '_>,
     changes: &Changes,
-) -> Result<bool, AllocError> {
+) -> Result<bool, AllocError>
+    requires before { zones.now.object.now ≡ before.now }
+    requires named { AreNamed zones.now }
+    ensures { IfOk result (λ right. right ≡ true → IsRight (tree_of before.now) uses.now.entries changes.now.entries octets.now) }
+{
     let Some(text) = text_of(alloc, octets)? else {
         return Ok(false);
     };

@@ -1,6 +1,6 @@
 //! Whether two components are the same tree.
 
-ghost use Rattle.std.specs.Prelude.{◌≡◌, true, map};
+ghost use Rattle.std.specs.Prelude.{◌≡◌, true};
 ghost use Rattle.ical_tree.specs.Runs.{lines_left};
 ghost use Rattle.ical_tree.specs.Tree.{component_lines, tree_of};
 
@@ -12,9 +12,20 @@ impl Component<'_> {
     pub fn is_same(&self, other: &Component) -> bool
         ensures { result ≡ true → tree_of self.now ≡ tree_of other.now }
     {
-        self.name() == other.name()
-            && are_same_lines(self.lines(), other.lines())
-            && are_same(self.children(), other.children())
+        if self.name() != other.name() || !self.has_same_lines(other) {
+            return false;
+        }
+        let mut left = other.children();
+        for child in self.children() {
+            let [first, later @ ..] = left else {
+                return false;
+            };
+            if !child.is_same(first) {
+                return false;
+            }
+            left = later;
+        }
+        left.is_empty()
     }
 
     /// Whether another has the same lines of its own.
@@ -39,19 +50,4 @@ fn are_same_lines(one: OwnLines<'_>, other: OwnLines<'_>) -> bool
         }
     }
     other.next().is_none()
-}
-
-/// Whether components are the same, one by one.
-fn are_same(one: &[Component], other: &[Component]) -> bool
-    ensures { result ≡ true → map tree_of one.now ≡ map tree_of other.now }
-{
-    if one.len() != other.len() {
-        return false;
-    }
-    for (component, its) in one.iter().zip(other) {
-        if !component.is_same(its) {
-            return false;
-        }
-    }
-    true
 }
