@@ -10,3 +10,7 @@ pub mod General
 pub mod Again
 pub mod PartSays
 mod Examples
+pub mod LawClocks
+pub mod LawEvents
+pub mod LawOffsets
+pub mod LawMeant

@@ -1,10 +1,16 @@
-//! What zones in general are the same as: laws, with nothing to do.
+//! What zones in general are the same as, and what an object that was made readable says: laws, with nothing to do.
 
-ghost use Rattle.std.specs.Prelude.{◌≡◌, ◌<◌, ◌++◌, ◌∷◌, List, None, Contains};
+ghost use Rattle.std.specs.Prelude.{◌≡◌, ◌<◌, ◌++◌, ◌∷◌, ℕ, false, List, Option, None, Contains};
+ghost use Rattle.std.specs.List.{list_any};
+ghost use Rattle.std.specs.Str.{bytes_eq};
+ghost use Rattle.profile.specs.text.Trees.{Tree, vevents};
 ghost use Rattle.profile.specs.series.Zones.{Observance, Single, Pair, local_time};
 ghost use Rattle.profile.specs.series.GeneralZones as general;
 ghost use Rattle.profile.specs.series.GeneralZoneTexts.{IsRunAt};
+ghost use Rattle.profile.specs.doors.Uses.{IsLineIn};
+ghost use Rattle.profile.specs.doors.Adapting.{IsAdapted};
 ghost use Rattle.cal_doors.specs.After.{IsGeneral, AreSameZones};
+ghost use Rattle.cal_doors.specs.Laws.{SaysTheSame, SaysTheSameUpTo};
 
 /// The same offset is in force, and local times mean the same, in a zone of one observance or of two and in the zone in general of its runs.
 pub fn zones_are_general()
@@ -18,4 +24,16 @@ pub fn date_at_start_adds_nothing()
     ensures { (o : Observance) (again : general.Run) (before after : List general.Run) → o.rule ≡ None → o.second < 86_400
         → IsRunAt o (local_time o.day o.second) again → Contains (before ++ after) (record { observance = o; end = general.Never })
         → AreSameZones (before ++ again ∷ after) (before ++ after) }
+{}
+
+/// Each VEVENT of an object that was made readable says the same as before by its times in each zone that doesn't go on beyond what is stated: each
+/// local time that it names there means the same instant, its rule has the same days and the same starts, and nominal days end at the same instant. In a
+/// zone that goes on it says the same up to the end of what is stated.
+pub fn adapted_says_the_same()
+    ensures exact { (listed : Option Tree) (octets : List ℕ) (going_on : List (List ℕ)) (adapted : List ℕ) (a : IsAdapted listed octets going_on adapted)
+        (name : List ℕ) (lines : List (List ℕ)) (line : List ℕ) → Contains (vevents a.before) lines → IsLineIn name lines line
+        → list_any (bytes_eq name) going_on ≡ false → SaysTheSame listed a.before a.after name lines }
+    ensures further { (listed : Option Tree) (octets : List ℕ) (going_on : List (List ℕ)) (adapted : List ℕ) (a : IsAdapted listed octets going_on adapted)
+        (name : List ℕ) (lines : List (List ℕ)) (line : List ℕ) → Contains (vevents a.before) lines → IsLineIn name lines line
+        → SaysTheSameUpTo listed a.before a.after name lines }
 {}

@@ -76,15 +76,16 @@ pub data MayStart (Means : ℤ → ℤ → Type 0) (lines : List (List ℕ)) (lo
 -- ---- the same
 
 -- on both clocks a VEVENT, which is these lines, says the same by its times in the zone of this name: each local time that it names there means the same.
--- Where DTSTART is one of them, its rule has the same days and the same starts, and the days of its length, counted from a start on, end at the same instant
+-- Where DTSTART is one of them, its rule has the same days and the same starts, if it isn't before 1970, and the days of its length, counted from a start
+-- on, end at the same instant
 pub record SaysSameOn (Means Shows Others ShowsOther : ℤ → ℤ → Type 0) (name : List ℕ) (lines : List (List ℕ)) : Type 0 where
   pub times : (line : List ℕ) (local t : ℤ) → IsLineIn name lines line → SaysLocal line local → Means local t ↔ Others local t
   pub rules : (start line : List ℕ) (local : ℤ) (text : RuleText) (rule : Rule) → Contains (lines_named (codes "DTSTART") lines) start → IsLineIn name lines start
-      → SaysLocal start local → Contains (lines_named (codes "RRULE") lines) line → SpellsRule (line_value line) text
+      → SaysLocal start local → pos 0 ≤ℤ local → Contains (lines_named (codes "RRULE") lines) line → SpellsRule (line_value line) text
       → GivesRuleOn Means local text rule ↔ GivesRuleOn Others local text rule
   pub starts : (start line : List ℕ) (local : ℤ) (text : RuleText) (rule : Rule) (t : ℤ) → Contains (lines_named (codes "DTSTART") lines) start → IsLineIn name lines start
-      → SaysLocal start local → Contains (lines_named (codes "RRULE") lines) line → SpellsRule (line_value line) text → GivesRuleOn Others local text rule
-      → IsRuleStartOn Means local rule t ↔ IsRuleStartOn Others local rule t
+      → SaysLocal start local → pos 0 ≤ℤ local → Contains (lines_named (codes "RRULE") lines) line → SpellsRule (line_value line) text
+      → GivesRuleOn Others local text rule → IsRuleStartOn Means local rule t ↔ IsRuleStartOn Others local rule t
   pub ends : (start line : List ℕ) (local : ℤ) (length : Length) (t end : ℤ) → Contains (lines_named (codes "DTSTART") lines) start → IsLineIn name lines start
       → SaysLocal start local → Contains (lines_named (codes "DURATION") lines) line → LastsFor line length → MayStart Others lines local t
       → IsDaysLaterOn Means Shows length.days t end ↔ IsDaysLaterOn Others ShowsOther length.days t end
