@@ -216,14 +216,15 @@ fn rule_end(alloc: Global, text: &str) -> Result<Option<i64>, AllocError>
     Ok(Some(until_end(&until)))
 }
 
-/// A day after the local time that UNTIL names, or the instant.
+/// A day after the date or the instant that UNTIL names, two days after a local time: what that means, and a start, differ from their local times by
+/// less than a day each.
 fn until_end(until: &Until) -> i64 {
-    let named = match until {
-        Until::Date(day) => day.number() as i64 * DAY_SECONDS as i64,
-        Until::Local(local) => local.seconds(),
-        Until::Utc(stamp) => stamp.instant(),
-    };
-    named + DAY_SECONDS as i64
+    let day = DAY_SECONDS as i64;
+    match until {
+        Until::Date(date) => date.number() as i64 * day + day,
+        Until::Local(local) => local.seconds() + 2 * day,
+        Until::Utc(stamp) => stamp.instant() + day,
+    }
 }
 
 /// No end for a length of nominal days, or for one that isn't read; one of seconds alone doesn't matter.
