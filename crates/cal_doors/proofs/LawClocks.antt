@@ -1,19 +1,17 @@
 -- Two clocks by which local times mean the same, from a first one on and up to a last one, if there is one: then the rules of a VEVENT are the same
 -- by both. For `adapted_says_the_same`.
-use Rattle.std.proofs.Common.{◌≡◌, ◌∙◌, sym, refl, ap, subst, arith, inl, inr, ℕ, ◌+◌, ◌*◌, ◌≤◌, ◌<◌, Bool, true, List, Option, Some, None, ℤ, pos, ◌+ℤ◌, ◌*ℤ◌, ◌-ℤ◌, ◌≤ℤ◌}
-use Rattle.std.specs.Prelude.{◌↔◌, ◌⊎◌}
-use Rattle.std.specs.Int.Signed.{◌<ℤ◌, lt_z}
+use Rattle.std.proofs.Common.{◌≡◌, ◌∙◌, sym, refl, ap, subst, arith, ℕ, ◌+◌, ◌≤◌, ◌<◌, true, List, Option, Some, None, ℤ, pos, ◌+ℤ◌, ◌*ℤ◌, ◌≤ℤ◌}
+use Rattle.std.specs.Prelude.{◌↔◌}
+use Rattle.std.specs.Int.Signed.{◌<ℤ◌}
 use Rattle.std.proofs.lemmas.Int.{ints, by_lt_z}
 use Rattle.std.proofs.lemmas.Bool.Decides.{nat_tests}
-use Rattle.profile.specs.checker.Instances.{horizon}
 use Rattle.profile.specs.text.Values.{SpellsDate}
-use Rattle.profile.specs.events.Properties.{first_second}
 use Rattle.profile.specs.events.EventRules.{IsOnDay, as_end}
 use Rattle.profile.specs.series.Days.{day_index}
 use Rattle.profile.specs.series.Rules.{Rule, RuleText, Until, UntilDay, UntilLocal, UntilInstant, rule_of, is_rule_day, is_counted}
 use Rattle.profile.specs.series.Zones.{local_time}
 use Rattle.profile.specs.doors.Uses.{RuleEndsBy, by_day, by_local, by_instant}
-use Rattle.profile.specs.doors.OnClocks.{NoneFromOn, IsLastDayOn, IsLastAllowedOn, GivesRuleOn, IsRuleStartOn}
+use Rattle.profile.specs.doors.OnClocks.{IsLastDayOn, IsLastAllowedOn, GivesRuleOn}
 
 -- ---- the days of a rule
 
@@ -123,11 +121,12 @@ module _ (M : ℤ → ℤ → Type 0) (near : AreNear M) (last : Option ℤ) whe
       let s = on.0 in
       let at = on.1 in
       let gs = g.on.0 in
-      let gat = g.on.1 in
-      (omega (arith, ints, from, a, s, at, gs, gat),
-      λ end e.
-      let l = last_allowed text text.until g.second g.last end known refl (ends end e) gs g.allowed in
-      omega (arith, ints, l, b, s, at, gs, gat))
+      let gat = g.on.1 in (
+        omega (arith, ints, from, a, s, at, gs, gat),
+        λ end e.
+            let l = last_allowed text text.until g.second g.last end known refl (ends end e) gs g.allowed in
+            omega (arith, ints, l, b, s, at, gs, gat),
+      )
 
 -- ---- from one clock to the other
 
@@ -165,9 +164,11 @@ module _ (M N : ℤ → ℤ → Type 0) (near : AreNear M) (near_other : AreNear
   allowed_there text (Some (UntilDay number)) second day e from until_from ends h = h
   allowed_there text (Some (UntilLocal local)) second day e from until_from ends (instant, m, h) =
       let covered : IsCovered first last local =
-          (until_from local e, λ end l. let b = bounded text end (UntilLocal local) (ends end l).0 e in omega (arith, ints, b)) in
-      (instant, (same local instant covered).0 m,
-      last_day second (as_end instant) day from (λ end l. local_ends M near last text local instant end (ends end l) e m) h)
+      (until_from local e, λ end l. let b = bounded text end (UntilLocal local) (ends end l).0 e in omega (arith, ints, b)) in (
+        instant,
+        (same local instant covered).0 m,
+        last_day second (as_end instant) day from (λ end l. local_ends M near last text local instant end (ends end l) e m) h,
+      )
   allowed_there text (Some (UntilInstant instant)) second day e from until_from ends h =
       last_day second (as_end instant) day from (λ end l. instant_ends M near last text instant end (ends end l) e) h
 

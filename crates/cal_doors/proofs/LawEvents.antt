@@ -1,7 +1,7 @@
 -- Two clocks by which local times mean the same, from a first one on and up to a last one, if there is one: then a VEVENT whose times and starts are
 -- among these says the same by both. For `adapted_says_the_same`.
-use Rattle.std.proofs.Common.{◌≡◌, ◌∙◌, sym, refl, ap, subst, arith, inl, inr, ℕ, ◌+◌, ◌*◌, ◌≤◌, ◌<◌, Bool, true, List, [], ◌∷◌, Option, Some, None, ℤ, pos, ◌+ℤ◌, ◌≤ℤ◌}
-use Rattle.std.specs.Prelude.{◌↔◌, ◌⊎◌, ◌||◌, false, Contains, codes}
+use Rattle.std.proofs.Common.{◌≡◌, ◌∙◌, sym, refl, subst, arith, inl, inr, ℕ, ◌*◌, ◌<◌, Bool, true, List, [], ◌∷◌, Option, Some, None, ℤ, pos, ◌+ℤ◌, ◌≤ℤ◌}
+use Rattle.std.specs.Prelude.{◌↔◌, ◌||◌, false, Contains, codes}
 use Rattle.std.proofs.lemmas.Int.{ints}
 use Rattle.std.proofs.lemmas.Bool.Decides.{nat_tests}
 use Rattle.std.proofs.lemmas.List.Elements.{All-contains, All-contains_itself, All-filter, filter_passes}
@@ -35,9 +35,10 @@ of_dates line h =
     fourth (is_of (codes "DTSTART") line) (is_of (codes "DTEND") line) (is_of (codes "RECURRENCE-ID") line) (is_of (codes "RDATE") line) (is_of (codes "EXDATE") line || false) h
 
 in_lines : (name : List ℕ) (lines : List (List ℕ)) (line : List ℕ) → Contains (lines_named name lines) line → Contains lines line × (is_of name line ≡ true)
-in_lines name lines line h =
-    (All-contains (Contains lines) (lines_named name lines) line (All-filter (is_of name) (Contains lines) lines (All-contains_itself lines)) h,
-    All-contains (λ x. is_of name x ≡ true) (lines_named name lines) line (filter_passes (is_of name) lines) h)
+in_lines name lines line h = (
+  All-contains (Contains lines) (lines_named name lines) line (All-filter (is_of name) (Contains lines) lines (All-contains_itself lines)) h,
+  All-contains (λ x. is_of name x ≡ true) (lines_named name lines) line (filter_passes (is_of name) lines) h,
+)
 
 -- ---- a date of UNTIL
 
@@ -106,15 +107,16 @@ module _ (M S N R : ℤ → ℤ → Type 0) (near : AreNear M) (near_other : Are
   -- nominal days later it is the same
   days_later : (length : Length) (line : List ℕ) (t end : ℤ) → Contains (lines_named (codes "DURATION") lines) line → LastsFor line length
       → (LastsDays lines → first ≤ℤ t) → (l : Option ℤ) → last ≡ l → IsDaysLaterOn M S length.days t end ↔ IsDaysLaterOn N R length.days t end
-  days_later length line t end there lasts from None e =
-      (later_there M S N R length.days t end (λ some local s.
-      let f = from (line, length, there, lasts, some) in
-      let n = near_shown t local s in
-      ((same_shown e t local f).0 s, (same (local +ℤ pos (86_400 * length.days)) end (covered_later local f n some)).0)),
-      later_there N R M S length.days t end (λ some local s.
-      let f = from (line, length, there, lasts, some) in
-      let n = near_shown_other t local s in
-      ((same_shown e t local f).1 s, (same (local +ℤ pos (86_400 * length.days)) end (covered_later local f n some)).1)))
+  days_later length line t end there lasts from None e = (
+    later_there M S N R length.days t end (λ some local s.
+        let f = from (line, length, there, lasts, some) in
+        let n = near_shown t local s in
+        ((same_shown e t local f).0 s, (same (local +ℤ pos (86_400 * length.days)) end (covered_later local f n some)).0)),
+    later_there N R M S length.days t end (λ some local s.
+        let f = from (line, length, there, lasts, some) in
+        let n = near_shown_other t local s in
+        ((same_shown e t local f).1 s, (same (local +ℤ pos (86_400 * length.days)) end (covered_later local f n some)).1)),
+  )
     where
       covered_later : (local : ℤ) → first ≤ℤ t → t ≤ℤ (local +ℤ pos 86_399) → 0 < length.days → IsCovered first last (local +ℤ pos (86_400 * length.days))
       covered_later local f n some = (omega (arith, ints, f, n, some), λ u g. absurd (none_is u (sym e ∙ g)))
@@ -135,23 +137,24 @@ module _ (M S N R : ℤ → ℤ → Type 0) (near : AreNear M) (near_other : Are
   starts_same : (start line : List ℕ) (local : ℤ) (text : RuleText) (rule : Rule) (t : ℤ) → IsLineIn name lines start → SaysLocal start local → pos 0 ≤ℤ local
       → Contains (lines_named (codes "RRULE") lines) line → SpellsRule (line_value line) text → GivesRuleOn N local text rule
       → IsRuleStartOn M local rule t ↔ IsRuleStartOn N local rule t
-  starts_same start line local text rule t is says past there spelled given =
-      (λ h. record {
-        first = h.first;
-        second = h.second;
-        on = h.on;
-        day = h.day;
-        listed = h.listed;
-        means = (same (local_time h.day h.second) t (rule_covered start line local text rule h.first h.second h.day is says past there spelled given h.on h.listed)).0 h.means;
-      },
-      λ h. record {
-        first = h.first;
-        second = h.second;
-        on = h.on;
-        day = h.day;
-        listed = h.listed;
-        means = (same (local_time h.day h.second) t (rule_covered start line local text rule h.first h.second h.day is says past there spelled given h.on h.listed)).1 h.means;
-      })
+  starts_same start line local text rule t is says past there spelled given = (
+    λ h. record {
+      first = h.first;
+      second = h.second;
+      on = h.on;
+      day = h.day;
+      listed = h.listed;
+      means = (same (local_time h.day h.second) t (rule_covered start line local text rule h.first h.second h.day is says past there spelled given h.on h.listed)).0 h.means;
+    },
+    λ h. record {
+      first = h.first;
+      second = h.second;
+      on = h.on;
+      day = h.day;
+      listed = h.listed;
+      means = (same (local_time h.day h.second) t (rule_covered start line local text rule h.first h.second h.day is says past there spelled given h.on h.listed)).1 h.means;
+    },
+  )
 
   pub says_same : SaysSameOn M S N R name lines
   says_same = record {
@@ -159,9 +162,10 @@ module _ (M S N R : ℤ → ℤ → Type 0) (near : AreNear M) (near_other : Are
     rules = λ start line local text rule _ is says from there spelled.
         let f = begins.times start local is says in
         let u = until_from line text there spelled in
-        let e = rule_ends start line local text is says from there spelled in
-        (gives_there M N near near_other first last same local text rule f u e,
-        gives_there N M near_other near first last (λ l t c. ((same l t c).1, (same l t c).0)) local text rule f u e);
+        let e = rule_ends start line local text is says from there spelled in (
+          gives_there M N near near_other first last same local text rule f u e,
+          gives_there N M near_other near first last (λ l t c. ((same l t c).1, (same l t c).0)) local text rule f u e,
+        );
     starts = λ start line local text rule t _ is says from there spelled given. starts_same start line local text rule t is says from there spelled given;
     ends = λ start line local length t end _ is says there lasts may.
         days_later length line t end there lasts (λ days. start_from N near_other first name lines begins days start local t is says may) last refl;

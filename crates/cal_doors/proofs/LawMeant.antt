@@ -1,5 +1,5 @@
 -- A zone that takes the place of another says the same for a VEVENT. For `adapted_says_the_same`.
-use Rattle.std.proofs.Common.{◌≡◌, ◌∙◌, sym, refl, ap, subst, arith, inl, inr, ℕ, ◌+◌, ◌*◌, ◌≤◌, ◌<◌, Bool, true, false, List, Option, Some, None, ℤ, pos, ◌+ℤ◌, ◌-ℤ◌, ◌≤ℤ◌}
+use Rattle.std.proofs.Common.{◌≡◌, ◌∙◌, sym, subst, arith, inl, inr, ℕ, ◌+◌, ◌*◌, ◌≤◌, ◌<◌, Bool, true, false, List, Option, Some, None, ℤ, pos, ◌+ℤ◌, ◌-ℤ◌, ◌≤ℤ◌}
 use Rattle.std.specs.Prelude.{◌↔◌, ◌⊎◌, Contains, codes}
 use Rattle.std.specs.List.{list_any}
 use Rattle.std.specs.Str.{bytes_eq}
@@ -15,7 +15,6 @@ use Rattle.profile.specs.doors.Uses.{IsLineIn, SaysLocal, EventBeginsBy, EventEn
 use Rattle.profile.specs.doors.Adapting.{IsAdapted, IsGiven, TakesPlace, IsSameFor, always, as_long, goes_on, tables_end, IsOverAt}
 use Rattle.profile.specs.doors.OnClocks.{SaysSameAs, IsDaysLaterOn}
 use Rattle.cal_doors.specs.Laws.{IsMeantAfter, SaysTheSame, SaysSameUpTo, SaysTheSameUpTo}
-use Rattle.cal_doors.proofs.LawClocks.{IsCovered}
 use Rattle.cal_doors.proofs.LawEvents.{OneRule, says_same, start_from, later_there}
 use Rattle.cal_doors.proofs.LawOffsets.{general_near, general_shown, zone_near, zone_shown}
 
@@ -72,15 +71,16 @@ module _ (meant part : Tree) (runs : List Run) (zone : Zone) (general : SaysGene
       ends_there : (length : Length) (line : List ℕ) (t end : ℤ) → Contains (lines_named (codes "DURATION") lines) line → LastsFor line length
           → (t +ℤ pos (86_400 * length.days + 172_798)) ≤ℤ to → (LastsDays lines → first ≤ℤ t)
           → IsDaysLaterOn (MeansGenerally runs) (ShowsBy (IsGeneralOffsetAt runs)) length.days t end ↔ IsDaysLaterOn (Means zone) (Shows zone) length.days t end
-      ends_there length line t end there lasts upto from =
-          (later_there (MeansGenerally runs) (ShowsBy (IsGeneralOffsetAt runs)) (Means zone) (Shows zone) length.days t end (λ some local s.
-          let f = from (line, length, there, lasts, some) in
-          let n = general_shown meant runs general t local s in
-          ((s.0, same.offset_there t s.0 (omega (arith, ints, f)) (omega (arith, ints, upto)) s.1, s.2), (later_meaning length.days local t end some f upto n.0 n.1).0)),
-          later_there (Means zone) (Shows zone) (MeansGenerally runs) (ShowsBy (IsGeneralOffsetAt runs)) length.days t end (λ some local s.
-          let f = from (line, length, there, lasts, some) in
-          let n = zone_shown part zone read t local s in
-          ((s.0, same.offset_back t s.0 (omega (arith, ints, f)) (omega (arith, ints, upto)) s.1, s.2), (later_meaning length.days local t end some f upto n.0 n.1).1)))
+      ends_there length line t end there lasts upto from = (
+        later_there (MeansGenerally runs) (ShowsBy (IsGeneralOffsetAt runs)) (Means zone) (Shows zone) length.days t end (λ some local s.
+            let f = from (line, length, there, lasts, some) in
+            let n = general_shown meant runs general t local s in
+            ((s.0, same.offset_there t s.0 (omega (arith, ints, f)) (omega (arith, ints, upto)) s.1, s.2), (later_meaning length.days local t end some f upto n.0 n.1).0)),
+        later_there (Means zone) (Shows zone) (MeansGenerally runs) (ShowsBy (IsGeneralOffsetAt runs)) length.days t end (λ some local s.
+            let f = from (line, length, there, lasts, some) in
+            let n = zone_shown part zone read t local s in
+            ((s.0, same.offset_back t s.0 (omega (arith, ints, f)) (omega (arith, ints, upto)) s.1, s.2), (later_meaning length.days local t end some f upto n.0 n.1).1)),
+      )
 
   same_true : false ≡ true → ⊥
   same_true e = subst (λ (b : Bool). elim b as (λ _. Type 0) [ false ↦ Unit {0} | true ↦ ⊥ ]) e tt
