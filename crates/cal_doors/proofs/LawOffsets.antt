@@ -17,7 +17,7 @@ use Rattle.cal_doors.proofs.LawClocks.{AreNear}
 
 -- ---- offsets that are spelled
 
-second_bound : (text : List ℕ) (total : ℕ) → SpellsTime 59 text total → total < 86_400
+pub second_bound : (text : List ℕ) (total : ℕ) → SpellsTime 59 text total → total < 86_400
 second_bound text total s =
     let h = s.hours in
     let m = s.minutes in
@@ -48,7 +48,7 @@ IsShort o = IsOffset o.offset_from × IsOffset o.offset_to
 part_short : (lines : List (List ℕ)) (o : Observance) → SaysPartTimes lines o → IsShort o
 part_short lines o says = (said_bound _ lines o.offset_from says.from, said_bound _ lines o.offset_to says.to)
 
-abbrev IsZoneShort : Zone → Type 0
+abbrev pub IsZoneShort : Zone → Type 0
 IsZoneShort (Constant k) = IsOffset k
 IsZoneShort (Single a) = IsShort a
 IsZoneShort (Pair a b) = IsShort a × IsShort b
@@ -145,13 +145,19 @@ zone_offset (Constant k) i p h e = subst IsOffset (sym e) h
 zone_offset (Single a) i p h f = in_force_short (IsZoneOnset (Single a)) (λ x is. zone_onset (Single a) x h is) i p f
 zone_offset (Pair a b) i p h f = in_force_short (IsZoneOnset (Pair a b)) (λ x is. zone_onset (Pair a b) x h is) i p f
 
-module _ (t : Tree) (z : Zone) (says : SaysZone t z) where
+module _ (z : Zone) (short : IsZoneShort z) where
   zone_means : (local i : ℤ) → Means z local i → (i ≤ℤ (local +ℤ pos 86_399)) × (local ≤ℤ (i +ℤ pos 86_399))
-  zone_means local i (inl h) = let s = h.shown in shown_near i local s.0 (zone_offset z i s.0 (zone_short t z says) s.1) s.2
-  zone_means local i (inr h) = shown_near i local h.onset.before (zone_onset z h.onset (zone_short t z says) h.listed).0 h.read
+  zone_means local i (inl h) = let s = h.shown in shown_near i local s.0 (zone_offset z i s.0 short s.1) s.2
+  zone_means local i (inr h) = shown_near i local h.onset.before (zone_onset z h.onset short h.listed).0 h.read
 
-  pub zone_near : AreNear (Means z)
-  zone_near = record { later = λ local i m. (zone_means local i m).0; earlier = λ local i m. (zone_means local i m).1 }
+  pub short_near : AreNear (Means z)
+  short_near = record { later = λ local i m. (zone_means local i m).0; earlier = λ local i m. (zone_means local i m).1 }
 
-  pub zone_shown : (i local : ℤ) → Shows z i local → (i ≤ℤ (local +ℤ pos 86_399)) × (local ≤ℤ (i +ℤ pos 86_399))
-  zone_shown i local (p, at, e) = shown_near i local p (zone_offset z i p (zone_short t z says) at) e
+  short_shown : (i local : ℤ) → Shows z i local → (i ≤ℤ (local +ℤ pos 86_399)) × (local ≤ℤ (i +ℤ pos 86_399))
+  short_shown i local (p, at, e) = shown_near i local p (zone_offset z i p short at) e
+
+pub zone_near : (t : Tree) (z : Zone) → SaysZone t z → AreNear (Means z)
+zone_near t z says = short_near z (zone_short t z says)
+
+pub zone_shown : (t : Tree) (z : Zone) → SaysZone t z → (i local : ℤ) → Shows z i local → (i ≤ℤ (local +ℤ pos 86_399)) × (local ≤ℤ (i +ℤ pos 86_399))
+zone_shown t z says = short_shown z (zone_short t z says)

@@ -14,3 +14,4 @@ pub mod LawClocks
 pub mod LawEvents
 pub mod LawOffsets
 pub mod LawMeant
+pub mod LawZoneClocks

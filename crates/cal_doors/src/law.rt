@@ -1,12 +1,18 @@
 //! What zones in general are the same as, and what an object that was made readable says: laws, with nothing to do.
 
-ghost use Rattle.std.specs.Prelude.{◌≡◌, ◌<◌, ◌++◌, ◌∷◌, ℕ, false, List, Option, None, Contains};
+ghost use Rattle.std.specs.Prelude.{◌≡◌, ◌↔◌, ◌<◌, ◌++◌, ◌∷◌, ℕ, ℤ, false, List, Option, None, Contains};
 ghost use Rattle.std.specs.List.{list_any};
 ghost use Rattle.std.specs.Str.{bytes_eq};
 ghost use Rattle.profile.specs.text.Trees.{Tree, vevents};
-ghost use Rattle.profile.specs.series.Zones.{Observance, Single, Pair, local_time};
+ghost use Rattle.profile.specs.series.Rules.{Rule, RuleText};
+ghost use Rattle.profile.specs.series.Zones.{Zone, Observance, Single, Pair, Means, Shows, local_time};
 ghost use Rattle.profile.specs.series.GeneralZones as general;
 ghost use Rattle.profile.specs.series.GeneralZoneTexts.{IsRunAt};
+ghost use Rattle.profile.specs.events.Properties.{Fixed};
+ghost use Rattle.profile.specs.events.ZonedTimes.{EventTimes, clock_of};
+ghost use Rattle.profile.specs.events.EventRules.{GivesRule};
+ghost use Rattle.profile.specs.events.Starts.{IsRuleStart, IsDaysLater};
+ghost use Rattle.profile.specs.doors.OnClocks.{GivesRuleOn, IsRuleStartOn, IsDaysLaterOn};
 ghost use Rattle.profile.specs.doors.Uses.{IsLineIn};
 ghost use Rattle.profile.specs.doors.Adapting.{IsAdapted};
 ghost use Rattle.cal_doors.specs.After.{IsGeneral, AreSameZones};
@@ -36,4 +42,11 @@ pub fn adapted_says_the_same()
     ensures further { (listed : Option Tree) (octets : List ℕ) (going_on : List (List ℕ)) (adapted : List ℕ) (a : IsAdapted listed octets going_on adapted)
         (name : List ℕ) (lines : List (List ℕ)) (line : List ℕ) → Contains (vevents a.before) lines → IsLineIn name lines line
         → SaysTheSameUpTo listed a.before a.after name lines }
+{}
+
+/// On the clocks of a zone that a room reads, a rule, its starts and nominal days are what the room makes of them.
+pub fn zones_are_clocks()
+    ensures rules { (zone : Zone) (local : ℤ) (text : RuleText) (rule : Rule) → GivesRule zone local text rule ↔ GivesRuleOn (Means zone) local text rule }
+    ensures starts { (times : EventTimes) (rule : Rule) (t : ℤ) → IsRuleStart times rule t ↔ IsRuleStartOn (Means (clock_of times.zone)) times.local rule t }
+    ensures days { (zone : Zone) (days : ℕ) (t later : ℤ) → IsDaysLater Fixed zone days t later ↔ IsDaysLaterOn (Means zone) (Shows zone) days t later }
 {}
