@@ -33,8 +33,8 @@ pub fn date_at_start_adds_nothing()
 {}
 
 /// Each VEVENT of an object that was made readable says the same as before by its times in each zone that doesn't go on beyond what is stated: each
-/// local time that it names there means the same instant, its rule has the same days and the same starts, and nominal days end at the same instant. In a
-/// zone that goes on it says the same up to the end of what is stated.
+/// local time that it names there means the same instant, its rule has the same days and the same starts, and nominal days end at the same instant. The
+/// rule of one before 1970, which a room refuses, is left aside. In a zone that goes on it says the same up to the end of what is stated.
 pub fn adapted_says_the_same()
     ensures exact { (listed : Option Tree) (octets : List ℕ) (going_on : List (List ℕ)) (adapted : List ℕ) (a : IsAdapted listed octets going_on adapted)
         (name : List ℕ) (lines : List (List ℕ)) (line : List ℕ) → Contains (vevents a.before) lines → IsLineIn name lines line
