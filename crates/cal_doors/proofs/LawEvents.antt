@@ -12,7 +12,7 @@ use Rattle.profile.specs.events.EventRules.{IsOnDay}
 use Rattle.profile.specs.series.Rules.{Rule, RuleText, Until, UntilDay, UntilLocal, is_rule_day}
 use Rattle.profile.specs.series.RuleTexts.{SpellsRule, SpellsUntil, SaysOr, IsGivenPart, values_of}
 use Rattle.profile.specs.series.Zones.{local_time}
-use Rattle.profile.specs.doors.Uses.{IsLineIn, SaysLocal, is_time_line, LastsDays, EventBeginsBy, EventEndsBy, RuleEndsBy}
+use Rattle.profile.specs.doors.Uses.{IsLineIn, SaysLocal, SaysOnClock, is_time_line, LastsDays, EventBeginsBy, EventEndsBy, RuleEndsBy}
 use Rattle.profile.specs.doors.OnClocks.{GivesRuleOn, IsRuleStartOn, IsDaysLaterOn, MayStart, by_rule, added, added_local, SaysSameOn}
 use Rattle.profile.specs.doors.OnClocks as clocks
 use Rattle.cal_doors.proofs.LawClocks.{AreNear, IsCovered, IsDayKnown, EndsSo, gives_there, start_covered}
@@ -61,15 +61,18 @@ later_there M S N R days t end f (inr (some, (local, s, m))) = let g = f some lo
 
 -- ---- starts on one clock
 
+on_clock : (line : List ℕ) (local : ℤ) → SaysLocal line local → SaysOnClock line local
+on_clock line local (text, among, spelled) = (text, among, inl spelled)
+
 module _ (N : ℤ → ℤ → Type 0) (near_other : AreNear N) (first : ℤ) (name : List ℕ) (lines : List (List ℕ)) (begins : EventBeginsBy name lines first) where
   -- an event that lasts nominal days starts at no earlier instant
   pub start_from : LastsDays lines → (start : List ℕ) (local t : ℤ) → IsLineIn name lines start → SaysLocal start local → MayStart N lines local t → first ≤ℤ t
   start_from days start local t is says (clocks.first m) =
-      let l = begins.local_days days start local is.among is.says_times says in
+      let l = begins.local_days days start local is.among is.says_times (on_clock start local says) in
       let n = near_other.earlier local t m in
       omega (arith, ints, l, n)
   start_from days start local t is says (by_rule line text rule there spelled given h) =
-      let l = begins.local_days days start local is.among is.says_times says in
+      let l = begins.local_days days start local is.among is.says_times (on_clock start local says) in
       let c = start_covered N near_other None (first +ℤ pos 86_399) local text rule h.first h.second h.day l (day_spelled (line_value line) text spelled) (λ end e. absurd (none_is end e)) given h.on h.listed in
       let f = c.0 in
       let n = near_other.earlier (local_time h.day h.second) t h.means in

@@ -15,3 +15,4 @@ pub mod LawEvents
 pub mod LawOffsets
 pub mod LawMeant
 pub mod LawZoneClocks
+pub mod LawStarts

@@ -1,6 +1,6 @@
 //! What zones in general are the same as, and what an object that was made readable says: laws, with nothing to do.
 
-ghost use Rattle.std.specs.Prelude.{◌≡◌, ◌↔◌, ◌<◌, ◌++◌, ◌∷◌, ℕ, ℤ, false, List, Option, None, Contains};
+ghost use Rattle.std.specs.Prelude.{◌≡◌, ◌↔◌, ◌⊎◌, ◌<◌, ◌++◌, ◌∷◌, ℕ, ℤ, false, List, Option, None, Contains};
 ghost use Rattle.std.specs.List.{list_any};
 ghost use Rattle.std.specs.Str.{bytes_eq};
 ghost use Rattle.profile.specs.text.Trees.{Tree, vevents};
@@ -8,11 +8,14 @@ ghost use Rattle.profile.specs.series.Rules.{Rule, RuleText};
 ghost use Rattle.profile.specs.series.Zones.{Zone, Observance, Single, Pair, Means, Shows, local_time};
 ghost use Rattle.profile.specs.series.GeneralZones as general;
 ghost use Rattle.profile.specs.series.GeneralZoneTexts.{IsRunAt};
+ghost use Rattle.profile.specs.series.RoomZones.{IsRoomZone};
 ghost use Rattle.profile.specs.events.Properties.{Fixed};
-ghost use Rattle.profile.specs.events.ZonedTimes.{EventTimes, clock_of};
+ghost use Rattle.profile.specs.events.ZonedTimes.{EventTimes, SaysEventTimes, clock_of};
 ghost use Rattle.profile.specs.events.EventRules.{GivesRule};
-ghost use Rattle.profile.specs.events.Starts.{IsRuleStart, IsDaysLater};
-ghost use Rattle.profile.specs.doors.OnClocks.{GivesRuleOn, IsRuleStartOn, IsDaysLaterOn};
+ghost use Rattle.profile.specs.events.EventComponents.{EventComponent, Method, SaysEventComponent};
+ghost use Rattle.profile.specs.events.Placed.{IsPlaced};
+ghost use Rattle.profile.specs.events.Starts.{IsRuleStart, IsGiven, IsDaysLater};
+ghost use Rattle.profile.specs.doors.OnClocks.{GivesRuleOn, IsRuleStartOn, IsDaysLaterOn, MayStart};
 ghost use Rattle.profile.specs.doors.Uses.{IsLineIn};
 ghost use Rattle.profile.specs.doors.Adapting.{IsAdapted};
 ghost use Rattle.cal_doors.specs.After.{IsGeneral, AreSameZones};
@@ -49,4 +52,13 @@ pub fn zones_are_clocks()
     ensures rules { (zone : Zone) (local : ℤ) (text : RuleText) (rule : Rule) → GivesRule zone local text rule ↔ GivesRuleOn (Means zone) local text rule }
     ensures starts { (times : EventTimes) (rule : Rule) (t : ℤ) → IsRuleStart times rule t ↔ IsRuleStartOn (Means (clock_of times.zone)) times.local rule t }
     ensures days { (zone : Zone) (days : ℕ) (t later : ℤ) → IsDaysLater Fixed zone days t later ↔ IsDaysLaterOn (Means zone) (Shows zone) days t later }
+{}
+
+/// Each start that a room makes of a VEVENT whose DTSTART is fixed is one that its lines let it have on the clocks of its zone: so nominal days from
+/// each of them end at the same instant in an object that was made readable.
+pub fn starts_are_known()
+    ensures { (words : List ℕ) (room : Option Zone) (object : Tree) (method : Option Method) (lines : List (List ℕ)) (event placed : EventComponent) (t : ℤ)
+        → IsRoomZone words room → SaysEventComponent object method lines event → SaysEventTimes object lines event.times → event.times.form ≡ Fixed
+        → IsPlaced room event placed → IsGiven placed.times placed.rule t ⊎ Contains placed.additions t
+        → MayStart (Means (clock_of event.times.zone)) lines event.times.local t }
 {}
