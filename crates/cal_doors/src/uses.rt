@@ -1,6 +1,6 @@
 //! Which zones the times of an object name, from when on and until when.
 
-ghost use Rattle.std.specs.Prelude.{◌≡◌, ◌≤ℤ◌, ◌+ℤ◌, pos, ℕ, ℤ, true, false, Some, option_map, IfOk, IfSome, OnOk};
+ghost use Rattle.std.specs.Prelude.{◌≡◌, ◌≤ℤ◌, ◌+ℤ◌, pos, ℕ, ℤ, true, false, Some, IfOk, IfSome, OnOk};
 ghost use Rattle.ical_lines.specs.Text.{line_text};
 ghost use Rattle.ical_tree.specs.Tree.{component_lines, tree_of};
 ghost use Rattle.profile.specs.text.Values.{SpellsDuration, SpellsLocal, SpellsStamp};
@@ -126,20 +126,24 @@ fn lasts_days(event: &Component) -> bool
 fn until_local(alloc: Global, text: &str) -> Result<i64, AllocError>
     ensures { IfOk result (λ first. (rule : rules.RuleText) (local : ℤ) → SpellsRule text.now rule → rule.until ≡ Some (UntilLocal local) → first ≤ℤ local) }
 {
-    match RuleText::read(alloc, text) {
-        Ok(rule) => Ok(local_of(rule.until())),
-        Err(Fault::Memory) => Err(AllocError),
-        Err(Fault::Refused(_)) => Ok(i64::MAX),
-    }
+    let rule = match RuleText::read(alloc, text) {
+        Ok(rule) => rule,
+        Err(Fault::Memory) => return Err(AllocError),
+        Err(Fault::Refused(_)) => return Ok(i64::MAX),
+    };
+    let Some(until) = rule.until() else {
+        return Ok(i64::MAX);
+    };
+    Ok(local_of(&until))
 }
 
-/// The local time of an end; the greatest number where it is none.
-fn local_of(until: Option<Until>) -> i64
-    ensures { (local : ℤ) → option_map until_of until ≡ Some (UntilLocal local) → result ≡ local }
+/// The local time that UNTIL names; the greatest number where it isn't one.
+fn local_of(until: &Until) -> i64
+    ensures { (local : ℤ) → until_of until.now ≡ UntilLocal local → result ≡ local }
 {
     match until {
-        Some(Until::Local(local)) => local.seconds(),
-        _ => i64::MAX,
+        Until::Local(local) => local.seconds(),
+        Until::Date(_) | Until::Utc(_) => i64::MAX,
     }
 }
 
@@ -250,16 +254,17 @@ fn rule_end(alloc: Global, text: &str) -> Result<Option<i64>, AllocError>
     Ok(Some(until_end(&until)))
 }
 
-/// A day after the local time that UNTIL names, or the instant.
+/// A day after the date or the instant that UNTIL names, two days after a local time: what that means, and a start, differ from their local times by
+/// less than a day each.
 fn until_end(until: &Until) -> i64
     ensures { (rule : rules.RuleText) → rule.until ≡ Some (until_of until.now) → RuleEndsBy rule result }
 {
-    let named = match until {
-        Until::Date(day) => day.number() as i64 * DAY_SECONDS as i64,
-        Until::Local(local) => local.seconds(),
-        Until::Utc(stamp) => stamp.instant(),
-    };
-    named + DAY_SECONDS as i64
+    let day = DAY_SECONDS as i64;
+    match until {
+        Until::Date(date) => date.number() as i64 * day + day,
+        Until::Local(local) => local.seconds() + 2 * day,
+        Until::Utc(stamp) => stamp.instant() + day,
+    }
 }
 
 /// No end for a length of nominal days, or for one that isn't read; one of seconds alone doesn't matter.

@@ -61,10 +61,11 @@ BeginsBy object name first =
 
 -- ---- how long its times go on
 
--- UNTIL ends the rule, and no clock, whose offset is less than a day, shows a later local time than this at a start that it allows
+-- UNTIL ends the rule, and no clock, whose offset is less than a day, shows a later local time than this at a start that it allows. A local time
+-- as UNTIL means an instant by one offset, and a start is shown with another
 pub data RuleEndsBy (rule : RuleText) (last : ℤ) : Type 0 where
   by_day : (day : ℤ) → rule.until ≡ Some (UntilDay day) → ((day *ℤ pos 86_400) +ℤ pos 86_400) ≤ℤ last → RuleEndsBy rule last
-  by_local : (local : ℤ) → rule.until ≡ Some (UntilLocal local) → (local +ℤ pos 86_400) ≤ℤ last → RuleEndsBy rule last
+  by_local : (local : ℤ) → rule.until ≡ Some (UntilLocal local) → (local +ℤ pos 172_800) ≤ℤ last → RuleEndsBy rule last
   by_instant : (instant : ℤ) → rule.until ≡ Some (UntilInstant instant) → (instant +ℤ pos 86_400) ≤ℤ last → RuleEndsBy rule last
 
 -- no local time that a VEVENT names, and none at which it starts by its rule, is later than this; and it lasts no nominal days, so that no
