@@ -9,4 +9,7 @@ pub mod Same
 pub mod General
 pub mod Again
 pub mod PartSays
+pub mod NamedTables
+pub mod UsesLines
+pub mod UsesTables
 mod Examples
