@@ -10,6 +10,8 @@ pub mod General
 pub mod Again
 pub mod PartSays
 pub mod NamedTables
+pub mod UsesScans
 pub mod UsesLines
 pub mod UsesTables
+pub mod UsesEvents
 mod Examples

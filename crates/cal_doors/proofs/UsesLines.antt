@@ -1,6 +1,6 @@
 -- What the lines of a VEVENT say of local times: from when on, and until when.
 use Rattle.std.proofs.Common.{◌≡◌, ◌∙◌, ℕ, ◌+◌, ◌%◌, ◌/◌, ◌<◌, ◌⊎◌, inl, inr, Bool, true, false, ◌&&◌, List, [], ◌∷◌, ◌++◌, length, filter, codes, sym, refl, ap, subst, arith, ℤ, pos, ◌+ℤ◌, ◌-ℤ◌, ◌≤ℤ◌}
-use Rattle.std.specs.Prelude.{Contains, Option, Some, None, option_map}
+use Rattle.std.specs.Prelude.{Contains, Option, Some, None, Result, Ok, Err, IfOk, IfSome}
 use Rattle.std.specs.List.{slice_split, list_any}
 use Rattle.std.specs.Int.{int_min, int_max}
 use Rattle.std.specs.Str.{str_to_ascii_lowercase, bytes_eq}
@@ -36,6 +36,16 @@ most_of x y m is =
 
 pub through : (a b c : ℤ) → a ≤ℤ b → b ≤ℤ c → a ≤ℤ c
 through a b c l m = omega (arith, ints, l, m)
+
+-- ---- answers that say more
+
+pub if_ok : {T E : Type 0} (P Q : T → Type 0) (r : Result T E) → ((x : T) → P x → Q x) → IfOk r P → IfOk r Q
+if_ok P Q (Ok x) f h = f x h
+if_ok P Q (Err e) f h = tt
+
+pub if_some : {T : Type 0} (P Q : T → Type 0) (o : Option T) → ((x : T) → P x → Q x) → IfSome o P → IfSome o Q
+if_some P Q (Some x) f h = f x h
+if_some P Q None f h = tt
 
 -- ---- texts
 
@@ -113,10 +123,11 @@ begins_earlier days line later first le b = record {
   utc_days = λ on instant t s. through first later instant le (b.utc_days on instant t s);
 }
 
--- no DURATION has days
-pub no_days_last : (lines : List (List ℕ))
-    → ((line : List ℕ) → Contains lines line → is_of (codes "DURATION") line ≡ true → (days seconds : ℕ) → SpellsDuration (line_value line) days seconds → days ≡ 0)
-    → LastsDays lines → ⊥
+-- a line that is a DURATION has no days
+abbrev pub HasNoDays : List ℕ → Type 0
+HasNoDays line = is_of (codes "DURATION") line ≡ true → (days seconds : ℕ) → SpellsDuration (line_value line) days seconds → days ≡ 0
+
+pub no_days_last : (lines : List (List ℕ)) → ((line : List ℕ) → Contains lines line → HasNoDays line) → LastsDays lines → ⊥
 no_days_last lines none (line, length, there, lasts, some) =
     let f = of_filtered (is_of (codes "DURATION")) lines line there in
     let z : length.days ≡ 0 = none line f.0 f.1 length.days length.seconds lasts in

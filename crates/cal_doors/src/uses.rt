@@ -69,7 +69,7 @@ fn add_line(
     whole: Use,
     uses: &mut Uses,
 ) -> Result<bool, AllocError>
-    ensures { IfOk result (λ all. all ≡ true → AddsLine (line_text line.entry) whole.entry uses.old.entries uses.new.entries) }
+    ensures { IfOk result (λ all. all ≡ true → AddsLine (line_text line.entry) whole uses.old.entries uses.new.entries) }
 {
     let Some(name) = line.param("TZID") else {
         return Ok(true);
@@ -179,7 +179,9 @@ fn first_local(line: Line<'_>) -> Option<i64>
 {
     let mut first = i64::MAX;
     for text in line.value().split(',') {
-        let local = LocalTime::read(text).ok()?;
+        let Ok(local) = LocalTime::read(text) else {
+            return None;
+        };
         first = first.min(local.seconds());
     }
     Some(first)
@@ -187,7 +189,7 @@ fn first_local(line: Line<'_>) -> Option<i64>
 
 /// Adds local times that name a zone.
 fn widen(alloc: Global, uses: &mut Uses, name: &str, more: Use) -> Result<(), AllocError>
-    ensures { OnOk result (IsWidened name.now more.entry uses.old.entries uses.new.entries) }
+    ensures { OnOk result (IsWidened name.now more uses.old.entries uses.new.entries) }
 {
     let both = match uses.get(name) {
         None => more,
@@ -271,7 +273,9 @@ fn until_end(until: &Until) -> i64
 fn duration_end(text: &str) -> Option<i64>
     ensures { IfSome result (λ _. (days seconds : ℕ) → SpellsDuration text.now days seconds → days ≡ 0) }
 {
-    let length = Duration::read(text).ok()?;
+    let Ok(length) = Duration::read(text) else {
+        return None;
+    };
     if length.days > 0 {
         return None;
     }
