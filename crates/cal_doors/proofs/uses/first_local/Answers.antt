@@ -1,0 +1,34 @@
+use Rattle.std.proofs.Common.{◌≡◌, ◌∙◌, ◌==◌, ap, arith, sym, subst, ℕ, List, ℤ, ◌≤ℤ◌}
+use Rattle.std.specs.List.{slice_split}
+use Rattle.ical_lines.specs.Text.{line_text}
+use Rattle.cal_rules.proofs.Cuts.{all_left, cut_more, cut_done}
+use Rattle.cal_doors.proofs.UsesScans.{none_scanned, one_scanned, all_scanned}
+use Rattle.cal_doors.proofs.UsesLines.{least_of, most_of, through, one_local}
+use Rattle.cal_doors.proofs.uses.first_local.Goals as goal
+
+pub loop-text-init : goal.loop-text-init
+loop-text-init c =
+    let s = c.split-text-items.ensures in (
+      slice_split (λ x. x == 44) c.value.result.now,
+      all_left 44 c.value.result.now _ _ (omega arith) s.text s.has_more s.pattern c.into_iter-text-iterator.ensures.into_iter_gives,
+      none_scanned _ _ (slice_split (λ x. x == 44) c.value.result.now) (ap (slice_split (λ x. x == 44)) (sym c.value.ensures)),
+    )
+
+pub loop-text-preserved : goal.loop-text-preserved
+loop-text-preserved c =
+    let i = c.loop-text.invariant in
+    let text = c.in-Some.text.now in
+    let more = cut_more c.loop-text.text-iterator c.next.new.self c.in-Some.text i.0 i.1 c.in-Some.ensures.steps in
+    let least = least_of c.loop-text.first c.seconds.result c.min.result c.min.ensures.value in
+    let here : c.seconds.result ≡ c.in-Ok.local = c.seconds.ensures.value in (
+      more.0,
+      more.2,
+      one_scanned _ _ _ i.0 more.0 text more.1 (λ y still local s. through c.min.result c.loop-text.first local least.0 (still local s))
+      (λ local s. subst (λ x. c.min.result ≤ℤ x) (here ∙ one_local text c.in-Ok.local local c.in-Ok.ensures.reads s) least.1) i.2,
+    )
+
+pub returns : goal.returns
+returns c = λ local s.
+    let i = c.loop-text.invariant in
+    let none = cut_done c.loop-text.text-iterator c.next.new.self i.0 i.1 c.in-None.ensures.steps in
+    all_scanned _ _ i.0 none i.2 s.0 s.1 local s.2
