@@ -12,7 +12,7 @@ use Rattle.profile.specs.text.Values.{two_digits, four_digits, SpellsClock, Spel
 use Rattle.profile.specs.events.Properties.{Length, LastsFor, is_of, lines_named}
 use Rattle.profile.specs.series.Rules.{RuleText, UntilLocal}
 use Rattle.profile.specs.series.RuleTexts.{SpellsRule}
-use Rattle.profile.specs.doors.Uses.{time_properties, is_time_line, SaysLocal, SaysStamp, LastsDays, RuleEndsBy, EventEndsBy}
+use Rattle.profile.specs.doors.Uses.{time_properties, is_time_line, SaysLocal, SaysOnClock, SaysStamp, LastsDays, RuleEndsBy, EventEndsBy}
 use Rattle.profile.specs.doors.Uses.RuleEndsBy.{by_day, by_local, by_instant}
 use Rattle.ical_values.proofs.Readings.{clock_same, stamp_same}
 use Rattle.ical_values.proofs.Spans.{duration_same}
@@ -109,7 +109,7 @@ rule_begins days line first is says = record {
 
 -- times
 pub times_begin : (days : Bool) (line : List ℕ) (first : ℤ) → is_of (codes "RRULE") line ≡ false
-    → ((local : ℤ) → SaysLocal line local → (first +ℤ pos 86_399) ≤ℤ local) → ((instant : ℤ) → SaysStamp line instant → first ≤ℤ instant) → LineBeginsBy days line first
+    → ((local : ℤ) → SaysOnClock line local → (first +ℤ pos 86_399) ≤ℤ local) → ((instant : ℤ) → SaysStamp line instant → first ≤ℤ instant) → LineBeginsBy days line first
 times_begin days line first no_rule locals stamps = record {
   until = λ r local is. against (is_of (codes "RRULE") line) no_rule is;
   local_days = λ on local times s. locals local s;

@@ -7,7 +7,7 @@ use Rattle.profile.specs.events.Properties.{Length, LastsFor, is_of}
 use Rattle.profile.specs.series.Rules.{RuleText, UntilLocal}
 use Rattle.profile.specs.series.RuleTexts.{SpellsRule}
 use Rattle.profile.specs.text.Lines.{line_value, line_param}
-use Rattle.profile.specs.doors.Uses.{is_time_line, SaysLocal, SaysStamp, IsLineIn, LastsDays, RuleEndsBy, EventBeginsBy, EventEndsBy}
+use Rattle.profile.specs.doors.Uses.{is_time_line, SaysLocal, SaysOnClock, SaysStamp, IsLineIn, LastsDays, RuleEndsBy, EventBeginsBy, EventEndsBy}
 use Rattle.cal_doors.specs.declared.uses.Use.{Use}
 
 -- what the table holds under a name
@@ -65,7 +65,7 @@ pub data AddsLine {Y : Type 0} (line : List ℕ) (whole : Use) (old new : List (
 pub record LineBeginsBy (days : Bool) (line : List ℕ) (first : ℤ) : Type 0 where
   pub until : (rule : RuleText) (local : ℤ) → is_of (codes "RRULE") line ≡ true → SpellsRule (line_value line) rule
       → rule.until ≡ Some (UntilLocal local) → first ≤ℤ local
-  pub local_days : days ≡ true → (local : ℤ) → is_time_line line ≡ true → SaysLocal line local → (first +ℤ pos 86_399) ≤ℤ local
+  pub local_days : days ≡ true → (local : ℤ) → is_time_line line ≡ true → SaysOnClock line local → (first +ℤ pos 86_399) ≤ℤ local
   pub utc_days : days ≡ true → (instant : ℤ) → is_time_line line ≡ true → SaysStamp line instant → first ≤ℤ instant
 
 -- so it is with each line of a VEVENT, and days count where it lasts nominal days

@@ -1,10 +1,11 @@
 //! Which zones the times of an object name, from when on and until when.
 
-ghost use Rattle.std.specs.Prelude.{◌≡◌, ◌≤ℤ◌, ◌+ℤ◌, pos, ℕ, ℤ, true, false, Some, IfOk, IfSome, OnOk};
+ghost use Rattle.std.specs.Prelude.{◌≡◌, ◌≤ℤ◌, ◌+ℤ◌, pos, negsuc, ℕ, ℤ, true, false, Some, IfOk, IfSome, OnOk};
 ghost use Rattle.ical_lines.specs.Text.{line_text};
 ghost use Rattle.ical_tree.specs.Tree.{component_lines, tree_of};
 ghost use Rattle.profile.specs.text.Values.{SpellsDuration, SpellsLocal, SpellsStamp};
-ghost use Rattle.profile.specs.doors.Uses.{is_time_line, SaysLocal, SaysStamp, LastsDays, EventEndsBy, RuleEndsBy};
+ghost use Rattle.profile.specs.events.ZonedTimes.{SpellsMidnight};
+ghost use Rattle.profile.specs.doors.Uses.{is_time_line, SaysLocal, SaysStamp, SpellsOnClock, SaysOnClock, LastsDays, EventEndsBy, RuleEndsBy};
 ghost use Rattle.profile.specs.series.Rules as rules;
 ghost use Rattle.profile.specs.series.Rules.{UntilLocal};
 ghost use Rattle.profile.specs.series.RuleTexts.{SpellsRule};
@@ -14,6 +15,7 @@ ghost use Rattle.cal_doors.specs.Used.{AreUses, AreUsesWith, AddsLine, AllBeginB
 use cal_rules::{RuleText, Until};
 use ical_lines::{Fault, Line};
 use ical_tree::Component;
+use ical_values::date::read_date;
 use ical_values::{DAY_SECONDS, Duration, LocalTime, Stamp};
 use indexmap::IndexMap;
 use std::alloc::{AllocError, Global};
@@ -149,7 +151,7 @@ fn local_of(until: &Until) -> i64
 
 /// No local time is earlier, on whatever clock, that is shown at one of the times of a line.
 fn earliest(line: Line<'_>) -> i64
-    ensures local { (local : ℤ) → SaysLocal (line_text line.entry) local → (result +ℤ pos 86_399) ≤ℤ local }
+    ensures local { (local : ℤ) → SaysOnClock (line_text line.entry) local → (result +ℤ pos 86_399) ≤ℤ local }
     ensures utc { (instant : ℤ) → SaysStamp (line_text line.entry) instant → result ≤ℤ instant }
 {
     let mut first = i64::MAX;
@@ -161,12 +163,39 @@ fn earliest(line: Line<'_>) -> i64
 
 /// The same for the time that a text is; the greatest number where it is none.
 fn earliest_of(text: &str) -> i64
-    ensures local { (local : ℤ) → SpellsLocal text.now local → (result +ℤ pos 86_399) ≤ℤ local }
+    ensures local { (local : ℤ) → SpellsOnClock text.now local → (result +ℤ pos 86_399) ≤ℤ local }
     ensures utc { (instant : ℤ) → SpellsStamp text.now instant → result ≤ℤ instant }
 {
-    if let Ok(local) = LocalTime::read(text) {
-        return local.seconds() - LEAST_OF_DAY;
+    let local = local_in(text).min(midnight_in(text)) - LEAST_OF_DAY;
+    local.min(instant_in(text))
+}
+
+/// The local time that a text is; the greatest number where it is none.
+fn local_in(text: &str) -> i64
+    ensures value { (local : ℤ) → SpellsLocal text.now local → result ≡ local }
+    ensures range { negsuc 62_135_596_799 ≤ℤ result }
+{
+    match LocalTime::read(text) {
+        Ok(local) => local.seconds(),
+        Err(_) => i64::MAX,
     }
+}
+
+/// The local time with which the day begins that a text is; the greatest number where it is none.
+fn midnight_in(text: &str) -> i64
+    ensures value { (local : ℤ) → SpellsMidnight text.now local → result ≡ local }
+    ensures range { negsuc 62_135_596_799 ≤ℤ result }
+{
+    match read_date(text.as_bytes()) {
+        Some(day) => day.number() * DAY_SECONDS as i64,
+        None => i64::MAX,
+    }
+}
+
+/// The instant that a text is in UTC; the greatest number where it is none.
+fn instant_in(text: &str) -> i64
+    ensures { (instant : ℤ) → SpellsStamp text.now instant → result ≡ instant }
+{
     match Stamp::read(text) {
         Ok(stamp) => stamp.instant(),
         Err(_) => i64::MAX,
