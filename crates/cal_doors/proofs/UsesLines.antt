@@ -17,7 +17,7 @@ use Rattle.profile.specs.doors.Uses.RuleEndsBy.{by_day, by_local, by_instant}
 use Rattle.ical_values.proofs.Readings.{clock_same, stamp_same}
 use Rattle.ical_values.proofs.Spans.{duration_same}
 use Rattle.cal_rules.proofs.OneRule.{one_rule_read, no_fault}
-use Rattle.cal_doors.specs.Used.{LineBeginsBy, LineEndsBy, AllBeginBy}
+use Rattle.cal_doors.specs.Used.{LineBeginsBy, LineEndsBy, HasNoDays}
 use Rattle.cal_doors.proofs.UsesScans.{of_filtered}
 
 -- ---- the earlier and the later of two
@@ -123,10 +123,7 @@ begins_earlier days line later first le b = record {
   utc_days = λ on instant t s. through first later instant le (b.utc_days on instant t s);
 }
 
--- a line that is a DURATION has no days
-abbrev pub HasNoDays : List ℕ → Type 0
-HasNoDays line = is_of (codes "DURATION") line ≡ true → (days seconds : ℕ) → SpellsDuration (line_value line) days seconds → days ≡ 0
-
+-- no line has days
 pub no_days_last : (lines : List (List ℕ)) → ((line : List ℕ) → Contains lines line → HasNoDays line) → LastsDays lines → ⊥
 no_days_last lines none (line, length, there, lasts, some) =
     let f = of_filtered (is_of (codes "DURATION")) lines line there in

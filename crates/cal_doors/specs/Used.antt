@@ -7,6 +7,7 @@ use Rattle.profile.specs.events.Properties.{Length, LastsFor, is_of}
 use Rattle.profile.specs.series.Rules.{RuleText, UntilLocal}
 use Rattle.profile.specs.series.RuleTexts.{SpellsRule}
 use Rattle.profile.specs.text.Lines.{line_value, line_param}
+use Rattle.profile.specs.text.Values.{SpellsDuration}
 use Rattle.profile.specs.doors.Uses.{is_time_line, SaysLocal, SaysOnClock, SaysStamp, IsLineIn, LastsDays, RuleEndsBy, EventBeginsBy, EventEndsBy}
 use Rattle.cal_doors.specs.declared.uses.Use.{Use}
 
@@ -67,6 +68,10 @@ pub record LineBeginsBy (days : Bool) (line : List ℕ) (first : ℤ) : Type 0 w
       → rule.until ≡ Some (UntilLocal local) → first ≤ℤ local
   pub local_days : days ≡ true → (local : ℤ) → is_time_line line ≡ true → SaysOnClock line local → (first +ℤ pos 86_399) ≤ℤ local
   pub utc_days : days ≡ true → (instant : ℤ) → is_time_line line ≡ true → SaysStamp line instant → first ≤ℤ instant
+
+-- the line says no nominal days
+abbrev pub HasNoDays : List ℕ → Type 0
+HasNoDays line = is_of (codes "DURATION") line ≡ true → (days seconds : ℕ) → SpellsDuration (line_value line) days seconds → days ≡ 0
 
 -- so it is with each line of a VEVENT, and days count where it lasts nominal days
 pub record AllBeginBy (lines : List (List ℕ)) (first : ℤ) : Type 0 where

@@ -10,7 +10,7 @@ ghost use Rattle.profile.specs.series.Rules as rules;
 ghost use Rattle.profile.specs.series.Rules.{UntilLocal};
 ghost use Rattle.profile.specs.series.RuleTexts.{SpellsRule};
 ghost use Rattle.cal_rules.specs.Views.{until_of};
-ghost use Rattle.cal_doors.specs.Used.{AreUses, AreUsesWith, AddsLine, AllBeginBy, LineBeginsBy, LineEndsBy, IsWidened, EndsEarlier};
+ghost use Rattle.cal_doors.specs.Used.{AreUses, AreUsesWith, AddsLine, AllBeginBy, HasNoDays, LineBeginsBy, LineEndsBy, IsWidened, EndsEarlier};
 
 use cal_rules::{RuleText, Until};
 use ical_lines::{Fault, Line};
@@ -41,7 +41,10 @@ pub(crate) fn uses_of(alloc: Global, object: &Component) -> Result<Option<Uses>,
 {
     let mut uses = IndexMap::new(alloc);
     for child in object.children() {
-        if child.is_named("VEVENT") && !add_event(alloc, child, &mut uses)? {
+        if !child.is_named("VEVENT") {
+            continue;
+        }
+        if !add_event(alloc, child, &mut uses)? {
             return Ok(None);
         }
     }
@@ -57,7 +60,10 @@ fn add_event(alloc: Global, event: &Component, uses: &mut Uses) -> Result<bool, 
         last: event_end(alloc, event)?,
     };
     for line in event.lines() {
-        if is_time_line(line) && !add_line(alloc, line, whole, uses)? {
+        if !is_time_line(line) {
+            continue;
+        }
+        if !add_line(alloc, line, whole, uses)? {
             return Ok(false);
         }
     }
@@ -65,12 +71,7 @@ fn add_event(alloc: Global, event: &Component, uses: &mut Uses) -> Result<bool, 
 }
 
 /// Adds the zone that a line of times names, if it names one; `whole` is about all times of its VEVENT. False where a text of it is no local time.
-fn add_line(
-    alloc: Global,
-    line: Line<'_>,
-    whole: Use,
-    uses: &mut Uses,
-) -> Result<bool, AllocError>
+fn add_line(alloc: Global, line: Line<'_>, whole: Use, uses: &mut Uses) -> Result<bool, AllocError>
     ensures { IfOk result (λ all. all ≡ true → AddsLine (line_text line.entry) whole uses.old.entries uses.new.entries) }
 {
     let Some(name) = line.param("TZID") else {
@@ -106,10 +107,10 @@ fn line_first(alloc: Global, line: Line<'_>, days: bool) -> Result<i64, AllocErr
     if line.is_named("RRULE") {
         return until_local(alloc, line.value());
     }
-    if days && is_time_line(line) {
-        return Ok(earliest(line));
+    if !(days && is_time_line(line)) {
+        return Ok(i64::MAX);
     }
-    Ok(i64::MAX)
+    Ok(earliest(line))
 }
 
 /// Whether a VEVENT may last nominal days.
@@ -117,11 +118,24 @@ fn lasts_days(event: &Component) -> bool
     ensures { result ≡ false → LastsDays (component_lines event.now) → ⊥ }
 {
     for line in event.lines() {
-        if line.is_named("DURATION") && duration_end(line.value()).is_none() {
+        if has_days(line) {
             return true;
         }
     }
     false
+}
+
+/// Whether a line is a length that may have nominal days.
+fn has_days(line: Line<'_>) -> bool
+    ensures { result ≡ false → HasNoDays (line_text line.entry) }
+{
+    if !line.is_named("DURATION") {
+        return false;
+    }
+    match duration_end(line.value()) {
+        Some(_) => false,
+        None => true,
+    }
 }
 
 /// The local time of UNTIL; the greatest number where it is none.

@@ -1,10 +1,10 @@
-use Rattle.std.proofs.Common.{◌≡◌, ◌∙◌, ◌==◌, ap, arith, sym, subst, ℕ, List, ℤ, ◌≤ℤ◌}
-use Rattle.std.proofs.lemmas.Int.{ints}
+use Rattle.std.proofs.Common.{◌≡◌, ◌==◌, ap, arith, sym, rules, to_z, of_z, w64, to_z-of_z}
+use Rattle.jiff_core.proofs.SignedLemmas.{signed_arith}
 use Rattle.std.specs.List.{slice_split}
 use Rattle.ical_lines.specs.Text.{line_text}
 use Rattle.cal_rules.proofs.Cuts.{all_left, cut_more, cut_done}
 use Rattle.cal_doors.proofs.UsesScans.{none_scanned, one_scanned, all_scanned}
-use Rattle.cal_doors.proofs.UsesLines.{least_of, most_of, through, one_local}
+use Rattle.cal_doors.proofs.UsesLines.{one_local}
 use Rattle.cal_doors.proofs.uses.earliest.Goals as goal
 
 pub loop-text-init : goal.loop-text-init
@@ -20,13 +20,17 @@ loop-text-preserved c =
     let i = c.loop-text.invariant in
     let text = c.in-Some.text.now in
     let more = cut_more c.loop-text.text-iterator c.next.new.self c.in-Some.text i.0 i.1 c.in-Some.ensures.steps in
-    let m = c.min.result in
-    let least = least_of c.loop-text.first c.earliest_of.result m c.min.ensures.value in (
+    let new : to_z w64 (of_z w64 c.min-first.result) ≡ c.min-first.result = to_z-of_z {w = w64} (record { sfits = c.min-first.type_inv }) in
+    let said : to_z w64 (of_z w64 c.earliest_of.result) ≡ c.earliest_of.result = to_z-of_z {w = w64} (record { sfits = c.earliest_of.type_inv }) in
+    let own = c.min-first.ensures.self_bound in
+    let its = c.min-first.ensures.other_bound in (
       more.0,
       more.2,
       one_scanned _ _ _ i.0 more.0 text more.1
-      (λ y still. (λ local s. let k = still.0 local s in let le = least.0 in omega (arith, ints, le, k), λ instant s. through m c.loop-text.first instant least.0 (still.1 instant s)))
-      (λ local s. let k = c.earliest_of.ensures.local local s in let le = least.1 in omega (arith, ints, le, k), λ instant s. through m c.earliest_of.result instant least.1 (c.earliest_of.ensures.utc instant s)) i.2,
+          (λ y still. (λ local s. let k = still.0 local s in omega (arith, signed_arith, new, own, k), λ instant s. let k = still.1 instant s in omega (arith, signed_arith, new, own, k))) (
+            λ local s. let k = c.earliest_of.ensures.local local s in omega (arith, signed_arith, new, said, its, k),
+            λ instant s. let k = c.earliest_of.ensures.utc instant s in omega (arith, signed_arith, new, said, its, k),
+          ) i.2,
     )
 
 pub returns-clause-local : goal.returns-clause-local

@@ -1,9 +1,10 @@
-use Rattle.std.proofs.Common.{◌≡◌, ◌∙◌, ◌==◌, ap, arith, sym, subst, ℕ, List, ℤ, ◌≤ℤ◌}
+use Rattle.std.proofs.Common.{◌≡◌, ◌==◌, ap, arith, sym, rules, to_z, of_z, w64, to_z-of_z}
+use Rattle.jiff_core.proofs.SignedLemmas.{signed_arith}
 use Rattle.std.specs.List.{slice_split}
 use Rattle.ical_lines.specs.Text.{line_text}
 use Rattle.cal_rules.proofs.Cuts.{all_left, cut_more, cut_done}
 use Rattle.cal_doors.proofs.UsesScans.{none_scanned, one_scanned, all_scanned}
-use Rattle.cal_doors.proofs.UsesLines.{least_of, most_of, through, one_local}
+use Rattle.cal_doors.proofs.UsesLines.{one_local}
 use Rattle.cal_doors.proofs.uses.first_local.Goals as goal
 
 pub loop-text-init : goal.loop-text-init
@@ -19,12 +20,12 @@ loop-text-preserved c =
     let i = c.loop-text.invariant in
     let text = c.in-Some.text.now in
     let more = cut_more c.loop-text.text-iterator c.next.new.self c.in-Some.text i.0 i.1 c.in-Some.ensures.steps in
-    let least = least_of c.loop-text.first c.seconds.result c.min.result c.min.ensures.value in
-    let here : c.seconds.result ≡ c.in-Ok.local = c.seconds.ensures.value in (
+    let new : to_z w64 (of_z w64 c.min-first.result) ≡ c.min-first.result = to_z-of_z {w = w64} (record { sfits = c.min-first.type_inv }) in
+    let said : to_z w64 (of_z w64 c.seconds.result) ≡ c.seconds.result = to_z-of_z {w = w64} (record { sfits = c.seconds.type_inv }) in (
       more.0,
       more.2,
-      one_scanned _ _ _ i.0 more.0 text more.1 (λ y still local s. through c.min.result c.loop-text.first local least.0 (still local s))
-      (λ local s. subst (λ x. c.min.result ≤ℤ x) (here ∙ one_local text c.in-Ok.local local c.in-Ok.ensures.reads s) least.1) i.2,
+      one_scanned _ _ _ i.0 more.0 text more.1 (λ y still local s. let k = still local s in omega (arith, signed_arith, new, c.min-first.ensures.self_bound, k))
+          (λ local s. let e = one_local text c.in-Ok.local local c.in-Ok.ensures.reads s in omega (arith, signed_arith, new, said, c.min-first.ensures.other_bound, c.seconds.ensures.value, e)) i.2,
     )
 
 pub returns : goal.returns

@@ -2,7 +2,7 @@ use Rattle.std.proofs.Common.{ℕ, List}
 use Rattle.ical_tree.specs.Runs.{lines_left}
 use Rattle.ical_tree.specs.Tree.{component_lines}
 use Rattle.cal_doors.proofs.UsesScans.{Scanned}
-use Rattle.cal_doors.proofs.UsesLines.{HasNoDays}
+use Rattle.cal_doors.specs.Used.{HasNoDays}
 use Rattle.cal_doors.proofs.uses.lasts_days.Given as goal
 
 -- the lines so far say no nominal days
