@@ -1,35 +1,35 @@
-use Rattle.std.proofs.Common.{◌≡◌, arith, rules, pos, ◌-ℤ◌, to_z, of_z, w64, FitsSigned, to_z-of_z}
-use Rattle.std.proofs.lemmas.Int.{ints}
-use Rattle.cal_doors.proofs.UsesLines.{one_local, not_both}
-use Rattle.ical_values.proofs.Readings.{stamp_same}
+use Rattle.std.proofs.Common.{◌≡◌, inl, inr, arith, ℤ, pos, negsuc, ◌-ℤ◌, ◌≤ℤ◌, to_z, of_z, w64, FitsSigned, to_z-of_z}
+use Rattle.std.proofs.lemmas.Int.{ints, clamps}
+use Rattle.jiff_core.proofs.SignedLemmas.{signed_arith}
 use Rattle.cal_doors.proofs.uses.earliest_of.Goals as goal
 
-pub returns-in-Ok-clause-local : goal.returns-in-Ok-clause-local
-returns-in-Ok-clause-local c = λ local s.
-    let n = c.seconds.result in
-    let fits : FitsSigned w64 n = search rules in
-    let cast : to_z w64 (of_z w64 n) ≡ n = to_z-of_z fits in
-    let fits_less : FitsSigned w64 (n -ℤ pos 86399) = search rules in
-    let cast_less : to_z w64 (of_z w64 (n -ℤ pos 86399)) ≡ n -ℤ pos 86399 = to_z-of_z fits_less in
-    let e = one_local c.args.text.now c.in-Ok.local local c.in-Ok.ensures.reads s in
-    rw (cast, cast_less) (omega (arith, ints, e, c.seconds.ensures.value))
+pub returns-clause-local : goal.returns-clause-local
+returns-clause-local c = λ local s.
+    let own = c.local_in.ensures.value local in
+    let midnight = c.midnight_in.ensures.value local in
+    let one : to_z w64 (of_z w64 c.local_in.result) ≡ c.local_in.result = to_z-of_z {w = w64} (record { sfits = c.local_in.type_inv }) in
+    let other : to_z w64 (of_z w64 c.midnight_in.result) ≡ c.midnight_in.result = to_z-of_z {w = w64} (record { sfits = c.midnight_in.type_inv }) in
+    let both : to_z w64 (of_z w64 c.min-local.result) ≡ c.min-local.result = to_z-of_z {w = w64} (record { sfits = c.min-local.type_inv }) in
+    let least : to_z w64 (of_z w64 c.min.result) ≡ c.min.result = to_z-of_z {w = w64} (record { sfits = c.min.type_inv }) in
+    let value = c.min-local.ensures.value in
+    let first = c.min-local.ensures.self_bound in
+    let second = c.min-local.ensures.other_bound in
+    let low = c.local_in.ensures.range in
+    let low_midnight = c.midnight_in.ensures.range in
+    let from : negsuc 62_135_596_799 ≤ℤ c.min-local.result = omega (arith, ints, clamps, value, one, other, low, low_midnight) in
+    let kept = c.min-local.type_inv in
+    let fits : FitsSigned w64 (to_z w64 (of_z w64 c.min-local.result) -ℤ pos 86_399) = rw both (record { sfits = omega (arith, signed_arith, from, kept) }) in
+    let less = to_z-of_z fits in
+    let bound = c.min.ensures.self_bound in
+    elim s [
+      | inl l ↦ let e = own l in rw least (omega (arith, ints, e, one, both, less, first, bound))
+      | inr d ↦ let e = midnight d in rw least (omega (arith, ints, e, other, both, less, second, bound))
+    ]
 
-pub returns-in-Ok-clause-utc : goal.returns-in-Ok-clause-utc
-returns-in-Ok-clause-utc c = λ instant s. not_both c.args.text.now c.in-Ok.local instant c.in-Ok.ensures.reads s
-
-pub returns-in-Ok-read-clause-local : goal.returns-in-Ok-read-clause-local
-returns-in-Ok-read-clause-local c = λ local s. absurd (c.in_default.ensures.none local s)
-
-pub returns-in-Ok-read-clause-utc : goal.returns-in-Ok-read-clause-utc
-returns-in-Ok-read-clause-utc c = λ instant s.
-    let n = c.instant.result in
-    let fits : FitsSigned w64 n = search rules in
-    let cast : to_z w64 (of_z w64 n) ≡ n = to_z-of_z fits in
-    let e = stamp_same c.args.text.now c.in-Ok-read.stamp instant c.in-Ok-read.ensures.reads s in
-    rw cast (omega (arith, ints, e, c.instant.ensures.value))
-
-pub returns-in-Err-clause-local : goal.returns-in-Err-clause-local
-returns-in-Err-clause-local c = λ local s. absurd (c.in_default.ensures.none local s)
-
-pub returns-in-Err-clause-utc : goal.returns-in-Err-clause-utc
-returns-in-Err-clause-utc c = λ instant s. absurd (c.in-Err.ensures.none instant s)
+pub returns-clause-utc : goal.returns-clause-utc
+returns-clause-utc c = λ instant s.
+    let i = c.instant_in.ensures instant s in
+    let said : to_z w64 (of_z w64 c.instant_in.result) ≡ c.instant_in.result = to_z-of_z {w = w64} (record { sfits = c.instant_in.type_inv }) in
+    let least : to_z w64 (of_z w64 c.min.result) ≡ c.min.result = to_z-of_z {w = w64} (record { sfits = c.min.type_inv }) in
+    let bound = c.min.ensures.other_bound in
+    rw least (omega (arith, ints, i, said, bound))
