@@ -220,7 +220,7 @@ fn widen(alloc: Global, uses: &mut Uses, name: &str, more: Use) -> Result<(), Al
 /// A use that is about the local times of both.
 fn wider(earlier: Option<&Use>, more: Use) -> Use
     ensures more { IsAsWide more result }
-    ensures earlier { (u : Use) → option_copied earlier ≡ Some u → IsAsWide u result }
+    ensures earlier { (u : Use) → option_copied earlier.entry ≡ Some u → IsAsWide u result }
 {
     let Some(earlier) = earlier else {
         return more;

@@ -14,13 +14,13 @@ pub loop-line-preserved : goal.loop-line-preserved
 loop-line-preserved c =
     let new : to_z w64 (of_z w64 c.min-first.result) ≡ c.min-first.result = to_z-of_z {w = w64} (record { sfits = c.min-first.type_inv }) in
     let said : to_z w64 (of_z w64 c.in_ok-line_first.field-0) ≡ c.in_ok-line_first.field-0 = to_z-of_z {w = w64} (search rules) in
-    one_scanned _ _ _ _ _ (line_text c.in-Some.line) c.in-Some.ensures
-    (λ line b. begins_earlier c.lasts_days.result line _ _ (omega (arith, signed_arith, new, c.min-first.ensures.self_bound)) b)
-    (begins_earlier c.lasts_days.result (line_text c.in-Some.line) c.in_ok-line_first.field-0 _ (omega (arith, signed_arith, new, said, c.min-first.ensures.other_bound)) c.in_ok-line_first.ensures) c.loop-line.invariant
+    one_scanned _ _ _ _ _ (line_text c.in-Some.line) c.in-Some.ensures.steps
+    (λ line b. begins_earlier c.lasts_days-days.result line _ _ (omega (arith, signed_arith, new, c.min-first.ensures.self_bound)) b)
+    (begins_earlier c.lasts_days-days.result (line_text c.in-Some.line) c.in_ok-line_first.field-0 _ (omega (arith, signed_arith, new, said, c.min-first.ensures.other_bound)) c.in_ok-line_first.ensures) c.loop-line.invariant
 
 pub returns : goal.returns
 returns c = record {
-  days = c.lasts_days.result;
-  no_days = c.lasts_days.ensures;
-  each = all_scanned _ _ _ c.in-None.ensures c.loop-line.invariant;
+  days = c.lasts_days-days.result;
+  no_days = c.lasts_days-days.ensures;
+  each = all_scanned _ _ _ c.in-None.ensures.steps.0 c.loop-line.invariant;
 }
