@@ -1,6 +1,7 @@
 use Rattle.std.proofs.Common.{◌≡◌, ◌∙◌, ◌++◌, [], ◌∷◌, ap, sym, subst, rules, ℤ, to_z, of_z, w64, FitsSigned, to_z-of_z}
 use Rattle.std.specs.Prelude.{Option, IfSome}
 use Rattle.profile.specs.doors.Uses.{EventEndsBy}
+use Rattle.cal_doors.specs.declared.uses.Use.{Use}
 use Rattle.cal_doors.specs.Used.{AllBeginBy}
 use Rattle.ical_lines.specs.Text.{line_text}
 use Rattle.ical_tree.specs.Runs.{lines_left}
@@ -38,6 +39,7 @@ returns c = λ _.
     let fits : FitsSigned w64 first = search rules in
     let cast : to_z w64 (of_z w64 first) ≡ first = to_z-of_z fits in
     let all = i.1 ∙ ap (λ l. i.0 ++ l) c.in-None.ensures.steps.0 ∙ all_done i.0 in
-    event_added _ _ _ lines (subst (AllBeginBy lines) (sym cast) c.in_ok-event_first.ensures)
+    let whole : Use = record { first = to_z w64 (of_z w64 first); last = c.in_ok-event_end.field-0 } in
+    event_added whole _ _ lines (subst (AllBeginBy lines) (sym cast) c.in_ok-event_first.ensures)
     (λ end is. subst (λ (o : Option ℤ). IfSome o (EventEndsBy lines)) is c.in_ok-event_end.ensures)
-    (subst (λ done. AreAdded _ c.args.uses.now.entries done c.loop-line.uses.entries) (sym all) i.2)
+    (subst (λ done. AreAdded whole c.args.uses.now.entries done c.loop-line.uses.entries) (sym all) i.2)
