@@ -149,9 +149,9 @@ module _ {Y : Type 0} where
   passed whole old now done line none a = record {
     kept = a.kept;
     there = λ name l h times zone. elim (Contains-push_cases done line l h) [
-        inl earlier ↦ a.there name l earlier times zone
+      | inl earlier ↦ a.there name l earlier times zone
       | inr same ↦ absurd (none name (subst (λ x. is_time_line x ≡ true) (sym same) times) (subst (λ x. line_param (codes "TZID") x ≡ Some name) (sym same) zone))
-      ];
+    ];
     no_more = λ name u h. elim (a.no_more name u h) [ inl v ↦ inl v | inr l ↦ inr (l.0, Contains-append_left done (line ∷ []) l.0 l.1, l.2, l.3) ];
   }
 
@@ -169,27 +169,30 @@ module _ {Y : Type 0} where
         let n = w.kept other k.0 k.1 in
         (n.0, n.1, as_wide_through u k.0 n.0 k.2 n.2);
     there = λ other l h is in_zone. elim (Contains-push_cases done line l h) [
-        inl earlier ↦
+      | inl earlier ↦
           let k = a.there other l earlier is in_zone in
           let n = w.kept other k.0 k.1 in
           (n.0, n.1, as_wide_through whole k.0 n.0 k.2 n.2, λ local s. through n.0.first k.0.first local n.2.first (k.3 local s))
       | inr same ↦
           let t = w.there in
-          let named : name ≡ other = same_Some name other (sym zone ∙ subst (λ x. line_param (codes "TZID") x ≡ Some other) (sym same) in_zone) in
-          (t.0, subst (λ n. held n next ≡ Some t.0) named t.1, as_wide_through whole more t.0 wide t.2,
-            λ local s. through t.0.first more.first local t.2.first (locals local (subst (λ x. SaysLocal x local) (sym same) s)))
-      ];
+          let named : name ≡ other = same_Some name other (sym zone ∙ subst (λ x. line_param (codes "TZID") x ≡ Some other) (sym same) in_zone) in (
+            t.0,
+            subst (λ n. held n next ≡ Some t.0) named t.1,
+            as_wide_through whole more t.0 wide t.2,
+            λ local s. through t.0.first more.first local t.2.first (locals local (subst (λ x. SaysLocal x local) (sym same) s)),
+          )
+    ];
     no_more = λ other u h. elim (w.no_more other u h) [
-        inl same ↦ inr (line, Contains-push done line, times, subst (λ n. line_param (codes "TZID") line ≡ Some n) (sym same) zone)
+      | inl same ↦ inr (line, Contains-push done line, times, subst (λ n. line_param (codes "TZID") line ≡ Some n) (sym same) zone)
       | inr narrow ↦ elim (a.no_more other narrow.0 narrow.1) [ inl v ↦ inl v | inr l ↦ inr (l.0, Contains-append_left done (line ∷ []) l.0 l.1, l.2, l.3) ]
-      ];
+    ];
   }
 
   pub event_added : (whole : Use) (old now : List (String Y × Use)) (lines : List (List ℕ)) → AllBeginBy lines whole.first
       → ((end : ℤ) → whole.last ≡ Some end → EventEndsBy lines end) → AreAdded whole old lines now → AreUsesWith lines old now
   event_added whole old now lines begins ends a = λ events u. record {
     covered = λ name ls line h is. elim (Contains-push_cases events lines ls h) [
-        inl earlier ↦
+      | inl earlier ↦
           let c = u.covered name ls line earlier is in
           let k = a.kept name c.0 c.1 in
           (k.0, k.1, wide_enough c.0 k.0 name ls k.2 c.2)
@@ -197,11 +200,11 @@ module _ {Y : Type 0} where
           let here : IsLineIn name lines line = subst (λ x. IsLineIn name x line) (sym same) is in
           let t = a.there name line here.among here.says_times here.in_zone in
           (t.0, t.1, subst (λ x. Covers name x t.0) same (covered whole t.0 name lines begins ends t.2 (each name t.0 t.1)))
-      ];
+    ];
     named = λ name w h. elim (a.no_more name w h) [
-        inl v ↦ let n = u.named name v.0 v.1 in (n.0, n.1, Contains-append_left events (lines ∷ []) n.0 n.2, n.3)
+      | inl v ↦ let n = u.named name v.0 v.1 in (n.0, n.1, Contains-append_left events (lines ∷ []) n.0 n.2, n.3)
       | inr l ↦ (lines, l.0, Contains-push events lines, record { among = l.1; says_times = l.2; in_zone = l.3 })
-      ];
+    ];
   }
     where
       each : (name : List ℕ) (w : Use) → held name now ≡ Some w → (line : List ℕ) (local : ℤ) → IsLineIn name lines line → SaysLocal line local → w.first ≤ℤ local

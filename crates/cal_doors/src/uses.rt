@@ -70,12 +70,7 @@ fn add_event(alloc: Global, event: &Component, uses: &mut Uses) -> Result<bool, 
 }
 
 /// Adds the zone that a line of times names, if it names one; `whole` is about all times of its VEVENT. False where a text of it is no local time.
-fn add_line(
-    alloc: Global,
-    line: Line<'_>,
-    whole: Use,
-    uses: &mut Uses,
-) -> Result<bool, AllocError>
+fn add_line(alloc: Global, line: Line<'_>, whole: Use, uses: &mut Uses) -> Result<bool, AllocError>
     ensures { IfOk result (λ all. all ≡ true → AddsLine (line_text line.entry) whole uses.old.entries uses.new.entries) }
 {
     let Some(name) = line.param("TZID") else {

@@ -27,11 +27,10 @@ loop-text-preserved c =
       more.0,
       more.2,
       one_scanned _ _ _ i.0 more.0 text more.1
-      (λ y still. (λ local s. let k = still.0 local s in omega (arith, signed_arith, new, own, k), λ instant s. let k = still.1 instant s in omega (arith, signed_arith, new, own, k)))
-      (
-        λ local s. let k = c.earliest_of.ensures.local local s in omega (arith, signed_arith, new, said, its, k),
-        λ instant s. let k = c.earliest_of.ensures.utc instant s in omega (arith, signed_arith, new, said, its, k),
-      ) i.2,
+          (λ y still. (λ local s. let k = still.0 local s in omega (arith, signed_arith, new, own, k), λ instant s. let k = still.1 instant s in omega (arith, signed_arith, new, own, k))) (
+            λ local s. let k = c.earliest_of.ensures.local local s in omega (arith, signed_arith, new, said, its, k),
+            λ instant s. let k = c.earliest_of.ensures.utc instant s in omega (arith, signed_arith, new, said, its, k),
+          ) i.2,
     )
 
 pub returns-clause-local : goal.returns-clause-local

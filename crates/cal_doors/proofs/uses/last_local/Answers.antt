@@ -25,7 +25,7 @@ loop-text-preserved-in-Ok c =
       more.0,
       more.2,
       one_scanned _ _ _ i.0 more.0 text more.1 (λ y still local s. let k = still local s in omega (arith, signed_arith, new, c.max-last.ensures.self_bound, k))
-      (λ local s. let e = one_local text c.in-Ok.local local c.in-Ok.ensures.reads s in omega (arith, signed_arith, new, said, c.max-last.ensures.other_bound, c.seconds.ensures.value, e)) i.2,
+          (λ local s. let e = one_local text c.in-Ok.local local c.in-Ok.ensures.reads s in omega (arith, signed_arith, new, said, c.max-last.ensures.other_bound, c.seconds.ensures.value, e)) i.2,
     )
 
 pub loop-text-preserved : goal.loop-text-preserved

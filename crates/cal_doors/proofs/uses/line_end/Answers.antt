@@ -11,13 +11,13 @@ pub returns-then-is_named : goal.returns-then-is_named
 returns-then-is_named c =
     if_ok _ (λ (o : Option ℤ). IfSome o (LineEndsBy (line_text c.args.line))) c.rule_end.result
     (λ o says. if_some _ (LineEndsBy (line_text c.args.line)) o
-      (λ last e. rule_ends (line_text c.args.line) last (sym c.is_named.ensures ∙ c.if-is_named.true) (e.0, subst (λ v. SpellsRule v e.0) c.value.ensures e.1, e.2)) says) c.rule_end.ensures
+    (λ last e. rule_ends (line_text c.args.line) last (sym c.is_named.ensures ∙ c.if-is_named.true) (e.0, subst (λ v. SpellsRule v e.0) c.value.ensures e.1, e.2)) says) c.rule_end.ensures
 
 pub returns-then-is_named-2 : goal.returns-then-is_named-2
 returns-then-is_named-2 c =
     if_some _ (LineEndsBy (line_text c.args.line)) c.duration_end.result
     (λ last none. duration_ends (line_text c.args.line) last (sym c.is_named-2.ensures ∙ c.if-is_named-2.true)
-      (λ days seconds s. none days seconds (subst (λ v. SpellsDuration v days seconds) (sym c.value-then-is_named-2.ensures) s))) c.duration_end.ensures
+    (λ days seconds s. none days seconds (subst (λ v. SpellsDuration v days seconds) (sym c.value-then-is_named-2.ensures) s))) c.duration_end.ensures
 
 pub returns-then-is_time_line : goal.returns-then-is_time_line
 returns-then-is_time_line c =
