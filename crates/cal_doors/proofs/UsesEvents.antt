@@ -1,6 +1,7 @@
 -- The lines of the VEVENTs among components.
 use Rattle.std.proofs.Common.{◌≡◌, ◌∙◌, ℕ, ◌+◌, ◌<◌, ◌≤◌, Bool, true, false, cond, List, [], ◌∷◌, ◌++◌, map, filter, take, length, get_or, codes, sym, refl, ap, subst}
-use Rattle.std.proofs.lemmas.List.{map-append}
+use Rattle.std.proofs.lemmas.List.{map-append, take_all}
+use Rattle.std.proofs.lemmas.List.{take_more}
 use Rattle.std.proofs.lemmas.List.Elements.{filter-append}
 use Rattle.profile.specs.text.Lines.{is_same_name}
 use Rattle.profile.specs.text.Trees.{Tree, tree_name, tree_own, tree_inside, vevents}
@@ -45,3 +46,22 @@ among (c ∷ cs) =
 pub events_are : (object : Component) → vevents (tree_of object) ≡ lines_of_events (component_children object)
 events_are object =
     ap (λ ts. map tree_own (filter (λ part. is_same_name (tree_name part) (codes "VEVENT")) ts)) (tree_of-inside object) ∙ among (component_children object)
+
+-- ---- one more of a list
+
+taken : (items cs : List Component) (i : ℕ) (c : Component) → items ≡ cs → i < length items → c ≡ get_or items i c → take (i + 1) cs ≡ take i cs ++ c ∷ []
+taken items cs i c same lt at =
+    subst (λ l. take (i + 1) l ≡ take i l ++ c ∷ []) same (take_more items i c lt ∙ ap (λ x. take i items ++ x ∷ []) (sym at))
+
+pub event_there : (items cs : List Component) (i : ℕ) (c : Component) → items ≡ cs → i < length items → c ≡ get_or items i c → is_event c ≡ true
+    → lines_of_events (take (i + 1) cs) ≡ lines_of_events (take i cs) ++ component_lines c ∷ []
+event_there items cs i c same lt at is = ap lines_of_events (taken items cs i c same lt at) ∙ event_more (take i cs) c is
+
+pub other_there : (items cs : List Component) (i : ℕ) (c : Component) → items ≡ cs → i < length items → c ≡ get_or items i c → is_event c ≡ false
+    → lines_of_events (take (i + 1) cs) ≡ lines_of_events (take i cs)
+other_there items cs i c same lt at is = ap lines_of_events (taken items cs i c same lt at) ∙ other_more (take i cs) c is
+
+pub all_there : (items : List Component) (object : Component) (i : ℕ) → items ≡ component_children object → length items ≤ i
+    → lines_of_events (take i (component_children object)) ≡ vevents (tree_of object)
+all_there items object i same past =
+    ap lines_of_events (subst (λ l. take i l ≡ l) same (take_all i items past)) ∙ sym (events_are object)

@@ -6,11 +6,11 @@ use Rattle.std.proofs.lemmas.List.Elements.{Contains-push_cases, All-contains, A
 pub none_in : {X : Type 0} (x : X) → Contains [] x → ⊥
 none_in x (k, w, e) = omega (arith, w)
 
-moved : {X : Type 0} (done : List X) (x : X) (rest : List X) → done ++ x ∷ rest ≡ (done ++ x ∷ []) ++ rest
+pub moved : {X : Type 0} (done : List X) (x : X) (rest : List X) → done ++ x ∷ rest ≡ (done ++ x ∷ []) ++ rest
 moved [] x rest = refl
 moved (d ∷ done) x rest = ap (λ l. d ∷ l) (moved done x rest)
 
-all_done : {X : Type 0} (done : List X) → done ++ [] ≡ done
+pub all_done : {X : Type 0} (done : List X) → done ++ [] ≡ done
 all_done [] = refl
 all_done (d ∷ done) = ap (λ l. d ∷ l) (all_done done)
 

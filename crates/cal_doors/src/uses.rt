@@ -1,6 +1,6 @@
 //! Which zones the times of an object name, from when on and until when.
 
-ghost use Rattle.std.specs.Prelude.{◌≡◌, ◌≤ℤ◌, ◌+ℤ◌, pos, negsuc, ℕ, ℤ, true, false, Some, IfOk, IfSome, OnOk};
+ghost use Rattle.std.specs.Prelude.{◌≡◌, ◌≤ℤ◌, ◌+ℤ◌, pos, negsuc, ℕ, ℤ, true, false, Some, option_copied, IfOk, IfSome, OnOk};
 ghost use Rattle.ical_lines.specs.Text.{line_text};
 ghost use Rattle.ical_tree.specs.Tree.{component_lines, tree_of};
 ghost use Rattle.profile.specs.text.Values.{SpellsDuration, SpellsLocal, SpellsStamp};
@@ -10,7 +10,8 @@ ghost use Rattle.profile.specs.series.Rules as rules;
 ghost use Rattle.profile.specs.series.Rules.{UntilLocal};
 ghost use Rattle.profile.specs.series.RuleTexts.{SpellsRule};
 ghost use Rattle.cal_rules.specs.Views.{until_of};
-ghost use Rattle.cal_doors.specs.Used.{AreUses, AreUsesWith, AddsLine, AllBeginBy, HasNoDays, LineBeginsBy, LineEndsBy, IsWidened, EndsEarlier};
+ghost use Rattle.cal_doors.specs.Used.{AreUses, AreUsesWith, AddsLine, AllBeginBy, HasNoDays, LineBeginsBy, LineEndsBy, IsAsWide, IsWidened, EndsEarlier};
+ghost use Rattle.cal_doors.specs.declared.uses.Use.{Use};
 
 use cal_rules::{RuleText, Until};
 use ical_lines::{Fault, Line};
@@ -234,16 +235,24 @@ fn first_local(line: Line<'_>) -> Option<i64>
 fn widen(alloc: Global, uses: &mut Uses, name: &str, more: Use) -> Result<(), AllocError>
     ensures { OnOk result (IsWidened name.now more uses.old.entries uses.new.entries) }
 {
-    let both = match uses.get(name) {
-        None => more,
-        Some(earlier) => Use {
-            first: earlier.first.min(more.first),
-            last: later(earlier.last, more.last),
-        },
-    };
+    let both = wider(uses.get(name), more);
     let name = String::from_str(alloc, name)?;
     uses.insert(name, both)?;
     Ok(())
+}
+
+/// A use that is about the local times of both.
+fn wider(earlier: Option<&Use>, more: Use) -> Use
+    ensures more { IsAsWide more result }
+    ensures earlier { (u : Use) → option_copied earlier.entry ≡ Some u → IsAsWide u result }
+{
+    let Some(earlier) = earlier else {
+        return more;
+    };
+    Use {
+        first: earlier.first.min(more.first),
+        last: later(earlier.last, more.last),
+    }
 }
 
 /// The later of two ends. None where one of them is none.

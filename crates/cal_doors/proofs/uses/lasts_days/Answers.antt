@@ -11,7 +11,7 @@ loop-line-init c = none_scanned _ _ _ (sym c.lines-line-items.ensures ∙ ap lin
 
 pub loop-line-preserved : goal.loop-line-preserved
 loop-line-preserved c =
-    one_scanned _ _ _ _ _ (line_text c.in-Some.line) c.in-Some.ensures (λ line b. b) (c.has_days.ensures c.if-has_days.false) c.loop-line.invariant
+    one_scanned _ _ _ _ _ (line_text c.in-Some.line) c.in-Some.ensures.steps (λ line b. b) (c.has_days.ensures c.if-has_days.false) c.loop-line.invariant
 
 pub returns : goal.returns
-returns c = λ _. no_days_last (component_lines c.args.event.now) (all_scanned _ _ _ c.in-None.ensures c.loop-line.invariant)
+returns c = λ _. no_days_last (component_lines c.args.event.now) (all_scanned _ _ _ c.in-None.ensures.steps.0 c.loop-line.invariant)

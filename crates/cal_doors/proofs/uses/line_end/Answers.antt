@@ -1,4 +1,4 @@
-use Rattle.std.proofs.Common.{◌∙◌, sym, subst, codes, ℤ}
+use Rattle.std.proofs.Common.{◌≡◌, ◌∙◌, sym, subst, ℤ, to_z, of_z, w64, to_z-of_z}
 use Rattle.std.specs.Prelude.{Option, IfSome}
 use Rattle.ical_lines.specs.Text.{line_text}
 use Rattle.profile.specs.series.RuleTexts.{SpellsRule}
@@ -17,11 +17,12 @@ pub returns-then-is_named-2 : goal.returns-then-is_named-2
 returns-then-is_named-2 c =
     if_some _ (LineEndsBy (line_text c.args.line)) c.duration_end.result
     (λ last none. duration_ends (line_text c.args.line) last (sym c.is_named-2.ensures ∙ c.if-is_named-2.true)
-    (λ days seconds s. none days seconds (subst (λ v. SpellsDuration v days seconds) (sym c.value.ensures) s))) c.duration_end.ensures
+    (λ days seconds s. none days seconds (subst (λ v. SpellsDuration v days seconds) (sym c.value-then-is_named-2.ensures) s))) c.duration_end.ensures
 
 pub returns-then-is_time_line : goal.returns-then-is_time_line
 returns-then-is_time_line c =
-    times_end (line_text c.args.line) c.last_local.result (sym c.is_named.ensures ∙ c.if-is_named.false) (sym c.is_named-2.ensures ∙ c.if-is_named-2.false) c.last_local.ensures
+    let cast : to_z w64 (of_z w64 c.last_local.result) ≡ c.last_local.result = to_z-of_z {w = w64} (record { sfits = c.last_local.type_inv }) in
+    rw cast (times_end (line_text c.args.line) c.last_local.result (sym c.is_named.ensures ∙ c.if-is_named.false) (sym c.is_named-2.ensures ∙ c.if-is_named-2.false) c.last_local.ensures)
 
 pub returns : goal.returns
 returns c =
