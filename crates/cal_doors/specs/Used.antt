@@ -7,7 +7,7 @@ use Rattle.profile.specs.events.Properties.{Length, LastsFor, is_of}
 use Rattle.profile.specs.series.Rules.{RuleText}
 use Rattle.profile.specs.series.RuleTexts.{SpellsRule}
 use Rattle.profile.specs.text.Lines.{line_value}
-use Rattle.profile.specs.doors.Uses.{is_time_line, SaysLocal, IsLineIn, RuleEndsBy, EventEndsBy}
+use Rattle.profile.specs.doors.Uses.{is_time_line, SaysLocal, IsLineIn, RuleEndsBy, EventBeginsBy, EventEndsBy}
 use Rattle.cal_doors.specs.declared.uses.Use.{Use}
 use Rattle.std.specs.Prelude.{true}
 
@@ -15,15 +15,15 @@ use Rattle.std.specs.Prelude.{true}
 abbrev pub held : {Y A : Type 0} → List ℕ → List (String Y × A) → Option A
 held name entries = lookup (λ key. bytes_eq name (string_bytes key)) entries
 
--- a use is about the local times of a line of a VEVENT, and of the VEVENT
-pub record Covers (lines : List (List ℕ)) (line : List ℕ) (u : Use) : Type 0 where
-  pub from_first : (local : ℤ) → SaysLocal line local → u.first ≤ℤ local
+-- a use is about what a VEVENT says in the zone of a name
+pub record Covers (name : List ℕ) (lines : List (List ℕ)) (u : Use) : Type 0 where
+  pub from_first : EventBeginsBy name lines u.first
   pub to_last : (end : ℤ) → u.last ≡ Some end → EventEndsBy lines end
 
--- of each zone that these VEVENTs name there is a use that is about all lines in it, and of no other zone
+-- of each zone that these VEVENTs name there is a use that is about all of them that name it, and of no other zone
 pub record AreUsesOf {Y : Type 0} (events : List (List (List ℕ))) (entries : List (String Y × Use)) : Type 0 where
   pub covered : (name : List ℕ) (lines : List (List ℕ)) (line : List ℕ) → Contains events lines → IsLineIn name lines line
-      → (u : Use) × (held name entries ≡ Some u) × Covers lines line u
+      → (u : Use) × (held name entries ≡ Some u) × Covers name lines u
   pub named : (name : List ℕ) (u : Use) → held name entries ≡ Some u
       → (lines : List (List ℕ)) × (line : List ℕ) × Contains events lines × IsLineIn name lines line
 

@@ -12,14 +12,17 @@ ghost use Rattle.cal_doors.specs.Used.{AreUses, AreUsesWith, LineEndsBy};
 use cal_rules::{RuleText, Until};
 use ical_lines::{Fault, Line};
 use ical_tree::Component;
-use ical_values::{DAY_SECONDS, Duration, LocalTime};
+use ical_values::{DAY_SECONDS, Duration, LocalTime, Stamp};
 use indexmap::IndexMap;
 use std::alloc::{AllocError, Global};
+
+/// How far a clock may be from UTC at the most, in seconds: less than a day.
+const LEAST_OF_DAY: i64 = 86_399;
 
 /// The local times that name a zone, in seconds.
 #[derive(Clone, Copy)]
 pub(crate) struct Use {
-    /// None of them is earlier.
+    /// None of them is earlier, and none that follows from them.
     pub(crate) first: i64,
     /// None of those in VEVENTs that name the zone is later, and none that their rules give. None where they go on, or it isn't known.
     pub(crate) last: Option<i64>,
@@ -45,20 +48,23 @@ pub(crate) fn uses_of(alloc: Global, object: &Component) -> Result<Option<Uses>,
 fn add_event(alloc: Global, event: &Component, uses: &mut Uses) -> Result<bool, AllocError>
     ensures { IfOk result (λ all. all ≡ true → AreUsesWith (component_lines event.now) uses.old.entries uses.new.entries) }
 {
-    let last = event_end(alloc, event)?;
+    let whole = Use {
+        first: event_first(alloc, event)?,
+        last: event_end(alloc, event)?,
+    };
     for line in event.lines() {
-        if is_time_line(line) && !add_line(alloc, line, last, uses)? {
+        if is_time_line(line) && !add_line(alloc, line, whole, uses)? {
             return Ok(false);
         }
     }
     Ok(true)
 }
 
-/// Adds the zone that a line of times names, if it names one. False where a text of it is no local time.
+/// Adds the zone that a line of times names, if it names one; `whole` is about all times of its VEVENT. False where a text of it is no local time.
 fn add_line(
     alloc: Global,
     line: Line<'_>,
-    last: Option<i64>,
+    whole: Use,
     uses: &mut Uses,
 ) -> Result<bool, AllocError> {
     let Some(name) = line.param("TZID") else {
@@ -67,8 +73,70 @@ fn add_line(
     let Some(first) = first_local(line) else {
         return Ok(false);
     };
-    widen(alloc, uses, name, Use { first, last })?;
+    let more = Use {
+        first: first.min(whole.first),
+        last: whole.last,
+    };
+    widen(alloc, uses, name, more)?;
     Ok(true)
+}
+
+/// The first local time that a VEVENT needs in each zone that it names, whichever its lines name there: that of its UNTIL; and where it lasts nominal
+/// days, any that is shown at one of its times.
+fn event_first(alloc: Global, event: &Component) -> Result<i64, AllocError> {
+    let days = lasts_days(event);
+    let mut first = i64::MAX;
+    for line in event.lines() {
+        if line.is_named("RRULE") {
+            first = first.min(until_local(alloc, line.value())?);
+        }
+        if days && is_time_line(line) {
+            first = first.min(earliest(line));
+        }
+    }
+    Ok(first)
+}
+
+/// Whether a VEVENT may last nominal days.
+fn lasts_days(event: &Component) -> bool {
+    for line in event.lines() {
+        if line.is_named("DURATION") && duration_end(line.value()).is_none() {
+            return true;
+        }
+    }
+    false
+}
+
+/// The local time of UNTIL; the greatest number where it is none.
+fn until_local(alloc: Global, text: &str) -> Result<i64, AllocError> {
+    match RuleText::read(alloc, text) {
+        Ok(rule) => Ok(match rule.until() {
+            Some(Until::Local(local)) => local.seconds(),
+            _ => i64::MAX,
+        }),
+        Err(Fault::Memory) => Err(AllocError),
+        Err(Fault::Refused(_)) => Ok(i64::MAX),
+    }
+}
+
+/// No local time is earlier, on whatever clock, that is shown at one of the times of a line.
+fn earliest(line: Line<'_>) -> i64 {
+    let mut first = i64::MAX;
+    for text in line.value().split(',') {
+        first = first.min(earliest_of(text));
+    }
+    first
+}
+
+/// The same for the time that a text is; the greatest number where it is none.
+fn earliest_of(text: &str) -> i64 {
+    if let Ok(local) = LocalTime::read(text) {
+        return local.seconds() - LEAST_OF_DAY;
+    }
+    match Stamp::read(text) {
+        Ok(stamp) => stamp.instant(),
+        Err(_) => i64::MAX,
+    }
 }
 
 /// The first of the local times of a line. None where one of its texts is none.
@@ -148,14 +216,15 @@ fn rule_end(alloc: Global, text: &str) -> Result<Option<i64>, AllocError>
     Ok(Some(until_end(&until)))
 }
 
-/// A day after the local time that UNTIL names, or the instant.
+/// A day after the date or the instant that UNTIL names, two days after a local time: what that means, and a start, differ from their local times by
+/// less than a day each.
 fn until_end(until: &Until) -> i64 {
-    let named = match until {
-        Until::Date(day) => day.number() as i64 * DAY_SECONDS as i64,
-        Until::Local(local) => local.seconds(),
-        Until::Utc(stamp) => stamp.instant(),
-    };
-    named + DAY_SECONDS as i64
+    let day = DAY_SECONDS as i64;
+    match until {
+        Until::Date(date) => date.number() as i64 * day + day,
+        Until::Local(local) => local.seconds() + 2 * day,
+        Until::Utc(stamp) => stamp.instant() + day,
+    }
 }
 
 /// No end for a length of nominal days, or for one that isn't read; one of seconds alone doesn't matter.

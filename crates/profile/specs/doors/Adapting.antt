@@ -11,7 +11,7 @@ use Rattle.profile.specs.series.ZoneTexts.{SaysZone, is_part, parts_by}
 use Rattle.profile.specs.series.GeneralZones.{Run, IsGeneralOnset, IsSameFrom, IsSameBetween}
 use Rattle.profile.specs.series.GeneralZoneTexts.{SaysGeneralZone}
 use Rattle.profile.specs.events.ZonedTimes.{zone_named, SaysZoneOf}
-use Rattle.profile.specs.doors.Uses.{NamesZone, NamesLocal, EndsBy}
+use Rattle.profile.specs.doors.Uses.{NamesZone, BeginsBy, EndsBy}
 
 -- ---- where a zone comes from
 
@@ -49,14 +49,14 @@ pub data IsSameFor (zone : List Run) (other : Zone) (may_go_on : Bool) (first : 
   goes_on : (to : ℤ) → may_go_on ≡ true → tables_end ≤ℤ to → IsOverAt zone to → IsSameBetween zone other (first -ℤ pos 86_399) to
       → IsSameFor zone other may_go_on first last
 
--- the zone does the same as what the name means at the door, for each time that the object names there
+-- the zone does the same as what the name means at the door, for each time that the object names there, and for each that follows from these
 pub record TakesPlace (listed : Option Tree) (object : Tree) (name : List ℕ) (may_go_on : Bool) (other : Zone) : Type 0 where
   pub meant : Tree
   pub is_meant : IsMeant listed object name meant
   pub zone : List Run
   pub says : SaysGeneralZone meant zone
   pub first : ℤ
-  pub from_first : (local : ℤ) → NamesLocal object name local → first ≤ℤ local
+  pub from_first : BeginsBy object name first
   pub last : Option ℤ
   pub to_last : (end : ℤ) → last ≡ Some end → EndsBy object name end
   pub same : IsSameFor zone other may_go_on first last
