@@ -1,11 +1,14 @@
 -- Runs that are the same up to an instant. For `going_on`, `ending` and `last_of_all`.
-use Rattle.std.proofs.Common.{◌≡◌, refl, sym, subst, zero, suc, ℕ, ◌+◌, arith, inl, inr, ◌⊎◌, List, [], ◌∷◌, ◌++◌, ℤ, pos, ◌≤ℤ◌}
+use Rattle.std.proofs.Common.{◌≡◌, ◌∙◌, refl, sym, ap, subst, zero, suc, ℕ, ◌+◌, ◌<◌, ◌≤◌, drop, length, get_or, arith, inl, inr, ◌⊎◌, List, [], ◌∷◌, ◌++◌, ℤ, pos, ◌≤ℤ◌}
 use Rattle.std.specs.Prelude.{◌↔◌, Contains}
 use Rattle.std.specs.Int.Signed.{◌<ℤ◌}
 use Rattle.std.proofs.lemmas.Int.{ints}
+use Rattle.std.proofs.lemmas.List.{drop_all, drop_more, map_push}
 use Rattle.std.proofs.lemmas.List.Elements.{Contains-push, Contains-append_left, Contains-push_cases}
 use Rattle.profile.specs.series.Zones.{Observance, Onset, IsOnset}
 use Rattle.profile.specs.series.GeneralZones.{Never, AtInstant, Run, IsInTime, IsRunOnset, IsGeneralOnset}
+use Rattle.cal_doors.specs.Runs.{run_of, runs_in}
+use Rattle.cal_doors.specs.declared.run.Run as kept
 use Rattle.cal_doors.specs.Between.{IsSameRunUpTo, IsSameEndUpTo, AreSameUpTo}
 
 -- ---- one run
@@ -122,3 +125,32 @@ over_more zone rest run last bound new ends l m over x is = elim (over x is) [
     | inr on ↦ inr on
   ]
 ]
+
+-- ---- the loops over kept runs
+
+module _ (runs : List kept.Run) (i : ℕ) where
+  left_at : (run : kept.Run) → i < length runs → run ≡ get_or runs i run → runs_in (drop i runs) ≡ run_of run ∷ runs_in (drop (i + 1) runs)
+  left_at run w e = ap runs_in (drop_more runs i run w ∙ ap (λ y. y ∷ drop (i + 1) runs) (sym e))
+
+  left_none : length runs ≤ i → runs_in (drop i runs) ≡ []
+  left_none w = ap runs_in (drop_all i runs w)
+
+  pub made_more : (to : ℤ) (done more : List kept.Run) (run other : kept.Run) → i < length runs → run ≡ get_or runs i run → more ≡ done ++ other ∷ []
+      → IsSameRunUpTo to (run_of run) (run_of other) → AreParted to (runs_in runs) (runs_in done) (runs_in (drop i runs))
+      → AreParted to (runs_in runs) (runs_in more) (runs_in (drop (i + 1) runs))
+  made_more to done more run other w e pushed same parted =
+      subst (λ l. AreParted to (runs_in runs) l (runs_in (drop (i + 1) runs))) (sym (ap runs_in pushed ∙ map_push run_of done other))
+      (parted_more to (runs_in runs) (runs_in done) (runs_in (drop (i + 1) runs)) (run_of run) (run_of other) same (subst (AreParted to (runs_in runs) (runs_in done)) (left_at run w e) parted))
+
+  pub left_out : (to : ℤ) (done : List kept.Run) (run : kept.Run) → i < length runs → run ≡ get_or runs i run → ((x : Onset) → IsRunOnset (run_of run) x → to <ℤ x.instant)
+      → AreParted to (runs_in runs) (runs_in done) (runs_in (drop i runs)) → AreParted to (runs_in runs) (runs_in done) (runs_in (drop (i + 1) runs))
+  left_out to done run w e later parted =
+      parted_later to (runs_in runs) (runs_in done) (runs_in (drop (i + 1) runs)) (run_of run) later (subst (AreParted to (runs_in runs) (runs_in done)) (left_at run w e) parted)
+
+  pub made_all : (to : ℤ) (done : List kept.Run) → length runs ≤ i → AreParted to (runs_in runs) (runs_in done) (runs_in (drop i runs)) → AreSameUpTo to (runs_in runs) (runs_in done)
+  made_all to done w parted = parted_end to (runs_in runs) (runs_in done) (subst (AreParted to (runs_in runs) (runs_in done)) (left_none w) parted)
+
+  pub last_more : (last bound new : ℤ) (run : kept.Run) → i < length runs → run ≡ get_or runs i run → ((x : Onset) → IsRunOnset (run_of run) x → x.instant ≤ℤ bound) → last ≤ℤ new → bound ≤ℤ new
+      → AreOverButFor (runs_in runs) last (runs_in (drop i runs)) → AreOverButFor (runs_in runs) new (runs_in (drop (i + 1) runs))
+  last_more last bound new run w e ends l m over =
+      over_more (runs_in runs) (runs_in (drop (i + 1) runs)) (run_of run) last bound new ends l m (subst (AreOverButFor (runs_in runs) last) (left_at run w e) over)

@@ -1,6 +1,7 @@
 -- Two sets of onsets that are the same up to an instant, of which one has begun: what is in force before it is the same, and what local times
 -- mean that no clock shows after it. For `GeneralZone::between`.
-use Rattle.std.proofs.Common.{sym, subst, arith, zero, suc, inl, inr, List, [], ◌∷◌, ℤ, pos, ◌+ℤ◌, ◌≤ℤ◌}
+use Rattle.std.proofs.Common.{◌≡◌, sym, subst, arith, zero, suc, inl, inr, List, [], ◌∷◌, ℤ, pos, ◌+ℤ◌, ◌-ℤ◌, ◌≤ℤ◌}
+use Rattle.std.specs.Prelude.{Bool, Option}
 use Rattle.std.proofs.lemmas.Int.{ints}
 use Rattle.jiff_core.proofs.SignedLemmas.{signed_arith}
 use Rattle.profile.specs.text.Values.{IsOffset}
@@ -8,7 +9,8 @@ use Rattle.profile.specs.series.Zones.{Zone, Onset, InForce, Since, Until}
 use Rattle.profile.specs.series.GeneralZones.{Run, ShowsBy, MeansBy, IsRunOnset, IsGeneralOnset, IsGeneralOffsetAt, IsSameFrom, IsSameBetween}
 use Rattle.cal_doors.specs.Runs.{runs_in}
 use Rattle.cal_doors.specs.declared.run.Run as kept
-use Rattle.cal_doors.specs.Between.{HasBegun, AreSameUpTo}
+use Rattle.profile.specs.doors.Adapting.{IsSameFor, as_long, goes_on}
+use Rattle.cal_doors.specs.Between.{HasBegun, AreSameUpTo, LastsAsLong, GoesOn}
 
 -- ---- the offset in force
 
@@ -115,3 +117,12 @@ are_offsets runs = record { offsets = offset_in_force runs; ended = λ x is. (on
 pub runs_between : (runs others : List kept.Run) (from to : ℤ) (z : Zone) → AreSameUpTo to (runs_in runs) (runs_in others) → HasBegun (runs_in runs) from
     → IsSameFrom (runs_in others) z from → IsSameBetween (runs_in runs) z from to
 runs_between runs others from to z same begun h = between (runs_in runs) (runs_in others) from to same begun (are_offsets runs) (are_offsets others) z h
+
+-- ---- local times from one on
+
+-- a zone that lasts as long as they do, and one that goes on
+pub lasts_as_long : (zone : List Run) (z : Zone) (may : Bool) (first from : ℤ) (last : Option ℤ) → from ≡ first -ℤ pos 86_399 → LastsAsLong zone z from last → IsSameFor zone z may first last
+lasts_as_long zone z may first from last e (end, is, same) = as_long end is (subst (λ f. IsSameBetween zone z f (end +ℤ pos 86_399)) e same)
+
+pub goes_on_beyond : (zone : List Run) (z : Zone) (may : Bool) (first from : ℤ) (last : Option ℤ) → from ≡ first -ℤ pos 86_399 → GoesOn zone z may from → IsSameFor zone z may first last
+goes_on_beyond zone z may first from last e (to, may_go_on, late, over, same) = goes_on to may_go_on late over (subst (λ f. IsSameBetween zone z f to) e same)

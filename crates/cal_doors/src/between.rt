@@ -43,9 +43,10 @@ pub(crate) fn going_on(alloc: Global, runs: &[Run], to: i64) -> Result<Vec<Run>,
 {
     let mut others = Vec::new(alloc);
     for run in runs {
-        if run.first_bound() <= to {
-            others.push(run.going_on(to))?;
+        if to < run.first_bound() {
+            continue;
         }
+        others.push(run.going_on(to))?;
     }
     Ok(others)
 }
@@ -56,9 +57,10 @@ pub(crate) fn ending(alloc: Global, runs: &[Run], to: i64) -> Result<Vec<Run>, A
 {
     let mut others = Vec::new(alloc);
     for run in runs {
-        if run.first_bound() <= to {
-            others.push(run.ending(to))?;
+        if to < run.first_bound() {
+            continue;
         }
+        others.push(run.ending(to))?;
     }
     Ok(others)
 }
