@@ -60,11 +60,11 @@ abbrev pub AreParted : ℤ → List Run → List Run → List Run → Type 0
 AreParted to zone done rest = (x : Onset) → x.instant ≤ℤ to → IsGeneralOnset zone x ↔ (IsGeneralOnset done x ⊎ IsGeneralOnset rest x)
 
 pub parted_start : (to : ℤ) (zone : List Run) → AreParted to zone [] zone
-parted_start to zone x l = (λ is. inr is, λ h. elim h [ | inl is ↦ absurd (no_onset_of_none x is) | inr is ↦ is ])
+parted_start to zone x l = (λ is. inr is, λ h. elim h [ inl is ↦ absurd (no_onset_of_none x is) | inr is ↦ is ])
 
 pub parted_end : (to : ℤ) (zone done : List Run) → AreParted to zone done [] → AreSameUpTo to zone done
 parted_end to zone done parted x l = (
-  λ is. elim ((parted x l).0 is) [ | inl h ↦ h | inr h ↦ absurd (no_onset_of_none x h) ],
+  λ is. elim ((parted x l).0 is) [ inl h ↦ h | inr h ↦ absurd (no_onset_of_none x h) ],
   λ is. (parted x l).1 (inl is),
 )
 
@@ -114,7 +114,7 @@ pub over_start : (zone : List Run) (last : ℤ) → AreOverButFor zone last zone
 over_start zone last x is = inr is
 
 pub over_end : (zone : List Run) (last : ℤ) → AreOverButFor zone last [] → (x : Onset) → IsGeneralOnset zone x → x.instant ≤ℤ last
-over_end zone last over x is = elim (over x is) [ | inl l ↦ l | inr on ↦ absurd (no_onset_of_none x on) ]
+over_end zone last over x is = elim (over x is) [ inl l ↦ l | inr on ↦ absurd (no_onset_of_none x on) ]
 
 pub over_more : (zone rest : List Run) (run : Run) (last bound new : ℤ) → ((x : Onset) → IsRunOnset run x → x.instant ≤ℤ bound) → last ≤ℤ new → bound ≤ℤ new
     → AreOverButFor zone last (run ∷ rest) → AreOverButFor zone new rest
