@@ -1,11 +1,11 @@
 -- Runs that are the same up to an instant. For `going_on`, `ending` and `last_of_all`.
-use Rattle.std.proofs.Common.{◌≡◌, ◌∙◌, refl, sym, ap, subst, zero, suc, ℕ, ◌+◌, ◌<◌, ◌≤◌, drop, length, get_or, arith, inl, inr, ◌⊎◌, List, [], ◌∷◌, ◌++◌, ℤ, pos, ◌≤ℤ◌}
-use Rattle.std.specs.Prelude.{◌↔◌, Contains}
+use Rattle.std.proofs.Common.{◌≡◌, ◌∙◌, refl, sym, ap, subst, zero, suc, ℕ, ◌+◌, ◌<◌, ◌≤◌, drop, length, get_or, arith, inl, inr, ◌⊎◌, List, [], ◌∷◌, ◌++◌, ℤ, ◌≤ℤ◌}
+use Rattle.std.specs.Prelude.{◌↔◌}
 use Rattle.std.specs.Int.Signed.{◌<ℤ◌}
 use Rattle.std.proofs.lemmas.Int.{ints}
 use Rattle.std.proofs.lemmas.List.{drop_all, drop_more, map_push}
 use Rattle.std.proofs.lemmas.List.Elements.{Contains-push, Contains-append_left, Contains-push_cases}
-use Rattle.profile.specs.series.Zones.{Observance, Onset, IsOnset}
+use Rattle.profile.specs.series.Zones.{Onset, IsOnset}
 use Rattle.profile.specs.series.GeneralZones.{Never, AtInstant, Run, IsInTime, IsRunOnset, IsGeneralOnset}
 use Rattle.cal_doors.specs.Runs.{run_of, runs_in}
 use Rattle.cal_doors.specs.declared.run.Run as kept
