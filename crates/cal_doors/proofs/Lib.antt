@@ -12,3 +12,9 @@ pub mod General
 pub mod Again
 pub mod PartSays
 mod Examples
+pub mod LawClocks
+pub mod LawEvents
+pub mod LawOffsets
+pub mod LawMeant
+pub mod LawZoneClocks
+pub mod LawStarts
