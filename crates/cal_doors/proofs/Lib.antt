@@ -3,6 +3,8 @@ pub mod RunLemmas
 pub mod SameDays
 pub mod Reaches
 pub mod Left
+pub mod UpTo
+pub mod RunsUpTo
 pub mod Offsets
 pub mod Afterwards
 pub mod Same
