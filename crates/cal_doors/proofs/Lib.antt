@@ -14,6 +14,7 @@ pub mod PartSays
 pub mod NamedTables
 pub mod UsesScans
 pub mod UsesLines
+pub mod UsesTexts
 pub mod UsesTables
 pub mod UsesEvents
 mod Examples

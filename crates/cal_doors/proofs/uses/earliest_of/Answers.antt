@@ -1,6 +1,6 @@
-use Rattle.std.proofs.Common.{◌≡◌, inl, inr, arith, ℤ, pos, negsuc, ◌-ℤ◌, ◌≤ℤ◌, to_z, of_z, w64, FitsSigned, to_z-of_z}
+use Rattle.std.proofs.Common.{◌≡◌, subst, inl, inr, arith, ℤ, pos, negsuc, ◌-ℤ◌, ◌≤ℤ◌, to_z, of_z, w64, to_z-of_z}
 use Rattle.std.proofs.lemmas.Int.{ints, clamps}
-use Rattle.jiff_core.proofs.SignedLemmas.{signed_arith}
+use Rattle.cal_doors.proofs.UsesTexts.{earlier_back}
 use Rattle.cal_doors.proofs.uses.earliest_of.Goals as goal
 
 pub returns-clause-local : goal.returns-clause-local
@@ -18,9 +18,9 @@ returns-clause-local c = λ local s.
     let low_midnight = c.midnight_in.ensures.range in
     let from : negsuc 62_135_596_799 ≤ℤ c.min-local.result = omega (arith, ints, clamps, value, one, other, low, low_midnight) in
     let kept = c.min-local.type_inv in
-    let fits : FitsSigned w64 (to_z w64 (of_z w64 c.min-local.result) -ℤ pos 86_399) = rw both (record { sfits = omega (arith, signed_arith, from, kept) }) in
-    let less = to_z-of_z fits in
-    let bound = c.min.ensures.self_bound in
+    let upto : c.min-local.result ≤ℤ pos 9_223_372_036_854_775_807 = omega (arith, ints, kept) in
+    let less = earlier_back c.min-local.result from upto in
+    let bound = subst (λ x. c.min.result ≤ℤ to_z w64 (of_z w64 (x -ℤ pos 86_399))) both c.min.ensures.self_bound in
     elim s [
       | inl l ↦ let e = own l in rw least (omega (arith, ints, e, one, both, less, first, bound))
       | inr d ↦ let e = midnight d in rw least (omega (arith, ints, e, other, both, less, second, bound))
