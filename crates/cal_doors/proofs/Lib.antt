@@ -11,6 +11,11 @@ pub mod Same
 pub mod General
 pub mod Again
 pub mod PartSays
+pub mod NamedTables
+pub mod UsesScans
+pub mod UsesLines
+pub mod UsesTables
+pub mod UsesEvents
 mod Examples
 pub mod LawClocks
 pub mod LawEvents
