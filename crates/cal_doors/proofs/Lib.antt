@@ -9,4 +9,9 @@ pub mod Same
 pub mod General
 pub mod Again
 pub mod PartSays
+pub mod ChangesHeld
+pub mod ChangesMade
+pub mod ChangesNamed
+pub mod RightOthers
+pub mod AdaptWhole
 mod Examples
