@@ -44,6 +44,10 @@ module _ {X Y : Type 0} (before after : Tree) (uses : List (String X × Use)) (c
   pub all_given : GivenSofar [] → AllMeanNow before after uses changes
   all_given s name u there = given name u there (s name u there)
 
+  pub step_given : (left : List (String X × Use)) (k : String X) (u : Use) (rest : List (String X × Use)) → left ≡ (k, u) ∷ rest
+      → MeansNow before after (string_bytes k) (held (string_bytes k) changes) → GivenSofar left → GivenSofar rest
+  step_given left k u rest is means s = one_given k u rest means (subst GivenSofar is s)
+
   pub is_right : (octets : List ℕ) → IsOf octets after → tree_own after ≡ tree_own before → without_zones after ≡ without_zones before → AllMeanNow before after uses changes
       → IsRight before uses changes octets
   is_right octets is own others means = record {
@@ -119,6 +123,15 @@ module _ {Y Z : Type 0} (changes : List (String Y × Choice)) where
       by_name name (string_bytes k)
       (λ same. inl (subst (λ n. list_any (bytes_eq n) (map string_bytes (names ++ added ∷ [])) ≡ true) (same_key ∙ sym same) (name_added names added)))
       (λ other. with_more k d rest names added name other (s name c e on))
+
+  pub step_other : (left : List (String Y × Choice)) (k : String Y) (d : Choice) (rest : List (String Y × Choice)) (names : List (String Z)) → left ≡ (k, d) ∷ rest → d.goes_on ≡ false
+      → NamedSofar left names → NamedSofar rest names
+  step_other left k d rest names is ends s = other_named k d rest names ends (subst (λ l. NamedSofar l names) is s)
+
+  pub step_named : (left : List (String Y × Choice)) (k : String Y) (d : Choice) (rest : List (String Y × Choice)) (names new : List (String Z)) (added : String Z) → left ≡ (k, d) ∷ rest
+      → new ≡ names ++ added ∷ [] → string_bytes added ≡ string_bytes k → NamedSofar left names → NamedSofar rest new
+  step_named left k d rest names new added is more same s =
+      subst (NamedSofar rest) (sym more) (one_named k d rest names added same (subst (λ l. NamedSofar l names) is s))
 
   named : (names : List (String Z)) (name : List ℕ) (c : Choice) → held name changes ≡ Some c
       → (list_any (bytes_eq name) (map string_bytes names) ≡ true) ⊎ (None ≡ held name changes) → list_any (bytes_eq name) (map string_bytes names) ≡ true

@@ -111,3 +111,24 @@ module _ {X Y : Type 0} (listed : Option Tree) (object : Tree) (uses : List (Str
     replaced = s.replaced;
     kept = λ name u there e. was_used name u there (s.kept name e);
   }
+
+  -- as the loop has them: by what the iterator gave, and what `insert` left
+  pub first_made : (left : List (String X × Use)) (changes : List (String Y × Choice)) → left ≡ uses → changes ≡ [] → IsDistinct same_text (keys_of uses) → Sofar left changes
+  first_made left changes all none distinct = subst (λ l. Sofar l changes) (sym all) (subst (Sofar uses) (sym none) (none_yet distinct))
+
+  pub step_read : (left : List (String X × Use)) (k : String X) (u : Use) (rest : List (String X × Use)) (changes : List (String Y × Choice)) → left ≡ (k, u) ∷ rest
+      → IsReadable object (string_bytes k) → Sofar left changes → Sofar rest changes
+  step_read left k u rest changes is readable s = next_read k u rest changes readable (subst (λ l. Sofar l changes) is s)
+
+  pub step_changed : (left : List (String X × Use)) (k : String X) (u : Use) (rest : List (String X × Use)) (changes new : List (String Y × Choice)) (key : String Y) (c : Choice)
+      → left ≡ (k, u) ∷ rest → new ≡ insert_entry same_text changes key c → string_bytes key ≡ string_bytes k
+      → IsUnread object (string_bytes k) × TakesPlace listed object (string_bytes k) c.goes_on (zone_of c.zone) → Sofar left changes → Sofar rest new
+  step_changed left k u rest changes new key c is put same needed s =
+      subst (Sofar rest) (sym put) (next_changed k u rest changes key c same needed.0 needed.1 (subst (λ l. Sofar l changes) is s))
+
+  pub held_use : (left : List (String X × Use)) (k : String X) (u : Use) (rest : List (String X × Use)) (changes : List (String Y × Choice)) → AreUses object uses → left ≡ (k, u) ∷ rest
+      → Sofar left changes → IsUseFor object (string_bytes k) u
+  held_use left k u rest changes are is s = use_for object uses (string_bytes k) u are (held_here k u rest changes (subst (λ l. Sofar l changes) is s))
+
+  pub end_made : (left : List (String X × Use)) (changes : List (String Y × Choice)) → left ≡ [] → Sofar left changes → AreChanges listed object uses changes
+  end_made left changes none s = all_made changes (subst (λ l. Sofar l changes) none s)

@@ -13,5 +13,6 @@ pub mod ChangesHeld
 pub mod ChangesMade
 pub mod ChangesNamed
 pub mod RightOthers
+pub mod RightGiven
 pub mod AdaptWhole
 mod Examples

@@ -64,8 +64,7 @@ pub fn adapt(
 
 /// The lines of octets within the limits of a message. None where they aren't.
 pub(crate) fn text_of(alloc: Global, octets: &[u8]) -> Result<Option<Unfolded<'_>>, AllocError>
-    ensures lines { IfOk result (λ found. IfSome found (λ text. text ≡ logical_lines octets.now)) }
-    ensures reads { IfOk result (λ found. IfSome found (λ _. reads_as_lines true octets.now ≡ true)) }
+    ensures { IfOk result (λ found. IfSome found (λ text. (text ≡ logical_lines octets.now) × (reads_as_lines true octets.now ≡ true))) }
 {
     match Unfolded::read(alloc, octets, Limits::Message) {
         Ok(text) => Ok(Some(text)),

@@ -109,7 +109,10 @@ fn are_same_but_zones(before: &Component, after: &Component) -> bool
     ensures own { result ≡ true → tree_own (tree_of after.now) ≡ tree_own (tree_of before.now) }
     ensures others { result ≡ true → without_zones (tree_of after.now) ≡ without_zones (tree_of before.now) }
 {
-    before.has_same_lines(after) && are_same_components(before.children(), after.children())
+    if !before.has_same_lines(after) {
+        return false;
+    }
+    are_same_components(before.children(), after.children())
 }
 
 /// Whether components are the same, but for VTIMEZONEs.
