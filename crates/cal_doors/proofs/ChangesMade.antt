@@ -27,6 +27,11 @@ use_for object uses name u are e = record {
     w.2.to_last end (ap (λ (v : Use). v.last) (same_Some w.0 u (sym w.1 ∙ e)) ∙ h);
 }
 
+was_used : {X : Type 0} (object : Tree) (uses : List (String X × Use)) (name : List ℕ) (u : Use) → held name uses ≡ Some u → IsReadable object name ⊎ (None ≡ held name uses)
+    → IsReadable object name
+was_used object uses name u there (inl readable) = readable
+was_used object uses name u there (inr e) = absurd (none-some u (e ∙ there))
+
 module _ {X Y : Type 0} (listed : Option Tree) (object : Tree) (uses : List (String X × Use)) where
   -- the changes so far are right, and what is used and not changed is read by a room, or left
   pub record Sofar (left : List (String X × Use)) (changes : List (String Y × Choice)) : Type 0 where
@@ -100,16 +105,12 @@ module _ {X Y : Type 0} (listed : Option Tree) (object : Tree) (uses : List (Str
       }
 
   -- nothing is left
-  was_used : (name : List ℕ) (u : Use) → held name uses ≡ Some u → IsReadable object name ⊎ (None ≡ held name uses) → IsReadable object name
-  was_used name u there (inl readable) = readable
-  was_used name u there (inr e) = absurd (none-some u (e ∙ there))
-
   pub all_made : (changes : List (String Y × Choice)) → Sofar [] changes → AreChanges listed object uses changes
   all_made changes s = record {
     used = s.used;
     unread = s.unread;
     replaced = s.replaced;
-    kept = λ name u there e. was_used name u there (s.kept name e);
+    kept = λ name u there e. was_used object uses name u there (s.kept name e);
   }
 
   -- as the loop has them: by what the iterator gave, and what `insert` left

@@ -18,6 +18,9 @@ use Rattle.cal_doors.specs.declared.uses.Use.{Use}
 use Rattle.cal_doors.specs.declared.choice.Choice.{Choice}
 use Rattle.cal_doors.specs.declared.named.NamedZones.{NamedZones}
 
+abbrev pub Lines : Type 0
+Lines = List (List ℕ)
+
 abbrev pub tree_at : Bor Component → Tree
 tree_at c = tree_of c.now
 
