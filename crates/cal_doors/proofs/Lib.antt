@@ -17,6 +17,12 @@ pub mod UsesLines
 pub mod UsesTexts
 pub mod UsesTables
 pub mod UsesEvents
+pub mod ChangesHeld
+pub mod ChangesMade
+pub mod ChangesNamed
+pub mod RightOthers
+pub mod RightGiven
+pub mod AdaptWhole
 mod Examples
 pub mod LawClocks
 pub mod LawEvents

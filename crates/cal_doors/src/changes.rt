@@ -1,20 +1,26 @@
 //! Which VTIMEZONEs of an object have to change, and into what.
 
-ghost use Rattle.std.specs.Prelude.{◌≡◌, ℕ, List, true, map, string_bytes, IfOk, IfSome, Some};
+ghost use Rattle.std.specs.Prelude.{◌≡◌, ℕ, List, true, false, map, option_map, string_bytes, IfOk, IfSome, Some};
 ghost use Rattle.std.specs.List.{list_any};
 ghost use Rattle.std.specs.Str.{bytes_eq};
 ghost use Rattle.ical_tree.specs.Tree.{tree_of};
 ghost use Rattle.cal_doors.specs.Named.{AreNamed};
 ghost use Rattle.cal_doors.specs.Used.{AreUses, held};
-ghost use Rattle.cal_doors.specs.Adapted.{AreListed, listed_of, AreChanges};
+ghost use Rattle.cal_doors.specs.Adapted.{AreListed, listed_of, AreChanges, IsUseFor, IsNeeded, IsMeantZone};
+ghost use Rattle.cal_doors.specs.Found.{general_of};
 ghost use Rattle.cal_doors.specs.declared.choice.Choice.{Choice};
+ghost use Rattle.profile.specs.text.Trees.{Tree};
+ghost use Rattle.profile.specs.series.Zones as zones;
+ghost use Rattle.profile.specs.series.GeneralZoneTexts.{SaysGeneralZone};
+ghost use Rattle.profile.specs.events.ZonedTimes.{zone_named, SaysZoneOf};
+ghost use Rattle.profile.specs.doors.Adapting.{SaysNothing};
 
 use crate::choice::{Choice, choose};
 use crate::named::NamedZones;
 use crate::part::is_part;
 use crate::uses::{Use, Uses};
 use crate::zone::GeneralZone;
-use cal_zones::Zone;
+use cal_zones::{Zone, one_zone};
 use ical_lines::Fault;
 use ical_tree::Component;
 use indexmap::IndexMap;
@@ -43,7 +49,7 @@ pub(crate) fn changes_of(
     requires uses { AreUses (tree_of zones.now.object.now) uses.now.entries }
     requires zones { AreNamed zones.now }
     requires listed { AreListed listed }
-    ensures { IfOk result (λ found. IfSome found (λ changes. AreChanges (listed_of listed) (tree_of zones.now.object.now) uses.now.entries changes.entries)) }
+    ensures { IfOk result (λ found. IfSome found (λ changes. AreChanges (listed_of listed.entry) (tree_of zones.now.object.now) uses.now.entries changes.entries)) }
 {
     let mut changes = IndexMap::new(alloc);
     for (name, times) in uses.iter() {
@@ -66,17 +72,17 @@ fn need_of(
     times: Use,
     zones: &NamedZones<'_, '_>,
     listed: Option<&NamedZones<'_, '_>>,
-) -> Result<Need, AllocError> {
+) -> Result<Need, AllocError>
+    requires zones { AreNamed zones.now }
+    requires listed { AreListed listed }
+    requires times { IsUseFor (tree_of zones.now.object.now) name.now times }
+    ensures { IfOk result (IsNeeded (listed_of listed.entry) (tree_of zones.now.object.now) name.now) }
+{
     let own = zones.named(name);
-    if let Some(zone) = own {
-        if is_read(alloc, zone)? {
-            return Ok(Need::Nothing);
-        }
+    if is_read(alloc, own)? {
+        return Ok(Need::Nothing);
     }
-    let Some(meant) = meant(own, name, listed) else {
-        return Ok(Need::Lost);
-    };
-    let Some(general) = general_zone(alloc, meant)? else {
+    let Some(general) = meant(alloc, own, name, listed)? else {
         return Ok(Need::Lost);
     };
     match choose(alloc, &general, times)? {
@@ -85,8 +91,16 @@ fn need_of(
     }
 }
 
-/// Whether a room reads a VTIMEZONE.
-fn is_read(alloc: Global, zone: &Component) -> Result<bool, AllocError> {
+/// Whether there is a VTIMEZONE that a room reads.
+fn is_read(alloc: Global, zone: Option<&Component>) -> Result<bool, AllocError>
+    ensures yes { IfOk result (λ read. read ≡ true → (said : zones.Zone) × SaysZoneOf (option_map (λ z. tree_of z.now) zone.entry) said) }
+    ensures no { IfOk result (λ read. read ≡ false → (said : zones.Zone) → SaysZoneOf (option_map (λ z. tree_of z.now) zone.entry) said → ⊥) }
+{
+    let Some(zone) = zone else {
+        return Ok(false);
+    };
+    // Only for the proof: a VTIMEZONE with a fault says no zone.
+    one_zone();
     match Zone::read(alloc, zone) {
         Ok(_) => Ok(true),
         Err(Fault::Memory) => Err(AllocError),
@@ -94,22 +108,37 @@ fn is_read(alloc: Global, zone: &Component) -> Result<bool, AllocError> {
     }
 }
 
-/// What a name means at the door: its own VTIMEZONE, or that of the list where this says nothing.
-fn meant<'c, 'a>(
-    own: Option<&'c Component<'a>>,
+/// The zone in general that a name means at the door: that of its own VTIMEZONE, or of that of the list where its own says nothing. None where
+/// it means none.
+fn meant(
+    alloc: Global,
+    own: Option<&Component>,
     name: &str,
-    listed: Option<&NamedZones<'c, 'a>>,
-) -> Option<&'c Component<'a>> {
+    listed: Option<&NamedZones<'_, '_>>,
+) -> Result<Option<GeneralZone>, AllocError>
+    requires { AreListed listed }
+    ensures { IfOk result (λ found. IfSome found (λ general. (object : Tree) → option_map (λ z. tree_of z.now) own.entry ≡ zone_named name.now object
+        → IsMeantZone (listed_of listed.entry) object name.now (general_of general))) }
+{
     if let Some(zone) = own {
         if has_part(zone) {
-            return own;
+            return general_zone(alloc, zone);
         }
     }
-    listed?.named(name)
+    let Some(listed) = listed else {
+        return Ok(None);
+    };
+    let Some(zone) = listed.named(name) else {
+        return Ok(None);
+    };
+    general_zone(alloc, zone)
 }
 
 /// Whether a VTIMEZONE has a part, STANDARD or DAYLIGHT.
-fn has_part(zone: &Component) -> bool {
+fn has_part(zone: &Component) -> bool
+    ensures yes { result ≡ true → SaysNothing (Some (tree_of zone.now)) → ⊥ }
+    ensures no { result ≡ false → SaysNothing (Some (tree_of zone.now)) }
+{
     for child in zone.children() {
         if is_part(child) {
             return true;
@@ -119,7 +148,9 @@ fn has_part(zone: &Component) -> bool {
 }
 
 /// The zone in general that a VTIMEZONE says. None where it says none.
-fn general_zone(alloc: Global, zone: &Component) -> Result<Option<GeneralZone>, AllocError> {
+fn general_zone(alloc: Global, zone: &Component) -> Result<Option<GeneralZone>, AllocError>
+    ensures { IfOk result (λ found. IfSome found (λ general. SaysGeneralZone (tree_of zone.now) (general_of general))) }
+{
     match GeneralZone::read(alloc, zone) {
         Ok(general) => Ok(Some(general)),
         Err(Fault::Memory) => Err(AllocError),

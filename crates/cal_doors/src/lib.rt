@@ -1,7 +1,6 @@
 //! The door before a room: VTIMEZONEs in general (RFC 5545 3.6.5), the zone that one is from an instant on, and objects that are made readable.
 #![tactic(auto)]
 
-mod adapt;
 mod after;
 mod between;
 mod changes;
@@ -14,6 +13,7 @@ mod named;
 mod part;
 mod places;
 mod read;
+mod readable;
 mod right;
 mod rule;
 mod run;
@@ -21,12 +21,12 @@ mod splice;
 mod uses;
 mod zone;
 
-pub use adapt::{Adapted, adapt};
 pub use end::{End, YearDay};
 pub use law::{
     adapted_says_the_same, date_at_start_adds_nothing, starts_are_known, zones_are_clocks,
     zones_are_general,
 };
 pub use named::NamedZones;
+pub use readable::{Adapted, adapt};
 pub use run::Run;
 pub use zone::GeneralZone;

@@ -1,11 +1,17 @@
 //! Whether an object that was made of another is right: it is read again, and compared.
 
 ghost use Rattle.std.specs.Prelude.{◌≡◌, true, IfOk};
+ghost use Rattle.ical_tree.specs.Tree.{component_lines, component_children};
+ghost use Rattle.profile.specs.series.ZoneTexts.{SaysZone};
+ghost use Rattle.profile.specs.text.Trees.{tree_own};
+ghost use Rattle.profile.specs.doors.Adapting.{without_zones};
+ghost use Rattle.cal_zones.specs.Kinds.{zone_of};
+ghost use Rattle.cal_doors.specs.Used.{held};
 ghost use Rattle.ical_tree.specs.Tree.{tree_of};
 ghost use Rattle.cal_doors.specs.Named.{AreNamed};
-ghost use Rattle.cal_doors.specs.Adapted.{IsRight};
+ghost use Rattle.cal_doors.specs.Adapted.{IsRight, MeansNow, AllMeanNow, others_among};
 
-use crate::adapt::{object_of, text_of};
+use crate::readable::{object_of, text_of};
 use crate::changes::Changes;
 use crate::named::NamedZones;
 use crate::uses::Uses;
@@ -38,8 +44,24 @@ pub(crate) fn is_right(
         return Ok(false);
     }
     let now = NamedZones::of(alloc, &after)?;
+    are_given(alloc, uses, zones, &now, changes)
+}
+
+/// Whether each name that is used means what it has to mean.
+fn are_given(
+    alloc: Global,
+    uses: &Uses,
+    before: &NamedZones<'_, '_>,
+    now: &NamedZones<'_, '_>,
+    changes: &Changes,
+) -> Result<bool, AllocError>
+    requires before { AreNamed before.now }
+    requires now { AreNamed now.now }
+    ensures { IfOk result (λ given. given ≡ true
+        → AllMeanNow (tree_of before.now.object.now) (tree_of now.now.object.now) uses.now.entries changes.now.entries) }
+{
     for (name, _) in uses.iter() {
-        if !is_given(alloc, name.as_str(), zones, &now, changes)? {
+        if !is_given(alloc, name.as_str(), before, now, changes)? {
             return Ok(false);
         }
     }
@@ -53,7 +75,12 @@ fn is_given(
     before: &NamedZones<'_, '_>,
     now: &NamedZones<'_, '_>,
     changes: &Changes,
-) -> Result<bool, AllocError> {
+) -> Result<bool, AllocError>
+    requires before { AreNamed before.now }
+    requires now { AreNamed now.now }
+    ensures { IfOk result (λ given. given ≡ true
+        → MeansNow (tree_of before.now.object.now) (tree_of now.now.object.now) name.now (held name.now changes.now.entries)) }
+{
     let Some(zone) = now.named(name) else {
         return Ok(false);
     };
@@ -67,7 +94,9 @@ fn is_given(
 }
 
 /// Whether a room reads a VTIMEZONE as this zone.
-fn says(alloc: Global, zone: &Component, expected: &Zone) -> Result<bool, AllocError> {
+fn says(alloc: Global, zone: &Component, expected: &Zone) -> Result<bool, AllocError>
+    ensures { IfOk result (λ same. same ≡ true → SaysZone (tree_of zone.now) (zone_of expected.now)) }
+{
     match Zone::read(alloc, zone) {
         Ok(zone) => Ok(zone.is_same(expected)),
         Err(Fault::Memory) => Err(AllocError),
@@ -76,12 +105,20 @@ fn says(alloc: Global, zone: &Component, expected: &Zone) -> Result<bool, AllocE
 }
 
 /// Whether two objects have the same lines and components, but for VTIMEZONEs.
-fn are_same_but_zones(before: &Component, after: &Component) -> bool {
-    before.has_same_lines(after) && are_same_components(before.children(), after.children())
+fn are_same_but_zones(before: &Component, after: &Component) -> bool
+    ensures own { result ≡ true → tree_own (tree_of after.now) ≡ tree_own (tree_of before.now) }
+    ensures others { result ≡ true → without_zones (tree_of after.now) ≡ without_zones (tree_of before.now) }
+{
+    if !before.has_same_lines(after) {
+        return false;
+    }
+    are_same_components(before.children(), after.children())
 }
 
 /// Whether components are the same, but for VTIMEZONEs.
-fn are_same_components(before: &[Component], after: &[Component]) -> bool {
+fn are_same_components(before: &[Component], after: &[Component]) -> bool
+    ensures { result ≡ true → others_among before.now ≡ others_among after.now }
+{
     let mut left = after;
     for component in before {
         if component.is_named("VTIMEZONE") {
@@ -100,7 +137,9 @@ fn are_same_components(before: &[Component], after: &[Component]) -> bool {
 }
 
 /// What is left behind the VTIMEZONEs that come first.
-fn past_zones<'s, 'a>(components: &'s [Component<'a>]) -> &'s [Component<'a>] {
+fn past_zones<'s, 'a>(components: &'s [Component<'a>]) -> &'s [Component<'a>]
+    ensures { others_among result.now ≡ others_among components.now }
+{
     let mut left = components;
     while let [first, later @ ..] = left {
         if !first.is_named("VTIMEZONE") {

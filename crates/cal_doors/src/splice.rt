@@ -35,11 +35,18 @@ pub(crate) fn spliced(
     let mut left = Some(octets);
     while let Some(rest) = left {
         let (line, next) = split_line(rest);
-        let count = rest.len() - next.map_or(0, |next| next.len());
-        splicer.take_line(line, &rest[..count], &order, changes)?;
+        splicer.take_line(line, up_to(rest, next), &order, changes)?;
         left = next;
     }
     Ok(splicer.out)
+}
+
+/// What comes before the rest of octets; all of them where nothing is left.
+fn up_to<'a>(octets: &'a [u8], rest: Option<&[u8]>) -> &'a [u8] {
+    match rest {
+        Some(rest) => &octets[..octets.len().saturating_sub(rest.len())],
+        None => octets,
+    }
 }
 
 /// For each VTIMEZONE of the object, in order, the place of its change among the changes, if it is the first of its name and changes; and the
@@ -126,7 +133,7 @@ impl Splicer {
         }
         if is_line(line, b"BEGIN:VTIMEZONE") {
             let place = order.places.get(self.zones).copied().flatten();
-            self.zones += 1;
+            self.zones = self.zones.saturating_add(1);
             if let Some(place) = place {
                 self.place = Place::Replaced;
                 return self.add_change(place, changes);

@@ -1,6 +1,9 @@
 //! An object made readable for a room: VTIMEZONEs that say more than a room reads give way to some that do the same.
 
-ghost use Rattle.std.specs.Prelude.{map, string_bytes, IfOk, IfSome};
+ghost use Rattle.std.specs.Prelude.{◌≡◌, true, map, string_bytes, IfOk, IfSome};
+ghost use Rattle.ical_tree.specs.Tree.{tree_of};
+ghost use Rattle.profile.specs.text.Lines.{logical_lines, reads_as_lines};
+ghost use Rattle.profile.specs.text.Objects.{IsObject};
 ghost use Rattle.profile.specs.doors.Adapting.{IsAdapted};
 ghost use Rattle.cal_doors.specs.Adapted.{listed_of, AreListed};
 
@@ -31,7 +34,7 @@ pub fn adapt(
     listed: Option<&NamedZones<'_, '_>>,
 ) -> Result<Option<Adapted>, AllocError>
     requires { AreListed listed }
-    ensures { IfOk result (λ found. IfSome found (λ a. IsAdapted (listed_of listed) octets.now (map string_bytes a.going_on.items) a.octets.items)) }
+    ensures { IfOk result (λ found. IfSome found (λ a. IsAdapted (listed_of listed.entry) octets.now (map string_bytes a.going_on.items) a.octets.items)) }
 {
     let Some(text) = text_of(alloc, octets)? else {
         return Ok(None);
@@ -60,7 +63,9 @@ pub fn adapt(
 }
 
 /// The lines of octets within the limits of a message. None where they aren't.
-pub(crate) fn text_of(alloc: Global, octets: &[u8]) -> Result<Option<Unfolded<'_>>, AllocError> {
+pub(crate) fn text_of(alloc: Global, octets: &[u8]) -> Result<Option<Unfolded<'_>>, AllocError>
+    ensures { IfOk result (λ found. IfSome found (λ text. (text ≡ logical_lines octets.now) × (reads_as_lines true octets.now ≡ true))) }
+{
     match Unfolded::read(alloc, octets, Limits::Message) {
         Ok(text) => Ok(Some(text)),
         Err(Fault::Memory) => Err(AllocError),
@@ -72,7 +77,9 @@ pub(crate) fn text_of(alloc: Global, octets: &[u8]) -> Result<Option<Unfolded<'_
 pub(crate) fn object_of<'a>(
     alloc: Global,
     text: &'a Unfolded<'_>,
-) -> Result<Option<Component<'a>>, AllocError> {
+) -> Result<Option<Component<'a>>, AllocError>
+    ensures { IfOk result (λ found. IfSome found (λ object. IsObject true (tree_of object) text.now)) }
+{
     match read_object(alloc, text, Limits::Message) {
         Ok(object) => Ok(Some(object)),
         Err(Fault::Memory) => Err(AllocError),
