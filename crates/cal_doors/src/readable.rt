@@ -56,9 +56,10 @@ pub fn adapt(
     if !is_right(alloc, adapted.as_slice(), &object, &uses, &zones, &changes)? {
         return Ok(None);
     }
+    let going_on = names_going_on(alloc, &changes)?;
     Ok(Some(Adapted {
         octets: adapted,
-        going_on: names_going_on(alloc, &changes)?,
+        going_on,
     }))
 }
 
