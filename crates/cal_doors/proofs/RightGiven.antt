@@ -71,3 +71,10 @@ judged before zoned after now uses changes octets b a is own others means =
 pub of_some : {T : Type 0} (o : Option T) (x : T) (P : T → Type 0) → o ≡ Some x → IfSome o P → P x
 of_some (Some y) x P is h = subst P (same_Some y x is) h
 of_some None x P is h = absurd (none-some x is)
+
+-- two things are known of a value that is handed on
+pub when_both : {T E : Type 0} (r : Result (Option T) E) (P Q R : T → Type 0) → ((x : T) → P x → Q x → R x) → IfOk r (λ f. IfSome f P) → IfOk r (λ f. IfSome f Q)
+    → IfOk r (λ f. IfSome f R)
+when_both (Ok (Some x)) P Q R f g h = f x g h
+when_both (Ok None) P Q R f g h = tt
+when_both (Err e) P Q R f g h = tt
