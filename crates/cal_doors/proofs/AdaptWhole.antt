@@ -166,7 +166,6 @@ takes_place listed object name some more other f t = record {
 module _ {X Y : Type 0} (listed : Option Tree) (octets adapted : List ℕ) (before : Tree) (uses : List (String X × Use)) (changes : List (String Y × Choice)) (names : List (List ℕ))
     (are_uses : AreUses before uses) (are_changes : AreChanges listed before uses changes) (right : IsRight before uses changes adapted)
     (going_on : (name : List ℕ) (c : Choice) → held name changes ≡ Some c → c.goes_on ≡ true → list_any (bytes_eq name) names ≡ true) where
-
   by_change : (name : List ℕ) (u : Use) (o : Option Choice) → held name uses ≡ Some u → held name changes ≡ o → IsGiven listed before right.after name (list_any (bytes_eq name) names)
   by_change name u (Some c) used e =
       let now = right.changed name u c used e in

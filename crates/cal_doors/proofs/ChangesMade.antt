@@ -20,11 +20,11 @@ use Rattle.cal_doors.proofs.ChangesHeld.{same_text, is_same, by_name, held_put, 
 pub use_for : {Y : Type 0} (object : Tree) (uses : List (String Y × Use)) (name : List ℕ) (u : Use) → AreUses object uses → held name uses ≡ Some u → IsUseFor object name u
 use_for object uses name u are e = record {
   from_first = λ lines line there is.
-    let w = are.covered name lines line there is in
-    subst (λ (v : Use). EventBeginsBy name lines v.first) (same_Some w.0 u (sym w.1 ∙ e)) w.2.from_first;
+      let w = are.covered name lines line there is in
+      subst (λ (v : Use). EventBeginsBy name lines v.first) (same_Some w.0 u (sym w.1 ∙ e)) w.2.from_first;
   to_last = λ end h lines line there is.
-    let w = are.covered name lines line there is in
-    w.2.to_last end (ap (λ (v : Use). v.last) (same_Some w.0 u (sym w.1 ∙ e)) ∙ h);
+      let w = are.covered name lines line there is in
+      w.2.to_last end (ap (λ (v : Use). v.last) (same_Some w.0 u (sym w.1 ∙ e)) ∙ h);
 }
 
 was_used : {X : Type 0} (object : Tree) (uses : List (String X × Use)) (name : List ℕ) (u : Use) → held name uses ≡ Some u → IsReadable object name ⊎ (None ≡ held name uses)

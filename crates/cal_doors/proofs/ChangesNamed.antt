@@ -63,15 +63,17 @@ pub change_needed : (listed : Option Tree) (object : Tree) (name : List ℕ) (ow
     → ((other : Tree) → option_map tree_at own ≡ zone_named name other → IsMeantZone listed other name zone) → IsSameFor zone (zone_of c.zone) c.goes_on u.first u.last
     → IsNeeded listed object name (Change c)
 change_needed listed object name own u zone c e none about means same =
-    let m = means object e in
-    (is_unread object name own e none, record {
-      meant = m.0;
-      is_meant = m.1;
-      zone = zone;
-      says = m.2;
-      first = u.first;
-      from_first = about.from_first;
-      last = u.last;
-      to_last = about.to_last;
-      same = same;
-    })
+    let m = means object e in (
+      is_unread object name own e none,
+      record {
+        meant = m.0;
+        is_meant = m.1;
+        zone = zone;
+        says = m.2;
+        first = u.first;
+        from_first = about.from_first;
+        last = u.last;
+        to_last = about.to_last;
+        same = same;
+      },
+    )

@@ -11,9 +11,9 @@ ghost use Rattle.ical_tree.specs.Tree.{tree_of};
 ghost use Rattle.cal_doors.specs.Named.{AreNamed};
 ghost use Rattle.cal_doors.specs.Adapted.{IsRight, MeansNow, AllMeanNow, others_among};
 
-use crate::readable::{object_of, text_of};
 use crate::changes::Changes;
 use crate::named::NamedZones;
+use crate::readable::{object_of, text_of};
 use crate::uses::Uses;
 use cal_zones::Zone;
 use ical_lines::Fault;
