@@ -1,1 +1,3 @@
 pub mod Doors
+pub mod Handing
+pub mod Pieces
