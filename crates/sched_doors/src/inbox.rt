@@ -5,7 +5,6 @@ ghost use Rattle.std.proofs.lemmas.Bool.{false≢true};
 ghost use Rattle.cal_doors.specs.Adapted.{AreListed};
 ghost use Rattle.sched_devices.specs.Folder.{HasCause};
 ghost use Rattle.sched_devices.specs.declared.folder.FolderFault.TheVariants.{Device, Exists, Missing};
-ghost use Rattle.sched_doors.specs.Inboxes.{IsFaultOf};
 
 use crate::door::Door;
 use crate::fault::DoorFault;
@@ -104,10 +103,7 @@ impl<F: Folder + Drop> Folder for AdaptedInbox<'_, '_, '_, F> {
 
 /// What a call of the inbox gave. Each error is counted as a failure, but not where it is out of memory: a folder that doesn't tell what it
 /// holds tells no other.
-fn tell<T: Drop>(
-    failures: &mut u64,
-    outcome: Result<T, FolderFault>,
-) -> Result<T, FolderFault>
+fn tell<T: Drop>(failures: &mut u64, outcome: Result<T, FolderFault>) -> Result<T, FolderFault>
     ensures value { IfOk result (λ value. outcome ≡ Ok value) }
     ensures not_missing { IsErrOf result Missing → ⊥ }
     ensures not_existing { IsErrOf result Exists → ⊥ }

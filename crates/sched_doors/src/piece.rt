@@ -70,12 +70,12 @@ pub(crate) fn take_piece<R: Input>(
 
 /// How many octets belong to the object that has begun, and whether it ended before the next.
 #[derive(Clone, Copy)]
-struct Cut {
+struct CutPiece {
     count: usize,
     ended: bool,
 }
 
-impl Cut {
+impl CutPiece {
     fn piece(self) -> Piece
         ensures { result ≡ piece_of self.count self.ended }
     {
@@ -90,7 +90,7 @@ impl Cut {
 }
 
 /// Looks for the object's end.
-fn cut(cutter: &mut Cutter, lent: &[u8]) -> Cut
+fn cut(cutter: &mut Cutter, lent: &[u8]) -> CutPiece
     ensures within { result.count ≤ length lent.now }
     ensures some { cutter.old ≡ fresh → result.ended ≡ true → 0 < result.count }
     ensures all { result.ended ≡ false → result.count ≡ length lent.now }
@@ -98,7 +98,7 @@ fn cut(cutter: &mut Cutter, lent: &[u8]) -> Cut
     let mut place = cutter.idle(lent);
     while place < lent.len() {
         if cutter.feed(lent[place]) {
-            return Cut {
+            return CutPiece {
                 count: place,
                 ended: true,
             };
@@ -106,7 +106,7 @@ fn cut(cutter: &mut Cutter, lent: &[u8]) -> Cut
         place += 1;
         place += cutter.idle(&lent[place..]);
     }
-    Cut {
+    CutPiece {
         count: lent.len(),
         ended: false,
     }
