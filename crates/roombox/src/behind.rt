@@ -1,11 +1,8 @@
 //! Behind the door: commands whose objects are made readable on their way in.
 
-ghost use Rattle.cal_doors.specs.Adapted.{AreListed};
-
 use crate::host::{ErrorPrinter, Folders, answer_files, no_memory, read_file, report_file};
-use cal_doors::NamedZones;
 use ical_lines::{Limits, Unfolded};
-use ical_tree::read_object;
+use ical_tree::{Component, read_object};
 use ical_values::Address;
 use sched_box::{DeviceReader, DeviceWriter, Input, Output};
 use sched_cli::commands::{KeptText, run_keep, run_serve};
@@ -58,21 +55,16 @@ pub(crate) fn run_behind<R: Runtime + AllocGlobal>(
         Ok(object) => object,
         Err(fault) => return report_read(&mut errors, fault),
     };
-    match NamedZones::of(alloc, &object) {
-        Ok(zones) => run_listed(rt, alloc, Some(&zones), work),
-        Err(_) => no_memory(rt),
-    }
+    run_listed(rt, alloc, Some(&object), work)
 }
 
 /// Does the work, with these VTIMEZONEs for it.
 fn run_listed<R: Runtime + AllocGlobal>(
     rt: &R,
     alloc: Global,
-    listed: Option<&NamedZones<'_, '_>>,
+    listed: Option<&Component<'_>>,
     work: Work<'_>,
-) -> u8
-    requires { AreListed listed }
-{
+) -> u8 {
     match work {
         Work::Files(folders) => {
             let inbox = DiskFolder::new(rt, folders.inbox);
@@ -86,11 +78,9 @@ fn run_listed<R: Runtime + AllocGlobal>(
 fn run_stream<R: Runtime + AllocGlobal>(
     rt: &R,
     alloc: Global,
-    listed: Option<&NamedZones<'_, '_>>,
+    listed: Option<&Component<'_>>,
     work: StreamWork<'_>,
-) -> u8
-    requires { AreListed listed }
-{
+) -> u8 {
     let Ok(reader) = DeviceReader::new(alloc, rt.reader()) else {
         return no_memory(rt);
     };
@@ -104,7 +94,7 @@ fn run_stream<R: Runtime + AllocGlobal>(
 
 fn adapt_behind<R: Runtime + AllocGlobal, I: Input + Drop>(
     rt: &R,
-    door: &mut Door<'_, '_, '_, I>,
+    door: &mut Door<'_, '_, I>,
     report: bool,
 ) -> u8 {
     let mut errors = DeviceWriter::new(ErrorPrinter { to: rt });
@@ -115,7 +105,7 @@ fn adapt_behind<R: Runtime + AllocGlobal, I: Input + Drop>(
 fn serve_behind<R: Runtime + AllocGlobal, I: Input + Drop>(
     rt: &R,
     alloc: Global,
-    door: &mut Door<'_, '_, '_, I>,
+    door: &mut Door<'_, '_, I>,
     report: bool,
 ) -> u8 {
     let Ok(mut said) = Vec::with_capacity(alloc, SAID) else {
@@ -133,7 +123,7 @@ fn serve_behind<R: Runtime + AllocGlobal, I: Input + Drop>(
 fn keep_behind<R: Runtime + AllocGlobal, I: Input + Drop>(
     rt: &R,
     alloc: Global,
-    door: &mut Door<'_, '_, '_, I>,
+    door: &mut Door<'_, '_, I>,
     room: &Address,
     kept: KeptText,
 ) -> u8 {
@@ -149,7 +139,7 @@ fn keep_behind<R: Runtime + AllocGlobal, I: Input + Drop>(
 /// command the door is a reader, which can only fail.
 fn say_at_end<R: Runtime + AllocGlobal, I: Input + Drop>(
     rt: &R,
-    door: &Door<'_, '_, '_, I>,
+    door: &Door<'_, '_, I>,
     said: &[u8],
     status: u8,
 ) -> u8 {

@@ -1,13 +1,14 @@
 //! `adapt`: makes the objects of a stream readable for a room.
 
-ghost use Rattle.std.specs.Prelude.{◌≡◌, ◌⊎◌, ℕ, List, false, map, string_bytes, IfErr, IfOk, OnOk};
-ghost use Rattle.std.specs.Io.KnownBytes.{Keeps};
-ghost use Rattle.cal_doors.specs.Adapted.{listed_of};
+ghost use Rattle.std.specs.Prelude.{◌≡◌, ◌⊎◌, [], true, false, map, string_bytes, IfErr, IfOk, OnErr, OnOk};
+ghost use Rattle.sched_doors.specs.Handing.{list_of};
+ghost use Rattle.sched_cli.specs.Adapting.{AdaptsFront, AdaptsWhole, AdaptStopsFor, KeepsMarks, PassesOn, StopsPassing, StopsPutting, KeepsMark, IsCutLine, adapt_status, adapt_text, adapted_text, goes_on_text, object_text};
 ghost use Rattle.sched_cli.specs.Commands.{BlamesDevice, IsStatusSaid, SaysLine, TellsDevice};
+ghost use Rattle.std.specs.Io.KnownBytes.{Appends};
 
 use crate::status::{DONE, report_device, report_memory, report_too_long};
 use itoa::Buffer;
-use sched_box::{Input, Output, WriteFault};
+use sched_devices::{Input, Output, WriteFault};
 use sched_doors::{Door, DoorFault};
 
 /// Why a stream isn't handed on to its end.
@@ -19,40 +20,25 @@ enum AdaptFault {
     Memory,
 }
 
-impl From<DoorFault> for AdaptFault {
-    fn from(fault: DoorFault) -> AdaptFault {
-        match fault {
-            DoorFault::Read => AdaptFault::Device,
-            DoorFault::Memory => AdaptFault::Memory,
-        }
-    }
-}
-
-impl From<WriteFault> for AdaptFault {
-    fn from(fault: WriteFault) -> AdaptFault {
-        match fault {
-            WriteFault::Failed => AdaptFault::Device,
-            WriteFault::Memory => AdaptFault::Memory,
-        }
-    }
-}
-
 /// `adapt`: hands on what a door lends, until it lends nothing. With `report` it says of each object that was made readable which of its
 /// zones go on beyond what is stated of them, or that it was made readable. Gives 4 where the reader or the writer failed, 5 where memory was
 /// refused, and 3 after more pieces than a u64 counts.
 pub fn run_adapt<R: Input + Drop, W: Output, E: Output>(
-    door: &mut Door<'_, '_, '_, R>,
+    door: &mut Door<'_, '_, R>,
     report: bool,
     writer: &mut W,
     errors: &mut E,
-) -> u8 {
+) -> u8
+    ensures whole { result ≡ 0 → AdaptsWhole (list_of door.old.listed) (R.remaining door.old.reader) (R.remaining door.new.reader) (W.contents writer.old) (W.contents writer.new) }
+    ensures front { (result ≡ 0 → ⊥) → AdaptsFront result (list_of door.old.listed) (R.remaining door.old.reader) (W.contents writer.old) (W.contents writer.new) }
+    ensures device { BlamesDevice (R.has_failed door.new.reader) (W.has_failed writer.new) result }
+    ensures told { TellsDevice result (R.has_failed door.old.reader) (R.has_failed door.new.reader) (W.has_failed writer.old) (W.has_failed writer.new) }
+    ensures status { (result ≡ 0) ⊎ (result ≡ 3) ⊎ (result ≡ 4) ⊎ (result ≡ 5) }
+    ensures said { report ≡ false → IsStatusSaid result (E.contents errors.old) (E.contents errors.new) (E.may_lose errors.new) }
+{
     for _ in 0..u64::MAX {
         match pass_on(door, writer) {
-            Ok(true) => {
-                if report {
-                    report_object(door, errors);
-                }
-            }
+            Ok(true) => report_object(door, report, errors),
             Ok(false) => return DONE,
             Err(fault) => return report_fault(errors, fault),
         }
@@ -62,29 +48,64 @@ pub fn run_adapt<R: Input + Drop, W: Output, E: Output>(
 
 /// Hands on what the door lends next; false where it lends nothing.
 fn pass_on<R: Input + Drop, W: Output>(
-    door: &mut Door<'_, '_, '_, R>,
+    door: &mut Door<'_, '_, R>,
     writer: &mut W,
-) -> Result<bool, AdaptFault> {
-    door.pass()?;
-    let lent = door.buffer();
-    if lent.is_empty() {
+) -> Result<bool, AdaptFault>
+    ensures passes { IfOk result (PassesOn (list_of door.old.listed) (R.remaining door.old.reader) (R.remaining door.new.reader) (W.contents writer.old) (W.contents writer.new)) }
+    ensures stops { IfErr result (StopsPassing (list_of door.old.listed) (R.remaining door.old.reader) (W.contents writer.old) (W.contents writer.new)) }
+    ensures cause { IfErr result (AdaptStopsFor (R.has_failed door.new.reader) (W.has_failed writer.new)) }
+    ensures mark { OnOk result (R.has_failed door.new.reader ≡ R.has_failed door.old.reader) }
+    ensures sent { OnOk result (W.has_failed writer.new ≡ W.has_failed writer.old) }
+    ensures told { IfErr result (KeepsMarks (R.has_failed door.old.reader) (R.has_failed door.new.reader) (W.has_failed writer.old) (W.has_failed writer.new)) }
+    ensures listed { door.new.listed ≡ door.old.listed }
+{
+    match door.pass() {
+        Ok(()) => put_lent(writer, door.buffer()),
+        Err(DoorFault::Read) => Err(AdaptFault::Device),
+        Err(DoorFault::Memory) => Err(AdaptFault::Memory),
+    }
+}
+
+/// Writes octets, whole; false where there are none.
+fn put_lent<W: Output>(writer: &mut W, octets: &[u8]) -> Result<bool, AdaptFault>
+    ensures written { OnOk result (Appends (W.contents writer.old) (W.contents writer.new) octets.now) }
+    ensures end { IfOk result (λ goes. goes ≡ false → octets.now ≡ []) }
+    ensures stops { IfErr result (StopsPutting (W.contents writer.old) (W.contents writer.new) (W.has_failed writer.new) octets.now) }
+    ensures sent { OnOk result (W.has_failed writer.new ≡ W.has_failed writer.old) }
+    ensures told { IfErr result (KeepsMark (W.has_failed writer.old) (W.has_failed writer.new)) }
+{
+    if octets.is_empty() {
         return Ok(false);
     }
-    writer.put(lent)?;
-    Ok(true)
+    match writer.put(octets) {
+        Ok(()) => Ok(true),
+        Err(WriteFault::Failed) => Err(AdaptFault::Device),
+        Err(WriteFault::Memory) => Err(AdaptFault::Memory),
+    }
 }
 
 /// Says why a stream wasn't handed on to its end, and gives the status for it.
-fn report_fault<E: Output>(errors: &mut E, fault: AdaptFault) -> u8 {
+fn report_fault<E: Output>(errors: &mut E, fault: AdaptFault) -> u8
+    ensures status { result ≡ adapt_status fault }
+    ensures says { SaysLine (adapt_text fault) (E.contents errors.old) (E.contents errors.new) (E.may_lose errors.new) }
+{
     match fault {
         AdaptFault::Device => report_device(errors),
         AdaptFault::Memory => report_memory(errors),
     }
 }
 
-/// Says of an object that was made readable what goes on in it. Where standard error fails, nobody is left to be told.
-fn report_object<R: Input + Drop, E: Output>(door: &Door<'_, '_, '_, R>, errors: &mut E) {
-    if door.is_adapted() {
+/// Says of an object that was made readable what goes on in it, where that is wanted. Where standard error fails, nobody is left to be told.
+fn report_object<R: Input + Drop, E: Output>(
+    door: &Door<'_, '_, R>,
+    report: bool,
+    errors: &mut E,
+)
+    ensures silent { report ≡ false → errors.new ≡ errors.old }
+    ensures says { report ≡ true → door.now.is_adapted ≡ true → SaysLine (adapted_text door.now.objects (map string_bytes door.now.going_on.items)) (E.contents errors.old) (E.contents errors.new) (E.may_lose errors.new) }
+    ensures plain { door.now.is_adapted ≡ false → errors.new ≡ errors.old }
+{
+    if report && door.is_adapted() {
         let _ = say_adapted(errors, door.objects(), door.going_on());
     }
 }
@@ -94,19 +115,34 @@ fn say_adapted<E: Output>(
     errors: &mut E,
     number: u64,
     going_on: &[String],
-) -> Result<(), WriteFault> {
+) -> Result<(), WriteFault>
+    ensures says { SaysLine (adapted_text number (map string_bytes going_on.now)) (E.contents errors.old) (E.contents errors.new) (E.may_lose errors.new) }
+{
     if going_on.is_empty() {
         return say_of_object(errors, number, "made readable\n");
     }
     for name in going_on {
-        say_of_object(errors, number, name.as_str())?;
-        errors.put(b" goes on after its last onset\n")?;
+        say_goes_on(errors, number, name.as_str())?;
     }
     Ok(())
 }
 
+/// Says of an object that a zone of this name goes on in it.
+fn say_goes_on<E: Output>(errors: &mut E, number: u64, name: &str) -> Result<(), WriteFault>
+    ensures says { OnOk result (Appends (E.contents errors.old) (E.contents errors.new) (goes_on_text number name.now)) }
+    ensures stops { OnErr result (IsCutLine (goes_on_text number name.now) (E.contents errors.old) (E.contents errors.new)) }
+    ensures lost { OnErr result (E.may_lose errors.new ≡ true) }
+{
+    say_of_object(errors, number, name)?;
+    errors.put(b" goes on after its last onset\n")
+}
+
 /// `roombox: object 3: `, and the text.
-fn say_of_object<E: Output>(errors: &mut E, number: u64, text: &str) -> Result<(), WriteFault> {
+fn say_of_object<E: Output>(errors: &mut E, number: u64, text: &str) -> Result<(), WriteFault>
+    ensures says { OnOk result (Appends (E.contents errors.old) (E.contents errors.new) (object_text number text.now)) }
+    ensures stops { OnErr result (IsCutLine (object_text number text.now) (E.contents errors.old) (E.contents errors.new)) }
+    ensures lost { OnErr result (E.may_lose errors.new ≡ true) }
+{
     let mut digits = Buffer::new();
     errors.put(b"roombox: object ")?;
     errors.put(digits.format(number).as_bytes())?;

@@ -1,3 +1,2 @@
-pub mod Doors
 pub mod Handing
 pub mod Pieces

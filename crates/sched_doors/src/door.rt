@@ -2,18 +2,20 @@
 //! A stream may begin with a preamble or with an object. One object is in memory at a time; one that is longer than a message may be goes through
 //! in pieces, as it is.
 
-ghost use Rattle.std.specs.Prelude.{◌≡◌, ◌≤◌, ℕ, List, [], drop, length, map, is_some, string_bytes, true, false, IfErr, OnErr, OnOk};
-ghost use Rattle.cal_doors.specs.Adapted.{AreListed, listed_of};
-ghost use Rattle.sched_doors.specs.Handing.{HandsOn};
+ghost use Rattle.std.specs.Prelude.{◌≡◌, [], drop, length, map, is_some, string_bytes, false, IfErr, IfOk, IfSome, OnErr, OnOk};
+ghost use Rattle.profile.specs.doors.Adapting.{IsAdapted};
+ghost use Rattle.sched_doors.specs.Handing.{AreLentNone, HandsOn, Passes, list_of};
 ghost use Rattle.sched_doors.specs.Pieces.{KeepsButRead, StopsFor};
+ghost use Rattle.sched_doors.specs.declared.fault.DoorFault.TheVariants.{Memory};
 
 use crate::fault::DoorFault;
 use crate::piece::{Piece, take_object, take_piece};
 use crate::preamble::{LineSoFar, begins_with_preamble, take_preamble};
-use cal_doors::{NamedZones, adapt};
+use cal_doors::{Adapted, NamedZones, adapt};
 use ical_lines::Cutter;
+use ical_tree::Component;
 use sched_devices::Input;
-use std::alloc::Global;
+use std::alloc::{AllocError, Global};
 use std::io::{self, ErrorKind};
 
 /// Where in its stream a door is.
@@ -31,11 +33,11 @@ enum Place {
 
 /// A reader behind the door.
 #[derive(Drop)]
-pub struct Door<'z, 'c, 'a, R: Input + Drop> {
+pub struct Door<'c, 'a, R: Input + Drop> {
     alloc: Global,
     reader: R,
-    /// VTIMEZONEs for names that mean none in an object.
-    listed: Option<&'z NamedZones<'c, 'a>>,
+    /// An object with VTIMEZONEs for the names that mean none in an object that comes.
+    listed: Option<&'c Component<'a>>,
     place: Place,
     /// What was read last.
     octets: Vec<u8>,
@@ -49,23 +51,16 @@ pub struct Door<'z, 'c, 'a, R: Input + Drop> {
     going_on: Vec<String>,
     /// Why it failed last as a reader.
     fault: Option<DoorFault>,
-    ghost are_listed: { AreListed listed },
 }
 
-impl<'z, 'c, 'a, R: Input + Drop> Door<'z, 'c, 'a, R> {
-    ghost use Rattle.sched_doors.specs.Doors.{HasPassed, door_lends};
-
-    /// A door before a reader of which nothing is read yet.
-    pub fn new(
-        alloc: Global,
-        listed: Option<&'z NamedZones<'c, 'a>>,
-        reader: R,
-    ) -> Door<'z, 'c, 'a, R>
-        requires { AreListed listed }
-        ensures listed { result.listed ≡ listed }
+impl<'c, 'a, R: Input + Drop> Door<'c, 'a, R> {
+    /// A door before a reader of which nothing is read yet, with the VTIMEZONEs of an object for the names that mean none in an object that
+    /// comes.
+    pub fn new(alloc: Global, listed: Option<&'c Component<'a>>, reader: R) -> Door<'c, 'a, R>
+        ensures listed { result.listed ≡ listed.entry }
         ensures reader { result.reader ≡ reader }
         ensures fault { is_some result.fault ≡ false }
-        ensures lent { door_lends result ≡ [] }
+        ensures lent { drop result.consumed result.octets.items ≡ [] }
     {
         Door {
             alloc,
@@ -113,8 +108,8 @@ impl<'z, 'c, 'a, R: Input + Drop> Door<'z, 'c, 'a, R> {
     /// Reads on: a piece of the preamble, the next object, or a piece of an object that is too long. Then it lends that, an object made
     /// readable if that is needed and can be; nothing only at the end of the input, and where it fails. What it lent before is forgotten.
     pub fn pass(&mut self) -> Result<(), DoorFault>
-        ensures passes { OnOk result (HasPassed R.remaining self.old self.new) }
-        ensures nothing { OnErr result (door_lends self.new ≡ []) }
+        ensures passes { OnOk result (Passes (list_of self.old.listed) (R.remaining self.old.reader) (R.remaining self.new.reader) self.new.is_adapted (map string_bytes self.new.going_on.items) (drop self.new.consumed self.new.octets.items)) }
+        ensures nothing { OnErr result (drop self.new.consumed self.new.octets.items ≡ []) }
         ensures cause { IfErr result (StopsFor (R.has_failed self.new.reader)) }
         ensures mark { OnOk result (R.has_failed self.new.reader ≡ R.has_failed self.old.reader) }
         ensures told { IfErr result (KeepsButRead (R.has_failed self.old.reader) (R.has_failed self.new.reader)) }
@@ -133,7 +128,16 @@ impl<'z, 'c, 'a, R: Input + Drop> Door<'z, 'c, 'a, R> {
     }
 
     /// Reads on, where nothing is lent.
-    fn pass_next(&mut self) -> Result<(), DoorFault> {
+    fn pass_next(&mut self) -> Result<(), DoorFault>
+        requires { AreLentNone self.old.octets.items self.old.consumed self.old.is_adapted self.old.going_on.items }
+        ensures passes { OnOk result (Passes (list_of self.old.listed) (R.remaining self.old.reader) (R.remaining self.new.reader) self.new.is_adapted (map string_bytes self.new.going_on.items) (drop self.new.consumed self.new.octets.items)) }
+        ensures cause { IfErr result (StopsFor (R.has_failed self.new.reader)) }
+        ensures mark { OnOk result (R.has_failed self.new.reader ≡ R.has_failed self.old.reader) }
+        ensures told { IfErr result (KeepsButRead (R.has_failed self.old.reader) (R.has_failed self.new.reader)) }
+        ensures listed { self.new.listed ≡ self.old.listed }
+        ensures fault { self.new.fault ≡ self.old.fault }
+        ensures start { self.new.consumed ≡ 0 }
+    {
         match self.place {
             Place::Start => self.pass_first(),
             Place::Preamble(line) => self.pass_preamble(line),
@@ -143,7 +147,16 @@ impl<'z, 'c, 'a, R: Input + Drop> Door<'z, 'c, 'a, R> {
     }
 
     /// Reads a piece of a preamble, or an object where there is none.
-    fn pass_first(&mut self) -> Result<(), DoorFault> {
+    fn pass_first(&mut self) -> Result<(), DoorFault>
+        requires { AreLentNone self.old.octets.items self.old.consumed self.old.is_adapted self.old.going_on.items }
+        ensures passes { OnOk result (Passes (list_of self.old.listed) (R.remaining self.old.reader) (R.remaining self.new.reader) self.new.is_adapted (map string_bytes self.new.going_on.items) (drop self.new.consumed self.new.octets.items)) }
+        ensures cause { IfErr result (StopsFor (R.has_failed self.new.reader)) }
+        ensures mark { OnOk result (R.has_failed self.new.reader ≡ R.has_failed self.old.reader) }
+        ensures told { IfErr result (KeepsButRead (R.has_failed self.old.reader) (R.has_failed self.new.reader)) }
+        ensures listed { self.new.listed ≡ self.old.listed }
+        ensures fault { self.new.fault ≡ self.old.fault }
+        ensures start { self.new.consumed ≡ 0 }
+    {
         if begins_with_preamble(&mut self.reader)? {
             self.pass_preamble(LineSoFar::Nothing)
         } else {
@@ -152,7 +165,16 @@ impl<'z, 'c, 'a, R: Input + Drop> Door<'z, 'c, 'a, R> {
     }
 
     /// Reads a piece of the preamble, in a line of it that has this.
-    fn pass_preamble(&mut self, line: LineSoFar) -> Result<(), DoorFault> {
+    fn pass_preamble(&mut self, line: LineSoFar) -> Result<(), DoorFault>
+        requires { AreLentNone self.old.octets.items self.old.consumed self.old.is_adapted self.old.going_on.items }
+        ensures passes { OnOk result (Passes (list_of self.old.listed) (R.remaining self.old.reader) (R.remaining self.new.reader) self.new.is_adapted (map string_bytes self.new.going_on.items) (drop self.new.consumed self.new.octets.items)) }
+        ensures cause { IfErr result (StopsFor (R.has_failed self.new.reader)) }
+        ensures mark { OnOk result (R.has_failed self.new.reader ≡ R.has_failed self.old.reader) }
+        ensures told { IfErr result (KeepsButRead (R.has_failed self.old.reader) (R.has_failed self.new.reader)) }
+        ensures listed { self.new.listed ≡ self.old.listed }
+        ensures fault { self.new.fault ≡ self.old.fault }
+        ensures start { self.new.consumed ≡ 0 }
+    {
         self.place = match take_preamble(&mut self.reader, line, &mut self.octets)? {
             Some(line) => Place::Preamble(line),
             None => Place::Objects,
@@ -161,23 +183,48 @@ impl<'z, 'c, 'a, R: Input + Drop> Door<'z, 'c, 'a, R> {
     }
 
     /// Reads a piece of an object that is too long; the next object where nothing of it was left.
-    fn pass_long(&mut self, cutter: Cutter) -> Result<(), DoorFault> {
+    fn pass_long(&mut self, cutter: Cutter) -> Result<(), DoorFault>
+        requires { AreLentNone self.old.octets.items self.old.consumed self.old.is_adapted self.old.going_on.items }
+        ensures passes { OnOk result (Passes (list_of self.old.listed) (R.remaining self.old.reader) (R.remaining self.new.reader) self.new.is_adapted (map string_bytes self.new.going_on.items) (drop self.new.consumed self.new.octets.items)) }
+        ensures cause { IfErr result (StopsFor (R.has_failed self.new.reader)) }
+        ensures mark { OnOk result (R.has_failed self.new.reader ≡ R.has_failed self.old.reader) }
+        ensures told { IfErr result (KeepsButRead (R.has_failed self.old.reader) (R.has_failed self.new.reader)) }
+        ensures listed { self.new.listed ≡ self.old.listed }
+        ensures fault { self.new.fault ≡ self.old.fault }
+        ensures start { self.new.consumed ≡ 0 }
+    {
         let mut cutter = cutter;
         match take_piece(&mut self.reader, &mut cutter, &mut self.octets)? {
-            Piece::Goes => self.place = Place::Long(cutter),
-            Piece::Ended if self.octets.is_empty() => return self.pass_object(),
-            Piece::Ended | Piece::End => self.place = Place::Objects,
+            Piece::Goes => {
+                self.place = Place::Long(cutter);
+                Ok(())
+            }
+            Piece::Ended if self.octets.is_empty() => self.pass_object(),
+            Piece::Ended => {
+                self.place = Place::Objects;
+                Ok(())
+            }
+            Piece::End => {
+                self.place = Place::Objects;
+                Ok(())
+            }
         }
-        Ok(())
     }
 
     /// Reads an object, or the first octets of one that is too long.
-    fn pass_object(&mut self) -> Result<(), DoorFault> {
+    fn pass_object(&mut self) -> Result<(), DoorFault>
+        requires { AreLentNone self.old.octets.items self.old.consumed self.old.is_adapted self.old.going_on.items }
+        ensures passes { OnOk result (Passes (list_of self.old.listed) (R.remaining self.old.reader) (R.remaining self.new.reader) self.new.is_adapted (map string_bytes self.new.going_on.items) (drop self.new.consumed self.new.octets.items)) }
+        ensures cause { IfErr result (StopsFor (R.has_failed self.new.reader)) }
+        ensures mark { OnOk result (R.has_failed self.new.reader ≡ R.has_failed self.old.reader) }
+        ensures told { IfErr result (KeepsButRead (R.has_failed self.old.reader) (R.has_failed self.new.reader)) }
+        ensures listed { self.new.listed ≡ self.old.listed }
+        ensures fault { self.new.fault ≡ self.old.fault }
+        ensures start { self.new.consumed ≡ 0 }
+    {
         let mut cutter = Cutter::new();
         let whole = take_object(&mut self.reader, &mut cutter, &mut self.octets)?;
-        if cutter.has_begun() {
-            self.objects = self.objects.saturating_add(1);
-        }
+        self.objects = self.objects.saturating_add(u64::from(cutter.has_begun()));
         if whole {
             self.place = Place::Objects;
             return self.hand_on();
@@ -187,8 +234,17 @@ impl<'z, 'c, 'a, R: Input + Drop> Door<'z, 'c, 'a, R> {
     }
 
     /// Makes the object readable that was read, if it isn't and can be.
-    fn hand_on(&mut self) -> Result<(), DoorFault> {
-        if let Some(adapted) = adapt(self.alloc, self.octets.as_slice(), self.listed)? {
+    fn hand_on(&mut self) -> Result<(), DoorFault>
+        requires plain { (self.old.is_adapted ≡ false) × (self.old.going_on.items ≡ []) }
+        ensures hands_on { OnOk result (HandsOn (list_of self.old.listed) self.old.octets.items self.new.is_adapted (map string_bytes self.new.going_on.items) self.new.octets.items) }
+        ensures some { OnOk result (length self.new.octets.items ≡ 0 → length self.old.octets.items ≡ 0) }
+        ensures fault_is { IfErr result (λ fault. fault ≡ Memory) }
+        ensures reader { self.new.reader ≡ self.old.reader }
+        ensures listed { self.new.listed ≡ self.old.listed }
+        ensures fault { self.new.fault ≡ self.old.fault }
+        ensures consumed { self.new.consumed ≡ self.old.consumed }
+    {
+        if let Some(adapted) = adapt_with(self.alloc, self.octets.as_slice(), self.listed)? {
             self.octets = adapted.octets;
             self.going_on = adapted.going_on;
             self.is_adapted = true;
@@ -198,10 +254,8 @@ impl<'z, 'c, 'a, R: Input + Drop> Door<'z, 'c, 'a, R> {
 }
 
 /// Its octets aren't those of the reader, and are not told in advance.
-impl<R: Input + Drop> Input for Door<'_, '_, '_, R> {
-    ghost use Rattle.sched_doors.specs.Doors.{door_lends};
-
-    ghost lent = { door_lends };
+impl<R: Input + Drop> Input for Door<'_, '_, R> {
+    ghost lent = { λ door. drop door.consumed door.octets.items };
 
     ghost has_failed = { λ door. is_some door.fault };
 
@@ -225,6 +279,23 @@ impl<R: Input + Drop> Input for Door<'_, '_, '_, R> {
     fn consume(&mut self, count: usize) {
         let left = self.octets.len().saturating_sub(self.consumed);
         self.consumed += count.min(left);
+    }
+}
+
+/// The object made readable, with the VTIMEZONEs of another one for the names that mean none in it.
+fn adapt_with(
+    alloc: Global,
+    octets: &[u8],
+    listed: Option<&Component<'_>>,
+) -> Result<Option<Adapted>, AllocError>
+    ensures { IfOk result (λ found. IfSome found (λ a. IsAdapted (list_of listed.entry) octets.now (map string_bytes a.going_on.items) a.octets.items)) }
+{
+    match listed {
+        Some(object) => {
+            let zones = NamedZones::of(alloc, object)?;
+            adapt(alloc, octets, Some(&zones))
+        }
+        None => adapt(alloc, octets, None),
     }
 }
 

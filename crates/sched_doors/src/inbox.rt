@@ -1,14 +1,13 @@
 //! A folder behind the door: each file that is read of it is a stream whose objects are made readable. What else it does isn't changed.
 
-ghost use Rattle.std.specs.Prelude.{◌≡◌, ◌≤◌, false, length, IfErr, IfOk, IsErrOf, Ok};
+ghost use Rattle.std.specs.Prelude.{◌≡◌, ◌≤◌, false, length, IfOk, IfSome, IsErrOf, Ok};
 ghost use Rattle.std.proofs.lemmas.Bool.{false≢true};
-ghost use Rattle.cal_doors.specs.Adapted.{AreListed};
 ghost use Rattle.sched_devices.specs.Folder.{HasCause};
 ghost use Rattle.sched_devices.specs.declared.folder.FolderFault.TheVariants.{Device, Exists, Missing};
 
 use crate::door::Door;
 use crate::fault::DoorFault;
-use cal_doors::NamedZones;
+use ical_tree::Component;
 use sched_devices::{Folder, FolderFault, Input};
 use std::alloc::{AllocError, Global};
 
@@ -18,18 +17,16 @@ const MOST_OCTETS: usize = 1_073_741_824;
 /// An inbox whose files are read through the door. It doesn't tell what it holds, and counts its own failures: those of the inbox, and the
 /// files that would get longer than a file may be.
 #[derive(Drop)]
-pub struct AdaptedInbox<'z, 'c, 'a, F: Folder + Drop> {
-    listed: Option<&'z NamedZones<'c, 'a>>,
+pub struct AdaptedInbox<'c, 'a, F: Folder + Drop> {
+    listed: Option<&'c Component<'a>>,
     inbox: F,
     failures: u64,
-    ghost are_listed: { AreListed listed },
 }
 
-impl<'z, 'c, 'a, F: Folder + Drop> AdaptedInbox<'z, 'c, 'a, F> {
+impl<'c, 'a, F: Folder + Drop> AdaptedInbox<'c, 'a, F> {
     /// The same inbox, behind the door.
-    pub fn new(listed: Option<&'z NamedZones<'c, 'a>>, inbox: F) -> AdaptedInbox<'z, 'c, 'a, F>
-        requires { AreListed listed }
-        ensures listed { result.listed ≡ listed }
+    pub fn new(listed: Option<&'c Component<'a>>, inbox: F) -> AdaptedInbox<'c, 'a, F>
+        ensures listed { result.listed ≡ listed.entry }
         ensures inbox { result.inbox ≡ inbox }
         ensures failures { result.failures ≡ 0 }
     {
@@ -55,7 +52,7 @@ impl<'z, 'c, 'a, F: Folder + Drop> AdaptedInbox<'z, 'c, 'a, F> {
     }
 }
 
-impl<F: Folder + Drop> Folder for AdaptedInbox<'_, '_, '_, F> {
+impl<F: Folder + Drop> Folder for AdaptedInbox<'_, '_, F> {
     ghost temporary = { λ adapted. F.temporary adapted.inbox };
 
     ghost failed = { λ adapted. adapted.failures };
@@ -122,10 +119,10 @@ fn tell<T: Drop>(failures: &mut u64, outcome: Result<T, FolderFault>) -> Result<
 /// The octets of a stream with its objects made readable. None where they are more than a file may have.
 fn adapted(
     alloc: Global,
-    listed: Option<&NamedZones<'_, '_>>,
+    listed: Option<&Component<'_>>,
     octets: &[u8],
 ) -> Result<Option<Vec<u8>>, AllocError>
-    requires { AreListed listed }
+    ensures few { IfOk result (λ found. IfSome found (λ all. length all.items ≤ 1_073_741_824)) }
 {
     let mut all = Vec::new(alloc);
     let mut door = Door::new(alloc, listed, octets);

@@ -40,7 +40,8 @@ pub(crate) fn take_object<R: Input>(
     while octets.len() <= MOST_OCTETS {
         match take_piece(reader, cutter, octets)? {
             Piece::Goes => {}
-            Piece::Ended | Piece::End => return Ok(true),
+            Piece::Ended => return Ok(true),
+            Piece::End => return Ok(true),
         }
     }
     Ok(false)
