@@ -86,7 +86,7 @@ fn run_stream<R: Runtime + AllocGlobal>(
     };
     let mut door = Door::new(alloc, listed, reader);
     match work {
-        StreamWork::Adapt { report } => adapt_behind(rt, &mut door, report),
+        StreamWork::Adapt { report } => adapt_behind(rt, alloc, &mut door, report),
         StreamWork::Serve { report } => serve_behind(rt, alloc, &mut door, report),
         StreamWork::Keep { room, kept } => keep_behind(rt, alloc, &mut door, room, kept),
     }
@@ -94,12 +94,13 @@ fn run_stream<R: Runtime + AllocGlobal>(
 
 fn adapt_behind<R: Runtime + AllocGlobal, I: Input + Drop>(
     rt: &R,
+    alloc: Global,
     door: &mut Door<'_, '_, I>,
     report: bool,
 ) -> u8 {
     let mut errors = DeviceWriter::new(ErrorPrinter { to: rt });
     let mut writer = DeviceWriter::new(io::writer(rt));
-    run_adapt(door, report, &mut writer, &mut errors)
+    run_adapt(alloc, door, report, &mut writer, &mut errors)
 }
 
 fn serve_behind<R: Runtime + AllocGlobal, I: Input + Drop>(

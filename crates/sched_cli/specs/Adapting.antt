@@ -85,17 +85,10 @@ adapt_text Memory = memory_text
 
 -- ---- what is said of an object
 
--- a beginning of a line was written
-abbrev pub IsCutLine : List ℕ → Option (List ℕ) → Option (List ℕ) → Type 0
-IsCutLine line old new = (n : ℕ) × Appends old new (take n line)
-
-abbrev pub object_text : ℕ → List ℕ → List ℕ
-object_text number text = codes "roombox: object " ++ (decimal number ++ (codes ": " ++ text))
-
 abbrev pub goes_on_text : ℕ → List ℕ → List ℕ
-goes_on_text number name = object_text number name ++ codes " goes on after its last onset\n"
+goes_on_text number name = codes "roombox: object " ++ (decimal number ++ (codes ": " ++ (name ++ codes " goes on after its last onset\n")))
 
 -- a line for each zone that goes on, or that the object was made readable where none does
 abbrev pub adapted_text : ℕ → List (List ℕ) → List ℕ
-adapted_text number [] = object_text number (codes "made readable\n")
+adapted_text number [] = codes "roombox: object " ++ (decimal number ++ codes ": made readable\n")
 adapted_text number (name ∷ names) = flat_map (goes_on_text number) (name ∷ names)

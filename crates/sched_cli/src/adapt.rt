@@ -1,15 +1,17 @@
 //! `adapt`: makes the objects of a stream readable for a room.
 
-ghost use Rattle.std.specs.Prelude.{◌≡◌, ◌⊎◌, [], true, false, map, string_bytes, IfErr, IfOk, OnErr, OnOk};
+ghost use Rattle.std.specs.Prelude.{◌≡◌, ◌⊎◌, ◌++◌, [], true, false, map, string_bytes, IfErr, IfOk, OnErr, OnOk};
+ghost use Rattle.std.specs.List.{flat_map};
 ghost use Rattle.sched_doors.specs.Handing.{list_of};
-ghost use Rattle.sched_cli.specs.Adapting.{AdaptsFront, AdaptsWhole, AdaptStopsFor, KeepsMarks, PassesOn, StopsPassing, StopsPutting, KeepsMark, IsCutLine, adapt_status, adapt_text, adapted_text, goes_on_text, object_text};
+ghost use Rattle.sched_cli.specs.Adapting.{AdaptsFront, AdaptsWhole, AdaptStopsFor, KeepsMarks, PassesOn, StopsPassing, StopsPutting, KeepsMark, adapt_status, adapt_text, adapted_text, goes_on_text};
 ghost use Rattle.sched_cli.specs.Commands.{BlamesDevice, IsStatusSaid, SaysLine, TellsDevice};
 ghost use Rattle.std.specs.Io.KnownBytes.{Appends};
 
-use crate::status::{DONE, report_device, report_memory, report_too_long};
-use itoa::Buffer;
+use crate::status::{DONE, report_device, report_memory, report_too_long, say};
 use sched_devices::{Input, Output, WriteFault};
 use sched_doors::{Door, DoorFault};
+use std::alloc::{AllocError, Global};
+use std::io::{self, Write};
 
 /// Why a stream isn't handed on to its end.
 #[derive(Clone, Copy)]
@@ -24,6 +26,7 @@ enum AdaptFault {
 /// zones go on beyond what is stated of them, or that it was made readable. Gives 4 where the reader or the writer failed, 5 where memory was
 /// refused, and 3 after more pieces than a u64 counts.
 pub fn run_adapt<R: Input + Drop, W: Output, E: Output>(
+    alloc: Global,
     door: &mut Door<'_, '_, R>,
     report: bool,
     writer: &mut W,
@@ -38,10 +41,13 @@ pub fn run_adapt<R: Input + Drop, W: Output, E: Output>(
 {
     for _ in 0..u64::MAX {
         match pass_on(door, writer) {
-            Ok(true) => report_object(door, report, errors),
+            Ok(true) => {}
             Ok(false) => return DONE,
             Err(fault) => return report_fault(errors, fault),
         }
+        let Ok(()) = report_object(alloc, door, report, errors) else {
+            return report_memory(errors);
+        };
     }
     report_too_long(errors)
 }
@@ -95,57 +101,57 @@ fn report_fault<E: Output>(errors: &mut E, fault: AdaptFault) -> u8
     }
 }
 
-/// Says of an object that was made readable what goes on in it, where that is wanted. Where standard error fails, nobody is left to be told.
+/// Says of an object that was made readable what goes on in it, where that is wanted.
 fn report_object<R: Input + Drop, E: Output>(
+    alloc: Global,
     door: &Door<'_, '_, R>,
     report: bool,
     errors: &mut E,
-)
+) -> Result<(), AllocError>
+    ensures says { OnOk result (report ≡ true → door.now.is_adapted ≡ true
+        → SaysLine (adapted_text door.now.objects (map string_bytes door.now.going_on.items)) (E.contents errors.old) (E.contents errors.new) (E.may_lose errors.new)) }
     ensures silent { report ≡ false → errors.new ≡ errors.old }
-    ensures says { report ≡ true → door.now.is_adapted ≡ true → SaysLine (adapted_text door.now.objects (map string_bytes door.now.going_on.items)) (E.contents errors.old) (E.contents errors.new) (E.may_lose errors.new) }
     ensures plain { door.now.is_adapted ≡ false → errors.new ≡ errors.old }
+    ensures none { OnErr result (errors.new ≡ errors.old) }
 {
-    if report && door.is_adapted() {
-        let _ = say_adapted(errors, door.objects(), door.going_on());
+    if !report {
+        return Ok(());
     }
+    if !door.is_adapted() {
+        return Ok(());
+    }
+    let mut text = Vec::new(alloc);
+    let Ok(()) = append_adapted(&mut text, door.objects(), door.going_on()) else {
+        return Err(AllocError);
+    };
+    say(errors, text.as_slice());
+    Ok(())
 }
 
-/// Says of the object of this number which zones go on in it, or, where none does, that it was made readable.
-fn say_adapted<E: Output>(
-    errors: &mut E,
-    number: u64,
-    going_on: &[String],
-) -> Result<(), WriteFault>
-    ensures says { SaysLine (adapted_text number (map string_bytes going_on.now)) (E.contents errors.old) (E.contents errors.new) (E.may_lose errors.new) }
+/// A line for each zone that goes on in the object of this number, or, where none does, that it was made readable.
+fn append_adapted(text: &mut Vec<u8>, number: u64, going_on: &[String]) -> io::Result<()>
+    ensures { OnOk result (text.new.items ≡ text.old.items ++ adapted_text number (map string_bytes going_on.now)) }
 {
     if going_on.is_empty() {
-        return say_of_object(errors, number, "made readable\n");
+        return writeln!(text, "roombox: object {number}: made readable");
     }
+    append_going_on(text, number, going_on)
+}
+
+fn append_going_on(text: &mut Vec<u8>, number: u64, going_on: &[String]) -> io::Result<()>
+    ensures { OnOk result (text.new.items ≡ text.old.items ++ flat_map (goes_on_text number) (map string_bytes going_on.now)) }
+{
     for name in going_on {
-        say_goes_on(errors, number, name.as_str())?;
+        append_goes_on(text, number, name.as_str())?;
     }
     Ok(())
 }
 
-/// Says of an object that a zone of this name goes on in it.
-fn say_goes_on<E: Output>(errors: &mut E, number: u64, name: &str) -> Result<(), WriteFault>
-    ensures says { OnOk result (Appends (E.contents errors.old) (E.contents errors.new) (goes_on_text number name.now)) }
-    ensures stops { OnErr result (IsCutLine (goes_on_text number name.now) (E.contents errors.old) (E.contents errors.new)) }
-    ensures lost { OnErr result (E.may_lose errors.new ≡ true) }
+fn append_goes_on(text: &mut Vec<u8>, number: u64, name: &str) -> io::Result<()>
+    ensures { OnOk result (text.new.items ≡ text.old.items ++ goes_on_text number name.now) }
 {
-    say_of_object(errors, number, name)?;
-    errors.put(b" goes on after its last onset\n")
-}
-
-/// `roombox: object 3: `, and the text.
-fn say_of_object<E: Output>(errors: &mut E, number: u64, text: &str) -> Result<(), WriteFault>
-    ensures says { OnOk result (Appends (E.contents errors.old) (E.contents errors.new) (object_text number text.now)) }
-    ensures stops { OnErr result (IsCutLine (object_text number text.now) (E.contents errors.old) (E.contents errors.new)) }
-    ensures lost { OnErr result (E.may_lose errors.new ≡ true) }
-{
-    let mut digits = Buffer::new();
-    errors.put(b"roombox: object ")?;
-    errors.put(digits.format(number).as_bytes())?;
-    errors.put(b": ")?;
-    errors.put(text.as_bytes())
+    writeln!(
+        text,
+        "roombox: object {number}: {name} goes on after its last onset"
+    )
 }
