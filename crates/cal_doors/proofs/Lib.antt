@@ -3,10 +3,23 @@ pub mod RunLemmas
 pub mod SameDays
 pub mod Reaches
 pub mod Left
+pub mod UpTo
+pub mod RunsUpTo
 pub mod Offsets
 pub mod Afterwards
 pub mod Same
 pub mod General
 pub mod Again
 pub mod PartSays
+pub mod NamedTables
+pub mod UsesScans
+pub mod UsesLines
+pub mod UsesTables
+pub mod UsesEvents
 mod Examples
+pub mod LawClocks
+pub mod LawEvents
+pub mod LawOffsets
+pub mod LawMeant
+pub mod LawZoneClocks
+pub mod LawStarts

@@ -1,12 +1,20 @@
 -- What runs of onsets are up to an instant.
-use Rattle.std.specs.Prelude.{◌≡◌, ◌↔◌, Bool, true, List, Option, Some, ℤ, pos, ◌+ℤ◌, ◌≤ℤ◌}
-use Rattle.profile.specs.series.Zones.{Zone, Onset}
-use Rattle.profile.specs.series.GeneralZones.{Run, IsRunOnset, IsGeneralOnset, IsSameBetween}
+use Rattle.std.specs.Prelude.{◌≡◌, ◌↔◌, ℕ, Bool, true, List, Option, Some, ℤ, pos, ◌+ℤ◌, ◌≤ℤ◌}
+use Rattle.profile.specs.series.Zones.{Zone, Observance, Onset}
+use Rattle.profile.specs.series.GeneralZones.{End, Run, IsInTime, IsRunOnset, IsGeneralOnset, IsSameBetween}
 use Rattle.profile.specs.doors.Adapting.{tables_end, IsOverAt}
+
+-- an onset of a run has come
+abbrev pub HasRunBegun : Run → ℤ → Type 0
+HasRunBegun run instant = (onset : Onset) × IsRunOnset run onset × (onset.instant ≤ℤ instant)
 
 -- an onset has come
 abbrev pub HasBegun : List Run → ℤ → Type 0
 HasBegun zone instant = (onset : Onset) × IsGeneralOnset zone onset × (onset.instant ≤ℤ instant)
+
+-- up to an instant, an onset is in time for the one end where it is for the other
+abbrev pub IsSameEndUpTo : ℤ → End → End → Type 0
+IsSameEndUpTo to end other = (o : Observance) (day : ℕ) (x : ℤ) → x ≤ℤ to → IsInTime end o day x ↔ IsInTime other o day x
 
 -- up to an instant a run has the onsets of another
 abbrev pub IsSameRunUpTo : ℤ → Run → Run → Type 0

@@ -9,3 +9,4 @@ pub mod Named
 pub mod Used
 pub mod Between
 pub mod Adapted
+pub mod Laws

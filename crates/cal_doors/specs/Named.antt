@@ -1,5 +1,6 @@
 -- What the table of an object's VTIMEZONEs holds.
 use Rattle.std.specs.Prelude.{◌≡◌, ℕ, Bool, ◌&&◌, if◌then◌else◌, List, codes, find, Option, None, String, string_bytes}
+use denote.Ref.{Bor}
 use Rattle.std.specs.Map.{lookup}
 use Rattle.std.specs.Str.{bytes_eq}
 use Rattle.ical_tree.specs.Tree.{component_name, component_lines, component_children}

@@ -2,8 +2,9 @@
 
 ghost use Rattle.std.specs.Prelude.{◌≡◌, true, IfOk, IfSome};
 ghost use Rattle.profile.specs.doors.Adapting.{IsOverAt};
-ghost use Rattle.cal_doors.specs.Runs.{runs_in};
-ghost use Rattle.cal_doors.specs.Between.{HasBegun, AreSameUpTo};
+ghost use Rattle.cal_doors.specs.Ends.{end_of};
+ghost use Rattle.cal_doors.specs.Runs.{run_of, runs_in};
+ghost use Rattle.cal_doors.specs.Between.{HasBegun, HasRunBegun, AreSameUpTo, IsSameEndUpTo};
 
 use crate::end::End;
 use crate::places::latest_place;
@@ -17,15 +18,23 @@ pub(crate) fn has_begun(runs: &[Run], instant: i64) -> bool
     let Some(place) = latest_place(runs, instant) else {
         return false;
     };
-    begins_by(&runs[place], instant)
-}
-
-/// Whether the latest onset of a run up to an instant is known.
-fn begins_by(run: &Run, instant: i64) -> bool {
-    match run.latest_bound(instant) {
-        Some(latest) => latest <= instant && run.begins_at(latest),
+    match runs.get(place) {
+        Some(run) => begins_by(run, instant),
         None => false,
     }
+}
+
+/// Whether an onset of a run comes up to an instant. It isn't known where the onsets are counted.
+fn begins_by(run: &Run, instant: i64) -> bool
+    ensures { result ≡ true → HasRunBegun (run_of run.now) instant }
+{
+    let Some(latest) = run.latest_bound(instant) else {
+        return false;
+    };
+    if instant < latest {
+        return false;
+    }
+    run.begins_at(latest)
 }
 
 /// The same runs up to an instant, where those whose rule would set nothing more up to it go on after it.
@@ -34,9 +43,10 @@ pub(crate) fn going_on(alloc: Global, runs: &[Run], to: i64) -> Result<Vec<Run>,
 {
     let mut others = Vec::new(alloc);
     for run in runs {
-        if run.first_bound() <= to {
-            others.push(run.going_on(to))?;
+        if to < run.first_bound() {
+            continue;
         }
+        others.push(run.going_on(to))?;
     }
     Ok(others)
 }
@@ -47,9 +57,10 @@ pub(crate) fn ending(alloc: Global, runs: &[Run], to: i64) -> Result<Vec<Run>, A
 {
     let mut others = Vec::new(alloc);
     for run in runs {
-        if run.first_bound() <= to {
-            others.push(run.ending(to))?;
+        if to < run.first_bound() {
+            continue;
         }
+        others.push(run.ending(to))?;
     }
     Ok(others)
 }
@@ -77,12 +88,19 @@ impl Run {
         ensures { IsSameRunUpTo to (run_of self.now) (run_of result) }
     {
         let mut run = *self;
-        run.end = match self.end {
-            End::Never => End::At(to),
-            End::At(until) => End::At(until.min(to)),
-            End::After(count) => End::After(count),
-        };
+        run.end = ending_by(self.end, to);
         run
+    }
+}
+
+/// The same end up to an instant, and no later one where onsets aren't counted.
+fn ending_by(end: End, to: i64) -> End
+    ensures { IsSameEndUpTo to (end_of end) (end_of result) }
+{
+    match end {
+        End::Never => End::At(to),
+        End::At(until) => End::At(until.min(to)),
+        End::After(count) => End::After(count),
     }
 }
 

@@ -1,10 +1,25 @@
-//! What zones in general are the same as: laws, with nothing to do.
+//! What zones in general are the same as, and what an object that was made readable says: laws, with nothing to do.
 
-ghost use Rattle.std.specs.Prelude.{◌≡◌, ◌<◌, ◌++◌, ◌∷◌, List, None, Contains};
-ghost use Rattle.profile.specs.series.Zones.{Observance, Single, Pair, local_time};
+ghost use Rattle.std.specs.Prelude.{◌≡◌, ◌↔◌, ◌⊎◌, ◌<◌, ◌++◌, ◌∷◌, ℕ, ℤ, false, List, Option, None, Contains};
+ghost use Rattle.std.specs.List.{list_any};
+ghost use Rattle.std.specs.Str.{bytes_eq};
+ghost use Rattle.profile.specs.text.Trees.{Tree, vevents};
+ghost use Rattle.profile.specs.series.Rules.{Rule, RuleText};
+ghost use Rattle.profile.specs.series.Zones.{Zone, Observance, Single, Pair, Means, Shows, local_time};
 ghost use Rattle.profile.specs.series.GeneralZones as general;
 ghost use Rattle.profile.specs.series.GeneralZoneTexts.{IsRunAt};
+ghost use Rattle.profile.specs.series.RoomZones.{IsRoomZone};
+ghost use Rattle.profile.specs.events.Properties.{Fixed};
+ghost use Rattle.profile.specs.events.ZonedTimes.{EventTimes, SaysEventTimes, clock_of};
+ghost use Rattle.profile.specs.events.EventRules.{GivesRule};
+ghost use Rattle.profile.specs.events.EventComponents.{EventComponent, Method, SaysEventComponent};
+ghost use Rattle.profile.specs.events.Placed.{IsPlaced};
+ghost use Rattle.profile.specs.events.Starts.{IsRuleStart, IsGiven, IsDaysLater};
+ghost use Rattle.profile.specs.doors.OnClocks.{GivesRuleOn, IsRuleStartOn, IsDaysLaterOn, MayStart};
+ghost use Rattle.profile.specs.doors.Uses.{IsLineIn};
+ghost use Rattle.profile.specs.doors.Adapting.{IsAdapted};
 ghost use Rattle.cal_doors.specs.After.{IsGeneral, AreSameZones};
+ghost use Rattle.cal_doors.specs.Laws.{SaysTheSame, SaysTheSameUpTo};
 
 /// The same offset is in force, and local times mean the same, in a zone of one observance or of two and in the zone in general of its runs.
 pub fn zones_are_general()
@@ -18,4 +33,32 @@ pub fn date_at_start_adds_nothing()
     ensures { (o : Observance) (again : general.Run) (before after : List general.Run) → o.rule ≡ None → o.second < 86_400
         → IsRunAt o (local_time o.day o.second) again → Contains (before ++ after) (record { observance = o; end = general.Never })
         → AreSameZones (before ++ again ∷ after) (before ++ after) }
+{}
+
+/// Each VEVENT of an object that was made readable says the same as before by its times in each zone that doesn't go on beyond what is stated: each
+/// local time that it names there means the same instant, its rule has the same days and the same starts, and nominal days end at the same instant. The
+/// rule of one before 1970, which a room refuses, is left aside. In a zone that goes on it says the same up to the end of what is stated.
+pub fn adapted_says_the_same()
+    ensures exact { (listed : Option Tree) (octets : List ℕ) (going_on : List (List ℕ)) (adapted : List ℕ) (a : IsAdapted listed octets going_on adapted)
+        (name : List ℕ) (lines : List (List ℕ)) (line : List ℕ) → Contains (vevents a.before) lines → IsLineIn name lines line
+        → list_any (bytes_eq name) going_on ≡ false → SaysTheSame listed a.before a.after name lines }
+    ensures further { (listed : Option Tree) (octets : List ℕ) (going_on : List (List ℕ)) (adapted : List ℕ) (a : IsAdapted listed octets going_on adapted)
+        (name : List ℕ) (lines : List (List ℕ)) (line : List ℕ) → Contains (vevents a.before) lines → IsLineIn name lines line
+        → SaysTheSameUpTo listed a.before a.after name lines }
+{}
+
+/// On the clocks of a zone that a room reads, a rule, its starts and nominal days are what the room makes of them.
+pub fn zones_are_clocks()
+    ensures rules { (zone : Zone) (local : ℤ) (text : RuleText) (rule : Rule) → GivesRule zone local text rule ↔ GivesRuleOn (Means zone) local text rule }
+    ensures starts { (times : EventTimes) (rule : Rule) (t : ℤ) → IsRuleStart times rule t ↔ IsRuleStartOn (Means (clock_of times.zone)) times.local rule t }
+    ensures days { (zone : Zone) (days : ℕ) (t later : ℤ) → IsDaysLater Fixed zone days t later ↔ IsDaysLaterOn (Means zone) (Shows zone) days t later }
+{}
+
+/// Each start that a room makes of a VEVENT whose DTSTART is fixed is one that its lines let it have on the clocks of its zone: so nominal days from
+/// each of them end at the same instant in an object that was made readable.
+pub fn starts_are_known()
+    ensures { (words : List ℕ) (room : Option Zone) (object : Tree) (method : Option Method) (lines : List (List ℕ)) (event placed : EventComponent) (t : ℤ)
+        → IsRoomZone words room → SaysEventComponent object method lines event → SaysEventTimes object lines event.times → event.times.form ≡ Fixed
+        → IsPlaced room event placed → IsGiven placed.times placed.rule t ⊎ Contains placed.additions t
+        → MayStart (Means (clock_of event.times.zone)) lines event.times.local t }
 {}

@@ -23,7 +23,10 @@ mod zone;
 
 pub use adapt::{Adapted, adapt};
 pub use end::{End, YearDay};
-pub use law::{date_at_start_adds_nothing, zones_are_general};
+pub use law::{
+    adapted_says_the_same, date_at_start_adds_nothing, starts_are_known, zones_are_clocks,
+    zones_are_general,
+};
 pub use named::NamedZones;
 pub use run::Run;
 pub use zone::GeneralZone;

@@ -1,20 +1,20 @@
 //! The RRULE of a part of a VTIMEZONE: the day of the year that it names, and where it ends (RFC 5545 3.3.10, 3.6.5).
 
-ghost use Rattle.std.specs.Prelude.{◌≡◌, ◌∷◌, [], ℕ, true, map, None, Some, IfOk, IfErr, IfSome, IfNone, MatchOption};
+ghost use Rattle.std.specs.Prelude.{◌≡◌, true, None, Some, IfOk, IfErr, IfSome, IfNone, MatchOption};
 ghost use Rattle.ical_lines.specs.Fault.{RefusesBy};
 ghost use Rattle.profile.specs.series.ZoneTexts as texts;
-ghost use Rattle.profile.specs.series.ZoneTexts.{is_one_day, is_each_year, names_days};
+ghost use Rattle.profile.specs.series.ZoneTexts.{is_one_day};
 ghost use Rattle.profile.specs.series.GeneralZones as general;
 ghost use Rattle.profile.specs.series.GeneralZoneTexts.{without_end, IsEndOf, SpellsEnding, SpellsNoEnding};
-ghost use Rattle.cal_rules.specs.Views.{weekday_number_of, until_of};
-ghost use Rattle.cal_zones.specs.Shapes.{days_of, rule_named};
+ghost use Rattle.cal_rules.specs.Views.{until_of};
+ghost use Rattle.cal_zones.specs.Shapes.{rule_named};
 ghost use Rattle.cal_doors.specs.Ends.{end_of};
 ghost use Rattle.cal_zones.specs.Read.{IsShapeFault};
 ghost use Rattle.cal_doors.specs.Reading.{ending_of};
 
 use crate::end::{End, YearDay};
-use cal_rules::{RuleText, Until, WeekdayNumber, one_rule};
-use cal_zones::{MonthDays, day_named};
+use cal_rules::{RuleText, Until, one_rule};
+use cal_zones::day_named;
 use ical_lines::{Fault, Refusal};
 use ical_values::UtcOffset;
 use std::alloc::Global;

@@ -1,13 +1,16 @@
 //! Which zones the times of an object name, from when on and until when.
 
-ghost use Rattle.std.specs.Prelude.{◌≡◌, ◌≤ℤ◌, ℕ, ℤ, true, IfOk, IfSome};
+ghost use Rattle.std.specs.Prelude.{◌≡◌, ◌≤ℤ◌, ◌+ℤ◌, pos, ℕ, ℤ, true, false, Some, option_copied, IfOk, IfSome, OnOk};
 ghost use Rattle.ical_lines.specs.Text.{line_text};
 ghost use Rattle.ical_tree.specs.Tree.{component_lines, tree_of};
-ghost use Rattle.profile.specs.text.Values.{SpellsDuration};
-ghost use Rattle.profile.specs.doors.Uses.{is_time_line, SaysLocal, EventEndsBy, RuleEndsBy};
-ghost use Rattle.profile.specs.series.Rules.{RuleText};
+ghost use Rattle.profile.specs.text.Values.{SpellsDuration, SpellsLocal, SpellsStamp};
+ghost use Rattle.profile.specs.doors.Uses.{is_time_line, SaysLocal, SaysStamp, LastsDays, EventEndsBy, RuleEndsBy};
+ghost use Rattle.profile.specs.series.Rules as rules;
+ghost use Rattle.profile.specs.series.Rules.{UntilLocal};
 ghost use Rattle.profile.specs.series.RuleTexts.{SpellsRule};
-ghost use Rattle.cal_doors.specs.Used.{AreUses, AreUsesWith, LineEndsBy};
+ghost use Rattle.cal_rules.specs.Views.{until_of};
+ghost use Rattle.cal_doors.specs.Used.{AreUses, AreUsesWith, AddsLine, AllBeginBy, HasNoDays, LineBeginsBy, LineEndsBy, IsAsWide, IsWidened, EndsEarlier};
+ghost use Rattle.cal_doors.specs.declared.uses.Use.{Use};
 
 use cal_rules::{RuleText, Until};
 use ical_lines::{Fault, Line};
@@ -37,7 +40,10 @@ pub(crate) fn uses_of(alloc: Global, object: &Component) -> Result<Option<Uses>,
 {
     let mut uses = IndexMap::new(alloc);
     for child in object.children() {
-        if child.is_named("VEVENT") && !add_event(alloc, child, &mut uses)? {
+        if !child.is_named("VEVENT") {
+            continue;
+        }
+        if !add_event(alloc, child, &mut uses)? {
             return Ok(None);
         }
     }
@@ -53,7 +59,10 @@ fn add_event(alloc: Global, event: &Component, uses: &mut Uses) -> Result<bool, 
         last: event_end(alloc, event)?,
     };
     for line in event.lines() {
-        if is_time_line(line) && !add_line(alloc, line, whole, uses)? {
+        if !is_time_line(line) {
+            continue;
+        }
+        if !add_line(alloc, line, whole, uses)? {
             return Ok(false);
         }
     }
@@ -61,12 +70,9 @@ fn add_event(alloc: Global, event: &Component, uses: &mut Uses) -> Result<bool, 
 }
 
 /// Adds the zone that a line of times names, if it names one; `whole` is about all times of its VEVENT. False where a text of it is no local time.
-fn add_line(
-    alloc: Global,
-    line: Line<'_>,
-    whole: Use,
-    uses: &mut Uses,
-) -> Result<bool, AllocError> {
+fn add_line(alloc: Global, line: Line<'_>, whole: Use, uses: &mut Uses) -> Result<bool, AllocError>
+    ensures { IfOk result (λ all. all ≡ true → AddsLine (line_text line.entry) whole uses.old.entries uses.new.entries) }
+{
     let Some(name) = line.param("TZID") else {
         return Ok(true);
     };
@@ -81,46 +87,86 @@ fn add_line(
     Ok(true)
 }
 
-/// The first local time that a VEVENT needs in each zone that it names, whichever its lines name there: that of its UNTIL; and where it lasts nominal
-/// days, any that is shown at one of its times.
-fn event_first(alloc: Global, event: &Component) -> Result<i64, AllocError> {
+/// The first local time that a VEVENT needs in each zone that it names, whichever its lines name there.
+fn event_first(alloc: Global, event: &Component) -> Result<i64, AllocError>
+    ensures { IfOk result (AllBeginBy (component_lines event.now)) }
+{
     let days = lasts_days(event);
     let mut first = i64::MAX;
     for line in event.lines() {
-        if line.is_named("RRULE") {
-            first = first.min(until_local(alloc, line.value())?);
-        }
-        if days && is_time_line(line) {
-            first = first.min(earliest(line));
-        }
+        first = first.min(line_first(alloc, line, days)?);
     }
     Ok(first)
 }
 
+/// The first of those that one line is about: that of UNTIL; and where days count, any that is shown at one of its times.
+fn line_first(alloc: Global, line: Line<'_>, days: bool) -> Result<i64, AllocError>
+    ensures { IfOk result (LineBeginsBy days (line_text line.entry)) }
+{
+    if line.is_named("RRULE") {
+        return until_local(alloc, line.value());
+    }
+    if !(days && is_time_line(line)) {
+        return Ok(i64::MAX);
+    }
+    Ok(earliest(line))
+}
+
 /// Whether a VEVENT may last nominal days.
-fn lasts_days(event: &Component) -> bool {
+fn lasts_days(event: &Component) -> bool
+    ensures { result ≡ false → LastsDays (component_lines event.now) → ⊥ }
+{
     for line in event.lines() {
-        if line.is_named("DURATION") && duration_end(line.value()).is_none() {
+        if has_days(line) {
             return true;
         }
     }
     false
 }
 
+/// Whether a line is a length that may have nominal days.
+fn has_days(line: Line<'_>) -> bool
+    ensures { result ≡ false → HasNoDays (line_text line.entry) }
+{
+    if !line.is_named("DURATION") {
+        return false;
+    }
+    match duration_end(line.value()) {
+        Some(_) => false,
+        None => true,
+    }
+}
+
 /// The local time of UNTIL; the greatest number where it is none.
-fn until_local(alloc: Global, text: &str) -> Result<i64, AllocError> {
-    match RuleText::read(alloc, text) {
-        Ok(rule) => Ok(match rule.until() {
-            Some(Until::Local(local)) => local.seconds(),
-            _ => i64::MAX,
-        }),
-        Err(Fault::Memory) => Err(AllocError),
-        Err(Fault::Refused(_)) => Ok(i64::MAX),
+fn until_local(alloc: Global, text: &str) -> Result<i64, AllocError>
+    ensures { IfOk result (λ first. (rule : rules.RuleText) (local : ℤ) → SpellsRule text.now rule → rule.until ≡ Some (UntilLocal local) → first ≤ℤ local) }
+{
+    let rule = match RuleText::read(alloc, text) {
+        Ok(rule) => rule,
+        Err(Fault::Memory) => return Err(AllocError),
+        Err(Fault::Refused(_)) => return Ok(i64::MAX),
+    };
+    let Some(until) = rule.until() else {
+        return Ok(i64::MAX);
+    };
+    Ok(local_of(&until))
+}
+
+/// The local time that UNTIL names; the greatest number where it isn't one.
+fn local_of(until: &Until) -> i64
+    ensures { (local : ℤ) → until_of until.now ≡ UntilLocal local → result ≡ local }
+{
+    match until {
+        Until::Local(local) => local.seconds(),
+        Until::Date(_) | Until::Utc(_) => i64::MAX,
     }
 }
 
 /// No local time is earlier, on whatever clock, that is shown at one of the times of a line.
-fn earliest(line: Line<'_>) -> i64 {
+fn earliest(line: Line<'_>) -> i64
+    ensures local { (local : ℤ) → SaysLocal (line_text line.entry) local → (result +ℤ pos 86_399) ≤ℤ local }
+    ensures utc { (instant : ℤ) → SaysStamp (line_text line.entry) instant → result ≤ℤ instant }
+{
     let mut first = i64::MAX;
     for text in line.value().split(',') {
         first = first.min(earliest_of(text));
@@ -129,7 +175,10 @@ fn earliest(line: Line<'_>) -> i64 {
 }
 
 /// The same for the time that a text is; the greatest number where it is none.
-fn earliest_of(text: &str) -> i64 {
+fn earliest_of(text: &str) -> i64
+    ensures local { (local : ℤ) → SpellsLocal text.now local → (result +ℤ pos 86_399) ≤ℤ local }
+    ensures utc { (instant : ℤ) → SpellsStamp text.now instant → result ≤ℤ instant }
+{
     if let Ok(local) = LocalTime::read(text) {
         return local.seconds() - LEAST_OF_DAY;
     }
@@ -145,28 +194,42 @@ fn first_local(line: Line<'_>) -> Option<i64>
 {
     let mut first = i64::MAX;
     for text in line.value().split(',') {
-        let local = LocalTime::read(text).ok()?;
+        let Ok(local) = LocalTime::read(text) else {
+            return None;
+        };
         first = first.min(local.seconds());
     }
     Some(first)
 }
 
 /// Adds local times that name a zone.
-fn widen(alloc: Global, uses: &mut Uses, name: &str, more: Use) -> Result<(), AllocError> {
-    let both = match uses.get(name) {
-        None => more,
-        Some(earlier) => Use {
-            first: earlier.first.min(more.first),
-            last: later(earlier.last, more.last),
-        },
-    };
+fn widen(alloc: Global, uses: &mut Uses, name: &str, more: Use) -> Result<(), AllocError>
+    ensures { OnOk result (IsWidened name.now more uses.old.entries uses.new.entries) }
+{
+    let both = wider(uses.get(name), more);
     let name = String::from_str(alloc, name)?;
     uses.insert(name, both)?;
     Ok(())
 }
 
+/// A use that is about the local times of both.
+fn wider(earlier: Option<&Use>, more: Use) -> Use
+    ensures more { IsAsWide more result }
+    ensures earlier { (u : Use) → option_copied earlier.entry ≡ Some u → IsAsWide u result }
+{
+    let Some(earlier) = earlier else {
+        return more;
+    };
+    Use {
+        first: earlier.first.min(more.first),
+        last: later(earlier.last, more.last),
+    }
+}
+
 /// The later of two ends. None where one of them is none.
-fn later(one: Option<i64>, other: Option<i64>) -> Option<i64> {
+fn later(one: Option<i64>, other: Option<i64>) -> Option<i64>
+    ensures { IfSome result (λ end. EndsEarlier one end × EndsEarlier other end) }
+{
     Some(one?.max(other?))
 }
 
@@ -203,7 +266,7 @@ fn line_end(alloc: Global, line: Line<'_>) -> Result<Option<i64>, AllocError>
 
 /// The end of the local times at which a rule lets an event start. None where it has no UNTIL, or isn't read.
 fn rule_end(alloc: Global, text: &str) -> Result<Option<i64>, AllocError>
-    ensures { IfOk result (λ found. IfSome found (λ last. (rule : RuleText) × SpellsRule text.now rule × RuleEndsBy rule last)) }
+    ensures { IfOk result (λ found. IfSome found (λ last. (rule : rules.RuleText) × SpellsRule text.now rule × RuleEndsBy rule last)) }
 {
     let rule = match RuleText::read(alloc, text) {
         Ok(rule) => rule,
@@ -216,21 +279,26 @@ fn rule_end(alloc: Global, text: &str) -> Result<Option<i64>, AllocError>
     Ok(Some(until_end(&until)))
 }
 
-/// A day after the local time that UNTIL names, or the instant.
-fn until_end(until: &Until) -> i64 {
-    let named = match until {
-        Until::Date(day) => day.number() as i64 * DAY_SECONDS as i64,
-        Until::Local(local) => local.seconds(),
-        Until::Utc(stamp) => stamp.instant(),
-    };
-    named + DAY_SECONDS as i64
+/// A day after the date or the instant that UNTIL names, two days after a local time: what that means, and a start, differ from their local times by
+/// less than a day each.
+fn until_end(until: &Until) -> i64
+    ensures { (rule : rules.RuleText) → rule.until ≡ Some (until_of until.now) → RuleEndsBy rule result }
+{
+    let day = DAY_SECONDS as i64;
+    match until {
+        Until::Date(date) => date.number() as i64 * day + day,
+        Until::Local(local) => local.seconds() + 2 * day,
+        Until::Utc(stamp) => stamp.instant() + day,
+    }
 }
 
 /// No end for a length of nominal days, or for one that isn't read; one of seconds alone doesn't matter.
 fn duration_end(text: &str) -> Option<i64>
     ensures { IfSome result (λ _. (days seconds : ℕ) → SpellsDuration text.now days seconds → days ≡ 0) }
 {
-    let length = Duration::read(text).ok()?;
+    let Ok(length) = Duration::read(text) else {
+        return None;
+    };
     if length.days > 0 {
         return None;
     }

@@ -6,6 +6,7 @@ pub mod PairLemmas
 pub mod OneTree
 pub mod ReadsBackLemmas
 pub mod TreeOfLemmas
+pub mod SameTrees
 pub mod OneLine
 pub mod PropertyLemmas
 mod RunLemmas

@@ -38,7 +38,7 @@ impl Component<'_> {
 
 /// Whether lines are the same, one by one.
 fn are_same_lines(one: OwnLines<'_>, other: OwnLines<'_>) -> bool
-    ensures { result ≡ true → lines_left one ≡ lines_left other }
+    ensures { result ≡ true → lines_left one.entry ≡ lines_left other.entry }
 {
     let mut other = other;
     for line in one {

@@ -6,6 +6,7 @@
 #![tactic(auto)]
 
 mod days;
+mod doors;
 mod known_zones;
 mod lines;
 mod rules;
@@ -30,7 +31,8 @@ fn main(rt: HostRuntime) -> io::Result<()> {
         let table = fs::read_to_string(&rt, subject.file())?;
         print_cases(&rt, subject, table.as_str())?;
     }
-    known_zones::print_table(&rt)
+    known_zones::print_table(&rt)?;
+    doors::print_table(&rt)
 }
 
 fn is_asked_for_seeks<R: Env + AllocGlobal>(rt: &R) -> io::Result<bool> {

@@ -10,7 +10,7 @@ use Rattle.profile.specs.series.Zones.{Zone, Means, Shows, local_time}
 use Rattle.profile.specs.series.GeneralZones.{Run, IsGeneralOffsetAt, MeansGenerally, ShowsBy}
 use Rattle.profile.specs.events.Properties.{Length, LastsFor, lines_named}
 use Rattle.profile.specs.events.EventRules.{IsOnDay, as_end}
-use Rattle.profile.specs.doors.Uses.{IsLineIn, SaysLocal, SaysStamp}
+use Rattle.profile.specs.doors.Uses.{IsLineIn, SaysLocal, SaysOnClock, SaysStamp}
 
 -- ---- the rule (RFC 5545 3.3.10)
 
@@ -63,28 +63,30 @@ IsDaysLaterOn Means Shows days instant later =
 
 -- ---- when a VEVENT may start
 
--- an instant at which a VEVENT may start, whose DTSTART is this local time: at that, by its rule, or by an RDATE, which may be of another zone
+-- an instant at which a VEVENT may start, whose DTSTART is this local time: at that, by its rule, or by an RDATE, which may be of another zone, or
+-- a date
 pub data MayStart (Means : ℤ → ℤ → Type 0) (lines : List (List ℕ)) (local t : ℤ) : Type 0 where
   first : Means local t → MayStart Means lines local t
   by_rule : (line : List ℕ) (text : RuleText) (rule : Rule) → Contains (lines_named (codes "RRULE") lines) line → SpellsRule (line_value line) text
       → GivesRuleOn Means local text rule → IsRuleStartOn Means local rule t → MayStart Means lines local t
   added : (line : List ℕ) → Contains (lines_named (codes "RDATE") lines) line → SaysStamp line t → MayStart Means lines local t
-  -- on whatever clock, whose offset is less than a day
-  added_local : (line : List ℕ) (other : ℤ) → Contains (lines_named (codes "RDATE") lines) line → SaysLocal line other → other ≤ℤ (t +ℤ pos 86_399)
+  -- on whatever clock, whose offset is less than a day: that of another zone, or of a room
+  added_local : (line : List ℕ) (other : ℤ) → Contains (lines_named (codes "RDATE") lines) line → SaysOnClock line other → other ≤ℤ (t +ℤ pos 86_399)
       → MayStart Means lines local t
 
 -- ---- the same
 
 -- on both clocks a VEVENT, which is these lines, says the same by its times in the zone of this name: each local time that it names there means the same.
--- Where DTSTART is one of them, its rule has the same days and the same starts, and the days of its length, counted from a start on, end at the same instant
+-- Where DTSTART is one of them, its rule has the same days and the same starts, if it isn't before 1970, and the days of its length, counted from a start
+-- on, end at the same instant
 pub record SaysSameOn (Means Shows Others ShowsOther : ℤ → ℤ → Type 0) (name : List ℕ) (lines : List (List ℕ)) : Type 0 where
   pub times : (line : List ℕ) (local t : ℤ) → IsLineIn name lines line → SaysLocal line local → Means local t ↔ Others local t
   pub rules : (start line : List ℕ) (local : ℤ) (text : RuleText) (rule : Rule) → Contains (lines_named (codes "DTSTART") lines) start → IsLineIn name lines start
-      → SaysLocal start local → Contains (lines_named (codes "RRULE") lines) line → SpellsRule (line_value line) text
+      → SaysLocal start local → pos 0 ≤ℤ local → Contains (lines_named (codes "RRULE") lines) line → SpellsRule (line_value line) text
       → GivesRuleOn Means local text rule ↔ GivesRuleOn Others local text rule
   pub starts : (start line : List ℕ) (local : ℤ) (text : RuleText) (rule : Rule) (t : ℤ) → Contains (lines_named (codes "DTSTART") lines) start → IsLineIn name lines start
-      → SaysLocal start local → Contains (lines_named (codes "RRULE") lines) line → SpellsRule (line_value line) text → GivesRuleOn Others local text rule
-      → IsRuleStartOn Means local rule t ↔ IsRuleStartOn Others local rule t
+      → SaysLocal start local → pos 0 ≤ℤ local → Contains (lines_named (codes "RRULE") lines) line → SpellsRule (line_value line) text
+      → GivesRuleOn Others local text rule → IsRuleStartOn Means local rule t ↔ IsRuleStartOn Others local rule t
   pub ends : (start line : List ℕ) (local : ℤ) (length : Length) (t end : ℤ) → Contains (lines_named (codes "DTSTART") lines) start → IsLineIn name lines start
       → SaysLocal start local → Contains (lines_named (codes "DURATION") lines) line → LastsFor line length → MayStart Others lines local t
       → IsDaysLaterOn Means Shows length.days t end ↔ IsDaysLaterOn Others ShowsOther length.days t end

@@ -1,6 +1,6 @@
 -- Which zones the times of an object name, from when on and until when (RFC 5545 3.2.19, 3.8.2, 3.8.4.4, 3.8.5).
 -- Local times are seconds from 1970-01-01T00:00:00 on the clocks of the zone.
-use Rattle.std.specs.Prelude.{◌≡◌, ℕ, ◌<◌, ◌==◌, Bool, true, List, [], ◌∷◌, codes, Contains, Some, ℤ, pos, ◌+ℤ◌, ◌*ℤ◌, ◌≤ℤ◌}
+use Rattle.std.specs.Prelude.{◌≡◌, ℕ, ◌<◌, ◌==◌, ◌⊎◌, Bool, true, List, [], ◌∷◌, codes, Contains, Some, ℤ, pos, ◌+ℤ◌, ◌*ℤ◌, ◌≤ℤ◌}
 use Rattle.std.specs.List.{slice_split, list_any}
 use Rattle.profile.specs.text.Lines.{line_value, line_param}
 use Rattle.profile.specs.text.Trees.{Tree, vevents}
@@ -8,6 +8,7 @@ use Rattle.profile.specs.text.Values.{SpellsLocal, SpellsStamp}
 use Rattle.profile.specs.series.Rules.{RuleText, UntilDay, UntilLocal, UntilInstant}
 use Rattle.profile.specs.series.RuleTexts.{SpellsRule}
 use Rattle.profile.specs.events.Properties.{Length, LastsFor, is_of, lines_named}
+use Rattle.profile.specs.events.ZonedTimes.{SpellsMidnight}
 
 -- ---- the times that name a zone
 
@@ -43,13 +44,21 @@ LastsDays lines = (line : List ℕ) × (length : Length) × Contains (lines_name
 abbrev pub SaysStamp : List ℕ → ℤ → Type 0
 SaysStamp line instant = (text : List ℕ) × Contains (slice_split (λ c. c == 44) (line_value line)) text × SpellsStamp text instant
 
+-- the text is this local time, or a date whose day begins then, on whatever clock
+abbrev pub SpellsOnClock : List ℕ → ℤ → Type 0
+SpellsOnClock text local = SpellsLocal text local ⊎ SpellsMidnight text local
+
+-- a text of a line, with commas between, is that
+abbrev pub SaysOnClock : List ℕ → ℤ → Type 0
+SaysOnClock line local = (text : List ℕ) × Contains (slice_split (λ c. c == 44) (line_value line)) text × SpellsOnClock text local
+
 -- no local time that a VEVENT names in the zone of this name is earlier than this, and none that its UNTIL names. Where it lasts nominal days, the
 -- clocks at each of its starts decide when it ends: then no time of it is earlier, on whatever clock, whose offset is less than a day
 pub record EventBeginsBy (name : List ℕ) (lines : List (List ℕ)) (first : ℤ) : Type 0 where
   pub times : (line : List ℕ) (local : ℤ) → IsLineIn name lines line → SaysLocal line local → first ≤ℤ local
   pub until : (line : List ℕ) (rule : RuleText) (local : ℤ) → Contains (lines_named (codes "RRULE") lines) line → SpellsRule (line_value line) rule
       → rule.until ≡ Some (UntilLocal local) → first ≤ℤ local
-  pub local_days : LastsDays lines → (line : List ℕ) (local : ℤ) → Contains lines line → is_time_line line ≡ true → SaysLocal line local
+  pub local_days : LastsDays lines → (line : List ℕ) (local : ℤ) → Contains lines line → is_time_line line ≡ true → SaysOnClock line local
       → (first +ℤ pos 86_399) ≤ℤ local
   pub utc_days : LastsDays lines → (line : List ℕ) (instant : ℤ) → Contains lines line → is_time_line line ≡ true → SaysStamp line instant
       → first ≤ℤ instant
@@ -61,10 +70,11 @@ BeginsBy object name first =
 
 -- ---- how long its times go on
 
--- UNTIL ends the rule, and no clock, whose offset is less than a day, shows a later local time than this at a start that it allows
+-- UNTIL ends the rule, and no clock, whose offset is less than a day, shows a later local time than this at a start that it allows. A local time
+-- as UNTIL means an instant by one offset, and a start is shown with another
 pub data RuleEndsBy (rule : RuleText) (last : ℤ) : Type 0 where
   by_day : (day : ℤ) → rule.until ≡ Some (UntilDay day) → ((day *ℤ pos 86_400) +ℤ pos 86_400) ≤ℤ last → RuleEndsBy rule last
-  by_local : (local : ℤ) → rule.until ≡ Some (UntilLocal local) → (local +ℤ pos 86_400) ≤ℤ last → RuleEndsBy rule last
+  by_local : (local : ℤ) → rule.until ≡ Some (UntilLocal local) → (local +ℤ pos 172_800) ≤ℤ last → RuleEndsBy rule last
   by_instant : (instant : ℤ) → rule.until ≡ Some (UntilInstant instant) → (instant +ℤ pos 86_400) ≤ℤ last → RuleEndsBy rule last
 
 -- no local time that a VEVENT names, and none at which it starts by its rule, is later than this; and it lasts no nominal days, so that no

@@ -1,0 +1,10 @@
+use Rattle.std.proofs.Common.{ℕ, List}
+use Rattle.ical_tree.specs.Runs.{lines_left}
+use Rattle.ical_tree.specs.Tree.{component_lines}
+use Rattle.cal_doors.specs.Used.{LineBeginsBy}
+use Rattle.cal_doors.proofs.UsesScans.{Scanned}
+use Rattle.cal_doors.proofs.uses.event_first.Given as goal
+
+-- the lines so far say nothing earlier
+abbrev pub invariant-loop-line : goal.invariant-loop-line
+invariant-loop-line l = Scanned (λ line. LineBeginsBy l.days line l.first) (component_lines l.event) (lines_left l.line-iterator)

@@ -1,0 +1,35 @@
+use Rattle.std.proofs.Common.{◌≡◌, ◌==◌, ap, arith, sym, rules, to_z, of_z, w64, to_z-of_z}
+use Rattle.jiff_core.proofs.SignedLemmas.{signed_arith}
+use Rattle.std.specs.List.{slice_split}
+use Rattle.ical_lines.specs.Text.{line_text}
+use Rattle.cal_rules.proofs.Cuts.{all_left, cut_more, cut_done}
+use Rattle.cal_doors.proofs.UsesScans.{none_scanned, one_scanned, all_scanned}
+use Rattle.cal_doors.proofs.UsesLines.{one_local}
+use Rattle.cal_doors.proofs.uses.first_local.Goals as goal
+
+pub loop-text-init : goal.loop-text-init
+loop-text-init c =
+    let s = c.split-text-items.ensures in (
+      slice_split (λ x. x == 44) c.value.result.now,
+      all_left 44 c.value.result.now _ _ (omega arith) s.text s.has_more s.pattern c.into_iter-text-iterator.ensures.into_iter_gives,
+      none_scanned _ _ (slice_split (λ x. x == 44) c.value.result.now) (ap (slice_split (λ x. x == 44)) (sym c.value.ensures)),
+    )
+
+pub loop-text-preserved : goal.loop-text-preserved
+loop-text-preserved c =
+    let i = c.loop-text.invariant in
+    let text = c.in-Some.text.now in
+    let more = cut_more c.loop-text.text-iterator c.next.new.self c.in-Some.text i.0 i.1 c.in-Some.ensures.steps in
+    let new : to_z w64 (of_z w64 c.min-first.result) ≡ c.min-first.result = to_z-of_z {w = w64} (record { sfits = c.min-first.type_inv }) in
+    let said : to_z w64 (of_z w64 c.seconds.result) ≡ c.seconds.result = to_z-of_z {w = w64} (record { sfits = c.seconds.type_inv }) in (
+      more.0,
+      more.2,
+      one_scanned _ _ _ i.0 more.0 text more.1 (λ y still local s. let k = still local s in omega (arith, signed_arith, new, c.min-first.ensures.self_bound, k))
+          (λ local s. let e = one_local text c.in-Ok.local local c.in-Ok.ensures.reads s in omega (arith, signed_arith, new, said, c.min-first.ensures.other_bound, c.seconds.ensures.value, e)) i.2,
+    )
+
+pub returns : goal.returns
+returns c = λ local s.
+    let i = c.loop-text.invariant in
+    let none = cut_done c.loop-text.text-iterator c.next.new.self i.0 i.1 c.in-None.ensures.steps in
+    all_scanned _ _ i.0 none i.2 s.0 s.1 local s.2

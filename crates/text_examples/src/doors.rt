@@ -1,0 +1,108 @@
+//! Cases of the door: an object, a list of VTIMEZONEs or `-`, and what is asked of what comes out.
+//!
+//!     door | FILE | LIST | step | step ..
+//!
+//! FILE and LIST are files of octets. `door` says whether the object is made readable.
+
+use cal_doors::{Adapted, NamedZones, adapt};
+use cal_zones::Zone;
+use example_cases::answers::{Answers, append, none, print_answer};
+use example_cases::words::{first_word, number};
+use example_cases::{Case, NoAnswer};
+use ical_lines::{Limits, Unfolded};
+use ical_tree::read_object;
+use ical_values::LocalTime;
+use std::alloc::Global;
+use std::rt::Files;
+use std::{fs, io};
+
+/// Answers the cases of the table.
+pub fn print_table<R: Files + Print + AllocGlobal>(rt: &R) -> io::Result<()> {
+    let table = fs::read_to_string(rt, "doors.txt")?;
+    for line in table.lines() {
+        if let Some(case) = Case::of(line) {
+            let answer = answer(rt, case);
+            print_answer(rt, case, answer)?;
+        }
+    }
+    Ok(())
+}
+
+fn answer<R: Files + AllocGlobal>(rt: &R, case: Case<'_>) -> Result<String, NoAnswer> {
+    let alloc = rt.alloc();
+    let object = fs::read(rt, case.input())?;
+    if case.column(3) == "-" {
+        let adapted = adapt(alloc, object.as_slice(), None)?;
+        return answers_of(alloc, case, object.as_slice(), adapted);
+    }
+    let list = fs::read(rt, case.column(3))?;
+    let text = Unfolded::read(alloc, list.as_slice(), Limits::Open)?;
+    let zones = read_object(alloc, &text, Limits::Open)?;
+    let named = NamedZones::of(alloc, &zones)?;
+    let adapted = adapt(alloc, object.as_slice(), Some(&named))?;
+    answers_of(alloc, case, object.as_slice(), adapted)
+}
+
+/// The answers to the steps.
+fn answers_of(
+    alloc: Global,
+    case: Case<'_>,
+    object: &[u8],
+    adapted: Option<Adapted>,
+) -> Result<String, NoAnswer> {
+    let mut answers = Answers::new(alloc);
+    let Some(adapted) = adapted else {
+        answers.add("as it is")?;
+        return Ok(answers.finish());
+    };
+    if adapted.octets.as_slice() == object {
+        // It would be an error of the door.
+        answers.add("the same octets")?;
+        return Ok(answers.finish());
+    }
+    answers.add("made readable")?;
+    let text = Unfolded::read(alloc, adapted.octets.as_slice(), Limits::Message)?;
+    let after = read_object(alloc, &text, Limits::Message)?;
+    let zones = NamedZones::of(alloc, &after)?;
+    for step in case.columns_from(alloc, 4)?.iter() {
+        let answer = step_answer(alloc, *step, &zones, &adapted)?;
+        answers.add(answer.as_str())?;
+    }
+    Ok(answers.finish())
+}
+
+/// What a step answers:
+///
+///     at NAME INSTANT       the offset at that instant in the zone of that name
+///     means NAME LOCAL      the instant that a local time means there
+///     goes on               the zones that go on beyond what is stated
+fn step_answer(
+    alloc: Global,
+    step: &str,
+    zones: &NamedZones<'_, '_>,
+    adapted: &Adapted,
+) -> Result<String, NoAnswer> {
+    let (question, rest) = first_word(step);
+    if question == "goes" {
+        return going_on(alloc, adapted);
+    }
+    let (name, input) = first_word(rest);
+    let part = zones.named(name).ok_or(NoAnswer::Unreadable)?;
+    let zone = Zone::read(alloc, part)?;
+    match question {
+        "at" => Ok(zone.offset(number(input)?).to_string(alloc)?),
+        "means" => Ok(zone.resolve(LocalTime::read(input)?).to_string(alloc)?),
+        _ => Err(NoAnswer::Unreadable),
+    }
+}
+
+fn going_on(alloc: Global, adapted: &Adapted) -> Result<String, NoAnswer> {
+    if adapted.going_on.is_empty() {
+        return Ok(none(alloc)?);
+    }
+    let mut names = String::new(alloc);
+    for name in adapted.going_on.iter() {
+        append(&mut names, " ", name.as_str())?;
+    }
+    Ok(names)
+}
