@@ -87,8 +87,8 @@ Output: the objects that are sent, and for the k-th object, where it is refused,
   REFUSED;OBJECT=k:n
 `roombox explain n` says what the number n means; docs/PROFILE.md lists all.
 
-Exit status: 0 done, also where objects were refused; 2 usage; 3 the preamble is refused (90)
-or the input is too long; 4 a device failed; 5 out of memory.
+Exit status: 0 done, also where objects were refused; 2 usage; 3 the preamble is refused (90),
+FILE is refused, or the input is too long; 4 a device failed; 5 out of memory.
 
 Example: roombox serve < examples/first-request.ics-stream";
 
@@ -102,7 +102,8 @@ Output: an iCalendar object, or the lines of a certificate; docs/PROFILE.md has 
 lists the numbers of refusals.
 
 Exit status: 0 done, also where objects were refused; 2 usage; 3 the preamble is refused or
-doesn't name ROOM (90), or the input is too long; 4 a device failed; 5 out of memory.
+doesn't name ROOM (90), FILE is refused, or the input is too long; 4 a device failed; 5 out of
+memory.
 
 Example: roombox keep mailto:r1@example.com < examples/first-request.ics-stream";
 
@@ -172,9 +173,9 @@ with what `roombox serve` writes. One that is there is compared, and never writt
 again after a crash, and when files have come. The inbox has to keep all files, since the books
 are made from them. On a terminal it says how many files it has read, after each 1000th.
 
-Exit status: 0 done: each file is answered; 2 usage; 3 CONFIG is refused (90), or a file of
-OUTBOX differs from the answer: standard error has its name; 4 a file or a folder can't be used;
-5 out of memory. docs/PROFILE.md lists all numbers.
+Exit status: 0 done: each file is answered; 2 usage; 3 CONFIG (90) or FILE is refused, or a
+file of OUTBOX differs from the answer: standard error has its name; 4 a file or a folder can't
+be used; 5 out of memory. docs/PROFILE.md lists all numbers.
 
 Example: roombox box rooms.conf inbox outbox";
 
@@ -192,8 +193,8 @@ by its last rules, where an event repeats for longer; --report names it.
 
 FILE is one iCalendar object. Its VTIMEZONEs are for the names that no VTIMEZONE of an object has.
 
-Exit status: 0 done; 2 usage; 3 FILE is refused: standard error has the number; 4 a device failed,
-as where FILE isn't there; 5 out of memory. docs/PROFILE.md lists all numbers.
+Exit status: 0 done; 2 usage; 3 FILE is refused: standard error has the number; or it is too long;
+4 a device failed, as where FILE isn't there; 5 out of memory. docs/PROFILE.md lists all numbers.
 
 Example: roombox adapt < examples/first-request.ics-stream | roombox serve";
 
