@@ -1,3 +1,4 @@
+pub mod Adapted
 pub mod BlameLemmas
 pub mod Keeping
 pub mod Meanings

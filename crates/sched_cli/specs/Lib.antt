@@ -1,3 +1,4 @@
+pub mod Adapting
 pub mod Blame
 pub mod Commands
 pub mod Diagnosis

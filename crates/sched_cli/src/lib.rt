@@ -1,6 +1,7 @@
 //! The commands of `roombox`, over readers, octets and writers that are handed in.
 #![tactic(auto)]
 
+pub mod adapt;
 mod blame;
 pub mod commands;
 pub mod diagnosis;
@@ -11,6 +12,7 @@ pub mod place;
 pub mod status;
 pub mod tally;
 
+pub use adapt::run_adapt;
 pub use commands::{run_check, run_keep, run_serve};
 pub use diagnosis::run_explain_object;
 pub use expand::run_expand;
