@@ -1,0 +1,393 @@
+//! What of a VTIMEZONE is in the way of a room that reads it: the part, STANDARD or DAYLIGHT, and the line of it (RFC 5545 3.6.5).
+
+use cal_rules::RuleText;
+use cal_zones::day_named;
+use ical_lines::{Fault, Line};
+use ical_tree::Component;
+use ical_values::UtcOffset;
+use ical_values::stamp::ends_in_z;
+use std::alloc::{AllocError, Global};
+
+/// What is in the way.
+#[derive(Clone, Copy, PartialEq, Eq)]
+pub(crate) enum Obstacle {
+    /// There is neither STANDARD nor DAYLIGHT.
+    NoPart,
+    /// RDATE.
+    Dates,
+    /// A property that isn't there.
+    Missing(PartTime),
+    /// One that occurs twice.
+    Twice(PartTime),
+    /// DTSTART isn't local.
+    Fixed,
+    /// RRULE of the only part.
+    RuledAlone,
+    /// It is the second part of its name.
+    Second,
+    /// No RRULE, beside another part.
+    NoRule,
+    TwoRules,
+    /// UNTIL in RRULE.
+    Until,
+    /// COUNT in RRULE.
+    Count,
+    /// RRULE isn't of one day of every year.
+    OtherRule,
+    /// TZOFFSETFROM and TZOFFSETTO are more than 12 hours apart.
+    FarApart,
+    /// TZOFFSETFROM isn't the TZOFFSETTO of the other part.
+    Unmatched,
+    /// It begins less than two days from the other part.
+    Close,
+}
+
+/// A property that a part has once.
+#[derive(Clone, Copy, PartialEq, Eq)]
+pub(crate) enum PartTime {
+    Start,
+    From,
+    To,
+}
+
+/// What of a part is in the way.
+#[derive(Clone, Copy)]
+pub(crate) struct Cause<'a> {
+    pub(crate) obstacle: Obstacle,
+    /// The text of its line; None where it is the part itself.
+    pub(crate) line: Option<&'a str>,
+}
+
+/// What of a VTIMEZONE is in the way.
+#[derive(Clone, Copy)]
+pub(crate) struct PartCause<'a> {
+    /// Which of the components inside it is the part, counted from 0; None where it is the VTIMEZONE itself.
+    pub(crate) part: Option<usize>,
+    /// The name of that component, as it is written.
+    pub(crate) name: &'a str,
+    pub(crate) cause: Cause<'a>,
+}
+
+/// A part of a VTIMEZONE, by its place among the components inside.
+#[derive(Clone, Copy)]
+struct Part<'c, 'a> {
+    place: usize,
+    component: &'c Component<'a>,
+}
+
+/// The greatest difference between the offsets of a zone, in seconds.
+const HALF_DAY: u32 = 43_200;
+
+/// What is in the way of a VTIMEZONE that is refused with this number, from 40 to 42.
+pub(crate) fn cause_in<'c>(
+    alloc: Global,
+    zone: &'c Component,
+    number: u8,
+) -> Result<Option<PartCause<'c>>, AllocError> {
+    match number {
+        40 => shape_cause(alloc, zone),
+        41 => Ok(offsets_cause(zone)),
+        42 => Ok(close_cause(zone)),
+        _ => Ok(None),
+    }
+}
+
+/// What is in the way of one that is refused for its shape: the times of a part come before the other parts, and those before their rules.
+fn shape_cause<'c>(
+    alloc: Global,
+    zone: &'c Component,
+) -> Result<Option<PartCause<'c>>, AllocError> {
+    if let Some(found) = first_times_cause(zone) {
+        return Ok(Some(found));
+    }
+    if let Some(part) = nth_part(zone, "STANDARD", 1) {
+        return Ok(Some(part.itself(Obstacle::Second)));
+    }
+    if let Some(part) = nth_part(zone, "DAYLIGHT", 1) {
+        return Ok(Some(part.itself(Obstacle::Second)));
+    }
+    let Some(standard) = nth_part(zone, "STANDARD", 0) else {
+        return Ok(lonely_cause(zone, "DAYLIGHT"));
+    };
+    let Some(daylight) = nth_part(zone, "DAYLIGHT", 0) else {
+        return Ok(lonely_cause(zone, "STANDARD"));
+    };
+    rules_cause(alloc, standard, daylight)
+}
+
+/// What is in the way of the times of the first part where something is.
+fn first_times_cause<'c>(zone: &'c Component) -> Option<PartCause<'c>> {
+    for (place, component) in zone.children().iter().enumerate() {
+        if is_part(component) {
+            if let Some(cause) = times_cause(component) {
+                return Some(Part { place, component }.with(cause));
+            }
+        }
+    }
+    None
+}
+
+/// RDATE, or DTSTART, TZOFFSETFROM or TZOFFSETTO of a part.
+fn times_cause<'c>(part: &'c Component) -> Option<Cause<'c>> {
+    if let Some(line) = nth_named(part, "RDATE", 0) {
+        return Some(Cause::at(Obstacle::Dates, line));
+    }
+    if let Some(cause) = start_cause(part) {
+        return Some(cause);
+    }
+    if let Some(cause) = once_cause(part, PartTime::From) {
+        return Some(cause);
+    }
+    once_cause(part, PartTime::To)
+}
+
+/// DTSTART of a part, where it isn't there once, or isn't local.
+fn start_cause<'c>(part: &'c Component) -> Option<Cause<'c>> {
+    if let Some(cause) = once_cause(part, PartTime::Start) {
+        return Some(cause);
+    }
+    let line = nth_named(part, "DTSTART", 0)?;
+    if !is_fixed(line) {
+        return None;
+    }
+    Some(Cause::at(Obstacle::Fixed, line))
+}
+
+/// A property of a part, where it isn't there once.
+fn once_cause<'c>(part: &'c Component, time: PartTime) -> Option<Cause<'c>> {
+    if nth_named(part, time.name(), 0).is_none() {
+        return Some(Cause::itself(Obstacle::Missing(time)));
+    }
+    let line = nth_named(part, time.name(), 1)?;
+    Some(Cause::at(Obstacle::Twice(time), line))
+}
+
+/// Whether a time is in UTC or in a zone.
+fn is_fixed(line: Line<'_>) -> bool {
+    ends_in_z(line.value()) || line.param("TZID").is_some()
+}
+
+/// What is in the way where there is no part of the other name: the RRULE of the one part; or that there is no part.
+fn lonely_cause<'c>(zone: &'c Component, name: &str) -> Option<PartCause<'c>> {
+    let Some(part) = nth_part(zone, name, 0) else {
+        return Some(PartCause {
+            part: None,
+            name: zone.name(),
+            cause: Cause::itself(Obstacle::NoPart),
+        });
+    };
+    let line = nth_named(part.component, "RRULE", 0)?;
+    Some(part.with(Cause::at(Obstacle::RuledAlone, line)))
+}
+
+/// What is in the way of the rule of one of two parts.
+fn rules_cause<'c>(
+    alloc: Global,
+    standard: Part<'c, '_>,
+    daylight: Part<'c, '_>,
+) -> Result<Option<PartCause<'c>>, AllocError> {
+    if let Some(cause) = rule_cause(alloc, standard.component)? {
+        return Ok(Some(standard.with(cause)));
+    }
+    if let Some(cause) = rule_cause(alloc, daylight.component)? {
+        return Ok(Some(daylight.with(cause)));
+    }
+    Ok(None)
+}
+
+/// What is in the way of the rule of a part.
+fn rule_cause<'c>(alloc: Global, part: &'c Component) -> Result<Option<Cause<'c>>, AllocError> {
+    let Some(line) = nth_named(part, "RRULE", 0) else {
+        return Ok(Some(Cause::itself(Obstacle::NoRule)));
+    };
+    if let Some(second) = nth_named(part, "RRULE", 1) {
+        return Ok(Some(Cause::at(Obstacle::TwoRules, second)));
+    }
+    let Some(obstacle) = rule_obstacle(alloc, line.value())? else {
+        return Ok(None);
+    };
+    Ok(Some(Cause::at(obstacle, line)))
+}
+
+/// What is in the way in the text of a rule.
+fn rule_obstacle(alloc: Global, text: &str) -> Result<Option<Obstacle>, AllocError> {
+    let rule = match RuleText::read(alloc, text) {
+        Ok(rule) => rule,
+        Err(Fault::Memory) => return Err(AllocError),
+        Err(Fault::Refused(_)) => return Ok(Some(Obstacle::OtherRule)),
+    };
+    if rule.until().is_some() {
+        return Ok(Some(Obstacle::Until));
+    }
+    if rule.count().is_some() {
+        return Ok(Some(Obstacle::Count));
+    }
+    if day_named(&rule).is_none() {
+        return Ok(Some(Obstacle::OtherRule));
+    }
+    Ok(None)
+}
+
+/// What is in the way of a VTIMEZONE whose offsets don't match.
+fn offsets_cause<'c>(zone: &'c Component) -> Option<PartCause<'c>> {
+    let Some(standard) = nth_part(zone, "STANDARD", 0) else {
+        return far_cause(nth_part(zone, "DAYLIGHT", 0)?);
+    };
+    let Some(daylight) = nth_part(zone, "DAYLIGHT", 0) else {
+        return far_cause(standard);
+    };
+    if let Some(found) = unmatched_cause(standard, daylight) {
+        return Some(found);
+    }
+    if let Some(found) = unmatched_cause(daylight, standard) {
+        return Some(found);
+    }
+    far_cause(standard)
+}
+
+/// TZOFFSETFROM of a part, where it isn't the TZOFFSETTO of the other part.
+fn unmatched_cause<'c>(part: Part<'c, '_>, other: Part<'c, '_>) -> Option<PartCause<'c>> {
+    let line = nth_named(part.component, "TZOFFSETFROM", 0)?;
+    let others = nth_named(other.component, "TZOFFSETTO", 0)?;
+    let from = UtcOffset::read(line.value()).ok()?;
+    let to = UtcOffset::read(others.value()).ok()?;
+    if from.seconds() == to.seconds() {
+        return None;
+    }
+    Some(part.with(Cause::at(Obstacle::Unmatched, line)))
+}
+
+/// TZOFFSETTO of a part, where it is more than 12 hours from its TZOFFSETFROM.
+fn far_cause<'c>(part: Part<'c, '_>) -> Option<PartCause<'c>> {
+    let line = nth_named(part.component, "TZOFFSETTO", 0)?;
+    let others = nth_named(part.component, "TZOFFSETFROM", 0)?;
+    let to = UtcOffset::read(line.value()).ok()?;
+    let from = UtcOffset::read(others.value()).ok()?;
+    if to.seconds().abs_diff(from.seconds()) <= HALF_DAY {
+        return None;
+    }
+    Some(part.with(Cause::at(Obstacle::FarApart, line)))
+}
+
+/// DAYLIGHT, where it begins too close to STANDARD.
+fn close_cause<'c>(zone: &'c Component) -> Option<PartCause<'c>> {
+    let part = nth_part(zone, "DAYLIGHT", 0)?;
+    Some(part.itself(Obstacle::Close))
+}
+
+/// Whether a component is a part.
+fn is_part(component: &Component) -> bool {
+    component.is_named("STANDARD") || component.is_named("DAYLIGHT")
+}
+
+/// The part of that name behind so many others of it.
+fn nth_part<'c, 'a>(zone: &'c Component<'a>, name: &str, earlier: usize) -> Option<Part<'c, 'a>> {
+    let mut left = earlier;
+    for (place, component) in zone.children().iter().enumerate() {
+        if component.is_named(name) {
+            if left == 0 {
+                return Some(Part { place, component });
+            }
+            left -= 1;
+        }
+    }
+    None
+}
+
+/// The line of that property behind so many others of it.
+fn nth_named<'c>(part: &'c Component, name: &str, earlier: usize) -> Option<Line<'c>> {
+    let mut left = earlier;
+    for line in part.lines() {
+        if line.is_named(name) {
+            if left == 0 {
+                return Some(line);
+            }
+            left -= 1;
+        }
+    }
+    None
+}
+
+impl Obstacle {
+    /// What it is, in words that follow the name of the part.
+    pub(crate) fn words(self) -> &'static str {
+        match self {
+            Obstacle::NoPart => "neither STANDARD nor DAYLIGHT is in it.",
+            Obstacle::Dates => "it has RDATE.",
+            Obstacle::Missing(time) => time.missing_words(),
+            Obstacle::Twice(time) => time.twice_words(),
+            Obstacle::Fixed => "its DTSTART isn't local: it ends in Z or has TZID.",
+            Obstacle::RuledAlone => "it has RRULE, and no other part is there.",
+            Obstacle::Second => "it is a second part of that name.",
+            Obstacle::NoRule => "it has no RRULE, and another part is there.",
+            Obstacle::TwoRules => "RRULE occurs twice in it.",
+            Obstacle::Until => "its RRULE has UNTIL.",
+            Obstacle::Count => "its RRULE has COUNT.",
+            Obstacle::OtherRule => "its RRULE isn't of one day of every year.",
+            Obstacle::FarApart => "its TZOFFSETFROM and TZOFFSETTO are more than 12 hours apart.",
+            Obstacle::Unmatched => "its TZOFFSETFROM isn't the TZOFFSETTO of the other part.",
+            Obstacle::Close => "it begins less than two days before or after the other part.",
+        }
+    }
+}
+
+impl PartTime {
+    fn missing_words(self) -> &'static str {
+        match self {
+            PartTime::Start => "it has no DTSTART.",
+            PartTime::From => "it has no TZOFFSETFROM.",
+            PartTime::To => "it has no TZOFFSETTO.",
+        }
+    }
+
+    fn twice_words(self) -> &'static str {
+        match self {
+            PartTime::Start => "DTSTART occurs twice in it.",
+            PartTime::From => "TZOFFSETFROM occurs twice in it.",
+            PartTime::To => "TZOFFSETTO occurs twice in it.",
+        }
+    }
+
+    /// Its property.
+    pub(crate) fn name(self) -> &'static str {
+        match self {
+            PartTime::Start => "DTSTART",
+            PartTime::From => "TZOFFSETFROM",
+            PartTime::To => "TZOFFSETTO",
+        }
+    }
+}
+
+impl<'a> Cause<'a> {
+    /// A line of a part.
+    fn at(obstacle: Obstacle, line: Line<'a>) -> Cause<'a> {
+        Cause {
+            obstacle,
+            line: Some(line.text()),
+        }
+    }
+
+    /// A part itself.
+    fn itself(obstacle: Obstacle) -> Cause<'a> {
+        Cause {
+            obstacle,
+            line: None,
+        }
+    }
+}
+
+impl<'c, 'a> Part<'c, 'a> {
+    /// With what of it is in the way.
+    fn with(self, cause: Cause<'c>) -> PartCause<'c> {
+        PartCause {
+            part: Some(self.place),
+            name: self.component.name(),
+            cause,
+        }
+    }
+
+    /// Which is in the way itself.
+    fn itself(self, obstacle: Obstacle) -> PartCause<'c> {
+        self.with(Cause::itself(obstacle))
+    }
+}
