@@ -1,6 +1,7 @@
 pub mod BlameLemmas
 pub mod Keeping
 pub mod Meanings
+pub mod ObstacleLemmas
 pub mod PlaceLemmas
 pub mod Printing
 pub mod RunningLemmas

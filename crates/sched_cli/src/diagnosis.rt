@@ -1,9 +1,9 @@
 //! `explain` without a number: reads one object as `serve` reads a message, and says why it is refused.
 
-ghost use Rattle.std.specs.Prelude.{◌≡◌, ◌≤◌, ◌++◌, ◌⊎◌, ℕ, List, true, false, IfOk, OnOk};
+ghost use Rattle.std.specs.Prelude.{◌≡◌, ◌≤◌, ◌++◌, ◌⊎◌, ℕ, List, codes, decimal, true, false, IfOk, OnOk};
 ghost use Rattle.std.specs.Io.KnownBytes.{Appends, Keeps};
 ghost use Rattle.sched_cli.specs.Commands.{BlamesDevice, IsStatusSaid, TellsDevice};
-ghost use Rattle.sched_cli.specs.Diagnosis.{IsMeaningOf, IsPlaceText, IsRefusedText, SaysRefused, SaysTaken, message_line, property_text};
+ghost use Rattle.sched_cli.specs.Diagnosis.{IsEnding, IsHelp, IsMeaningOf, IsPlaceText, IsReason, IsRefusedText, SaysRefused, SaysTaken, message_line, place_text, property_text, way_text};
 ghost use Rattle.sched_cli.specs.Explained.{is_explained};
 
 use crate::explain::explanation;
@@ -100,7 +100,9 @@ fn append_reason(
     text: &mut Vec<u8>,
     octets: &[u8],
     number: u8,
-) -> Result<(), AllocError> {
+) -> Result<(), AllocError>
+    ensures { OnOk result ((reason : List ℕ) × IsReason octets.now number reason × (text.new.items ≡ text.old.items ++ reason)) }
+{
     let Some(found) = in_the_way(alloc, octets, number)? else {
         append_blamed(alloc, text, octets, number)?;
         return end_line(text);
@@ -111,7 +113,9 @@ fn append_reason(
     append_help(alloc, text, octets)
 }
 
-fn end_line(text: &mut Vec<u8>) -> Result<(), AllocError> {
+fn end_line(text: &mut Vec<u8>) -> Result<(), AllocError>
+    ensures { OnOk result (text.new.items ≡ text.old.items ++ codes "\n") }
+{
     text.push(b'\n')?;
     Ok(())
 }
@@ -154,7 +158,9 @@ fn append_property(text: &mut Vec<u8>, property: &[u8]) -> Result<(), AllocError
 }
 
 /// `DAYLIGHT at line 9: its RRULE has UNTIL.`
-fn append_way(text: &mut Vec<u8>, found: &InTheWay) -> Result<(), AllocError> {
+fn append_way(text: &mut Vec<u8>, found: &InTheWay) -> Result<(), AllocError>
+    ensures { OnOk result (text.new.items ≡ text.old.items ++ way_text found.now) }
+{
     let mut digits = Buffer::new();
     text.extend_from_slice(found.part.as_slice())?;
     text.extend_from_slice(b" at line ")?;
@@ -165,7 +171,9 @@ fn append_way(text: &mut Vec<u8>, found: &InTheWay) -> Result<(), AllocError> {
 }
 
 /// What `roombox adapt` makes of an object that a VTIMEZONE is in the way of.
-fn append_help(alloc: Global, text: &mut Vec<u8>, octets: &[u8]) -> Result<(), AllocError> {
+fn append_help(alloc: Global, text: &mut Vec<u8>, octets: &[u8]) -> Result<(), AllocError>
+    ensures { OnOk result ((help : List ℕ) × IsHelp octets.now help × (text.new.items ≡ text.old.items ++ help)) }
+{
     let Some(adapted) = adapt(alloc, octets, None)? else {
         text.extend_from_slice(b" `roombox adapt` hands the object on as it is.\n")?;
         return Ok(());
@@ -175,7 +183,9 @@ fn append_help(alloc: Global, text: &mut Vec<u8>, octets: &[u8]) -> Result<(), A
 }
 
 /// `read.`, or `refused 34.`
-fn append_adapted(alloc: Global, text: &mut Vec<u8>, octets: &[u8]) -> Result<(), AllocError> {
+fn append_adapted(alloc: Global, text: &mut Vec<u8>, octets: &[u8]) -> Result<(), AllocError>
+    ensures { OnOk result ((ending : List ℕ) × IsEnding octets.now ending × (text.new.items ≡ text.old.items ++ ending)) }
+{
     match Message::read(alloc, octets) {
         Ok(_) => text.extend_from_slice(b"read.\n")?,
         Err(Fault::Memory) => return Err(AllocError),
@@ -185,7 +195,9 @@ fn append_adapted(alloc: Global, text: &mut Vec<u8>, octets: &[u8]) -> Result<()
 }
 
 /// `refused 34.`
-fn append_refused(text: &mut Vec<u8>, number: u8) -> Result<(), AllocError> {
+fn append_refused(text: &mut Vec<u8>, number: u8) -> Result<(), AllocError>
+    ensures { OnOk result (text.new.items ≡ text.old.items ++ (codes "refused " ++ (decimal number ++ codes ".\n"))) }
+{
     let mut digits = Buffer::new();
     text.extend_from_slice(b"refused ")?;
     text.extend_from_slice(digits.format(number).as_bytes())?;

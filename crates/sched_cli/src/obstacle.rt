@@ -1,5 +1,14 @@
 //! What of a VTIMEZONE is in the way of a room that reads it: the part, STANDARD or DAYLIGHT, and the line of it (RFC 5545 3.6.5).
 
+ghost use Rattle.std.specs.Prelude.{◌≡◌, ◌⊎◌, ℕ, List, [], Some, None, true, false, drop, filter, Contains, IfOk, IfSome, IfNone};
+ghost use Rattle.ical_lines.specs.Text.{line_text};
+ghost use Rattle.ical_tree.specs.Tree.{component_name, component_lines, component_children};
+ghost use Rattle.profile.specs.text.Lines.{is_same_name};
+ghost use Rattle.profile.specs.events.Properties.{lines_named};
+ghost use Rattle.profile.specs.series.ZoneTexts.{IsFixedLine, TimesFault, is_part};
+ghost use Rattle.cal_zones.specs.Read.{HasZoneFault, zone_parts};
+ghost use Rattle.sched_cli.specs.Obstacles.{HasFar, HasRuleCause, HasUnmatched, IsBehind, IsCause, IsLonely, IsLocalOnce, IsOnce, IsPart, IsRuleCause, IsTextCause, IsTimesCause, missing_words, text_of, time_name, twice_words, words_of};
+
 use cal_rules::RuleText;
 use cal_zones::day_named;
 use ical_lines::{Fault, Line};
@@ -83,7 +92,10 @@ pub(crate) fn cause_in<'c>(
     alloc: Global,
     zone: &'c Component,
     number: u8,
-) -> Result<Option<PartCause<'c>>, AllocError> {
+) -> Result<Option<PartCause<'c>>, AllocError>
+    requires { HasZoneFault zone.now number }
+    ensures { IfOk result (λ found. IfSome found (IsCause zone.now number)) }
+{
     match number {
         40 => shape_cause(alloc, zone),
         41 => Ok(offsets_cause(zone)),
@@ -96,7 +108,10 @@ pub(crate) fn cause_in<'c>(
 fn shape_cause<'c>(
     alloc: Global,
     zone: &'c Component,
-) -> Result<Option<PartCause<'c>>, AllocError> {
+) -> Result<Option<PartCause<'c>>, AllocError>
+    requires { HasZoneFault zone.now 40 }
+    ensures { IfOk result (λ found. IfSome found (IsCause zone.now 40)) }
+{
     if let Some(found) = first_times_cause(zone) {
         return Ok(Some(found));
     }
@@ -116,7 +131,10 @@ fn shape_cause<'c>(
 }
 
 /// What is in the way of the times of the first part where something is.
-fn first_times_cause<'c>(zone: &'c Component) -> Option<PartCause<'c>> {
+fn first_times_cause<'c>(zone: &'c Component) -> Option<PartCause<'c>>
+    ensures found { IfSome result (IsCause zone.now 40) }
+    ensures none { IfNone result ((part : List (List ℕ)) → Contains (zone_parts zone.now) part → TimesFault part 40 → ⊥) }
+{
     for (place, component) in zone.children().iter().enumerate() {
         if is_part(component) {
             if let Some(cause) = times_cause(component) {
@@ -128,7 +146,10 @@ fn first_times_cause<'c>(zone: &'c Component) -> Option<PartCause<'c>> {
 }
 
 /// RDATE, or DTSTART, TZOFFSETFROM or TZOFFSETTO of a part.
-fn times_cause<'c>(part: &'c Component) -> Option<Cause<'c>> {
+fn times_cause<'c>(part: &'c Component) -> Option<Cause<'c>>
+    ensures found { IfSome result (λ cause. IsTimesCause (component_lines part.now) cause.obstacle (text_of cause.line)) }
+    ensures none { IfNone result (TimesFault (component_lines part.now) 40 → ⊥) }
+{
     if let Some(line) = nth_named(part, "RDATE", 0) {
         return Some(Cause::at(Obstacle::Dates, line));
     }
@@ -142,7 +163,10 @@ fn times_cause<'c>(part: &'c Component) -> Option<Cause<'c>> {
 }
 
 /// DTSTART of a part, where it isn't there once, or isn't local.
-fn start_cause<'c>(part: &'c Component) -> Option<Cause<'c>> {
+fn start_cause<'c>(part: &'c Component) -> Option<Cause<'c>>
+    ensures found { IfSome result (λ cause. IsTimesCause (component_lines part.now) cause.obstacle (text_of cause.line)) }
+    ensures none { IfNone result (IsLocalOnce (component_lines part.now)) }
+{
     if let Some(cause) = once_cause(part, PartTime::Start) {
         return Some(cause);
     }
@@ -154,7 +178,10 @@ fn start_cause<'c>(part: &'c Component) -> Option<Cause<'c>> {
 }
 
 /// A property of a part, where it isn't there once.
-fn once_cause<'c>(part: &'c Component, time: PartTime) -> Option<Cause<'c>> {
+fn once_cause<'c>(part: &'c Component, time: PartTime) -> Option<Cause<'c>>
+    ensures found { IfSome result (λ cause. IsTimesCause (component_lines part.now) cause.obstacle (text_of cause.line)) }
+    ensures none { IfNone result (IsOnce (time_name time) (component_lines part.now)) }
+{
     if nth_named(part, time.name(), 0).is_none() {
         return Some(Cause::itself(Obstacle::Missing(time)));
     }
@@ -163,12 +190,17 @@ fn once_cause<'c>(part: &'c Component, time: PartTime) -> Option<Cause<'c>> {
 }
 
 /// Whether a time is in UTC or in a zone.
-fn is_fixed(line: Line<'_>) -> bool {
+fn is_fixed(line: Line<'_>) -> bool
+    ensures yes { result ≡ true → IsFixedLine (line_text line.entry) }
+    ensures no { result ≡ false → IsFixedLine (line_text line.entry) → ⊥ }
+{
     ends_in_z(line.value()) || line.param("TZID").is_some()
 }
 
 /// What is in the way where there is no part of the other name: the RRULE of the one part; or that there is no part.
-fn lonely_cause<'c>(zone: &'c Component, name: &str) -> Option<PartCause<'c>> {
+fn lonely_cause<'c>(zone: &'c Component, name: &str) -> Option<PartCause<'c>>
+    ensures { IfSome result (IsLonely zone.now name.now) }
+{
     let Some(part) = nth_part(zone, name, 0) else {
         return Some(PartCause {
             part: None,
@@ -185,7 +217,9 @@ fn rules_cause<'c>(
     alloc: Global,
     standard: Part<'c, '_>,
     daylight: Part<'c, '_>,
-) -> Result<Option<PartCause<'c>>, AllocError> {
+) -> Result<Option<PartCause<'c>>, AllocError>
+    ensures { IfOk result (λ found. IfSome found (λ cause. HasRuleCause standard.component.now cause ⊎ HasRuleCause daylight.component.now cause)) }
+{
     if let Some(cause) = rule_cause(alloc, standard.component)? {
         return Ok(Some(standard.with(cause)));
     }
@@ -196,7 +230,9 @@ fn rules_cause<'c>(
 }
 
 /// What is in the way of the rule of a part.
-fn rule_cause<'c>(alloc: Global, part: &'c Component) -> Result<Option<Cause<'c>>, AllocError> {
+fn rule_cause<'c>(alloc: Global, part: &'c Component) -> Result<Option<Cause<'c>>, AllocError>
+    ensures { IfOk result (λ found. IfSome found (λ cause. IsRuleCause (component_lines part.now) cause.obstacle (text_of cause.line))) }
+{
     let Some(line) = nth_named(part, "RRULE", 0) else {
         return Ok(Some(Cause::itself(Obstacle::NoRule)));
     };
@@ -210,7 +246,9 @@ fn rule_cause<'c>(alloc: Global, part: &'c Component) -> Result<Option<Cause<'c>
 }
 
 /// What is in the way in the text of a rule.
-fn rule_obstacle(alloc: Global, text: &str) -> Result<Option<Obstacle>, AllocError> {
+fn rule_obstacle(alloc: Global, text: &str) -> Result<Option<Obstacle>, AllocError>
+    ensures { IfOk result (λ found. IfSome found (IsTextCause text.now)) }
+{
     let rule = match RuleText::read(alloc, text) {
         Ok(rule) => rule,
         Err(Fault::Memory) => return Err(AllocError),
@@ -229,7 +267,9 @@ fn rule_obstacle(alloc: Global, text: &str) -> Result<Option<Obstacle>, AllocErr
 }
 
 /// What is in the way of a VTIMEZONE whose offsets don't match.
-fn offsets_cause<'c>(zone: &'c Component) -> Option<PartCause<'c>> {
+fn offsets_cause<'c>(zone: &'c Component) -> Option<PartCause<'c>>
+    ensures { IfSome result (IsCause zone.now 41) }
+{
     let Some(standard) = nth_part(zone, "STANDARD", 0) else {
         return far_cause(nth_part(zone, "DAYLIGHT", 0)?);
     };
@@ -246,7 +286,9 @@ fn offsets_cause<'c>(zone: &'c Component) -> Option<PartCause<'c>> {
 }
 
 /// TZOFFSETFROM of a part, where it isn't the TZOFFSETTO of the other part.
-fn unmatched_cause<'c>(part: Part<'c, '_>, other: Part<'c, '_>) -> Option<PartCause<'c>> {
+fn unmatched_cause<'c>(part: Part<'c, '_>, other: Part<'c, '_>) -> Option<PartCause<'c>>
+    ensures { IfSome result (HasUnmatched part.component.now other.component.now) }
+{
     let line = nth_named(part.component, "TZOFFSETFROM", 0)?;
     let others = nth_named(other.component, "TZOFFSETTO", 0)?;
     let from = UtcOffset::read(line.value()).ok()?;
@@ -258,7 +300,9 @@ fn unmatched_cause<'c>(part: Part<'c, '_>, other: Part<'c, '_>) -> Option<PartCa
 }
 
 /// TZOFFSETTO of a part, where it is more than 12 hours from its TZOFFSETFROM.
-fn far_cause<'c>(part: Part<'c, '_>) -> Option<PartCause<'c>> {
+fn far_cause<'c>(part: Part<'c, '_>) -> Option<PartCause<'c>>
+    ensures { IfSome result (HasFar part.component.now) }
+{
     let line = nth_named(part.component, "TZOFFSETTO", 0)?;
     let others = nth_named(part.component, "TZOFFSETFROM", 0)?;
     let to = UtcOffset::read(line.value()).ok()?;
@@ -270,18 +314,25 @@ fn far_cause<'c>(part: Part<'c, '_>) -> Option<PartCause<'c>> {
 }
 
 /// DAYLIGHT, where it begins too close to STANDARD.
-fn close_cause<'c>(zone: &'c Component) -> Option<PartCause<'c>> {
+fn close_cause<'c>(zone: &'c Component) -> Option<PartCause<'c>>
+    ensures { IfSome result (IsCause zone.now 42) }
+{
     let part = nth_part(zone, "DAYLIGHT", 0)?;
     Some(part.itself(Obstacle::Close))
 }
 
 /// Whether a component is a part.
-fn is_part(component: &Component) -> bool {
+fn is_part(component: &Component) -> bool
+    ensures { result ≡ is_part (component_name component.now) }
+{
     component.is_named("STANDARD") || component.is_named("DAYLIGHT")
 }
 
 /// The part of that name behind so many others of it.
-fn nth_part<'c, 'a>(zone: &'c Component<'a>, name: &str, earlier: usize) -> Option<Part<'c, 'a>> {
+fn nth_part<'c, 'a>(zone: &'c Component<'a>, name: &str, earlier: usize) -> Option<Part<'c, 'a>>
+    ensures found { IfSome result (λ part. IsPart zone.now name.now earlier part.component.now) }
+    ensures none { IfNone result (drop earlier (filter (λ c. is_same_name (component_name c) name.now) (component_children zone.now)) ≡ []) }
+{
     let mut left = earlier;
     for (place, component) in zone.children().iter().enumerate() {
         if component.is_named(name) {
@@ -295,7 +346,10 @@ fn nth_part<'c, 'a>(zone: &'c Component<'a>, name: &str, earlier: usize) -> Opti
 }
 
 /// The line of that property behind so many others of it.
-fn nth_named<'c>(part: &'c Component, name: &str, earlier: usize) -> Option<Line<'c>> {
+fn nth_named<'c>(part: &'c Component, name: &str, earlier: usize) -> Option<Line<'c>>
+    ensures found { IfSome result (λ line. IsBehind earlier (lines_named name.now (component_lines part.now)) (line_text line)) }
+    ensures none { IfNone result (drop earlier (lines_named name.now (component_lines part.now)) ≡ []) }
+{
     let mut left = earlier;
     for line in part.lines() {
         if line.is_named(name) {
@@ -310,7 +364,9 @@ fn nth_named<'c>(part: &'c Component, name: &str, earlier: usize) -> Option<Line
 
 impl Obstacle {
     /// What it is, in words that follow the name of the part.
-    pub(crate) fn words(self) -> &'static str {
+    pub(crate) fn words(self) -> &'static str
+        ensures { result.now ≡ words_of self }
+    {
         match self {
             Obstacle::NoPart => "neither STANDARD nor DAYLIGHT is in it.",
             Obstacle::Dates => "it has RDATE.",
@@ -332,7 +388,10 @@ impl Obstacle {
 }
 
 impl PartTime {
-    fn missing_words(self) -> &'static str {
+    /// Of one that isn't there.
+    fn missing_words(self) -> &'static str
+        ensures { result.now ≡ missing_words self }
+    {
         match self {
             PartTime::Start => "it has no DTSTART.",
             PartTime::From => "it has no TZOFFSETFROM.",
@@ -340,7 +399,10 @@ impl PartTime {
         }
     }
 
-    fn twice_words(self) -> &'static str {
+    /// Of one that occurs twice.
+    fn twice_words(self) -> &'static str
+        ensures { result.now ≡ twice_words self }
+    {
         match self {
             PartTime::Start => "DTSTART occurs twice in it.",
             PartTime::From => "TZOFFSETFROM occurs twice in it.",
@@ -349,7 +411,9 @@ impl PartTime {
     }
 
     /// Its property.
-    pub(crate) fn name(self) -> &'static str {
+    pub(crate) fn name(self) -> &'static str
+        ensures { result.now ≡ time_name self }
+    {
         match self {
             PartTime::Start => "DTSTART",
             PartTime::From => "TZOFFSETFROM",
@@ -360,7 +424,10 @@ impl PartTime {
 
 impl<'a> Cause<'a> {
     /// A line of a part.
-    fn at(obstacle: Obstacle, line: Line<'a>) -> Cause<'a> {
+    fn at(obstacle: Obstacle, line: Line<'a>) -> Cause<'a>
+        ensures obstacle { result.obstacle ≡ obstacle }
+        ensures line { text_of result.line ≡ Some (line_text line.entry) }
+    {
         Cause {
             obstacle,
             line: Some(line.text()),
@@ -368,7 +435,10 @@ impl<'a> Cause<'a> {
     }
 
     /// A part itself.
-    fn itself(obstacle: Obstacle) -> Cause<'a> {
+    fn itself(obstacle: Obstacle) -> Cause<'a>
+        ensures obstacle { result.obstacle ≡ obstacle }
+        ensures line { text_of result.line ≡ None }
+    {
         Cause {
             obstacle,
             line: None,
@@ -378,7 +448,10 @@ impl<'a> Cause<'a> {
 
 impl<'c, 'a> Part<'c, 'a> {
     /// With what of it is in the way.
-    fn with(self, cause: Cause<'c>) -> PartCause<'c> {
+    fn with(self, cause: Cause<'c>) -> PartCause<'c>
+        ensures name { result.name.now ≡ component_name self.component.now }
+        ensures cause { result.cause ≡ cause }
+    {
         PartCause {
             part: Some(self.place),
             name: self.component.name(),
@@ -387,7 +460,11 @@ impl<'c, 'a> Part<'c, 'a> {
     }
 
     /// Which is in the way itself.
-    fn itself(self, obstacle: Obstacle) -> PartCause<'c> {
+    fn itself(self, obstacle: Obstacle) -> PartCause<'c>
+        ensures name { result.name.now ≡ component_name self.component.now }
+        ensures obstacle { result.cause.obstacle ≡ obstacle }
+        ensures line { text_of result.cause.line ≡ None }
+    {
         self.with(Cause::itself(obstacle))
     }
 }

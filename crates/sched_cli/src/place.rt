@@ -3,8 +3,9 @@
 //! has no place, and what several lines have together has none.
 
 ghost use Rattle.std.specs.Prelude.{◌≡◌, ◌<◌, ◌^◌, ◌+◌, ◌++◌, ◌⊎◌, ℕ, List, length, drop, true, false, IfOk, IfSome, OnOk};
+ghost use Rattle.ical_lines.specs.Text.{line_text};
 ghost use Rattle.profile.specs.text.Lines.{is_continuation, line_name};
-ghost use Rattle.sched_cli.specs.Searching.{Finds, FoundIn, IsBlamedPlace, IsNoted, with_possible};
+ghost use Rattle.sched_cli.specs.Searching.{Finds, FoundIn, IsBeginOf, IsBlamed, IsBlamedPlace, IsNoted, blame_if, with_possible};
 
 use crate::blame::{Blame, Within, blame_of};
 use ical_lines::{Fault, Limits, Line, Unfolded, split_line, without_mark};
@@ -28,7 +29,7 @@ pub(crate) enum Sought<'a> {
     /// The BEGIN of this component, which has this name.
     Begin(Spot, &'a str),
     /// A line of this component, of this text.
-    Line(Spot, &'a str),
+    Text(Spot, &'a str),
 }
 
 /// Where a component is: which one directly inside the object, counted from 0, and which one inside that, or None where it is that one itself.
@@ -128,20 +129,26 @@ struct Search<'a> {
 }
 
 /// Whether a number is that of the fault that is sought.
-fn is_fault(sought: Sought<'_>, number: u8) -> bool {
+fn is_fault(sought: Sought<'_>, number: u8) -> bool
+    ensures { result ≡ true → sought ≡ Sought.Fault number }
+{
     match sought {
         Sought::Fault(fault) => fault == number,
-        Sought::Begin(_, _) | Sought::Line(_, _) => false,
+        Sought::Begin(_, _) | Sought::Text(_, _) => false,
     }
 }
 
 /// Whether a line begins a component of this name.
-fn is_begin(line: Line<'_>, name: &str) -> bool {
+fn is_begin(line: Line<'_>, name: &str) -> bool
+    ensures { result ≡ true → IsBeginOf name.now (line_text line.entry) }
+{
     line.is_named("BEGIN") && line.value() == name
 }
 
 /// Of a line that is the one, or isn't.
-fn blame_if(is_sought: bool) -> Blame {
+fn blame_if(is_sought: bool) -> Blame
+    ensures { result ≡ blame_if is_sought }
+{
     if is_sought { Blame::Certain } else { Blame::None }
 }
 
@@ -217,11 +224,13 @@ impl<'a> Search<'a> {
     }
 
     /// What a line has to do with the one that is sought.
-    fn blame(&self, alloc: Global, line: Line<'_>) -> Result<Blame, AllocError> {
+    fn blame(&self, alloc: Global, line: Line<'_>) -> Result<Blame, AllocError>
+        ensures { IfOk result (IsBlamed self.now.sought (line_text line.entry)) }
+    {
         match self.sought {
             Sought::Fault(number) => blame_of(alloc, number, self.within(), line),
             Sought::Begin(spot, name) => Ok(blame_if(self.begins(spot) && is_begin(line, name))),
-            Sought::Line(spot, text) => Ok(blame_if(self.is_inside(spot) && line.text() == text)),
+            Sought::Text(spot, text) => Ok(blame_if(self.is_inside(spot) && line.text() == text)),
         }
     }
 

@@ -1,5 +1,14 @@
 //! What is in the way of a VTIMEZONE that an object is refused for, and where in the object it is (RFC 5545 3.2.19, 3.6.5).
 
+ghost use Rattle.std.specs.Prelude.{◌≡◌, true, IfOk, IfSome};
+ghost use Rattle.ical_lines.specs.Text.{line_text};
+ghost use Rattle.ical_tree.specs.Tree.{IsObjectOf, component_lines, tree_of};
+ghost use Rattle.profile.specs.text.Lines.{logical_lines};
+ghost use Rattle.profile.specs.doors.Uses.{is_time_line};
+ghost use Rattle.profile.specs.series.ZoneTexts.{ZoneFault};
+ghost use Rattle.cal_doors.specs.Named.{AreNamed};
+ghost use Rattle.sched_cli.specs.InTheWay.{IsInTheWay, IsPlaced, IsRefusedAs, NamesRefused, RefusedBy};
+
 use crate::obstacle::{Obstacle, PartCause, cause_in};
 use crate::place::{Place, Sought, Spot, place_of};
 use cal_doors::NamedZones;
@@ -30,7 +39,9 @@ pub(crate) fn in_the_way(
     alloc: Global,
     octets: &[u8],
     number: u8,
-) -> Result<Option<InTheWay>, AllocError> {
+) -> Result<Option<InTheWay>, AllocError>
+    ensures { IfOk result (λ found. IfSome found (IsInTheWay octets.now number)) }
+{
     let Some(text) = text_of(alloc, octets)? else {
         return Ok(None);
     };
@@ -48,7 +59,9 @@ pub(crate) fn in_the_way(
 }
 
 /// The lines of octets within the limits of a message. None where they aren't.
-fn text_of(alloc: Global, octets: &[u8]) -> Result<Option<Unfolded<'_>>, AllocError> {
+fn text_of(alloc: Global, octets: &[u8]) -> Result<Option<Unfolded<'_>>, AllocError>
+    ensures { IfOk result (λ found. IfSome found (λ text. text ≡ logical_lines octets.now)) }
+{
     match Unfolded::read(alloc, octets, Limits::Message) {
         Ok(text) => Ok(Some(text)),
         Err(Fault::Memory) => Err(AllocError),
@@ -60,7 +73,9 @@ fn text_of(alloc: Global, octets: &[u8]) -> Result<Option<Unfolded<'_>>, AllocEr
 fn object_of<'a>(
     alloc: Global,
     text: &'a Unfolded<'_>,
-) -> Result<Option<Component<'a>>, AllocError> {
+) -> Result<Option<Component<'a>>, AllocError>
+    ensures { IfOk result (λ found. IfSome found (λ object. IsObjectOf true object text.now)) }
+{
     match read_object(alloc, text, Limits::Message) {
         Ok(object) => Ok(Some(object)),
         Err(Fault::Memory) => Err(AllocError),
@@ -74,7 +89,11 @@ fn refused_zone<'c, 'a>(
     object: &'c Component<'a>,
     zones: &NamedZones<'c, 'a>,
     number: u8,
-) -> Result<Option<&'c Component<'a>>, AllocError> {
+) -> Result<Option<&'c Component<'a>>, AllocError>
+    requires object { zones.now.object.now ≡ object.now }
+    requires named { AreNamed zones.now }
+    ensures { IfOk result (λ found. IfSome found (λ zone. NamesRefused object.now number zone.now)) }
+{
     let mut passed = IndexMap::new(alloc);
     for child in object.children() {
         if child.is_named("VEVENT") {
@@ -93,7 +112,10 @@ fn refused_in_event<'c, 'a>(
     zones: &NamedZones<'c, 'a>,
     passed: &mut Passed,
     number: u8,
-) -> Result<Option<&'c Component<'a>>, AllocError> {
+) -> Result<Option<&'c Component<'a>>, AllocError>
+    requires { AreNamed zones.now }
+    ensures { IfOk result (λ found. IfSome found (λ zone. RefusedBy (tree_of zones.now.object.now) (component_lines event.now) number zone.now)) }
+{
     for line in event.lines() {
         if is_time_line(line) {
             if let Some(zone) = refused_by_line(alloc, line, zones, passed, number)? {
@@ -111,7 +133,10 @@ fn refused_by_line<'c, 'a>(
     zones: &NamedZones<'c, 'a>,
     passed: &mut Passed,
     number: u8,
-) -> Result<Option<&'c Component<'a>>, AllocError> {
+) -> Result<Option<&'c Component<'a>>, AllocError>
+    requires { AreNamed zones.now }
+    ensures { IfOk result (λ found. IfSome found (λ zone. IsRefusedAs (tree_of zones.now.object.now) (line_text line.entry) number zone.now)) }
+{
     let Some(name) = line.param("TZID") else {
         return Ok(None);
     };
@@ -128,7 +153,9 @@ fn refused_by_line<'c, 'a>(
 }
 
 /// Whether a VTIMEZONE is refused with this number.
-fn is_refused(alloc: Global, zone: &Component, number: u8) -> Result<bool, AllocError> {
+fn is_refused(alloc: Global, zone: &Component, number: u8) -> Result<bool, AllocError>
+    ensures { IfOk result (λ refused. refused ≡ true → ZoneFault (tree_of zone.now) number) }
+{
     match Zone::read(alloc, zone) {
         Ok(_) => Ok(false),
         Err(Fault::Memory) => Err(AllocError),
@@ -137,7 +164,9 @@ fn is_refused(alloc: Global, zone: &Component, number: u8) -> Result<bool, Alloc
 }
 
 /// Whether the values of a line are times.
-fn is_time_line(line: Line<'_>) -> bool {
+fn is_time_line(line: Line<'_>) -> bool
+    ensures { result ≡ is_time_line (line_text line.entry) }
+{
     line.is_named("DTSTART")
         || line.is_named("DTEND")
         || line.is_named("RECURRENCE-ID")
@@ -163,14 +192,16 @@ fn placed(
     octets: &[u8],
     zone: usize,
     found: PartCause<'_>,
-) -> Result<Option<InTheWay>, AllocError> {
+) -> Result<Option<InTheWay>, AllocError>
+    ensures { IfOk result (λ way. IfSome way (IsPlaced octets.now found)) }
+{
     let spot = Spot {
         zone,
         part: found.part,
     };
     let begin = Sought::Begin(spot, found.name);
     let line = match found.cause.line {
-        Some(text) => Sought::Line(spot, text),
+        Some(text) => Sought::Text(spot, text),
         None => begin,
     };
     let Some(begins) = place_of(alloc, octets, begin)? else {
