@@ -218,7 +218,7 @@ fn rules_cause<'c>(
     standard: Part<'c, '_>,
     daylight: Part<'c, '_>,
 ) -> Result<Option<PartCause<'c>>, AllocError>
-    ensures { IfOk result (λ found. IfSome found (λ cause. HasRuleCause standard.component.now cause ⊎ HasRuleCause daylight.component.now cause)) }
+    ensures { IfOk result (λ found. IfSome found (λ cause. HasRuleCause standard.entry.component.now cause ⊎ HasRuleCause daylight.entry.component.now cause)) }
 {
     if let Some(cause) = rule_cause(alloc, standard.component)? {
         return Ok(Some(standard.with(cause)));
@@ -287,7 +287,7 @@ fn offsets_cause<'c>(zone: &'c Component) -> Option<PartCause<'c>>
 
 /// TZOFFSETFROM of a part, where it isn't the TZOFFSETTO of the other part.
 fn unmatched_cause<'c>(part: Part<'c, '_>, other: Part<'c, '_>) -> Option<PartCause<'c>>
-    ensures { IfSome result (HasUnmatched part.component.now other.component.now) }
+    ensures { IfSome result (HasUnmatched part.entry.component.now other.entry.component.now) }
 {
     let line = nth_named(part.component, "TZOFFSETFROM", 0)?;
     let others = nth_named(other.component, "TZOFFSETTO", 0)?;
@@ -301,7 +301,7 @@ fn unmatched_cause<'c>(part: Part<'c, '_>, other: Part<'c, '_>) -> Option<PartCa
 
 /// TZOFFSETTO of a part, where it is more than 12 hours from its TZOFFSETFROM.
 fn far_cause<'c>(part: Part<'c, '_>) -> Option<PartCause<'c>>
-    ensures { IfSome result (HasFar part.component.now) }
+    ensures { IfSome result (HasFar part.entry.component.now) }
 {
     let line = nth_named(part.component, "TZOFFSETTO", 0)?;
     let others = nth_named(part.component, "TZOFFSETFROM", 0)?;
@@ -449,8 +449,8 @@ impl<'a> Cause<'a> {
 impl<'c, 'a> Part<'c, 'a> {
     /// With what of it is in the way.
     fn with(self, cause: Cause<'c>) -> PartCause<'c>
-        ensures name { result.name.now ≡ component_name self.component.now }
-        ensures cause { result.cause ≡ cause }
+        ensures name { result.name.now ≡ component_name self.entry.component.now }
+        ensures cause { result.cause ≡ cause.entry }
     {
         PartCause {
             part: Some(self.place),
@@ -461,7 +461,7 @@ impl<'c, 'a> Part<'c, 'a> {
 
     /// Which is in the way itself.
     fn itself(self, obstacle: Obstacle) -> PartCause<'c>
-        ensures name { result.name.now ≡ component_name self.component.now }
+        ensures name { result.name.now ≡ component_name self.entry.component.now }
         ensures obstacle { result.cause.obstacle ≡ obstacle }
         ensures line { text_of result.cause.line ≡ None }
     {

@@ -45,7 +45,7 @@ pub(crate) fn place_of(
     octets: &[u8],
     sought: Sought<'_>,
 ) -> Result<Option<Place>, AllocError>
-    ensures { IfOk result (λ found. IfSome found (λ place. IsBlamedPlace octets.now sought place.line place.property.items)) }
+    ensures { IfOk result (λ found. IfSome found (λ place. IsBlamedPlace octets.now sought.entry place.line place.property.items)) }
 {
     let mut search = Search::new(sought);
     let (first, mut left) = split_line(without_mark(octets));
@@ -130,7 +130,7 @@ struct Search<'a> {
 
 /// Whether a number is that of the fault that is sought.
 fn is_fault(sought: Sought<'_>, number: u8) -> bool
-    ensures { result ≡ true → sought ≡ Sought.Fault number }
+    ensures { result ≡ true → sought.entry ≡ Sought.Fault number }
 {
     match sought {
         Sought::Fault(fault) => fault == number,
@@ -175,7 +175,7 @@ enum Found {
 impl<'a> Search<'a> {
     fn new(sought: Sought<'a>) -> Search<'a>
         ensures found { result.found ≡ Found.Nothing }
-        ensures sought { result.sought ≡ sought }
+        ensures sought { result.sought ≡ sought.entry }
     {
         Search {
             sought,

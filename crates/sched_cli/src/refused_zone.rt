@@ -193,7 +193,7 @@ fn placed(
     zone: usize,
     found: PartCause<'_>,
 ) -> Result<Option<InTheWay>, AllocError>
-    ensures { IfOk result (λ way. IfSome way (IsPlaced octets.now found)) }
+    ensures { IfOk result (λ way. IfSome way (IsPlaced octets.now found.entry)) }
 {
     let spot = Spot {
         zone,
