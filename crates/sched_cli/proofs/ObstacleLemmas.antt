@@ -13,15 +13,18 @@ use Rattle.sched_cli.specs.Obstacles.{IsBehind, IsLocalOnce, IsOnce, IsPart}
 -- ---- a property that occurs once
 
 pub one_of : {A : Type 0} (xs : List A) (x : A) → IsBehind 0 xs x → drop 1 xs ≡ [] → xs ≡ x ∷ []
-one_of [] x (others, e) none = e
+one_of [] x (others, e) none = cc
 one_of (y ∷ ys) x (others, e) none = e ∙ ap (λ zs. x ∷ zs) (sym (ap (drop 1) e) ∙ none)
 
 is_one : {A : Type 0} (x y : A) → Contains (x ∷ []) y → x ≡ y
 is_one x y (zero, w, e) = e
 is_one x y (suc k, w, e) = absurd (omega arith)
 
+never_none : {A : Type 0} (x : A) (xs : List A) → x ∷ xs ≡ [] → ⊥
+never_none x xs e = cc
+
 once_missing : (name : List ℕ) (part : List (List ℕ)) → IsOnce name part → IsMissing name part → ⊥
-once_missing name part (line, once) none = absurd (sym once ∙ none)
+once_missing name part (line, once) none = never_none line [] (sym once ∙ none)
 
 once_twice : (name : List ℕ) (part : List (List ℕ)) → IsOnce name part → OccursMoreThanOnce name part → ⊥
 once_twice name part (line, once) many = omega (arith, subst (λ (l : List (List ℕ)). 1 < length l) once many)
@@ -110,8 +113,8 @@ none_mapped f [] e = refl
 none_mapped f (x ∷ xs) e = cc
 
 none_dropped : {A : Type 0} (n : ℕ) (xs : List A) (x : A) → IsBehind n xs x → xs ≡ [] → ⊥
-none_dropped zero xs x (others, e) none = absurd (sym e ∙ none)
-none_dropped (suc n) xs x (others, e) none = absurd (sym e ∙ ap (drop (suc n)) none)
+none_dropped zero xs x (others, e) none = never_none x others (sym e ∙ none)
+none_dropped (suc n) xs x (others, e) none = never_none x others (sym e ∙ ap (drop (suc n)) none)
 
 abbrev standard_of : Component → Bool
 standard_of c = is_standard (component_name c)
@@ -121,20 +124,20 @@ daylight_of c = is_daylight (component_name c)
 
 -- a part is there
 pub some_standard : (zone part : Component) (n : ℕ) → IsPart zone (codes "STANDARD") n part → zone_parts zone ≡ [] → ⊥
-some_standard zone part n (there, is) none =
+some_standard zone part n is none =
     none_dropped n (filter standard_of (component_children zone)) part is (none_left standard_of daylight_of (component_children zone) (none_mapped component_lines (filter (λ c. is_part (component_name c)) (component_children zone)) none))
 
 pub some_daylight : (zone part : Component) (n : ℕ) → IsPart zone (codes "DAYLIGHT") n part → zone_parts zone ≡ [] → ⊥
-some_daylight zone part n (there, is) none =
+some_daylight zone part n is none =
     none_dropped n (filter daylight_of (component_children zone)) part is (none_right standard_of daylight_of (component_children zone) (none_mapped component_lines (filter (λ c. is_part (component_name c)) (component_children zone)) none))
 
 -- the only part
 pub only_standard : (zone part : Component) → IsPart zone (codes "STANDARD") 0 part → drop 1 (filter standard_of (component_children zone)) ≡ [] → filter daylight_of (component_children zone) ≡ [] → zone_parts zone ≡ component_lines part ∷ []
-only_standard zone part (there, is) once none =
+only_standard zone part is once none =
     ap (map component_lines) (left_alone standard_of daylight_of (component_children zone) none ∙ one_of (filter standard_of (component_children zone)) part is once)
 
 pub only_daylight : (zone part : Component) → IsPart zone (codes "DAYLIGHT") 0 part → drop 1 (filter daylight_of (component_children zone)) ≡ [] → filter standard_of (component_children zone) ≡ [] → zone_parts zone ≡ component_lines part ∷ []
-only_daylight zone part (there, is) once none =
+only_daylight zone part is once none =
     ap (map component_lines) (right_alone standard_of daylight_of (component_children zone) none ∙ one_of (filter daylight_of (component_children zone)) part is once)
 
 pub no_parts : (zone : Component) → filter standard_of (component_children zone) ≡ [] → filter daylight_of (component_children zone) ≡ [] → zone_parts zone ≡ []

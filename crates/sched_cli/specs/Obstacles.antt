@@ -84,10 +84,16 @@ pub record IsUnmatched (part others : List (List ℕ)) (line : List ℕ) : Type 
 
 -- ---- what of a VTIMEZONE is in the way
 
+-- the components of a name
+abbrev pub named : List ℕ → List Component → List Component
+named name components = filter (λ c. is_same_name (component_name c) name) components
+
+abbrev pub parts_named : Component → List ℕ → List Component
+parts_named zone name = named name (component_children zone)
+
 -- the part of a name behind so many others of it
 abbrev pub IsPart : Component → List ℕ → ℕ → Component → Type 0
-IsPart zone name n part =
-    Contains (component_children zone) part × IsBehind n (filter (λ c. is_same_name (component_name c) name) (component_children zone)) part
+IsPart zone name n part = IsBehind n (parts_named zone name) part
 
 -- a STANDARD and a DAYLIGHT, in any order
 abbrev pub AreBoth : Component → Component → Component → Type 0
@@ -142,7 +148,7 @@ IsLocalOnce part = (line : List ℕ) × (lines_named (codes "DTSTART") part ≡ 
 -- a first part of this name has a rule, or there is none of it
 abbrev pub IsLonely : Component → List ℕ → PartCause → Type 0
 IsLonely zone name found =
-    ((filter (λ c. is_same_name (component_name c) name) (component_children zone) ≡ []) × (found.name.now ≡ component_name zone) × (found.cause.obstacle ≡ NoPart) × (text_of found.cause.line ≡ None))
+    ((parts_named zone name ≡ []) × (found.name.now ≡ component_name zone) × (found.cause.obstacle ≡ NoPart) × (text_of found.cause.line ≡ None))
     ⊎ ((part : Component) × (line : List ℕ) × IsPart zone name 0 part × (found.name.now ≡ component_name part) × (found.cause.obstacle ≡ RuledAlone)
     × (text_of found.cause.line ≡ Some line) × IsFirstLine (codes "RRULE") (component_lines part) line)
 

@@ -1,9 +1,9 @@
 //! `explain` without a number: reads one object as `serve` reads a message, and says why it is refused.
 
-ghost use Rattle.std.specs.Prelude.{◌≡◌, ◌≤◌, ◌++◌, ◌⊎◌, ℕ, List, codes, decimal, true, false, IfOk, OnOk};
+ghost use Rattle.std.specs.Prelude.{◌≡◌, ◌≤◌, ◌++◌, ◌⊎◌, ℕ, List, codes, decimal, true, false, IfOk, MatchOption, OnOk};
 ghost use Rattle.std.specs.Io.KnownBytes.{Appends, Keeps};
 ghost use Rattle.sched_cli.specs.Commands.{BlamesDevice, IsStatusSaid, TellsDevice};
-ghost use Rattle.sched_cli.specs.Diagnosis.{IsEnding, IsHelp, IsMeaningOf, IsPlaceText, IsReason, IsRefusedText, SaysRefused, SaysTaken, message_line, place_text, property_text, way_text};
+ghost use Rattle.sched_cli.specs.Diagnosis.{HasFault, IsEnding, IsHelp, IsMeaningOf, IsPlaceText, IsRead, IsReason, IsRefusedText, SaysRefused, SaysTaken, message_line, place_text, property_text, way_text};
 ghost use Rattle.sched_cli.specs.Explained.{is_explained};
 
 use crate::explain::explanation;
@@ -186,12 +186,22 @@ fn append_help(alloc: Global, text: &mut Vec<u8>, octets: &[u8]) -> Result<(), A
 fn append_adapted(alloc: Global, text: &mut Vec<u8>, octets: &[u8]) -> Result<(), AllocError>
     ensures { OnOk result ((ending : List ℕ) × IsEnding octets.now ending × (text.new.items ≡ text.old.items ++ ending)) }
 {
+    let Some(number) = refused_number(alloc, octets)? else {
+        text.extend_from_slice(b"read.\n")?;
+        return Ok(());
+    };
+    append_refused(text, number)
+}
+
+/// The number that octets are refused with; None where they are read.
+fn refused_number(alloc: Global, octets: &[u8]) -> Result<Option<u8>, AllocError>
+    ensures { IfOk result (λ refused. MatchOption refused (IsRead octets.now) (HasFault octets.now)) }
+{
     match Message::read(alloc, octets) {
-        Ok(_) => text.extend_from_slice(b"read.\n")?,
-        Err(Fault::Memory) => return Err(AllocError),
-        Err(Fault::Refused(refusal)) => append_refused(text, refusal.number)?,
+        Ok(_) => Ok(None),
+        Err(Fault::Refused(refusal)) => Ok(Some(refusal.number)),
+        Err(Fault::Memory) => Err(AllocError),
     }
-    Ok(())
 }
 
 /// `refused 34.`

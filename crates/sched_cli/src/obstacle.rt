@@ -1,18 +1,18 @@
 //! What of a VTIMEZONE is in the way of a room that reads it: the part, STANDARD or DAYLIGHT, and the line of it (RFC 5545 3.6.5).
 
-ghost use Rattle.std.specs.Prelude.{◌≡◌, ◌⊎◌, ℕ, List, [], Some, None, true, false, drop, filter, Contains, IfOk, IfSome, IfNone};
+ghost use Rattle.std.specs.Prelude.{◌≡◌, ◌⊎◌, ◌<◌, ◌+◌, ◌∷◌, ℕ, List, [], Some, None, true, false, drop, length, Contains, IfOk, IfSome, IfNone};
 ghost use Rattle.ical_lines.specs.Text.{line_text};
-ghost use Rattle.ical_tree.specs.Tree.{component_name, component_lines, component_children};
-ghost use Rattle.profile.specs.text.Lines.{is_same_name};
-ghost use Rattle.profile.specs.events.Properties.{lines_named};
+ghost use Rattle.ical_tree.specs.Runs.{lines_left};
+ghost use Rattle.ical_tree.specs.Tree.{component_name, component_lines};
+ghost use Rattle.profile.specs.events.Properties.{IsMissing, lines_named};
 ghost use Rattle.profile.specs.series.ZoneTexts.{IsFixedLine, TimesFault, is_part};
 ghost use Rattle.cal_zones.specs.Read.{HasZoneFault, zone_parts};
-ghost use Rattle.sched_cli.specs.Obstacles.{HasFar, HasRuleCause, HasUnmatched, IsBehind, IsCause, IsLonely, IsLocalOnce, IsOnce, IsPart, IsRuleCause, IsTextCause, IsTimesCause, missing_words, text_of, time_name, twice_words, words_of};
+ghost use Rattle.sched_cli.specs.Obstacles.{HasFar, HasRuleCause, HasUnmatched, IsCause, IsFirstLine, IsLonely, IsLocalOnce, IsOnce, IsPart, IsRuleCause, IsSecondLine, IsTextCause, IsTimesCause, missing_words, named, parts_named, text_of, time_name, twice_words, words_of};
 
 use cal_rules::RuleText;
 use cal_zones::day_named;
 use ical_lines::{Fault, Line};
-use ical_tree::Component;
+use ical_tree::{Component, OwnLines};
 use ical_values::UtcOffset;
 use ical_values::stamp::ends_in_z;
 use std::alloc::{AllocError, Global};
@@ -115,16 +115,16 @@ fn shape_cause<'c>(
     if let Some(found) = first_times_cause(zone) {
         return Ok(Some(found));
     }
-    if let Some(part) = nth_part(zone, "STANDARD", 1) {
+    if let Some(part) = second_part(zone, "STANDARD") {
         return Ok(Some(part.itself(Obstacle::Second)));
     }
-    if let Some(part) = nth_part(zone, "DAYLIGHT", 1) {
+    if let Some(part) = second_part(zone, "DAYLIGHT") {
         return Ok(Some(part.itself(Obstacle::Second)));
     }
-    let Some(standard) = nth_part(zone, "STANDARD", 0) else {
+    let Some(standard) = first_part(zone, "STANDARD") else {
         return Ok(lonely_cause(zone, "DAYLIGHT"));
     };
-    let Some(daylight) = nth_part(zone, "DAYLIGHT", 0) else {
+    let Some(daylight) = first_part(zone, "DAYLIGHT") else {
         return Ok(lonely_cause(zone, "STANDARD"));
     };
     rules_cause(alloc, standard, daylight)
@@ -150,7 +150,7 @@ fn times_cause<'c>(part: &'c Component) -> Option<Cause<'c>>
     ensures found { IfSome result (λ cause. IsTimesCause (component_lines part.now) cause.obstacle (text_of cause.line)) }
     ensures none { IfNone result (TimesFault (component_lines part.now) 40 → ⊥) }
 {
-    if let Some(line) = nth_named(part, "RDATE", 0) {
+    if let Some(line) = first_line(part, "RDATE") {
         return Some(Cause::at(Obstacle::Dates, line));
     }
     if let Some(cause) = start_cause(part) {
@@ -170,7 +170,7 @@ fn start_cause<'c>(part: &'c Component) -> Option<Cause<'c>>
     if let Some(cause) = once_cause(part, PartTime::Start) {
         return Some(cause);
     }
-    let line = nth_named(part, "DTSTART", 0)?;
+    let line = first_line(part, "DTSTART")?;
     if !is_fixed(line) {
         return None;
     }
@@ -182,10 +182,10 @@ fn once_cause<'c>(part: &'c Component, time: PartTime) -> Option<Cause<'c>>
     ensures found { IfSome result (λ cause. IsTimesCause (component_lines part.now) cause.obstacle (text_of cause.line)) }
     ensures none { IfNone result (IsOnce (time_name time) (component_lines part.now)) }
 {
-    if nth_named(part, time.name(), 0).is_none() {
+    if first_line(part, time.name()).is_none() {
         return Some(Cause::itself(Obstacle::Missing(time)));
     }
-    let line = nth_named(part, time.name(), 1)?;
+    let line = second_line(part, time.name())?;
     Some(Cause::at(Obstacle::Twice(time), line))
 }
 
@@ -201,14 +201,14 @@ fn is_fixed(line: Line<'_>) -> bool
 fn lonely_cause<'c>(zone: &'c Component, name: &str) -> Option<PartCause<'c>>
     ensures { IfSome result (IsLonely zone.now name.now) }
 {
-    let Some(part) = nth_part(zone, name, 0) else {
+    let Some(part) = first_part(zone, name) else {
         return Some(PartCause {
             part: None,
             name: zone.name(),
             cause: Cause::itself(Obstacle::NoPart),
         });
     };
-    let line = nth_named(part.component, "RRULE", 0)?;
+    let line = first_line(part.component, "RRULE")?;
     Some(part.with(Cause::at(Obstacle::RuledAlone, line)))
 }
 
@@ -233,10 +233,10 @@ fn rules_cause<'c>(
 fn rule_cause<'c>(alloc: Global, part: &'c Component) -> Result<Option<Cause<'c>>, AllocError>
     ensures { IfOk result (λ found. IfSome found (λ cause. IsRuleCause (component_lines part.now) cause.obstacle (text_of cause.line))) }
 {
-    let Some(line) = nth_named(part, "RRULE", 0) else {
+    let Some(line) = first_line(part, "RRULE") else {
         return Ok(Some(Cause::itself(Obstacle::NoRule)));
     };
-    if let Some(second) = nth_named(part, "RRULE", 1) {
+    if let Some(second) = second_line(part, "RRULE") {
         return Ok(Some(Cause::at(Obstacle::TwoRules, second)));
     }
     let Some(obstacle) = rule_obstacle(alloc, line.value())? else {
@@ -270,10 +270,10 @@ fn rule_obstacle(alloc: Global, text: &str) -> Result<Option<Obstacle>, AllocErr
 fn offsets_cause<'c>(zone: &'c Component) -> Option<PartCause<'c>>
     ensures { IfSome result (IsCause zone.now 41) }
 {
-    let Some(standard) = nth_part(zone, "STANDARD", 0) else {
-        return far_cause(nth_part(zone, "DAYLIGHT", 0)?);
+    let Some(standard) = first_part(zone, "STANDARD") else {
+        return far_cause(first_part(zone, "DAYLIGHT")?);
     };
-    let Some(daylight) = nth_part(zone, "DAYLIGHT", 0) else {
+    let Some(daylight) = first_part(zone, "DAYLIGHT") else {
         return far_cause(standard);
     };
     if let Some(found) = unmatched_cause(standard, daylight) {
@@ -289,8 +289,8 @@ fn offsets_cause<'c>(zone: &'c Component) -> Option<PartCause<'c>>
 fn unmatched_cause<'c>(part: Part<'c, '_>, other: Part<'c, '_>) -> Option<PartCause<'c>>
     ensures { IfSome result (HasUnmatched part.entry.component.now other.entry.component.now) }
 {
-    let line = nth_named(part.component, "TZOFFSETFROM", 0)?;
-    let others = nth_named(other.component, "TZOFFSETTO", 0)?;
+    let line = first_line(part.component, "TZOFFSETFROM")?;
+    let others = first_line(other.component, "TZOFFSETTO")?;
     let from = UtcOffset::read(line.value()).ok()?;
     let to = UtcOffset::read(others.value()).ok()?;
     if from.seconds() == to.seconds() {
@@ -303,8 +303,8 @@ fn unmatched_cause<'c>(part: Part<'c, '_>, other: Part<'c, '_>) -> Option<PartCa
 fn far_cause<'c>(part: Part<'c, '_>) -> Option<PartCause<'c>>
     ensures { IfSome result (HasFar part.entry.component.now) }
 {
-    let line = nth_named(part.component, "TZOFFSETTO", 0)?;
-    let others = nth_named(part.component, "TZOFFSETFROM", 0)?;
+    let line = first_line(part.component, "TZOFFSETTO")?;
+    let others = first_line(part.component, "TZOFFSETFROM")?;
     let to = UtcOffset::read(line.value()).ok()?;
     let from = UtcOffset::read(others.value()).ok()?;
     if to.seconds().abs_diff(from.seconds()) <= HALF_DAY {
@@ -317,7 +317,7 @@ fn far_cause<'c>(part: Part<'c, '_>) -> Option<PartCause<'c>>
 fn close_cause<'c>(zone: &'c Component) -> Option<PartCause<'c>>
     ensures { IfSome result (IsCause zone.now 42) }
 {
-    let part = nth_part(zone, "DAYLIGHT", 0)?;
+    let part = first_part(zone, "DAYLIGHT")?;
     Some(part.itself(Obstacle::Close))
 }
 
@@ -328,35 +328,69 @@ fn is_part(component: &Component) -> bool
     component.is_named("STANDARD") || component.is_named("DAYLIGHT")
 }
 
-/// The part of that name behind so many others of it.
-fn nth_part<'c, 'a>(zone: &'c Component<'a>, name: &str, earlier: usize) -> Option<Part<'c, 'a>>
-    ensures found { IfSome result (λ part. IsPart zone.now name.now earlier part.component.now) }
-    ensures none { IfNone result (drop earlier (filter (λ c. is_same_name (component_name c) name.now) (component_children zone.now)) ≡ []) }
+/// The first STANDARD or DAYLIGHT, by its name.
+fn first_part<'c, 'a>(zone: &'c Component<'a>, name: &str) -> Option<Part<'c, 'a>>
+    ensures found { IfSome result (λ part. IsPart zone.now name.now 0 part.component.now) }
+    ensures none { IfNone result (parts_named zone.now name.now ≡ []) }
 {
-    let mut left = earlier;
-    for (place, component) in zone.children().iter().enumerate() {
+    first_named(zone.children(), name)
+}
+
+/// The second one.
+fn second_part<'c, 'a>(zone: &'c Component<'a>, name: &str) -> Option<Part<'c, 'a>>
+    ensures found { IfSome result (λ part. IsPart zone.now name.now 1 part.component.now) }
+    ensures none { IfNone result (drop 1 (parts_named zone.now name.now) ≡ []) }
+{
+    let first = first_named(zone.children(), name)?;
+    let later = first.place + 1;
+    let second = first_named(&zone.children()[later..], name)?;
+    Some(Part {
+        place: later + second.place,
+        component: second.component,
+    })
+}
+
+/// The first of some components that has this name.
+fn first_named<'c, 'a>(components: &'c [Component<'a>], name: &str) -> Option<Part<'c, 'a>>
+    ensures place { IfSome result (λ part. part.place < length components.now) }
+    ensures found { IfSome result (λ part. named name.now components.now ≡ part.component.now ∷ named name.now (drop (part.place + 1) components.now)) }
+    ensures none { IfNone result (named name.now components.now ≡ []) }
+{
+    for (place, component) in components.iter().enumerate() {
         if component.is_named(name) {
-            if left == 0 {
-                return Some(Part { place, component });
-            }
-            left -= 1;
+            return Some(Part { place, component });
         }
     }
     None
 }
 
-/// The line of that property behind so many others of it.
-fn nth_named<'c>(part: &'c Component, name: &str, earlier: usize) -> Option<Line<'c>>
-    ensures found { IfSome result (λ line. IsBehind earlier (lines_named name.now (component_lines part.now)) (line_text line)) }
-    ensures none { IfNone result (drop earlier (lines_named name.now (component_lines part.now)) ≡ []) }
+/// The first line of a property.
+fn first_line<'c>(part: &'c Component, name: &str) -> Option<Line<'c>>
+    ensures found { IfSome result (λ line. IsFirstLine name.now (component_lines part.now) (line_text line)) }
+    ensures none { IfNone result (IsMissing name.now (component_lines part.now)) }
 {
-    let mut left = earlier;
-    for line in part.lines() {
+    let mut lines = part.lines();
+    next_line(&mut lines, name)
+}
+
+/// The second one.
+fn second_line<'c>(part: &'c Component, name: &str) -> Option<Line<'c>>
+    ensures found { IfSome result (λ line. IsSecondLine name.now (component_lines part.now) (line_text line)) }
+    ensures none { IfNone result (drop 1 (lines_named name.now (component_lines part.now)) ≡ []) }
+{
+    let mut lines = part.lines();
+    next_line(&mut lines, name)?;
+    next_line(&mut lines, name)
+}
+
+/// The next line of a property; those up to it are taken.
+fn next_line<'c>(lines: &mut OwnLines<'c>, name: &str) -> Option<Line<'c>>
+    ensures found { IfSome result (λ line. lines_named name.now (lines_left lines.old) ≡ line_text line ∷ lines_named name.now (lines_left lines.new)) }
+    ensures none { IfNone result (lines_named name.now (lines_left lines.old) ≡ []) }
+{
+    while let Some(line) = lines.next() {
         if line.is_named(name) {
-            if left == 0 {
-                return Some(line);
-            }
-            left -= 1;
+            return Some(line);
         }
     }
     None
