@@ -103,8 +103,8 @@ AreBoth zone part other =
 -- one of the two, of which there is one of each
 abbrev pub IsOneOfTwo : Component → Component → Type 0
 IsOneOfTwo zone part =
-    (other : Component) × AreBoth zone part other × (standards_of zone ≡ component_lines part ∷ [] × (daylights_of zone ≡ component_lines other ∷ [])
-    ⊎ (daylights_of zone ≡ component_lines part ∷ [] × (standards_of zone ≡ component_lines other ∷ [])))
+    (other : Component) × AreBoth zone part other × (((standards_of zone ≡ component_lines part ∷ []) × (daylights_of zone ≡ component_lines other ∷ []))
+    ⊎ ((daylights_of zone ≡ component_lines part ∷ []) × (standards_of zone ≡ component_lines other ∷ [])))
 
 -- what of a part of the VTIMEZONE is in the way, by the number that the VTIMEZONE is refused with
 pub data IsPartCause (zone part : Component) : Obstacle → Option (List ℕ) → ℕ → Type 0 where
