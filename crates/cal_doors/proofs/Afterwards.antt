@@ -1,20 +1,14 @@
--- The zones that have the onsets after an instant. For `constant_after`, `single_after` and `pair_of_runs`.
+-- The zones that have the onsets after an instant. For `single_after` and `pair_of_runs`.
 use Rattle.std.proofs.Common.{◌≡◌, ◌∙◌, sym, refl, subst, arith, inl, inr, ℕ, ◌==◌, true, List, ℤ, ◌+ℤ◌, ◌≤ℤ◌}
 use Rattle.std.specs.Prelude.{Option, Some, None, Result, Ok, Err, IfSome, IfOk}
 use Rattle.std.specs.Result.{result_ok}
 use Rattle.std.specs.Int.Signed.{◌<ℤ◌}
 use Rattle.std.proofs.lemmas.Int.{ints}
 use Rattle.std.proofs.lemmas.Bool.Decides.{nat_tests}
-use Rattle.profile.specs.series.Zones.{Observance, Zone, Constant, Pair, Onset, IsOnset, begins_on, local_time}
+use Rattle.profile.specs.series.Zones.{Observance, Zone, Pair, Onset, IsOnset, begins_on, local_time}
 use Rattle.profile.specs.series.GeneralZones.{Run, IsGeneralOnset}
 use Rattle.cal_doors.specs.Passing.{PassesOnly, PassesPair}
 use Rattle.cal_doors.specs.After.{HasOnsetsAfter, IsOnceAt}
-
-pub no_onset : (zone : List Run) (instant k : ℤ) (z : Zone) → z ≡ Constant k → ((x : Onset) → IsGeneralOnset zone x → x.instant ≤ℤ instant) → HasOnsetsAfter zone instant z
-no_onset zone instant k z e all = subst (HasOnsetsAfter zone instant) (sym e) (record {
-  there = λ x later is. let l = all x is in absurd (omega (arith, ints, l, later));
-  back = λ x later is. absurd is;
-})
 
 -- an observance without a rule begins on its DTSTART alone
 on_start : (o : Observance) → o.rule ≡ None → begins_on o o.day ≡ true

@@ -8,6 +8,7 @@ pub mod RunsUpTo
 pub mod Offsets
 pub mod Afterwards
 pub mod Same
+pub mod Still
 pub mod General
 pub mod Again
 pub mod PartSays

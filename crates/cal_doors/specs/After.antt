@@ -1,13 +1,18 @@
 -- What is found of some runs at an instant, and after it.
 use Rattle.std.specs.Prelude.{◌≡◌, ◌↔◌, None, List, ℤ, ◌+ℤ◌}
 use Rattle.std.specs.Int.Signed.{◌<ℤ◌}
-use Rattle.profile.specs.series.Zones.{Observance, Onset, Zone, Single, local_time, IsZoneOnset, IsOffsetAt, Means}
+use Rattle.profile.specs.series.Zones.{Observance, Onset, Zone, Constant, Single, local_time, IsZoneOnset, IsOffsetAt, Means}
 use Rattle.profile.specs.series.GeneralZones.{Run, IsGeneralOnset, IsGeneralOffsetAt, MeansGenerally, runs_of}
 
 -- one offset is in force at an instant
 pub record IsOnlyOffset (zone : List Run) (instant offset : ℤ) : Type 0 where
   pub in_force : IsGeneralOffsetAt zone instant offset
   pub only : (other : ℤ) → IsGeneralOffsetAt zone instant other → other ≡ offset
+
+-- the zone of one offset, which all onsets after an instant set
+pub record IsStillAfter (zone : List Run) (instant offset : ℤ) (other : Zone) : Type 0 where
+  pub is : other ≡ Constant offset
+  pub sets : (x : Onset) → IsGeneralOnset zone x → instant <ℤ x.instant → x.after ≡ offset
 
 -- after an instant the onsets are the same
 pub record HasOnsetsAfter (zone : List Run) (instant : ℤ) (other : Zone) : Type 0 where

@@ -1,13 +1,12 @@
 -- What the conditions on onsets say.
-use Rattle.std.specs.Prelude.{◌≤ℤ◌}
 use Rattle.profile.specs.series.Zones.{Onset}
 use Rattle.cal_zones.specs.Onsets.{observance_of}
-use Rattle.cal_doors.specs.Passing.{PassesLatest, PassesFirst, PassesOnly, PassesPair}
+use Rattle.cal_doors.specs.Passing.{PassesStill, PassesLatest, PassesFirst, PassesOnly, PassesPair}
 use Rattle.cal_doors.specs.declared.condition.Condition.{Condition}
 use Rattle.cal_doors.specs.declared.condition.Condition.TheVariants as the
 
 abbrev pub Passes : Condition → Onset → Type 0
-Passes (the.Over c) x = x.instant ≤ℤ c.instant
+Passes (the.Still c) x = PassesStill c.instant c.sets x
 Passes (the.Latest c) x = PassesLatest c.instant c.latest c.sets x
 Passes (the.First c) x = PassesFirst c.first c.ends x
 Passes (the.Only c) x = PassesOnly c.instant c.only c.offset_from c.offset_to x

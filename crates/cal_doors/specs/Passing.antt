@@ -3,6 +3,10 @@ use Rattle.std.specs.Prelude.{◌≡◌, ◌⊎◌, ℤ, ◌≤ℤ◌}
 use Rattle.std.specs.Int.Signed.{◌<ℤ◌}
 use Rattle.profile.specs.series.Zones.{Observance, Onset, IsOnset}
 
+-- after an instant it sets that offset
+abbrev pub PassesStill : ℤ → ℤ → Onset → Type 0
+PassesStill instant offset x = instant <ℤ x.instant → x.after ≡ offset
+
 -- up to an instant it isn't later than the latest one, and sets that offset where it is at the same instant
 abbrev pub PassesLatest : ℤ → ℤ → ℤ → Onset → Type 0
 PassesLatest instant latest offset x = x.instant ≤ℤ instant → (x.instant ≤ℤ latest) × (x.instant ≡ latest → x.after ≡ offset)

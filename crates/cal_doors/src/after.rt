@@ -3,11 +3,11 @@
 ghost use Rattle.std.specs.Prelude.{◌≡◌, IfSome};
 ghost use Rattle.cal_zones.specs.Kinds.{zone_of};
 ghost use Rattle.cal_doors.specs.Runs.{runs_in};
-ghost use Rattle.cal_doors.specs.After.{IsOnlyOffset, HasOnsetsAfter, IsOnceAt};
+ghost use Rattle.cal_doors.specs.After.{IsOnlyOffset, IsStillAfter, HasOnsetsAfter, IsOnceAt};
 ghost use Rattle.cal_doors.specs.declared.end.End.TheVariants.{Never};
 
 use crate::check::{all_hold, covers};
-use crate::condition::{Condition, First, Last, Latest, Only, Two};
+use crate::condition::{Condition, First, Latest, Only, Still, Two};
 use crate::places::{earliest_place, endless_place, first_place, latest_place, place_left};
 use crate::run::Run;
 use cal_zones::{Observance, Zone};
@@ -62,27 +62,29 @@ fn offset_until(runs: &[Run], place: usize, instant: i64) -> Option<i32>
     Some(run.offset_from)
 }
 
-/// The zone that has the onsets after an instant, where that offset is in force. None where none is found.
-pub(crate) fn zone_after(runs: &[Run], instant: i64, offset: i32) -> Option<Zone>
+/// The zone of one offset, which is in force at an instant, where all onsets after it set the same. None where one sets another.
+pub(crate) fn still_after(runs: &[Run], instant: i64, offset: i32) -> Option<Zone>
+    ensures { IfSome result (λ zone. IsStillAfter (runs_in runs.now) instant offset (zone_of zone)) }
+{
+    let condition = Condition::Still(Still {
+        instant,
+        sets: offset,
+    });
+    if !all_hold(runs, &condition) {
+        return None;
+    }
+    Some(Zone::constant(UtcOffset::of_seconds(offset)?))
+}
+
+/// The zone that has the onsets after an instant. None where none is found.
+pub(crate) fn zone_after(runs: &[Run], instant: i64) -> Option<Zone>
     ensures { IfSome result (λ zone. HasOnsetsAfter (runs_in runs.now) instant (zone_of zone)) }
 {
-    let Some(place) = place_left(runs, instant) else {
-        return constant_after(runs, instant, offset);
-    };
+    let place = place_left(runs, instant)?;
     if let Some(zone) = single_after(runs, place, instant) {
         return Some(zone);
     }
     pair_after(runs, instant)
-}
-
-/// The zone of one offset, where no onset comes after an instant.
-fn constant_after(runs: &[Run], instant: i64, offset: i32) -> Option<Zone>
-    ensures { IfSome result (λ zone. HasOnsetsAfter (runs_in runs.now) instant (zone_of zone)) }
-{
-    if !all_hold(runs, &Condition::Over(Last { instant })) {
-        return None;
-    }
-    Some(Zone::constant(UtcOffset::of_seconds(offset)?))
 }
 
 /// The zone of one onset, where one comes after an instant, of the run at this place.

@@ -5,15 +5,15 @@ ghost use Rattle.profile.specs.series.Zones.{Onset};
 ghost use Rattle.profile.specs.series.GeneralZones.{IsRunOnset};
 ghost use Rattle.cal_doors.specs.Runs.{run_of};
 ghost use Rattle.cal_zones.specs.Onsets.{observance_of};
-ghost use Rattle.cal_doors.specs.Passing.{PassesLatest, PassesFirst, PassesOnly, PassesPair};
+ghost use Rattle.cal_doors.specs.Passing.{PassesStill, PassesLatest, PassesFirst, PassesOnly, PassesPair};
 
 use crate::run::Run;
 
 /// A condition on onsets.
 #[derive(Clone, Copy)]
 pub(crate) enum Condition {
-    /// None comes after this instant.
-    Over(Last),
+    /// After an instant each sets this offset.
+    Still(Still),
     /// Up to an instant none is later than the latest one, and those at its instant set this offset.
     Latest(Latest),
     /// None is earlier than the first one, and those at its instant end this offset.
@@ -25,8 +25,9 @@ pub(crate) enum Condition {
 }
 
 #[derive(Clone, Copy)]
-pub(crate) struct Last {
+pub(crate) struct Still {
     pub(crate) instant: i64,
+    pub(crate) sets: i32,
 }
 
 #[derive(Clone, Copy)]
@@ -69,13 +70,23 @@ impl Condition {
         ensures { result ≡ true → (x : Onset) → IsRunOnset (run_of run.now) x → Passes self.now x }
     {
         match self {
-            Condition::Over(c) => run.is_over(c.instant),
+            Condition::Still(c) => is_still(run, c.instant, c.sets),
             Condition::Latest(c) => is_latest(run, c.instant, c.latest, c.sets),
             Condition::First(c) => is_first(run, c.first, c.ends),
             Condition::Only(c) => is_only(run, c.instant, c.only, c.offset_from, c.offset_to),
             Condition::Pair(c) => is_in_pair(run, c.instant, &c.one, &c.other),
         }
     }
+}
+
+/// Whether each onset of the run after an instant sets that offset.
+fn is_still(run: &Run, instant: i64, offset: i32) -> bool
+    ensures { result ≡ true → (x : Onset) → IsRunOnset (run_of run.now) x → PassesStill instant offset x }
+{
+    if run.is_over(instant) {
+        return true;
+    }
+    run.sets(offset)
 }
 
 /// Whether no onset of the run up to an instant is later than the latest one, and those at its instant set that offset.

@@ -1,6 +1,6 @@
 //! A zone in general, and the zone of the accepted form that it is from an instant on.
 
-use crate::after::{offset_at, zone_after};
+use crate::after::{offset_at, still_after, zone_after};
 use crate::between::{ending, going_on, has_begun, last_of_all};
 use crate::read::read_runs;
 use crate::run::Run;
@@ -46,14 +46,17 @@ impl GeneralZone {
     }
 
     /// The zone of the accepted form that does the same from an instant on: the same offset is in force at each instant, and each local time that no
-    /// clock shows before it means the same. None where none is found. It is one offset where no onset comes after the instant, a
-    /// single where one comes, and a pair where all that come are those of two endless rules.
+    /// clock shows before it means the same. None where none is found. It is one offset where each onset after the instant
+    /// sets the one that is in force already, a single where one comes, and a pair where all that come are those of two endless rules.
     pub fn from_instant(&self, instant: i64) -> Option<Zone>
         ensures same { IfSome result (λ zone. IsSameFrom (general_of self.now) (zone_of zone) instant) }
     {
         let runs = self.runs.as_slice();
         let offset = offset_at(runs, instant)?;
-        let zone = zone_after(runs, instant, offset)?;
+        if let Some(zone) = still_after(runs, instant, offset) {
+            return Some(zone);
+        }
+        let zone = zone_after(runs, instant)?;
         if zone.offset(instant) != offset {
             return None;
         }

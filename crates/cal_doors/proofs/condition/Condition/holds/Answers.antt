@@ -1,6 +1,13 @@
 use Rattle.std.proofs.Common.{rules, ◌≡◌, to_z, of_z, w32, w64, to_z-of_z}
 use Rattle.cal_doors.proofs.condition.Condition.holds.Goals as goal
 
+pub returns-in-Still : goal.returns-in-Still
+returns-in-Still c =
+    let k = c.in-Still.c in
+    let instant : to_z w64 (of_z w64 k.instant) ≡ k.instant = to_z-of_z {w = w64} (search rules) in
+    let sets : to_z w32 (of_z w32 k.sets) ≡ k.sets = to_z-of_z {w = w32} (search rules) in
+    rw c.in-Still.is (rw (instant, sets) at c.is_still.ensures)
+
 pub returns-in-Latest : goal.returns-in-Latest
 returns-in-Latest c =
     let k = c.in-Latest.c in
