@@ -2,9 +2,8 @@
 use Rattle.std.proofs.Common.{◌≡◌, ◌∙◌, refl, sym, subst, arith, inl, inr, ◌⊎◌, zero, suc, ℕ, ◌+◌, ◌*◌, ◌/◌, ◌-◌, ◌<◌, ◌≤◌, Bool, true, false, List, [], ◌∷◌, ℤ, pos, negsuc, ◌+ℤ◌, ◌-ℤ◌, ◌≤ℤ◌}
 use Rattle.std.specs.Int.Signed.{◌<ℤ◌}
 use Rattle.std.proofs.lemmas.Int.{ints, by_lt_z}
-use Rattle.std.proofs.lemmas.Bool.Decides.{nat_tests}
 use Rattle.profile.specs.series.Rules.{count_days}
-use Rattle.profile.specs.series.Zones.{Observance, Zone, Constant, Onset, IsLatest, InForce, Since, Until, IsOffsetAt, Means, begins_on, local_time}
+use Rattle.profile.specs.series.Zones.{Observance, Zone, Constant, Onset, IsLatest, Since, Until, Means, begins_on, local_time}
 use Rattle.profile.specs.series.GeneralZones.{End, Never, AfterCount, AtInstant, Run, IsInTime, IsRunOnset, IsGeneralOnset, IsGeneralOffsetAt, MeansGenerally, IsSameFrom}
 use Rattle.cal_doors.specs.After.{IsOnlyOffset}
 

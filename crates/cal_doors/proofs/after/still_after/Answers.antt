@@ -1,4 +1,4 @@
-use Rattle.std.proofs.Common.{rules, ◌≡◌, ◌∙◌, ap, to_z, of_z, w32, to_z-of_z}
+use Rattle.std.proofs.Common.{◌∙◌, ap, to_z-of_z}
 use Rattle.profile.specs.series.Zones.{Constant}
 use Rattle.cal_doors.proofs.after.still_after.Goals as goal
 
