@@ -1,6 +1,7 @@
 -- What a name means in an object that was made of another. For `is_given`, `is_right` and `are_same_but_zones`.
 use Rattle.std.proofs.Common.{◌≡◌, ◌∙◌, ap, sym, refl, subst, ℕ, Bool, true, List, Bor, Result, Ok, Err}
 use Rattle.std.specs.Prelude.{Option, Some, None, String, option_map, IfOk, IfSome}
+use Rattle.std.proofs.lemmas.Option.{none-some, same_Some}
 use Rattle.ical_tree.specs.Tree.{component_lines, component_children, tree_of}
 use Rattle.ical_tree.specs.declared.component.Component.{Component}
 use Rattle.ical_tree.proofs.TreeOfLemmas.{tree_of-own}
@@ -65,3 +66,15 @@ judged before zoned after now uses changes octets b a is own others means =
     whole.is_right (tree_of before) (tree_of after) uses changes octets is own others
     (subst (λ (c : Component). AllMeanNow (tree_of before) (tree_of c) uses changes) a
     (subst (λ (c : Component). AllMeanNow (tree_of c) (tree_of now) uses changes) b means))
+
+-- what is known of a value that is there
+pub of_some : {T : Type 0} (o : Option T) (x : T) (P : T → Type 0) → o ≡ Some x → IfSome o P → P x
+of_some (Some y) x P is h = subst P (same_Some y x is) h
+of_some None x P is h = absurd (none-some x is)
+
+-- two things are known of a value that is handed on
+pub when_both : {T E : Type 0} (r : Result (Option T) E) (P Q R : T → Type 0) → ((x : T) → P x → Q x → R x) → IfOk r (λ f. IfSome f P) → IfOk r (λ f. IfSome f Q)
+    → IfOk r (λ f. IfSome f R)
+when_both (Ok (Some x)) P Q R f g h = f x g h
+when_both (Ok None) P Q R f g h = tt
+when_both (Err e) P Q R f g h = tt

@@ -1,6 +1,6 @@
 -- Components but for VTIMEZONEs, one by one. For `are_same_components` and `past_zones`.
-use Rattle.std.proofs.Common.{◌≡◌, ◌∙◌, ap, sym, refl, subst, ℕ, Bool, true, false, not, cond, List, [], ◌∷◌, ◌++◌, map, filter, codes}
-use Rattle.std.specs.Prelude.{Option, Some, None}
+use Rattle.std.proofs.Common.{◌≡◌, ◌∙◌, ap, sym, refl, ℕ, suc, ◌-◌, ◌≤◌, Bool, true, false, not, cond, List, [], ◌∷◌, map, filter, codes, length, get_or, take, drop, arith}
+use Rattle.std.proofs.lemmas.List.{take_all}
 use Rattle.ical_tree.specs.Tree.{component_name, component_children, tree_of}
 use Rattle.ical_tree.specs.declared.component.Component.{Component}
 use Rattle.ical_tree.proofs.TreeOfLemmas.{tree_of-name, tree_of-own, tree_of-inside}
@@ -53,3 +53,8 @@ same_first before rest more after left past later c d is other gone are same h e
 pub none_left : (before rest after left past : List Component) → rest ≡ [] → others_among past ≡ others_among left → past ≡ [] → SameLeft before rest after left
     → others_among before ≡ others_among after
 none_left before rest after left past is gone are h = h (ap others_among is ∙ sym (ap others_among are) ∙ gone)
+
+-- what is behind the first
+pub rest_of : (xs : List Component) (x : Component) → 1 ≤ length xs → x ≡ get_or xs 0 x → xs ≡ x ∷ take (length xs - 1) (drop 1 xs)
+rest_of [] x some is = absurd (omega (arith, some))
+rest_of (y ∷ ys) x some is = ap (λ z. z ∷ ys) (sym is) ∙ ap (λ zs. x ∷ zs) (sym (take_all (suc (length ys) - 1) ys (omega arith)))

@@ -1,6 +1,8 @@
 -- What is made of an object at the door.
-use Rattle.std.specs.Prelude.{◌≡◌, ℕ, not, List, map, filter, codes, Option, None, Some, option_map, String, ℤ}
+use Rattle.std.specs.Prelude.{◌≡◌, ℕ, true, not, List, map, filter, codes, Option, None, Some, option_map, String, ℤ}
 use Rattle.std.specs.Borrow.{Bor}
+use Rattle.std.specs.List.{list_any}
+use Rattle.std.specs.Str.{bytes_eq}
 use Rattle.ical_tree.specs.Tree.{tree_of, component_name}
 use Rattle.ical_tree.specs.declared.component.Component.{Component}
 use Rattle.profile.specs.text.Lines.{is_same_name}
@@ -79,6 +81,10 @@ MeansNow before after name (Some c) = (part : Tree) × (zone_named name after �
 -- so it is with each name that is used
 abbrev pub AllMeanNow : {X Y : Type 0} → Tree → Tree → List (String X × Use) → List (String Y × Choice) → Type 0
 AllMeanNow before after uses changes = (name : List ℕ) (u : Use) → held name uses ≡ Some u → MeansNow before after name (held name changes)
+
+-- a zone that goes on beyond what is stated has its name among these
+abbrev pub AreGoingOn : {Y : Type 0} → List (String Y × Choice) → List (List ℕ) → Type 0
+AreGoingOn changes names = (name : List ℕ) (c : Choice) → held name changes ≡ Some c → c.goes_on ≡ true → list_any (bytes_eq name) names ≡ true
 
 -- components as trees, but for VTIMEZONEs
 abbrev pub others_among : List Component → List Tree

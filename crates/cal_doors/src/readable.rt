@@ -4,14 +4,16 @@ ghost use Rattle.std.specs.Prelude.{◌≡◌, true, map, string_bytes, IfOk, If
 ghost use Rattle.ical_tree.specs.Tree.{tree_of};
 ghost use Rattle.profile.specs.text.Lines.{logical_lines, reads_as_lines};
 ghost use Rattle.profile.specs.text.Objects.{IsObject};
-ghost use Rattle.profile.specs.doors.Adapting.{IsAdapted};
-ghost use Rattle.cal_doors.specs.Adapted.{listed_of, AreListed};
+ghost use Rattle.profile.specs.doors.Adapting.{IsAdapted, IsOf};
+ghost use Rattle.cal_doors.specs.Named.{AreNamed};
+ghost use Rattle.cal_doors.specs.Used.{AreUses};
+ghost use Rattle.cal_doors.specs.Adapted.{listed_of, AreListed, IsRight, AreGoingOn};
 
-use crate::changes::{changes_of, names_going_on};
+use crate::changes::{Changes, changes_of, names_going_on};
 use crate::named::NamedZones;
 use crate::right::is_right;
 use crate::splice::spliced;
-use crate::uses::uses_of;
+use crate::uses::{Uses, uses_of};
 use ical_lines::{Fault, Limits, Unfolded};
 use ical_tree::{Component, read_object};
 use std::alloc::{AllocError, Global};
@@ -45,20 +47,54 @@ pub fn adapt(
     let Some(uses) = uses_of(alloc, &object)? else {
         return Ok(None);
     };
-    let zones = NamedZones::of(alloc, &object)?;
-    let Some(changes) = changes_of(alloc, &uses, &zones, listed)? else {
+    adapt_object(alloc, octets, &object, &uses, listed)
+}
+
+/// The same of octets that are an object, whose uses these are.
+fn adapt_object(
+    alloc: Global,
+    octets: &[u8],
+    object: &Component<'_>,
+    uses: &Uses,
+    listed: Option<&NamedZones<'_, '_>>,
+) -> Result<Option<Adapted>, AllocError>
+    requires came { IsOf octets.now (tree_of object.now) }
+    requires uses { AreUses (tree_of object.now) uses.now.entries }
+    requires listed { AreListed listed }
+    ensures { IfOk result (λ found. IfSome found (λ a. IsAdapted (listed_of listed.entry) octets.now (map string_bytes a.going_on.items) a.octets.items)) }
+{
+    let zones = NamedZones::of(alloc, object)?;
+    let Some(changes) = changes_of(alloc, uses, &zones, listed)? else {
         return Ok(None);
     };
     if changes.is_empty() {
         return Ok(None);
     }
-    let adapted = spliced(alloc, octets, &object, &changes)?;
-    if !is_right(alloc, adapted.as_slice(), &object, &uses, &zones, &changes)? {
+    with_changes(alloc, octets, object, uses, &zones, &changes)
+}
+
+/// The object with these changes. None where that isn't right.
+fn with_changes(
+    alloc: Global,
+    octets: &[u8],
+    object: &Component<'_>,
+    uses: &Uses,
+    zones: &NamedZones<'_, '_>,
+    changes: &Changes,
+) -> Result<Option<Adapted>, AllocError>
+    requires before { zones.now.object.now ≡ object.now }
+    requires named { AreNamed zones.now }
+    ensures right { IfOk result (λ found. IfSome found (λ a. IsRight (tree_of object.now) uses.now.entries changes.now.entries a.octets.items)) }
+    ensures going_on { IfOk result (λ found. IfSome found (λ a. AreGoingOn changes.now.entries (map string_bytes a.going_on.items))) }
+{
+    let adapted = spliced(alloc, octets, object, changes)?;
+    if !is_right(alloc, adapted.as_slice(), object, uses, zones, changes)? {
         return Ok(None);
     }
+    let going_on = names_going_on(alloc, changes)?;
     Ok(Some(Adapted {
         octets: adapted,
-        going_on: names_going_on(alloc, &changes)?,
+        going_on,
     }))
 }
 

@@ -1,5 +1,7 @@
 //! The octets of an object with other VTIMEZONEs. Nothing is said of what comes out: it is read again, and judged (`is_right`).
 
+ghost use Rattle.std.specs.Prelude.{◌<◌, length, IfOk, IfSome};
+
 use crate::changes::Changes;
 use crate::named::zone_name;
 use cal_zones::Zone;
@@ -85,7 +87,9 @@ fn place_of(
     zone: &Component,
     changes: &Changes,
     is_there: &[bool],
-) -> Result<Option<usize>, AllocError> {
+) -> Result<Option<usize>, AllocError>
+    ensures { IfOk result (λ found. IfSome found (λ place. place < length is_there.now)) }
+{
     let Some(name) = zone_name(alloc, zone)? else {
         return Ok(None);
     };
