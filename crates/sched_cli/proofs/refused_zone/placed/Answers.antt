@@ -2,13 +2,14 @@ use Rattle.std.proofs.Common.{◌∙◌, ◌++◌, IfSome, ap, refl, subst}
 use Rattle.sched_cli.specs.Searching.{IsBlamedPlace}
 use Rattle.sched_cli.specs.InTheWay.{sought_line}
 use Rattle.sched_cli.specs.declared.place.Sought.TheVariants.{Begin}
+use Rattle.sched_cli.specs.declared.place.Spot.{Spot}
 use Rattle.sched_cli.proofs.refused_zone.placed.Goals as goal
 
 pub returns : goal.returns
 returns c =
     let octets = c.args.octets.now in
     let found = c.args.found in
-    let spot = record { zone = c.args.zone; part = found.part } in
+    let spot : Spot = record { zone = c.args.zone; part = found.part } in
     record {
       obstacle = refl;
       part = c.in_ok-extend_from_slice.ensures.items ∙ ap (λ z. z ++ c.as_bytes.result.now) c.new-part.ensures.items ∙ c.as_bytes.ensures.value;
