@@ -51,11 +51,19 @@ pub rules_there : (zone standard daylight : Component) (found : PartCause) → H
     → IsPart zone (codes "STANDARD") 0 standard → drop 1 (parts_named zone (codes "STANDARD")) ≡ [] → IsPart zone (codes "DAYLIGHT") 0 daylight → drop 1 (parts_named zone (codes "DAYLIGHT")) ≡ []
     → HasRuleCause standard found ⊎ HasRuleCause daylight found → IsCause zone 40 found
 rules_there zone standard daylight found fault right s s_once d d_once (inl (name, is)) =
-    inr (standard, name, rule found.cause.obstacle (text_of found.cause.line) (differ zone fault right (some_standard zone standard 0 s))
-    (daylight, inl (s, d), inl (one_named zone standard standard_of s s_once, one_named zone daylight daylight_of d d_once)) is)
+    inr (
+      standard,
+      name,
+      rule found.cause.obstacle (text_of found.cause.line) (differ zone fault right (some_standard zone standard 0 s))
+          (daylight, inl (s, d), inl (one_named zone standard standard_of s s_once, one_named zone daylight daylight_of d d_once)) is,
+    )
 rules_there zone standard daylight found fault right s s_once d d_once (inr (name, is)) =
-    inr (daylight, name, rule found.cause.obstacle (text_of found.cause.line) (differ zone fault right (some_standard zone standard 0 s))
-    (standard, inr (d, s), inr (one_named zone daylight daylight_of d d_once, one_named zone standard standard_of s s_once)) is)
+    inr (
+      daylight,
+      name,
+      rule found.cause.obstacle (text_of found.cause.line) (differ zone fault right (some_standard zone standard 0 s))
+          (standard, inr (d, s), inr (one_named zone daylight daylight_of d d_once, one_named zone standard standard_of s s_once)) is,
+    )
 
 -- offsets
 pub far_there : (zone part : Component) (found : PartCause) → IsPart zone (codes "STANDARD") 0 part ⊎ IsPart zone (codes "DAYLIGHT") 0 part → HasFar part found → IsCause zone 41 found

@@ -116,10 +116,10 @@ none_dropped : {A : Type 0} (n : ℕ) (xs : List A) (x : A) → IsBehind n xs x 
 none_dropped zero xs x (others, e) none = never_none x others (sym e ∙ none)
 none_dropped (suc n) xs x (others, e) none = never_none x others (sym e ∙ ap (drop (suc n)) none)
 
-abbrev standard_of : Component → Bool
+abbrev pub standard_of : Component → Bool
 standard_of c = is_standard (component_name c)
 
-abbrev daylight_of : Component → Bool
+abbrev pub daylight_of : Component → Bool
 daylight_of c = is_daylight (component_name c)
 
 -- a part is there

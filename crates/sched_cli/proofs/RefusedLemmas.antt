@@ -42,12 +42,12 @@ refused_as object line n param name found zone e f g h fault = record {
 
 -- a line of a VEVENT that does
 pub refused_by : (object : Tree) (lines : List (List ℕ)) (line : List ℕ) (n : ℕ) (zone : Component) → Contains lines line → is_time_line line ≡ true → IsRefusedAs object line n zone → RefusedBy object lines n zone
-refused_by object lines line n zone among says as = record {
-  name = as.name;
+refused_by object lines line n zone among says found = record {
+  name = found.name;
   line = line;
-  named = record { among = among; says_times = says; in_zone = as.param };
-  meant = as.meant;
-  fault = as.fault;
+  named = record { among = among; says_times = says; in_zone = found.param };
+  meant = found.meant;
+  fault = found.fault;
 }
 
 -- the first of the lines that are left, and the others

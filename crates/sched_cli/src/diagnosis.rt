@@ -208,9 +208,9 @@ fn refused_number(alloc: Global, octets: &[u8]) -> Result<Option<u8>, AllocError
 fn append_refused(text: &mut Vec<u8>, number: u8) -> Result<(), AllocError>
     ensures { OnOk result (text.new.items ≡ text.old.items ++ (codes "refused " ++ (decimal number ++ codes ".\n"))) }
 {
-    let mut digits = Buffer::new();
+    let mut shown = Buffer::new();
     text.extend_from_slice(b"refused ")?;
-    text.extend_from_slice(digits.format(number).as_bytes())?;
+    text.extend_from_slice(shown.format(number).as_bytes())?;
     text.extend_from_slice(b".\n")?;
     Ok(())
 }

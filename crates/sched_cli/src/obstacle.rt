@@ -105,10 +105,7 @@ pub(crate) fn cause_in<'c>(
 }
 
 /// What is in the way of one that is refused for its shape: the times of a part come before the other parts, and those before their rules.
-fn shape_cause<'c>(
-    alloc: Global,
-    zone: &'c Component,
-) -> Result<Option<PartCause<'c>>, AllocError>
+fn shape_cause<'c>(alloc: Global, zone: &'c Component) -> Result<Option<PartCause<'c>>, AllocError>
     requires { HasZoneFault zone.now 40 }
     ensures { IfOk result (λ found. IfSome found (IsCause zone.now 40)) }
 {

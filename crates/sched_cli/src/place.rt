@@ -149,7 +149,11 @@ fn is_begin(line: Line<'_>, name: &str) -> bool
 fn blame_if(is_sought: bool) -> Blame
     ensures { result ≡ blame_if is_sought }
 {
-    if is_sought { Blame::Certain } else { Blame::None }
+    if is_sought {
+        Blame::Certain
+    } else {
+        Blame::None
+    }
 }
 
 /// A component of an object.
@@ -247,9 +251,7 @@ impl<'a> Search<'a> {
         match spot.part {
             None => self.depth == 2 && self.is_after(spot.zone),
             Some(part) => {
-                self.depth == 3
-                    && self.is_after(spot.zone)
-                    && self.inner == part.saturating_add(1)
+                self.depth == 3 && self.is_after(spot.zone) && self.inner == part.saturating_add(1)
             }
         }
     }

@@ -7,7 +7,7 @@ ghost use Rattle.profile.specs.text.Lines.{logical_lines};
 ghost use Rattle.profile.specs.doors.Uses.{is_time_line};
 ghost use Rattle.profile.specs.series.ZoneTexts.{ZoneFault};
 ghost use Rattle.cal_doors.specs.Named.{AreNamed};
-ghost use Rattle.sched_cli.specs.InTheWay.{IsInTheWay, IsPlaced, IsRefusedAs, NamesRefused, RefusedBy};
+ghost use Rattle.sched_cli.specs.InTheWay.{IsInTheWay, IsPlaced, IsRefusedAs, NamesRefused, RefusedBy, sought_line};
 
 use crate::obstacle::{Obstacle, PartCause, cause_in};
 use crate::place::{Place, Sought, Spot, place_of};
@@ -70,10 +70,7 @@ fn text_of(alloc: Global, octets: &[u8]) -> Result<Option<Unfolded<'_>>, AllocEr
 }
 
 /// The object that lines spell, within the limits of a message. None where they spell none.
-fn object_of<'a>(
-    alloc: Global,
-    text: &'a Unfolded<'_>,
-) -> Result<Option<Component<'a>>, AllocError>
+fn object_of<'a>(alloc: Global, text: &'a Unfolded<'_>) -> Result<Option<Component<'a>>, AllocError>
     ensures { IfOk result (λ found. IfSome found (λ object. IsObjectOf true object text.now)) }
 {
     match read_object(alloc, text, Limits::Message) {
@@ -176,14 +173,12 @@ fn is_time_line(line: Line<'_>) -> bool
 
 /// Which of the components of an object one is, counted from 0: the first that is the same.
 fn which(object: &Component, zone: &Component) -> usize {
-    let mut place = 0;
-    for child in object.children() {
+    for (place, child) in object.children().iter().enumerate() {
         if child.is_same(zone) {
             return place;
         }
-        place += 1;
     }
-    place
+    object.children().len()
 }
 
 /// What is in the way, with its places in the object.
@@ -199,15 +194,10 @@ fn placed(
         zone,
         part: found.part,
     };
-    let begin = Sought::Begin(spot, found.name);
-    let line = match found.cause.line {
-        Some(text) => Sought::Text(spot, text),
-        None => begin,
-    };
-    let Some(begins) = place_of(alloc, octets, begin)? else {
+    let Some(begins) = place_of(alloc, octets, Sought::Begin(spot, found.name))? else {
         return Ok(None);
     };
-    let Some(place) = place_of(alloc, octets, line)? else {
+    let Some(place) = place_of(alloc, octets, sought_line(spot, found))? else {
         return Ok(None);
     };
     let mut part = Vec::new(alloc);
@@ -218,4 +208,14 @@ fn placed(
         begins: begins.line,
         place,
     }))
+}
+
+/// The line that is in the way, or the BEGIN of the part.
+fn sought_line<'a>(spot: Spot, found: PartCause<'a>) -> Sought<'a>
+    ensures { result ≡ sought_line spot found.entry.name found.entry.cause.line }
+{
+    match found.cause.line {
+        Some(text) => Sought::Text(spot, text),
+        None => Sought::Begin(spot, found.name),
+    }
 }
