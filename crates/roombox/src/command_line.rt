@@ -5,15 +5,22 @@ use clap::{Arg, ArgAction, ArgMatches, Command, Error};
 use sched_cli::commands::KeptText;
 use std::alloc::{AllocError, Global};
 
-/// What a command line asks for. ROOM, N and NUMBER are still words here; CALENDAR, CERTIFICATE, CONFIG, INBOX and OUTBOX are paths.
+/// What a command line asks for. ROOM, N and NUMBER are still words here; CALENDAR, CERTIFICATE, CONFIG, INBOX, OUTBOX
+/// and FILE are paths.
 #[derive(Clone, Copy)]
 pub enum Invocation<'a> {
     Serve {
         report: bool,
+        reading: Reading<'a>,
     },
     Keep {
         room: &'a str,
         kept: KeptText,
+        reading: Reading<'a>,
+    },
+    Adapt {
+        report: bool,
+        zones: Option<&'a str>,
     },
     Check {
         calendar: &'a str,
@@ -31,7 +38,17 @@ pub enum Invocation<'a> {
         config: &'a str,
         inbox: &'a str,
         outbox: &'a str,
+        reading: Reading<'a>,
     },
+}
+
+/// How objects are read.
+#[derive(Clone, Copy)]
+pub enum Reading<'a> {
+    /// As they came.
+    Plain,
+    /// Made readable on their way in; with the VTIMEZONEs of this file, if one is given.
+    Adapted(Option<&'a str>),
 }
 
 const ROOMBOX: &str =
@@ -70,8 +87,8 @@ Output: the objects that are sent, and for the k-th object, where it is refused,
   REFUSED;OBJECT=k:n
 `roombox explain n` says what the number n means; docs/PROFILE.md lists all.
 
-Exit status: 0 done, also where objects were refused; 2 usage; 3 the preamble is refused (90)
-or the input is too long; 4 a device failed; 5 out of memory.
+Exit status: 0 done, also where objects were refused; 2 usage; 3 the preamble is refused (90),
+FILE is refused, or the input is too long; 4 a device failed; 5 out of memory.
 
 Example: roombox serve < examples/first-request.ics-stream";
 
@@ -85,7 +102,8 @@ Output: an iCalendar object, or the lines of a certificate; docs/PROFILE.md has 
 lists the numbers of refusals.
 
 Exit status: 0 done, also where objects were refused; 2 usage; 3 the preamble is refused or
-doesn't name ROOM (90), or the input is too long; 4 a device failed; 5 out of memory.
+doesn't name ROOM (90), FILE is refused, or the input is too long; 4 a device failed; 5 out of
+memory.
 
 Example: roombox keep mailto:r1@example.com < examples/first-request.ics-stream";
 
@@ -155,11 +173,30 @@ with what `roombox serve` writes. One that is there is compared, and never writt
 again after a crash, and when files have come. The inbox has to keep all files, since the books
 are made from them. On a terminal it says how many files it has read, after each 1000th.
 
-Exit status: 0 done: each file is answered; 2 usage; 3 CONFIG is refused (90), or a file of
-OUTBOX differs from the answer: standard error has its name; 4 a file or a folder can't be used;
-5 out of memory. docs/PROFILE.md lists all numbers.
+Exit status: 0 done: each file is answered; 2 usage; 3 CONFIG (90) or FILE is refused, or a
+file of OUTBOX differs from the answer: standard error has its name; 4 a file or a folder can't
+be used; 5 out of memory. docs/PROFILE.md lists all numbers.
 
 Example: roombox box rooms.conf inbox outbox";
+
+const ADAPT: &str =
+    "Makes objects readable whose VTIMEZONEs say more than a room reads, and hands all others on.";
+
+const ADAPT_MORE: &str = "\
+Input: a preamble and objects, as for `roombox serve`, or objects alone.
+
+Output: the same octets, but for objects that name a VTIMEZONE in a form that a room refuses (40).
+In them it gives way to one that a room reads and that does the same at each time that the object
+names there. Where there is none the object is handed on as it came, and so is a longer one than a
+message may be. Many programs write their zones up to a year, in 2036 or later: such a zone goes on
+by its last rules, where an event repeats for longer; --report names it.
+
+FILE is one iCalendar object. Its VTIMEZONEs are for the names that no VTIMEZONE of an object has.
+
+Exit status: 0 done; 2 usage; 3 FILE is refused: standard error has the number; or it is too long;
+4 a device failed, as where FILE isn't there; 5 out of memory. docs/PROFILE.md lists all numbers.
+
+Example: roombox adapt < examples/first-request.ics-stream | roombox serve";
 
 /// How many instances are printed where no limit is given.
 const LIMIT: &str = "100";
@@ -179,6 +216,10 @@ const CERTIFICATE_HELP: &str =
 const CONFIG_HELP: &str = "The file of the rooms and organisers, a line each";
 
 const INBOX_HELP: &str = "The folder of the messages, each written whole before it gets its name";
+
+const READABLE_HELP: &str = "Make objects readable on their way in, as `roombox adapt` does";
+
+const ZONES_HELP: &str = "The file of VTIMEZONEs for names without one";
 
 const OUTBOX_HELP: &str = "The folder of the answers, which this program alone writes";
 
@@ -217,13 +258,16 @@ pub fn fault_of(alloc: Global, bad: BadWord<'_>) -> Result<Error, AllocError> {
 }
 
 fn program<'a>(alloc: Global) -> Result<Command<'a>, AllocError> {
-    Command::new(alloc, "roombox")
+    let program = Command::new(alloc, "roombox")
         .about(ROOMBOX)
         .after_help(ROOMBOX_MORE)
         .version("0.1.0")
         .disable_help_subcommand(true)
+        .args_conflicts_with_subcommands(true);
+    with_reading(alloc, program)?
         .subcommand(serve_command(alloc)?)?
         .subcommand(keep_command(alloc)?)?
+        .subcommand(adapt_command(alloc)?)?
         .subcommand(check_command(alloc)?)?
         .subcommand(expand_command(alloc)?)?
         .subcommand(explain_command(alloc)?)?
@@ -235,10 +279,11 @@ fn serve_command<'a>(alloc: Global) -> Result<Command<'a>, AllocError> {
         .long("report")
         .action(ArgAction::SetTrue)
         .help("At the end, say on standard error how many objects were refused, by number");
-    Command::new(alloc, "serve")
+    let serve = Command::new(alloc, "serve")
         .about(SERVE)
         .after_help(SERVE_MORE)
-        .arg(report)
+        .arg(report)?;
+    with_reading(alloc, serve)
 }
 
 fn keep_command<'a>(alloc: Global) -> Result<Command<'a>, AllocError> {
@@ -246,11 +291,26 @@ fn keep_command<'a>(alloc: Global) -> Result<Command<'a>, AllocError> {
         .long("certificate")
         .action(ArgAction::SetTrue)
         .help("Print the certificate in place of the calendar");
-    Command::new(alloc, "keep")
+    let keep = Command::new(alloc, "keep")
         .about(KEEP)
         .after_help(KEEP_MORE)
         .arg(certificate)?
-        .arg(required(alloc, "ROOM", ROOM_HELP))
+        .arg(required(alloc, "ROOM", ROOM_HELP))?;
+    with_reading(alloc, keep)
+}
+
+fn adapt_command<'a>(alloc: Global) -> Result<Command<'a>, AllocError> {
+    let report = Arg::new(alloc, "report")
+        .long("report")
+        .action(ArgAction::SetTrue)
+        .help(
+            "Say on standard error which objects were made readable, and which of their zones go on",
+        );
+    Command::new(alloc, "adapt")
+        .about(ADAPT)
+        .after_help(ADAPT_MORE)
+        .arg(zones(alloc))?
+        .arg(report)
 }
 
 fn check_command<'a>(alloc: Global) -> Result<Command<'a>, AllocError> {
@@ -285,12 +345,29 @@ fn explain_command<'a>(alloc: Global) -> Result<Command<'a>, AllocError> {
 }
 
 fn box_command<'a>(alloc: Global) -> Result<Command<'a>, AllocError> {
-    Command::new(alloc, "box")
+    let command = Command::new(alloc, "box")
         .about(BOX)
         .after_help(BOX_MORE)
         .arg(required(alloc, "CONFIG", CONFIG_HELP))?
         .arg(required(alloc, "INBOX", INBOX_HELP))?
-        .arg(required(alloc, "OUTBOX", OUTBOX_HELP))
+        .arg(required(alloc, "OUTBOX", OUTBOX_HELP))?;
+    with_reading(alloc, command)
+}
+
+/// The command, with the words for objects that are made readable on their way in.
+fn with_reading<'a>(alloc: Global, command: Command<'a>) -> Result<Command<'a>, AllocError> {
+    let adapt = Arg::new(alloc, "adapt")
+        .long("adapt")
+        .action(ArgAction::SetTrue)
+        .help(READABLE_HELP);
+    command.arg(adapt)?.arg(zones(alloc).requires_arg("adapt")?)
+}
+
+fn zones<'a>(alloc: Global) -> Arg<'a> {
+    Arg::new(alloc, "zones")
+        .long("zones")
+        .value_name("FILE")
+        .help(ZONES_HELP)
 }
 
 fn required<'a>(alloc: Global, name: &'a str, help: &'a str) -> Arg<'a> {
@@ -302,6 +379,11 @@ fn invocation_of<'a>(matches: &ArgMatches<'a>) -> Invocation<'a> {
         Some(("keep", words)) => Invocation::Keep {
             room: words.get_str("ROOM").unwrap_or(""),
             kept: kept_of(words),
+            reading: reading_of(words),
+        },
+        Some(("adapt", words)) => Invocation::Adapt {
+            report: words.get_flag("report"),
+            zones: words.get_str("zones"),
         },
         Some(("check", words)) => Invocation::Check {
             calendar: words.get_str("CALENDAR").unwrap_or(""),
@@ -319,11 +401,24 @@ fn invocation_of<'a>(matches: &ArgMatches<'a>) -> Invocation<'a> {
             config: words.get_str("CONFIG").unwrap_or(""),
             inbox: words.get_str("INBOX").unwrap_or(""),
             outbox: words.get_str("OUTBOX").unwrap_or(""),
+            reading: reading_of(words),
         },
         Some(("serve", words)) => Invocation::Serve {
             report: words.get_flag("report"),
+            reading: reading_of(words),
         },
-        _ => Invocation::Serve { report: false },
+        _ => Invocation::Serve {
+            report: false,
+            reading: reading_of(matches),
+        },
+    }
+}
+
+fn reading_of<'a>(words: &ArgMatches<'a>) -> Reading<'a> {
+    if words.get_flag("adapt") {
+        Reading::Adapted(words.get_str("zones"))
+    } else {
+        Reading::Plain
     }
 }
 

@@ -1,6 +1,7 @@
 //! The real reader, writer and files: `run` hands them to the commands.
 
-use crate::command_line::{BadWord, Invocation, fault_of, read_words};
+use crate::behind::{StreamWork, Work, run_behind};
+use crate::command_line::{BadWord, Invocation, Reading, fault_of, read_words};
 use crate::progress::Progress;
 use cal_zones::RoomZone;
 use ical_lines::Fault;
@@ -12,7 +13,7 @@ use sched_cli::status::{USAGE, report_device, report_memory, report_too_long};
 use sched_cli::{
     Tally, run_expand, run_explain, run_explain_object, run_folders, run_serve_report,
 };
-use sched_devices::DiskFolder;
+use sched_devices::{DiskFolder, Folder};
 use std::alloc::Global;
 use std::fs::File;
 use std::io::{self, ErrorKind, IsTerminal, Read, Stderr, Write};
@@ -33,8 +34,8 @@ const CONFIG_OCTETS: u64 = LONGEST as u64 + 1;
 
 /// Standard error, as a writer of text.
 #[derive(Drop)]
-struct ErrorPrinter<'a, R> {
-    to: &'a R,
+pub(crate) struct ErrorPrinter<'a, R> {
+    pub(crate) to: &'a R,
 }
 
 impl<R: Eprint> Write for ErrorPrinter<'_, R> {
@@ -52,7 +53,7 @@ impl<R: Eprint> Write for ErrorPrinter<'_, R> {
 }
 
 /// Why a file isn't taken.
-enum FileFault {
+pub(crate) enum FileFault {
     Device,
     TooLong,
     Memory,
@@ -71,7 +72,7 @@ pub fn run<R: Runtime + AllocGlobal>(rt: &R, stderr: Stderr) -> u8 {
 }
 
 /// Says that the program is out of memory.
-fn no_memory<R: Runtime + AllocGlobal>(rt: &R) -> u8 {
+pub(crate) fn no_memory<R: Runtime + AllocGlobal>(rt: &R) -> u8 {
     report_memory(&mut DeviceWriter::new(ErrorPrinter { to: rt }))
 }
 
@@ -105,11 +106,18 @@ fn invoke<R: Runtime + AllocGlobal>(
     invocation: Invocation<'_>,
 ) -> u8 {
     match invocation {
-        Invocation::Serve { report } => invoke_serve(rt, alloc, report),
-        Invocation::Keep { room, kept } => match read_room(rt, alloc, room) {
-            Ok(room) => invoke_keep(rt, alloc, &room, kept),
+        Invocation::Serve { report, reading } => invoke_serve(rt, alloc, report, reading),
+        Invocation::Keep {
+            room,
+            kept,
+            reading,
+        } => match read_room(rt, alloc, room) {
+            Ok(room) => invoke_keep(rt, alloc, &room, kept, reading),
             Err(status) => status,
         },
+        Invocation::Adapt { report, zones } => {
+            run_behind(rt, alloc, zones, Work::Stream(StreamWork::Adapt { report }))
+        }
         Invocation::Check {
             calendar,
             certificate,
@@ -133,7 +141,8 @@ fn invoke<R: Runtime + AllocGlobal>(
             config,
             inbox,
             outbox,
-        } => invoke_box(rt, alloc, stderr, config, inbox, outbox),
+            reading,
+        } => invoke_box(rt, alloc, stderr, config, inbox, outbox, reading),
     }
 }
 
@@ -155,7 +164,15 @@ fn read_zone<R: Runtime + AllocGlobal>(rt: &R, alloc: Global, words: &str) -> Re
     }
 }
 
-fn invoke_serve<R: Runtime + AllocGlobal>(rt: &R, alloc: Global, report: bool) -> u8 {
+fn invoke_serve<R: Runtime + AllocGlobal>(
+    rt: &R,
+    alloc: Global,
+    report: bool,
+    reading: Reading<'_>,
+) -> u8 {
+    if let Reading::Adapted(zones) = reading {
+        return run_behind(rt, alloc, zones, Work::Stream(StreamWork::Serve { report }));
+    }
     let mut errors = DeviceWriter::new(ErrorPrinter { to: rt });
     let Ok(mut reader) = DeviceReader::new(alloc, rt.reader()) else {
         return no_memory(rt);
@@ -172,7 +189,16 @@ fn invoke_keep<R: Runtime + AllocGlobal>(
     alloc: Global,
     room: &Address,
     kept: KeptText,
+    reading: Reading<'_>,
 ) -> u8 {
+    if let Reading::Adapted(zones) = reading {
+        return run_behind(
+            rt,
+            alloc,
+            zones,
+            Work::Stream(StreamWork::Keep { room, kept }),
+        );
+    }
     let mut errors = DeviceWriter::new(ErrorPrinter { to: rt });
     let Ok(mut reader) = DeviceReader::new(alloc, rt.reader()) else {
         return no_memory(rt);
@@ -281,7 +307,7 @@ fn invoke_explain<R: Runtime + AllocGlobal>(rt: &R, alloc: Global, word: &str) -
     status
 }
 
-/// Answers the files of a folder; where standard error is a terminal, it shows how far that is.
+/// Answers the files of a folder.
 fn invoke_box<R: Runtime + AllocGlobal>(
     rt: &R,
     alloc: Global,
@@ -289,34 +315,54 @@ fn invoke_box<R: Runtime + AllocGlobal>(
     config: &str,
     inbox: &str,
     outbox: &str,
+    reading: Reading<'_>,
 ) -> u8 {
-    let mut errors = DeviceWriter::new(ErrorPrinter { to: rt });
     let config = match read_front(rt, alloc, config, CONFIG_OCTETS) {
         Ok(octets) => octets,
-        Err(fault) => return report_file(&mut errors, fault),
+        Err(fault) => {
+            return report_file(&mut DeviceWriter::new(ErrorPrinter { to: rt }), fault);
+        }
     };
-    let mut inbox = DiskFolder::new(rt, inbox);
-    let mut outbox = DiskFolder::new(rt, outbox);
-    if stderr.is_terminal() {
-        let mut shown = Progress::new(rt, inbox);
-        return run_folders(
-            alloc,
-            config.as_slice(),
-            &mut shown,
-            &mut outbox,
-            &mut errors,
-        );
+    let folders = Folders {
+        config: config.as_slice(),
+        inbox,
+        outbox,
+        is_watched: stderr.is_terminal(),
+    };
+    match reading {
+        Reading::Plain => answer_files(rt, alloc, folders, DiskFolder::new(rt, inbox)),
+        Reading::Adapted(zones) => run_behind(rt, alloc, zones, Work::Files(folders)),
     }
-    run_folders(
-        alloc,
-        config.as_slice(),
-        &mut inbox,
-        &mut outbox,
-        &mut errors,
-    )
 }
 
-fn report_file<E: Output>(errors: &mut E, fault: FileFault) -> u8 {
+/// What `box` works on.
+#[derive(Clone, Copy)]
+pub(crate) struct Folders<'a> {
+    pub(crate) config: &'a [u8],
+    pub(crate) inbox: &'a str,
+    pub(crate) outbox: &'a str,
+    /// Someone watches how far it is.
+    pub(crate) is_watched: bool,
+}
+
+/// Answers the files of an inbox, and shows how far that is where someone watches.
+pub(crate) fn answer_files<R: Runtime + AllocGlobal, I: Folder + Drop>(
+    rt: &R,
+    alloc: Global,
+    folders: Folders<'_>,
+    inbox: I,
+) -> u8 {
+    let mut errors = DeviceWriter::new(ErrorPrinter { to: rt });
+    let mut outbox = DiskFolder::new(rt, folders.outbox);
+    if folders.is_watched {
+        let mut shown = Progress::new(rt, inbox);
+        return run_folders(alloc, folders.config, &mut shown, &mut outbox, &mut errors);
+    }
+    let mut inbox = inbox;
+    run_folders(alloc, folders.config, &mut inbox, &mut outbox, &mut errors)
+}
+
+pub(crate) fn report_file<E: Output>(errors: &mut E, fault: FileFault) -> u8 {
     match fault {
         FileFault::Device => report_device(errors),
         FileFault::TooLong => report_too_long(errors),
@@ -325,7 +371,7 @@ fn report_file<E: Output>(errors: &mut E, fault: FileFault) -> u8 {
 }
 
 /// The octets of a file.
-fn read_file<R: Runtime + AllocGlobal>(
+pub(crate) fn read_file<R: Runtime + AllocGlobal>(
     rt: &R,
     alloc: Global,
     path: &str,

@@ -1,16 +1,20 @@
 //! The commands of `roombox`, over readers, octets and writers that are handed in.
 #![tactic(auto)]
 
+pub mod adapt;
 mod blame;
 pub mod commands;
 pub mod diagnosis;
 pub mod expand;
 pub mod explain;
 pub mod folders;
+mod obstacle;
 pub mod place;
+mod refused_zone;
 pub mod status;
 pub mod tally;
 
+pub use adapt::run_adapt;
 pub use commands::{run_check, run_keep, run_serve};
 pub use diagnosis::run_explain_object;
 pub use expand::run_expand;

@@ -1,54 +1,142 @@
 //! A folder behind the door: each file that is read of it is a stream whose objects are made readable. What else it does isn't changed.
 
+ghost use Rattle.std.specs.Prelude.{◌≡◌, ◌≤◌, false, length, IfOk, IfSome, IsErrOf, Ok};
+ghost use Rattle.std.proofs.lemmas.Bool.{false≢true};
+ghost use Rattle.sched_devices.specs.Folder.{HasCause};
+ghost use Rattle.sched_devices.specs.declared.folder.FolderFault.TheVariants.{Device, Exists, Missing};
+
 use crate::door::Door;
-use cal_doors::NamedZones;
+use crate::fault::DoorFault;
+use ical_tree::Component;
 use sched_devices::{Folder, FolderFault, Input};
 use std::alloc::{AllocError, Global};
 
 /// The most octets that a file has; this profile's choice.
 const MOST_OCTETS: usize = 1_073_741_824;
 
-/// An inbox whose files are read through the door. It doesn't tell what it holds.
+/// An inbox whose files are read through the door. It doesn't tell what it holds, and counts its own failures: those of the inbox, and the
+/// files that would get longer than a file may be.
 #[derive(Drop)]
-pub struct AdaptedInbox<'z, 'c, 'a, F: Folder + Drop> {
-    listed: Option<&'z NamedZones<'c, 'a>>,
+pub struct AdaptedInbox<'c, 'a, F: Folder + Drop> {
+    listed: Option<&'c Component<'a>>,
     inbox: F,
-    ghost are_listed: { AreListed listed },
+    failures: u64,
 }
 
-impl<'z, 'c, 'a, F: Folder + Drop> AdaptedInbox<'z, 'c, 'a, F> {
+impl<'c, 'a, F: Folder + Drop> AdaptedInbox<'c, 'a, F> {
     /// The same inbox, behind the door.
-    pub fn new(listed: Option<&'z NamedZones<'c, 'a>>, inbox: F) -> AdaptedInbox<'z, 'c, 'a, F>
-        requires { AreListed listed }
+    pub fn new(listed: Option<&'c Component<'a>>, inbox: F) -> AdaptedInbox<'c, 'a, F>
+        ensures listed { result.listed ≡ listed.entry }
+        ensures inbox { result.inbox ≡ inbox }
+        ensures failures { result.failures ≡ 0 }
     {
-        AdaptedInbox { listed, inbox }
+        AdaptedInbox {
+            listed,
+            inbox,
+            failures: 0,
+        }
+    }
+
+    /// The octets of a file, with its objects made readable.
+    fn read_adapted(&mut self, alloc: Global, name: &str) -> Result<Vec<u8>, FolderFault>
+        ensures few { IfOk result (λ octets. length octets.items ≤ 1_073_741_824) }
+        ensures temporary { F.temporary self.new.inbox ≡ F.temporary self.old.inbox }
+        ensures failures { self.new.failures ≡ self.old.failures }
+        ensures listed { self.new.listed ≡ self.old.listed }
+    {
+        let octets = self.inbox.read(alloc, name)?;
+        match adapted(alloc, self.listed, octets.as_slice())? {
+            Some(octets) => Ok(octets),
+            None => Err(FolderFault::Device),
+        }
+    }
+}
+
+impl<F: Folder + Drop> Folder for AdaptedInbox<'_, '_, F> {
+    ghost temporary = { λ adapted. F.temporary adapted.inbox };
+
+    ghost failed = { λ adapted. adapted.failures };
+
+    fn names(&mut self, alloc: Global) -> Result<Vec<String>, FolderFault> {
+        let names = self.inbox.names(alloc);
+        tell(&mut self.failures, names)
+    }
+
+    fn read(&mut self, alloc: Global, name: &str) -> Result<Vec<u8>, FolderFault> {
+        let octets = self.read_adapted(alloc, name);
+        tell(&mut self.failures, octets)
+    }
+
+    fn write_temp(&mut self, bytes: &[u8]) -> Result<(), FolderFault> {
+        let written = self.inbox.write_temp(bytes);
+        tell(&mut self.failures, written)
+    }
+
+    fn sync_temp(&mut self) -> Result<(), FolderFault> {
+        let synced = self.inbox.sync_temp();
+        tell(&mut self.failures, synced)
+    }
+
+    fn publish(&mut self, name: &str) -> Result<(), FolderFault> {
+        let published = self.inbox.publish(name);
+        tell(&mut self.failures, published)
+    }
+
+    fn sync_dir(&mut self) -> Result<(), FolderFault> {
+        let synced = self.inbox.sync_dir();
+        tell(&mut self.failures, synced)
+    }
+
+    fn failures(&self) -> u64 {
+        self.failures
+    }
+
+    ghost counts_held = { λ folder known. absurd (false≢true known) };
+
+    ghost counts_now = { λ folder moment left earlier leaves. absurd leaves };
+
+    ghost only_now = { λ folder left since. absurd since };
+}
+
+/// What a call of the inbox gave. Each error is counted as a failure, but not where it is out of memory: a folder that doesn't tell what it
+/// holds tells no other.
+fn tell<T: Drop>(failures: &mut u64, outcome: Result<T, FolderFault>) -> Result<T, FolderFault>
+    ensures value { IfOk result (λ value. outcome ≡ Ok value) }
+    ensures not_missing { IsErrOf result Missing → ⊥ }
+    ensures not_existing { IsErrOf result Exists → ⊥ }
+    ensures cause { HasCause failures.old failures.new (IsErrOf result Device) }
+{
+    match outcome {
+        Ok(value) => Ok(value),
+        Err(FolderFault::Memory) => Err(FolderFault::Memory),
+        Err(FolderFault::Device | FolderFault::Missing | FolderFault::Exists) => {
+            *failures = failures.saturating_add(1);
+            Err(FolderFault::Device)
+        }
     }
 }
 
 /// The octets of a stream with its objects made readable. None where they are more than a file may have.
 fn adapted(
     alloc: Global,
-    listed: Option<&NamedZones<'_, '_>>,
+    listed: Option<&Component<'_>>,
     octets: &[u8],
 ) -> Result<Option<Vec<u8>>, AllocError>
-    requires { AreListed listed }
+    ensures few { IfOk result (λ found. IfSome found (λ all. length all.items ≤ 1_073_741_824)) }
 {
     let mut all = Vec::new(alloc);
     let mut door = Door::new(alloc, listed, octets);
-    loop {
-        let Ok(()) = door.fill() else {
-            // Octets in memory don't fail.
-            return Err(AllocError);
-        };
+    while all.len() <= MOST_OCTETS {
+        match door.pass() {
+            Ok(()) => {}
+            Err(DoorFault::Memory) => return Err(AllocError),
+            Err(DoorFault::Read) => unreachable!(),
+        }
         let lent = door.buffer();
         if lent.is_empty() {
             return Ok(Some(all));
         }
-        let count = lent.len();
-        if count > MOST_OCTETS - all.len() {
-            return Ok(None);
-        }
         all.extend_from_slice(lent)?;
-        door.consume(count);
     }
+    Ok(None)
 }

@@ -2,8 +2,11 @@
 #![tactic(auto)]
 
 mod door;
+mod fault;
 mod inbox;
+mod piece;
 mod preamble;
 
 pub use door::Door;
+pub use fault::DoorFault;
 pub use inbox::AdaptedInbox;

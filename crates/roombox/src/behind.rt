@@ -1,0 +1,153 @@
+//! Behind the door: commands whose objects are made readable on their way in.
+
+use crate::host::{ErrorPrinter, Folders, answer_files, no_memory, read_file, report_file};
+use ical_lines::{Limits, Unfolded};
+use ical_tree::{Component, read_object};
+use ical_values::Address;
+use sched_box::{DeviceReader, DeviceWriter, Input, Output};
+use sched_cli::commands::{KeptText, run_keep, run_serve};
+use sched_cli::status::report_read;
+use sched_cli::{Tally, run_adapt, run_serve_report};
+use sched_devices::DiskFolder;
+use sched_doors::{AdaptedInbox, Door};
+use std::alloc::Global;
+use std::io;
+use std::rt::Runtime;
+
+/// More octets than a command says at its end.
+const SAID: usize = 8_192;
+
+/// What is done behind the door.
+#[derive(Clone, Copy)]
+pub(crate) enum Work<'a> {
+    Files(Folders<'a>),
+    Stream(StreamWork<'a>),
+}
+
+/// What is done with a stream.
+#[derive(Clone, Copy)]
+pub(crate) enum StreamWork<'a> {
+    Adapt { report: bool },
+    Serve { report: bool },
+    Keep { room: &'a Address, kept: KeptText },
+}
+
+/// Does some work behind a door, with the VTIMEZONEs of a file for it, if one is given. Where that can't be read, nothing else is.
+pub(crate) fn run_behind<R: Runtime + AllocGlobal>(
+    rt: &R,
+    alloc: Global,
+    zones: Option<&str>,
+    work: Work<'_>,
+) -> u8 {
+    let Some(path) = zones else {
+        return run_listed(rt, alloc, None, work);
+    };
+    let mut errors = DeviceWriter::new(ErrorPrinter { to: rt });
+    let octets = match read_file(rt, alloc, path) {
+        Ok(octets) => octets,
+        Err(fault) => return report_file(&mut errors, fault),
+    };
+    let text = match Unfolded::read(alloc, octets.as_slice(), Limits::Open) {
+        Ok(text) => text,
+        Err(fault) => return report_read(&mut errors, fault),
+    };
+    let object = match read_object(alloc, &text, Limits::Open) {
+        Ok(object) => object,
+        Err(fault) => return report_read(&mut errors, fault),
+    };
+    run_listed(rt, alloc, Some(&object), work)
+}
+
+/// Does the work, with these VTIMEZONEs for it.
+fn run_listed<R: Runtime + AllocGlobal>(
+    rt: &R,
+    alloc: Global,
+    listed: Option<&Component<'_>>,
+    work: Work<'_>,
+) -> u8 {
+    match work {
+        Work::Files(folders) => {
+            let inbox = DiskFolder::new(rt, folders.inbox);
+            answer_files(rt, alloc, folders, AdaptedInbox::new(listed, inbox))
+        }
+        Work::Stream(work) => run_stream(rt, alloc, listed, work),
+    }
+}
+
+/// Does the work on standard input.
+fn run_stream<R: Runtime + AllocGlobal>(
+    rt: &R,
+    alloc: Global,
+    listed: Option<&Component<'_>>,
+    work: StreamWork<'_>,
+) -> u8 {
+    let Ok(reader) = DeviceReader::new(alloc, rt.reader()) else {
+        return no_memory(rt);
+    };
+    let mut door = Door::new(alloc, listed, reader);
+    match work {
+        StreamWork::Adapt { report } => adapt_behind(rt, alloc, &mut door, report),
+        StreamWork::Serve { report } => serve_behind(rt, alloc, &mut door, report),
+        StreamWork::Keep { room, kept } => keep_behind(rt, alloc, &mut door, room, kept),
+    }
+}
+
+fn adapt_behind<R: Runtime + AllocGlobal, I: Input + Drop>(
+    rt: &R,
+    alloc: Global,
+    door: &mut Door<'_, '_, I>,
+    report: bool,
+) -> u8 {
+    let mut errors = DeviceWriter::new(ErrorPrinter { to: rt });
+    let mut writer = DeviceWriter::new(io::writer(rt));
+    run_adapt(alloc, door, report, &mut writer, &mut errors)
+}
+
+fn serve_behind<R: Runtime + AllocGlobal, I: Input + Drop>(
+    rt: &R,
+    alloc: Global,
+    door: &mut Door<'_, '_, I>,
+    report: bool,
+) -> u8 {
+    let Ok(mut said) = Vec::with_capacity(alloc, SAID) else {
+        return no_memory(rt);
+    };
+    let mut writer = DeviceWriter::new(io::writer(rt));
+    let status = if report {
+        run_serve_report(alloc, door, &mut Tally::new(writer), &mut said)
+    } else {
+        run_serve(alloc, door, &mut writer, &mut said)
+    };
+    say_at_end(rt, door, said.as_slice(), status)
+}
+
+fn keep_behind<R: Runtime + AllocGlobal, I: Input + Drop>(
+    rt: &R,
+    alloc: Global,
+    door: &mut Door<'_, '_, I>,
+    room: &Address,
+    kept: KeptText,
+) -> u8 {
+    let Ok(mut said) = Vec::with_capacity(alloc, SAID) else {
+        return no_memory(rt);
+    };
+    let mut writer = DeviceWriter::new(io::writer(rt));
+    let status = run_keep(alloc, room, kept, door, &mut writer, &mut said);
+    say_at_end(rt, door, said.as_slice(), status)
+}
+
+/// Says what a command said at its end, and gives its status. Where it ended because the door was out of memory, it says that: to a
+/// command the door is a reader, which can only fail.
+fn say_at_end<R: Runtime + AllocGlobal, I: Input + Drop>(
+    rt: &R,
+    door: &Door<'_, '_, I>,
+    said: &[u8],
+    status: u8,
+) -> u8 {
+    if door.is_out_of_memory() {
+        return no_memory(rt);
+    }
+    // Where standard error fails, nobody is left to be told.
+    let _ = DeviceWriter::new(ErrorPrinter { to: rt }).put(said);
+    status
+}

@@ -1,0 +1,23 @@
+use Rattle.std.proofs.Common.{◌∙◌, ap, refl}
+use Rattle.sched_doors.specs.Handing.{list_of}
+use Rattle.sched_cli.specs.Adapting.{nothing}
+use Rattle.sched_cli.proofs.Adapted.{one_more, whole_pieces}
+use Rattle.sched_cli.proofs.adapt.run_adapt.Goals as goal
+
+pub loop-init : goal.loop-init
+loop-init g c = (nothing _ _, refl, refl, refl, λ silent. refl)
+
+pub returns-in_default-clause-front : goal.returns-in_default-clause-front
+returns-in_default-clause-front g c =
+    λ other. whole_pieces _ _ _ _ _ _ (one_more _ _ _ _ _ _ _ _ _ (ap list_of c.loop.invariant.3) c.loop.invariant.0 c.in-Ok-true.ensures.passes)
+
+pub loop-preserved : goal.loop-preserved
+loop-preserved g c =
+    let i = c.loop.invariant in
+    let p = c.in-Ok-true.ensures in (
+      one_more _ _ _ _ _ _ _ _ _ (ap list_of i.3) i.0 p.passes,
+      p.mark ∙ i.1,
+      p.sent ∙ i.2,
+      p.listed ∙ i.3,
+      λ silent. c.in-Ok.ensures.silent silent ∙ i.4 silent,
+    )

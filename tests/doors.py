@@ -1,0 +1,286 @@
+#!/usr/bin/env python3
+"""Runs `roombox adapt` on the objects of real programs (tests/producers) and on cases of its own.
+
+    python3 tests/doors.py bin/roombox
+
+Each object has to be read afterwards, to differ from what came in only in its VTIMEZONEs, and to have the instances that Python's zoneinfo
+computes by the name of its zone. What the cases have to give is written by hand. Ends with 1 where something else came out.
+"""
+
+import datetime as dt
+import subprocess
+import sys
+import tempfile
+import zoneinfo
+from pathlib import Path
+
+from dateutil.rrule import rrulestr
+
+FOLDER = Path(__file__).parent / "producers"
+UTC = dt.timezone.utc
+# instances are compared up to here
+END = dt.datetime(2036, 1, 1)
+MOST = "700"
+FORM = "%Y%m%dT%H%M%S"
+
+# the zones that the producers call by another name
+NAMES = {
+    "/freeassociation.sourceforge.net/America/New_York": "America/New_York",
+    "/freeassociation.sourceforge.net/Europe/Berlin": "Europe/Berlin",
+    "EST": "America/New_York",  # vobject names it so
+}
+# khal states the change on each side of the start and no other: from this instant on its text says one offset for ever
+STATED = {"khal--03-weekly-endless.ics": (dt.datetime(2025, 11, 2, 6), dt.timedelta(hours=-5))}
+# refused without FILE: what they bear is no VTIMEZONE at all
+WITHOUT_ZONES = {"kde--07b-instance-moved.ics": "43", "sabre--02-single-tzid.ics": "43"}
+
+faults = []
+
+
+def expect(name, found, wanted):
+    """Counts what isn't as it has to be."""
+    if found != wanted:
+        faults.append(name)
+        print(f"{name}: {found!r}, not {wanted!r}")
+
+
+def run(program, *words, given):
+    return subprocess.run([program, *words], input=given, stdout=subprocess.PIPE, stderr=subprocess.PIPE, check=False)
+
+
+def adapted(program, octets, zones=None):
+    """What comes out, and the lines of the report."""
+    words = ["--zones", zones] if zones else []
+    end = run(program, "adapt", "--report", *words, given=octets)
+    return end.stdout, end.stderr.decode().splitlines()
+
+
+def instances(program, octets):
+    """The starts before END, or what is said instead."""
+    end = run(program, "expand", "--limit", MOST, given=octets)
+    if end.returncode:
+        return end.stderr.decode().strip()
+    starts = [line.split()[1] for line in end.stdout.decode().splitlines()]
+    return [start for start in starts if start < END.strftime(FORM)]
+
+
+def lines_of(octets):
+    return octets.replace(b"\r\n", b"\n").replace(b"\n ", b"").decode().splitlines()
+
+
+def without_zones(octets):
+    """The lines outside VTIMEZONEs."""
+    kept, inside = [], False
+    for line in lines_of(octets):
+        inside = inside or line == "BEGIN:VTIMEZONE"
+        if not inside:
+            kept.append(line)
+        inside = inside and line != "END:VTIMEZONE"
+    return kept
+
+
+# ---- the objects of real programs
+
+def event_of(octets):
+    """The lines of the VEVENT: of each property its parameters and its value."""
+    lines = lines_of(octets)
+    event = lines[lines.index("BEGIN:VEVENT"):lines.index("END:VEVENT")]
+    properties = {}
+    for line in event:
+        name, _, rest = line.partition(";") if ";" in line.partition(":")[0] else line.partition(":")
+        properties.setdefault(name, []).append(line)
+    return properties
+
+
+def time_of(line):
+    """The local time of a line, and the name of its zone: UTC for a time in UTC, and, as nothing else is said, for one without zone."""
+    text = line.rpartition(":")[2]
+    name = line.partition("TZID=")[2].partition(";")[0].rpartition(":")[0] if "TZID=" in line else ""
+    if "VALUE=DATE" in line and "DATE-TIME" not in line:
+        return dt.datetime.strptime(text, "%Y%m%d"), "UTC"
+    name = line.partition("TZID=")[2].partition(";VALUE")[0].removesuffix(":" + text) if "TZID=" in line else "UTC"
+    return dt.datetime.strptime(text.rstrip("Z"), FORM), name
+
+
+def wanted_starts(file, octets):
+    """The starts by zoneinfo, or by the producer's own text where that says otherwise."""
+    event = event_of(octets)
+    start, name = time_of(event["DTSTART"][0])
+    zone = zoneinfo.ZoneInfo(NAMES.get(name, name))
+    locals_ = [start] + [time_of(line)[0] for line in event.get("RDATE", [])]
+    if "RRULE" in event:
+        rule, _, until = event["RRULE"][0].removeprefix("RRULE:").partition(";UNTIL=")
+        last = dt.datetime.strptime(until, FORM + "Z") if until else END
+        last = last.replace(tzinfo=UTC).astimezone(zone).replace(tzinfo=None)
+        locals_ = rrulestr(rule, dtstart=start).between(start, last, inc=True)
+    instants = []
+    for local in locals_:
+        instant = local.replace(tzinfo=zone).astimezone(UTC).replace(tzinfo=None)
+        since, offset = STATED.get(file, (dt.datetime.max, None))
+        instants.append(local - offset if local - (offset or dt.timedelta()) >= since else instant)
+    return [instant.strftime(FORM + "Z") for instant in instants if instant < END]
+
+
+def producers(program, zones):
+    files = sorted(FOLDER.glob("*.ics"))
+    expect("how many objects there are", len(files), 25)
+    for file in files:
+        octets = file.read_bytes()
+        out, _ = adapted(program, octets)
+        said = run(program, "explain", given=out).stdout.decode().splitlines()[0]
+        if file.name in WITHOUT_ZONES:
+            expect(f"{file.name} without FILE", said.split()[:2], ["refused", WITHOUT_ZONES[file.name]])
+            out, _ = adapted(program, octets, zones)
+            said = run(program, "explain", given=out).stdout.decode().splitlines()[0]
+        expect(f"{file.name}: read", said, "not refused: a REQUEST")
+        expect(f"{file.name}: other lines", without_zones(out), without_zones(octets))
+        expect(f"{file.name}: instances", instances(program, out), wanted_starts(file.name, octets))
+
+
+# ---- cases
+
+def part(kind, start, before, after, *more):
+    return [f"BEGIN:{kind}", f"DTSTART:{start}", f"TZOFFSETFROM:{before}", f"TZOFFSETTO:{after}", *more, f"END:{kind}"]
+
+
+def zone(*parts, name="Z"):
+    return ["BEGIN:VTIMEZONE", f"TZID:{name}", *[line for lines in parts for line in lines], "END:VTIMEZONE"]
+
+
+def event(*more, name="Z", start="20250311T090000"):
+    return ["BEGIN:VEVENT", "UID:u", "DTSTAMP:20250101T000000Z", "ORGANIZER:mailto:ann@example.com", "ATTENDEE:mailto:r1@example.com",
+            f"DTSTART;TZID={name}:{start}", *more, "END:VEVENT"]
+
+
+def calendar(*components, end="\r\n"):
+    lines = ["BEGIN:VCALENDAR", "VERSION:2.0", "PRODID:x", "METHOD:REQUEST", *[line for lines in components for line in lines], "END:VCALENDAR", ""]
+    return end.join(lines).encode()
+
+
+def pair(until=None, name="Z"):
+    """Berlin's two rules, with a change of long ago before them; they may end in a year."""
+    end = (f";UNTIL={until}0330T010000Z", f";UNTIL={until}1026T010000Z") if until else ("", "")
+    return zone(
+        part("STANDARD", "18930401T000000", "+005328", "+0100"),
+        part("DAYLIGHT", "19810329T020000", "+0100", "+0200", f"RRULE:FREQ=YEARLY;BYMONTH=3;BYDAY=-1SU{end[0]}"),
+        part("STANDARD", "19961027T030000", "+0200", "+0100", f"RRULE:FREQ=YEARLY;BYMONTH=10;BYDAY=-1SU{end[1]}"), name=name)
+
+
+# Casablanca's changes of 2025 and 2026
+DATES = zone(
+    part("DAYLIGHT", "20250223T030000", "+0100", "+0000", "RDATE:20260215T030000"),
+    part("STANDARD", "20240414T020000", "+0000", "+0100", "RDATE:20250406T020000", "RDATE:20260322T020000"))
+WEEKLY = "RRULE:FREQ=WEEKLY"
+
+
+def two(change):
+    """One change of long ago and one at this local time."""
+    return zone(part("STANDARD", "20000101T000000", "+0000", "+0100"), part("STANDARD", change, "+0100", "+0200"))
+
+
+def stays(program, name, octets, zones=None):
+    expect(name, adapted(program, octets, zones), (octets, []))
+
+
+def becomes(program, name, octets, *starts, zones=None, report="roombox: object 1: made readable"):
+    """It becomes readable, with these first starts, and only its VTIMEZONEs are others."""
+    out, said = adapted(program, octets, zones)
+    expect(f"{name}: report", said, [report])
+    expect(f"{name}: starts", instances(program, out)[:len(starts)], list(starts))
+    expect(f"{name}: other lines", without_zones(out), without_zones(octets))
+    return out
+
+
+def where_tables_end(program):
+    for until in ("2030", "2035"):
+        stays(program, f"a pair with UNTIL {until} isn't taken as endless", calendar(pair(until), event(WEEKLY)))
+    for until in ("2036", "2037"):
+        out = becomes(program, f"a pair with UNTIL {until} goes on", calendar(pair(until), event(WEEKLY)), "20250311T080000Z",
+                      report="roombox: object 1: Z goes on after its last onset")
+        late = run(program, "expand", "--limit", "1000", given=out).stdout.decode()
+        expect(f"summer 2038 after a pair with UNTIL {until}", "20380706T070000Z" in late, True)
+    becomes(program, "a pair with UNTIL 2030 for a single", calendar(pair("2030"), event()), "20250311T080000Z")
+
+
+def missing_zones(program, folder):
+    file = folder / "list.ics"
+    file.write_bytes(calendar(pair(), zone(name="Empty")))
+    missing, empty = calendar(event(WEEKLY)), calendar(zone(), event(WEEKLY))
+    stays(program, "a missing VTIMEZONE without FILE", missing)
+    stays(program, "an empty VTIMEZONE without FILE", empty)
+    becomes(program, "a missing VTIMEZONE with FILE", missing, "20250311T080000Z", zones=file)
+    becomes(program, "an empty VTIMEZONE with FILE", empty, "20250311T080000Z", zones=file)
+    stays(program, "a name that FILE hasn't", calendar(event(WEEKLY, name="Y")), file)
+    stays(program, "a name that is empty in FILE", calendar(event(WEEKLY, name="Empty")), file)
+    own = calendar(two("20250310T090000"), event(WEEKLY))
+    becomes(program, "FILE gives way to the object", own, "20250311T070000Z", zones=file)
+    out, said = adapted(program, missing + missing, file)
+    expect("a zone that two objects use: report", said, [f"roombox: object {k}: made readable" for k in (1, 2)])
+    expect("a zone that two objects use: octets", out, adapted(program, missing, file)[0] * 2)
+
+
+def first_used_time(program):
+    for change, first in [("20250309T090000", "07"), ("20250310T090000", "07"), ("20250311T075959", "07"), ("20250311T080000", "07"),
+                          ("20250311T080001", "08"), ("20250311T090000", "08"), ("20250311T090001", "08"), ("20250312T090000", "08")]:
+        becomes(program, f"a change at {change}", calendar(two(change), event(WEEKLY)), f"20250311T{first}0000Z", "20250318T070000Z")
+
+
+def times_that_end(program):
+    becomes(program, "a single between two dates", calendar(DATES, event()), "20250311T090000Z")
+    until = calendar(DATES, event(WEEKLY + ";UNTIL=20250422T000000Z"))
+    becomes(program, "UNTIL across one date", until, "20250311T090000Z", "20250318T090000Z", "20250325T090000Z", "20250401T090000Z",
+            "20250408T080000Z", "20250415T080000Z")
+    stays(program, "UNTIL across three dates", calendar(DATES, event(WEEKLY + ";UNTIL=20260501T000000Z")))
+    stays(program, "no end in a zone of dates", calendar(DATES, event(WEEKLY)))
+    out = becomes(program, "a nominal day across a change", calendar(pair(), event("DURATION:P1D", start="20250329T120000")), "20250329T110000Z")
+    expect("its length", run(program, "expand", given=out).stdout, b"20250329T110000Z 20250329T110000Z 82800\n")
+    stays(program, "a nominal day in a zone of dates", calendar(DATES, event("DURATION:P1D", start="20250405T120000")))
+
+
+def one_offset(program):
+    same = zone(part("STANDARD", "19000101T000000", "+0530", "+0530", "RDATE:19000101T000000"))
+    becomes(program, "an RDATE equal to its DTSTART", calendar(same, event(WEEKLY)), "20250311T033000Z")
+
+
+def spellings(program):
+    odd = zone(*[part("STANDARD", "20000101T000000", "+0000", "+0100"), part("STANDARD", "20200101T000000", "+0100", "+0200")], name="A:B\\;C\\,D")
+    becomes(program, "a name with : ; and ,", calendar(odd, event(WEEKLY, name='"A:B;C,D"')), "20250311T070000Z")
+    whole = calendar(pair(), event(WEEKLY))
+    folded = whole.replace(b"BYMONTH=3;", b"BYMO\r\n NTH=3;").replace(b"DTSTART;TZID=Z:2025", b"DTSTART;TZ\r\n ID=Z:20\r\n 25")
+    becomes(program, "folded lines", folded, "20250311T080000Z", "20250318T080000Z")
+    out = becomes(program, "lines ended by LF", calendar(pair(), event(WEEKLY), end="\n"), "20250311T080000Z")
+    expect("they stay so", b"\nBEGIN:VEVENT\nUID:u\n" in out, True)
+    out = becomes(program, "lines ended by CRLF", whole, "20250311T080000Z")
+    expect("they stay too", b"\r\nBEGIN:VEVENT\r\nUID:u\r\n" in out, True)
+
+
+def other_zones(program):
+    stays(program, "no VEVENT", calendar(pair("2030")))
+    stays(program, "a zone that a room reads", calendar(zone(part("STANDARD", "20000101T000000", "+0000", "+0100")), event(WEEKLY)))
+    unused = "\r\n".join(pair("2030", name="Unused")).encode()
+    out = becomes(program, "a VTIMEZONE that no time names", calendar(pair("2030", name="Unused"), pair(), event(WEEKLY)), "20250311T080000Z")
+    expect("it stays as it is", unused in out, True)
+    becomes(program, "of two VTIMEZONEs of one name the first", calendar(two("20200101T000000"), pair(), event(WEEKLY)), "20250311T070000Z")
+    stays(program, "of two VTIMEZONEs of one name the first isn't had", calendar(pair("2030"), pair(), event(WEEKLY)))
+
+
+def main():
+    program = sys.argv[1]
+    with tempfile.TemporaryDirectory() as place:
+        folder = Path(place)
+        berlin = folder / "berlin.ics"
+        berlin.write_bytes(calendar(pair(name="Europe/Berlin"), pair(name="America/New_York")))
+        producers(program, berlin)
+        where_tables_end(program)
+        missing_zones(program, folder)
+        first_used_time(program)
+        times_that_end(program)
+        one_offset(program)
+        spellings(program)
+        other_zones(program)
+    print(f"{len(faults)} faults")
+    return 1 if faults else 0
+
+
+if __name__ == "__main__":
+    sys.exit(main())
