@@ -264,6 +264,50 @@ def other_zones(program):
     stays(program, "of two VTIMEZONEs of one name the first isn't had", calendar(pair("2030"), pair(), event(WEEKLY)))
 
 
+# ---- serve, keep and box behind the door
+
+EXAMPLES = Path(__file__).parent.parent / "examples"
+PREAMBLE = "now 20250102T000000Z\r\nroom mailto:{}\r\n\r\n"
+
+
+def streams():
+    """The examples, and all objects of real programs in one stream, for the room of each."""
+    for file in sorted(EXAMPLES.glob("*.ics-stream")):
+        yield file.name, file.read_bytes()
+    objects = b"".join(file.read_bytes() + b"\r\n" for file in sorted(FOLDER.glob("*.ics")))
+    for room in ("room1@example.com", "room1@rooms.example.net"):
+        yield f"objects of real programs for {room}", PREAMBLE.format(room).encode() + objects
+
+
+def room_of(stream):
+    lines = stream.decode().splitlines()
+    return next(line.split()[1] for line in lines if line.startswith("room "))
+
+
+def behind_the_door(program, folder, zones):
+    """With --adapt each command answers what it answers behind the pipe; without it, what it answers alone."""
+    for name, stream in streams():
+        for words in ([], ["--zones", str(zones)]):
+            readable = run(program, "adapt", *words, given=stream).stdout
+            if "room " not in stream.decode().partition("BEGIN")[0]:
+                continue
+            served = run(program, "serve", given=readable)
+            expect(f"{name}: serve", run(program, "serve", "--adapt", *words, given=stream).stdout, served.stdout)
+            room = room_of(stream)
+            kept = run(program, "keep", room, given=readable)
+            expect(f"{name}: keep", run(program, "keep", "--adapt", *words, room, given=stream).stdout, kept.stdout)
+            box = folder / "box"
+            (box / "inbox").mkdir(parents=True, exist_ok=True)
+            config, _, objects = stream.replace(b"\r\n", b"\n").partition(b"\n\n")
+            now = next(line.split()[1] for line in config.decode().splitlines() if line.startswith("now "))
+            (box / "config").write_bytes(b"".join(line + b"\n" for line in config.splitlines() if not line.startswith(b"now ")))
+            (box / "inbox" / f"00000001-{now}.ics").write_bytes(objects)
+            out = Path(tempfile.mkdtemp(dir=folder))
+            run(program, "box", "--adapt", *words, str(box / "config"), str(box / "inbox"), str(out), given=b"")
+            (box / "inbox" / f"00000001-{now}.ics").unlink()
+            expect(f"{name}: box", (out / f"00000001-{now}.out").read_bytes(), served.stdout)
+
+
 def main():
     program = sys.argv[1]
     with tempfile.TemporaryDirectory() as place:
@@ -278,6 +322,7 @@ def main():
         one_offset(program)
         spellings(program)
         other_zones(program)
+        behind_the_door(program, folder, berlin)
     print(f"{len(faults)} faults")
     return 1 if faults else 0
 
