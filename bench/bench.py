@@ -416,6 +416,70 @@ def serve(program, pieces, accepted, word=ACCEPTED):
     return seconds, peak, size
 
 
+HISTORY = """BEGIN:VTIMEZONE
+TZID:Berlin
+BEGIN:STANDARD
+TZOFFSETFROM:+005328
+TZOFFSETTO:+0100
+DTSTART:18930401T000000
+END:STANDARD
+BEGIN:STANDARD
+TZOFFSETFROM:+0200
+TZOFFSETTO:+0100
+DTSTART:19800928T030000
+RRULE:FREQ=YEARLY;UNTIL=19950924T010000Z;BYMONTH=9;BYDAY=-1SU
+END:STANDARD
+BEGIN:DAYLIGHT
+TZOFFSETFROM:+0100
+TZOFFSETTO:+0200
+DTSTART:19810329T020000
+RRULE:FREQ=YEARLY;BYMONTH=3;BYDAY=-1SU
+END:DAYLIGHT
+BEGIN:STANDARD
+TZOFFSETFROM:+0200
+TZOFFSETTO:+0100
+DTSTART:19961027T030000
+RRULE:FREQ=YEARLY;BYMONTH=10;BYDAY=-1SU
+END:STANDARD
+END:VTIMEZONE
+"""
+
+
+def with_history(count):
+    """Requests in a zone whose VTIMEZONE has history, one in an object."""
+    zoned = REQUEST.replace("BEGIN:VEVENT", HISTORY + "BEGIN:VEVENT", 1).replace("DTSTART:{start}\nDURATION", "DTSTART;TZID=Berlin:{start}\nDURATION", 1)
+    for number in range(count):
+        yield crlf(zoned.format(number=number, room=ROOM.format(0), start=stamp(number).rstrip("Z"), extra=""))
+
+
+def dates_of_a_zone(count):
+    """One request in a zone of so many dates."""
+    first = datetime(1900, 1, 1)
+    dates = ",".join((first + timedelta(days=number)).strftime("%Y%m%dT%H%M%S") for number in range(count))
+    part = f"BEGIN:STANDARD\nTZOFFSETFROM:+0000\nTZOFFSETTO:+0100\nDTSTART:18990101T000000\nRDATE:{dates}\nEND:STANDARD\n"
+    zone = f"BEGIN:VTIMEZONE\nTZID:Berlin\n{part}END:VTIMEZONE\n"
+    yield next(with_history(1)).replace(crlf(HISTORY), crlf(zone))
+
+
+def names_of_zones(count):
+    """One request with so many EXDATEs, each in a zone of its own, whose VTIMEZONE has history."""
+    zones = "".join(HISTORY.replace("TZID:Berlin", f"TZID:{number}") for number in range(count))
+    dates = "".join(f"EXDATE;TZID={number}:20250101T000000\n" for number in range(count))
+    text = next(with_history(1)).replace(crlf("BEGIN:VEVENT\n"), crlf(zones + "BEGIN:VEVENT\n" + dates), 1)
+    yield text
+
+
+def adapt(program, pieces, most):
+    """Seconds, peak octets and the size of objects that the door makes readable, none of which has history then."""
+    with tempfile.TemporaryFile() as stream:
+        size = sum(stream.write(piece) for piece in pieces)
+        stream.seek(0)
+        seconds, peak, status, output = run([program, "adapt"], stream)
+    if status != 0 or output.count(b"BEGIN:STANDARD") > most:
+        sys.exit(f"adapt: status {status}, {output.count(b'BEGIN:STANDARD')} parts")
+    return seconds, peak, size
+
+
 def certificate_of(singles, series):
     """The certificate of a calendar of so many singles and series."""
     pairs = "".join(f"PAIR {i} {j} END\n" for i in range(1, series + 1) for j in range(i, series + 1))
@@ -578,6 +642,9 @@ def main():
     grown("requests of a whole day each", (1_000, 10_000), lambda count: serve(program, whole_days(count), count), None)
     grown("the same of a room in New York", (1_000, 10_000), lambda count: serve(program, whole_days(count, NEW_YORK_WORDS), count), None)
     grown("days moved in 64 rooms of a zone", (19, 190), lambda count: serve(program, days_in_zones(count), 64 * (count + 1)), None)
+    grown("objects with history at the door", (1_000, 10_000), lambda count: adapt(program, with_history(count), count), None)
+    grown("dates of a zone at the door", (2_000, 20_000), lambda count: adapt(program, dates_of_a_zone(count), 1), "octets")
+    grown("zones of an object at the door", (140, 1_400), lambda count: adapt(program, names_of_zones(count), count + 1), "octets")
     grown("requests onto one busy time", (6_000, 60_000), lambda count: serve(program, declines(count), 1), None)
     revised = lambda count: serve(program, revisions(count), MEETINGS + count // 2)
     grown(f"revisions of {MEETINGS:,} meetings", (10_000, 100_000), revised, None)
