@@ -10,9 +10,9 @@ use example_cases::answers::{Answers, append, none, print_answer};
 use example_cases::words::{first_word, number};
 use example_cases::{Case, NoAnswer};
 use ical_lines::{Limits, Unfolded};
-use ical_tree::read_object;
+use ical_tree::{Component, read_object};
 use ical_values::LocalTime;
-use std::alloc::Global;
+use std::alloc::{AllocError, Global};
 use std::rt::Files;
 use std::{fs, io};
 
@@ -36,11 +36,25 @@ fn answer<R: Files + AllocGlobal>(rt: &R, case: Case<'_>) -> Result<String, NoAn
         return answers_of(alloc, case, object.as_slice(), adapted);
     }
     let list = fs::read(rt, case.column(3))?;
-    let text = Unfolded::read(alloc, list.as_slice(), Limits::Open)?;
-    let zones = read_object(alloc, &text, Limits::Open)?;
-    let named = NamedZones::of(alloc, &zones)?;
-    let adapted = adapt(alloc, object.as_slice(), Some(&named))?;
+    let adapted = adapted_beside(alloc, object.as_slice(), list.as_slice())?;
     answers_of(alloc, case, object.as_slice(), adapted)
+}
+
+/// What becomes of an object beside a list.
+fn adapted_beside(alloc: Global, object: &[u8], list: &[u8]) -> Result<Option<Adapted>, NoAnswer> {
+    let text = Unfolded::read(alloc, list, Limits::Open)?;
+    let zones = read_object(alloc, &text, Limits::Open)?;
+    Ok(adapted_with(alloc, object, &zones)?)
+}
+
+/// The same, with the list as an object of VTIMEZONEs.
+fn adapted_with(
+    alloc: Global,
+    object: &[u8],
+    zones: &Component<'_>,
+) -> Result<Option<Adapted>, AllocError> {
+    let named = NamedZones::of(alloc, zones)?;
+    adapt(alloc, object, Some(&named))
 }
 
 /// The answers to the steps.
@@ -63,9 +77,8 @@ fn answers_of(
     answers.add("made readable")?;
     let text = Unfolded::read(alloc, adapted.octets.as_slice(), Limits::Message)?;
     let after = read_object(alloc, &text, Limits::Message)?;
-    let zones = NamedZones::of(alloc, &after)?;
     for step in case.columns_from(alloc, 4)?.iter() {
-        let answer = step_answer(alloc, *step, &zones, &adapted)?;
+        let answer = step_answer(alloc, *step, &after, &adapted)?;
         answers.add(answer.as_str())?;
     }
     Ok(answers.finish())
@@ -79,7 +92,7 @@ fn answers_of(
 fn step_answer(
     alloc: Global,
     step: &str,
-    zones: &NamedZones<'_, '_>,
+    after: &Component,
     adapted: &Adapted,
 ) -> Result<String, NoAnswer> {
     let (question, rest) = first_word(step);
@@ -87,13 +100,31 @@ fn step_answer(
         return going_on(alloc, adapted);
     }
     let (name, input) = first_word(rest);
-    let part = zones.named(name).ok_or(NoAnswer::Unreadable)?;
-    let zone = Zone::read(alloc, part)?;
+    let zone = zone_named(alloc, after, name)?;
     match question {
         "at" => Ok(zone.offset(number(input)?).to_string(alloc)?),
         "means" => Ok(zone.resolve(LocalTime::read(input)?).to_string(alloc)?),
         _ => Err(NoAnswer::Unreadable),
     }
+}
+
+/// The zone of the first VTIMEZONE of a name that has no escapes.
+fn zone_named(alloc: Global, object: &Component, name: &str) -> Result<Zone, NoAnswer> {
+    for child in object.children() {
+        if child.is_named("VTIMEZONE") && is_called(child, name) {
+            return Ok(Zone::read(alloc, child)?);
+        }
+    }
+    Err(NoAnswer::Unreadable)
+}
+
+fn is_called(zone: &Component, name: &str) -> bool {
+    for line in zone.lines() {
+        if line.is_named("TZID") {
+            return line.value() == name;
+        }
+    }
+    false
 }
 
 fn going_on(alloc: Global, adapted: &Adapted) -> Result<String, NoAnswer> {
