@@ -284,6 +284,18 @@ def room_of(stream):
     return next(line.split()[1] for line in lines if line.startswith("room "))
 
 
+def behind_a_preamble(program):
+    """An object is made readable behind a preamble too, whose lines stay as they are; so is one in lower case."""
+    alone = (FOLDER / "gnome--03-weekly-endless.ics").read_bytes()
+    readable, _ = adapted(program, alone)
+    expect("an object without a preamble changes", readable != alone, True)
+    for end in ("\r\n", "\n"):
+        preamble = PREAMBLE.format("room1@example.com").replace("\r\n", end).encode()
+        expect(f"behind a preamble with {end!r}", adapted(program, preamble + alone)[0], preamble + readable)
+    lower = alone.replace(b"BEGIN:VCALENDAR", b"begin:vcalendar", 1)
+    expect("an object in lower case", adapted(program, lower)[0], readable.replace(b"BEGIN:VCALENDAR", b"begin:vcalendar", 1))
+
+
 def behind_the_door(program, folder, zones):
     """With --adapt each command answers what it answers behind the pipe; without it, what it answers alone."""
     for name, stream in streams():
@@ -322,6 +334,7 @@ def main():
         one_offset(program)
         spellings(program)
         other_zones(program)
+        behind_a_preamble(program)
         behind_the_door(program, folder, berlin)
     print(f"{len(faults)} faults")
     return 1 if faults else 0
