@@ -1,10 +1,10 @@
 # Completion of roombox in bash: `source docs/roombox.bash`. Made by bench/man_page.py from the help of roombox.
 
 _roombox() {
-    local word=${COMP_WORDS[COMP_CWORD]} options="serve keep check expand explain box --help --version" at
+    local word=${COMP_WORDS[COMP_CWORD]} options="serve keep adapt check expand explain box --adapt --zones --help --version" at
     for ((at = 1; at < COMP_CWORD; at++)); do
         case ${COMP_WORDS[at]} in
-        serve | keep | check | expand | explain | box) break ;;
+        serve | keep | adapt | check | expand | explain | box) break ;;
         esac
     done
     COMPREPLY=()
@@ -13,12 +13,13 @@ _roombox() {
         [[ $word == -* ]] || return
     fi
     case ${COMP_WORDS[at]} in
-    serve) options="--report --help" ;;
-    keep) options="--certificate --help" ;;
+    serve) options="--report --adapt --zones --help" ;;
+    keep) options="--certificate --adapt --zones --help" ;;
+    adapt) options="--zones --report --help" ;;
     check) options="--help" ;;
     expand) options="--limit --zone --help" ;;
     explain) options="--help" ;;
-    box) options="--help" ;;
+    box) options="--adapt --zones --help" ;;
     esac
     mapfile -t COMPREPLY < <(compgen -W "$options" -- "$word")
 }
