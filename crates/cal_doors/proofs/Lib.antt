@@ -24,6 +24,11 @@ pub mod ChangesNamed
 pub mod RightOthers
 pub mod RightGiven
 pub mod AdaptWhole
+pub mod AdaptListed
+pub mod ToldEvents
+pub mod ToldRight
+pub mod ToldWords
+pub mod ToldZones
 mod Examples
 pub mod LawClocks
 pub mod LawEvents

@@ -27,6 +27,10 @@ use Rattle.cal_doors.specs.declared.changes.Need.TheVariants.{Nothing, Change, L
 abbrev pub listed_of : Option (Bor NamedZones) → Option Tree
 listed_of listed = option_map (λ zones. tree_of zones.now.object.now) listed
 
+-- the same, of the object itself
+abbrev pub list_of : Option (Bor Component) → Option Tree
+list_of listed = option_map (λ object. tree_of object.now) listed
+
 -- it is a list
 abbrev pub AreListed : Option (Bor NamedZones) → Type 0
 AreListed None = Unit {0}
@@ -82,9 +86,9 @@ MeansNow before after name (Some c) = (part : Tree) × (zone_named name after �
 abbrev pub AllMeanNow : {X Y : Type 0} → Tree → Tree → List (String X × Use) → List (String Y × Choice) → Type 0
 AllMeanNow before after uses changes = (name : List ℕ) (u : Use) → held name uses ≡ Some u → MeansNow before after name (held name changes)
 
--- a zone that goes on beyond what is stated has its name among these
+-- of the changes those of these names go on beyond what is stated, and no others
 abbrev pub AreGoingOn : {Y : Type 0} → List (String Y × Choice) → List (List ℕ) → Type 0
-AreGoingOn changes names = (name : List ℕ) (c : Choice) → held name changes ≡ Some c → c.goes_on ≡ true → list_any (bytes_eq name) names ≡ true
+AreGoingOn changes names = (name : List ℕ) (c : Choice) → held name changes ≡ Some c → list_any (bytes_eq name) names ≡ c.goes_on
 
 -- components as trees, but for VTIMEZONEs
 abbrev pub others_among : List Component → List Tree

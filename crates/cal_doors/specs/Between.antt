@@ -28,7 +28,7 @@ AreSameUpTo to zone other = (onset : Onset) → onset.instant ≤ℤ to → IsGe
 abbrev pub LastsAsLong : List Run → Zone → ℤ → Option ℤ → Type 0
 LastsAsLong zone other from last = (end : ℤ) × (last ≡ Some end) × IsSameBetween zone other from (end +ℤ pos 86_399)
 
--- it does up to the end of the onsets that are stated, in 2036 or later
+-- it does up to the end of the onsets before the end of times in 32 bits, in 2036 or later
 abbrev pub GoesOn : List Run → Zone → Bool → ℤ → Type 0
 GoesOn zone other goes_on from =
     (to : ℤ) × (goes_on ≡ true) × (tables_end ≤ℤ to) × IsOverAt zone to × IsSameBetween zone other from to

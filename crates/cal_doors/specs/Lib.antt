@@ -9,4 +9,5 @@ pub mod Named
 pub mod Used
 pub mod Between
 pub mod Adapted
+pub mod Told
 pub mod Laws

@@ -1,6 +1,6 @@
 //! What some runs are between two instants: onsets after the later one are left aside.
 
-ghost use Rattle.std.specs.Prelude.{◌≡◌, true, IfOk, IfSome};
+ghost use Rattle.std.specs.Prelude.{◌≡◌, true, IfOk};
 ghost use Rattle.profile.specs.doors.Adapting.{IsOverAt};
 ghost use Rattle.cal_doors.specs.Ends.{end_of};
 ghost use Rattle.cal_doors.specs.Runs.{run_of, runs_in};
@@ -10,6 +10,9 @@ use crate::end::End;
 use crate::places::latest_place;
 use crate::run::Run;
 use std::alloc::{AllocError, Global};
+
+/// 2038-01-19T03:14:07Z, the last second of times in 32 bits: what a table that ends there says from then on is made up.
+const TIMES_END: i64 = 2_147_483_647;
 
 /// Whether an onset comes up to an instant. It isn't known where the onsets are counted.
 pub(crate) fn has_begun(runs: &[Run], instant: i64) -> bool
@@ -104,13 +107,15 @@ fn ending_by(end: End, to: i64) -> End
     }
 }
 
-/// No onset is later than this. None where a rule doesn't end, or its onsets are counted.
-pub(crate) fn last_of_all(runs: &[Run]) -> Option<i64>
-    ensures { IfSome result (λ last. IsOverAt (runs_in runs.now) last) }
+/// No onset before the end of times in 32 bits is later than this.
+pub(crate) fn last_of_all(runs: &[Run]) -> i64
+    ensures { IsOverAt (runs_in runs.now) result }
 {
     let mut last = i64::MIN;
     for run in runs {
-        last = last.max(run.last_bound()?);
+        if let Some(bound) = run.latest_bound(TIMES_END - 1) {
+            last = last.max(bound);
+        }
     }
-    Some(last)
+    last
 }

@@ -1,14 +1,11 @@
 //! Which VTIMEZONEs of an object have to change, and into what.
 
-ghost use Rattle.std.specs.Prelude.{◌≡◌, ℕ, List, true, false, map, option_map, string_bytes, IfOk, IfSome, Some};
-ghost use Rattle.std.specs.List.{list_any};
-ghost use Rattle.std.specs.Str.{bytes_eq};
+ghost use Rattle.std.specs.Prelude.{◌≡◌, true, false, map, option_map, string_bytes, IfOk, IfSome, Some};
 ghost use Rattle.ical_tree.specs.Tree.{tree_of};
 ghost use Rattle.cal_doors.specs.Named.{AreNamed};
-ghost use Rattle.cal_doors.specs.Used.{AreUses, held};
-ghost use Rattle.cal_doors.specs.Adapted.{AreListed, listed_of, AreChanges, IsUseFor, IsNeeded, IsMeantZone};
+ghost use Rattle.cal_doors.specs.Used.{AreUses};
+ghost use Rattle.cal_doors.specs.Adapted.{AreListed, listed_of, AreChanges, AreGoingOn, IsUseFor, IsNeeded, IsMeantZone};
 ghost use Rattle.cal_doors.specs.Found.{general_of};
-ghost use Rattle.cal_doors.specs.declared.choice.Choice.{Choice};
 ghost use Rattle.profile.specs.text.Trees.{Tree};
 ghost use Rattle.profile.specs.series.Zones as zones;
 ghost use Rattle.profile.specs.series.GeneralZoneTexts.{SaysGeneralZone};
@@ -158,10 +155,9 @@ fn general_zone(alloc: Global, zone: &Component) -> Result<Option<GeneralZone>, 
     }
 }
 
-/// The names of the zones that go on beyond what is stated.
+/// The names of the zones that go on beyond what is stated, and no others.
 pub(crate) fn names_going_on(alloc: Global, changes: &Changes) -> Result<Vec<String>, AllocError>
-    ensures { IfOk result (λ names. (name : List ℕ) (c : Choice) → held name changes.now.entries ≡ Some c → c.goes_on ≡ true
-        → list_any (bytes_eq name) (map string_bytes names.items) ≡ true) }
+    ensures { IfOk result (λ names. AreGoingOn changes.now.entries (map string_bytes names.items)) }
 {
     let mut names = Vec::new(alloc);
     for (name, choice) in changes.iter() {

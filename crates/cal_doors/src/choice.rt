@@ -68,13 +68,11 @@ fn as_long(
     general.between(alloc, from, to)
 }
 
-/// The zone that does the same up to the end of the onsets that are stated, in 2036 or later, and goes on. None where none is found.
+/// The zone that does the same up to the end of the onsets before the end of times in 32 bits, in 2036 or later, and goes on. None where none is found.
 fn beyond(alloc: Global, general: &GeneralZone, from: i64) -> Result<Option<Choice>, AllocError>
     ensures { IfOk result (λ found. IfSome found (λ c. GoesOn (general_of general.now) (zone_of c.zone) c.goes_on from)) }
 {
-    let Some(to) = general.last_onset() else {
-        return Ok(None);
-    };
+    let to = general.last_onset();
     if to < TABLES_END {
         return Ok(None);
     }

@@ -11,14 +11,19 @@ mod end;
 mod law;
 mod named;
 mod part;
+mod parting;
 mod places;
 mod read;
 mod readable;
+mod retold;
+mod returning;
 mod right;
 mod rule;
 mod run;
 mod splice;
+mod told;
 mod uses;
+mod words;
 mod zone;
 
 pub use end::{End, YearDay};
@@ -26,7 +31,8 @@ pub use law::{
     adapted_says_the_same, date_at_start_adds_nothing, starts_are_known, zones_are_clocks,
     zones_are_general,
 };
-pub use named::NamedZones;
+pub use parting::split;
 pub use readable::{Adapted, adapt};
+pub use returning::returned;
 pub use run::Run;
 pub use zone::GeneralZone;

@@ -10,8 +10,9 @@ ghost use Rattle.profile.specs.series.GeneralZoneTexts.{RunsFault};
 ghost use Rattle.cal_doors.specs.Runs.{run_of, runs_in};
 ghost use Rattle.cal_doors.specs.Reading.{AreTimes, SaysFirst, AddsDate, AddsLine, AddsDates, AddsPart, DateFault, LineFault, DatesFault};
 
-use crate::rule::read_ending;
+use crate::rule::{EndingRule, PartRule, read_rule};
 use crate::run::Run;
+use cal_days::Day;
 use cal_zones::{read_local, read_offset};
 use ical_lines::{Fault, Line, Refusal};
 use ical_tree::{Component, Properties};
@@ -32,8 +33,7 @@ pub(crate) fn add_part(alloc: Global, part: &Component, runs: &mut Vec<Run>) -> 
 {
     let properties = Properties::of(alloc, part)?;
     let times = read_times(&properties)?;
-    let first = first_run(alloc, &properties, &times)?;
-    runs.push(first)?;
+    add_first(alloc, &properties, &times, runs)?;
     add_dates(&properties, &times, runs)?;
     Ok(())
 }
@@ -59,22 +59,58 @@ fn read_times(properties: &Properties<'_>) -> Result<Times, Refusal>
     Ok(Times { start, from, to })
 }
 
-/// The first run of a part with these times: at DTSTART alone, or by its one RRULE. Refused with 40 where there are two, or it isn't a rule of
-/// one day a year.
-fn first_run(alloc: Global, properties: &Properties<'_>, times: &Times) -> Result<Run, Fault>
+/// Adds the first runs of a part with these times: at DTSTART alone, or by its one RRULE. Refused with 40 where there are two, or it is neither of one day
+/// a year nor one whose days are listed.
+fn add_first(
+    alloc: Global,
+    properties: &Properties<'_>,
+    times: &Times,
+    runs: &mut Vec<Run>,
+) -> Result<(), Fault>
     requires { AreTimes properties.now times.now.start times.now.from times.now.to }
-    ensures says { IfOk result (λ run. SaysFirst properties.now times.now.start times.now.from times.now.to (run_of run)) }
+    ensures adds { OnOk result (AddsFirst properties.now times.now.start times.now.from times.now.to (runs_in runs.old.items) (runs_in runs.new.items)) }
     ensures fault { IfErr result (RefusesBy (RunsFault properties.now)) }
 {
     let Some(line) = properties.optional("RRULE", Refusal::ZONE_SHAPE)? else {
-        return Ok(Run::once(times.start, times.from, times.to));
+        runs.push(Run::once(times.start, times.from, times.to))?;
+        return Ok(());
     };
-    let rule = read_ending(alloc, line.value(), times.from)?;
+    match read_rule(alloc, line.value(), times.start, times.from)? {
+        PartRule::Yearly(rule) => add_yearly(rule, times, runs)?,
+        PartRule::Listed(days) => add_days(days.as_slice(), times, runs)?,
+    }
+    Ok(())
+}
+
+/// Adds the run of one day a year.
+fn add_yearly(rule: EndingRule, times: &Times, runs: &mut Vec<Run>) -> Result<(), Fault>
+    requires { occurs_yearly rule.day.month rule.day.days ≡ true }
+    ensures adds { OnOk result (AddsYearly rule times.now.start times.now.from times.now.to (runs_in runs.old.items) (runs_in runs.new.items)) }
+    ensures fault { IfErr result IsMemory }
+{
     let Some(run) = Run::yearly(times.start, rule.day, times.from, times.to, rule.end) else {
         // It doesn't come to this: a day that is read is one of every year.
         return Err(Fault::Refused(Refusal::ZONE_SHAPE));
     };
-    Ok(run)
+    runs.push(run)?;
+    Ok(())
+}
+
+/// Adds the run of one onset on each of these days, at the time of day of DTSTART.
+fn add_days(days: &[Day], times: &Times, runs: &mut Vec<Run>) -> Result<(), Fault>
+    requires { list_all (λ day. nat_le day 3_652_424) (map day_index days.now) ≡ true }
+    ensures adds { OnOk result (AddsDays times.now.start times.now.from times.now.to (map day_index days.now) (runs_in runs.old.items) (runs_in runs.new.items)) }
+    ensures fault { IfErr result IsMemory }
+{
+    let (_, second) = times.start.day_and_second();
+    for day in days {
+        let Some(local) = LocalTime::of_day(*day, second) else {
+            // It doesn't come to this: no day of a rule is after year 9999.
+            return Err(Fault::Refused(Refusal::ZONE_SHAPE));
+        };
+        runs.push(Run::once(local, times.from, times.to))?;
+    }
+    Ok(())
 }
 
 /// Adds a run for each local time of the RDATEs. Refused with 40 where one says something else.

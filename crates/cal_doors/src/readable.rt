@@ -1,13 +1,13 @@
 //! An object made readable for a room: VTIMEZONEs that say more than a room reads give way to some that do the same.
 
-ghost use Rattle.std.specs.Prelude.{◌≡◌, true, map, string_bytes, IfOk, IfSome};
+ghost use Rattle.std.specs.Prelude.{◌≡◌, true, map, string_bytes, Some, IfOk, IfSome};
 ghost use Rattle.ical_tree.specs.Tree.{tree_of};
 ghost use Rattle.profile.specs.text.Lines.{logical_lines, reads_as_lines};
 ghost use Rattle.profile.specs.text.Objects.{IsObject};
 ghost use Rattle.profile.specs.doors.Adapting.{IsAdapted, IsOf};
 ghost use Rattle.cal_doors.specs.Named.{AreNamed};
 ghost use Rattle.cal_doors.specs.Used.{AreUses};
-ghost use Rattle.cal_doors.specs.Adapted.{listed_of, AreListed, IsRight, AreGoingOn};
+ghost use Rattle.cal_doors.specs.Adapted.{list_of, AreChanges, IsRight, AreGoingOn};
 
 use crate::changes::{Changes, changes_of, names_going_on};
 use crate::named::NamedZones;
@@ -28,15 +28,14 @@ pub struct Adapted {
 
 /// The object with VTIMEZONEs that a room reads, in the place of those that its times name and a room doesn't read. None where there are none,
 /// where it is no object within the limits of a message, and where one of them can't be had: then it is handed on as it is. Each takes
-/// the place of what its name means at the door: the VTIMEZONE of the object, or that of the list where it is missing or has no part. All
-/// other lines are those of the object, octet by octet. What is made is read again, and handed on only if it is right.
+/// the place of what its name means at the door: the VTIMEZONE of the object, or that of the list (an object) where it is missing or has no
+/// part. All other lines are those of the object, octet by octet. What is made is read again, and handed on only if it is right.
 pub fn adapt(
     alloc: Global,
     octets: &[u8],
-    listed: Option<&NamedZones<'_, '_>>,
+    listed: Option<&Component<'_>>,
 ) -> Result<Option<Adapted>, AllocError>
-    requires { AreListed listed }
-    ensures { IfOk result (λ found. IfSome found (λ a. IsAdapted (listed_of listed.entry) octets.now (map string_bytes a.going_on.items) a.octets.items)) }
+    ensures { IfOk result (λ found. IfSome found (λ a. IsAdapted (list_of listed.entry) octets.now (map string_bytes a.going_on.items) a.octets.items)) }
 {
     let Some(text) = text_of(alloc, octets)? else {
         return Ok(None);
@@ -56,21 +55,57 @@ fn adapt_object(
     octets: &[u8],
     object: &Component<'_>,
     uses: &Uses,
-    listed: Option<&NamedZones<'_, '_>>,
+    listed: Option<&Component<'_>>,
 ) -> Result<Option<Adapted>, AllocError>
     requires came { IsOf octets.now (tree_of object.now) }
     requires uses { AreUses (tree_of object.now) uses.now.entries }
-    requires listed { AreListed listed }
-    ensures { IfOk result (λ found. IfSome found (λ a. IsAdapted (listed_of listed.entry) octets.now (map string_bytes a.going_on.items) a.octets.items)) }
+    ensures { IfOk result (λ found. IfSome found (λ a. IsAdapted (list_of listed.entry) octets.now (map string_bytes a.going_on.items) a.octets.items)) }
 {
     let zones = NamedZones::of(alloc, object)?;
-    let Some(changes) = changes_of(alloc, uses, &zones, listed)? else {
+    let Some(changes) = changes_by(alloc, uses, &zones, listed)? else {
         return Ok(None);
     };
     if changes.is_empty() {
         return Ok(None);
     }
     with_changes(alloc, octets, object, uses, &zones, &changes)
+}
+
+/// The zones that have to take the place of the VTIMEZONEs of an object, whose uses these are. None where one can't be had. The list is looked
+/// into only where the object alone doesn't have them all.
+fn changes_by(
+    alloc: Global,
+    uses: &Uses,
+    zones: &NamedZones<'_, '_>,
+    listed: Option<&Component<'_>>,
+) -> Result<Option<Changes>, AllocError>
+    requires uses { AreUses (tree_of zones.now.object.now) uses.now.entries }
+    requires zones { AreNamed zones.now }
+    ensures { IfOk result (λ found. IfSome found (λ changes. AreChanges (list_of listed.entry) (tree_of zones.now.object.now) uses.now.entries changes.entries)) }
+{
+    if let Some(changes) = changes_of(alloc, uses, zones, None)? {
+        return Ok(Some(changes));
+    }
+    let Some(object) = listed else {
+        return Ok(None);
+    };
+    changes_listed(alloc, uses, zones, object)
+}
+
+/// The same with a list.
+fn changes_listed(
+    alloc: Global,
+    uses: &Uses,
+    zones: &NamedZones<'_, '_>,
+    listed: &Component<'_>,
+) -> Result<Option<Changes>, AllocError>
+    requires uses { AreUses (tree_of zones.now.object.now) uses.now.entries }
+    requires zones { AreNamed zones.now }
+    ensures { IfOk result (λ found. IfSome found (λ changes.
+        AreChanges (Some (tree_of listed.now)) (tree_of zones.now.object.now) uses.now.entries changes.entries)) }
+{
+    let named = NamedZones::of(alloc, listed)?;
+    changes_of(alloc, uses, zones, Some(&named))
 }
 
 /// The object with these changes. None where that isn't right.

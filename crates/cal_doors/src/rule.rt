@@ -1,23 +1,40 @@
-//! The RRULE of a part of a VTIMEZONE: the day of the year that it names, and where it ends (RFC 5545 3.3.10, 3.6.5).
+//! The RRULE of a part of a VTIMEZONE: the day of the year that it names, and where it ends; or the days that it lists (RFC 5545 3.3.10, 3.6.5).
 
-ghost use Rattle.std.specs.Prelude.{◌≡◌, true, None, Some, IfOk, IfErr, IfSome, IfNone, MatchOption};
+ghost use Rattle.std.specs.Prelude.{◌≡◌, ◌≤◌, true, false, map, None, Some, IfOk, IfErr, IfSome, IfNone, MatchOption};
 ghost use Rattle.ical_lines.specs.Fault.{RefusesBy};
+ghost use Rattle.profile.specs.series.Days.{day_index};
 ghost use Rattle.profile.specs.series.ZoneTexts as texts;
 ghost use Rattle.profile.specs.series.ZoneTexts.{is_one_day};
 ghost use Rattle.profile.specs.series.GeneralZones as general;
-ghost use Rattle.profile.specs.series.GeneralZoneTexts.{without_end, IsEndOf, SpellsEnding, SpellsNoEnding};
+ghost use Rattle.profile.specs.series.GeneralZoneTexts.{without_end, IsEndOf};
 ghost use Rattle.cal_rules.specs.Views.{until_of};
 ghost use Rattle.cal_zones.specs.Shapes.{rule_named};
-ghost use Rattle.cal_doors.specs.Ends.{end_of};
+ghost use Rattle.cal_doors.specs.Ends.{end_of, IsNearEnd, IsLastFrom};
 ghost use Rattle.cal_zones.specs.Read.{IsShapeFault};
-ghost use Rattle.cal_doors.specs.Reading.{ending_of};
+ghost use Rattle.cal_doors.specs.Reading.{SpellsRuleOf, SpellsNoRuleOf, AreDaysOf, AreMany, AreDaysTo, AreNoDaysTo};
 
 use crate::end::{End, YearDay};
-use cal_rules::{RuleText, Until, one_rule};
+use cal_days::Day;
+use cal_rules::{Rule, RuleText, Until, one_rule};
 use cal_zones::day_named;
 use ical_lines::{Fault, Refusal};
-use ical_values::UtcOffset;
-use std::alloc::Global;
+use ical_values::{DAY_SECONDS, LocalTime, UtcOffset};
+use std::alloc::{AllocError, Global};
+
+/// The most days of a rule that are listed; this profile's choice.
+const MOST_DAYS: usize = 200;
+
+/// 9999-12-31, by its index.
+const LAST_DAY: u32 = 3_652_424;
+
+/// What the RRULE of a part says.
+#[derive(Drop)]
+pub(crate) enum PartRule {
+    /// One day a year, and where it ends.
+    Yearly(EndingRule),
+    /// The days of a rule of another form, which ends, from DTSTART on.
+    Listed(Vec<Day>),
+}
 
 /// A rule of one day a year, and where it ends.
 #[derive(Clone, Copy)]
@@ -26,21 +43,32 @@ pub(crate) struct EndingRule {
     pub(crate) end: End,
 }
 
-/// The rule that a text spells, in a part with this TZOFFSETFROM. Refused with 40 where it spells none, or one that isn't of one day a
-/// year, or that a date ends.
-pub(crate) fn read_ending(alloc: Global, text: &str, from: UtcOffset) -> Result<EndingRule, Fault>
-    ensures says { IfOk result (λ r. SpellsEnding from text.now (ending_of r)) }
-    ensures fault { IfErr result (RefusesBy (λ n. (n ≡ 40) × SpellsNoEnding from text.now)) }
+/// The rule that a text spells, in a part with this DTSTART and this TZOFFSETFROM. Refused with 40 where it spells none, where a date ends it, and where it
+/// isn't of one day a year, and doesn't end or has more than 200 days.
+pub(crate) fn read_rule(
+    alloc: Global,
+    text: &str,
+    start: LocalTime,
+    from: UtcOffset,
+) -> Result<PartRule, Fault>
+    ensures says { IfOk result (SpellsRuleOf start from text.now) }
+    ensures fault { IfErr result (RefusesBy (λ n. (n ≡ 40) × SpellsNoRuleOf start from text.now)) }
 {
     // Only for the proof: the rule that is read is the one that the text spells.
     one_rule();
+    let (first, _) = start.day_and_second();
     let rule = match RuleText::read(alloc, text) {
-        Ok(rule) => rule,
+        Ok(rule) => rule.on_day_of(first)?,
         Err(fault) => return Err(shape_fault(fault)),
     };
-    let day = year_day(&rule).ok_or(Refusal::ZONE_SHAPE)?;
     let end = rule_end(&rule, from).ok_or(Refusal::ZONE_SHAPE)?;
-    Ok(EndingRule { day, end })
+    if let Some(day) = year_day(&rule) {
+        return Ok(PartRule::Yearly(EndingRule { day, end }));
+    }
+    let Some(days) = days_of(alloc, rule, first, last_day(end, start, from))? else {
+        return Err(Fault::Refused(Refusal::ZONE_SHAPE));
+    };
+    Ok(PartRule::Listed(days))
 }
 
 /// What is wrong with a rule is a shape that isn't supported.
@@ -68,6 +96,7 @@ fn year_day(rule: &RuleText) -> Option<YearDay>
 /// Where COUNT or UNTIL ends a rule, in a part with this TZOFFSETFROM. None where a date does.
 fn rule_end(rule: &RuleText, from: UtcOffset) -> Option<End>
     ensures found { IfSome result (λ end. IsEndOf from rule.now.count rule.now.until (end_of end)) }
+    ensures range { IfSome result IsNearEnd }
     ensures none { IfNone result ((end : general.End) → IsEndOf from rule.now.count rule.now.until end → ⊥) }
 {
     match (rule.count(), rule.until()) {
@@ -80,12 +109,86 @@ fn rule_end(rule: &RuleText, from: UtcOffset) -> Option<End>
 
 /// The last instant that UNTIL allows: a local time is read with TZOFFSETFROM. None for a date.
 fn last_instant(until: &Until, from: UtcOffset) -> Option<i64>
-    ensures { MatchOption result ((end : general.End) → IsEndOf from None (Some (until_of until.now)) end → ⊥)
+    ensures last { MatchOption result ((end : general.End) → IsEndOf from None (Some (until_of until.now)) end → ⊥)
         (λ last. IsEndOf from None (Some (until_of until.now)) (general.AtInstant last)) }
+    ensures range { IfSome result (λ last. IsNearEnd (End::At last)) }
 {
     match until {
         Until::Date(_) => None,
         Until::Local(local) => Some(local.seconds() - from.seconds() as i64),
         Until::Utc(stamp) => Some(stamp.instant()),
     }
+}
+
+/// Up to when the onsets of a rule come.
+#[derive(Clone, Copy)]
+enum Last {
+    /// They don't end.
+    Never,
+    /// None comes: the end is before DTSTART.
+    Before,
+    /// Up to this day.
+    On(Day),
+}
+
+/// The last day on which an end allows an onset at the time of day of DTSTART, read with TZOFFSETFROM.
+fn last_day(end: End, start: LocalTime, from: UtcOffset) -> Last
+    requires { IsNearEnd end }
+    ensures { IsLastFrom start from (end_of end) result }
+{
+    let (first, _) = start.day_and_second();
+    let days = match end {
+        End::Never => return Last::Never,
+        End::After(_) => LAST_DAY.saturating_sub(first.index()),
+        End::At(until) => {
+            let length = until + from.seconds() as i64 - start.seconds();
+            if length < 0 {
+                return Last::Before;
+            }
+            (length / DAY_SECONDS) as u32
+        }
+    };
+    match Day::at_index(first.index() + days) {
+        Some(last) => Last::On(last),
+        // It doesn't come to this: an end is before year 10001.
+        None => Last::Never,
+    }
+}
+
+/// The days of a rule from one on, up to the last. None where it doesn't end, and where there are more than 200.
+fn days_of(
+    alloc: Global,
+    rule: RuleText,
+    first: Day,
+    last: Last,
+) -> Result<Option<Vec<Day>>, AllocError>
+    ensures { IfOk result (λ found. MatchOption found (AreNoDaysTo rule (day_index first) last)
+        (λ days. AreDaysTo rule (day_index first) last (map day_index days.items))) }
+{
+    match last {
+        Last::Never => Ok(None),
+        Last::Before => Ok(Some(Vec::new(alloc))),
+        Last::On(last) => listed_days(alloc, rule, first, last),
+    }
+}
+
+/// The days of a rule from one to another. None where there are more than 200.
+fn listed_days(
+    alloc: Global,
+    rule: RuleText,
+    first: Day,
+    last: Day,
+) -> Result<Option<Vec<Day>>, AllocError>
+    ensures { IfOk result (λ found. MatchOption found (AreMany rule (day_index first) (day_index last))
+        (λ days. AreDaysOf rule (day_index first) (day_index last) (map day_index days.items))) }
+{
+    let rule = Rule::from_day(rule, first, last);
+    let mut days = Vec::new(alloc);
+    for day in rule.days(first) {
+        if days.len() == MOST_DAYS {
+            return Ok(None);
+        }
+        days.push(day)?;
+    }
+    Ok(Some(days))
 }

@@ -35,8 +35,8 @@ impl GeneralZone {
 
     /// The zone that a VTIMEZONE says: the runs of its parts, in their order (RFC 5545 3.6.5). Refused with 11 where a DTSTART is no local time,
     /// with 13 where an offset is none; else with 40: where there is no part, where DTSTART, TZOFFSETFROM or TZOFFSETTO is missing or occurs
-    /// twice, where DTSTART is in UTC or in a zone, where an RDATE isn't of local times, and where RRULE occurs twice, isn't of one day a year
-    /// or is ended by a date. Fails also when out of memory.
+    /// twice, where DTSTART is in UTC or in a zone, where an RDATE isn't of local times, and where RRULE occurs twice, is ended by a date, or isn't of
+    /// one day a year and doesn't end or has more than 200 days. Fails also when out of memory.
     pub fn read(alloc: Global, zone: &Component) -> Result<GeneralZone, Fault>
         ensures says { IfOk result (λ z. SaysGeneralZone (tree_of zone.now) (general_of z)) }
         ensures fault { IfErr result (RefusesBy (GeneralZoneFault (tree_of zone.now))) }
@@ -84,9 +84,9 @@ impl GeneralZone {
         Ok(shorter.from_instant(from))
     }
 
-    /// No onset is later than this. None where a rule doesn't end, or its onsets are counted.
-    pub fn last_onset(&self) -> Option<i64>
-        ensures { IfSome result (IsOverAt (general_of self.now)) }
+    /// No onset before 2038-01-19T03:14:07Z, the end of times in 32 bits, is later than this.
+    pub fn last_onset(&self) -> i64
+        ensures { IsOverAt (general_of self.now) result }
     {
         last_of_all(self.runs.as_slice())
     }

@@ -70,18 +70,25 @@ impl Rule {
         ensures refuses { IfErr result (λ e. (e ≡ Refused (record { number = 34 }))
             × (is_rule_day (rule_of text (day_index start) (day_index last)) (day_index start) ≡ false)) }
     {
-        let begin = DayFacts::of(start);
-        let end = find_end(text.written(), begin, last);
-        let rule = Rule {
-            text,
-            start: begin,
-            last,
-            end,
-        };
+        let rule = Rule::from_day(text, start, last);
         if !rule.holds(start) {
             return Err(Fault::Refused(Refusal::START_OUTSIDE_RULE));
         }
         Ok(rule)
+    }
+
+    /// The rule of that text, from a day that needn't be one of its days.
+    pub fn from_day(text: RuleText, start: Day, last: Day) -> Rule
+        ensures { result ≡ rule_of text (day_index start) (day_index last) }
+    {
+        let begin = DayFacts::of(start);
+        let end = find_end(text.written(), begin, last);
+        Rule {
+            text,
+            start: begin,
+            last,
+            end,
+        }
     }
 
     /// The days of the rule from that day on, ascending, to 9999-12-31.

@@ -2,6 +2,8 @@
 
 ghost use Rattle.std.specs.Prelude.{◌≡◌, ◌≤◌, ℕ, List, map, option_map, IfOk, IfErr, ◌++◌, OnOk, OnErr};
 ghost use Rattle.ical_lines.specs.Fault.{RefusesBy};
+ghost use Rattle.profile.specs.series.Days.{day_index};
+ghost use Rattle.profile.specs.series.Rules.{on_day_of_start};
 ghost use Rattle.profile.specs.series.RuleTexts.{SpellsRule, RuleFault, IsLeastRuleFault};
 ghost use Rattle.cal_days.specs.Views.{frequency_of};
 ghost use Rattle.cal_rules.specs.Views.{weekday_number_of, until_of, rule_text_said};
@@ -11,7 +13,7 @@ ghost use Rattle.profile.specs.series.RuleTexts as texts;
 use crate::parts::Parts;
 use crate::write::rule_text;
 use crate::written::{Until, WeekdayNumber, Written};
-use cal_days::Frequency;
+use cal_days::{Day, Frequency};
 use ical_lines::Fault;
 use std::alloc::{AllocError, Global};
 use std::marker::Model;
@@ -64,6 +66,17 @@ impl RuleText {
         ensures interval { 1 ≤ result.now.interval }
     {
         &self.written
+    }
+
+    /// The same rule with the month day of DTSTART, where it is a YEARLY one with BYMONTH that names no day (RFC 5545 3.3.10).
+    pub fn on_day_of(self, start: Day) -> Result<RuleText, AllocError>
+        ensures { IfOk result (λ rule. rule ≡ on_day_of_start (day_index start) self) }
+    {
+        let mut written = self.written;
+        if written.leaves_day_to_start() {
+            written.month_days.push(start.month_days_before() as i16 + 1)?;
+        }
+        Ok(RuleText { written })
     }
 
     /// Its parts are in their ranges and go together. Only for the proof: there is nothing to do.

@@ -2,7 +2,7 @@
 
 ghost use Rattle.std.specs.Prelude.{◌≡◌, ◌&&◌, ◌||◌, not, map, ◌==◌};
 ghost use Rattle.std.specs.List.{list_all, list_any};
-ghost use Rattle.profile.specs.series.Rules.{is_weekly, is_long, is_missing, is_plain, go_together, has_one_end, is_nth, allows, names_weekday, same_weekdays_before, same_weekdays_after, names_no_day, implies_month, implies_month_day, implies_weekday, counts_in_year, passes_month, passes_month_day, passes_weekday, passes};
+ghost use Rattle.profile.specs.series.Rules.{leaves_day_to_start, is_weekly, is_long, is_missing, is_plain, go_together, has_one_end, is_nth, allows, names_weekday, same_weekdays_before, same_weekdays_after, names_no_day, implies_month, implies_month_day, implies_weekday, counts_in_year, passes_month, passes_month_day, passes_weekday, passes};
 ghost use Rattle.cal_rules.specs.Views.{weekday_number_of, rule_text_said, pattern_of};
 ghost use Rattle.cal_days.specs.Views.{frequency_of};
 ghost use Rattle.profile.specs.series.Days.{day_index, period_of};
@@ -97,6 +97,16 @@ impl Written {
     {
         self.positions.is_empty()
             || !(self.months.is_empty() && self.month_days.is_empty() && self.weekdays.is_empty())
+    }
+
+    /// Is it a YEARLY rule with BYMONTH that names no day?
+    pub fn leaves_day_to_start(&self) -> bool
+        ensures { result ≡ leaves_day_to_start (rule_text_said self.now) }
+    {
+        self.frequency == Frequency::Yearly
+            && !self.months.is_empty()
+            && self.month_days.is_empty()
+            && self.weekdays.is_empty()
     }
 
     /// Is there at most one of COUNT and UNTIL?

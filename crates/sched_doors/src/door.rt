@@ -11,7 +11,7 @@ ghost use Rattle.sched_doors.specs.declared.fault.DoorFault.TheVariants.{Memory}
 use crate::fault::DoorFault;
 use crate::piece::{Piece, take_object, take_piece};
 use crate::preamble::{LineSoFar, begins_with_preamble, take_preamble};
-use cal_doors::{Adapted, NamedZones, adapt};
+use cal_doors::{Adapted, adapt};
 use ical_lines::Cutter;
 use ical_tree::Component;
 use sched_devices::Input;
@@ -244,7 +244,7 @@ impl<'c, 'a, R: Input + Drop> Door<'c, 'a, R> {
         ensures fault { self.new.fault ≡ self.old.fault }
         ensures consumed { self.new.consumed ≡ self.old.consumed }
     {
-        if let Some(adapted) = adapt_with(self.alloc, self.octets.as_slice(), self.listed)? {
+        if let Some(adapted) = adapt(self.alloc, self.octets.as_slice(), self.listed)? {
             self.octets = adapted.octets;
             self.going_on = adapted.going_on;
             self.is_adapted = true;
@@ -279,23 +279,6 @@ impl<R: Input + Drop> Input for Door<'_, '_, R> {
     fn consume(&mut self, count: usize) {
         let left = self.octets.len().saturating_sub(self.consumed);
         self.consumed += count.min(left);
-    }
-}
-
-/// The object made readable, with the VTIMEZONEs of another one for the names that mean none in it.
-fn adapt_with(
-    alloc: Global,
-    octets: &[u8],
-    listed: Option<&Component<'_>>,
-) -> Result<Option<Adapted>, AllocError>
-    ensures { IfOk result (λ found. IfSome found (λ a. IsAdapted (list_of listed.entry) octets.now (map string_bytes a.going_on.items) a.octets.items)) }
-{
-    match listed {
-        Some(object) => {
-            let zones = NamedZones::of(alloc, object)?;
-            adapt(alloc, octets, Some(&zones))
-        }
-        None => adapt(alloc, octets, None),
     }
 }
 

@@ -1,6 +1,7 @@
 -- An object made readable for a room: VTIMEZONEs that say more than a room reads give way to some that do the same at each time that the
 -- object names there (RFC 5545 3.6.5). All other lines stay as they are.
-use Rattle.std.specs.Prelude.{◌≡◌, ℕ, ◌⊎◌, Bool, true, not, List, [], filter, codes, Option, Some, None, ℤ, pos, ◌+ℤ◌, ◌-ℤ◌, ◌≤ℤ◌}
+use Rattle.std.specs.Prelude.{◌≡◌, ℕ, ◌⊎◌, Bool, true, false, not, List, [], filter, codes, Option, Some, None, ℤ, pos, ◌+ℤ◌, ◌-ℤ◌, ◌≤ℤ◌}
+use Rattle.std.specs.Int.Signed.{◌<ℤ◌}
 use Rattle.std.specs.List.{list_any}
 use Rattle.std.specs.Str.{bytes_eq}
 use Rattle.profile.specs.text.Lines.{logical_lines, reads_as_lines, is_same_name}
@@ -36,21 +37,26 @@ IsMeant listed object name zone =
 abbrev pub tables_end : ℤ
 tables_end = pos 2_082_758_400
 
--- no onset is later than that instant
+-- 2038-01-19T03:14:07Z, the last second of times in 32 bits. Where a table ends there, what it says from then on is made up
+abbrev pub times_end : ℤ
+times_end = pos 2_147_483_647
+
+-- no onset before that is later than this instant
 abbrev pub IsOverAt : List Run → ℤ → Type 0
-IsOverAt zone to = (onset : Onset) → IsGeneralOnset zone onset → onset.instant ≤ℤ to
+IsOverAt zone to = (onset : Onset) → IsGeneralOnset zone onset → onset.instant <ℤ times_end → onset.instant ≤ℤ to
 
 -- a zone does the same as one in general for local times from the first on, which end by the last, if they end: always, or as long as they do; or,
--- where it may go on, up to the end of the onsets that are stated, in 2036 or later. That it then goes on by the same rules is
--- this profile's choice: the tables of the programs end there, their zones don't
-pub data IsSameFor (zone : List Run) (other : Zone) (may_go_on : Bool) (first : ℤ) (last : Option ℤ) : Type 0 where
-  always : IsSameFrom zone other (first -ℤ pos 86_399) → IsSameFor zone other may_go_on first last
-  as_long : (end : ℤ) → last ≡ Some end → IsSameBetween zone other (first -ℤ pos 86_399) (end +ℤ pos 86_399) → IsSameFor zone other may_go_on first last
-  goes_on : (to : ℤ) → may_go_on ≡ true → tables_end ≤ℤ to → IsOverAt zone to → IsSameBetween zone other (first -ℤ pos 86_399) to
-      → IsSameFor zone other may_go_on first last
+-- where it goes on beyond what is stated, up to the end of the onsets before 2038-01-19T03:14:07Z, which is in 2036 or later. That it
+-- then goes on by the same rules is this profile's choice: the tables of the programs end there, their zones don't
+pub data IsSameFor (zone : List Run) (other : Zone) (goes_on : Bool) (first : ℤ) (last : Option ℤ) : Type 0 where
+  always : goes_on ≡ false → IsSameFrom zone other (first -ℤ pos 86_399) → IsSameFor zone other goes_on first last
+  as_long : (end : ℤ) → goes_on ≡ false → last ≡ Some end → IsSameBetween zone other (first -ℤ pos 86_399) (end +ℤ pos 86_399)
+      → IsSameFor zone other goes_on first last
+  beyond : (to : ℤ) → goes_on ≡ true → tables_end ≤ℤ to → IsOverAt zone to → IsSameBetween zone other (first -ℤ pos 86_399) to
+      → IsSameFor zone other goes_on first last
 
 -- the zone does the same as what the name means at the door, for each time that the object names there, and for each that follows from these
-pub record TakesPlace (listed : Option Tree) (object : Tree) (name : List ℕ) (may_go_on : Bool) (other : Zone) : Type 0 where
+pub record TakesPlace (listed : Option Tree) (object : Tree) (name : List ℕ) (goes_on : Bool) (other : Zone) : Type 0 where
   pub meant : Tree
   pub is_meant : IsMeant listed object name meant
   pub zone : List Run
@@ -59,15 +65,15 @@ pub record TakesPlace (listed : Option Tree) (object : Tree) (name : List ℕ) (
   pub from_first : BeginsBy object name first
   pub last : Option ℤ
   pub to_last : (end : ℤ) → last ≡ Some end → EndsBy object name end
-  pub same : IsSameFor zone other may_go_on first last
+  pub same : IsSameFor zone other goes_on first last
 
 -- the VTIMEZONE that a name means afterwards is one that a room reads: the one before, or one whose zone takes the place of that
-pub record IsGiven (listed : Option Tree) (before after : Tree) (name : List ℕ) (may_go_on : Bool) : Type 0 where
+pub record IsGiven (listed : Option Tree) (before after : Tree) (name : List ℕ) (goes_on : Bool) : Type 0 where
   pub part : Tree
   pub there : zone_named name after ≡ Some part
   pub zone : Zone
   pub says : SaysZone part zone
-  pub same : (zone_named name before ≡ Some part) ⊎ TakesPlace listed before name may_go_on zone
+  pub same : (zone_named name before ≡ Some part) ⊎ TakesPlace listed before name goes_on zone
 
 -- ---- the object
 
@@ -81,7 +87,7 @@ pub record IsOf (octets : List ℕ) (object : Tree) : Type 0 where
   pub spelled : IsObject true object (logical_lines octets)
 
 -- the octets came in, and these others are handed on: of the VTIMEZONEs that its times name one at least wasn't read by a room, and now each is.
--- Only zones of these names go on beyond what is stated
+-- Of those that weren't, the ones of these names go on beyond what is stated, and no others
 pub record IsAdapted (listed : Option Tree) (octets : List ℕ) (going_on : List (List ℕ)) (adapted : List ℕ) : Type 0 where
   pub before : Tree
   pub came : IsOf octets before

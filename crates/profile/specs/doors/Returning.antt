@@ -28,8 +28,13 @@ pub data TellsSame (read answer : Tree) (line other : List ℕ) : Type 0 where
       → time_kind other ≡ time_kind line → line_param (codes "TZID") line ≡ Some name → line_param (codes "TZID") other ≡ Some new
       → SaysZoneOf (zone_named name answer) zone → SaysZoneOf (zone_named new read) zone → TellsSame read answer line other
 
--- the octets answer an object, and these others are handed on in their place: each VEVENT has its lines, in order, with the times told so. Each zone that
--- they name is the VTIMEZONE of the object
+-- what a name means in what is handed on: the VTIMEZONE of the object; where it has none of that name, the one that a room reads for it
+abbrev pub IsItsZone : Tree → Tree → List ℕ → Tree → Type 0
+IsItsZone asked read name zone =
+    (zone_named name asked ≡ Some zone) ⊎ ((zone_named name asked ≡ None) × (zone_named name read ≡ Some zone))
+
+-- the octets answer an object, and these others are handed on in their place: each VEVENT has its lines, in order, with the times told so, and each zone
+-- that they name is there
 pub record IsReturned (listed : Option Tree) (original answer returned : List ℕ) : Type 0 where
   pub asked : Tree
   pub is_asked : IsOf original asked
@@ -41,7 +46,7 @@ pub record IsReturned (listed : Option Tree) (original answer returned : List �
   pub is_given : IsOf returned given
   pub own : tree_own given ≡ tree_own told
   pub events : AllZip (AllZip (TellsSame read told)) (vevents told) (vevents given)
-  pub zones : (name : List ℕ) → NamesZone given name → (zone : Tree) × (zone_named name given ≡ Some zone) × (zone_named name asked ≡ Some zone)
+  pub zones : (name : List ℕ) → NamesZone given name → (zone : Tree) × (zone_named name given ≡ Some zone) × IsItsZone asked read name zone
 
 -- the octets are an object, and these are objects of one VEVENT each: its VEVENTs in order, each with the own lines of the object, and each name
 -- means the same VTIMEZONE

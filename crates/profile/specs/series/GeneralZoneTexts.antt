@@ -1,12 +1,12 @@
 -- VTIMEZONEs in general: which runs of onsets their lines say, and what can be wrong with them (RFC 5545 3.6.5).
 -- A part of a VTIMEZONE, STANDARD or DAYLIGHT, is its content lines here.
-use Rattle.std.specs.Prelude.{◌≡◌, ℕ, ◌<◌, true, ◌==◌, Contains, List, [], ◌∷◌, codes, Option, Some, None, ℤ, ◌-ℤ◌}
+use Rattle.std.specs.Prelude.{◌≡◌, ◌↔◌, ℕ, ◌<◌, ◌≤◌, true, ◌==◌, Contains, List, [], ◌∷◌, ◌++◌, length, map, codes, Option, Some, None, ℤ, ◌+ℤ◌, ◌-ℤ◌, ◌≤ℤ◌}
 use Rattle.std.specs.List.{AllZip, flat_map, slice_split}
 use Rattle.profile.specs.text.Lines.{line_value, line_param}
 use Rattle.profile.specs.text.Trees.{Tree}
 use Rattle.profile.specs.text.Values.{SpellsLocal}
 use Rattle.profile.specs.events.Properties.{Says, SomeLine, IsMissing, OccursMoreThanOnce, lines_named, is_date_time}
-use Rattle.profile.specs.series.Rules.{RuleText, Until, UntilDay, UntilLocal, UntilInstant}
+use Rattle.profile.specs.series.Rules.{RuleText, Until, UntilDay, UntilLocal, UntilInstant, on_day_of_start, rule_of, rule_days_from, last_rule_day}
 use Rattle.profile.specs.series.RuleTexts.{SpellsRule}
 use Rattle.profile.specs.series.Zones.{Observance, local_time}
 use Rattle.profile.specs.series.ZoneTexts.{parts_by, is_part, IsLocalLine, IsOffsetLine, YearRule, year_pattern, is_one_day, time_names, IsFixedLine, IsNoLocalLine, IsNoOffsetLine}
@@ -75,35 +75,57 @@ pub record EndingRule : Type 0 where
   pub each : YearRule
   pub end : End
 
--- the text is such a rule
-pub record SpellsEnding (from : ℤ) (text : List ℕ) (r : EndingRule) : Type 0 where
+-- the text is such a rule, in a part with these times
+pub record SpellsEnding (o : Observance) (text : List ℕ) (r : EndingRule) : Type 0 where
   pub rule : RuleText
   pub spelled : SpellsRule text rule
-  pub one_day : is_one_day (without_end rule) r.each ≡ true
-  pub ends : IsEndOf from rule.count rule.until r.end
+  pub one_day : is_one_day (without_end (on_day_of_start o.day rule)) r.each ≡ true
+  pub ends : IsEndOf o.offset_from rule.count rule.until r.end
 
-abbrev pub IsEndingLine : ℤ → List ℕ → EndingRule → Type 0
-IsEndingLine from line r = SpellsEnding from (line_value line) r
+abbrev pub IsEndingLine : Observance → List ℕ → EndingRule → Type 0
+IsEndingLine o line r = SpellsEnding o (line_value line) r
+
+-- the last day on which an end allows an onset at the second of DTSTART, read with TZOFFSETFROM. One that never comes allows no last day
+abbrev pub IsLastOnsetDay : Observance → End → ℕ → Type 0
+IsLastOnsetDay o Never last = ⊥
+IsLastOnsetDay o (AfterCount count) last = last ≡ last_rule_day
+IsLastOnsetDay o (AtInstant until) last = (day : ℕ) → (local_time day o.second ≤ℤ (until +ℤ o.offset_from)) ↔ (day ≤ last)
+
+-- the text is a rule that ends, of whatever form, and these are its days from DTSTART on (RFC 5545 3.3.10), at most 200, this profile's choice
+pub record SpellsDays (o : Observance) (text : List ℕ) (days : List ℕ) : Type 0 where
+  pub rule : RuleText
+  pub spelled : SpellsRule text rule
+  pub end : End
+  pub ends : IsEndOf o.offset_from rule.count rule.until end
+  pub last : ℕ
+  pub allowed : IsLastOnsetDay o end last
+  pub listed : days ≡ rule_days_from (rule_of (on_day_of_start o.day rule) o.day last) o.day
+  pub few : length days ≤ 200
+
+abbrev pub IsDaysLine : Observance → List ℕ → List ℕ → Type 0
+IsDaysLine o line days = SpellsDays o (line_value line) days
 
 -- ---- what a part says
 
--- the first run of a part with these times: at DTSTART alone, or by its one RRULE
-pub data IsFirstRun (lines : List (List ℕ)) (o : Observance) : Run → Type 0 where
-  once : IsMissing (codes "RRULE") lines → o.rule ≡ None → IsFirstRun lines o (record { observance = o; end = Never })
-  yearly : (r : EndingRule) → Says (codes "RRULE") true (IsEndingLine o.offset_from) lines (Some r) → o.rule ≡ Some (year_pattern r.each o.day)
-      → IsFirstRun lines o (record { observance = o; end = r.end })
+-- the first runs of a part with these times: at DTSTART alone, or by its one RRULE, which is of one day a year, or whose days are listed
+pub data AreFirstRuns (lines : List (List ℕ)) (o : Observance) : List Run → Type 0 where
+  once : IsMissing (codes "RRULE") lines → o.rule ≡ None → AreFirstRuns lines o (record { observance = o; end = Never } ∷ [])
+  yearly : (r : EndingRule) → Says (codes "RRULE") true (IsEndingLine o) lines (Some r) → o.rule ≡ Some (year_pattern r.each o.day)
+      → AreFirstRuns lines o (record { observance = o; end = r.end } ∷ [])
+  listed : (days : List ℕ) (runs : List Run) → Says (codes "RRULE") true (IsDaysLine o) lines (Some days)
+      → AllZip (IsRunAt o) (map (λ day. local_time day o.second) days) runs → AreFirstRuns lines o runs
 
 -- its runs
 pub record SaysRuns (lines : List (List ℕ)) (runs : List Run) : Type 0 where
   pub o : Observance
   pub times : SaysTimes lines o
-  pub first : Run
-  pub is_first : IsFirstRun lines o first
+  pub firsts : List Run
+  pub are_first : AreFirstRuns lines o firsts
   pub dates : List ℤ
   pub says_dates : SaysDates lines dates
   pub others : List Run
   pub at_dates : AllZip (IsRunAt o) dates others
-  pub all : runs ≡ first ∷ others
+  pub all : runs ≡ firsts ++ others
 
 -- ---- what a VTIMEZONE says: the runs of its parts, of which there is one at least
 
@@ -122,9 +144,9 @@ SaysGeneralZone t runs = PartsSayRuns (parts_by is_part t) runs
 abbrev pub IsNoDatesLine : List ℕ → Type 0
 IsNoDatesLine line = (dates : List ℤ) → IsDatesLine line dates → ⊥
 
--- the text spells no rule, or one that isn't of one day a year, or has a date for its end
-abbrev pub SpellsNoEnding : ℤ → List ℕ → Type 0
-SpellsNoEnding from text = (r : EndingRule) → SpellsEnding from text r → ⊥
+-- the text spells no rule, or one that a date ends; or it isn't of one day a year, and doesn't end or has more days than are listed
+abbrev pub SpellsNoOnsets : Observance → List ℕ → Type 0
+SpellsNoOnsets o text = ((r : EndingRule) → SpellsEnding o text r → ⊥) × ((days : List ℕ) → SpellsDays o text days → ⊥)
 
 -- what is wrong with a part
 pub data RunsFault (lines : List (List ℕ)) : ℕ → Type 0 where
@@ -136,8 +158,7 @@ pub data RunsFault (lines : List (List ℕ)) : ℕ → Type 0 where
   bad_to : SomeLine (codes "TZOFFSETTO") IsNoOffsetLine lines → RunsFault lines 13
   bad_date : SomeLine (codes "RDATE") IsNoDatesLine lines → RunsFault lines 40
   two_rules : OccursMoreThanOnce (codes "RRULE") lines → RunsFault lines 40
-  bad_rule : (from : ℤ) → Says (codes "TZOFFSETFROM") true IsOffsetLine lines (Some from)
-      → SomeLine (codes "RRULE") (λ line. SpellsNoEnding from (line_value line)) lines → RunsFault lines 40
+  bad_rule : (o : Observance) → SaysTimes lines o → SomeLine (codes "RRULE") (λ line. SpellsNoOnsets o (line_value line)) lines → RunsFault lines 40
 
 -- what is wrong with the parts
 pub data GeneralPartsFault (parts : List (List (List ℕ))) : ℕ → Type 0 where

@@ -134,6 +134,26 @@ abbrev pub weekdays_meant : Pattern → List WeekdayNumber
 weekdays_meant p =
     if implies_weekday p then record { number = pos 0; weekday = weekday_of p.start } ∷ [] else p.weekdays
 
+-- the text of a YEARLY rule with BYMONTH that names no day
+abbrev pub leaves_day_to_start : RuleText → Bool
+leaves_day_to_start t =
+    is_yearly t.frequency && not (is_missing t.months) && is_missing t.month_days && is_missing t.weekdays
+
+-- the same rule, with the month day of DTSTART written out where such a text implies it
+abbrev pub on_day_of_start : ℕ → RuleText → RuleText
+on_day_of_start start t =
+    if leaves_day_to_start t then record {
+      frequency = t.frequency;
+      interval = t.interval;
+      week_start = t.week_start;
+      months = t.months;
+      month_days = pos (suc (month_days_before start)) ∷ [];
+      weekdays = t.weekdays;
+      positions = t.positions;
+      count = t.count;
+      until = t.until;
+    } else t
+
 -- WHAT A TEXT MAY SAY
 
 -- n is 1 to the most, or -1 to minus the most

@@ -18,8 +18,5 @@ pub adapt_object-requires-clause-uses : goal.adapt_object-requires-clause-uses
 adapt_object-requires-clause-uses c =
     of_some _ c.in-Some-3.uses (λ u. AreUses (tree_of c.in-Some-2.object) u.entries) c.in-Some-3.is c.in_ok-uses.ensures
 
-pub adapt_object-requires-clause-listed : goal.adapt_object-requires-clause-listed
-adapt_object-requires-clause-listed c = c.requires
-
 pub returns : goal.returns
 returns c = c.adapt_object.ensures

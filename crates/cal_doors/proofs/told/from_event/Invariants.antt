@@ -1,0 +1,7 @@
+use Rattle.std.proofs.Common.{◌≡◌}
+use Rattle.cal_doors.specs.Told.{events_among}
+use Rattle.cal_doors.proofs.told.from_event.Given as goal
+
+-- what was passed has no VEVENT
+abbrev pub invariant-while-let : goal.invariant-while-let
+invariant-while-let l = events_among l.left ≡ events_among l.fn.components
