@@ -91,7 +91,9 @@ fn single(
     whole: &Component,
     event: &Component,
     zones: &NamedZones<'_, '_>,
-) -> Result<Vec<u8>, AllocError> {
+) -> Result<Vec<u8>, AllocError>
+    requires { AreNamed zones.now }
+{
     let mut out = Vec::new(alloc);
     write_property(&mut out, "BEGIN", whole.name())?;
     write_lines(whole, &mut out)?;

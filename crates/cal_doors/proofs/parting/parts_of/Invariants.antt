@@ -8,5 +8,5 @@ use Rattle.cal_doors.proofs.parting.parts_of.Given as goal
 -- what comes for those that are left makes it an object for each
 abbrev pub invariant-loop-child : goal.invariant-loop-child
 invariant-loop-child l =
-    (more : List (List ℕ)) → AllZip (IsSingleOf (tree_of l.whole)) (events_among (drop l.child-index l.child-items)) more
+    (more : List (List ℕ)) → AllZip (IsSingleOf (tree_of l.whole)) (events_among (drop l.child-index (component_children l.whole))) more
     → AllZip (IsSingleOf (tree_of l.whole)) (events_among (component_children l.whole)) (map (λ part. part.items) l.parts.items ++ more)

@@ -3,5 +3,5 @@ use Rattle.cal_doors.specs.Told.{events_among}
 use Rattle.cal_doors.proofs.told.from_event.Given as goal
 
 -- what was passed has no VEVENT
-abbrev pub invariant-while-let : goal.invariant-while-let
-invariant-while-let l = events_among l.left ≡ events_among l.fn.components
+abbrev pub invariant-loop-left : goal.invariant-loop-left
+invariant-loop-left l = events_among l.left ≡ events_among l.fn.components
