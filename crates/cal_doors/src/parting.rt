@@ -57,12 +57,13 @@ fn parts_of(
 {
     let mut parts = Vec::new(alloc);
     for child in whole.children() {
-        if child.is_named("VEVENT") {
-            let Some(part) = part_of(alloc, whole, child, zones)? else {
-                return Ok(None);
-            };
-            parts.push(part)?;
+        if !child.is_named("VEVENT") {
+            continue;
         }
+        let Some(part) = part_of(alloc, whole, child, zones)? else {
+            return Ok(None);
+        };
+        parts.push(part)?;
     }
     Ok(Some(parts))
 }
@@ -146,14 +147,16 @@ fn is_single(
 }
 
 /// Whether components have one VEVENT among them, with the lines of this one.
-#[tactic(auto, using(crate::proofs::ToldEvents::first_of, crate::proofs::ToldEvents::none_of))]
 fn is_only_event(components: &[Component], event: &Component) -> bool
     ensures { result ≡ true → events_among components.now ≡ component_lines event.now ∷ [] }
 {
     let [only, later @ ..] = from_event(components) else {
         return false;
     };
-    only.has_same_lines(event) && from_event(later).is_empty()
+    if !only.has_same_lines(event) {
+        return false;
+    }
+    from_event(later).is_empty()
 }
 
 /// Whether each name of a zone in lines of times means the same VTIMEZONE in both.
