@@ -1,6 +1,6 @@
 -- The VEVENTs among components, while these are gone through.
 use Rattle.std.proofs.Common.{◌≡◌, ◌∙◌, ℕ, ◌<◌, Bool, true, false, cond, List, [], ◌∷◌, ◌++◌, ◌+◌, map, filter, drop, length, get_or, sym, refl, ap, subst}
-use Rattle.std.specs.Prelude.{Contains, All}
+use Rattle.std.specs.Prelude.{Contains, All, Vec}
 use Rattle.std.specs.List.{AllZip}
 use Rattle.std.proofs.lemmas.List.Elements.{All-nil, All-cons, All-head, All-tail, All-weaker, All-get_or, All-contains_itself, All-contains}
 use Rattle.ical_tree.specs.declared.component.Component.{Component}
@@ -99,30 +99,33 @@ module _ (R : Event → Event → Type 0) where
 pub child_at : (items all : List Component) (i : ℕ) (c : Component) → items ≡ all → i < length items → c ≡ get_or items i c → drop i all ≡ c ∷ drop (i + 1) all
 child_at items all i c same w is = subst (λ l. drop i l ≡ c ∷ drop (i + 1) l) same (at_place items i c w is)
 
-module _ {V : Type 0} (f : V → List ℕ) (R : Event → List ℕ → Type 0) (all : List Event) where
+module _ {Z : Type 0} (R : Event → List ℕ → Type 0) (all : List Event) where
+  abbrev octets_each : List (Vec ℕ Z) → List (List ℕ)
+  octets_each made = map (λ part. part.items) made
+
   -- what comes for those that are left makes it one for each
-  abbrev pub MadeSofar : List Component → List V → Type 0
-  MadeSofar rest made = (more : List (List ℕ)) → AllZip R (events_among rest) more → AllZip R all (map f made ++ more)
+  abbrev pub MadeSofar : List Component → List (Vec ℕ Z) → Type 0
+  MadeSofar rest made = (more : List (List ℕ)) → AllZip R (events_among rest) more → AllZip R all (octets_each made ++ more)
 
-  pub none_made : (rest : List Component) (made : List V) → made ≡ [] → events_among rest ≡ all → MadeSofar rest made
-  none_made rest made none is more h = subst (λ m. AllZip R all (map f m ++ more)) (sym none) (subst (λ l. AllZip R l more) is h)
+  pub none_made : (rest : List Component) (made : List (Vec ℕ Z)) → made ≡ [] → events_among rest ≡ all → MadeSofar rest made
+  none_made rest made none is more h = subst (λ m. AllZip R all (octets_each m ++ more)) (sym none) (subst (λ l. AllZip R l more) is h)
 
-  mapped : (old : List V) (v : V) (more : List (List ℕ)) → map f (old ++ v ∷ []) ++ more ≡ map f old ++ f v ∷ more
+  mapped : (old : List (Vec ℕ Z)) (v : Vec ℕ Z) (more : List (List ℕ)) → octets_each (old ++ v ∷ []) ++ more ≡ octets_each old ++ v.items ∷ more
   mapped [] v more = refl
-  mapped (x ∷ old) v more = ap (λ l. f x ∷ l) (mapped old v more)
+  mapped (x ∷ old) v more = ap (λ l. x.items ∷ l) (mapped old v more)
 
-  pub one_made : (rest later : List Component) (c : Component) (old new : List V) (v : V) → rest ≡ c ∷ later → is_event c ≡ true → new ≡ old ++ v ∷ [] → R (component_lines c) (f v)
+  pub one_made : (rest later : List Component) (c : Component) (old new : List (Vec ℕ Z)) (v : Vec ℕ Z) → rest ≡ c ∷ later → is_event c ≡ true → new ≡ old ++ v ∷ [] → R (component_lines c) (v.items)
       → MadeSofar rest old → MadeSofar later new
   one_made rest later c old new v is event made r sofar more h =
-      subst (λ m. AllZip R all (map f m ++ more)) (sym made) (subst (AllZip R all) (sym (mapped old v more))
-      (sofar (f v ∷ more) (subst (λ l. AllZip R l (f v ∷ more)) (sym (ap events_among is ∙ event_first c later event)) (r, h))))
+      subst (λ m. AllZip R all (octets_each m ++ more)) (sym made) (subst (AllZip R all) (sym (mapped old v more))
+      (sofar (v.items ∷ more) (subst (λ l. AllZip R l (v.items ∷ more)) (sym (ap events_among is ∙ event_first c later event)) (r, h))))
 
-  pub other_made : (rest later : List Component) (c : Component) (made : List V) → rest ≡ c ∷ later → is_event c ≡ false → MadeSofar rest made → MadeSofar later made
+  pub other_made : (rest later : List Component) (c : Component) (made : List (Vec ℕ Z)) → rest ≡ c ∷ later → is_event c ≡ false → MadeSofar rest made → MadeSofar later made
   other_made rest later c made is other sofar more h = sofar more (subst (λ l. AllZip R l more) (sym (ap events_among is ∙ other_first c later other)) h)
 
   unended : (xs : List (List ℕ)) → xs ++ [] ≡ xs
   unended [] = refl
   unended (x ∷ xs) = ap (λ l. x ∷ l) (unended xs)
 
-  pub all_made : (rest : List Component) (made : List V) → rest ≡ [] → MadeSofar rest made → AllZip R all (map f made)
-  all_made rest made none sofar = subst (AllZip R all) (unended (map f made)) (sofar [] (subst (λ l. AllZip R l []) (sym (ap events_among none)) tt))
+  pub all_made : (rest : List Component) (made : List (Vec ℕ Z)) → rest ≡ [] → MadeSofar rest made → AllZip R all (octets_each made)
+  all_made rest made none sofar = subst (AllZip R all) (unended (octets_each made)) (sofar [] (subst (λ l. AllZip R l []) (sym (ap events_among none)) tt))

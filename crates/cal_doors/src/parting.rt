@@ -24,7 +24,6 @@ use std::alloc::{AllocError, Global};
 
 /// The VEVENTs of an object, each in an object of its own: with the own lines of the object, and with the VTIMEZONEs that it names. None where there
 /// aren't at least two, or it is no object within the limits of a message. What is made is read again, and handed on only if it is right.
-#[tactic(auto, using(crate::proofs::ToldRight::split_right))]
 pub fn split(alloc: Global, octets: &[u8]) -> Result<Option<Vec<Vec<u8>>>, AllocError>
     ensures { IfOk result (λ found. IfSome found (λ parts. IsSplit octets.now (map (λ part. part.items) parts.items))) }
 {
@@ -120,7 +119,6 @@ fn names_of(alloc: Global, event: &Component) -> Result<Names, AllocError> {
 }
 
 /// Whether octets are an object of one VEVENT, with the own lines of another object, where each name means the same VTIMEZONE.
-#[tactic(auto, using(crate::proofs::ToldRight::single_right))]
 fn is_single(
     alloc: Global,
     octets: &[u8],
@@ -139,11 +137,10 @@ fn is_single(
         return Ok(false);
     };
     let its = NamedZones::of(alloc, &part)?;
-    Ok(
-        part.has_same_lines(whole)
-            && is_only_event(part.children(), event)
-            && have_same_zones(event.lines(), &its, zones),
-    )
+    if !part.has_same_lines(whole) || !is_only_event(part.children(), event) {
+        return Ok(false);
+    }
+    Ok(have_same_zones(event.lines(), &its, zones))
 }
 
 /// Whether components have one VEVENT among them, with the lines of this one.

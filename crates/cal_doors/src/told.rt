@@ -22,7 +22,6 @@ use ical_tree::{Component, OwnLines};
 use std::alloc::{AllocError, Global};
 
 /// Whether octets are an answer told in other words: with its lines, those of its VEVENTs told so, and with the zones that these name.
-#[tactic(auto, using(crate::proofs::ToldRight::told_right))]
 pub(crate) fn is_told(
     alloc: Global,
     octets: &[u8],
@@ -44,11 +43,11 @@ pub(crate) fn is_told(
         return Ok(false);
     };
     let zones = NamedZones::of(alloc, &given)?;
-    Ok(
-        given.has_same_lines(told)
-            && are_told(told.children(), given.children(), words)
-            && have_zones(given.children(), &zones, asked, read),
-    )
+    let events = given.children();
+    if !given.has_same_lines(told) || !are_told(told.children(), events, words) {
+        return Ok(false);
+    }
+    Ok(have_zones(events, &zones, asked, read))
 }
 
 /// Whether the VEVENTs among components are told by those among others.

@@ -7,4 +7,4 @@ use Rattle.cal_doors.proofs.parting.parts_of.Given as goal
 -- what comes for those that are left makes it an object for each
 abbrev pub invariant-loop-child : goal.invariant-loop-child
 invariant-loop-child l =
-    MadeSofar (λ part. part.items) (IsSingleOf (tree_of l.whole)) (events_among (component_children l.whole)) (drop l.child-index (component_children l.whole)) l.parts.items
+    MadeSofar (IsSingleOf (tree_of l.whole)) (events_among (component_children l.whole)) (drop l.child-index (component_children l.whole)) l.parts.items
