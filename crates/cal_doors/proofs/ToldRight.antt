@@ -1,6 +1,6 @@
 -- What was read again and compared is right.
-use Rattle.std.proofs.Common.{◌≡◌, ◌∙◌, ◌⊎◌, inl, inr, ℕ, Bool, true, List, [], ◌∷◌, suc, sym, refl, ap, subst, arith}
-use Rattle.std.specs.Prelude.{Contains, Option, Some}
+use Rattle.std.proofs.Common.{◌≡◌, ◌∙◌, inl, inr, ℕ, true, List, [], ◌∷◌, sym, subst}
+use Rattle.std.specs.Prelude.{Contains, Option}
 use Rattle.std.specs.List.{AllZip}
 use Rattle.profile.specs.text.Lines.{logical_lines, reads_as_lines}
 use Rattle.profile.specs.text.Objects.{IsObject}
@@ -14,7 +14,7 @@ use Rattle.ical_tree.specs.Tree.{component_lines, component_children, tree_of}
 use Rattle.ical_tree.proofs.TreeOfLemmas.{tree_of-own}
 use Rattle.cal_doors.proofs.UsesEvents.{events_are}
 use Rattle.cal_doors.proofs.ToldWords.{alone}
-use Rattle.cal_doors.specs.Told.{events_among, HasItsZone, IsTold, IsAnswered, IsReturnedBy, IsSingle, IsSingleOf}
+use Rattle.cal_doors.specs.Told.{events_among, HasItsZone, IsTold, IsAnswered, IsReturnedBy, IsSingleOf}
 
 -- octets that were read as an object
 pub object_there : (octets : List ℕ) (text : List (List ℕ)) (object : Component) → text ≡ logical_lines octets → reads_as_lines true octets ≡ true → IsObject true (tree_of object) text

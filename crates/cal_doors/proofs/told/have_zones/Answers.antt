@@ -1,4 +1,4 @@
-use Rattle.std.proofs.Common.{◌≡◌, ◌∙◌, sym, subst, ℕ, List, ◌+◌, drop}
+use Rattle.std.proofs.Common.{◌∙◌, sym, subst, ℕ, List, ◌+◌, drop}
 use Rattle.std.proofs.lemmas.List.{drop_all}
 use Rattle.std.proofs.lemmas.List.Elements.{All-contains}
 use Rattle.ical_tree.specs.Tree.{tree_of}

@@ -1,4 +1,4 @@
-use Rattle.std.proofs.Common.{◌≡◌, ◌∙◌, sym}
+use Rattle.std.proofs.Common.{◌∙◌, sym}
 use Rattle.cal_doors.proofs.told.is_told_line.Goals.{then-is_kept, else-is_kept}
 use Rattle.cal_doors.proofs.told.is_told_line.Goals as goal
 
