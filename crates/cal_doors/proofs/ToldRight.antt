@@ -92,12 +92,15 @@ pub single_right : (whole part event : Component) (octets : List ℕ) (text : Li
     → IsObject true (tree_of part) text → component_lines part ≡ component_lines whole → events_among (component_children part) ≡ component_lines event ∷ []
     → ((name line : List ℕ) → IsLineIn name (component_lines event) line → zone_named name (tree_of part) ≡ zone_named name (tree_of whole))
     → IsSingleOf (tree_of whole) (component_lines event) octets
-single_right whole part event octets text lines reads spelled own only zones =
-    (tree_of part, object_there octets text part lines reads spelled, record {
-      only = events_are part ∙ only;
-      own = same_own part whole own;
-      zones = λ name (ls, line, c, is). zones name line (subst (λ l. IsLineIn name l line) (sym (alone (component_lines event) ls (subst (λ l. Contains l ls) (events_are part ∙ only) c))) is);
-    })
+single_right whole part event octets text lines reads spelled own only zones = (
+  tree_of part,
+  object_there octets text part lines reads spelled,
+  record {
+    only = events_are part ∙ only;
+    own = same_own part whole own;
+    zones = λ name (ls, line, c, is). zones name line (subst (λ l. IsLineIn name l line) (sym (alone (component_lines event) ls (subst (λ l. Contains l ls) (events_are part ∙ only) c))) is);
+  },
+)
 
 abbrev Fits : Tree → List (List ℕ) → Tree → Type 0
 Fits object lines part = (vevents part ≡ lines ∷ []) × (tree_own part ≡ tree_own object)
