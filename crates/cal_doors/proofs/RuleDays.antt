@@ -36,11 +36,11 @@ pub some_start : (start from to : ℤ) → IsClockSeconds start → HasStart sta
 some_start start from to range = record { start_there = omega (arith, signed_arith, range, one_part (start +ℤ pos 62_167_219_200)); second = omega arith; before = refl }
 
 -- its day and its second
-pub day_is : (start from z : ℤ) (s : ℕ) (o : Observance) → IsClockSeconds start → s < 86_400 → start ≡ (z *ℤ pos 86_400) +ℤ pos s → HasStart start from o → day_index z ≡ o.day
-day_is start from z s o range w sum has = let e = has.start_there in let v = has.second in omega (arith, signed_arith, range, w, sum, e, v, one_part (z +ℤ pos 719_528))
+pub day_is : (start from z : ℤ) (s : ℕ) (o : Observance) → s < 86_400 → start ≡ (z *ℤ pos 86_400) +ℤ pos s → HasStart start from o → day_index z ≡ o.day
+day_is start from z s o w sum has = let e = has.start_there in let v = has.second in omega (arith, signed_arith, w, sum, e, v, one_part (z +ℤ pos 719_528))
 
-pub second_is : (start from z : ℤ) (s : ℕ) (o : Observance) → IsClockSeconds start → s < 86_400 → start ≡ (z *ℤ pos 86_400) +ℤ pos s → HasStart start from o → s ≡ o.second
-second_is start from z s o range w sum has = let e = has.start_there in let v = has.second in omega (arith, signed_arith, range, w, sum, e, v, one_part (z +ℤ pos 719_528))
+pub second_is : (start from z : ℤ) (s : ℕ) (o : Observance) → s < 86_400 → start ≡ (z *ℤ pos 86_400) +ℤ pos s → HasStart start from o → s ≡ o.second
+second_is start from z s o w sum has = let e = has.start_there in let v = has.second in omega (arith, signed_arith, w, sum, e, v, one_part (z +ℤ pos 719_528))
 
 -- ---- ends
 
