@@ -1,19 +1,21 @@
 -- What the readers of a part of a VTIMEZONE in general say, put together.
 use Rattle.std.proofs.Common.{not, map, Bool, ◌≡◌, ◌∙◌, ap, sym, refl, subst, inl, inr, ℕ, true, false, cond, ◌==◌, List, [], ◌∷◌, ◌++◌, length, codes, arith, append_assoc, append-nil, ℤ, Some, None}
-use Rattle.std.specs.Prelude.{Contains}
-use Rattle.std.specs.List.{AllZip, flat_map, slice_split}
+use Rattle.std.specs.Prelude.{Contains, nat_le}
+use Rattle.std.specs.List.{AllZip, flat_map, slice_split, list_all}
 use Rattle.std.proofs.lemmas.Bool.{false≢true}
 use Rattle.std.proofs.lemmas.List.{map-append}
 use Rattle.std.proofs.lemmas.List.Elements.{Contains-append_right}
 use Rattle.profile.specs.text.Lines.{line_value}
 use Rattle.profile.specs.text.Values.{SpellsLocal, IsClockSeconds}
 use Rattle.profile.specs.events.Properties.{is_of, lines_named, OccursAtMostOnce, IsMissing, Says}
-use Rattle.profile.specs.series.Rules.{is_missing}
+use Rattle.profile.specs.series.Rules.{is_missing, on_day_of_start}
 use Rattle.profile.specs.series.Zones.{Observance, local_time}
 use Rattle.profile.specs.series.ZoneTexts.{IsLocalLine, IsOffsetLine, time_names}
 use Rattle.profile.specs.series.GeneralZones.{End, Never, Run}
-use Rattle.profile.specs.series.GeneralZoneTexts.{IsRunAt, IsDatesLine, SaysDates, SaysTimes, SpellsEnding, SpellsDays, IsEndingLine, IsDaysLine, AreFirstRuns, SaysRuns, PartsSayRuns, RunsFault, once, yearly, listed, missing, twice, fixed, bad_start, bad_from, bad_to, bad_rule}
+use Rattle.profile.specs.series.GeneralZoneTexts.{without_end, IsRunAt, IsDatesLine, SaysDates, SaysTimes, SpellsEnding, SpellsDays, IsEndingLine, IsDaysLine, AreFirstRuns, SaysRuns, PartsSayRuns, RunsFault, once, yearly, listed, missing, twice, fixed, bad_start, bad_from, bad_to, bad_rule}
 use Rattle.cal_zones.specs.Read.{StartFault, IsNotOnce, OffsetFault}
+use Rattle.cal_zones.specs.Shapes.{occurs_yearly}
+use Rattle.cal_zones.proofs.Named.{one_day_parts}
 use Rattle.cal_zones.proofs.Reading.{said}
 use Rattle.ical_tree.proofs.OneLine.{the_line}
 use Rattle.cal_doors.specs.Ends.{end_of}
@@ -22,7 +24,7 @@ use Rattle.cal_doors.specs.Runs.{run_of, runs_in, IsYearlyRun}
 use Rattle.cal_doors.specs.Reading.{ending_of, SpellsNoRuleOf, AreTimes, HasTimes, AddsFirst, AddsYearly, AddsDays, AreRunsAt, AddsRuns, AddsLine, AddsDates, AddsPart, DateFault, LineFault, DatesFault}
 use Rattle.cal_doors.specs.declared.run.Run as kept
 use Rattle.cal_doors.specs.declared.rule.EndingRule.{EndingRule}
-use Rattle.cal_doors.proofs.RuleDays.{starting, some_start}
+use Rattle.cal_doors.proofs.RuleDays.{starting, some_start, said_bound}
 
 abbrev Lines : Type 0
 Lines = List (List ℕ)
@@ -101,6 +103,17 @@ module _ (lines : Lines) (start from to : ℤ) where
         are_first = listed days added.more (said (IsDaysLine o) (codes "RRULE") lines line days there (spelled o times.begins)) (added.at_dates o refl refl);
         behind = added.behind;
       }
+
+  -- the day of its rule is one of every year
+  pub each_year : (line : List ℕ) (rule : EndingRule) → IsClockSeconds start → ((o : Observance) → HasStart start from o → SpellsEnding o line (ending_of rule)) → occurs_yearly rule.day.month rule.day.days ≡ true
+  each_year line rule range spelled =
+      let o = starting start from to in
+      let says = spelled o (some_start start from to range) in
+      (one_day_parts (without_end (on_day_of_start o.day says.rule)) (ending_of rule).each says.one_day).each
+
+  -- none of its days is after year 9999
+  pub days_bound : (line days : List ℕ) → IsClockSeconds start → ((o : Observance) → HasStart start from o → SpellsDays o line days) → list_all (λ day. nat_le day 3_652_424) days ≡ true
+  days_bound line days range spelled = said_bound (starting start from to) line days (spelled (starting start from to) (some_start start from to range))
 
   -- its rule is none
   pub rule_fault : (line : List ℕ) → IsClockSeconds start → AreTimes lines start from to → OccursAtMostOnce (codes "RRULE") lines (Some line) → SpellsNoRuleOf start from (line_value line) → RunsFault lines 40

@@ -1,5 +1,5 @@
 -- The rule of a part of a VTIMEZONE: its end, and the days that it lists.
-use Rattle.std.proofs.Common.{append_assoc, append-nil, ◌≡◌, ◌∙◌, ap, sym, refl, subst, inl, inr, arith, ℕ, ◌+◌, ◌-◌, ◌*◌, ◌/◌, ◌%◌, ◌<◌, ◌≤◌, Bool, true, false, cond, ◌&&◌, List, [], ◌∷◌, ◌++◌, length, map, filter, ℤ, pos, negsuc, ◌+ℤ◌, ◌-ℤ◌, ◌*ℤ◌, ◌≤ℤ◌, unsigned_abs, to_z, of_z, w32, w64}
+use Rattle.std.proofs.Common.{get_or, zero, suc, append_assoc, append-nil, ◌≡◌, ◌∙◌, ap, sym, refl, subst, inl, inr, arith, ℕ, ◌+◌, ◌-◌, ◌*◌, ◌/◌, ◌%◌, ◌<◌, ◌≤◌, Bool, true, false, cond, ◌&&◌, List, [], ◌∷◌, ◌++◌, length, map, filter, ℤ, pos, negsuc, ◌+ℤ◌, ◌-ℤ◌, ◌*ℤ◌, ◌≤ℤ◌, unsigned_abs, to_z, of_z, w32, w64}
 use Rattle.std.specs.Prelude.{Option, Some, None, nat_le}
 use Rattle.std.specs.Int.Signed.{◌<ℤ◌}
 use Rattle.std.specs.List.{list_all, range_with_len}
@@ -130,6 +130,11 @@ pub record IsRuleOf (start from : ℤ) (text : List ℕ) (first : ℕ) (rule : R
   pub spelled : SpellsRule text spelled_rule
   pub on_day : rule ≡ on_day_of_start first spelled_rule
   pub here : (o : Observance) → HasStart start from o → first ≡ o.day
+
+pub rule_read : (start from : ℤ) (text : List ℕ) (z : ℤ) (second : ℕ) (rule spelled : RuleText) → IsOneRule → SpellsRule text spelled → rule ≡ on_day_of_start (day_index z) spelled
+    → second < 86_400 → start ≡ (z *ℤ pos 86_400) +ℤ pos second → IsRuleOf start from text (day_index z) rule
+rule_read start from text z second rule spelled one says on_day w sum =
+    record { spelled_rule = spelled; one = one; spelled = says; on_day = on_day; here = λ o has. day_is start from z second o w sum has }
 
 module _ (start from : ℤ) (text : List ℕ) (first : ℕ) (rule : RuleText) (is : IsRuleOf start from text first rule) where
   -- what is said of the end of the one is said of the other's
@@ -271,6 +276,20 @@ days_bound r from = all_pass (is_rule_day r) (λ day. nat_le day 3_652_424) _ (d
 
 pub said_bound : (o : Observance) (text days : List ℕ) → SpellsDays o text days → list_all (λ day. nat_le day 3_652_424) days ≡ true
 said_bound o text days s = subst (λ (l : List ℕ). list_all (λ day. nat_le day 3_652_424) l ≡ true) (sym s.listed) (days_bound _ o.day)
+
+-- one of some days isn't either
+pub bound_at : (days : List ℤ) (i : ℕ) (day : ℤ) → i < length days → day ≡ get_or days i day → list_all (λ n. nat_le n 3_652_424) (map day_index days) ≡ true → day_index day ≤ 3_652_424
+bound_at [] i day w e h = absurd (omega (arith, w))
+bound_at (x ∷ xs) zero day w e h =
+    let here : nat_le (day_index x) 3_652_424 ≡ true = (and_parts (nat_le (day_index x) 3_652_424) (list_all (λ n. nat_le n 3_652_424) (map day_index xs)) h).0 in
+    let low : day_index x ≤ 3_652_424 = grind (arith, nat_tests) in
+    rw e low
+bound_at (x ∷ xs) (suc i) day w e h =
+    bound_at xs i day (omega (arith, w)) e (and_parts (nat_le (day_index x) 3_652_424) (list_all (λ n. nat_le n 3_652_424) (map day_index xs)) h).1
+
+-- the seconds of a second of one
+pub in_years : (day second : ℕ) → 366 ≤ day → day ≤ 3_652_424 → second < 86_400 → IsClockSeconds (local_time day second)
+in_years day second low high w = (omega (arith, signed_arith, low, high, w), omega (arith, signed_arith, low, high, w))
 
 -- ---- what a text says, by the last day
 

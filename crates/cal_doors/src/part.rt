@@ -19,7 +19,7 @@ use cal_days::Day;
 use cal_zones::{read_local, read_offset};
 use ical_lines::{Fault, Line, Refusal};
 use ical_tree::{Component, Properties};
-use ical_values::{LocalTime, UtcOffset};
+use ical_values::{LocalTime, UtcOffset, seconds_at};
 use std::alloc::{AllocError, Global};
 
 /// Whether a component is a part.
@@ -78,6 +78,8 @@ fn add_first(
         runs.push(Run::once(times.start, times.from, times.to))?;
         return Ok(());
     };
+    // Only for the proof: DTSTART is in the calendar's years.
+    let _ = times.start.seconds();
     match read_rule(alloc, line.value(), times.start, times.from)? {
         PartRule::Yearly(rule) => add_yearly(rule, times, runs)?,
         PartRule::Listed(days) => add_days(days.as_slice(), times, runs)?,
@@ -102,7 +104,7 @@ fn add_days(days: &[Day], times: &Times, runs: &mut Vec<Run>) -> Result<(), Allo
 {
     let (_, second) = times.start.day_and_second();
     for day in days {
-        let local = LocalTime::of_day(*day, second).unwrap();
+        let local = LocalTime::of_seconds(seconds_at(day.index(), second)).unwrap();
         runs.push(Run::once(local, times.from, times.to))?;
     }
     Ok(())

@@ -10,20 +10,14 @@ use Rattle.profile.specs.series.GeneralZoneTexts.{IsEndOf}
 use Rattle.cal_doors.specs.Ends.{end_of}
 use Rattle.cal_doors.specs.Reading.{SpellsNoRuleOf, AreNoDaysTo, AreDaysTo, ending_of}
 use Rattle.cal_doors.specs.declared.end.End as rust
-use Rattle.cal_doors.proofs.RuleDays.{IsRuleOf, day_is, ending_said, no_end, no_day, days_to_last, no_days_to_last}
+use Rattle.cal_doors.proofs.RuleDays.{rule_read, ending_said, no_end, no_day, days_to_last, no_days_to_last}
 use Rattle.cal_doors.proofs.rule.read_rule.Goals as goal
 
 pub returns-in_err-end-clause-fault : goal.returns-in_err-end-clause-fault
 returns-in_err-end-clause-fault c =
     let first = c.day_and_second-first in
     let rule = c.in_ok-rule-in-Ok.rule in
-    let is : IsRuleOf c.args.start c.args.from c.args.text.now (day_index first.result.0) rule = record {
-      spelled_rule = c.in-Ok.rule;
-      one = c.one_rule.ensures.reading;
-      spelled = c.in-Ok.ensures.reads;
-      on_day = c.in_ok-rule-in-Ok.ensures;
-      here = λ o has. day_is c.args.start c.args.from first.result.0 first.result.1 o first.ensures.second first.ensures.sum has;
-    } in
+    let is = rule_read c.args.start c.args.from c.args.text.now first.result.0 first.result.1 rule c.in-Ok.rule c.one_rule.ensures.reading c.in-Ok.ensures.reads c.in_ok-rule-in-Ok.ensures first.ensures.second first.ensures.sum in
     let there : c.rule_end.result ≡ None = c.ok_or.ensures.ok_part ∙ ap result_ok c.in_err-end.was in
     let none = subst (λ (x : Option rust.End). IfNone x ((end : general.End) → IsEndOf c.args.from rule.count rule.until end → ⊥)) there c.rule_end.ensures.none in
     let number = missing_number c.ok_or.result c.rule_end.result _ _ c.ok_or.ensures.value c.in_err-end.was there in
@@ -34,13 +28,7 @@ pub returns-in-Some-clause-says : goal.returns-in-Some-clause-says
 returns-in-Some-clause-says c =
     let first = c.day_and_second-first in
     let rule = c.in_ok-rule-in-Ok.rule in
-    let is : IsRuleOf c.args.start c.args.from c.args.text.now (day_index first.result.0) rule = record {
-      spelled_rule = c.in-Ok.rule;
-      one = c.one_rule.ensures.reading;
-      spelled = c.in-Ok.ensures.reads;
-      on_day = c.in_ok-rule-in-Ok.ensures;
-      here = λ o has. day_is c.args.start c.args.from first.result.0 first.result.1 o first.ensures.second first.ensures.sum has;
-    } in
+    let is = rule_read c.args.start c.args.from c.args.text.now first.result.0 first.result.1 rule c.in-Ok.rule c.one_rule.ensures.reading c.in-Ok.ensures.reads c.in_ok-rule-in-Ok.ensures first.ensures.second first.ensures.sum in
     let there : c.rule_end.result ≡ Some c.in_ok-end.end = c.ok_or.ensures.ok_part ∙ ap result_ok c.in_ok-end.was in
     let ends = subst (λ (x : Option rust.End). IfSome x (λ e. IsEndOf c.args.from rule.count rule.until (end_of e))) there c.rule_end.ensures.found in
     λ o has. ending_said c.args.start c.args.from c.args.text.now (day_index first.result.0) rule is o (ending_of (record { day = c.in-Some.day; end = c.in_ok-end.end })) has c.in-Some.ensures.found ends
@@ -49,13 +37,7 @@ pub returns-in_default-2-clause-fault : goal.returns-in_default-2-clause-fault
 returns-in_default-2-clause-fault c =
     let first = c.day_and_second-first in
     let rule = c.in_ok-rule-in-Ok.rule in
-    let is : IsRuleOf c.args.start c.args.from c.args.text.now (day_index first.result.0) rule = record {
-      spelled_rule = c.in-Ok.rule;
-      one = c.one_rule.ensures.reading;
-      spelled = c.in-Ok.ensures.reads;
-      on_day = c.in_ok-rule-in-Ok.ensures;
-      here = λ o has. day_is c.args.start c.args.from first.result.0 first.result.1 o first.ensures.second first.ensures.sum has;
-    } in
+    let is = rule_read c.args.start c.args.from c.args.text.now first.result.0 first.result.1 rule c.in-Ok.rule c.one_rule.ensures.reading c.in-Ok.ensures.reads c.in_ok-rule-in-Ok.ensures first.ensures.second first.ensures.sum in
     let there : c.rule_end.result ≡ Some c.in_ok-end.end = c.ok_or.ensures.ok_part ∙ ap result_ok c.in_ok-end.was in
     let ends = subst (λ (x : Option rust.End). IfSome x (λ e. IsEndOf c.args.from rule.count rule.until (end_of e))) there c.rule_end.ensures.found in
     let none : AreNoDaysTo rule (day_index first.result.0) c.last_day.result = rw c.in_default-2.is at c.in_ok-days.ensures in (
@@ -70,13 +52,7 @@ pub returns-clause-says : goal.returns-clause-says
 returns-clause-says c =
     let first = c.day_and_second-first in
     let rule = c.in_ok-rule-in-Ok.rule in
-    let is : IsRuleOf c.args.start c.args.from c.args.text.now (day_index first.result.0) rule = record {
-      spelled_rule = c.in-Ok.rule;
-      one = c.one_rule.ensures.reading;
-      spelled = c.in-Ok.ensures.reads;
-      on_day = c.in_ok-rule-in-Ok.ensures;
-      here = λ o has. day_is c.args.start c.args.from first.result.0 first.result.1 o first.ensures.second first.ensures.sum has;
-    } in
+    let is = rule_read c.args.start c.args.from c.args.text.now first.result.0 first.result.1 rule c.in-Ok.rule c.one_rule.ensures.reading c.in-Ok.ensures.reads c.in_ok-rule-in-Ok.ensures first.ensures.second first.ensures.sum in
     let there : c.rule_end.result ≡ Some c.in_ok-end.end = c.ok_or.ensures.ok_part ∙ ap result_ok c.in_ok-end.was in
     let ends = subst (λ (x : Option rust.End). IfSome x (λ e. IsEndOf c.args.from rule.count rule.until (end_of e))) there c.rule_end.ensures.found in
     let are : AreDaysTo rule (day_index first.result.0) c.last_day.result _ = rw c.in-Some-2.is at c.in_ok-days.ensures in
