@@ -1,8 +1,7 @@
 -- A text with the month day of DTSTART written out is allowed where it was before.
-use Rattle.std.proofs.Common.{◌≡◌, ◌∙◌, ap, refl, ℕ, ℤ, suc, pos, ◌≤◌, ◌++◌, Bool, true, false, ◌&&◌, List, [], ◌∷◌, IsTrue, subst, sym, arith}
+use Rattle.std.proofs.Common.{◌≡◌, ◌∙◌, ap, refl, ℕ, ℤ, suc, pos, ◌≤◌, ◌++◌, true, List, [], ◌∷◌, IsTrue, subst, sym, arith}
 use Rattle.std.proofs.lemmas.Bool.Decides.{nat_tests}
-use Rattle.profile.specs.series.Days.{Frequency, Daily, Weekly, Monthly, Yearly}
-use Rattle.profile.specs.series.Rules.{RuleText, IsAllowed, is_missing, leaves_day_to_start, is_in_range, go_together, has_one_end}
+use Rattle.profile.specs.series.Rules.{RuleText, IsAllowed, is_missing, leaves_day_to_start, is_in_range, go_together}
 
 abbrev pub with_day : ℕ → RuleText → RuleText
 with_day n t = record {

@@ -1,8 +1,8 @@
-use Rattle.std.proofs.Common.{◌≡◌, ◌∙◌, subst, sym, ℤ, List, refl, arith}
+use Rattle.std.proofs.Common.{◌∙◌, subst, sym, ℤ, List, arith}
 use Rattle.std.proofs.lemmas.Int.{ints}
 use Rattle.profile.specs.series.Rules.{RuleText, IsAllowed}
 use Rattle.cal_rules.specs.Views.{rule_text_said}
-use Rattle.cal_rules.proofs.Filled.{with_day, allowed_filled, day_added}
+use Rattle.cal_rules.proofs.Filled.{allowed_filled, day_added}
 use Rattle.cal_rules.proofs.text.RuleText.on_day_of.Goals as goal
 
 abbrev with_days : RuleText → List ℤ → RuleText
