@@ -29,7 +29,7 @@ pub struct Run {
 }
 
 impl Run {
-    ghost use Rattle.std.specs.Prelude.{◌≡◌, ℕ, true, None, IfSome, MatchOption, pos, negsuc, ◌≤ℤ◌};
+    ghost use Rattle.std.specs.Prelude.{◌≡◌, ℕ, true, None, IfSome, IfNone, MatchOption, pos, negsuc, ◌≤ℤ◌};
     ghost use Rattle.std.specs.Int.Signed.{◌<ℤ◌};
     ghost use Rattle.profile.specs.series.Zones.{Onset, IsOnset, IsFirstOf, onset_at};
     ghost use Rattle.profile.specs.series.GeneralZones.{IsRunOnset};
@@ -110,6 +110,18 @@ impl Run {
             (None, _) => Some(self.observance.first_onset()),
             (Some(_), End::At(until)) => Some(until),
             _ => None,
+        }
+    }
+
+    /// No onset before an instant is later than this. None where there is none.
+    pub(crate) fn last_before(&self, instant: i64) -> Option<i64>
+        requires { negsuc 9_000_000_000_000_000_000 ≤ℤ instant }
+        ensures last { IfSome result (λ last. (x : Onset) → IsRunOnset (run_of self.now) x → x.instant <ℤ instant → x.instant ≤ℤ last) }
+        ensures none { IfNone result ((x : Onset) → IsRunOnset (run_of self.now) x → instant ≤ℤ x.instant) }
+    {
+        match self.last_bound() {
+            Some(last) if last < instant => Some(last),
+            _ => self.latest_bound(instant - 1),
         }
     }
 
