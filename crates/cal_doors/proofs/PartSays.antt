@@ -1,5 +1,5 @@
 -- What the readers of a part of a VTIMEZONE in general say, put together.
-use Rattle.std.proofs.Common.{not, map, Bool, ◌≡◌, ◌∙◌, ap, sym, refl, subst, inl, inr, ℕ, true, false, cond, ◌==◌, List, [], ◌∷◌, ◌++◌, length, codes, arith, append_assoc, append-nil, ℤ, Some, None}
+use Rattle.std.proofs.Common.{not, map, Bool, ◌≡◌, ◌∙◌, ap, sym, refl, subst, inl, inr, ℕ, true, false, cond, ◌==◌, List, [], ◌∷◌, ◌++◌, codes, arith, append_assoc, append-nil, ℤ, Some, None}
 use Rattle.std.specs.Prelude.{Contains, nat_le}
 use Rattle.std.specs.List.{AllZip, flat_map, slice_split, list_all}
 use Rattle.std.proofs.lemmas.Bool.{false≢true}
@@ -12,7 +12,7 @@ use Rattle.profile.specs.series.Rules.{is_missing, on_day_of_start}
 use Rattle.profile.specs.series.Zones.{Observance, local_time}
 use Rattle.profile.specs.series.ZoneTexts.{IsLocalLine, IsOffsetLine, time_names}
 use Rattle.profile.specs.series.GeneralZones.{End, Never, Run}
-use Rattle.profile.specs.series.GeneralZoneTexts.{without_end, IsRunAt, IsDatesLine, SaysDates, SaysTimes, SpellsEnding, SpellsDays, IsEndingLine, IsDaysLine, AreFirstRuns, SaysRuns, PartsSayRuns, RunsFault, once, yearly, listed, missing, twice, fixed, bad_start, bad_from, bad_to, bad_rule}
+use Rattle.profile.specs.series.GeneralZoneTexts.{without_end, IsRunAt, IsDatesLine, SaysTimes, SpellsEnding, SpellsDays, IsEndingLine, IsDaysLine, SaysRuns, PartsSayRuns, RunsFault, once, yearly, listed, missing, twice, fixed, bad_start, bad_from, bad_to, bad_rule}
 use Rattle.cal_zones.specs.Read.{StartFault, IsNotOnce, OffsetFault}
 use Rattle.cal_zones.specs.Shapes.{occurs_yearly}
 use Rattle.cal_zones.proofs.Named.{one_day_parts}
@@ -20,8 +20,8 @@ use Rattle.cal_zones.proofs.Reading.{said}
 use Rattle.ical_tree.proofs.OneLine.{the_line}
 use Rattle.cal_doors.specs.Ends.{end_of}
 use Rattle.cal_doors.specs.Listed.{HasStart}
-use Rattle.cal_doors.specs.Runs.{run_of, runs_in, IsYearlyRun}
-use Rattle.cal_doors.specs.Reading.{ending_of, SpellsNoRuleOf, AreTimes, HasTimes, AddsFirst, AddsYearly, AddsDays, AreRunsAt, AddsRuns, AddsLine, AddsDates, AddsPart, DateFault, LineFault, DatesFault}
+use Rattle.cal_doors.specs.Runs.{run_of, runs_in}
+use Rattle.cal_doors.specs.Reading.{ending_of, SpellsNoRuleOf, AreTimes, HasTimes, AddsFirst, AddsYearly, AddsDays, AddsRuns, AddsLine, AddsDates, AddsPart, DateFault, LineFault, DatesFault}
 use Rattle.cal_doors.specs.declared.run.Run as kept
 use Rattle.cal_doors.specs.declared.rule.EndingRule.{EndingRule}
 use Rattle.cal_doors.proofs.RuleDays.{starting, some_start, said_bound}

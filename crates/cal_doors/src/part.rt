@@ -104,8 +104,8 @@ fn add_days(days: &[Day], times: &Times, runs: &mut Vec<Run>) -> Result<(), Allo
 {
     let (_, second) = times.start.day_and_second();
     for day in days {
-        let local = LocalTime::of_seconds(seconds_at(day.index(), second)).unwrap();
-        runs.push(Run::once(local, times.from, times.to))?;
+        let onset = LocalTime::of_seconds(seconds_at(day.index(), second)).unwrap();
+        runs.push(Run::once(onset, times.from, times.to))?;
     }
     Ok(())
 }

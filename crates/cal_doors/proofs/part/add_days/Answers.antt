@@ -2,7 +2,7 @@ use Rattle.std.proofs.Common.{◌≡◌, ◌∙◌, ◌∷◌, [], ◌+◌, ◌�
 use Rattle.std.proofs.lemmas.List.{drop_all}
 use Rattle.ical_tree.proofs.OneLine.{at_place}
 use Rattle.profile.specs.series.Days.{day_index}
-use Rattle.profile.specs.series.Zones.{Observance, local_time}
+use Rattle.profile.specs.series.Zones.{local_time}
 use Rattle.profile.specs.series.GeneralZoneTexts.{IsRunAt}
 use Rattle.cal_doors.specs.Runs.{run_of, runs_in}
 use Rattle.cal_doors.specs.Reading.{AddsRuns}
@@ -13,8 +13,8 @@ use Rattle.cal_doors.proofs.part.add_days.Goals as goal
 pub loop-day-init : goal.loop-day-init
 loop-day-init c = no_days_added c.args.times.now.from c.args.times.now.to c.day_and_second-second.result.1 _ _ (runs_in c.args.runs.now.items) refl
 
-pub unwrap-local-requires : goal.unwrap-local-requires
-unwrap-local-requires c =
+pub unwrap-onset-requires : goal.unwrap-onset-requires
+unwrap-onset-requires c =
     let second = c.day_and_second-second.result.1 in
     let high = bound_at c.args.days.now c.loop-day.day-index c.day-item.result c.loop-day-test.true c.day-item.is c.requires in
     let low : 366 ≤ c.index.result = c.index.ensures.range.0 in
@@ -30,10 +30,10 @@ loop-day-preserved c =
     let days = c.args.days.now in
     let i = c.loop-day.day-index in
     let x = c.day-item.result in
-    let local = c.unwrap-local.result in
+    let onset = c.unwrap-onset.result in
     let cast : to_z w64 (of_z w64 c.seconds_at.result) ≡ c.seconds_at.result = to_z-of_z {w = w64} (record { sfits = c.seconds_at.type_inv }) in
-    let value = rw (c.unwrap-local.ensures, cast) at c.of_seconds.ensures.value in
-    let at : local ≡ local_time (day_index x) second = value ∙ c.seconds_at.ensures ∙ ap (λ (n : ℕ). local_time n second) c.index.ensures.value in
+    let value = rw (c.unwrap-onset.ensures, cast) at c.of_seconds.ensures.value in
+    let at : onset ≡ local_time (day_index x) second = value ∙ c.seconds_at.ensures ∙ ap (λ (n : ℕ). local_time n second) c.index.ensures.value in
     let run = c.once.result in
     let left = map day_index (drop i days) in
     let rest = map day_index (drop (i + 1) days) in
