@@ -54,5 +54,5 @@ returns c =
     let none : left ≡ [] = ap (map day_index) (drop_all c.loop-day.day-index days c.loop-day-test.false) in
     let added = days_added from to split.result.1 (map day_index days) left old new c.loop-day.invariant none in
     λ o has.
-        let same : split.result.1 ≡ o.second = second_is c.args.times.now.start from split.result.0 split.result.1 o split.ensures.second split.ensures.sum has in
-        subst (λ (s : ℕ). AddsRuns from to (map (λ day. local_time day s) (map day_index days)) old new) same added
+    let same : split.result.1 ≡ o.second = second_is c.args.times.now.start from split.result.0 split.result.1 o split.ensures.second split.ensures.sum has in
+    subst (λ (s : ℕ). AddsRuns from to (map (λ day. local_time day s) (map day_index days)) old new) same added

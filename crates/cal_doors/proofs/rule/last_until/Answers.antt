@@ -60,7 +60,7 @@ returns c =
     let from : begin ≤ℤ (until +ℤ s) = grind (arith, ints) in
     let long : pos n ≡ (until +ℤ s) -ℤ begin = apart (until +ℤ s) begin n (rw (shown, wide) at c.abs_diff.ensures) from in
     λ o has.
-        let there : HasStart begin s o = record { start_there = has.start_there ∙ sym c.seconds-begin.ensures.value; second = has.second; before = has.before ∙ sym c.seconds.ensures.value } in
-        let day = day_is begin s first.result.0 first.result.1 o first.ensures.second (c.seconds-begin.ensures.value ∙ first.ensures.sum) there in
-        let at = rw c.unwrap.ensures at c.at_index.ensures.value in
-        subst (IsLastOnsetDay o (AtInstant until)) (sym (at ∙ ap (λ (i : ℕ). i + n / 86_400) (c.index.ensures.value ∙ day))) (last_at o until s begin n there long)
+    let there : HasStart begin s o = record { start_there = has.start_there ∙ sym c.seconds-begin.ensures.value; second = has.second; before = has.before ∙ sym c.seconds.ensures.value } in
+    let day = day_is begin s first.result.0 first.result.1 o first.ensures.second (c.seconds-begin.ensures.value ∙ first.ensures.sum) there in
+    let at = rw c.unwrap.ensures at c.at_index.ensures.value in
+    subst (IsLastOnsetDay o (AtInstant until)) (sym (at ∙ ap (λ (i : ℕ). i + n / 86_400) (c.index.ensures.value ∙ day))) (last_at o until s begin n there long)
