@@ -12,7 +12,7 @@ use Rattle.profile.specs.series.GeneralZones.{Run, IsGeneralOffsetAt, MeansGener
 use Rattle.profile.specs.series.GeneralZoneTexts.{SaysGeneralZone}
 use Rattle.profile.specs.events.EventRules.{IsOnDay}
 use Rattle.profile.specs.doors.Uses.{IsLineIn, SaysLocal, EventBeginsBy, EventEndsBy, LastsDays}
-use Rattle.profile.specs.doors.Adapting.{IsAdapted, IsGiven, TakesPlace, IsSameFor, always, as_long, goes_on, tables_end, IsOverAt}
+use Rattle.profile.specs.doors.Adapting.{IsAdapted, IsGiven, TakesPlace, IsSameFor, always, as_long, beyond, tables_end, IsOverAt}
 use Rattle.profile.specs.doors.OnClocks.{SaysSameAs, IsDaysLaterOn}
 use Rattle.cal_doors.specs.Laws.{IsMeantAfter, SaysTheSame, SaysSameUpTo, SaysTheSameUpTo}
 use Rattle.cal_doors.proofs.LawEvents.{OneRule, says_same, start_from, later_there}
@@ -86,14 +86,14 @@ module _ (meant part : Tree) (runs : List Run) (zone : Zone) (general : SaysGene
   same_true e = subst (λ (b : Bool). elim b as (λ _. Type 0) [ false ↦ Unit {0} | true ↦ ⊥ ]) e tt
 
   pub says_so : IsSameFor runs zone false first last → SaysSameAs runs zone name lines
-  says_so (always same) = from_first same
-  says_so (as_long end e same) = while_it_lasts end e same
-  says_so (goes_on to may in_tables over same) = absurd (same_true may)
+  says_so (always exact same) = from_first same
+  says_so (as_long end exact e same) = while_it_lasts end e same
+  says_so (beyond to does in_tables over same) = absurd (same_true does)
 
-  pub says_so_up_to : (may_go_on : Bool) → IsSameFor runs zone may_go_on first last → SaysSameAs runs zone name lines ⊎ SaysSameUpTo runs zone name lines
-  says_so_up_to may_go_on (always same) = inl (from_first same)
-  says_so_up_to may_go_on (as_long end e same) = inl (while_it_lasts end e same)
-  says_so_up_to may_go_on (goes_on to may in_tables over same) = inr (up_to_end to in_tables over same)
+  pub says_so_up_to : (goes_on : Bool) → IsSameFor runs zone goes_on first last → SaysSameAs runs zone name lines ⊎ SaysSameUpTo runs zone name lines
+  says_so_up_to goes_on (always exact same) = inl (from_first same)
+  says_so_up_to goes_on (as_long end exact e same) = inl (while_it_lasts end e same)
+  says_so_up_to goes_on (beyond to does in_tables over same) = inr (up_to_end to in_tables over same)
 
 -- ---- what was adapted
 
