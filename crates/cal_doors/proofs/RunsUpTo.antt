@@ -1,5 +1,5 @@
 -- Runs that are the same up to an instant. For `going_on`, `ending` and `last_of_all`.
-use Rattle.std.proofs.Common.{◌≡◌, ◌∙◌, refl, sym, ap, subst, zero, suc, ℕ, ◌+◌, ◌<◌, ◌≤◌, drop, length, get_or, arith, inl, inr, ◌⊎◌, List, [], ◌∷◌, ◌++◌, ℤ, pos, ◌≤ℤ◌}
+use Rattle.std.proofs.Common.{◌≡◌, ◌∙◌, refl, sym, ap, subst, zero, suc, ℕ, ◌+◌, ◌<◌, ◌≤◌, drop, length, get_or, arith, inl, inr, ◌⊎◌, List, [], ◌∷◌, ◌++◌, ℤ, pos, ◌+ℤ◌, ◌≤ℤ◌}
 use Rattle.std.specs.Prelude.{◌↔◌, Option, Some, None}
 use Rattle.std.specs.Int.Signed.{◌<ℤ◌}
 use Rattle.std.proofs.lemmas.Int.{ints}
@@ -127,18 +127,18 @@ over_more zone rest run last new ends l over x is before = elim (over x is befor
   ]
 ]
 
--- what a bound up to the last second before that says of a run's onsets before it
-pub bounded : (run : Run) (bound new : ℤ) (found : Option ℤ) → found ≡ Some bound → AreUpTo run (pos 2_147_483_646) found → bound ≤ℤ new
+-- what a bound up to an instant says of a run's onsets before that end, where the instant is at most a second before it
+pub bounded : (run : Run) (instant bound new : ℤ) (found : Option ℤ) → found ≡ Some bound → AreUpTo run instant found → times_end ≤ℤ (instant +ℤ pos 1) → bound ≤ℤ new
     → (x : Onset) → IsRunOnset run x → x.instant <ℤ times_end → x.instant ≤ℤ new
-bounded run bound new found is upto m x on before =
-    let l = subst (AreUpTo run (pos 2_147_483_646)) is upto x on (omega (arith, ints, before)) in
+bounded run instant bound new found is upto late m x on before =
+    let l = subst (AreUpTo run instant) is upto x on (omega (arith, ints, before, late)) in
     omega (arith, ints, l, m)
 
-pub unbounded : (run : Run) (new : ℤ) (found : Option ℤ) → found ≡ None → AreUpTo run (pos 2_147_483_646) found
+pub unbounded : (run : Run) (instant new : ℤ) (found : Option ℤ) → found ≡ None → AreUpTo run instant found → times_end ≤ℤ (instant +ℤ pos 1)
     → (x : Onset) → IsRunOnset run x → x.instant <ℤ times_end → x.instant ≤ℤ new
-unbounded run new found is upto x on before =
-    let l = subst (AreUpTo run (pos 2_147_483_646)) is upto x on in
-    absurd (omega (arith, ints, l, before))
+unbounded run instant new found is upto late x on before =
+    let l = subst (AreUpTo run instant) is upto x on in
+    absurd (omega (arith, ints, l, before, late))
 
 -- ---- the loops over kept runs
 
