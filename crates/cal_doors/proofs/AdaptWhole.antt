@@ -1,19 +1,17 @@
 -- An object that was made of another is one that it is adapted to. For `is_right` and `adapt`.
 use Rattle.std.proofs.Common.{◌≡◌, ◌∙◌, ap, sym, refl, subst, ℕ, Bool, true, false, ◌||◌, List, [], ◌∷◌, ◌++◌, ◌⊎◌, inl, inr}
-use Rattle.std.specs.Prelude.{Option, Some, None, String, string_bytes, Contains, map}
+use Rattle.std.specs.Prelude.{Option, Some, None, String, string_bytes, map}
 use Rattle.std.specs.List.{list_any, IsDistinct, AllByRecursion}
 use Rattle.std.specs.Map.{keys_of}
 use Rattle.std.specs.Str.{bytes_eq}
 use Rattle.std.proofs.lemmas.List.{append_assoc, append-nil, map_push}
 use Rattle.std.proofs.lemmas.Option.{none-some, same_Some}
 use Rattle.profile.specs.text.Trees.{Tree, tree_own}
-use Rattle.profile.specs.series.Zones.{Zone}
-use Rattle.profile.specs.events.ZonedTimes.{zone_named}
 use Rattle.profile.specs.doors.Uses.{NamesZone}
 use Rattle.profile.specs.doors.Adapting.{TakesPlace, IsGiven, IsOf, IsAdapted, without_zones}
 use Rattle.cal_zones.specs.Kinds.{zone_of}
 use Rattle.cal_doors.specs.Used.{held, AreUses}
-use Rattle.cal_doors.specs.Adapted.{IsUnread, IsReadable, AreChanges, IsRight, MeansNow, AllMeanNow, AreGoingOn}
+use Rattle.cal_doors.specs.Adapted.{AreChanges, IsRight, MeansNow, AllMeanNow, AreGoingOn}
 use Rattle.cal_doors.specs.declared.uses.Use.{Use}
 use Rattle.cal_doors.specs.declared.choice.Choice.{Choice}
 use Rattle.cal_doors.proofs.ChangesHeld.{same_text, is_same, by_name, held_first, held_other, some_held}
