@@ -7,9 +7,9 @@ use Rattle.std.proofs.lemmas.Bool.{true≢false}
 use Rattle.std.proofs.lemmas.Int.{ints}
 use Rattle.profile.specs.text.Trees.{Tree, vevents}
 use Rattle.profile.specs.events.Properties.{Length, LastsFor, lines_named}
-use Rattle.profile.specs.series.Zones.{Zone, Means, Shows, local_time}
+use Rattle.profile.specs.series.Zones.{Zone, Means, Shows, local_time, ShowsBy}
 use Rattle.profile.specs.series.ZoneTexts.{SaysZone}
-use Rattle.profile.specs.series.GeneralZones.{Run, IsGeneralOffsetAt, MeansGenerally, ShowsBy, IsSameFrom, IsSameBetween}
+use Rattle.profile.specs.series.GeneralZones.{Run, IsGeneralOffsetAt, MeansGenerally, IsSameFrom, IsSameBetween}
 use Rattle.profile.specs.series.GeneralZoneTexts.{SaysGeneralZone}
 use Rattle.profile.specs.events.EventRules.{IsOnDay}
 use Rattle.profile.specs.doors.Uses.{IsLineIn, SaysLocal, EventBeginsBy, EventEndsBy, LastsDays}

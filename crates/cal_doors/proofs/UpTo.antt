@@ -5,8 +5,8 @@ use Rattle.std.specs.Prelude.{Bool, false, Option}
 use Rattle.std.proofs.lemmas.Int.{ints}
 use Rattle.jiff_core.proofs.SignedLemmas.{signed_arith}
 use Rattle.profile.specs.text.Values.{IsOffset}
-use Rattle.profile.specs.series.Zones.{Zone, Onset, InForce, Since, Until}
-use Rattle.profile.specs.series.GeneralZones.{Run, ShowsBy, MeansBy, IsRunOnset, IsGeneralOnset, IsGeneralOffsetAt, IsSameFrom, IsSameBetween}
+use Rattle.profile.specs.series.Zones.{Zone, Onset, InForce, Since, Until, ShowsBy, MeansBy}
+use Rattle.profile.specs.series.GeneralZones.{Run, IsRunOnset, IsGeneralOnset, IsGeneralOffsetAt, IsSameFrom, IsSameBetween}
 use Rattle.cal_doors.specs.Runs.{runs_in}
 use Rattle.cal_doors.specs.declared.run.Run as kept
 use Rattle.profile.specs.doors.Adapting.{IsSameFor, as_long, beyond}

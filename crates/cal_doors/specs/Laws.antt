@@ -1,9 +1,9 @@
 -- What an object that was made readable says of its times.
 use Rattle.std.specs.Prelude.{◌≡◌, ◌↔◌, ℕ, ◌+◌, ◌*◌, ◌≤◌, ◌⊎◌, Contains, List, codes, Option, Some, ℤ, pos, ◌+ℤ◌, ◌≤ℤ◌}
 use Rattle.profile.specs.text.Trees.{Tree}
-use Rattle.profile.specs.series.Zones.{Zone, Means, Shows, local_time}
+use Rattle.profile.specs.series.Zones.{Zone, Means, Shows, local_time, ShowsBy}
 use Rattle.profile.specs.series.ZoneTexts.{SaysZone}
-use Rattle.profile.specs.series.GeneralZones.{Run, IsGeneralOffsetAt, MeansGenerally, ShowsBy}
+use Rattle.profile.specs.series.GeneralZones.{Run, IsGeneralOffsetAt, MeansGenerally}
 use Rattle.profile.specs.series.GeneralZoneTexts.{SaysGeneralZone}
 use Rattle.profile.specs.events.Properties.{Length, LastsFor, lines_named}
 use Rattle.profile.specs.events.EventRules.{IsOnDay}
