@@ -1,5 +1,6 @@
 pub mod Adapted
 pub mod BlameLemmas
+pub mod HandedBack
 pub mod Keeping
 pub mod Meanings
 pub mod PlaceLemmas

@@ -6,5 +6,6 @@ pub mod Explained
 pub mod Expanding
 pub mod Places
 pub mod Reporting
+pub mod Returned
 pub mod Running
 pub mod Searching

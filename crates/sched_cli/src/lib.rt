@@ -9,6 +9,7 @@ pub mod expand;
 pub mod explain;
 pub mod folders;
 pub mod place;
+mod returned;
 pub mod status;
 pub mod tally;
 
@@ -18,4 +19,5 @@ pub use diagnosis::run_explain_object;
 pub use expand::run_expand;
 pub use explain::run_explain;
 pub use folders::run_folders;
+pub use returned::{WayBack, run_returned};
 pub use tally::{Tally, run_serve_report};
