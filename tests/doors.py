@@ -418,6 +418,7 @@ def the_way_back(program, folder, zones):
         expect(f"{name}: the other object is refused", b"REFUSED" + behind, REFUSED_LINE)
         expect(f"{name}: an instance is answered", any(map(is_instance, lines_of(answer))), True)
         wanted = told_lines(octets, answer)
+        expect(f"{name}: the answer itself names it otherwise", wanted != parts_of(lines_of(answer), "VEVENT"), True)
         out = told(program, folder, octets, served, *words)
         expect(f"{name}: the REFUSED line", out[-len(REFUSED_LINE):], REFUSED_LINE)
         in_its_words(name, octets, wanted, out.removesuffix(REFUSED_LINE), zones if words else None)
