@@ -429,6 +429,25 @@ def the_way_back(program, folder, zones):
         expect(f"{name} --single: VEVENTs of an object", [part.count("BEGIN:VEVENT") for part in each], [1] * len(wanted))
 
 
+NEW_YORK = zone(
+    part("DAYLIGHT", "20070311T020000", "-0500", "-0400", "RRULE:FREQ=YEARLY;BYMONTH=3;BYDAY=2SU"),
+    part("STANDARD", "20071104T020000", "-0400", "-0500", "RRULE:FREQ=YEARLY;BYMONTH=11;BYDAY=1SU"), name="America/New_York")
+
+
+def what_organisers_send(program, folder):
+    """A stored meeting goes out with the zone that it names, and not with Z1."""
+    preamble = b"now 20250102T000000Z\r\norganiser mailto:ann@example.com\r\n\r\n"
+    for name, its_zone in (("Europe/Berlin", pair(name="Europe/Berlin")), ("America/New_York", NEW_YORK)):
+        stored = with_moved(calendar(its_zone, event(WEEKLY, name=name)).replace(b"METHOD:REQUEST\r\n", b""))
+        answer = run(program, "serve", "--adapt", given=preamble + stored).stdout
+        expect(f"a meeting in {name}: the zone of what is sent", set(zones_by_name(lines_of(answer))), {"Z1"})
+        out, asked = lines_of(told(program, folder, stored, answer)), lines_of(stored)
+        expect(f"a meeting in {name}: VTIMEZONEs", zones_by_name(out), zones_by_name(asked))
+        expect(f"a meeting in {name}: instances", [line for line in out if is_instance(line)], [line for line in asked if is_instance(line)])
+        starts = [[instant_of(line) for line in lines if line.startswith("DTSTART;TZID")] for lines in (out, asked)]
+        expect(f"a meeting in {name}: starts", *starts)
+
+
 def words_that_do_not_go(program, folder):
     """--single without --reply-to, and --reply-to with --report, are usage faults; a file that isn't there is a device's."""
     file = folder / "original.ics"
@@ -465,6 +484,7 @@ def main():
         behind_a_preamble(program)
         behind_the_door(program, folder, berlin)
         the_way_back(program, folder, berlin)
+        what_organisers_send(program, folder)
         words_that_do_not_go(program, folder)
         what_stays(program, folder)
     print(f"{len(faults)} faults")
