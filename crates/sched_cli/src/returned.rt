@@ -1,6 +1,6 @@
 //! `adapt --reply-to`: answers in the words of the object that they answer.
 
-ghost use Rattle.std.specs.Prelude.{◌≡◌, ◌⊎◌, ◌<◌, ◌≤◌, ℕ, [], length, drop, map, true, IfErr, IfOk, IfSome, MatchOption, OnErr, OnOk};
+ghost use Rattle.std.specs.Prelude.{◌≡◌, ◌⊎◌, ◌<◌, ◌≤◌, [], length, drop, map, true, IfErr, IfOk, IfSome, MatchOption, OnErr, OnOk};
 ghost use Rattle.std.specs.List.{flat_map};
 ghost use Rattle.profile.specs.text.Objects.{after_object};
 ghost use Rattle.sched_devices.specs.Output.{KeepsButFailed, WriteStopsFor};
