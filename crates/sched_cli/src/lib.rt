@@ -8,7 +8,9 @@ pub mod diagnosis;
 pub mod expand;
 pub mod explain;
 pub mod folders;
+mod obstacle;
 pub mod place;
+mod refused_zone;
 pub mod status;
 pub mod tally;
 
