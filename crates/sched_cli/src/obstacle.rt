@@ -410,7 +410,7 @@ impl Obstacle {
             Obstacle::TwoRules => "RRULE occurs twice in it.",
             Obstacle::Until => "its RRULE has UNTIL.",
             Obstacle::Count => "its RRULE has COUNT.",
-            Obstacle::OtherRule => "its RRULE isn't of one day of every year.",
+            Obstacle::OtherRule => "its RRULE isn't of a form that is read.",
             Obstacle::FarApart => "its TZOFFSETFROM and TZOFFSETTO are more than 12 hours apart.",
             Obstacle::Unmatched => "its TZOFFSETFROM isn't the TZOFFSETTO of the other part.",
             Obstacle::Close => "it begins less than two days before or after the other part.",
