@@ -10,7 +10,7 @@ use Rattle.cal_doors.proofs.rule.listed_days.Goals as goal
 pub loop-day-init : goal.loop-day-init
 loop-day-init c =
     let first = day_index c.args.first in (
-      ap (λ (r : Rule). rule_days_from r first) (sym c.in_ok-rule.ensures) ∙ sym c.days-day-items.ensures ∙ ap days_left (sym c.into_iter-day-iterator.ensures.into_iter_gives) ∙ rw c.new-days.ensures.items refl,
+      ap (λ (r : Rule). rule_days_from r first) (sym c.from_day-rule.ensures) ∙ sym c.days-day-items.ensures ∙ ap days_left (sym c.into_iter-day-iterator.ensures.into_iter_gives) ∙ rw c.new-days.ensures.items refl,
       rw c.new-days.ensures.items (omega arith),
     )
 
