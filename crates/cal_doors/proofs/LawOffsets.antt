@@ -9,9 +9,9 @@ use Rattle.profile.specs.text.Lines.{line_value}
 use Rattle.profile.specs.text.Trees.{Tree}
 use Rattle.profile.specs.text.Values.{IsOffset, SpellsTime, SpellsSize, SpellsOffset}
 use Rattle.profile.specs.events.Properties.{Says, BothOrNeither}
-use Rattle.profile.specs.series.Zones.{Observance, Zone, Constant, Single, Pair, Onset, IsOnset, IsZoneOnset, InForce, Since, Until, IsOffsetAt, Means, Shows}
+use Rattle.profile.specs.series.Zones.{Observance, Zone, Constant, Single, Pair, Onset, IsOnset, IsZoneOnset, InForce, Since, Until, IsOffsetAt, Means, Shows, ShowsBy, MeansBy}
 use Rattle.profile.specs.series.ZoneTexts.{SaysZone, SaysPartTimes, HasForm, IsOffsetLine, constant, single, pair}
-use Rattle.profile.specs.series.GeneralZones.{Run, Never, IsGeneralOnset, IsGeneralOffsetAt, ShowsBy, MeansBy, MeansGenerally}
+use Rattle.profile.specs.series.GeneralZones.{Run, Never, IsGeneralOnset, IsGeneralOffsetAt, MeansGenerally}
 use Rattle.profile.specs.series.GeneralZoneTexts.{SaysTimes, AreFirstRuns, once, yearly, listed, IsRunAt, SaysRuns, SaysGeneralZone}
 use Rattle.cal_doors.proofs.LawClocks.{AreNear}
 

@@ -29,7 +29,7 @@ pub struct Run {
 }
 
 impl Run {
-    ghost use Rattle.std.specs.Prelude.{◌≡◌, ℕ, true, None, IfSome, IfNone, MatchOption, pos, negsuc, ◌≤ℤ◌};
+    ghost use Rattle.std.specs.Prelude.{◌≡◌, ℕ, true, None, IfSome, MatchOption, pos, negsuc, ◌≤ℤ◌};
     ghost use Rattle.std.specs.Int.Signed.{◌<ℤ◌};
     ghost use Rattle.profile.specs.series.Zones.{Onset, IsOnset, IsFirstOf, onset_at};
     ghost use Rattle.profile.specs.series.GeneralZones.{IsRunOnset};
@@ -113,15 +113,13 @@ impl Run {
         }
     }
 
-    /// No onset before an instant is later than this. None where there is none.
-    pub(crate) fn last_before(&self, instant: i64) -> Option<i64>
-        requires { negsuc 9_000_000_000_000_000_000 ≤ℤ instant }
-        ensures last { IfSome result (λ last. (x : Onset) → IsRunOnset (run_of self.now) x → x.instant <ℤ instant → x.instant ≤ℤ last) }
-        ensures none { IfNone result ((x : Onset) → IsRunOnset (run_of self.now) x → instant ≤ℤ x.instant) }
+    /// No onset up to an instant is later than this: its end, where that is known and no later. None where there is none up to it.
+    pub(crate) fn ended_by(&self, instant: i64) -> Option<i64>
+        ensures { AreUpTo (run_of self.now) instant result }
     {
         match self.last_bound() {
-            Some(last) if last < instant => Some(last),
-            _ => self.latest_bound(instant - 1),
+            Some(last) if last <= instant => Some(last),
+            _ => self.latest_bound(instant),
         }
     }
 
