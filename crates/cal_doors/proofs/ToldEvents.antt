@@ -99,10 +99,10 @@ module _ (R : Event → Event → Type 0) where
 pub child_at : (items all : List Component) (i : ℕ) (c : Component) → items ≡ all → i < length items → c ≡ get_or items i c → drop i all ≡ c ∷ drop (i + 1) all
 child_at items all i c same w is = subst (λ l. drop i l ≡ c ∷ drop (i + 1) l) same (at_place items i c w is)
 
-module _ {Z : Type 0} (R : Event → List ℕ → Type 0) (all : List Event) where
-  abbrev octets_each : List (Vec ℕ Z) → List (List ℕ)
-  octets_each made = map (λ part. part.items) made
+abbrev pub octets_each : {Z : Type 0} → List (Vec ℕ Z) → List (List ℕ)
+octets_each made = map (λ part. part.items) made
 
+module _ {Z : Type 0} (R : Event → List ℕ → Type 0) (all : List Event) where
   -- what comes for those that are left makes it one for each
   abbrev pub MadeSofar : List Component → List (Vec ℕ Z) → Type 0
   MadeSofar rest made = (more : List (List ℕ)) → AllZip R (events_among rest) more → AllZip R all (octets_each made ++ more)

@@ -26,5 +26,5 @@ returns-in-None c =
     let listed = list_of c.args.listed in
     let original = c.args.original.now in
     let answer = c.args.answer.now in
-    when_found c.returned_by.result (λ given. IsReturnedBy original original answer given.items) (λ given. IsReturned listed original answer given.items)
-    (λ given. returned_plain listed original answer given.items) c.returned_by.ensures
+    when_found c.returned_by-in-None.result (λ given. IsReturnedBy original original answer given.items) (λ given. IsReturned listed original answer given.items)
+    (λ given. returned_plain listed original answer given.items) c.returned_by-in-None.ensures
