@@ -17,6 +17,8 @@ from pathlib import Path
 from dateutil.rrule import rrulestr
 
 FOLDER = Path(__file__).parent / "producers"
+# the objects of doors.txt
+CASES = Path(__file__).parent.parent / "crates" / "text_examples" / "data"
 UTC = dt.timezone.utc
 # instances are compared up to here
 END = dt.datetime(2036, 1, 1)
@@ -27,6 +29,8 @@ FORM = "%Y%m%dT%H%M%S"
 NAMES = {
     "/freeassociation.sourceforge.net/America/New_York": "America/New_York",
     "/freeassociation.sourceforge.net/Europe/Berlin": "Europe/Berlin",
+    "/freeassociation.sourceforge.net/America/Sao_Paulo": "America/Sao_Paulo",
+    "/freeassociation.sourceforge.net/Europe/Moscow": "Europe/Moscow",
     "EST": "America/New_York",  # vobject names it so
 }
 # khal states the change on each side of the start and no other: from this instant on its text says one offset for ever
@@ -320,6 +324,27 @@ def behind_the_door(program, folder, zones):
             expect(f"{name}: box", (out / f"00000001-{now}.out").read_bytes(), served.stdout)
 
 
+# rules of other forms that ended: GNOME's of some Sundays, and libical's whole history
+HISTORIES = ["door-days-sao-paulo-endless.ics", "door-days-moscow.ics"]
+
+
+def histories(program, folder):
+    """Weekly meetings in zones with such rules are booked behind the door, at the instants of zoneinfo, and alone they are refused."""
+    room = "mailto:r1@example.com"
+    for name in HISTORIES:
+        octets = (CASES / name).read_bytes()
+        stream = PREAMBLE.format("r1@example.com").encode() + octets
+        expect(f"{name}: serve alone", run(program, "serve", given=stream).stdout, b"REFUSED;OBJECT=1:40\r\n")
+        reply = lines_of(run(program, "serve", "--adapt", given=stream).stdout)
+        expect(f"{name}: the reply", [line for line in reply if line.startswith("ATTENDEE")], [f"ATTENDEE;PARTSTAT=ACCEPTED:{room}"])
+        kept = run(program, "keep", "--adapt", room, given=stream).stdout
+        expect(f"{name}: instances", instances(program, kept), wanted_starts(name, octets))
+        calendar_file, certificate = folder / "kept.ics", folder / "kept.certificate"
+        calendar_file.write_bytes(kept)
+        certificate.write_bytes(run(program, "keep", "--adapt", "--certificate", room, given=stream).stdout)
+        expect(f"{name}: check", run(program, "check", str(calendar_file), str(certificate), room, given=b"").stdout, b"yes\n")
+
+
 # ---- the way back
 
 # series in a zone, to each of which a moved instance is added, and instances of their own
@@ -483,6 +508,7 @@ def main():
         other_zones(program)
         behind_a_preamble(program)
         behind_the_door(program, folder, berlin)
+        histories(program, folder)
         the_way_back(program, folder, berlin)
         what_organisers_send(program, folder)
         words_that_do_not_go(program, folder)
