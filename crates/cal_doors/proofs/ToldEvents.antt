@@ -1,11 +1,11 @@
 -- The VEVENTs among components, while these are gone through.
-use Rattle.std.proofs.Common.{◌≡◌, ◌∙◌, ℕ, ◌+◌, ◌<◌, ◌≤◌, Bool, true, false, cond, List, [], ◌∷◌, ◌++◌, map, filter, take, drop, length, get_or, sym, refl, ap, subst, arith}
-use Rattle.std.specs.Prelude.{Contains, All}
+use Rattle.std.proofs.Common.{◌≡◌, ◌∙◌, ℕ, ◌<◌, Bool, true, false, cond, List, [], ◌∷◌, ◌++◌, ◌+◌, map, filter, drop, length, get_or, sym, refl, ap, subst}
+use Rattle.std.specs.Prelude.{Contains, All, Vec}
 use Rattle.std.specs.List.{AllZip}
-use Rattle.std.proofs.lemmas.List.{drop_more, drop_all}
 use Rattle.std.proofs.lemmas.List.Elements.{All-nil, All-cons, All-head, All-tail, All-weaker, All-get_or, All-contains_itself, All-contains}
 use Rattle.ical_tree.specs.declared.component.Component.{Component}
 use Rattle.ical_tree.specs.Tree.{component_lines}
+use Rattle.ical_tree.proofs.OneLine.{at_place}
 use Rattle.cal_doors.specs.Told.{is_event, events_among, IsEventFirst, BeginsWithEvent}
 
 abbrev Event : Type 0
@@ -17,54 +17,18 @@ event_first c cs is = ap (λ b. map component_lines (cond b (c ∷ filter is_eve
 pub other_first : (c : Component) (cs : List Component) → is_event c ≡ false → events_among (c ∷ cs) ≡ events_among cs
 other_first c cs is = ap (λ b. map component_lines (cond b (c ∷ filter is_event cs) (filter is_event cs))) is
 
--- from a place on, where a component stands
-pub event_at : (cs : List Component) (i : ℕ) (d : Component) → i < length cs → is_event (get_or cs i d) ≡ true
-    → events_among (drop i cs) ≡ component_lines (get_or cs i d) ∷ events_among (drop (i + 1) cs)
-event_at cs i d w is = ap events_among (drop_more cs i d w) ∙ event_first (get_or cs i d) (drop (i + 1) cs) is
-
-pub other_at : (cs : List Component) (i : ℕ) (d : Component) → i < length cs → is_event (get_or cs i d) ≡ false → events_among (drop i cs) ≡ events_among (drop (i + 1) cs)
-other_at cs i d w is = ap events_among (drop_more cs i d w) ∙ other_first (get_or cs i d) (drop (i + 1) cs) is
-
-pub none_at : (cs : List Component) (i : ℕ) → length cs ≤ i → events_among (drop i cs) ≡ []
-none_at cs i past = ap events_among (drop_all i cs past)
-
--- ---- what begins with a VEVENT, and is empty, has none
-
-pub empty_then : (all left : List Component) → BeginsWithEvent all left → left ≡ [] → events_among all ≡ []
-empty_then all left b e = sym b.same ∙ ap events_among e
-
-pub begins_with : (all left : List Component) (c : Component) (later : List Component) → BeginsWithEvent all left → left ≡ c ∷ later
-    → events_among all ≡ component_lines c ∷ events_among later
-begins_with all left c later b e = sym b.same ∙ ap events_among e ∙ event_first c later (subst IsEventFirst e b.first)
-
 -- ---- what all of them are
 
 module _ (P : Event → Type 0) where
-  pub all_more : (cs : List Component) (i : ℕ) (d : Component) → i < length cs → is_event (get_or cs i d) ≡ true → P (component_lines (get_or cs i d))
-      → All P (events_among (drop (i + 1) cs)) → All P (events_among (drop i cs))
-  all_more cs i d w is p rest = subst (All P) (sym (event_at cs i d w is)) (All-cons P (component_lines (get_or cs i d)) (events_among (drop (i + 1) cs)) p rest)
+  pub all_more : (rest later : List Component) (c : Component) → rest ≡ c ∷ later → is_event c ≡ true → P (component_lines c) → All P (events_among later) → All P (events_among rest)
+  all_more rest later c is event p h =
+      subst (All P) (sym (ap events_among is ∙ event_first c later event)) (All-cons P (component_lines c) (events_among later) p h)
 
-  pub all_other : (cs : List Component) (i : ℕ) (d : Component) → i < length cs → is_event (get_or cs i d) ≡ false
-      → All P (events_among (drop (i + 1) cs)) → All P (events_among (drop i cs))
-  all_other cs i d w is rest = subst (All P) (sym (other_at cs i d w is)) rest
+  pub all_other : (rest later : List Component) (c : Component) → rest ≡ c ∷ later → is_event c ≡ false → All P (events_among later) → All P (events_among rest)
+  all_other rest later c is other h = subst (All P) (sym (ap events_among is ∙ other_first c later other)) h
 
-  pub all_none : (cs : List Component) (i : ℕ) → length cs ≤ i → All P (events_among (drop i cs))
-  all_none cs i past = subst (All P) (sym (none_at cs i past)) (All-nil P)
-
--- ---- pairs of them
-
-module _ {B : Type 0} (R : Event → B → Type 0) where
-  pub zip_more : (cs : List Component) (i : ℕ) (d : Component) (ys zs : List B) (y : B) → i < length cs → is_event (get_or cs i d) ≡ true → R (component_lines (get_or cs i d)) y
-      → ys ≡ y ∷ zs → AllZip R (events_among (drop (i + 1) cs)) zs → AllZip R (events_among (drop i cs)) ys
-  zip_more cs i d ys zs y w is r same rest =
-      subst (λ l. AllZip R l ys) (sym (event_at cs i d w is)) (subst (AllZip R (component_lines (get_or cs i d) ∷ events_among (drop (i + 1) cs))) (sym same) (r, rest))
-
-  pub zip_other : (cs : List Component) (i : ℕ) (d : Component) (ys : List B) → i < length cs → is_event (get_or cs i d) ≡ false
-      → AllZip R (events_among (drop (i + 1) cs)) ys → AllZip R (events_among (drop i cs)) ys
-  zip_other cs i d ys w is rest = subst (λ l. AllZip R l ys) (sym (other_at cs i d w is)) rest
-
-  pub zip_none : (cs : List Component) (i : ℕ) (ys : List B) → length cs ≤ i → ys ≡ [] → AllZip R (events_among (drop i cs)) ys
-  zip_none cs i ys past e = subst (λ l. AllZip R l ys) (sym (none_at cs i past)) (subst (AllZip R []) (sym e) tt)
+  pub all_none : (rest : List Component) → rest ≡ [] → All P (events_among rest)
+  all_none rest none = subst (All P) (sym (ap events_among none)) (All-nil P)
 
 -- ---- one of them
 
@@ -95,35 +59,73 @@ event_in cs i d w is = All-get_or (Is_in cs) cs i d w (each_in cs) is
 
 -- ---- a slice from its first VEVENT on
 
-pub pass_other : (all left : List Component) (d : Component) → 0 < length left → is_event (get_or left 0 d) ≡ false → events_among left ≡ events_among all
-    → events_among (drop 1 left) ≡ events_among all
-pass_other all left d w is same = sym (other_at left 0 d w is) ∙ same
+pub pass_other : (all left later : List Component) (c : Component) → left ≡ c ∷ later → is_event c ≡ false → events_among left ≡ events_among all
+    → events_among later ≡ events_among all
+pass_other all left later c is other same = sym (other_first c later other) ∙ sym (ap events_among is) ∙ same
 
-starts : (left : List Component) (d : Component) → 0 < length left → is_event (get_or left 0 d) ≡ true → IsEventFirst left
-starts [] d w is = absurd (omega (arith, w))
-starts (c ∷ cs) d w is = is
-
-pub begin_here : (all left : List Component) (d : Component) → 0 < length left → is_event (get_or left 0 d) ≡ true → events_among left ≡ events_among all → BeginsWithEvent all left
-begin_here all left d w is same = record { same = same; first = starts left d w is }
+pub begin_here : (all left later : List Component) (c : Component) → left ≡ c ∷ later → is_event c ≡ true → events_among left ≡ events_among all → BeginsWithEvent all left
+begin_here all left later c is event same = record { same = same; first = subst IsEventFirst (sym is) event }
 
 pub begin_none : (all left : List Component) → left ≡ [] → events_among left ≡ events_among all → BeginsWithEvent all left
 begin_none all left none same = record { same = same; first = subst IsEventFirst (sym none) tt }
 
-event_there : (begin : List Component) (e : Component) → 0 < length begin → IsEventFirst begin → is_event (get_or begin 0 e) ≡ true
-event_there [] e w h = absurd (omega (arith, w))
-event_there (c ∷ cs) e w h = h
-
 -- the VEVENTs of a slice that begins with one
-pub first_of : (all begin : List Component) (e : Component) → BeginsWithEvent all begin → 0 < length begin
-    → events_among all ≡ component_lines (get_or begin 0 e) ∷ events_among (drop 1 begin)
-first_of all begin e b w = sym b.same ∙ event_at begin 0 e w (event_there begin e w b.first)
+pub first_of : (all begin later : List Component) (c : Component) → BeginsWithEvent all begin → begin ≡ c ∷ later → events_among all ≡ component_lines c ∷ events_among later
+first_of all begin later c b is = sym b.same ∙ ap events_among is ∙ event_first c later (subst IsEventFirst is b.first)
 
 pub none_of : (all begin : List Component) → BeginsWithEvent all begin → begin ≡ [] → events_among all ≡ []
 none_of all begin b none = sym b.same ∙ ap events_among none
 
--- a pair more
-pub told_more : (R : Event → Event → Type 0) (cs : List Component) (i : ℕ) (d : Component) (left begin : List Component) (e : Component) → i < length cs
-    → is_event (get_or cs i d) ≡ true → BeginsWithEvent left begin → 0 < length begin → R (component_lines (get_or cs i d)) (component_lines (get_or begin 0 e))
-    → AllZip R (events_among (drop (i + 1) cs)) (events_among (drop 1 begin)) → AllZip R (events_among (drop i cs)) (events_among left)
-told_more R cs i d left begin e w is b v r rest =
-    zip_more R cs i d (events_among left) (events_among (drop 1 begin)) (component_lines (get_or begin 0 e)) w is r (first_of left begin e b v) rest
+-- ---- pairs of them
+
+module _ (R : Event → Event → Type 0) where
+  pub told_more : (rest more left begin later : List Component) (c d : Component) → rest ≡ c ∷ more → is_event c ≡ true → BeginsWithEvent left begin → begin ≡ d ∷ later
+      → R (component_lines c) (component_lines d) → AllZip R (events_among more) (events_among later) → AllZip R (events_among rest) (events_among left)
+  told_more rest more left begin later c d is event b begins r h =
+      subst (λ l. AllZip R l (events_among left)) (sym (ap events_among is ∙ event_first c more event))
+      (subst (AllZip R (component_lines c ∷ events_among more)) (sym (first_of left begin later d b begins)) (r, h))
+
+  pub told_other : (rest more left : List Component) (c : Component) → rest ≡ c ∷ more → is_event c ≡ false → AllZip R (events_among more) (events_among left)
+      → AllZip R (events_among rest) (events_among left)
+  told_other rest more left c is other h = subst (λ l. AllZip R l (events_among left)) (sym (ap events_among is ∙ other_first c more other)) h
+
+  pub told_none : (rest left begin : List Component) → rest ≡ [] → BeginsWithEvent left begin → begin ≡ [] → AllZip R (events_among rest) (events_among left)
+  told_none rest left begin none b empty =
+      subst (λ l. AllZip R l (events_among left)) (sym (ap events_among none)) (subst (AllZip R []) (sym (none_of left begin b empty)) tt)
+
+-- ---- what is made of each, one by one
+
+-- a child of an object, where it stands
+pub child_at : (items all : List Component) (i : ℕ) (c : Component) → items ≡ all → i < length items → c ≡ get_or items i c → drop i all ≡ c ∷ drop (i + 1) all
+child_at items all i c same w is = subst (λ l. drop i l ≡ c ∷ drop (i + 1) l) same (at_place items i c w is)
+
+module _ {Z : Type 0} (R : Event → List ℕ → Type 0) (all : List Event) where
+  abbrev octets_each : List (Vec ℕ Z) → List (List ℕ)
+  octets_each made = map (λ part. part.items) made
+
+  -- what comes for those that are left makes it one for each
+  abbrev pub MadeSofar : List Component → List (Vec ℕ Z) → Type 0
+  MadeSofar rest made = (more : List (List ℕ)) → AllZip R (events_among rest) more → AllZip R all (octets_each made ++ more)
+
+  pub none_made : (rest : List Component) (made : List (Vec ℕ Z)) → made ≡ [] → events_among rest ≡ all → MadeSofar rest made
+  none_made rest made none is more h = subst (λ m. AllZip R all (octets_each m ++ more)) (sym none) (subst (λ l. AllZip R l more) is h)
+
+  mapped : (old : List (Vec ℕ Z)) (v : Vec ℕ Z) (more : List (List ℕ)) → octets_each (old ++ v ∷ []) ++ more ≡ octets_each old ++ v.items ∷ more
+  mapped [] v more = refl
+  mapped (x ∷ old) v more = ap (λ l. x.items ∷ l) (mapped old v more)
+
+  pub one_made : (rest later : List Component) (c : Component) (old new : List (Vec ℕ Z)) (v : Vec ℕ Z) → rest ≡ c ∷ later → is_event c ≡ true → new ≡ old ++ v ∷ [] → R (component_lines c) (v.items)
+      → MadeSofar rest old → MadeSofar later new
+  one_made rest later c old new v is event made r sofar more h =
+      subst (λ m. AllZip R all (octets_each m ++ more)) (sym made) (subst (AllZip R all) (sym (mapped old v more))
+      (sofar (v.items ∷ more) (subst (λ l. AllZip R l (v.items ∷ more)) (sym (ap events_among is ∙ event_first c later event)) (r, h))))
+
+  pub other_made : (rest later : List Component) (c : Component) (made : List (Vec ℕ Z)) → rest ≡ c ∷ later → is_event c ≡ false → MadeSofar rest made → MadeSofar later made
+  other_made rest later c made is other sofar more h = sofar more (subst (λ l. AllZip R l more) (sym (ap events_among is ∙ other_first c later other)) h)
+
+  unended : (xs : List (List ℕ)) → xs ++ [] ≡ xs
+  unended [] = refl
+  unended (x ∷ xs) = ap (λ l. x ∷ l) (unended xs)
+
+  pub all_made : (rest : List Component) (made : List (Vec ℕ Z)) → rest ≡ [] → MadeSofar rest made → AllZip R all (octets_each made)
+  all_made rest made none sofar = subst (AllZip R all) (unended (octets_each made)) (sofar [] (subst (λ l. AllZip R l []) (sym (ap events_among none)) tt))

@@ -52,21 +52,21 @@ answered_right asked read told answer octets text lines reads spelled right =
 pub returned_by : (asked read : Component) (original readable answer octets : List ℕ) (text other : List (List ℕ)) → text ≡ logical_lines original → reads_as_lines true original ≡ true
     → IsObject true (tree_of asked) text → other ≡ logical_lines readable → reads_as_lines true readable ≡ true → IsObject true (tree_of read) other
     → IsAnswered (tree_of asked) (tree_of read) answer octets → IsReturnedBy original readable answer octets
-returned_by asked read original readable answer octets text other al ar as rl rr rs answered = record {
+returned_by asked read original readable answer octets text other al ar at rl rr rt answered = record {
   asked = tree_of asked;
-  is_asked = object_there original text asked al ar as;
+  is_asked = object_there original text asked al ar at;
   read = tree_of read;
-  is_read = object_there readable other read rl rr rs;
+  is_read = object_there readable other read rl rr rt;
   answered = answered;
 }
 
 back : (listed : Option Tree) (original readable answer octets : List ℕ) → ((object : Tree) → IsOf readable object → IsRead listed original object)
     → IsReturnedBy original readable answer octets → IsReturned listed original answer octets
-back listed original readable answer octets as r = record {
+back listed original readable answer octets reads r = record {
   asked = r.asked;
   is_asked = r.is_asked;
   read = r.read;
-  is_read = as r.read r.is_read;
+  is_read = reads r.read r.is_read;
   told = r.answered.told;
   is_told = r.answered.is_told;
   given = r.answered.right.given;

@@ -20,14 +20,14 @@ use Rattle.cal_doors.proofs.ToldEvents.{event_in}
 use Rattle.cal_doors.specs.Told.{is_event, events_among, IsInstanceOf, AreInstancesOf, NamesInstance, AreWords, NamesSame, AreSameZone}
 
 -- the instance that stands at a place
-pub instance_at : (read answer : Tree) (words : Words) (line : List ℕ) (i : ℕ) (d : Instance) (t : ℤ) → i < length words.instances.items
-    → (get_or words.instances.items i d).instant ≡ t → is_of (codes "RECURRENCE-ID") line ≡ true → SaysInstant answer line Fixed t → AreWords read answer words
-    → NamesSame read answer line (get_or words.instances.items i d).text.now
-instance_at read answer words line i d t w same is says are = record {
+pub instance_at : (read answer : Tree) (words : Words) (items : List Instance) (line : List ℕ) (i : ℕ) (d : Instance) (t : ℤ) → items ≡ words.instances.items → i < length items
+    → (get_or items i d).instant ≡ t → is_of (codes "RECURRENCE-ID") line ≡ true → SaysInstant answer line Fixed t → AreWords read answer words
+    → NamesSame read answer line (get_or items i d).text.now
+instance_at read answer words items line i d t all w same is says are = record {
   instant = t;
   is = is;
   says = says;
-  names = subst (NamesInstance read (get_or words.instances.items i d).text.now) same (All-get_or (IsInstanceOf read) words.instances.items i d w are.instances);
+  names = subst (NamesInstance read (get_or items i d).text.now) same (All-get_or (IsInstanceOf read) items i d w (subst (AreInstancesOf read) (sym all) are.instances));
 }
 
 -- a VEVENT that stands at a place of an object
@@ -73,6 +73,9 @@ alone x y h = elim (Contains-push_cases [] x y h) [ inl none ↦ absurd (none_in
 
 first_or : {X : Type 0} (x : X) (rest : List X) (y : X) → Contains (x ∷ rest) y → (x ≡ y) ⊎ Contains rest y
 first_or x rest y h = elim (Contains-append_cases (x ∷ []) rest y h) [ inl one ↦ inl (alone x y one) | inr later ↦ inr later ]
+
+pub no_line : (name line : List ℕ) → IsLineIn name [] line → ⊥
+no_line name line is = none_in line is.among
 
 -- what is so of the first line and of the others is so of all
 pub each_line : (P : List ℕ → Type 0) (x : List ℕ) (rest : List (List ℕ)) → ((name : List ℕ) → is_time_line x ≡ true → line_param (codes "TZID") x ≡ Some name → P name)

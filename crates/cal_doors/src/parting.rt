@@ -24,7 +24,6 @@ use std::alloc::{AllocError, Global};
 
 /// The VEVENTs of an object, each in an object of its own: with the own lines of the object, and with the VTIMEZONEs that it names. None where there
 /// aren't at least two, or it is no object within the limits of a message. What is made is read again, and handed on only if it is right.
-#[tactic(auto, using(crate::proofs::ToldRight::split_right))]
 pub fn split(alloc: Global, octets: &[u8]) -> Result<Option<Vec<Vec<u8>>>, AllocError>
     ensures { IfOk result (λ found. IfSome found (λ parts. IsSplit octets.now (map (λ part. part.items) parts.items))) }
 {
@@ -57,12 +56,13 @@ fn parts_of(
 {
     let mut parts = Vec::new(alloc);
     for child in whole.children() {
-        if child.is_named("VEVENT") {
-            let Some(part) = part_of(alloc, whole, child, zones)? else {
-                return Ok(None);
-            };
-            parts.push(part)?;
+        if !child.is_named("VEVENT") {
+            continue;
         }
+        let Some(part) = part_of(alloc, whole, child, zones)? else {
+            return Ok(None);
+        };
+        parts.push(part)?;
     }
     Ok(Some(parts))
 }
@@ -91,7 +91,9 @@ fn single(
     whole: &Component,
     event: &Component,
     zones: &NamedZones<'_, '_>,
-) -> Result<Vec<u8>, AllocError> {
+) -> Result<Vec<u8>, AllocError>
+    requires { AreNamed zones.now }
+{
     let mut out = Vec::new(alloc);
     write_property(&mut out, "BEGIN", whole.name())?;
     write_lines(whole, &mut out)?;
@@ -117,7 +119,6 @@ fn names_of(alloc: Global, event: &Component) -> Result<Names, AllocError> {
 }
 
 /// Whether octets are an object of one VEVENT, with the own lines of another object, where each name means the same VTIMEZONE.
-#[tactic(auto, using(crate::proofs::ToldRight::single_right))]
 fn is_single(
     alloc: Global,
     octets: &[u8],
@@ -136,22 +137,23 @@ fn is_single(
         return Ok(false);
     };
     let its = NamedZones::of(alloc, &part)?;
-    Ok(
-        part.has_same_lines(whole)
-            && is_only_event(part.children(), event)
-            && have_same_zones(event.lines(), &its, zones),
-    )
+    if !part.has_same_lines(whole) || !is_only_event(part.children(), event) {
+        return Ok(false);
+    }
+    Ok(have_same_zones(event.lines(), &its, zones))
 }
 
 /// Whether components have one VEVENT among them, with the lines of this one.
-#[tactic(auto, using(crate::proofs::ToldEvents::first_of, crate::proofs::ToldEvents::none_of))]
 fn is_only_event(components: &[Component], event: &Component) -> bool
     ensures { result ≡ true → events_among components.now ≡ component_lines event.now ∷ [] }
 {
     let [only, later @ ..] = from_event(components) else {
         return false;
     };
-    only.has_same_lines(event) && from_event(later).is_empty()
+    if !only.has_same_lines(event) {
+        return false;
+    }
+    from_event(later).is_empty()
 }
 
 /// Whether each name of a zone in lines of times means the same VTIMEZONE in both.

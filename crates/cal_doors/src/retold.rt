@@ -1,5 +1,7 @@
 //! An answer in other words. Nothing is said of what comes out: it is read again, and judged (`is_told`).
 
+ghost use Rattle.cal_doors.specs.Named.{AreNamed};
+
 use crate::named::NamedZones;
 use crate::uses::is_time_line;
 use crate::words::Words;
@@ -19,7 +21,10 @@ pub(crate) fn retold(
     asked: &NamedZones<'_, '_>,
     read: &NamedZones<'_, '_>,
     words: &Words<'_>,
-) -> Result<Option<Vec<u8>>, AllocError> {
+) -> Result<Option<Vec<u8>>, AllocError>
+    requires asked { AreNamed asked.now }
+    requires read { AreNamed read.now }
+{
     let mut events = Events {
         out: Vec::new(alloc),
         zones: IndexMap::new(alloc),
@@ -58,7 +63,10 @@ fn write_zone(
     asked: &NamedZones<'_, '_>,
     read: &NamedZones<'_, '_>,
     out: &mut Vec<u8>,
-) -> Result<(), AllocError> {
+) -> Result<(), AllocError>
+    requires asked { AreNamed asked.now }
+    requires read { AreNamed read.now }
+{
     if let Some(zone) = asked.named(name) {
         return write_object(zone, out);
     }

@@ -17,7 +17,6 @@ use std::alloc::{AllocError, Global};
 /// The answer in the words of the original, which a room read as it came or made readable: a RECURRENCE-ID is the line of the original for the
 /// same instance, a zone has its name there, and the VTIMEZONEs are those of the original. All other lines of its VEVENTs, and its own, stay. None
 /// where it is handed on as it is: nothing is told in other words, or it can't be. What is made is read again, and handed on only if it is right.
-#[tactic(auto, using(crate::proofs::ToldRight::returned_plain, crate::proofs::ToldRight::returned_adapted))]
 pub fn returned(
     alloc: Global,
     original: &[u8],
@@ -33,7 +32,6 @@ pub fn returned(
 }
 
 /// The same, where a room reads the object that octets are in the place of the original.
-#[tactic(auto, using(crate::proofs::ToldRight::returned_by))]
 fn returned_by(
     alloc: Global,
     original: &[u8],
@@ -58,7 +56,6 @@ fn returned_by(
 }
 
 /// The answer in the words of an object that is read in the place of the one asked for.
-#[tactic(auto, using(crate::proofs::ToldRight::answered_right))]
 fn answered(
     alloc: Global,
     asked: &Component,

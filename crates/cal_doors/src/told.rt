@@ -22,7 +22,6 @@ use ical_tree::{Component, OwnLines};
 use std::alloc::{AllocError, Global};
 
 /// Whether octets are an answer told in other words: with its lines, those of its VEVENTs told so, and with the zones that these name.
-#[tactic(auto, using(crate::proofs::ToldRight::told_right))]
 pub(crate) fn is_told(
     alloc: Global,
     octets: &[u8],
@@ -44,15 +43,14 @@ pub(crate) fn is_told(
         return Ok(false);
     };
     let zones = NamedZones::of(alloc, &given)?;
-    Ok(
-        given.has_same_lines(told)
-            && are_told(told.children(), given.children(), words)
-            && have_zones(given.children(), &zones, asked, read),
-    )
+    let events = given.children();
+    if !given.has_same_lines(told) || !are_told(told.children(), events, words) {
+        return Ok(false);
+    }
+    Ok(have_zones(events, &zones, asked, read))
 }
 
 /// Whether the VEVENTs among components are told by those among others.
-#[tactic(auto, using(crate::proofs::ToldEvents::told_more, crate::proofs::ToldEvents::zip_other, crate::proofs::ToldEvents::zip_none, crate::proofs::ToldEvents::none_of))]
 fn are_told(told: &[Component], given: &[Component], words: &Words<'_>) -> bool
     ensures { result ≡ true → (read answer : Tree) → AreWords read answer words.now
         → AllZip (AllZip (TellsSame read answer)) (events_among told.now) (events_among given.now) }
@@ -74,7 +72,6 @@ fn are_told(told: &[Component], given: &[Component], words: &Words<'_>) -> bool
 }
 
 /// What is left from the first VEVENT on.
-#[tactic(auto, using(crate::proofs::ToldEvents::pass_other, crate::proofs::ToldEvents::begin_here, crate::proofs::ToldEvents::begin_none))]
 pub(crate) fn from_event<'s, 'a>(components: &'s [Component<'a>]) -> &'s [Component<'a>]
     ensures { BeginsWithEvent components.now result.now }
 {
@@ -89,7 +86,7 @@ pub(crate) fn from_event<'s, 'a>(components: &'s [Component<'a>]) -> &'s [Compon
 }
 
 /// Whether lines are told by others, one by one.
-#[tactic(auto, using(crate::proofs::ToldWords::zip_first, crate::proofs::ToldWords::zip_end))]
+#[tactic(auto, using(crate::proofs::ToldWords::zip_end))]
 fn are_told_lines(lines: OwnLines<'_>, others: OwnLines<'_>, words: &Words<'_>) -> bool
     ensures { result ≡ true → (read answer : Tree) → AreWords read answer words.now
         → AllZip (TellsSame read answer) (lines_left lines.entry) (lines_left others.entry) }
@@ -122,7 +119,6 @@ fn is_kept(line: Line<'_>, other: Line<'_>) -> bool
 }
 
 /// Whether a line names an instance, and the other one is the line of the object for it.
-#[tactic(auto, using(crate::proofs::ToldWords::told_instance))]
 fn is_its_instance(line: Line<'_>, other: Line<'_>, words: &Words<'_>) -> bool
     ensures { result ≡ true → (read answer : Tree) → AreWords read answer words.now → TellsSame read answer (line_text line.entry) (line_text other.entry) }
 {
@@ -133,7 +129,6 @@ fn is_its_instance(line: Line<'_>, other: Line<'_>, words: &Words<'_>) -> bool
 }
 
 /// Whether two lines say the same times, in a zone that is the same under both names.
-#[tactic(auto, using(crate::proofs::ToldWords::told_in_zone))]
 fn is_in_zone(line: Line<'_>, other: Line<'_>, words: &Words<'_>) -> bool
     ensures { result ≡ true → (read answer : Tree) → AreWords read answer words.now → TellsSame read answer (line_text line.entry) (line_text other.entry) }
 {
@@ -162,7 +157,6 @@ fn has_same_parts(line: Line<'_>, other: Line<'_>) -> bool
 }
 
 /// Whether each zone that the VEVENTs among components name is the one asked for, or the one that is read in its place.
-#[tactic(auto, using(crate::proofs::ToldEvents::all_more, crate::proofs::ToldEvents::all_other, crate::proofs::ToldEvents::all_none))]
 fn have_zones(
     components: &[Component],
     zones: &NamedZones<'_, '_>,

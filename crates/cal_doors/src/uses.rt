@@ -348,7 +348,7 @@ fn last_local(line: Line<'_>) -> i64
 }
 
 /// Whether the values of a line are times.
-fn is_time_line(line: Line<'_>) -> bool
+pub(crate) fn is_time_line(line: Line<'_>) -> bool
     ensures { result ≡ is_time_line (line_text line.entry) }
 {
     line.is_named("DTSTART")

@@ -61,7 +61,6 @@ impl<'r> Words<'r> {
     }
 
     /// The line of the object for the instance that a line of the answer names. None where it names none, or one that the object doesn't.
-    #[tactic(auto, using(crate::proofs::ToldWords::instance_at))]
     pub(crate) fn instance(&self, line: Line<'_>) -> Option<&'r str>
         ensures { IfSome result (λ text. (read answer : Tree) → AreWords read answer self.now → NamesSame read answer (line_text line.entry) text.now) }
     {

@@ -2,6 +2,7 @@ pub mod Adapted
 pub mod BlameLemmas
 pub mod CauseLemmas
 pub mod DiagnosisLemmas
+pub mod HandedBack
 pub mod Keeping
 pub mod Meanings
 pub mod ObstacleLemmas

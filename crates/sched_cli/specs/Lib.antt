@@ -8,5 +8,6 @@ pub mod InTheWay
 pub mod Obstacles
 pub mod Places
 pub mod Reporting
+pub mod Returned
 pub mod Running
 pub mod Searching

@@ -11,6 +11,7 @@ pub mod folders;
 mod obstacle;
 pub mod place;
 mod refused_zone;
+mod returned;
 pub mod status;
 pub mod tally;
 
@@ -20,4 +21,5 @@ pub use diagnosis::run_explain_object;
 pub use expand::run_expand;
 pub use explain::run_explain;
 pub use folders::run_folders;
+pub use returned::{WayBack, run_returned};
 pub use tally::{Tally, run_serve_report};

@@ -8,5 +8,5 @@ use Rattle.cal_doors.proofs.told.are_told.Given as goal
 -- if what is left is told, all is
 abbrev pub invariant-loop-event : goal.invariant-loop-event
 invariant-loop-event l =
-    (read answer : Tree) → AreWords read answer l.fn.words → AllZip (AllZip (TellsSame read answer)) (events_among (drop l.event-index l.event-items)) (events_among l.left)
+    (read answer : Tree) → AreWords read answer l.fn.words → AllZip (AllZip (TellsSame read answer)) (events_among (drop l.event-index l.told)) (events_among l.left)
     → AllZip (AllZip (TellsSame read answer)) (events_among l.fn.told) (events_among l.fn.given)

@@ -10,4 +10,4 @@ abbrev pub invariant-loop-component : goal.invariant-loop-component
 invariant-loop-component l =
     let P : List (List ℕ) → Type 0 = λ lines. ((name line : List ℕ) → IsLineIn name lines line
     → HasItsZone (tree_of l.fn.zones.object.now) (tree_of l.fn.asked.object.now) (tree_of l.fn.read.object.now) name) in
-    All P (events_among (drop l.component-index l.component-items)) → All P (events_among l.fn.components)
+    All P (events_among (drop l.component-index l.components)) → All P (events_among l.fn.components)
