@@ -99,10 +99,14 @@ module _ (R : Event → Event → Type 0) where
 pub child_at : (items all : List Component) (i : ℕ) (c : Component) → items ≡ all → i < length items → c ≡ get_or items i c → drop i all ≡ c ∷ drop (i + 1) all
 child_at items all i c same w is = subst (λ l. drop i l ≡ c ∷ drop (i + 1) l) same (at_place items i c w is)
 
-module _ {Z : Type 0} (R : Event → List ℕ → Type 0) (all : List Event) where
-  abbrev octets_each : List (Vec ℕ Z) → List (List ℕ)
-  octets_each made = map (λ part. part.items) made
+abbrev pub octets_each : {Z : Type 0} → List (Vec ℕ Z) → List (List ℕ)
+octets_each made = map (λ part. part.items) made
 
+unended : (xs : List (List ℕ)) → xs ++ [] ≡ xs
+unended [] = refl
+unended (x ∷ xs) = ap (λ l. x ∷ l) (unended xs)
+
+module _ {Z : Type 0} (R : Event → List ℕ → Type 0) (all : List Event) where
   -- what comes for those that are left makes it one for each
   abbrev pub MadeSofar : List Component → List (Vec ℕ Z) → Type 0
   MadeSofar rest made = (more : List (List ℕ)) → AllZip R (events_among rest) more → AllZip R all (octets_each made ++ more)
@@ -122,10 +126,6 @@ module _ {Z : Type 0} (R : Event → List ℕ → Type 0) (all : List Event) whe
 
   pub other_made : (rest later : List Component) (c : Component) (made : List (Vec ℕ Z)) → rest ≡ c ∷ later → is_event c ≡ false → MadeSofar rest made → MadeSofar later made
   other_made rest later c made is other sofar more h = sofar more (subst (λ l. AllZip R l more) (sym (ap events_among is ∙ other_first c later other)) h)
-
-  unended : (xs : List (List ℕ)) → xs ++ [] ≡ xs
-  unended [] = refl
-  unended (x ∷ xs) = ap (λ l. x ∷ l) (unended xs)
 
   pub all_made : (rest : List Component) (made : List (Vec ℕ Z)) → rest ≡ [] → MadeSofar rest made → AllZip R all (octets_each made)
   all_made rest made none sofar = subst (AllZip R all) (unended (octets_each made)) (sofar [] (subst (λ l. AllZip R l []) (sym (ap events_among none)) tt))

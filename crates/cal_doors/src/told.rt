@@ -60,7 +60,8 @@ fn are_told(told: &[Component], given: &[Component], words: &Words<'_>) -> bool
         if !event.is_named("VEVENT") {
             continue;
         }
-        let [first, later @ ..] = from_event(left) else {
+        left = from_event(left);
+        let [first, later @ ..] = left else {
             return false;
         };
         if !are_told_lines(event.lines(), first.lines(), words) {

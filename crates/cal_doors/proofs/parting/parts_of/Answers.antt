@@ -12,7 +12,7 @@ use Rattle.cal_doors.proofs.parting.parts_of.Goals as goal
 pub loop-child-init : goal.loop-child-init
 loop-child-init c =
     none_made (IsSingleOf (tree_of c.args.whole.now)) (events_among (component_children c.args.whole.now)) (component_children c.args.whole.now) c.new-parts.result.items
-    c.new-parts.ensures.empty refl
+    c.new-parts.ensures.items refl
 
 pub loop-child-preserved-then-not-is_named : goal.loop-child-preserved-then-not-is_named
 loop-child-preserved-then-not-is_named c =

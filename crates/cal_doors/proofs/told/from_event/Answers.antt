@@ -1,6 +1,7 @@
 use Rattle.std.proofs.Common.{◌≡◌, ◌∙◌, sym, ◌-◌, length, take, drop, arith}
+use Rattle.std.proofs.lemmas.List.{nil_from_length}
 use Rattle.cal_doors.proofs.RightOthers.{rest_of}
-use Rattle.cal_doors.proofs.ToldEvents.{pass_other, begin_here}
+use Rattle.cal_doors.proofs.ToldEvents.{pass_other, begin_here, begin_none}
 use Rattle.cal_doors.proofs.told.from_event.Goals as goal
 
 pub loop-left-preserved : goal.loop-left-preserved
@@ -18,4 +19,6 @@ returns-then-is_named c =
     (sym c.is_named.ensures ∙ c.if-is_named.true) c.loop-left.invariant
 
 pub returns : goal.returns
-returns c = ?
+returns c =
+    let left = c.loop-left.left.now in
+    begin_none c.args.components.now left (nil_from_length left (omega (arith, c.in_default.len_below))) c.loop-left.invariant
