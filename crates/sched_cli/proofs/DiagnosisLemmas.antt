@@ -1,5 +1,5 @@
 -- Pieces that are appended one after another: for `explain` of an object.
-use Rattle.std.proofs.Common.{◌≡◌, ◌∙◌, ap, sym, refl, subst, inl, inr, ℕ, List, ◌++◌, codes, append_assoc}
+use Rattle.std.proofs.Common.{◌≡◌, ◌∙◌, ap, refl, subst, inl, inr, ℕ, List, ◌++◌, codes, append_assoc}
 use Rattle.std.specs.Prelude.{None}
 use Rattle.profile.specs.doors.Adapting.{IsAdapted}
 use Rattle.sched_cli.specs.Diagnosis.{IsEnding, IsHelp, IsPlaceText, IsReason, place_text, way_text}

@@ -3,6 +3,7 @@ use Rattle.std.proofs.Common.{◌≡◌, ◌∙◌, ap, sym, refl, subst, ℕ, z
 use Rattle.std.specs.Prelude.{Option, Some, None, IfSome, Contains, ◌||◌}
 use Rattle.std.specs.Option.{is_none}
 use Rattle.std.proofs.lemmas.List.{take_rest}
+use Rattle.ical_tree.proofs.OneLine.{at_one}
 use Rattle.ical_tree.specs.Tree.{component_name, component_lines, component_children}
 use Rattle.ical_tree.specs.declared.component.Component.{Component}
 use Rattle.profile.specs.events.Properties.{lines_named, IsMissing, OccursMoreThanOnce, SomeLine}
@@ -16,10 +17,6 @@ use Rattle.sched_cli.specs.Obstacles.{IsBehind, IsFirstLine, IsLocalOnce, IsOnce
 pub one_of : {A : Type 0} (xs : List A) (x : A) → IsBehind 0 xs x → drop 1 xs ≡ [] → xs ≡ x ∷ []
 one_of [] x (others, e) none = cc
 one_of (y ∷ ys) x (others, e) none = e ∙ ap (λ zs. x ∷ zs) (sym (ap (drop 1) e) ∙ none)
-
-is_one : {A : Type 0} (x y : A) → Contains (x ∷ []) y → x ≡ y
-is_one x y (zero, w, e) = e
-is_one x y (suc k, w, e) = absurd (omega arith)
 
 never_none : {A : Type 0} (x : A) (xs : List A) → x ∷ xs ≡ [] → ⊥
 never_none x xs e = cc
@@ -57,7 +54,7 @@ each_once part start from to name (suc (suc (suc k)), w, e) = absurd (omega arit
 
 never_fixed : (part : List (List ℕ)) → IsLocalOnce part → SomeLine (codes "DTSTART") IsFixedLine part → ⊥
 never_fixed part (first, once, local) (line, there, is) =
-    local (subst IsFixedLine (sym (is_one first line (subst (λ (l : List (List ℕ)). Contains l line) once there))) is)
+    local (subst IsFixedLine (sym (at_one first line (subst (λ (l : List (List ℕ)). Contains l line) once there))) is)
 
 right_by : (part : List (List ℕ)) (n : ℕ) → n ≡ 40 → IsMissing (codes "RDATE") part → IsLocalOnce part → IsOnce (codes "TZOFFSETFROM") part → IsOnce (codes "TZOFFSETTO") part → TimesFault part n → ⊥
 right_by part n e none start from to (dates some) = some none

@@ -1,5 +1,5 @@
 -- What of a VTIMEZONE is in the way in an object that is refused for it, and where it is in the octets.
-use Rattle.std.specs.Prelude.{◌≡◌, ◌⊎◌, ℕ, true, List, codes, Contains, Option, Some, None}
+use Rattle.std.specs.Prelude.{◌≡◌, ℕ, true, List, codes, Contains, Option, Some, None}
 use denote.Ref.{Bor}
 use Rattle.ical_tree.specs.Tree.{IsObjectOf, component_children, component_lines, component_name, tree_of}
 use Rattle.ical_tree.specs.declared.component.Component.{Component}

@@ -15,7 +15,6 @@ use Rattle.sched_cli.specs.declared.obstacle.Obstacle.{Obstacle}
 use Rattle.sched_cli.specs.declared.obstacle.Obstacle.TheVariants.{NoPart, Dates, Missing, Twice, Fixed, RuledAlone, Second, NoRule, TwoRules, Until, Count, OtherRule, FarApart, Unmatched, Close}
 use Rattle.sched_cli.specs.declared.obstacle.PartTime.{PartTime}
 use Rattle.sched_cli.specs.declared.obstacle.PartTime.TheVariants.{Start, From, To}
-use Rattle.sched_cli.specs.declared.obstacle.Cause.{Cause}
 use Rattle.sched_cli.specs.declared.obstacle.PartCause.{PartCause}
 
 -- ---- places in a list
