@@ -15,7 +15,7 @@ _roombox() {
     case ${COMP_WORDS[at]} in
     serve) options="--report --adapt --zones --help" ;;
     keep) options="--certificate --adapt --zones --help" ;;
-    adapt) options="--zones --report --help" ;;
+    adapt) options="--zones --report --reply-to --single --help" ;;
     check) options="--help" ;;
     expand) options="--limit --zone --help" ;;
     explain) options="--help" ;;

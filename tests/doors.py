@@ -1,5 +1,5 @@
 #!/usr/bin/env python3
-"""Runs `roombox adapt` on the objects of real programs (tests/producers) and on cases of its own.
+"""Runs `roombox adapt` on the objects of real programs (tests/producers) and on cases of its own, there and back.
 
     python3 tests/doors.py bin/roombox
 
@@ -17,6 +17,8 @@ from pathlib import Path
 from dateutil.rrule import rrulestr
 
 FOLDER = Path(__file__).parent / "producers"
+# the objects of doors.txt
+CASES = Path(__file__).parent.parent / "crates" / "text_examples" / "data"
 UTC = dt.timezone.utc
 # instances are compared up to here
 END = dt.datetime(2036, 1, 1)
@@ -27,6 +29,8 @@ FORM = "%Y%m%dT%H%M%S"
 NAMES = {
     "/freeassociation.sourceforge.net/America/New_York": "America/New_York",
     "/freeassociation.sourceforge.net/Europe/Berlin": "Europe/Berlin",
+    "/freeassociation.sourceforge.net/America/Sao_Paulo": "America/Sao_Paulo",
+    "/freeassociation.sourceforge.net/Europe/Moscow": "Europe/Moscow",
     "EST": "America/New_York",  # vobject names it so
 }
 # khal states the change on each side of the start and no other: from this instant on its text says one offset for ever
@@ -320,6 +324,174 @@ def behind_the_door(program, folder, zones):
             expect(f"{name}: box", (out / f"00000001-{now}.out").read_bytes(), served.stdout)
 
 
+# rules of other forms that ended: GNOME's of some Sundays, and libical's whole history
+HISTORIES = ["door-days-sao-paulo-endless.ics", "door-days-moscow.ics"]
+
+
+def histories(program, folder):
+    """Weekly meetings in zones with such rules are booked behind the door, at the instants of zoneinfo, and alone they are refused."""
+    room = "mailto:r1@example.com"
+    for name in HISTORIES:
+        octets = (CASES / name).read_bytes()
+        stream = PREAMBLE.format("r1@example.com").encode() + octets
+        expect(f"{name}: serve alone", run(program, "serve", given=stream).stdout, b"REFUSED;OBJECT=1:40\r\n")
+        reply = lines_of(run(program, "serve", "--adapt", given=stream).stdout)
+        expect(f"{name}: the reply", [line for line in reply if line.startswith("ATTENDEE")], [f"ATTENDEE;PARTSTAT=ACCEPTED:{room}"])
+        kept = run(program, "keep", "--adapt", room, given=stream).stdout
+        expect(f"{name}: instances", instances(program, kept), wanted_starts(name, octets))
+        calendar_file, certificate = folder / "kept.ics", folder / "kept.certificate"
+        calendar_file.write_bytes(kept)
+        certificate.write_bytes(run(program, "keep", "--adapt", "--certificate", room, given=stream).stdout)
+        expect(f"{name}: check", run(program, "check", str(calendar_file), str(certificate), room, given=b"").stdout, b"yes\n")
+
+
+# ---- the way back
+
+# series in a zone, to each of which a moved instance is added, and instances of their own
+SERIES = ["cyrus-gnome--03-weekly-endless", "cyrus-ruby--04-weekly-until", "gnome--03-weekly-endless", "gnome-unclamped--03-weekly-endless",
+          "kde--03-weekly-endless", "khal--03-weekly-endless", "libical--03-weekly-endless", "ruby--03-weekly-endless",
+          "thunderbird-icaljs--03-weekly-endless", "vobject--03-weekly-endless"]
+MOVED = ["cyrus-ruby--07b-instance-moved", "kde--07b-instance-moved"]
+TWO_ROOMS = "now 20250102T000000Z\r\nroom mailto:room1@example.com\r\nroom mailto:room1@rooms.example.net\r\n\r\n".encode()
+REFUSED_LINE = b"REFUSED;OBJECT=2:40\r\n"
+
+
+def shifted(line, shift):
+    """The line of a time that much later on its clock."""
+    text = line.rpartition(":")[2]
+    return line.removesuffix(text) + (dt.datetime.strptime(text, FORM) + shift).strftime(FORM)
+
+
+def with_moved(octets):
+    """A weekly series whose second instance is an hour later."""
+    lines = lines_of(octets)
+    moved = []
+    for line in lines[lines.index("BEGIN:VEVENT"):lines.index("END:VEVENT") + 1]:
+        if line.startswith("DTSTART"):
+            moved.append("RECURRENCE-ID" + shifted(line, dt.timedelta(days=7)).removeprefix("DTSTART"))
+        if line.startswith(("DTSTART", "DTEND")):
+            line = shifted(line, dt.timedelta(days=7, hours=1))
+        if not line.startswith("RRULE"):
+            moved.append(line)
+    return octets.replace(b"END:VCALENDAR", "\r\n".join([*moved, "END:VCALENDAR"]).encode())
+
+
+def parts_of(lines, name):
+    """The components of this name, each as its lines."""
+    found, inside = [], False
+    for line in lines:
+        if line == f"BEGIN:{name}":
+            found.append([])
+            inside = True
+        if inside:
+            found[-1].append(line)
+        inside = inside and line != f"END:{name}"
+    return found
+
+
+def zones_by_name(lines):
+    return {next(line for line in part if line.startswith("TZID")).partition(":")[2]: part for part in parts_of(lines, "VTIMEZONE")}
+
+
+def instant_of(line):
+    """The instant that a line of a time names, by zoneinfo."""
+    local, name = time_of(line)
+    return local.replace(tzinfo=UTC if name == "UTC" else zoneinfo.ZoneInfo(NAMES.get(name, name))).astimezone(UTC)
+
+
+def is_instance(line):
+    return line.startswith(("RECURRENCE-ID:", "RECURRENCE-ID;"))
+
+
+def told_lines(original, answer):
+    """The lines of the VEVENTs of an answer, where each instance that the original names has the line that it has there."""
+    own = {instant_of(line): line for line in lines_of(original) if is_instance(line)}
+    return [[own.get(instant_of(line), line) if is_instance(line) else line for line in part] for part in parts_of(lines_of(answer), "VEVENT")]
+
+
+def told(program, folder, octets, answer, *words):
+    file = folder / "original.ics"
+    file.write_bytes(octets)
+    end = run(program, "adapt", "--reply-to", str(file), *words, given=answer)
+    expect(f"status of adapt --reply-to {words}", (end.returncode, end.stderr), (0, b""))
+    return end.stdout
+
+
+def in_its_words(name, original, wanted, out, zones):
+    """What comes out has these VEVENTs, and the VTIMEZONEs of the original, or those of FILE, for the names in it."""
+    lines = lines_of(out)
+    expect(f"{name}: VEVENTs", parts_of(lines, "VEVENT"), wanted)
+    its, known = zones_by_name(lines), zones_by_name(lines_of(original))
+    used = {time_of(line)[1] for part in wanted for line in part if "TZID=" in line}
+    expect(f"{name}: names of zones", set(its), used)
+    for used_name, part in its.items():
+        if used_name in known:
+            expect(f"{name}: VTIMEZONE {used_name}", part, known[used_name])
+        else:
+            expect(f"{name}: the VTIMEZONE is from FILE", zones is not None, True)
+
+
+def the_way_back(program, folder, zones):
+    """Answers in the words of the objects of real programs."""
+    refused = calendar(pair("2030"), event(WEEKLY))
+    for name in SERIES + MOVED:
+        alone = (FOLDER / f"{name}.ics").read_bytes()
+        octets = alone if name in MOVED else with_moved(alone)
+        words = ["--zones", str(zones)] if name.startswith("kde--07b") else []
+        served = run(program, "serve", "--adapt", *words, given=TWO_ROOMS + octets + b"\r\n" + refused).stdout
+        answer, _, behind = served.partition(b"REFUSED")
+        expect(f"{name}: the other object is refused", b"REFUSED" + behind, REFUSED_LINE)
+        expect(f"{name}: an instance is answered", any(map(is_instance, lines_of(answer))), True)
+        wanted = told_lines(octets, answer)
+        expect(f"{name}: the answer itself names it otherwise", wanted != parts_of(lines_of(answer), "VEVENT"), True)
+        out = told(program, folder, octets, served, *words)
+        expect(f"{name}: the REFUSED line", out[-len(REFUSED_LINE):], REFUSED_LINE)
+        in_its_words(name, octets, wanted, out.removesuffix(REFUSED_LINE), zones if words else None)
+        single = told(program, folder, octets, served, "--single", *words)
+        expect(f"{name} --single: the REFUSED line", single[-len(REFUSED_LINE):], REFUSED_LINE)
+        in_its_words(f"{name} --single", octets, wanted, single, zones if words else None)
+        each = parts_of(lines_of(single), "VCALENDAR")
+        expect(f"{name} --single: VEVENTs of an object", [part.count("BEGIN:VEVENT") for part in each], [1] * len(wanted))
+
+
+NEW_YORK = zone(
+    part("DAYLIGHT", "20070311T020000", "-0500", "-0400", "RRULE:FREQ=YEARLY;BYMONTH=3;BYDAY=2SU"),
+    part("STANDARD", "20071104T020000", "-0400", "-0500", "RRULE:FREQ=YEARLY;BYMONTH=11;BYDAY=1SU"), name="America/New_York")
+
+
+def what_organisers_send(program, folder):
+    """A stored meeting goes out with the zone that it names, and not with Z1."""
+    preamble = b"now 20250102T000000Z\r\norganiser mailto:ann@example.com\r\n\r\n"
+    for name, its_zone in (("Europe/Berlin", pair(name="Europe/Berlin")), ("America/New_York", NEW_YORK)):
+        stored = with_moved(calendar(its_zone, event(WEEKLY, name=name)).replace(b"METHOD:REQUEST\r\n", b""))
+        answer = run(program, "serve", "--adapt", given=preamble + stored).stdout
+        expect(f"a meeting in {name}: the zone of what is sent", set(zones_by_name(lines_of(answer))), {"Z1"})
+        out, asked = lines_of(told(program, folder, stored, answer)), lines_of(stored)
+        expect(f"a meeting in {name}: VTIMEZONEs", zones_by_name(out), zones_by_name(asked))
+        expect(f"a meeting in {name}: instances", [line for line in out if is_instance(line)], [line for line in asked if is_instance(line)])
+        starts = [[instant_of(line) for line in lines if line.startswith("DTSTART;TZID")] for lines in (out, asked)]
+        expect(f"a meeting in {name}: starts", *starts)
+
+
+def words_that_do_not_go(program, folder):
+    """--single without --reply-to, and --reply-to with --report, are usage faults; a file that isn't there is a device's."""
+    file = folder / "original.ics"
+    file.write_bytes(calendar(pair(), event()))
+    for words, status in ((["--single"], 2), (["--reply-to", str(file), "--report"], 2), (["--reply-to"], 2), (["--reply-to", str(folder / "none")], 4),
+                          (["--reply-to", str(file), "--zones", str(folder / "none")], 4)):
+        expect(f"adapt {' '.join(words)}", run(program, "adapt", *words, given=b"").returncode, status)
+
+
+def what_stays(program, folder):
+    """Lines that no object has, what answers no instance of the original, and an original that is no object."""
+    octets = calendar(pair(), event())
+    other = b"BEGIN:VCALENDAR\r\nVERSION:2.0\r\nPRODID:x\r\nMETHOD:REPLY\r\nBEGIN:VEVENT\r\nUID:u\r\nRECURRENCE-ID:20250401T070000Z\r\nEND:VEVENT\r\nEND:VCALENDAR\r\n"
+    for answer in (b"", b"\r\n", b"\n\r\n\n", REFUSED_LINE * 2, b"REFUSED;OBJECT=1:40", other, b"\n" + other + b"\n" + other + REFUSED_LINE + other, other[:40], b"x"):
+        for original in (octets, b"", b"x", octets[:60]):
+            for words in ([], ["--single"]):
+                expect(f"{answer[:20]!r} stays {words}", told(program, folder, original, answer, *words), answer)
+
+
 def main():
     program = sys.argv[1]
     with tempfile.TemporaryDirectory() as place:
@@ -336,6 +508,11 @@ def main():
         other_zones(program)
         behind_a_preamble(program)
         behind_the_door(program, folder, berlin)
+        histories(program, folder)
+        the_way_back(program, folder, berlin)
+        what_organisers_send(program, folder)
+        words_that_do_not_go(program, folder)
+        what_stays(program, folder)
     print(f"{len(faults)} faults")
     return 1 if faults else 0
 

@@ -649,7 +649,7 @@ def explained_objects(cases, program):
         ("a rule without FREQ", "32 at line 11: RRULE", {10: "DURATION:PT1H|RRULE:COUNT=3"}),
         ("COUNT beside UNTIL", "33 at line 11: RRULE", {10: "DURATION:PT1H|RRULE:FREQ=DAILY;COUNT=3;UNTIL=20250320T000000Z"}),
         ("a Monday isn't a Tuesday", "34 at line 11: RRULE", {10: "DURATION:PT1H|RRULE:FREQ=WEEKLY;BYDAY=TU"}),
-        ("a zone without a part", "40", {4: "BEGIN:VTIMEZONE|TZID:Z|END:VTIMEZONE|BEGIN:VEVENT", 9: "DTSTART;TZID=Z:20250310T090000"}),
+        ("a zone without a part", "40 at line 4: BEGIN\nVTIMEZONE at line 4: neither STANDARD nor DAYLIGHT is in it. `roombox adapt` hands the object on as it is.", {4: "BEGIN:VTIMEZONE|TZID:Z|END:VTIMEZONE|BEGIN:VEVENT", 9: "DTSTART;TZID=Z:20250310T090000"}),
         ("a zone that isn't there", "43 at line 9: DTSTART", {9: "DTSTART;TZID=Europe/Berlin:20250310T090000"}),
         ("two times in a zone that isn't there", "43", {9: "DTSTART;TZID=Europe/Berlin:20250310T090000", 10: "DTEND;TZID=Europe/Berlin:20250310T100000"}),
         ("DTEND before DTSTART", "50 at line 10: DTEND", {10: "DTEND:20250309T090000Z"}),

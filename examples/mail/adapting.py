@@ -10,6 +10,6 @@ def adapted(octets):
     return octets
 
 
-def adapted_back(octets):
-    """The objects that are sent in place of this one: one for each mail."""
+def adapted_back(octets, message):
+    """The objects that are sent in place of this one, which answers `message`: one for each mail."""
     return [octets]

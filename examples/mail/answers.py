@@ -160,7 +160,7 @@ def may_be_written_to(address, box, sender):
 def mails_of(box, stem, sender, roombox):
     """All mails that the answer of this name becomes, in their order."""
     message, answered = box.message(stem), answered_by(box, stem)
-    objects = [sent for answer in split_objects(REFUSED.sub(b"", box.answer(stem))) for sent in adapted_back(answer)]
+    objects = [sent for answer in split_objects(REFUSED.sub(b"", box.answer(stem))) for sent in adapted_back(answer, message)]
     found = [mail_with(octets, message, sender, answered) for octets in objects]
     # the notice of a mail comes with the answer to its last object
     if answered and answered["stems"][-1] == stem and may_be_written_to(answered["sender"], box, sender):

@@ -1,22 +1,20 @@
 -- An object that was made of another is one that it is adapted to. For `is_right` and `adapt`.
-use Rattle.std.proofs.Common.{◌≡◌, ◌∙◌, ap, sym, refl, subst, ℕ, Bool, true, false, ◌||◌, List, [], ◌∷◌, ◌++◌, ◌⊎◌, inl, inr, ℤ}
-use Rattle.std.specs.Prelude.{Option, Some, None, String, string_bytes, Contains, map}
-use Rattle.std.specs.List.{list_any}
+use Rattle.std.proofs.Common.{◌≡◌, ◌∙◌, ap, sym, refl, subst, ℕ, Bool, true, false, ◌||◌, List, [], ◌∷◌, ◌++◌, ◌⊎◌, inl, inr}
+use Rattle.std.specs.Prelude.{Option, Some, None, String, string_bytes, map}
+use Rattle.std.specs.List.{list_any, IsDistinct, AllByRecursion}
+use Rattle.std.specs.Map.{keys_of}
 use Rattle.std.specs.Str.{bytes_eq}
-use Rattle.std.proofs.lemmas.Bool.{true≢false}
+use Rattle.std.proofs.lemmas.List.{append_assoc, append-nil, map_push}
 use Rattle.std.proofs.lemmas.Option.{none-some, same_Some}
 use Rattle.profile.specs.text.Trees.{Tree, tree_own}
-use Rattle.profile.specs.series.Zones.{Zone}
-use Rattle.profile.specs.series.GeneralZones.{Run}
-use Rattle.profile.specs.events.ZonedTimes.{zone_named}
 use Rattle.profile.specs.doors.Uses.{NamesZone}
-use Rattle.profile.specs.doors.Adapting.{IsSameFor, always, as_long, goes_on, TakesPlace, IsGiven, IsOf, IsAdapted, without_zones}
+use Rattle.profile.specs.doors.Adapting.{TakesPlace, IsGiven, IsOf, IsAdapted, without_zones}
 use Rattle.cal_zones.specs.Kinds.{zone_of}
 use Rattle.cal_doors.specs.Used.{held, AreUses}
-use Rattle.cal_doors.specs.Adapted.{IsUnread, IsReadable, AreChanges, IsRight, MeansNow, AllMeanNow}
+use Rattle.cal_doors.specs.Adapted.{AreChanges, IsRight, MeansNow, AllMeanNow, AreGoingOn}
 use Rattle.cal_doors.specs.declared.uses.Use.{Use}
 use Rattle.cal_doors.specs.declared.choice.Choice.{Choice}
-use Rattle.cal_doors.proofs.ChangesHeld.{is_same, by_name, held_first, held_other, some_held}
+use Rattle.cal_doors.proofs.ChangesHeld.{same_text, is_same, by_name, held_first, held_other, some_held}
 
 -- ---- each name that is used, one by one
 
@@ -61,111 +59,74 @@ module _ {X Y : Type 0} (before after : Tree) (uses : List (String X × Use)) (c
 
 -- ---- the names of the zones that go on
 
--- a zone that goes on has its name among these, or is left
-module _ {Y Z : Type 0} (changes : List (String Y × Choice)) where
-  abbrev pub NamedSofar : List (String Y × Choice) → List (String Z) → Type 0
-  NamedSofar left names =
-      (name : List ℕ) (c : Choice) → held name changes ≡ Some c → c.goes_on ≡ true
-      → (list_any (bytes_eq name) (map string_bytes names) ≡ true) ⊎ (held name left ≡ held name changes)
+abbrev names_if : Bool → List ℕ → List (List ℕ)
+names_if true name = name ∷ []
+names_if false name = []
 
-  pub none_named : (names : List (String Z)) → NamedSofar changes names
-  none_named names name c e on = inr refl
+other_on : (name key : List ℕ) (b : Bool) (names : List (List ℕ)) → bytes_eq name key ≡ false → list_any (bytes_eq name) (names_if b key ++ names) ≡ list_any (bytes_eq name) names
+other_on name key true names other = ap (λ b. b || list_any (bytes_eq name) names) other
+other_on name key false names other = refl
 
-  -- it stays behind
-  still_left : (k : String Y) (d : Choice) (rest : List (String Y × Choice)) (names : List (String Z)) (name : List ℕ) → bytes_eq name (string_bytes k) ≡ false
-      → (list_any (bytes_eq name) (map string_bytes names) ≡ true) ⊎ (held name ((k, d) ∷ rest) ≡ held name changes)
-      → (list_any (bytes_eq name) (map string_bytes names) ≡ true) ⊎ (held name rest ≡ held name changes)
-  still_left k d rest names name other (inl there) = inl there
-  still_left k d rest names name other (inr e) = inr (sym (held_other name k d rest other) ∙ e)
+-- of some changes the names of those that go on
+abbrev pub names_on : {Y : Type 0} → List (String Y × Choice) → List (List ℕ)
+names_on [] = []
+names_on ((k, d) ∷ rest) = names_if d.goes_on (string_bytes k) ++ names_on rest
 
-  one_ends : (k : String Y) (d : Choice) (rest : List (String Y × Choice)) (names : List (String Z)) (name : List ℕ) (c : Choice) → d.goes_on ≡ false → held name changes ≡ Some c
-      → c.goes_on ≡ true → name ≡ string_bytes k
-      → (list_any (bytes_eq name) (map string_bytes names) ≡ true) ⊎ (held name ((k, d) ∷ rest) ≡ held name changes)
-      → (list_any (bytes_eq name) (map string_bytes names) ≡ true) ⊎ (held name rest ≡ held name changes)
-  one_ends k d rest names name c ends e on same (inl there) = inl there
-  one_ends k d rest names name c ends e on same (inr h) =
-      let is : d ≡ c = same_Some d c (sym (held_first k d rest) ∙ ap (λ n. held n ((k, d) ∷ rest)) (sym same) ∙ h ∙ e) in
-      absurd (true≢false (sym on ∙ ap (λ (x : Choice). x.goes_on) (sym is) ∙ ends))
+-- with the names so far those of the changes that are left are all
+abbrev pub NamedSofar : {Y Z : Type 0} → List (String Y × Choice) → List (String Y × Choice) → List (String Z) → Type 0
+NamedSofar changes left names = map string_bytes names ++ names_on left ≡ names_on changes
 
-  pub other_named : (k : String Y) (d : Choice) (rest : List (String Y × Choice)) (names : List (String Z)) → d.goes_on ≡ false → NamedSofar ((k, d) ∷ rest) names → NamedSofar rest names
-  other_named k d rest names ends s name c e on =
-      by_name name (string_bytes k) (λ same. one_ends k d rest names name c ends e on same (s name c e on)) (λ other. still_left k d rest names name other (s name c e on))
+pub first_named : {Y Z : Type 0} (changes left : List (String Y × Choice)) (names : List (String Z)) → names ≡ [] → left ≡ changes → NamedSofar changes left names
+first_named {Y} {Z} changes left names none all = ap (λ (l : List (String Z)). map string_bytes l ++ names_on left) none ∙ ap names_on all
 
-  more_names : (name : List ℕ) (names : List (String Z)) (added : String Z) → list_any (bytes_eq name) (map string_bytes names) ≡ true
-      → list_any (bytes_eq name) (map string_bytes (names ++ added ∷ [])) ≡ true
-  more_names name [] added h = absurd (true≢false (sym h))
-  more_names name (n ∷ ns) added h = go (bytes_eq name (string_bytes n)) h (more_names name ns added)
-    where
-      go : (b : Bool) → (b || list_any (bytes_eq name) (map string_bytes ns)) ≡ true
-          → (list_any (bytes_eq name) (map string_bytes ns) ≡ true → list_any (bytes_eq name) (map string_bytes (ns ++ added ∷ [])) ≡ true)
-          → (b || list_any (bytes_eq name) (map string_bytes (ns ++ added ∷ []))) ≡ true
-      go true e later = refl
-      go false e later = later e
+module _ {Y Z : Type 0} (changes left rest : List (String Y × Choice)) (k : String Y) (d : Choice) (is : left ≡ (k, d) ∷ rest) where
+  pub step_other : (names : List (String Z)) → d.goes_on ≡ false → NamedSofar changes left names → NamedSofar changes rest names
+  step_other names ends s =
+      ap (λ b. map string_bytes names ++ (names_if b (string_bytes k) ++ names_on rest)) (sym ends) ∙ ap (λ l. map string_bytes names ++ names_on l) (sym is) ∙ s
 
-  name_added : (names : List (String Z)) (added : String Z) → list_any (bytes_eq (string_bytes added)) (map string_bytes (names ++ added ∷ [])) ≡ true
-  name_added [] added = ap (λ b. b || false) (is_same (string_bytes added))
-  name_added (n ∷ ns) added = go (bytes_eq (string_bytes added) (string_bytes n)) (name_added ns added)
-    where
-      go : (b : Bool) → list_any (bytes_eq (string_bytes added)) (map string_bytes (ns ++ added ∷ [])) ≡ true
-          → (b || list_any (bytes_eq (string_bytes added)) (map string_bytes (ns ++ added ∷ []))) ≡ true
-      go true e = refl
-      go false e = e
+  pub step_named : (names new : List (String Z)) (added : String Z) → new ≡ names ++ added ∷ [] → string_bytes added ≡ string_bytes k → d.goes_on ≡ true
+      → NamedSofar changes left names → NamedSofar changes rest new
+  step_named names new added more same on s =
+      ap (λ (l : List (String Z)). map string_bytes l ++ names_on rest) more
+      ∙ ap (λ l. l ++ names_on rest) (map_push string_bytes names added)
+      ∙ append_assoc (map string_bytes names) (string_bytes added ∷ []) (names_on rest)
+      ∙ ap (λ n. map string_bytes names ++ n ∷ names_on rest) same
+      ∙ ap (λ b. map string_bytes names ++ (names_if b (string_bytes k) ++ names_on rest)) (sym on)
+      ∙ ap (λ l. map string_bytes names ++ names_on l) (sym is) ∙ s
 
-  with_more : (k : String Y) (d : Choice) (rest : List (String Y × Choice)) (names : List (String Z)) (added : String Z) (name : List ℕ) → bytes_eq name (string_bytes k) ≡ false
-      → (list_any (bytes_eq name) (map string_bytes names) ≡ true) ⊎ (held name ((k, d) ∷ rest) ≡ held name changes)
-      → (list_any (bytes_eq name) (map string_bytes (names ++ added ∷ [])) ≡ true) ⊎ (held name rest ≡ held name changes)
-  with_more k d rest names added name other (inl there) = inl (more_names name names added there)
-  with_more k d rest names added name other (inr e) = inr (sym (held_other name k d rest other) ∙ e)
+module _ {Y : Type 0} where
+  -- where no change has the name, it isn't among those that go on
+  not_on : (k : String Y) (es : List (String Y × Choice)) → AllByRecursion (λ (y : String Y). same_text k y ≡ false) (keys_of es) → list_any (bytes_eq (string_bytes k)) (names_on es) ≡ false
+  not_on k [] all = refl
+  not_on k ((e, d) ∷ es) all = other_on (string_bytes k) (string_bytes e) d.goes_on (names_on es) all.0 ∙ not_on k es all.1
 
-  pub one_named : (k : String Y) (d : Choice) (rest : List (String Y × Choice)) (names : List (String Z)) (added : String Z) → string_bytes added ≡ string_bytes k
-      → NamedSofar ((k, d) ∷ rest) names → NamedSofar rest (names ++ added ∷ [])
-  one_named k d rest names added same_key s name c e on =
+  first_on : (k : String Y) (es : List (String Y × Choice)) (b : Bool) → AllByRecursion (λ (y : String Y). same_text k y ≡ false) (keys_of es)
+      → list_any (bytes_eq (string_bytes k)) (names_if b (string_bytes k) ++ names_on es) ≡ b
+  first_on k es true all = ap (λ b. b || list_any (bytes_eq (string_bytes k)) (names_on es)) (is_same (string_bytes k))
+  first_on k es false all = not_on k es all
+
+  -- a change goes on exactly where its name is among them
+  exactly_on : (es : List (String Y × Choice)) → IsDistinct same_text (keys_of es) → AreGoingOn es (names_on es)
+  unfolding IsDistinct
+  exactly_on [] distinct name c e = absurd (none-some c e)
+  exactly_on ((k, d) ∷ es) distinct name c e =
       by_name name (string_bytes k)
-      (λ same. inl (subst (λ n. list_any (bytes_eq n) (map string_bytes (names ++ added ∷ [])) ≡ true) (same_key ∙ sym same) (name_added names added)))
-      (λ other. with_more k d rest names added name other (s name c e on))
+      (λ same.
+      let is : d ≡ c = same_Some d c (sym (held_first k d es) ∙ ap (λ n. held n ((k, d) ∷ es)) (sym same) ∙ e) in
+      ap (λ n. list_any (bytes_eq n) (names_if d.goes_on (string_bytes k) ++ names_on es)) same ∙ first_on k es d.goes_on distinct.0 ∙ ap (λ (x : Choice). x.goes_on) is)
+      (λ other. other_on name (string_bytes k) d.goes_on (names_on es) other ∙ exactly_on es distinct.1 name c (sym (held_other name k d es other) ∙ e))
 
-  pub step_other : (left : List (String Y × Choice)) (k : String Y) (d : Choice) (rest : List (String Y × Choice)) (names : List (String Z)) → left ≡ (k, d) ∷ rest → d.goes_on ≡ false
-      → NamedSofar left names → NamedSofar rest names
-  step_other left k d rest names is ends s = other_named k d rest names ends (subst (λ l. NamedSofar l names) is s)
-
-  pub step_named : (left : List (String Y × Choice)) (k : String Y) (d : Choice) (rest : List (String Y × Choice)) (names new : List (String Z)) (added : String Z) → left ≡ (k, d) ∷ rest
-      → new ≡ names ++ added ∷ [] → string_bytes added ≡ string_bytes k → NamedSofar left names → NamedSofar rest new
-  step_named left k d rest names new added is more same s =
-      subst (NamedSofar rest) (sym more) (one_named k d rest names added same (subst (λ l. NamedSofar l names) is s))
-
-  named : (names : List (String Z)) (name : List ℕ) (c : Choice) → held name changes ≡ Some c
-      → (list_any (bytes_eq name) (map string_bytes names) ≡ true) ⊎ (None ≡ held name changes) → list_any (bytes_eq name) (map string_bytes names) ≡ true
-  named names name c e (inl there) = there
-  named names name c e (inr h) = absurd (none-some c (h ∙ e))
-
-  pub all_named : (names : List (String Z)) → NamedSofar [] names → (name : List ℕ) (c : Choice) → held name changes ≡ Some c → c.goes_on ≡ true
-      → list_any (bytes_eq name) (map string_bytes names) ≡ true
-  all_named names s name c e on = named names name c e (s name c e on)
+-- nothing is left
+pub all_named : {Y Z : Type 0} (changes left : List (String Y × Choice)) (names : List (String Z)) → left ≡ [] → IsDistinct same_text (keys_of changes) → NamedSofar changes left names
+    → AreGoingOn changes (map string_bytes names)
+all_named changes left names none distinct s =
+    subst (AreGoingOn changes) (sym s ∙ ap (λ l. map string_bytes names ++ names_on l) none ∙ append-nil (map string_bytes names)) (exactly_on changes distinct)
 
 -- ---- the whole
 
-may_go_on : (zone : List Run) (other : Zone) (some more : Bool) (first : ℤ) (last : Option ℤ) → (some ≡ true → more ≡ true) → IsSameFor zone other some first last → IsSameFor zone other more first last
-may_go_on zone other some more first last f (always same) = always same
-may_go_on zone other some more first last f (as_long end ends same) = as_long end ends same
-may_go_on zone other some more first last f (goes_on to may far over same) = goes_on to (f may) far over same
-
-takes_place : (listed : Option Tree) (object : Tree) (name : List ℕ) (some more : Bool) (other : Zone) → (some ≡ true → more ≡ true) → TakesPlace listed object name some other
-    → TakesPlace listed object name more other
-takes_place listed object name some more other f t = record {
-  meant = t.meant;
-  is_meant = t.is_meant;
-  zone = t.zone;
-  says = t.says;
-  first = t.first;
-  from_first = t.from_first;
-  last = t.last;
-  to_last = t.to_last;
-  same = may_go_on t.zone other some more t.first t.last f t.same;
-}
-
 module _ {X Y : Type 0} (listed : Option Tree) (octets adapted : List ℕ) (before : Tree) (uses : List (String X × Use)) (changes : List (String Y × Choice)) (names : List (List ℕ))
     (are_uses : AreUses before uses) (are_changes : AreChanges listed before uses changes) (right : IsRight before uses changes adapted)
-    (going_on : (name : List ℕ) (c : Choice) → held name changes ≡ Some c → c.goes_on ≡ true → list_any (bytes_eq name) names ≡ true) where
+    (going_on : AreGoingOn changes names) where
   by_change : (name : List ℕ) (u : Use) (o : Option Choice) → held name uses ≡ Some u → held name changes ≡ o → IsGiven listed before right.after name (list_any (bytes_eq name) names)
   by_change name u (Some c) used e =
       let now = right.changed name u c used e in
@@ -174,7 +135,7 @@ module _ {X Y : Type 0} (listed : Option Tree) (octets adapted : List ℕ) (befo
         there = now.1;
         zone = zone_of c.zone;
         says = now.2;
-        same = inr (takes_place listed before name c.goes_on (list_any (bytes_eq name) names) (zone_of c.zone) (going_on name c e) (are_changes.replaced name c e));
+        same = inr (subst (λ b. TakesPlace listed before name b (zone_of c.zone)) (sym (going_on name c e)) (are_changes.replaced name c e));
       }
   by_change name u None used e =
       let now = right.kept name u used e in

@@ -1,6 +1,6 @@
 -- The changes of an object, made name by name. For `changes_of`.
-use Rattle.std.proofs.Common.{◌≡◌, ◌∙◌, ap, sym, refl, subst, ℕ, Bool, true, false, cond, List, [], ◌∷◌, ◌⊎◌, inl, inr}
-use Rattle.std.specs.Prelude.{Option, Some, None, String, string_bytes, Contains}
+use Rattle.std.proofs.Common.{◌≡◌, ◌∙◌, ap, sym, refl, subst, ℕ, false, cond, List, [], ◌∷◌, ◌⊎◌, inl, inr}
+use Rattle.std.specs.Prelude.{Option, Some, None, String, string_bytes}
 use Rattle.std.specs.List.{IsDistinct}
 use Rattle.std.specs.Map.{keys_of}
 use Rattle.std.specs.Str.{bytes_eq}

@@ -1,14 +1,13 @@
 -- What a name means at the door, and which parts a VTIMEZONE has. For `meant`, `has_part` and `need_of`.
-use Rattle.std.proofs.Common.{◌≡◌, ◌∙◌, ap, sym, refl, subst, ℕ, Bool, true, false, List, [], ◌∷◌, ◌⊎◌, inl, inr, Bor}
-use Rattle.std.specs.Prelude.{Option, Some, None, Contains, option_map}
-use Rattle.std.proofs.lemmas.Option.{none-some, same_Some}
-use Rattle.ical_tree.specs.Tree.{component_lines, component_children, tree_of}
+use Rattle.std.proofs.Common.{◌≡◌, ◌∙◌, ap, sym, refl, subst, ℕ, List, inl, inr, Bor}
+use Rattle.std.specs.Prelude.{Option, Some, None, option_map}
+use Rattle.ical_tree.specs.Tree.{tree_of}
 use Rattle.ical_tree.specs.declared.component.Component.{Component}
 use Rattle.profile.specs.text.Trees.{Tree}
 use Rattle.profile.specs.series.Zones.{Zone}
-use Rattle.profile.specs.series.ZoneTexts.{SaysZone, is_part, parts_by}
+use Rattle.profile.specs.series.ZoneTexts.{SaysZone}
 use Rattle.profile.specs.events.ZonedTimes.{zone_named, SaysZoneOf}
-use Rattle.profile.specs.doors.Adapting.{SaysNothing, IsListed, IsMeant, IsSameFor}
+use Rattle.profile.specs.doors.Adapting.{SaysNothing, IsListed, IsSameFor}
 use Rattle.profile.specs.series.GeneralZones.{Run}
 use Rattle.profile.specs.series.GeneralZoneTexts.{SaysGeneralZone}
 use Rattle.cal_zones.specs.Kinds.{zone_of}

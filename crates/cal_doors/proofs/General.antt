@@ -1,7 +1,7 @@
 -- A zone of one observance or of two is a zone in general. For `zones_are_general`.
 use Rattle.std.proofs.Common.{subst, sym, refl, arith, inl, inr, zero, suc, List, [], ◌∷◌, ℤ}
-use Rattle.profile.specs.series.Zones.{Observance, Single, Pair, Onset, IsOnset, IsZoneOnset, InForce, Since, Until}
-use Rattle.profile.specs.series.GeneralZones.{Run, Never, IsRunOnset, IsGeneralOnset, MeansBy, ShowsBy, runs_of}
+use Rattle.profile.specs.series.Zones.{Observance, Single, Pair, Onset, IsOnset, IsZoneOnset, InForce, Since, Until, MeansBy, ShowsBy}
+use Rattle.profile.specs.series.GeneralZones.{Run, Never, IsRunOnset, IsGeneralOnset, runs_of}
 use Rattle.cal_doors.specs.After.{IsGeneral}
 use Rattle.cal_doors.proofs.Same.{of_zone, by_zone}
 

@@ -1,18 +1,19 @@
 -- A zone that takes the place of another says the same for a VEVENT. For `adapted_says_the_same`.
-use Rattle.std.proofs.Common.{◌≡◌, ◌∙◌, sym, subst, arith, inl, inr, ℕ, ◌+◌, ◌*◌, ◌≤◌, ◌<◌, Bool, true, false, List, Option, Some, None, ℤ, pos, ◌+ℤ◌, ◌-ℤ◌, ◌≤ℤ◌}
-use Rattle.std.specs.Prelude.{◌↔◌, ◌⊎◌, Contains, codes}
+use Rattle.std.proofs.Common.{◌≡◌, ◌∙◌, sym, subst, arith, inl, inr, ℕ, ◌+◌, ◌*◌, ◌≤◌, ◌<◌, true, false, List, Option, Some, None, ℤ, pos, ◌+ℤ◌, ◌-ℤ◌, ◌≤ℤ◌}
+use Rattle.std.specs.Prelude.{◌↔◌, Contains, codes}
 use Rattle.std.specs.List.{list_any}
 use Rattle.std.specs.Str.{bytes_eq}
+use Rattle.std.proofs.lemmas.Bool.{true≢false}
 use Rattle.std.proofs.lemmas.Int.{ints}
 use Rattle.profile.specs.text.Trees.{Tree, vevents}
 use Rattle.profile.specs.events.Properties.{Length, LastsFor, lines_named}
-use Rattle.profile.specs.series.Zones.{Zone, Means, Shows, local_time}
+use Rattle.profile.specs.series.Zones.{Zone, Means, Shows, local_time, ShowsBy}
 use Rattle.profile.specs.series.ZoneTexts.{SaysZone}
-use Rattle.profile.specs.series.GeneralZones.{Run, IsGeneralOffsetAt, MeansGenerally, ShowsBy, IsSameFrom, IsSameBetween}
+use Rattle.profile.specs.series.GeneralZones.{Run, IsGeneralOffsetAt, MeansGenerally, IsSameFrom, IsSameBetween}
 use Rattle.profile.specs.series.GeneralZoneTexts.{SaysGeneralZone}
 use Rattle.profile.specs.events.EventRules.{IsOnDay}
 use Rattle.profile.specs.doors.Uses.{IsLineIn, SaysLocal, EventBeginsBy, EventEndsBy, LastsDays}
-use Rattle.profile.specs.doors.Adapting.{IsAdapted, IsGiven, TakesPlace, IsSameFor, always, as_long, goes_on, tables_end, IsOverAt}
+use Rattle.profile.specs.doors.Adapting.{IsAdapted, IsGiven, TakesPlace, IsSameFor, always, as_long, beyond, tables_end, IsOverAt}
 use Rattle.profile.specs.doors.OnClocks.{SaysSameAs, IsDaysLaterOn}
 use Rattle.cal_doors.specs.Laws.{IsMeantAfter, SaysTheSame, SaysSameUpTo, SaysTheSameUpTo}
 use Rattle.cal_doors.proofs.LawEvents.{OneRule, says_same, start_from, later_there}
@@ -82,18 +83,15 @@ module _ (meant part : Tree) (runs : List Run) (zone : Zone) (general : SaysGene
             ((s.0, same.offset_back t s.0 (omega (arith, ints, f)) (omega (arith, ints, upto)) s.1, s.2), (later_meaning length.days local t end some f upto n.0 n.1).1)),
       )
 
-  same_true : false ≡ true → ⊥
-  same_true e = subst (λ (b : Bool). elim b as (λ _. Type 0) [ false ↦ Unit {0} | true ↦ ⊥ ]) e tt
-
   pub says_so : IsSameFor runs zone false first last → SaysSameAs runs zone name lines
-  says_so (always same) = from_first same
-  says_so (as_long end e same) = while_it_lasts end e same
-  says_so (goes_on to may in_tables over same) = absurd (same_true may)
+  says_so (always exact same) = from_first same
+  says_so (as_long end exact e same) = while_it_lasts end e same
+  says_so (beyond to does in_tables over same) = absurd (true≢false (sym does))
 
-  pub says_so_up_to : (may_go_on : Bool) → IsSameFor runs zone may_go_on first last → SaysSameAs runs zone name lines ⊎ SaysSameUpTo runs zone name lines
-  says_so_up_to may_go_on (always same) = inl (from_first same)
-  says_so_up_to may_go_on (as_long end e same) = inl (while_it_lasts end e same)
-  says_so_up_to may_go_on (goes_on to may in_tables over same) = inr (up_to_end to in_tables over same)
+  pub says_so_up_to : IsSameFor runs zone true first last → SaysSameUpTo runs zone name lines
+  says_so_up_to (always exact same) = absurd (true≢false exact)
+  says_so_up_to (as_long end exact e same) = absurd (true≢false exact)
+  says_so_up_to (beyond to does in_tables over same) = up_to_end to in_tables over same
 
 -- ---- what was adapted
 
@@ -120,7 +118,7 @@ module _ (one_rule : OneRule) (listed : Option Tree) (octets : List ℕ) (going_
       says_so p.meant part p.zone zone p.says read one_rule p.first p.last name lines (p.from_first lines line there is) (λ end e. p.to_last end e lines line there is)
       (subst (λ b. IsSameFor p.zone zone b p.first p.last) none p.same))
 
-  pub says_the_same_up_to : SaysTheSameUpTo listed a.before a.after name lines
-  says_the_same_up_to = taken (λ runs zone. SaysSameAs runs zone name lines ⊎ SaysSameUpTo runs zone name lines) (λ part zone p read.
+  pub says_the_same_up_to : list_any (bytes_eq name) going_on ≡ true → SaysTheSameUpTo listed a.before a.after name lines
+  says_the_same_up_to told = taken (λ runs zone. SaysSameUpTo runs zone name lines) (λ part zone p read.
       says_so_up_to p.meant part p.zone zone p.says read one_rule p.first p.last name lines (p.from_first lines line there is) (λ end e. p.to_last end e lines line there is)
-      (list_any (bytes_eq name) going_on) p.same)
+      (subst (λ b. IsSameFor p.zone zone b p.first p.last) told p.same))

@@ -9,10 +9,10 @@ use Rattle.profile.specs.text.Lines.{line_value}
 use Rattle.profile.specs.text.Trees.{Tree}
 use Rattle.profile.specs.text.Values.{IsOffset, SpellsTime, SpellsSize, SpellsOffset}
 use Rattle.profile.specs.events.Properties.{Says, BothOrNeither}
-use Rattle.profile.specs.series.Zones.{Observance, Zone, Constant, Single, Pair, Onset, IsOnset, IsZoneOnset, InForce, Since, Until, IsOffsetAt, Means, Shows}
+use Rattle.profile.specs.series.Zones.{Observance, Zone, Constant, Single, Pair, Onset, IsOnset, IsZoneOnset, InForce, Since, Until, IsOffsetAt, Means, Shows, ShowsBy, MeansBy}
 use Rattle.profile.specs.series.ZoneTexts.{SaysZone, SaysPartTimes, HasForm, IsOffsetLine, constant, single, pair}
-use Rattle.profile.specs.series.GeneralZones.{Run, IsGeneralOnset, IsGeneralOffsetAt, ShowsBy, MeansBy, MeansGenerally}
-use Rattle.profile.specs.series.GeneralZoneTexts.{SaysTimes, IsFirstRun, once, yearly, IsRunAt, SaysRuns, SaysGeneralZone}
+use Rattle.profile.specs.series.GeneralZones.{Run, Never, IsGeneralOnset, IsGeneralOffsetAt, MeansGenerally}
+use Rattle.profile.specs.series.GeneralZoneTexts.{SaysTimes, AreFirstRuns, once, yearly, listed, IsRunAt, SaysRuns, SaysGeneralZone}
 use Rattle.cal_doors.proofs.LawClocks.{AreNear}
 
 -- ---- offsets that are spelled
@@ -68,15 +68,16 @@ zone_short t z says = form_short _ _ _ z says.form
 abbrev IsRunShort : Run → Type 0
 IsRunShort run = IsShort run.observance
 
-first_short : (lines : List (List ℕ)) (o : Observance) (run : Run) → IsShort o → IsFirstRun lines o run → IsRunShort run
-first_short lines o run h (once none e) = h
-first_short lines o run h (yearly r says e) = h
-
 dates_short : (o : Observance) (dates : List ℤ) (runs : List Run) → IsShort o → AllZip (IsRunAt o) dates runs → All IsRunShort runs
 dates_short o [] [] h all = All-nil IsRunShort
 dates_short o [] (run ∷ runs) h all = absurd all
 dates_short o (date ∷ dates) [] h all = absurd all
 dates_short o (date ∷ dates) (run ∷ runs) h all = All-cons IsRunShort run runs (subst IsRunShort (sym all.0.is) h) (dates_short o dates runs h all.1)
+
+firsts_short : (lines : List (List ℕ)) (o : Observance) (runs : List Run) → IsShort o → AreFirstRuns lines o runs → All IsRunShort runs
+firsts_short lines o runs h (once none e) = All-cons IsRunShort (record { observance = o; end = Never }) [] h (All-nil IsRunShort)
+firsts_short lines o runs h (yearly r says e) = All-cons IsRunShort (record { observance = o; end = r.end }) [] h (All-nil IsRunShort)
+firsts_short lines o runs h (listed days all says at) = dates_short o _ runs h at
 
 times_short : (lines : List (List ℕ)) (o : Observance) → SaysTimes lines o → IsShort o
 times_short lines o says = (said_bound _ lines o.offset_from says.from, said_bound _ lines o.offset_to says.to)
@@ -85,7 +86,7 @@ runs_short : (lines : List (List ℕ)) (runs : List Run) → SaysRuns lines runs
 runs_short lines runs says =
     let h = times_short lines says.o says.times in
     subst (All IsRunShort) (sym says.all)
-    (All-cons IsRunShort says.first says.others (first_short lines says.o says.first h says.is_first) (dates_short says.o says.dates says.others h says.at_dates))
+    (All-append IsRunShort says.firsts says.others (firsts_short lines says.o says.firsts h says.are_first) (dates_short says.o says.dates says.others h says.at_dates))
 
 parts_short : (parts : List (List (List ℕ))) (each : List (List Run)) → AllZip SaysRuns parts each → All IsRunShort (flat_map (λ xs. xs) each)
 parts_short [] [] all = All-nil IsRunShort

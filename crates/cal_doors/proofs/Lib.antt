@@ -11,6 +11,7 @@ pub mod Same
 pub mod Still
 pub mod General
 pub mod Again
+pub mod RuleDays
 pub mod PartSays
 pub mod NamedTables
 pub mod UsesScans

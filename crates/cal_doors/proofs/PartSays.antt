@@ -1,23 +1,30 @@
 -- What the readers of a part of a VTIMEZONE in general say, put together.
-use Rattle.std.proofs.Common.{◌≡◌, ◌∙◌, ap, sym, refl, subst, inl, inr, ℕ, true, false, cond, ◌==◌, List, [], ◌∷◌, ◌++◌, length, codes, arith, append_assoc, append-nil, ℤ, Some, None}
-use Rattle.std.specs.Prelude.{Contains}
-use Rattle.std.specs.List.{AllZip, flat_map, slice_split}
+use Rattle.std.proofs.Common.{not, map, Bool, ◌≡◌, ◌∙◌, ap, sym, refl, subst, inl, inr, ℕ, true, false, cond, ◌==◌, List, [], ◌∷◌, ◌++◌, codes, arith, append_assoc, append-nil, ℤ, Some, None}
+use Rattle.std.specs.Prelude.{Contains, nat_le}
+use Rattle.std.specs.List.{AllZip, flat_map, slice_split, list_all}
+use Rattle.std.proofs.lemmas.Bool.{false≢true}
 use Rattle.std.proofs.lemmas.List.{map-append}
 use Rattle.std.proofs.lemmas.List.Elements.{Contains-append_right}
 use Rattle.profile.specs.text.Lines.{line_value}
-use Rattle.profile.specs.text.Values.{SpellsLocal}
+use Rattle.profile.specs.text.Values.{SpellsLocal, IsClockSeconds}
 use Rattle.profile.specs.events.Properties.{is_of, lines_named, OccursAtMostOnce, IsMissing, Says}
-use Rattle.profile.specs.series.Zones.{Observance}
+use Rattle.profile.specs.series.Rules.{is_missing, on_day_of_start}
+use Rattle.profile.specs.series.Zones.{Observance, local_time}
 use Rattle.profile.specs.series.ZoneTexts.{IsLocalLine, IsOffsetLine, time_names}
-use Rattle.profile.specs.series.GeneralZones.{End, Run}
-use Rattle.profile.specs.series.GeneralZoneTexts.{IsRunAt, IsDatesLine, SaysDates, SpellsEnding, IsEndingLine, IsFirstRun, SaysRuns, PartsSayRuns, RunsFault, once, yearly, missing, twice, fixed, bad_start, bad_from, bad_to}
+use Rattle.profile.specs.series.GeneralZones.{End, Never, Run}
+use Rattle.profile.specs.series.GeneralZoneTexts.{without_end, IsRunAt, IsDatesLine, SaysTimes, SpellsEnding, SpellsDays, IsEndingLine, IsDaysLine, SaysRuns, PartsSayRuns, RunsFault, once, yearly, listed, missing, twice, fixed, bad_start, bad_from, bad_to, bad_rule}
 use Rattle.cal_zones.specs.Read.{StartFault, IsNotOnce, OffsetFault}
+use Rattle.cal_zones.specs.Shapes.{occurs_yearly}
+use Rattle.cal_zones.proofs.Named.{one_day_parts}
 use Rattle.cal_zones.proofs.Reading.{said}
+use Rattle.ical_tree.proofs.OneLine.{the_line}
 use Rattle.cal_doors.specs.Ends.{end_of}
-use Rattle.cal_doors.specs.Runs.{run_of, runs_in, IsYearlyRun}
-use Rattle.cal_doors.specs.Reading.{ending_of, AreTimes, SaysFirst, AreRunsAt, AddsRuns, AddsLine, AddsDates, AddsPart, DateFault, LineFault, DatesFault}
+use Rattle.cal_doors.specs.Listed.{HasStart}
+use Rattle.cal_doors.specs.Runs.{run_of, runs_in}
+use Rattle.cal_doors.specs.Reading.{ending_of, SpellsNoRuleOf, AreTimes, HasTimes, AddsFirst, AddsYearly, AddsDays, AddsRuns, AddsLine, AddsDates, AddsPart, DateFault, LineFault, DatesFault}
 use Rattle.cal_doors.specs.declared.run.Run as kept
 use Rattle.cal_doors.specs.declared.rule.EndingRule.{EndingRule}
+use Rattle.cal_doors.proofs.RuleDays.{starting, some_start, said_bound}
 
 abbrev Lines : Type 0
 Lines = List (List ℕ)
@@ -40,55 +47,97 @@ pub to_fault : (lines : Lines) (n : ℕ) → OffsetFault (codes "TZOFFSETTO") li
 to_fault lines n (inl (e, h)) = subst (RunsFault lines) (sym e) (not_one (codes "TZOFFSETTO") lines (2, omega arith, refl) h)
 to_fault lines n (inr (e, h)) = subst (RunsFault lines) (sym e) (bad_to h)
 
--- ---- the first run
+-- ---- the first runs
 
 abbrev pub with_offsets : ℤ → ℤ → Observance
 with_offsets from to = record { day = 0; second = 0; rule = None; offset_from = from; offset_to = to }
 
 module _ (lines : Lines) (start from to : ℤ) where
-  pub once_first : (run : Run) → IsRunAt (with_offsets from to) start run → IsMissing (codes "RRULE") lines → SaysFirst lines start from to run
-  once_first run at none =
-      subst (SaysFirst lines start from to) (sym at.is)
-      (record { times = record { start_there = at.at; second = at.in_day; before = refl; after = refl }; first = once none refl })
-
-  pub yearly_first : (line : List ℕ) (r : EndingRule) (run : Run) → OccursAtMostOnce (codes "RRULE") lines (Some line) → SpellsEnding from (line_value line) (ending_of r)
-      → IsYearlyRun start r.day from to (end_of r.end) run → SaysFirst lines start from to run
-  yearly_first line r run one spelled is =
-      let says : Says (codes "RRULE") true (IsEndingLine run.observance.offset_from) lines (Some (ending_of r)) =
-      subst (λ (z : ℤ). Says (codes "RRULE") true (IsEndingLine z) lines (Some (ending_of r))) (sym is.before) (said (IsEndingLine from) (codes "RRULE") lines line (ending_of r) one spelled) in
-      record {
-        times = record { start_there = is.start_there; second = is.second; before = is.before; after = is.after };
-        first = subst (λ (e : End). IsFirstRun lines run.observance (record { observance = run.observance; end = e })) (sym is.end_there) (yearly (ending_of r) says is.rule);
-      }
-
-  pub all_say : (first : Run) (more : List Run) (dates : List ℤ) → AreTimes lines start from to → SaysFirst lines start from to first → SaysDates lines dates
-      → AreRunsAt from to dates more → SaysRuns lines (first ∷ more)
-  all_say first more dates times is said_dates at = record {
-    o = first.observance;
-    times = record {
-      start = subst (λ (t : ℤ). Says (codes "DTSTART") true IsLocalLine lines (Some t)) (sym is.times.start_there) times.says_start;
-      second = is.times.second;
-      from = subst (λ (t : ℤ). Says (codes "TZOFFSETFROM") true IsOffsetLine lines (Some t)) (sym is.times.before) times.says_from;
-      to = subst (λ (t : ℤ). Says (codes "TZOFFSETTO") true IsOffsetLine lines (Some t)) (sym is.times.after) times.says_to;
-    };
-    first = first;
-    is_first = is.first;
-    dates = dates;
-    says_dates = said_dates;
-    others = more;
-    at_dates = at first.observance is.times.before is.times.after;
-    all = refl;
+  -- an observance that has the times of a part
+  pub says_times : (o : Observance) → AreTimes lines start from to → HasTimes start from to o → SaysTimes lines o
+  says_times o times has = record {
+    start = subst (λ (t : ℤ). Says (codes "DTSTART") true IsLocalLine lines (Some t)) (sym has.begins.start_there) times.says_start;
+    second = has.begins.second;
+    from = subst (λ (t : ℤ). Says (codes "TZOFFSETFROM") true IsOffsetLine lines (Some t)) (sym has.begins.before) times.says_from;
+    to = subst (λ (t : ℤ). Says (codes "TZOFFSETTO") true IsOffsetLine lines (Some t)) (sym has.after) times.says_to;
   }
 
-  -- the first run went behind the others, and those of the RDATEs behind it
-  pub part_added : (first : kept.Run) (old mid new : List kept.Run) → AreTimes lines start from to → SaysFirst lines start from to (run_of first) → mid ≡ old ++ first ∷ []
-      → AddsDates from to lines (runs_in mid) (runs_in new) → AddsPart lines (runs_in old) (runs_in new)
-  part_added first old mid new times is push (dates, says_dates, adds) =
-      let behind : runs_in mid ≡ runs_in old ++ run_of first ∷ [] = ap runs_in push ∙ map-append run_of old (first ∷ []) in (
-        run_of first ∷ adds.more,
-        all_say (run_of first) adds.more dates times is says_dates adds.at_dates,
-        adds.behind ∙ ap (λ l. l ++ adds.more) behind ∙ append_assoc (runs_in old) (run_of first ∷ []) adds.more,
-      )
+  pub some_times : IsClockSeconds start → HasTimes start from to (starting start from to)
+  some_times range = record { begins = some_start start from to range; after = refl }
+
+  pub once_first : (old new : List kept.Run) (run : kept.Run) → IsRunAt (with_offsets from to) start (run_of run) → IsMissing (codes "RRULE") lines → new ≡ old ++ run ∷ []
+      → AddsFirst lines start from to (runs_in old) (runs_in new)
+  once_first old new run at none push =
+      let o : Observance = record { day = at.day; second = at.second; rule = None; offset_from = from; offset_to = to } in
+      record {
+        o = o;
+        times = record { begins = record { start_there = at.at; second = at.in_day; before = refl }; after = refl };
+        firsts = record { observance = o; end = Never } ∷ [];
+        are_first = once none refl;
+        behind = ap runs_in push ∙ map-append run_of old (run ∷ []) ∙ ap (λ (r : Run). runs_in old ++ r ∷ []) at.is;
+      }
+
+  pub yearly_first : (line : List ℕ) (rule : EndingRule) (old new : List Run) → OccursAtMostOnce (codes "RRULE") lines (Some line)
+      → ((o : Observance) → HasStart start from o → SpellsEnding o (line_value line) (ending_of rule)) → AddsYearly rule start from to old new → AddsFirst lines start from to old new
+  yearly_first line rule old new there spelled (run, is, behind) =
+      let o = run.observance in
+      let begins : HasStart start from o = record { start_there = is.start_there; second = is.second; before = is.before } in
+      record {
+        o = o;
+        times = record { begins = begins; after = is.after };
+        firsts = record { observance = o; end = end_of rule.end } ∷ [];
+        are_first = yearly (ending_of rule) (said (IsEndingLine o) (codes "RRULE") lines line (ending_of rule) there (spelled o begins)) is.rule;
+        behind = behind ∙ ap (λ (e : End). old ++ record { observance = o; end = e } ∷ []) is.end_there;
+      }
+
+  pub listed_first : (line : List ℕ) (days : List ℕ) (old new : List Run) → IsClockSeconds start → OccursAtMostOnce (codes "RRULE") lines (Some line)
+      → ((o : Observance) → HasStart start from o → SpellsDays o (line_value line) days) → AddsDays start from to days old new → AddsFirst lines start from to old new
+  listed_first line days old new range there spelled adds =
+      let o = starting start from to in
+      let times = some_times range in
+      let added = adds o times.begins in
+      record {
+        o = o;
+        times = times;
+        firsts = added.more;
+        are_first = listed days added.more (said (IsDaysLine o) (codes "RRULE") lines line days there (spelled o times.begins)) (added.at_dates o refl refl);
+        behind = added.behind;
+      }
+
+  -- the day of its rule is one of every year
+  pub each_year : (line : List ℕ) (rule : EndingRule) → IsClockSeconds start → ((o : Observance) → HasStart start from o → SpellsEnding o line (ending_of rule)) → occurs_yearly rule.day.month rule.day.days ≡ true
+  each_year line rule range spelled =
+      let o = starting start from to in
+      let says = spelled o (some_start start from to range) in
+      (one_day_parts (without_end (on_day_of_start o.day says.rule)) (ending_of rule).each says.one_day).each
+
+  -- none of its days is after year 9999
+  pub days_bound : (line days : List ℕ) → IsClockSeconds start → ((o : Observance) → HasStart start from o → SpellsDays o line days) → list_all (λ day. nat_le day 3_652_424) days ≡ true
+  days_bound line days range spelled = said_bound (starting start from to) line days (spelled (starting start from to) (some_start start from to range))
+
+  -- its rule is none
+  pub rule_fault : (line : List ℕ) → IsClockSeconds start → AreTimes lines start from to → OccursAtMostOnce (codes "RRULE") lines (Some line) → SpellsNoRuleOf start from (line_value line) → RunsFault lines 40
+  rule_fault line range times there none =
+      let has = some_times range in
+      bad_rule (starting start from to) (says_times (starting start from to) times has) (line, the_line (codes "RRULE") lines line there, none (starting start from to) has.begins)
+
+  -- the first runs went behind the others, and those of the RDATEs behind them
+  pub part_added : (old mid new : List Run) → AreTimes lines start from to → AddsFirst lines start from to old mid → AddsDates from to lines mid new → AddsPart lines old new
+  part_added old mid new times is (dates, says_dates, adds) = (
+    is.firsts ++ adds.more,
+    record {
+      o = is.o;
+      times = says_times is.o times is.times;
+      firsts = is.firsts;
+      are_first = is.are_first;
+      dates = dates;
+      says_dates = says_dates;
+      others = adds.more;
+      at_dates = adds.at_dates is.o is.times.begins.before is.times.after;
+      all = refl;
+    },
+    adds.behind ∙ ap (λ l. l ++ adds.more) is.behind ∙ append_assoc old is.firsts adds.more,
+  )
 
 -- ---- two lists, place by place
 
@@ -229,64 +278,79 @@ module _ (from to : ℤ) (lines : Lines) where
         (line, subst (λ (l : Lines). Contains l line) (sym all) (Contains-append_right t.done (line ∷ lines_named (codes "RDATE") rest) line (0, omega arith, refl)), f.1),
       )
 
+-- ---- runs on days
+
+-- the runs of the days so far were added, and these are left
+pub record DaysAdded (from to : ℤ) (second : ℕ) (days left : List ℕ) (old new : List Run) : Type 0 where
+  pub done : List ℕ
+  pub parted : days ≡ done ++ left
+  pub adds : AddsRuns from to (map (λ day. local_time day second) done) old new
+
+module _ (from to : ℤ) (second : ℕ) (days : List ℕ) where
+  pub no_days_added : (left : List ℕ) (old : List Run) → left ≡ days → DaysAdded from to second days left old old
+  no_days_added left old e = record { done = []; parted = sym e; adds = no_runs from to old }
+
+  pub day_added : (left rest : List ℕ) (day : ℕ) (old mid new : List Run) → DaysAdded from to second days left old mid → left ≡ day ∷ rest
+      → AddsRuns from to (local_time day second ∷ []) mid new → DaysAdded from to second days rest old new
+  day_added left rest day old mid new t e a = record {
+    done = t.done ++ day ∷ [];
+    parted = t.parted ∙ ap (λ l. t.done ++ l) e ∙ sym (append_assoc t.done (day ∷ []) rest);
+    adds = subst (λ (ds : List ℤ). AddsRuns from to ds old new) (sym (map-append (λ (d : ℕ). local_time d second) t.done (day ∷ [])))
+        (then_more from to (map (λ (d : ℕ). local_time d second) t.done) (local_time day second ∷ []) old mid new t.adds a);
+  }
+
+  pub days_added : (left : List ℕ) (old new : List Run) → DaysAdded from to second days left old new → left ≡ [] → AddsRuns from to (map (λ day. local_time day second) days) old new
+  days_added left old new t e =
+      let all : days ≡ t.done = t.parted ∙ ap (λ l. t.done ++ l) e ∙ append-nil t.done in
+      subst (λ (ds : List ℕ). AddsRuns from to (map (λ day. local_time day second) ds) old new) (sym all) t.adds
+
 -- ---- the parts
 
--- a part says one run at least
-says_some : (lines : Lines) (runs : List Run) → SaysRuns lines runs → runs ≡ [] → ⊥
-says_some lines runs s e = let none : s.first ∷ s.others ≡ [] = sym s.all ∙ e in cc
-
--- whether runs were added is seen from how many there are
-pub no_length : (runs : List kept.Run) → length runs ≡ 0 → runs_in runs ≡ []
-no_length [] h = refl
-no_length (r ∷ rs) h = absurd (omega arith)
-
-pub some_length : (runs : List kept.Run) → (length runs ≡ 0 → ⊥) → runs_in runs ≡ [] → ⊥
-some_length [] h e = h refl
-some_length (r ∷ rs) h e = cc
-
--- the runs of the parts so far were added, and these parts are left
-pub record PartsAdded (parts left : List Lines) (runs : List Run) : Type 0 where
+-- the runs of the parts so far were added, and these parts are left; the flag says whether there was one
+pub record PartsAdded (parts left : List Lines) (some : Bool) (runs : List Run) : Type 0 where
   pub done : List Lines
   pub parted : parts ≡ done ++ left
+  pub seen : some ≡ not (is_missing done)
   pub each : List (List Run)
   pub say : AllZip SaysRuns done each
   pub all : runs ≡ flat_map (λ xs. xs) each
 
-module _ (parts : List Lines) where
-  pub no_parts : (left : List Lines) → left ≡ parts → PartsAdded parts left []
-  no_parts left e = record { done = []; parted = sym e; each = []; say = tt; all = refl }
+one_there : {A : Type 0} (xs : List A) (x : A) → true ≡ not (is_missing (xs ++ x ∷ []))
+one_there [] x = refl
+one_there (y ∷ xs) x = refl
 
-  pub next_part : (left rest : List Lines) (part : Lines) (old new : List Run) → PartsAdded parts left old → left ≡ part ∷ rest → AddsPart part old new → PartsAdded parts rest new
-  next_part left rest part old new t s (more, says, behind) = record {
+none_there : {A : Type 0} (xs : List A) → false ≡ not (is_missing xs) → xs ≡ []
+none_there [] h = refl
+none_there (x ∷ xs) h = absurd (false≢true h)
+
+module _ (parts : List Lines) where
+  pub no_parts : (left : List Lines) → left ≡ parts → PartsAdded parts left false []
+  no_parts left e = record { done = []; parted = sym e; seen = refl; each = []; say = tt; all = refl }
+
+  pub next_part : (left rest : List Lines) (some : Bool) (part : Lines) (old new : List Run) → PartsAdded parts left some old → left ≡ part ∷ rest → AddsPart part old new → PartsAdded parts rest true new
+  next_part left rest some part old new t s (more, says, behind) = record {
     done = t.done ++ part ∷ [];
     parted = t.parted ∙ ap (λ l. t.done ++ l) s ∙ sym (append_assoc t.done (part ∷ []) rest);
+    seen = one_there t.done part;
     each = t.each ++ more ∷ [];
     say = zip_append SaysRuns t.done (part ∷ []) t.each (more ∷ []) t.say (says, tt);
     all = behind ∙ ap (λ l. l ++ more) t.all ∙ sym (behind_all t.each more);
   }
 
-  -- none is left, and there are runs
-  pub parts_say : (left : List Lines) (runs : List Run) → PartsAdded parts left runs → left ≡ [] → (runs ≡ [] → ⊥) → PartsSayRuns parts runs
-  parts_say left runs t e some =
-      let all : parts ≡ t.done = t.parted ∙ ap (λ l. t.done ++ l) e ∙ append-nil t.done in
-      let says : AllZip SaysRuns parts t.each = subst (λ (l : List Lines). AllZip SaysRuns l t.each) (sym all) t.say in
+  done_all : (left : List Lines) (some : Bool) (runs : List Run) → (t : PartsAdded parts left some runs) → left ≡ [] → parts ≡ t.done
+  done_all left some runs t e = t.parted ∙ ap (λ l. t.done ++ l) e ∙ append-nil t.done
+
+  -- none is left, and there was one
+  pub parts_say : (left : List Lines) (runs : List Run) → PartsAdded parts left true runs → left ≡ [] → PartsSayRuns parts runs
+  parts_say left runs t e =
+      let all = done_all left true runs t e in
       record {
-        some = λ none. some (t.all ∙ ap (flat_map (λ xs. xs)) (none_each t.each (subst (λ (l : List Lines). AllZip SaysRuns l t.each) none says)));
+        some = λ none. false≢true (sym (t.seen ∙ ap (λ (l : List Lines). not (is_missing l)) (sym all ∙ none)));
         each = t.each;
-        say = says;
+        say = subst (λ (l : List Lines). AllZip SaysRuns l t.each) (sym all) t.say;
         all = t.all;
       }
-    where
-      none_each : (each : List (List Run)) → AllZip SaysRuns [] each → each ≡ []
-      none_each [] h = refl
-      none_each (x ∷ xs) h = absurd h
 
-  -- and there is none
-  pub none_say : (left : List Lines) (runs : List Run) → PartsAdded parts left runs → left ≡ [] → runs ≡ [] → parts ≡ []
-  none_say left runs t e none = t.parted ∙ ap (λ l. t.done ++ l) e ∙ append-nil t.done ∙ no_done t.done t.each t.say (sym t.all ∙ none)
-    where
-      no_done : (done : List Lines) (each : List (List Run)) → AllZip SaysRuns done each → flat_map (λ xs. xs) each ≡ [] → done ≡ []
-      no_done [] each h k = refl
-      no_done (x ∷ xs) [] h k = absurd h
-      no_done (x ∷ xs) ([] ∷ each) h k = absurd (says_some x [] h.0 refl)
-      no_done (x ∷ xs) ((r ∷ rs) ∷ each) h k = cc
+  -- and there was none
+  pub none_say : (left : List Lines) (runs : List Run) → PartsAdded parts left false runs → left ≡ [] → parts ≡ []
+  none_say left runs t e = done_all left false runs t e ∙ none_there t.done t.seen

@@ -1,5 +1,5 @@
 -- What a name means in an object that was made of another. For `is_given`, `is_right` and `are_same_but_zones`.
-use Rattle.std.proofs.Common.{◌≡◌, ◌∙◌, ap, sym, refl, subst, ℕ, Bool, true, List, Bor, Result, Ok, Err}
+use Rattle.std.proofs.Common.{◌≡◌, ◌∙◌, ap, sym, subst, ℕ, true, List, Bor, Result, Ok, Err}
 use Rattle.std.specs.Prelude.{Option, Some, None, String, option_map, IfOk, IfSome}
 use Rattle.std.proofs.lemmas.Option.{none-some, same_Some}
 use Rattle.ical_tree.specs.Tree.{component_lines, component_children, tree_of}

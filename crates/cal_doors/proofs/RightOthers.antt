@@ -1,11 +1,11 @@
 -- Components but for VTIMEZONEs, one by one. For `are_same_components` and `past_zones`.
-use Rattle.std.proofs.Common.{◌≡◌, ◌∙◌, ap, sym, refl, ℕ, suc, ◌-◌, ◌≤◌, Bool, true, false, not, cond, List, [], ◌∷◌, map, filter, codes, length, get_or, take, drop, arith}
+use Rattle.std.proofs.Common.{◌≡◌, ◌∙◌, ap, sym, refl, suc, ◌-◌, ◌≤◌, Bool, true, false, not, cond, List, [], ◌∷◌, map, filter, codes, length, get_or, take, drop, arith}
 use Rattle.std.proofs.lemmas.List.{take_all}
 use Rattle.ical_tree.specs.Tree.{component_name, component_children, tree_of}
 use Rattle.ical_tree.specs.declared.component.Component.{Component}
-use Rattle.ical_tree.proofs.TreeOfLemmas.{tree_of-name, tree_of-own, tree_of-inside}
+use Rattle.ical_tree.proofs.TreeOfLemmas.{tree_of-name, tree_of-inside}
 use Rattle.profile.specs.text.Lines.{is_same_name}
-use Rattle.profile.specs.text.Trees.{Tree, tree_name, tree_inside}
+use Rattle.profile.specs.text.Trees.{Tree, tree_name}
 use Rattle.profile.specs.doors.Adapting.{without_zones}
 use Rattle.cal_doors.specs.Adapted.{others_among}
 

@@ -4,8 +4,8 @@ use Rattle.std.specs.Int.Signed.{◌<ℤ◌}
 use Rattle.std.proofs.lemmas.Int.{by_lt_z}
 use Rattle.jiff_core.proofs.SignedLemmas.{signed_arith}
 use Rattle.profile.specs.text.Values.{IsOffset}
-use Rattle.profile.specs.series.Zones.{Zone, Constant, Single, Pair, Onset, InForce, Since, Until, IsZoneOnset, IsOffsetAt, IsOneOffset, IsBounds, Means}
-use Rattle.profile.specs.series.GeneralZones.{Run, IsRunOnset, IsGeneralOnset, IsGeneralOffsetAt, MeansBy, IsSameFrom}
+use Rattle.profile.specs.series.Zones.{Zone, Constant, Single, Pair, Onset, InForce, Since, Until, IsZoneOnset, IsOffsetAt, IsOneOffset, IsBounds, Means, MeansBy}
+use Rattle.profile.specs.series.GeneralZones.{Run, IsRunOnset, IsGeneralOnset, IsGeneralOffsetAt, IsSameFrom}
 use Rattle.cal_doors.specs.Runs.{runs_in}
 use Rattle.cal_doors.specs.After.{IsOnlyOffset, HasOnsetsAfter}
 use Rattle.cal_doors.specs.declared.run.Run as kept

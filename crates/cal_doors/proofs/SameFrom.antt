@@ -3,8 +3,7 @@
 use Rattle.std.proofs.Common.{arith, inl, inr, ℤ, pos, ◌+ℤ◌, ◌≤ℤ◌}
 use Rattle.std.specs.Int.Signed.{◌<ℤ◌}
 use Rattle.std.proofs.lemmas.Int.{ints, by_lt_z}
-use Rattle.profile.specs.series.Zones.{Onset, IsLatest, InForce, Since, Until}
-use Rattle.profile.specs.series.GeneralZones.{ShowsBy, MeansBy}
+use Rattle.profile.specs.series.Zones.{Onset, IsLatest, InForce, Since, Until, ShowsBy, MeansBy}
 
 -- ---- the offset in force
 

@@ -1,15 +1,15 @@
 -- Two sets of onsets that are the same up to an instant, of which one has begun: what is in force before it is the same, and what local times
 -- mean that no clock shows after it. For `GeneralZone::between`.
-use Rattle.std.proofs.Common.{◌≡◌, sym, subst, arith, zero, suc, inl, inr, List, [], ◌∷◌, ℤ, pos, ◌+ℤ◌, ◌-ℤ◌, ◌≤ℤ◌}
-use Rattle.std.specs.Prelude.{Bool, Option}
+use Rattle.std.proofs.Common.{◌≡◌, refl, sym, subst, arith, zero, suc, inl, inr, List, [], ◌∷◌, ℤ, pos, ◌+ℤ◌, ◌-ℤ◌, ◌≤ℤ◌}
+use Rattle.std.specs.Prelude.{Bool, false, Option}
 use Rattle.std.proofs.lemmas.Int.{ints}
 use Rattle.jiff_core.proofs.SignedLemmas.{signed_arith}
 use Rattle.profile.specs.text.Values.{IsOffset}
-use Rattle.profile.specs.series.Zones.{Zone, Onset, InForce, Since, Until}
-use Rattle.profile.specs.series.GeneralZones.{Run, ShowsBy, MeansBy, IsRunOnset, IsGeneralOnset, IsGeneralOffsetAt, IsSameFrom, IsSameBetween}
+use Rattle.profile.specs.series.Zones.{Zone, Onset, InForce, Since, Until, ShowsBy, MeansBy}
+use Rattle.profile.specs.series.GeneralZones.{Run, IsRunOnset, IsGeneralOnset, IsGeneralOffsetAt, IsSameFrom, IsSameBetween}
 use Rattle.cal_doors.specs.Runs.{runs_in}
 use Rattle.cal_doors.specs.declared.run.Run as kept
-use Rattle.profile.specs.doors.Adapting.{IsSameFor, as_long, goes_on}
+use Rattle.profile.specs.doors.Adapting.{IsSameFor, as_long, beyond}
 use Rattle.cal_doors.specs.Between.{HasBegun, AreSameUpTo, LastsAsLong, GoesOn}
 
 -- ---- the offset in force
@@ -121,8 +121,9 @@ runs_between runs others from to z same begun h = between (runs_in runs) (runs_i
 -- ---- local times from one on
 
 -- a zone that lasts as long as they do, and one that goes on
-pub lasts_as_long : (zone : List Run) (z : Zone) (may : Bool) (first from : ℤ) (last : Option ℤ) → from ≡ first -ℤ pos 86_399 → LastsAsLong zone z from last → IsSameFor zone z may first last
-lasts_as_long zone z may first from last e (end, is, same) = as_long end is (subst (λ f. IsSameBetween zone z f (end +ℤ pos 86_399)) e same)
+pub lasts_as_long : (zone : List Run) (z : Zone) (first from : ℤ) (last : Option ℤ) → from ≡ first -ℤ pos 86_399 → LastsAsLong zone z from last → IsSameFor zone z false first last
+lasts_as_long zone z first from last e (end, is, same) = as_long end refl is (subst (λ f. IsSameBetween zone z f (end +ℤ pos 86_399)) e same)
 
-pub goes_on_beyond : (zone : List Run) (z : Zone) (may : Bool) (first from : ℤ) (last : Option ℤ) → from ≡ first -ℤ pos 86_399 → GoesOn zone z may from → IsSameFor zone z may first last
-goes_on_beyond zone z may first from last e (to, may_go_on, late, over, same) = goes_on to may_go_on late over (subst (λ f. IsSameBetween zone z f to) e same)
+pub goes_on_beyond : (zone : List Run) (z : Zone) (goes_on : Bool) (first from : ℤ) (last : Option ℤ) → from ≡ first -ℤ pos 86_399 → GoesOn zone z goes_on from
+    → IsSameFor zone z goes_on first last
+goes_on_beyond zone z goes_on first from last e (to, does, late, over, same) = beyond to does late over (subst (λ f. IsSameBetween zone z f to) e same)

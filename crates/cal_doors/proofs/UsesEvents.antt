@@ -4,7 +4,7 @@ use Rattle.std.proofs.lemmas.List.{map-append, take_all}
 use Rattle.std.proofs.lemmas.List.{take_more}
 use Rattle.std.proofs.lemmas.List.Elements.{filter-append}
 use Rattle.profile.specs.text.Lines.{is_same_name}
-use Rattle.profile.specs.text.Trees.{Tree, tree_name, tree_own, tree_inside, vevents}
+use Rattle.profile.specs.text.Trees.{tree_name, tree_own, vevents}
 use Rattle.ical_tree.specs.declared.component.Component.{Component}
 use Rattle.ical_tree.specs.Tree.{component_name, component_lines, component_children, tree_of}
 use Rattle.ical_tree.proofs.TreeOfLemmas.{tree_of-name, tree_of-own, tree_of-inside}

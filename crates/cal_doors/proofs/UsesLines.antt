@@ -1,22 +1,21 @@
 -- What the lines of a VEVENT say of local times: from when on, and until when.
-use Rattle.std.proofs.Common.{◌≡◌, ◌∙◌, ℕ, ◌+◌, ◌%◌, ◌/◌, ◌<◌, ◌⊎◌, inl, inr, Bool, true, false, ◌&&◌, List, [], ◌∷◌, ◌++◌, length, filter, codes, sym, refl, ap, subst, arith, ℤ, pos, ◌+ℤ◌, ◌-ℤ◌, ◌≤ℤ◌}
+use Rattle.std.proofs.Common.{◌≡◌, ◌∙◌, ℕ, Bool, true, false, ◌&&◌, List, ◌++◌, length, codes, sym, ap, arith, ℤ, pos, ◌+ℤ◌, ◌≤ℤ◌}
 use Rattle.std.specs.Prelude.{Contains, Option, Some, None, Result, Ok, Err, IfOk, IfSome}
-use Rattle.std.specs.List.{slice_split, list_any}
+use Rattle.std.specs.List.{list_any}
 use Rattle.std.specs.Int.{int_min, int_max}
 use Rattle.std.specs.Str.{str_to_ascii_lowercase, bytes_eq}
 use Rattle.std.proofs.lemmas.Int.{ints, by_lt_z}
 use Rattle.std.proofs.lemmas.Bool.{true≢false}
 use Rattle.std.proofs.lemmas.Slice.Eq.{bytes_eq-Decides}
-use Rattle.profile.specs.text.Lines.{line_name, line_value, is_same_name}
+use Rattle.profile.specs.text.Lines.{line_name, line_value}
 use Rattle.profile.specs.text.Values.{two_digits, four_digits, SpellsClock, SpellsLocal, SpellsStamp, SpellsDuration}
-use Rattle.profile.specs.events.Properties.{Length, LastsFor, is_of, lines_named}
+use Rattle.profile.specs.events.Properties.{is_of}
 use Rattle.profile.specs.series.Rules.{RuleText, UntilLocal}
 use Rattle.profile.specs.series.RuleTexts.{SpellsRule}
 use Rattle.profile.specs.doors.Uses.{time_properties, is_time_line, SaysLocal, SaysOnClock, SaysStamp, LastsDays, RuleEndsBy, EventEndsBy}
 use Rattle.profile.specs.doors.Uses.RuleEndsBy.{by_day, by_local, by_instant}
-use Rattle.ical_values.proofs.Readings.{clock_same, stamp_same}
+use Rattle.ical_values.proofs.Readings.{clock_same}
 use Rattle.ical_values.proofs.Spans.{duration_same}
-use Rattle.cal_rules.proofs.OneRule.{one_rule_read, no_fault}
 use Rattle.cal_doors.specs.Used.{LineBeginsBy, LineEndsBy, HasNoDays}
 use Rattle.cal_doors.proofs.UsesScans.{of_filtered}
 

@@ -1,7 +1,6 @@
 -- The table of the zones that times name grows line by line, and VEVENT by VEVENT.
-use Rattle.std.proofs.Common.{◌≡◌, ◌∙◌, ℕ, ◌⊎◌, inl, inr, Bool, true, false, cond, ◌&&◌, List, [], ◌∷◌, ◌++◌, codes, sym, refl, ap, subst, arith, ℤ, pos, ◌+ℤ◌, ◌≤ℤ◌}
-use Rattle.std.specs.Prelude.{Contains, Option, Some, None, IfSome, String, string_bytes, option_map}
-use Rattle.std.specs.Map.{lookup}
+use Rattle.std.proofs.Common.{◌≡◌, ◌∙◌, ℕ, ◌⊎◌, inl, inr, Bool, true, false, cond, List, [], ◌∷◌, ◌++◌, codes, sym, refl, ap, subst, arith, ℤ, ◌≤ℤ◌}
+use Rattle.std.specs.Prelude.{Contains, Some, None, String, string_bytes}
 use Rattle.std.specs.Str.{bytes_eq}
 use Rattle.std.proofs.lemmas.Int.{ints}
 use Rattle.std.proofs.lemmas.Bool.{true≢false}
@@ -11,9 +10,9 @@ use Rattle.std.proofs.lemmas.List.Elements.{Contains-push_cases, Contains-append
 use Rattle.indexmap.specs.IndexMap.{insert_entry}
 use Rattle.profile.specs.text.Lines.{line_param}
 use Rattle.profile.specs.events.Properties.{is_of}
-use Rattle.profile.specs.doors.Uses.{is_time_line, SaysLocal, IsLineIn, LastsDays, EventBeginsBy, EventEndsBy}
+use Rattle.profile.specs.doors.Uses.{is_time_line, SaysLocal, IsLineIn, LastsDays, EventEndsBy}
 use Rattle.cal_doors.specs.declared.uses.Use.{Use}
-use Rattle.cal_doors.specs.Used.{held, Covers, AreUsesOf, AreUsesWith, EndsEarlier, IsAsWide, IsWidened, AddsLine, LineBeginsBy, AllBeginBy}
+use Rattle.cal_doors.specs.Used.{held, Covers, AreUsesOf, AreUsesWith, IsAsWide, IsWidened, AddsLine, AllBeginBy}
 use Rattle.cal_doors.specs.Used.AddsLine.{names_none, names_one}
 use Rattle.cal_doors.proofs.UsesScans.{none_in, of_filtered}
 use Rattle.cal_doors.proofs.UsesLines.{through, event_later}

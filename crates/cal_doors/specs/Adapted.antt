@@ -1,5 +1,5 @@
 -- What is made of an object at the door.
-use Rattle.std.specs.Prelude.{◌≡◌, ℕ, true, not, List, map, filter, codes, Option, None, Some, option_map, String, ℤ}
+use Rattle.std.specs.Prelude.{◌≡◌, ℕ, not, List, map, filter, codes, Option, None, Some, option_map, String, ℤ}
 use Rattle.std.specs.Borrow.{Bor}
 use Rattle.std.specs.List.{list_any}
 use Rattle.std.specs.Str.{bytes_eq}

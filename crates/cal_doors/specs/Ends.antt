@@ -1,5 +1,5 @@
 -- Where a run of onsets ends, and the rule that it has.
-use Rattle.std.specs.Prelude.{◌≡◌, ℕ, ◌*◌, ◌⊎◌, Option, Some, None, ℤ, pos, ◌+ℤ◌, ◌≤ℤ◌}
+use Rattle.std.specs.Prelude.{◌≡◌, ℕ, ◌*◌, ◌⊎◌, Option, Some, None, ℤ, pos, negsuc, ◌+ℤ◌, ◌≤ℤ◌}
 use Rattle.profile.specs.series.Rules.{Pattern}
 use Rattle.profile.specs.series.Zones.{Observance}
 use Rattle.profile.specs.series.GeneralZones.{End, Never, AfterCount, AtInstant, IsInTime}
@@ -12,6 +12,16 @@ use Rattle.cal_doors.specs.declared.end.End.TheVariants as the
 abbrev pub rule_on : ℕ → Option YearDay → Option Pattern
 rule_on day None = None
 rule_on day (Some each) = Some (yearly_pattern each.month each.days day)
+
+-- an instant of the calendar's years, or a day from them
+abbrev pub IsNearInstant : ℤ → Type 0
+IsNearInstant until = (negsuc 62_135_683_199 ≤ℤ until) × (until ≤ℤ pos 253_402_387_199)
+
+-- UNTIL says such a one
+abbrev pub IsNearEnd : rust.End → Type 0
+IsNearEnd the.Never = Unit {0}
+IsNearEnd (the.After count) = Unit {0}
+IsNearEnd (the.At until) = IsNearInstant until
 
 abbrev pub end_of : rust.End → End
 end_of the.Never = Never

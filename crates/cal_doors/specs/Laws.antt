@@ -1,9 +1,9 @@
 -- What an object that was made readable says of its times.
 use Rattle.std.specs.Prelude.{◌≡◌, ◌↔◌, ℕ, ◌+◌, ◌*◌, ◌≤◌, ◌⊎◌, Contains, List, codes, Option, Some, ℤ, pos, ◌+ℤ◌, ◌≤ℤ◌}
 use Rattle.profile.specs.text.Trees.{Tree}
-use Rattle.profile.specs.series.Zones.{Zone, Means, Shows, local_time}
+use Rattle.profile.specs.series.Zones.{Zone, Means, Shows, local_time, ShowsBy}
 use Rattle.profile.specs.series.ZoneTexts.{SaysZone}
-use Rattle.profile.specs.series.GeneralZones.{Run, IsGeneralOffsetAt, MeansGenerally, ShowsBy}
+use Rattle.profile.specs.series.GeneralZones.{Run, IsGeneralOffsetAt, MeansGenerally}
 use Rattle.profile.specs.series.GeneralZoneTexts.{SaysGeneralZone}
 use Rattle.profile.specs.events.Properties.{Length, LastsFor, lines_named}
 use Rattle.profile.specs.events.EventRules.{IsOnDay}
@@ -32,9 +32,9 @@ pub record IsMeantAfter (listed : Option Tree) (before after : Tree) (name : Lis
 abbrev pub SaysTheSame : Option Tree → Tree → Tree → List ℕ → List (List ℕ) → Type 0
 SaysTheSame listed before after name lines = IsMeantAfter listed before after name (λ runs zone. SaysSameAs runs zone name lines)
 
--- it does up to the end of the onsets that are stated, in 2036 or later: each local time that it names means the same, and where DTSTART is one of them,
--- so does that second of each day from it on, the starts by a rule among these, and nominal days from a start on end at the same instant. By local
--- times all this is a day earlier than that end
+-- it does up to the end of the onsets before 2038-01-19T03:14:07Z, which is in 2036 or later: each local time that it names means the same, and where
+-- DTSTART is one of them, so does that second of each day from it on, the starts by a rule among these, and nominal days from a start on end at the same
+-- instant. By local times all this is a day earlier than that end
 pub record SaysSameUpTo (runs : List Run) (zone : Zone) (name : List ℕ) (lines : List (List ℕ)) : Type 0 where
   pub to : ℤ
   pub to_2036 : tables_end ≤ℤ to
@@ -49,7 +49,6 @@ pub record SaysSameUpTo (runs : List Run) (zone : Zone) (name : List ℕ) (lines
       → (t +ℤ pos (86_400 * length.days + 172_798)) ≤ℤ to
       → IsDaysLaterOn (MeansGenerally runs) (ShowsBy (IsGeneralOffsetAt runs)) length.days t end ↔ IsDaysLaterOn (Means zone) (Shows zone) length.days t end
 
--- it says the same always, or up to there
+-- it says the same up to there
 abbrev pub SaysTheSameUpTo : Option Tree → Tree → Tree → List ℕ → List (List ℕ) → Type 0
-SaysTheSameUpTo listed before after name lines =
-    IsMeantAfter listed before after name (λ runs zone. SaysSameAs runs zone name lines ⊎ SaysSameUpTo runs zone name lines)
+SaysTheSameUpTo listed before after name lines = IsMeantAfter listed before after name (λ runs zone. SaysSameUpTo runs zone name lines)

@@ -4,6 +4,7 @@ pub mod Passing
 pub mod Conditions
 pub mod After
 pub mod Found
+pub mod Listed
 pub mod Reading
 pub mod Named
 pub mod Used

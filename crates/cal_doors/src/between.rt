@@ -113,7 +113,7 @@ pub(crate) fn last_of_all(runs: &[Run]) -> i64
 {
     let mut last = i64::MIN;
     for run in runs {
-        if let Some(bound) = run.latest_bound(TIMES_END - 1) {
+        if let Some(bound) = run.ended_by(TIMES_END - 1) {
             last = last.max(bound);
         }
     }

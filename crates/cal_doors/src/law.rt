@@ -1,6 +1,6 @@
 //! What zones in general are the same as, and what an object that was made readable says: laws, with nothing to do.
 
-ghost use Rattle.std.specs.Prelude.{◌≡◌, ◌↔◌, ◌⊎◌, ◌<◌, ◌++◌, ◌∷◌, ℕ, ℤ, false, List, Option, None, Contains};
+ghost use Rattle.std.specs.Prelude.{◌≡◌, ◌↔◌, ◌⊎◌, ◌<◌, ◌++◌, ◌∷◌, ℕ, ℤ, true, false, List, Option, None, Contains};
 ghost use Rattle.std.specs.List.{list_any};
 ghost use Rattle.std.specs.Str.{bytes_eq};
 ghost use Rattle.profile.specs.text.Trees.{Tree, vevents};
@@ -35,16 +35,17 @@ pub fn date_at_start_adds_nothing()
         → AreSameZones (before ++ again ∷ after) (before ++ after) }
 {}
 
-/// Each VEVENT of an object that was made readable says the same as before by its times in each zone that doesn't go on beyond what is stated: each
+/// Each VEVENT of an object that was made readable says the same as before by its times in each zone that isn't told to go on beyond what is stated: each
 /// local time that it names there means the same instant, its rule has the same days and the same starts, and nominal days end at the same instant. The
-/// rule of one before 1970, which a room refuses, is left aside. In a zone that goes on it says the same up to the end of what is stated.
+/// rule of one before 1970, which a room refuses, is left aside. In a zone that is told to go on it says the same up to the end of the onsets before
+/// 2038-01-19T03:14:07Z, which is in 2036 or later.
 pub fn adapted_says_the_same()
     ensures exact { (listed : Option Tree) (octets : List ℕ) (going_on : List (List ℕ)) (adapted : List ℕ) (a : IsAdapted listed octets going_on adapted)
         (name : List ℕ) (lines : List (List ℕ)) (line : List ℕ) → Contains (vevents a.before) lines → IsLineIn name lines line
         → list_any (bytes_eq name) going_on ≡ false → SaysTheSame listed a.before a.after name lines }
     ensures further { (listed : Option Tree) (octets : List ℕ) (going_on : List (List ℕ)) (adapted : List ℕ) (a : IsAdapted listed octets going_on adapted)
         (name : List ℕ) (lines : List (List ℕ)) (line : List ℕ) → Contains (vevents a.before) lines → IsLineIn name lines line
-        → SaysTheSameUpTo listed a.before a.after name lines }
+        → list_any (bytes_eq name) going_on ≡ true → SaysTheSameUpTo listed a.before a.after name lines }
 {}
 
 /// On the clocks of a zone that a room reads, a rule, its starts and nominal days are what the room makes of them.

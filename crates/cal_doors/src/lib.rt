@@ -31,6 +31,7 @@ pub use law::{
     adapted_says_the_same, date_at_start_adds_nothing, starts_are_known, zones_are_clocks,
     zones_are_general,
 };
+pub use named::NamedZones;
 pub use parting::split;
 pub use readable::{Adapted, adapt};
 pub use returning::returned;

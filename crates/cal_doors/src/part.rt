@@ -1,14 +1,17 @@
 //! A part of a VTIMEZONE, STANDARD or DAYLIGHT, and the runs that its DTSTART, RRULE and RDATEs say (RFC 5545 3.6.5).
 
-ghost use Rattle.std.specs.Prelude.{◌≡◌, true, IfOk, IfErr, OnOk};
+ghost use Rattle.std.specs.Prelude.{◌≡◌, true, map, nat_le, IfOk, IfErr, OnOk};
+ghost use Rattle.std.specs.List.{list_all};
 ghost use Rattle.ical_lines.specs.Fault.{RefusesBy};
 ghost use Rattle.ical_lines.specs.Text.{line_text};
 ghost use Rattle.ical_tree.specs.Tree.{component_name, component_lines};
 ghost use Rattle.profile.specs.events.Properties.{is_date_time};
+ghost use Rattle.profile.specs.series.Days.{day_index};
 ghost use Rattle.profile.specs.series.ZoneTexts.{is_part};
 ghost use Rattle.profile.specs.series.GeneralZoneTexts.{RunsFault};
-ghost use Rattle.cal_doors.specs.Runs.{run_of, runs_in};
-ghost use Rattle.cal_doors.specs.Reading.{AreTimes, SaysFirst, AddsDate, AddsLine, AddsDates, AddsPart, DateFault, LineFault, DatesFault};
+ghost use Rattle.cal_zones.specs.Shapes.{occurs_yearly};
+ghost use Rattle.cal_doors.specs.Runs.{runs_in};
+ghost use Rattle.cal_doors.specs.Reading.{AreTimes, AddsFirst, AddsYearly, AddsDays, AddsDate, AddsLine, AddsDates, AddsPart, DateFault, LineFault, DatesFault};
 
 use crate::rule::{EndingRule, PartRule, read_rule};
 use crate::run::Run;
@@ -16,8 +19,8 @@ use cal_days::Day;
 use cal_zones::{read_local, read_offset};
 use ical_lines::{Fault, Line, Refusal};
 use ical_tree::{Component, Properties};
-use ical_values::{LocalTime, UtcOffset};
-use std::alloc::Global;
+use ical_values::{LocalTime, UtcOffset, seconds_at};
+use std::alloc::{AllocError, Global};
 
 /// Whether a component is a part.
 pub(crate) fn is_part(component: &Component) -> bool
@@ -75,6 +78,8 @@ fn add_first(
         runs.push(Run::once(times.start, times.from, times.to))?;
         return Ok(());
     };
+    // Only for the proof: DTSTART is in the calendar's years.
+    let _ = times.start.seconds();
     match read_rule(alloc, line.value(), times.start, times.from)? {
         PartRule::Yearly(rule) => add_yearly(rule, times, runs)?,
         PartRule::Listed(days) => add_days(days.as_slice(), times, runs)?,
@@ -83,32 +88,24 @@ fn add_first(
 }
 
 /// Adds the run of one day a year.
-fn add_yearly(rule: EndingRule, times: &Times, runs: &mut Vec<Run>) -> Result<(), Fault>
+fn add_yearly(rule: EndingRule, times: &Times, runs: &mut Vec<Run>) -> Result<(), AllocError>
     requires { occurs_yearly rule.day.month rule.day.days ≡ true }
-    ensures adds { OnOk result (AddsYearly rule times.now.start times.now.from times.now.to (runs_in runs.old.items) (runs_in runs.new.items)) }
-    ensures fault { IfErr result IsMemory }
+    ensures { OnOk result (AddsYearly rule times.now.start times.now.from times.now.to (runs_in runs.old.items) (runs_in runs.new.items)) }
 {
-    let Some(run) = Run::yearly(times.start, rule.day, times.from, times.to, rule.end) else {
-        // It doesn't come to this: a day that is read is one of every year.
-        return Err(Fault::Refused(Refusal::ZONE_SHAPE));
-    };
+    let run = Run::yearly(times.start, rule.day, times.from, times.to, rule.end).unwrap();
     runs.push(run)?;
     Ok(())
 }
 
 /// Adds the run of one onset on each of these days, at the time of day of DTSTART.
-fn add_days(days: &[Day], times: &Times, runs: &mut Vec<Run>) -> Result<(), Fault>
+fn add_days(days: &[Day], times: &Times, runs: &mut Vec<Run>) -> Result<(), AllocError>
     requires { list_all (λ day. nat_le day 3_652_424) (map day_index days.now) ≡ true }
-    ensures adds { OnOk result (AddsDays times.now.start times.now.from times.now.to (map day_index days.now) (runs_in runs.old.items) (runs_in runs.new.items)) }
-    ensures fault { IfErr result IsMemory }
+    ensures { OnOk result (AddsDays times.now.start times.now.from times.now.to (map day_index days.now) (runs_in runs.old.items) (runs_in runs.new.items)) }
 {
     let (_, second) = times.start.day_and_second();
     for day in days {
-        let Some(local) = LocalTime::of_day(*day, second) else {
-            // It doesn't come to this: no day of a rule is after year 9999.
-            return Err(Fault::Refused(Refusal::ZONE_SHAPE));
-        };
-        runs.push(Run::once(local, times.from, times.to))?;
+        let onset = LocalTime::of_seconds(seconds_at(day.index(), second)).unwrap();
+        runs.push(Run::once(onset, times.from, times.to))?;
     }
     Ok(())
 }

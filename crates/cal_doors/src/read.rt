@@ -18,13 +18,14 @@ pub(crate) fn read_runs(alloc: Global, zone: &Component) -> Result<Vec<Run>, Fau
     ensures fault { IfErr result (RefusesBy (GeneralPartsFault (zone_parts zone.now))) }
 {
     let mut runs = Vec::new(alloc);
+    let mut has_part = false;
     for child in zone.children() {
         if is_part(child) {
             add_part(alloc, child, &mut runs)?;
+            has_part = true;
         }
     }
-    if runs.is_empty() {
-        // Each part says one run at least.
+    if !has_part {
         return Err(Fault::Refused(Refusal::ZONE_SHAPE));
     }
     Ok(runs)

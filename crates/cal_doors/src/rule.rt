@@ -1,6 +1,6 @@
 //! The RRULE of a part of a VTIMEZONE: the day of the year that it names, and where it ends; or the days that it lists (RFC 5545 3.3.10, 3.6.5).
 
-ghost use Rattle.std.specs.Prelude.{◌≡◌, ◌≤◌, true, false, map, None, Some, IfOk, IfErr, IfSome, IfNone, MatchOption};
+ghost use Rattle.std.specs.Prelude.{◌≡◌, true, map, None, Some, IfOk, IfErr, IfSome, IfNone, MatchOption};
 ghost use Rattle.ical_lines.specs.Fault.{RefusesBy};
 ghost use Rattle.profile.specs.series.Days.{day_index};
 ghost use Rattle.profile.specs.series.ZoneTexts as texts;
@@ -9,12 +9,13 @@ ghost use Rattle.profile.specs.series.GeneralZones as general;
 ghost use Rattle.profile.specs.series.GeneralZoneTexts.{without_end, IsEndOf};
 ghost use Rattle.cal_rules.specs.Views.{until_of};
 ghost use Rattle.cal_zones.specs.Shapes.{rule_named};
-ghost use Rattle.cal_doors.specs.Ends.{end_of, IsNearEnd, IsLastFrom};
 ghost use Rattle.cal_zones.specs.Read.{IsShapeFault};
-ghost use Rattle.cal_doors.specs.Reading.{SpellsRuleOf, SpellsNoRuleOf, AreDaysOf, AreMany, AreDaysTo, AreNoDaysTo};
+ghost use Rattle.cal_doors.specs.Ends.{end_of, IsNearEnd, IsNearInstant};
+ghost use Rattle.cal_doors.specs.Listed.{AreDaysOf, AreMany};
+ghost use Rattle.cal_doors.specs.Reading.{SpellsRuleOf, SpellsNoRuleOf, IsLastFrom, AreDaysTo, AreNoDaysTo};
 
 use crate::end::{End, YearDay};
-use cal_days::Day;
+use cal_days::{Day, LAST_INDEX};
 use cal_rules::{Rule, RuleText, Until, one_rule};
 use cal_zones::day_named;
 use ical_lines::{Fault, Refusal};
@@ -23,9 +24,6 @@ use std::alloc::{AllocError, Global};
 
 /// The most days of a rule that are listed; this profile's choice.
 const MOST_DAYS: usize = 200;
-
-/// 9999-12-31, by its index.
-const LAST_DAY: u32 = 3_652_424;
 
 /// What the RRULE of a part says.
 #[derive(Drop)]
@@ -111,7 +109,7 @@ fn rule_end(rule: &RuleText, from: UtcOffset) -> Option<End>
 fn last_instant(until: &Until, from: UtcOffset) -> Option<i64>
     ensures last { MatchOption result ((end : general.End) → IsEndOf from None (Some (until_of until.now)) end → ⊥)
         (λ last. IsEndOf from None (Some (until_of until.now)) (general.AtInstant last)) }
-    ensures range { IfSome result (λ last. IsNearEnd (End::At last)) }
+    ensures range { IfSome result IsNearInstant }
 {
     match until {
         Until::Date(_) => None,
@@ -136,23 +134,26 @@ fn last_day(end: End, start: LocalTime, from: UtcOffset) -> Last
     requires { IsNearEnd end }
     ensures { IsLastFrom start from (end_of end) result }
 {
-    let (first, _) = start.day_and_second();
-    let days = match end {
-        End::Never => return Last::Never,
-        End::After(_) => LAST_DAY.saturating_sub(first.index()),
-        End::At(until) => {
-            let length = until + from.seconds() as i64 - start.seconds();
-            if length < 0 {
-                return Last::Before;
-            }
-            (length / DAY_SECONDS) as u32
-        }
-    };
-    match Day::at_index(first.index() + days) {
-        Some(last) => Last::On(last),
-        // It doesn't come to this: an end is before year 10001.
-        None => Last::Never,
+    match end {
+        End::Never => Last::Never,
+        End::After(_) => Last::On(Day::at_index(LAST_INDEX).unwrap()),
+        End::At(until) => last_until(until, start, from),
     }
+}
+
+/// The last such day where the end is an instant.
+fn last_until(until: i64, start: LocalTime, from: UtcOffset) -> Last
+    requires { IsNearInstant until }
+    ensures { IsLastFrom start from (general.AtInstant until) result }
+{
+    let (first, _) = start.day_and_second();
+    let begin = start.seconds();
+    let end = until + from.seconds() as i64;
+    if end < begin {
+        return Last::Before;
+    }
+    let days = (end.abs_diff(begin) / DAY_SECONDS as u64) as u32;
+    Last::On(Day::at_index(first.index() + days).unwrap())
 }
 
 /// The days of a rule from one on, up to the last. None where it doesn't end, and where there are more than 200.

@@ -113,6 +113,16 @@ impl Run {
         }
     }
 
+    /// No onset up to an instant is later than this: its end, where that is known and no later. None where there is none up to it.
+    pub(crate) fn ended_by(&self, instant: i64) -> Option<i64>
+        ensures { AreUpTo (run_of self.now) instant result }
+    {
+        match self.last_bound() {
+            Some(last) if last <= instant => Some(last),
+            _ => self.latest_bound(instant),
+        }
+    }
+
     /// Whether no onset comes after an instant. It isn't known where the onsets are counted.
     pub(crate) fn is_over(&self, instant: i64) -> bool
         ensures { result ≡ true → (x : Onset) → IsRunOnset (run_of self.now) x → x.instant ≤ℤ instant }

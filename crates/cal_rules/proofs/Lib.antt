@@ -25,6 +25,7 @@ pub mod Multiples
 pub mod PeriodsOf
 pub mod LastDays
 pub mod Differences
+pub mod Filled
 pub mod Forms
 pub mod Covers
 pub mod FormParts

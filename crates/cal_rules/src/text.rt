@@ -72,10 +72,12 @@ impl RuleText {
     pub fn on_day_of(self, start: Day) -> Result<RuleText, AllocError>
         ensures { IfOk result (λ rule. rule ≡ on_day_of_start (day_index start) self) }
     {
-        let mut written = self.written;
-        if written.leaves_day_to_start() {
-            written.month_days.push(start.month_days_before() as i16 + 1)?;
+        if !self.written.leaves_day_to_start() {
+            return Ok(self);
         }
+        let day = start.month_days_before() + 1;
+        let mut written = self.written;
+        written.month_days.push(day as i16)?;
         Ok(RuleText { written })
     }
 

@@ -2,3 +2,4 @@
 pub mod Instances
 pub mod Certificates
 pub mod Calendars
+pub mod Agendas

@@ -1,13 +1,15 @@
-//! Behind the door: commands whose objects are made readable on their way in.
+//! Behind the door: commands whose objects are made readable on their way in, and answers on their way back.
 
-use crate::host::{ErrorPrinter, Folders, answer_files, no_memory, read_file, report_file};
+use crate::host::{
+    ErrorPrinter, Folders, answer_files, no_memory, read_file, read_input, report_file,
+};
 use ical_lines::{Limits, Unfolded};
 use ical_tree::{Component, read_object};
 use ical_values::Address;
 use sched_box::{DeviceReader, DeviceWriter, Input, Output};
 use sched_cli::commands::{KeptText, run_keep, run_serve};
 use sched_cli::status::report_read;
-use sched_cli::{Tally, run_adapt, run_serve_report};
+use sched_cli::{Tally, WayBack, run_adapt, run_returned, run_serve_report};
 use sched_devices::DiskFolder;
 use sched_doors::{AdaptedInbox, Door};
 use std::alloc::Global;
@@ -22,6 +24,16 @@ const SAID: usize = 8_192;
 pub(crate) enum Work<'a> {
     Files(Folders<'a>),
     Stream(StreamWork<'a>),
+    Back(Answers<'a>),
+}
+
+/// How answers on standard input are handed on.
+#[derive(Clone, Copy)]
+pub(crate) struct Answers<'a> {
+    /// The object that they answer, as it came.
+    pub(crate) original: &'a [u8],
+    /// Each VEVENT in an object of its own.
+    pub(crate) is_single: bool,
 }
 
 /// What is done with a stream.
@@ -71,7 +83,29 @@ fn run_listed<R: Runtime + AllocGlobal>(
             answer_files(rt, alloc, folders, AdaptedInbox::new(listed, inbox))
         }
         Work::Stream(work) => run_stream(rt, alloc, listed, work),
+        Work::Back(answers) => hand_back(rt, alloc, listed, answers),
     }
+}
+
+/// Hands on answers from standard input, all of which is read first.
+fn hand_back<R: Runtime + AllocGlobal>(
+    rt: &R,
+    alloc: Global,
+    listed: Option<&Component<'_>>,
+    answers: Answers<'_>,
+) -> u8 {
+    let mut errors = DeviceWriter::new(ErrorPrinter { to: rt });
+    let octets = match read_input(rt, alloc) {
+        Ok(octets) => octets,
+        Err(fault) => return report_file(&mut errors, fault),
+    };
+    let way = WayBack {
+        original: answers.original,
+        listed,
+        is_single: answers.is_single,
+    };
+    let mut writer = DeviceWriter::new(io::writer(rt));
+    run_returned(alloc, way, octets.as_slice(), &mut writer, &mut errors)
 }
 
 /// Does the work on standard input.

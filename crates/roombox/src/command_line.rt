@@ -5,8 +5,8 @@ use clap::{Arg, ArgAction, ArgMatches, Command, Error};
 use sched_cli::commands::KeptText;
 use std::alloc::{AllocError, Global};
 
-/// What a command line asks for. ROOM, N and NUMBER are still words here; CALENDAR, CERTIFICATE, CONFIG, INBOX, OUTBOX
-/// and FILE are paths.
+/// What a command line asks for. ROOM, N and NUMBER are still words here; CALENDAR, CERTIFICATE, CONFIG, INBOX, OUTBOX,
+/// ORIGINAL and FILE are paths.
 #[derive(Clone, Copy)]
 pub enum Invocation<'a> {
     Serve {
@@ -20,6 +20,11 @@ pub enum Invocation<'a> {
     },
     Adapt {
         report: bool,
+        zones: Option<&'a str>,
+    },
+    ReplyTo {
+        original: &'a str,
+        is_single: bool,
         zones: Option<&'a str>,
     },
     Check {
@@ -193,10 +198,17 @@ by its last rules, where an event repeats for longer; --report names it.
 
 FILE is one iCalendar object. Its VTIMEZONEs are for the names that no VTIMEZONE of an object has.
 
-Exit status: 0 done; 2 usage; 3 FILE is refused: standard error has the number; or it is too long;
-4 a device failed, as where FILE isn't there; 5 out of memory. docs/PROFILE.md lists all numbers.
+With --reply-to it reads what serve wrote, and hands each object on in the words of ORIGINAL, the
+object that it answers, as that came: its names of zones, its VTIMEZONEs, and its own line where a
+RECURRENCE-ID names the same instant. What can't be told so is handed on as it is, and so is a line
+REFUSED. All is read before anything is written. --single takes an object of several VEVENTs apart.
 
-Example: roombox adapt < examples/first-request.ics-stream | roombox serve";
+Exit status: 0 done; 2 usage; 3 FILE is refused: standard error has the number; or a file, or the
+input with --reply-to, is too long; 4 a device failed, as where a file isn't there; 5 out of
+memory. docs/PROFILE.md lists all numbers.
+
+Example: roombox adapt < examples/first-request.ics-stream | roombox serve
+Example: roombox adapt --reply-to invitation.ics < answers";
 
 /// How many instances are printed where no limit is given.
 const LIMIT: &str = "100";
@@ -220,6 +232,10 @@ const INBOX_HELP: &str = "The folder of the messages, each written whole before 
 const READABLE_HELP: &str = "Make objects readable on their way in, as `roombox adapt` does";
 
 const ZONES_HELP: &str = "The file of VTIMEZONEs for names without one";
+
+const REPLY_TO_HELP: &str = "Hand on answers to the object of this file, in its words";
+
+const SINGLE_HELP: &str = "Hand on each VEVENT of an answer in an object of its own";
 
 const OUTBOX_HELP: &str = "The folder of the answers, which this program alone writes";
 
@@ -306,11 +322,27 @@ fn adapt_command<'a>(alloc: Global) -> Result<Command<'a>, AllocError> {
         .help(
             "Say on standard error which objects were made readable, and which of their zones go on",
         );
-    Command::new(alloc, "adapt")
+    let command = Command::new(alloc, "adapt")
         .about(ADAPT)
         .after_help(ADAPT_MORE)
         .arg(zones(alloc))?
-        .arg(report)
+        .arg(report)?;
+    with_way_back(alloc, command)
+}
+
+/// The command, with the words for answers on their way back.
+fn with_way_back<'a>(alloc: Global, command: Command<'a>) -> Result<Command<'a>, AllocError> {
+    let original = Arg::new(alloc, "reply-to")
+        .long("reply-to")
+        .value_name("ORIGINAL")
+        .help(REPLY_TO_HELP)
+        .conflicts_with("report")?;
+    let single = Arg::new(alloc, "single")
+        .long("single")
+        .action(ArgAction::SetTrue)
+        .help(SINGLE_HELP)
+        .requires_arg("reply-to")?;
+    command.arg(original)?.arg(single)
 }
 
 fn check_command<'a>(alloc: Global) -> Result<Command<'a>, AllocError> {
@@ -381,10 +413,7 @@ fn invocation_of<'a>(matches: &ArgMatches<'a>) -> Invocation<'a> {
             kept: kept_of(words),
             reading: reading_of(words),
         },
-        Some(("adapt", words)) => Invocation::Adapt {
-            report: words.get_flag("report"),
-            zones: words.get_str("zones"),
-        },
+        Some(("adapt", words)) => adapt_of(words),
         Some(("check", words)) => Invocation::Check {
             calendar: words.get_str("CALENDAR").unwrap_or(""),
             certificate: words.get_str("CERTIFICATE").unwrap_or(""),
@@ -410,6 +439,21 @@ fn invocation_of<'a>(matches: &ArgMatches<'a>) -> Invocation<'a> {
         _ => Invocation::Serve {
             report: false,
             reading: reading_of(matches),
+        },
+    }
+}
+
+fn adapt_of<'a>(words: &ArgMatches<'a>) -> Invocation<'a> {
+    let zones = words.get_str("zones");
+    match words.get_str("reply-to") {
+        Some(original) => Invocation::ReplyTo {
+            original,
+            is_single: words.get_flag("single"),
+            zones,
+        },
+        None => Invocation::Adapt {
+            report: words.get_flag("report"),
+            zones,
         },
     }
 }

@@ -1,6 +1,6 @@
 //! The real reader, writer and files: `run` hands them to the commands.
 
-use crate::behind::{StreamWork, Work, run_behind};
+use crate::behind::{Answers, StreamWork, Work, run_behind};
 use crate::command_line::{BadWord, Invocation, Reading, fault_of, read_words};
 use crate::progress::Progress;
 use cal_zones::RoomZone;
@@ -118,6 +118,11 @@ fn invoke<R: Runtime + AllocGlobal>(
         Invocation::Adapt { report, zones } => {
             run_behind(rt, alloc, zones, Work::Stream(StreamWork::Adapt { report }))
         }
+        Invocation::ReplyTo {
+            original,
+            is_single,
+            zones,
+        } => invoke_reply_to(rt, alloc, original, is_single, zones),
         Invocation::Check {
             calendar,
             certificate,
@@ -205,6 +210,27 @@ fn invoke_keep<R: Runtime + AllocGlobal>(
     };
     let mut writer = DeviceWriter::new(io::writer(rt));
     run_keep(alloc, room, kept, &mut reader, &mut writer, &mut errors)
+}
+
+/// Hands on answers to the object of a file.
+fn invoke_reply_to<R: Runtime + AllocGlobal>(
+    rt: &R,
+    alloc: Global,
+    original: &str,
+    is_single: bool,
+    zones: Option<&str>,
+) -> u8 {
+    let original = match read_file(rt, alloc, original) {
+        Ok(octets) => octets,
+        Err(fault) => {
+            return report_file(&mut DeviceWriter::new(ErrorPrinter { to: rt }), fault);
+        }
+    };
+    let answers = Answers {
+        original: original.as_slice(),
+        is_single,
+    };
+    run_behind(rt, alloc, zones, Work::Back(answers))
 }
 
 fn invoke_check<R: Runtime + AllocGlobal>(
@@ -376,7 +402,23 @@ pub(crate) fn read_file<R: Runtime + AllocGlobal>(
     alloc: Global,
     path: &str,
 ) -> Result<Vec<u8>, FileFault> {
-    let octets = read_front(rt, alloc, path, MOST_OCTETS + 1)?;
+    within_limit(read_front(rt, alloc, path, MOST_OCTETS + 1)?)
+}
+
+/// The octets of standard input, which may be as long as a file.
+pub(crate) fn read_input<R: Runtime + AllocGlobal>(
+    rt: &R,
+    alloc: Global,
+) -> Result<Vec<u8>, FileFault> {
+    let mut octets = Vec::new(alloc);
+    match rt.reader().take(MOST_OCTETS + 1).read_to_end(&mut octets) {
+        Ok(_) => within_limit(octets),
+        Err(error) if error.kind() == ErrorKind::OutOfMemory => Err(FileFault::Memory),
+        Err(_) => Err(FileFault::Device),
+    }
+}
+
+fn within_limit(octets: Vec<u8>) -> Result<Vec<u8>, FileFault> {
     if octets.len() as u64 > MOST_OCTETS {
         return Err(FileFault::TooLong);
     }

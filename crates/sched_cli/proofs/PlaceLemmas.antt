@@ -12,6 +12,7 @@ use Rattle.sched_cli.specs.declared.blame.Blame as blame
 use Rattle.sched_cli.specs.declared.blame.Blame.TheVariants as blames
 use Rattle.sched_cli.specs.declared.place.Found.{Found}
 use Rattle.sched_cli.specs.declared.place.Place.{Place}
+use Rattle.sched_cli.specs.declared.place.Sought.{Sought}
 use Rattle.sched_cli.specs.declared.place.Found.TheVariants.{Nothing, Possible, Several, Certain}
 
 -- ---- unfolding, in two parts
@@ -133,80 +134,80 @@ placed octets left content others begun count property u e some named = (
 )
 
 -- the same place, and what its line has to do with the fault
-blamed_at : (n : ℕ) (octets : List ℕ) (line : ℕ) (property content : List ℕ) (place : Place) (b : blame.Blame) → IsPlaceOf octets line property content → IsBlamed n content b → IsAt line property place
-    → (at : IsPlace octets place.line place.property.items) × IsBlamed n at.content b
-blamed_at n octets line property content place b is blamed (on, named) =
+blamed_at : (sought : Sought) (octets : List ℕ) (line : ℕ) (property content : List ℕ) (place : Place) (b : blame.Blame) → IsPlaceOf octets line property content → IsBlamed sought content b → IsAt line property place
+    → (at : IsPlace octets place.line place.property.items) × IsBlamed sought at.content b
+blamed_at sought octets line property content place b is blamed (on, named) =
     let L : ℕ → Type 0 = λ m. IsPlaceOf octets m place.property.items content in
     let P : List ℕ → Type 0 = λ p. IsPlaceOf octets line p content in
-    let C : List ℕ → Type 0 = λ c. IsBlamed n c b in
+    let C : List ℕ → Type 0 = λ c. IsBlamed sought c b in
     let (at, same) = subst L (sym on) (subst P (sym named) is) in
     (at, subst C (sym same) blamed)
 
-noted_in : (n : ℕ) (octets : List ℕ) (old new : Found) (b : blame.Blame) (line : ℕ) (property content : List ℕ) → IsPlaceOf octets line property content → IsBlamed n content b → FoundIn n octets old
-    → IsNoted old b line property new → FoundIn n octets new
-noted_in n octets old new blames.None line property content is blamed before noted = subst (FoundIn n octets) (sym noted) before
-noted_in n octets old new blames.Certain line property content is blamed before (place, e, at) =
-    subst (FoundIn n octets) (sym e) (blamed_at n octets line property content place blames.Certain is blamed at)
-noted_in n octets old new blames.Possible line property content is blamed before (place, e, at) = subst (FoundIn n octets) (sym e) (alone old)
+noted_in : (sought : Sought) (octets : List ℕ) (old new : Found) (b : blame.Blame) (line : ℕ) (property content : List ℕ) → IsPlaceOf octets line property content → IsBlamed sought content b → FoundIn sought octets old
+    → IsNoted old b line property new → FoundIn sought octets new
+noted_in sought octets old new blames.None line property content is blamed before noted = subst (FoundIn sought octets) (sym noted) before
+noted_in sought octets old new blames.Certain line property content is blamed before (place, e, at) =
+    subst (FoundIn sought octets) (sym e) (blamed_at sought octets line property content place blames.Certain is blamed at)
+noted_in sought octets old new blames.Possible line property content is blamed before (place, e, at) = subst (FoundIn sought octets) (sym e) (alone old)
   where
-    alone : (old : Found) → FoundIn n octets (with_possible old place)
-    alone Nothing = blamed_at n octets line property content place blames.Possible is blamed at
+    alone : (old : Found) → FoundIn sought octets (with_possible old place)
+    alone Nothing = blamed_at sought octets line property content place blames.Possible is blamed at
     alone (Possible first) = tt
     alone Several = tt
     alone (Certain first) = tt
 
-found_by : (n : ℕ) (octets : List ℕ) (old new : Found) (line : ℕ) (content : List ℕ) → (0 < length content → (property : List ℕ) → (property ≡ []) ⊎ (property ≡ line_name content) → IsPlaceOf octets line property content)
-    → FoundIn n octets old → Finds n old new line content → FoundIn n octets new
-found_by n octets old new line content is before (inl e) = subst (FoundIn n octets) (sym e) before
-found_by n octets old new line content is before (inr (some, b, property, named, blamed, noted)) = noted_in n octets old new b line property content (is some property named) blamed before noted
+found_by : (sought : Sought) (octets : List ℕ) (old new : Found) (line : ℕ) (content : List ℕ) → (0 < length content → (property : List ℕ) → (property ≡ []) ⊎ (property ≡ line_name content) → IsPlaceOf octets line property content)
+    → FoundIn sought octets old → Finds sought old new line content → FoundIn sought octets new
+found_by sought octets old new line content is before (inl e) = subst (FoundIn sought octets) (sym e) before
+found_by sought octets old new line content is before (inr (some, b, property, named, blamed, noted)) = noted_in sought octets old new b line property content (is some property named) blamed before noted
 
 -- what was found once the content line was looked at: another line comes, or none
-pub found_before : (n : ℕ) (octets : List ℕ) (old new : Found) (left : List (List ℕ)) (line content : List ℕ) (begun count : ℕ) → Unfolds (physical_lines (without_mark octets)) (line ∷ left) content begun count
-    → is_continuation line ≡ false → FoundIn n octets old → Finds n old new begun content → FoundIn n octets new
-found_before n octets old new left line content begun count u e before finds =
+pub found_before : (sought : Sought) (octets : List ℕ) (old new : Found) (left : List (List ℕ)) (line content : List ℕ) (begun count : ℕ) → Unfolds (physical_lines (without_mark octets)) (line ∷ left) content begun count
+    → is_continuation line ≡ false → FoundIn sought octets old → Finds sought old new begun content → FoundIn sought octets new
+found_before sought octets old new left line content begun count u e before finds =
     let ends : gather content (line ∷ left) ≡ content ∷ gather line left = ap (λ t. cond t (gather (content ++ drop 1 line) left) (content ∷ gather line left)) e in
-    found_by n octets old new begun content (λ some property named. placed octets (line ∷ left) content (gather line left) begun count property u ends some named) before finds
+    found_by sought octets old new begun content (λ some property named. placed octets (line ∷ left) content (gather line left) begun count property u ends some named) before finds
 
-pub found_last : (n : ℕ) (octets : List ℕ) (old new : Found) (content : List ℕ) (begun count : ℕ) → Unfolds (physical_lines (without_mark octets)) [] content begun count
-    → FoundIn n octets old → Finds n old new begun content → FoundIn n octets new
-found_last n octets old new content begun count u before finds =
-    found_by n octets old new begun content (λ some property named. placed octets [] content [] begun count property u refl some named) before finds
+pub found_last : (sought : Sought) (octets : List ℕ) (old new : Found) (content : List ℕ) (begun count : ℕ) → Unfolds (physical_lines (without_mark octets)) [] content begun count
+    → FoundIn sought octets old → Finds sought old new begun content → FoundIn sought octets new
+found_last sought octets old new content begun count u before finds =
+    found_by sought octets old new begun content (λ some property named. placed octets [] content [] begun count property u refl some named) before finds
 
 -- ---- the loop
 
-step_by : (t : Bool) (n : ℕ) (octets : List ℕ) (left : List (List ℕ)) (line content next : List ℕ) (begun from count many : ℕ) (old new : Found) → is_continuation line ≡ t
-    → Unfolds (physical_lines (without_mark octets)) (line ∷ left) content begun count → FoundIn n octets old → many ≡ count + 1
+step_by : (t : Bool) (sought : Sought) (octets : List ℕ) (left : List (List ℕ)) (line content next : List ℕ) (begun from count many : ℕ) (old new : Found) → is_continuation line ≡ t
+    → Unfolds (physical_lines (without_mark octets)) (line ∷ left) content begun count → FoundIn sought octets old → many ≡ count + 1
     → (is_continuation line ≡ true → (new ≡ old) × (next ≡ content ++ drop 1 line) × (from ≡ begun))
-    → (is_continuation line ≡ false → Finds n old new begun content × (next ≡ line) × (from ≡ many))
-    → Unfolds (physical_lines (without_mark octets)) left next from many × FoundIn n octets new
-step_by true n octets left line content next begun from count many old new e u found more goes ends =
+    → (is_continuation line ≡ false → Finds sought old new begun content × (next ≡ line) × (from ≡ many))
+    → Unfolds (physical_lines (without_mark octets)) left next from many × FoundIn sought octets new
+step_by true sought octets left line content next begun from count many old new e u found more goes ends =
     let (same, is, at) = goes e in
-    (rw (is, at, more) (continues (physical_lines (without_mark octets)) left line content begun count u e), subst (FoundIn n octets) (sym same) found)
-step_by false n octets left line content next begun from count many old new e u found more goes ends =
+    (rw (is, at, more) (continues (physical_lines (without_mark octets)) left line content begun count u e), subst (FoundIn sought octets) (sym same) found)
+step_by false sought octets left line content next begun from count many old new e u found more goes ends =
     let (finds, is, at) = ends e in
-    (rw (is, at, more) (begins (physical_lines (without_mark octets)) left line content begun count u e), found_before n octets old new left line content begun count u e found finds)
+    (rw (is, at, more) (begins (physical_lines (without_mark octets)) left line content begun count u e), found_before sought octets old new left line content begun count u e found finds)
 
-pub step : (n : ℕ) (octets : List ℕ) (left : List (List ℕ)) (line content next : List ℕ) (begun from count many : ℕ) (old new : Found)
-    → Unfolds (physical_lines (without_mark octets)) (line ∷ left) content begun count → FoundIn n octets old → many ≡ count + 1
+pub step : (sought : Sought) (octets : List ℕ) (left : List (List ℕ)) (line content next : List ℕ) (begun from count many : ℕ) (old new : Found)
+    → Unfolds (physical_lines (without_mark octets)) (line ∷ left) content begun count → FoundIn sought octets old → many ≡ count + 1
     → (is_continuation line ≡ true → (new ≡ old) × (next ≡ content ++ drop 1 line) × (from ≡ begun))
-    → (is_continuation line ≡ false → Finds n old new begun content × (next ≡ line) × (from ≡ many))
-    → Unfolds (physical_lines (without_mark octets)) left next from many × FoundIn n octets new
-step n octets left line content next begun from count many old new = step_by (is_continuation line) n octets left line content next begun from count many old new refl
+    → (is_continuation line ≡ false → Finds sought old new begun content × (next ≡ line) × (from ≡ many))
+    → Unfolds (physical_lines (without_mark octets)) left next from many × FoundIn sought octets new
+step sought octets left line content next begun from count many old new = step_by (is_continuation line) sought octets left line content next begun from count many old new refl
 
-pub place_in : (r : Option Place) (n : ℕ) (octets : List ℕ) (found : Found) → FoundIn n octets found → IfSome r (λ place. (m : ℕ) (o : List ℕ) → FoundIn m o found → IsBlamedPlace o m place.line place.property.items)
-    → IfSome r (λ place. IsBlamedPlace octets n place.line place.property.items)
-place_in None n octets found is all = tt
-place_in (Some place) n octets found is all = all n octets is
+pub place_in : (r : Option Place) (sought : Sought) (octets : List ℕ) (found : Found) → FoundIn sought octets found → IfSome r (λ place. (m : Sought) (o : List ℕ) → FoundIn m o found → IsBlamedPlace o m place.line place.property.items)
+    → IfSome r (λ place. IsBlamedPlace octets sought place.line place.property.items)
+place_in None sought octets found is all = tt
+place_in (Some place) sought octets found is all = all sought octets is
 
 -- ---- the search
 
 -- what was found last
-pub place_found : (n : ℕ) (octets : List ℕ) (found : Found) (place : Place) → (found ≡ Possible place) ⊎ (found ≡ Certain place) → FoundIn n octets found → IsBlamedPlace octets n place.line place.property.items
-place_found n octets found place (inl e) h =
-    let (at, blamed) = subst (FoundIn n octets) e h in
+pub place_found : (sought : Sought) (octets : List ℕ) (found : Found) (place : Place) → (found ≡ Possible place) ⊎ (found ≡ Certain place) → FoundIn sought octets found → IsBlamedPlace octets sought place.line place.property.items
+place_found sought octets found place (inl e) h =
+    let (at, blamed) = subst (FoundIn sought octets) e h in
     record { at = at; blamed = inr blamed }
-place_found n octets found place (inr e) h =
-    let (at, blamed) = subst (FoundIn n octets) e h in
+place_found sought octets found place (inr e) h =
+    let (at, blamed) = subst (FoundIn sought octets) e h in
     record { at = at; blamed = inl blamed }
 
 pub on_ok : {T E : Type 0} (r : Result T E) (P Q : Type 0) → (P → Q) → OnOk r P → OnOk r Q

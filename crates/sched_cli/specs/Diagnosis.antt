@@ -1,14 +1,19 @@
 -- What `explain` writes of an object.
-use Rattle.std.specs.Prelude.{◌≡◌, ◌⊎◌, ℕ, true, List, [], ◌∷◌, ◌++◌, codes, decimal, Option}
+use Rattle.std.specs.Prelude.{◌≡◌, ◌⊎◌, ℕ, true, List, [], ◌∷◌, ◌++◌, codes, decimal, Option, None}
 use Rattle.std.specs.Io.{StartsWith}
 use Rattle.std.specs.Io.KnownBytes.{Appends}
 use Rattle.profile.specs.events.EventComponents.{Method, Request, Add, Cancel, Store, Reply, Refresh}
+use Rattle.profile.specs.doors.Adapting.{IsAdapted}
 use Rattle.profile.specs.events.Messages.{Message, SpellsMessage, MessageTextFault}
 use Rattle.ical_tree.specs.Reading.{ObjectHas}
 use Rattle.cal_events.specs.Component.{method_said}
 use Rattle.itip_messages.specs.declared.message.Message as itip
 use Rattle.sched_cli.specs.Explained.{meaning_of}
+use Rattle.sched_cli.specs.InTheWay.{IsInTheWay}
+use Rattle.sched_cli.specs.Obstacles.{words_of}
 use Rattle.sched_cli.specs.Searching.{IsBlamedPlace}
+use Rattle.sched_cli.specs.declared.place.Sought.TheVariants.{Fault}
+use Rattle.sched_cli.specs.declared.refused_zone.InTheWay.{InTheWay}
 
 -- ---- an object that isn't refused
 
@@ -44,22 +49,54 @@ abbrev pub property_text : List ℕ → List ℕ
 property_text [] = []
 property_text (c ∷ cs) = codes ": " ++ (c ∷ cs)
 
+-- a place, behind the number
+abbrev pub place_text : ℕ → List ℕ → List ℕ
+place_text line property = codes " at line " ++ (decimal line ++ property_text property)
+
 -- where a fault is: nowhere, or where a content line of the octets begins that has the fault of this number by itself, or can have it
 abbrev pub IsPlaceText : List ℕ → ℕ → List ℕ → Type 0
 IsPlaceText octets n text =
-    (text ≡ []) ⊎ ((line : ℕ) × (property : List ℕ) × IsBlamedPlace octets n line property × (text ≡ codes " at line " ++ (decimal line ++ property_text property)))
+    (text ≡ []) ⊎ ((line : ℕ) × (property : List ℕ) × IsBlamedPlace octets (Fault n) line property × (text ≡ place_text line property))
+
+-- what is in the way of a VTIMEZONE: the part that has it, the line on which that begins, and the words
+abbrev pub way_text : InTheWay → List ℕ
+way_text way = way.part.items ++ (codes " at line " ++ (decimal way.begins ++ (codes ": " ++ words_of way.obstacle)))
+
+-- the octets spell a message
+abbrev pub IsRead : List ℕ → Type 0
+IsRead octets = (message : Message) × SpellsMessage octets message
+
+-- the octets that are made are read, or are refused with a number
+abbrev pub IsEnding : List ℕ → List ℕ → Type 0
+IsEnding octets text =
+    (IsRead octets × (text ≡ codes "read.\n")) ⊎ ((n : ℕ) × HasFault octets n × (text ≡ codes "refused " ++ (decimal n ++ codes ".\n")))
+
+-- what the door makes of the octets: nothing, or an object, which is read or refused
+abbrev pub IsHelp : List ℕ → List ℕ → Type 0
+IsHelp octets text =
+    (text ≡ codes " `roombox adapt` hands the object on as it is.\n")
+    ⊎ ((going_on : List (List ℕ)) × (adapted : List ℕ) × (ending : List ℕ) × IsAdapted None octets going_on adapted × IsEnding adapted ending
+    × (text ≡ codes " `roombox adapt` makes an object of it that is " ++ ending))
+
+-- what is written behind the number: the place of the fault; or, where a VTIMEZONE has it, the place of what is in the way there, and a line that
+-- tells what it is and what the door makes of the octets
+abbrev pub IsReason : List ℕ → ℕ → List ℕ → Type 0
+IsReason octets n text =
+    ((place : List ℕ) × IsPlaceText octets n place × (text ≡ place ++ codes "\n"))
+    ⊎ ((way : InTheWay) × (help : List ℕ) × IsInTheWay octets n way × IsHelp octets help
+    × (text ≡ place_text way.place.line way.place.property.items ++ (codes "\n" ++ (way_text way ++ help))))
 
 -- a line is the number and what it means, and then what to do
 abbrev pub IsMeaningOf : ℕ → List ℕ → Type 0
 IsMeaningOf n line = StartsWith line (decimal n ++ (codes ": " ++ (meaning_of n ++ codes " What to do: ")))
 
--- what is written of a number: a line with the place of the fault, and its meaning
+-- what is written of a number: where the fault is and what it is, and the meaning of the number
 pub record IsRefusedText (octets : List ℕ) (n : ℕ) (text : List ℕ) : Type 0 where
-  pub place : List ℕ
-  pub where_is : IsPlaceText octets n place
+  pub reason : List ℕ
+  pub why : IsReason octets n reason
   pub meaning : List ℕ
   pub own : IsMeaningOf n meaning
-  pub is : text ≡ codes "refused " ++ (decimal n ++ (place ++ (codes "\n" ++ meaning)))
+  pub is : text ≡ codes "refused " ++ (decimal n ++ (reason ++ meaning))
 
 -- that of a fault of the octets was written
 pub record SaysRefused (octets : List ℕ) (old new : Option (List ℕ)) : Type 0 where

@@ -4,7 +4,10 @@ pub mod Commands
 pub mod Diagnosis
 pub mod Explained
 pub mod Expanding
+pub mod InTheWay
+pub mod Obstacles
 pub mod Places
 pub mod Reporting
+pub mod Returned
 pub mod Running
 pub mod Searching

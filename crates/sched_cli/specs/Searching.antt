@@ -1,6 +1,7 @@
 -- What a search through the content lines of an object has found.
-use Rattle.std.specs.Prelude.{◌≡◌, ◌<◌, ◌⊎◌, ℕ, true, IsTrue, List, [], length}
-use Rattle.profile.specs.text.Lines.{line_name, text_has}
+use Rattle.std.specs.Prelude.{◌≡◌, ◌<◌, ◌⊎◌, ℕ, Bool, true, IsTrue, List, [], length, codes, if◌then◌else◌}
+use Rattle.profile.specs.text.Lines.{line_name, line_value, text_has}
+use Rattle.profile.specs.events.Properties.{is_of}
 use Rattle.sched_cli.specs.Blame.{IsBlame}
 use Rattle.sched_cli.specs.Places.{IsPlace}
 use Rattle.sched_cli.specs.declared.blame.Blame as blame
@@ -9,11 +10,30 @@ use Rattle.sched_cli.specs.declared.blame.Within.{Within}
 use Rattle.sched_cli.specs.declared.place.Found.{Found}
 use Rattle.sched_cli.specs.declared.place.Found.TheVariants.{Nothing, Possible, Several, Certain}
 use Rattle.sched_cli.specs.declared.place.Place.{Place}
+use Rattle.sched_cli.specs.declared.place.Sought.{Sought}
+use Rattle.sched_cli.specs.declared.place.Sought.TheVariants.{Fault, Begin, Text}
 
--- octets have this to do with the fault of this number: they have it as they are spelled, or as a content line of some component
-abbrev pub IsBlamed : ℕ → List ℕ → blame.Blame → Type 0
-IsBlamed n content blamed =
+-- the line begins a component of this name
+abbrev pub IsBeginOf : List ℕ → List ℕ → Type 0
+IsBeginOf name line = (is_of (codes "BEGIN") line ≡ true) × (line_value line ≡ name)
+
+-- a line that is the one has it, another hasn't
+abbrev pub blame_if : Bool → blame.Blame
+blame_if is_sought = if is_sought then blames.Certain else blames.None
+
+-- where a line has it, this holds
+abbrev pub IsAlone : Type 0 → blame.Blame → Type 0
+IsAlone P blames.None = Unit {0}
+IsAlone P blames.Possible = ⊥
+IsAlone P blames.Certain = P
+
+-- octets have this to do with what is sought: with the fault of a number, which they have as they are spelled, or as a content line of some
+-- component; or they are the line that begins a component of a name, or the one of a text
+abbrev pub IsBlamed : Sought → List ℕ → blame.Blame → Type 0
+IsBlamed (Fault n) content blamed =
     ((blamed ≡ blames.Certain) × IsTrue (text_has true n content)) ⊎ ((within : Within) × IsBlame n within content blamed)
+IsBlamed (Begin spot name) content blamed = IsAlone (IsBeginOf name.now content) blamed
+IsBlamed (Text spot text) content blamed = IsAlone (content ≡ text.now) blamed
 
 -- the place is on this physical line and has this property
 abbrev pub IsAt : ℕ → List ℕ → Place → Type 0
@@ -32,22 +52,22 @@ IsNoted old blames.None line property new = new ≡ old
 IsNoted old blames.Certain line property new = (place : Place) × (new ≡ Certain place) × IsAt line property place
 IsNoted old blames.Possible line property new = (place : Place) × (new ≡ with_possible old place) × IsAt line property place
 
--- the content line that begins there was looked at: what was found before stays, or it isn't empty and was noted by what it has to do with the
--- fault, with its property or without
-abbrev pub Finds : ℕ → Found → Found → ℕ → List ℕ → Type 0
-Finds n old new line content =
+-- the content line that begins there was looked at: what was found before stays, or it isn't empty and was noted by what it has to do with
+-- what is sought, with its property or without
+abbrev pub Finds : Sought → Found → Found → ℕ → List ℕ → Type 0
+Finds sought old new line content =
     (new ≡ old)
-    ⊎ ((0 < length content) × (blamed : blame.Blame) × (property : List ℕ) × ((property ≡ []) ⊎ (property ≡ line_name content)) × IsBlamed n content blamed
+    ⊎ ((0 < length content) × (blamed : blame.Blame) × (property : List ℕ) × ((property ≡ []) ⊎ (property ≡ line_name content)) × IsBlamed sought content blamed
     × IsNoted old blamed line property new)
 
--- if one line was found, it is a place of the octets, and its line has the fault by itself, or can have it
-abbrev pub FoundIn : ℕ → List ℕ → Found → Type 0
-FoundIn n octets Nothing = Unit {0}
-FoundIn n octets (Possible place) = (at : IsPlace octets place.line place.property.items) × IsBlamed n at.content blames.Possible
-FoundIn n octets Several = Unit {0}
-FoundIn n octets (Certain place) = (at : IsPlace octets place.line place.property.items) × IsBlamed n at.content blames.Certain
+-- if one line was found, it is a place of the octets, and its line is the one, or can be it
+abbrev pub FoundIn : Sought → List ℕ → Found → Type 0
+FoundIn sought octets Nothing = Unit {0}
+FoundIn sought octets (Possible place) = (at : IsPlace octets place.line place.property.items) × IsBlamed sought at.content blames.Possible
+FoundIn sought octets Several = Unit {0}
+FoundIn sought octets (Certain place) = (at : IsPlace octets place.line place.property.items) × IsBlamed sought at.content blames.Certain
 
--- a place of a content line that has the fault of this number by itself, or can have it
-pub record IsBlamedPlace (octets : List ℕ) (n line : ℕ) (property : List ℕ) : Type 0 where
+-- a place of a content line that is the one, or can be it
+pub record IsBlamedPlace (octets : List ℕ) (sought : Sought) (line : ℕ) (property : List ℕ) : Type 0 where
   pub at : IsPlace octets line property
-  pub blamed : IsBlamed n at.content blames.Certain ⊎ IsBlamed n at.content blames.Possible
+  pub blamed : IsBlamed sought at.content blames.Certain ⊎ IsBlamed sought at.content blames.Possible

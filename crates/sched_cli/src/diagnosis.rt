@@ -1,14 +1,16 @@
 //! `explain` without a number: reads one object as `serve` reads a message, and says why it is refused.
 
-ghost use Rattle.std.specs.Prelude.{◌≡◌, ◌≤◌, ◌++◌, ◌⊎◌, ℕ, List, true, false, IfOk, OnOk};
+ghost use Rattle.std.specs.Prelude.{◌≡◌, ◌≤◌, ◌++◌, ◌⊎◌, ℕ, List, codes, decimal, true, false, IfOk, MatchOption, OnOk};
 ghost use Rattle.std.specs.Io.KnownBytes.{Appends, Keeps};
 ghost use Rattle.sched_cli.specs.Commands.{BlamesDevice, IsStatusSaid, TellsDevice};
-ghost use Rattle.sched_cli.specs.Diagnosis.{IsMeaningOf, IsPlaceText, IsRefusedText, SaysRefused, SaysTaken, message_line, property_text};
+ghost use Rattle.sched_cli.specs.Diagnosis.{HasFault, IsEnding, IsHelp, IsMeaningOf, IsPlaceText, IsRead, IsReason, IsRefusedText, SaysRefused, SaysTaken, message_line, place_text, property_text, way_text};
 ghost use Rattle.sched_cli.specs.Explained.{is_explained};
 
 use crate::explain::explanation;
-use crate::place::place_of;
+use crate::place::{Place, Sought, place_of};
+use crate::refused_zone::{InTheWay, in_the_way};
 use crate::status::{DONE, NO, report_memory, report_write};
+use cal_doors::adapt;
 use cal_events::Method;
 use ical_lines::Fault;
 use itip_messages::Message;
@@ -78,7 +80,8 @@ fn taken_line(message: &Message) -> &'static str
     }
 }
 
-/// What is said of an object that is refused with this number: a line with the place, and the line of the number.
+/// What is said of an object that is refused with this number: a line with the place, of a VTIMEZONE one with what is in the way, and the line of the
+/// number.
 fn refused_text(alloc: Global, octets: &[u8], number: u8) -> Result<Vec<u8>, AllocError>
     ensures { is_explained number ≡ true → IfOk result (λ text. IsRefusedText octets.now number text.items) }
 {
@@ -86,14 +89,39 @@ fn refused_text(alloc: Global, octets: &[u8], number: u8) -> Result<Vec<u8>, All
     let mut digits = Buffer::new();
     text.extend_from_slice(b"refused ")?;
     text.extend_from_slice(digits.format(number).as_bytes())?;
-    append_place(alloc, &mut text, octets, number)?;
-    text.push(b'\n')?;
+    append_reason(alloc, &mut text, octets, number)?;
     append_meaning(&mut text, number)?;
     Ok(text)
 }
 
-/// ` at line 12: DTSTART`; nothing where the place isn't known.
-fn append_place(
+/// The rest of the line with the place, and the line with what is in the way, where a VTIMEZONE is refused.
+fn append_reason(
+    alloc: Global,
+    text: &mut Vec<u8>,
+    octets: &[u8],
+    number: u8,
+) -> Result<(), AllocError>
+    ensures { OnOk result ((reason : List ℕ) × IsReason octets.now number reason × (text.new.items ≡ text.old.items ++ reason)) }
+{
+    let Some(found) = in_the_way(alloc, octets, number)? else {
+        append_blamed(alloc, text, octets, number)?;
+        return end_line(text);
+    };
+    append_place(text, &found.place)?;
+    end_line(text)?;
+    append_way(text, &found)?;
+    append_help(alloc, text, octets)
+}
+
+fn end_line(text: &mut Vec<u8>) -> Result<(), AllocError>
+    ensures { OnOk result (text.new.items ≡ text.old.items ++ codes "\n") }
+{
+    text.push(b'\n')?;
+    Ok(())
+}
+
+/// The place of the line that is to blame; nothing where it isn't known.
+fn append_blamed(
     alloc: Global,
     text: &mut Vec<u8>,
     octets: &[u8],
@@ -101,9 +129,16 @@ fn append_place(
 ) -> Result<(), AllocError>
     ensures { OnOk result ((place : List ℕ) × IsPlaceText octets.now number place × (text.new.items ≡ text.old.items ++ place)) }
 {
-    let Some(place) = place_of(alloc, octets, number)? else {
+    let Some(place) = place_of(alloc, octets, Sought::Fault(number))? else {
         return Ok(());
     };
+    append_place(text, &place)
+}
+
+/// ` at line 12: DTSTART`
+fn append_place(text: &mut Vec<u8>, place: &Place) -> Result<(), AllocError>
+    ensures { OnOk result (text.new.items ≡ text.old.items ++ place_text place.now.line place.now.property.items) }
+{
     let mut digits = Buffer::new();
     text.extend_from_slice(b" at line ")?;
     text.extend_from_slice(digits.format(place.line).as_bytes())?;
@@ -119,6 +154,64 @@ fn append_property(text: &mut Vec<u8>, property: &[u8]) -> Result<(), AllocError
     }
     text.extend_from_slice(b": ")?;
     text.extend_from_slice(property)?;
+    Ok(())
+}
+
+/// `DAYLIGHT at line 9: its RRULE has UNTIL.`
+fn append_way(text: &mut Vec<u8>, found: &InTheWay) -> Result<(), AllocError>
+    ensures { OnOk result (text.new.items ≡ text.old.items ++ way_text found.now) }
+{
+    let mut digits = Buffer::new();
+    text.extend_from_slice(found.part.as_slice())?;
+    text.extend_from_slice(b" at line ")?;
+    text.extend_from_slice(digits.format(found.begins).as_bytes())?;
+    text.extend_from_slice(b": ")?;
+    text.extend_from_slice(found.obstacle.words().as_bytes())?;
+    Ok(())
+}
+
+/// What `roombox adapt` makes of an object that a VTIMEZONE is in the way of.
+fn append_help(alloc: Global, text: &mut Vec<u8>, octets: &[u8]) -> Result<(), AllocError>
+    ensures { OnOk result ((help : List ℕ) × IsHelp octets.now help × (text.new.items ≡ text.old.items ++ help)) }
+{
+    let Some(adapted) = adapt(alloc, octets, None)? else {
+        text.extend_from_slice(b" `roombox adapt` hands the object on as it is.\n")?;
+        return Ok(());
+    };
+    text.extend_from_slice(b" `roombox adapt` makes an object of it that is ")?;
+    append_adapted(alloc, text, adapted.octets.as_slice())
+}
+
+/// `read.`, or `refused 34.`
+fn append_adapted(alloc: Global, text: &mut Vec<u8>, octets: &[u8]) -> Result<(), AllocError>
+    ensures { OnOk result ((ending : List ℕ) × IsEnding octets.now ending × (text.new.items ≡ text.old.items ++ ending)) }
+{
+    let Some(number) = refused_number(alloc, octets)? else {
+        text.extend_from_slice(b"read.\n")?;
+        return Ok(());
+    };
+    append_refused(text, number)
+}
+
+/// The number that octets are refused with; None where they are read.
+fn refused_number(alloc: Global, octets: &[u8]) -> Result<Option<u8>, AllocError>
+    ensures { IfOk result (λ refused. MatchOption refused (IsRead octets.now) (HasFault octets.now)) }
+{
+    match Message::read(alloc, octets) {
+        Ok(_) => Ok(None),
+        Err(Fault::Refused(refusal)) => Ok(Some(refusal.number)),
+        Err(Fault::Memory) => Err(AllocError),
+    }
+}
+
+/// `refused 34.`
+fn append_refused(text: &mut Vec<u8>, number: u8) -> Result<(), AllocError>
+    ensures { OnOk result (text.new.items ≡ text.old.items ++ (codes "refused " ++ (decimal number ++ codes ".\n"))) }
+{
+    let mut shown = Buffer::new();
+    text.extend_from_slice(b"refused ")?;
+    text.extend_from_slice(shown.format(number).as_bytes())?;
+    text.extend_from_slice(b".\n")?;
     Ok(())
 }
 

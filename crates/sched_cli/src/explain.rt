@@ -67,16 +67,16 @@ pub fn explanation(number: u8) -> Option<&'static str>
             "34: DTSTART isn't a day of its own rule. What to do: move the start, or fix the rule.\n",
         ),
         40 => Some(
-            "40: a VTIMEZONE of a shape that isn't read. What to do: send the present STANDARD and DAYLIGHT alone, or UTC.\n",
+            "40: a VTIMEZONE of a shape that isn't read. What to do: let `roombox adapt` make an object that is read; or send one STANDARD and one DAYLIGHT, each with an RRULE of one day of every year and without UNTIL, COUNT and RDATE; one part without RRULE; or UTC.\n",
         ),
         41 => Some(
-            "41: offsets of a VTIMEZONE that don't match, or lie more than 12 hours apart. What to do: fix TZOFFSETFROM and TZOFFSETTO.\n",
+            "41: offsets of a VTIMEZONE that don't match, or lie more than 12 hours apart. What to do: fix TZOFFSETFROM and TZOFFSETTO: of two parts each comes from the offset that the other goes to.\n",
         ),
         42 => Some(
             "42: STANDARD and DAYLIGHT begin less than two days apart. What to do: fix their rules.\n",
         ),
         43 => Some(
-            "43: no VTIMEZONE has the name that TZID gives. What to do: send the VTIMEZONE in the same object, or fix the name.\n",
+            "43: no VTIMEZONE has the name that TZID gives. What to do: send the VTIMEZONE in the same object, fix the name, or let `roombox adapt --zones FILE` bring it from a list.\n",
         ),
         44 => Some(
             "44: X-ROOM-ZONE twice, or words that mean no zone. What to do: write an offset, or two offsets and when each begins, as -0500 -0400 11 1SU 0200 3 2SU 0200.\n",

@@ -8,7 +8,10 @@ pub mod diagnosis;
 pub mod expand;
 pub mod explain;
 pub mod folders;
+mod obstacle;
 pub mod place;
+mod refused_zone;
+mod returned;
 pub mod status;
 pub mod tally;
 
@@ -18,4 +21,5 @@ pub use diagnosis::run_explain_object;
 pub use expand::run_expand;
 pub use explain::run_explain;
 pub use folders::run_folders;
+pub use returned::{WayBack, run_returned};
 pub use tally::{Tally, run_serve_report};

@@ -3,8 +3,9 @@
 //! has no place, and what several lines have together has none.
 
 ghost use Rattle.std.specs.Prelude.{◌≡◌, ◌<◌, ◌^◌, ◌+◌, ◌++◌, ◌⊎◌, ℕ, List, length, drop, true, false, IfOk, IfSome, OnOk};
+ghost use Rattle.ical_lines.specs.Text.{line_text};
 ghost use Rattle.profile.specs.text.Lines.{is_continuation, line_name};
-ghost use Rattle.sched_cli.specs.Searching.{Finds, FoundIn, IsBlamedPlace, IsNoted, with_possible};
+ghost use Rattle.sched_cli.specs.Searching.{Finds, FoundIn, IsBeginOf, IsBlamed, IsBlamedPlace, IsNoted, blame_if, with_possible};
 
 use crate::blame::{Blame, Within, blame_of};
 use ical_lines::{Fault, Limits, Line, Unfolded, split_line, without_mark};
@@ -20,11 +21,33 @@ pub struct Place {
     pub property: Vec<u8>,
 }
 
-/// The content line of an object that its refusal is about; None where it isn't known.
-pub fn place_of(alloc: Global, octets: &[u8], number: u8) -> Result<Option<Place>, AllocError>
-    ensures { IfOk result (λ found. IfSome found (λ place. IsBlamedPlace octets.now number place.line place.property.items)) }
+/// Which content line of an object is sought.
+#[derive(Clone, Copy)]
+pub(crate) enum Sought<'a> {
+    /// The one that has the fault of this number.
+    Fault(u8),
+    /// The BEGIN of this component, which has this name.
+    Begin(Spot, &'a str),
+    /// A line of this component, of this text.
+    Text(Spot, &'a str),
+}
+
+/// Where a component is: which one directly inside the object, counted from 0, and which one inside that, or None where it is that one itself.
+#[derive(Clone, Copy, PartialEq, Eq)]
+pub(crate) struct Spot {
+    pub(crate) zone: usize,
+    pub(crate) part: Option<usize>,
+}
+
+/// The content line of an object that is sought; None where it isn't known.
+pub(crate) fn place_of(
+    alloc: Global,
+    octets: &[u8],
+    sought: Sought<'_>,
+) -> Result<Option<Place>, AllocError>
+    ensures { IfOk result (λ found. IfSome found (λ place. IsBlamedPlace octets.now sought.entry place.line place.property.items)) }
 {
-    let mut search = Search::new(number);
+    let mut search = Search::new(sought);
     let (first, mut left) = split_line(without_mark(octets));
     let mut begun = Begun::first(alloc, first)?;
     while let Some(rest) = left {
@@ -66,17 +89,17 @@ impl Begun {
 /// Takes the next physical line: it continues the content line that has begun, or that one is looked at and another begins.
 fn take_line(
     alloc: Global,
-    search: &mut Search,
+    search: &mut Search<'_>,
     begun: &mut Begun,
     line: &[u8],
 ) -> Result<(), AllocError>
     requires { begun.old.count < 2 ^ 63 }
     ensures count { OnOk result (begun.new.count ≡ begun.old.count + 1) }
-    ensures number { search.new.number ≡ search.old.number }
+    ensures sought { search.new.sought ≡ search.old.sought }
     ensures continues { OnOk result (is_continuation line.now ≡ true
         → (search.new.found ≡ search.old.found) × (begun.new.content.items ≡ begun.old.content.items ++ drop 1 line.now) × (begun.new.line ≡ begun.old.line)) }
     ensures begins { OnOk result (is_continuation line.now ≡ false
-        → Finds search.old.number search.old.found search.new.found begun.old.line begun.old.content.items × (begun.new.content.items ≡ line.now) × (begun.new.line ≡ begun.new.count)) }
+        → Finds search.old.sought search.old.found search.new.found begun.old.line begun.old.content.items × (begun.new.content.items ≡ line.now) × (begun.new.line ≡ begun.new.count)) }
 {
     begun.count += 1;
     if let [b' ' | b'\t', continued @ ..] = line {
@@ -92,13 +115,45 @@ fn take_line(
 
 /// Looks at the content lines of an object, one after another.
 #[derive(Drop)]
-struct Search {
-    number: u8,
+struct Search<'a> {
+    sought: Sought<'a>,
     /// How many components have begun and not ended.
     depth: u64,
     /// What lines of the component at depth 2 are, and of its parts.
     inside: Inside,
+    /// How many components have begun at depth 2.
+    outer: usize,
+    /// How many have begun at depth 3, inside the last of them.
+    inner: usize,
     found: Found,
+}
+
+/// Whether a number is that of the fault that is sought.
+fn is_fault(sought: Sought<'_>, number: u8) -> bool
+    ensures { result ≡ true → sought.entry ≡ Sought.Fault number }
+{
+    match sought {
+        Sought::Fault(fault) => fault == number,
+        Sought::Begin(_, _) | Sought::Text(_, _) => false,
+    }
+}
+
+/// Whether a line begins a component of this name.
+fn is_begin(line: Line<'_>, name: &str) -> bool
+    ensures { result ≡ true → IsBeginOf name.now (line_text line.entry) }
+{
+    line.is_named("BEGIN") && line.value() == name
+}
+
+/// Of a line that is the one, or isn't.
+fn blame_if(is_sought: bool) -> Blame
+    ensures { result ≡ blame_if is_sought }
+{
+    if is_sought {
+        Blame::Certain
+    } else {
+        Blame::None
+    }
 }
 
 /// A component of an object.
@@ -121,23 +176,25 @@ enum Found {
     Certain(Place),
 }
 
-impl Search {
-    fn new(number: u8) -> Search
+impl<'a> Search<'a> {
+    fn new(sought: Sought<'a>) -> Search<'a>
         ensures found { result.found ≡ Found.Nothing }
-        ensures number { result.number ≡ number }
+        ensures sought { result.sought ≡ sought.entry }
     {
         Search {
-            number,
+            sought,
             depth: 0,
             inside: Inside::Other,
+            outer: 0,
+            inner: 0,
             found: Found::Nothing,
         }
     }
 
     /// Looks at the octets of one content line, which begins on this physical line.
     fn look_at(&mut self, alloc: Global, octets: &[u8], begun: u64) -> Result<(), AllocError>
-        ensures found { OnOk result (Finds self.old.number self.old.found self.new.found begun octets.now) }
-        ensures number { self.new.number ≡ self.old.number }
+        ensures found { OnOk result (Finds self.old.sought self.old.found self.new.found begun octets.now) }
+        ensures sought { self.new.sought ≡ self.old.sought }
     {
         if octets.is_empty() || matches!(self.found, Found::Certain(_)) {
             return Ok(());
@@ -145,7 +202,7 @@ impl Search {
         match Unfolded::read(alloc, octets, Limits::Message) {
             Ok(_) => self.look_at_line(alloc, octets, begun),
             Err(Fault::Memory) => Err(AllocError),
-            Err(Fault::Refused(refusal)) if refusal.number == self.number => {
+            Err(Fault::Refused(refusal)) if is_fault(self.sought, refusal.number) => {
                 self.note(alloc, Blame::Certain, b"", begun)
             }
             Err(Fault::Refused(_)) => Ok(()),
@@ -155,8 +212,8 @@ impl Search {
     /// Looks at a content line that is read as one.
     fn look_at_line(&mut self, alloc: Global, octets: &[u8], begun: u64) -> Result<(), AllocError>
         requires { 0 < length octets.now }
-        ensures found { OnOk result (Finds self.old.number self.old.found self.new.found begun octets.now) }
-        ensures number { self.new.number ≡ self.old.number }
+        ensures found { OnOk result (Finds self.old.sought self.old.found self.new.found begun octets.now) }
+        ensures sought { self.new.sought ≡ self.old.sought }
     {
         let Ok(text) = str::from_utf8(octets) else {
             return Ok(());
@@ -164,10 +221,44 @@ impl Search {
         let Some(line) = Line::read(text) else {
             return Ok(());
         };
-        let blame = blame_of(alloc, self.number, self.within(), line)?;
+        let blame = self.blame(alloc, line)?;
         self.note(alloc, blame, line.name().as_bytes(), begun)?;
         self.pass(line);
         Ok(())
+    }
+
+    /// What a line has to do with the one that is sought.
+    fn blame(&self, alloc: Global, line: Line<'_>) -> Result<Blame, AllocError>
+        ensures { IfOk result (IsBlamed self.now.sought (line_text line.entry)) }
+    {
+        match self.sought {
+            Sought::Fault(number) => blame_of(alloc, number, self.within(), line),
+            Sought::Begin(spot, name) => Ok(blame_if(self.begins(spot) && is_begin(line, name))),
+            Sought::Text(spot, text) => Ok(blame_if(self.is_inside(spot) && line.text() == text)),
+        }
+    }
+
+    /// Whether a component is the next that may begin.
+    fn begins(&self, spot: Spot) -> bool {
+        match spot.part {
+            None => self.depth == 1 && self.outer == spot.zone,
+            Some(part) => self.depth == 2 && self.is_after(spot.zone) && self.inner == part,
+        }
+    }
+
+    /// Whether a component is the innermost that has begun and not ended.
+    fn is_inside(&self, spot: Spot) -> bool {
+        match spot.part {
+            None => self.depth == 2 && self.is_after(spot.zone),
+            Some(part) => {
+                self.depth == 3 && self.is_after(spot.zone) && self.inner == part.saturating_add(1)
+            }
+        }
+    }
+
+    /// Whether that component is the last of those at depth 2.
+    fn is_after(&self, zone: usize) -> bool {
+        self.outer == zone.saturating_add(1)
     }
 
     /// Notes what a line has to do with the fault.
@@ -179,7 +270,7 @@ impl Search {
         line: u64,
     ) -> Result<(), AllocError>
         ensures noted { OnOk result (IsNoted self.old.found blame line property.now self.new.found) }
-        ensures number { self.new.number ≡ self.old.number }
+        ensures sought { self.new.sought ≡ self.old.sought }
     {
         self.found = match blame {
             Blame::None => return Ok(()),
@@ -205,11 +296,15 @@ impl Search {
     /// Goes into the component that a line begins, and out of the one that it ends.
     fn pass(&mut self, line: Line<'_>)
         ensures found { self.new.found ≡ self.old.found }
-        ensures number { self.new.number ≡ self.old.number }
+        ensures sought { self.new.sought ≡ self.old.sought }
     {
         if line.is_named("BEGIN") {
             if self.depth == 1 {
                 self.inside = Inside::named(line.value());
+                self.outer = self.outer.saturating_add(1);
+                self.inner = 0;
+            } else if self.depth == 2 {
+                self.inner = self.inner.saturating_add(1);
             }
             self.depth = self.depth.saturating_add(1);
         } else if line.is_named("END") {
@@ -231,7 +326,7 @@ impl Found {
 
     /// The line that was found, if it is one.
     fn into_place(self) -> Option<Place>
-        ensures { IfSome result (λ place. (n : ℕ) (octets : List ℕ) → FoundIn n octets self → IsBlamedPlace octets n place.line place.property.items) }
+        ensures { IfSome result (λ place. (sought : Sought) (octets : List ℕ) → FoundIn sought octets self → IsBlamedPlace octets sought place.line place.property.items) }
     {
         match self {
             Found::Possible(place) | Found::Certain(place) => Some(place),

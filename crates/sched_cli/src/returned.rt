@@ -1,29 +1,31 @@
 //! `adapt --reply-to`: answers in the words of the object that they answer.
 
-ghost use Rattle.std.specs.Prelude.{◌≡◌, ◌++◌, ◌<◌, length};
-ghost use Rattle.cal_doors.specs.Adapted.{AreListed};
+ghost use Rattle.std.specs.Prelude.{◌≡◌, ◌⊎◌, ◌<◌, ◌≤◌, [], length, drop, map, true, IfErr, IfOk, IfSome, MatchOption, OnErr, OnOk};
+ghost use Rattle.std.specs.List.{flat_map};
+ghost use Rattle.profile.specs.text.Objects.{after_object};
+ghost use Rattle.sched_devices.specs.Output.{KeepsButFailed, WriteStopsFor};
+ghost use Rattle.sched_cli.specs.Commands.{IsStatusSaid, write_status};
+ghost use Rattle.sched_cli.specs.Returned.{HandsBack, IsParted, Returns, ReturnsAll, ReturnsFront, StopsReturning, after_line, after_piece, is_line};
 
 use crate::status::{DONE, report_write};
-use cal_doors::{NamedZones, returned, split};
+use cal_doors::{returned, split};
 use ical_lines::cut;
-use sched_box::{Output, WriteFault};
+use ical_tree::Component;
+use sched_devices::{Output, WriteFault};
 use std::alloc::{AllocError, Global};
-
-/// How a line for a refused object begins.
-const REFUSED: &[u8] = b"REFUSED;";
 
 /// How answers are handed on.
 #[derive(Clone, Copy)]
 pub struct WayBack<'s, 'c, 'a> {
     /// The object that they answer, as it came.
     pub original: &'s [u8],
-    /// The zones that names mean where the object doesn't say what they are.
-    pub listed: Option<&'s NamedZones<'c, 'a>>,
+    /// The VTIMEZONEs of names for which the object has none.
+    pub listed: Option<&'c Component<'a>>,
     /// Each VEVENT in an object of its own.
     pub is_single: bool,
 }
 
-/// Hands on what `serve` wrote: each object in the words of the original, where it can be told so; lines for refused objects, and all else,
+/// Hands on what `serve` wrote: each object in the words of the original, where it can be told so; lines of refused objects, and all else,
 /// as they are. Gives 4 where the writer failed, and 5 where memory was refused.
 pub fn run_returned<W: Output, E: Output>(
     alloc: Global,
@@ -32,7 +34,12 @@ pub fn run_returned<W: Output, E: Output>(
     writer: &mut W,
     errors: &mut E,
 ) -> u8
-    requires { AreListed way.listed }
+    ensures whole { result ≡ 0 → ReturnsAll way.entry octets.now [] (W.contents writer.old) (W.contents writer.new) }
+    ensures front { (result ≡ 0 → ⊥) → ReturnsFront result way.entry octets.now (W.contents writer.old) (W.contents writer.new) }
+    ensures device { result ≡ 4 → W.has_failed writer.new ≡ true }
+    ensures told { (result ≡ 4 → ⊥) → W.has_failed writer.new ≡ W.has_failed writer.old }
+    ensures status { (result ≡ 0) ⊎ (result ≡ 4) ⊎ (result ≡ 5) }
+    ensures said { IsStatusSaid result (E.contents errors.old) (E.contents errors.new) (E.may_lose errors.new) }
 {
     match return_all(alloc, way, octets, writer) {
         Ok(()) => DONE,
@@ -47,7 +54,11 @@ fn return_all<W: Output>(
     octets: &[u8],
     writer: &mut W,
 ) -> Result<(), WriteFault>
-    requires { AreListed way.listed }
+    ensures whole { OnOk result (ReturnsAll way.entry octets.now [] (W.contents writer.old) (W.contents writer.new)) }
+    ensures front { IfErr result (λ fault. ReturnsFront (write_status fault) way.entry octets.now (W.contents writer.old) (W.contents writer.new)) }
+    ensures mark { OnOk result (W.has_failed writer.new ≡ W.has_failed writer.old) }
+    ensures cause { IfErr result (WriteStopsFor (W.has_failed writer.new)) }
+    ensures told { IfErr result (KeepsButFailed (W.has_failed writer.old) (W.has_failed writer.new)) }
 {
     let mut left = octets;
     while !left.is_empty() {
@@ -58,19 +69,51 @@ fn return_all<W: Output>(
     Ok(())
 }
 
-/// How many octets the first piece has: a line for a refused object, or an object, with the line break; or all that is left.
+/// How many octets the first piece has: a line that no object has, or an object, with its line break; all, where none ends.
 fn piece_length(octets: &[u8]) -> usize
     requires { 0 < length octets.now }
     ensures some { 0 < result }
     ensures within { result ≤ length octets.now }
+    ensures rest { drop result octets.now ≡ after_piece octets.now }
 {
-    let end = if octets.starts_with(REFUSED) {
-        octets.iter().position(|octet| *octet == b'\n').map(|place| place + 1)
+    if is_line(octets) {
+        line_length(octets)
     } else {
-        cut(octets)
-    };
-    match end {
-        Some(end) => end.clamp(1, octets.len()),
+        object_length(octets)
+    }
+}
+
+/// Whether a line comes first that no object has: an empty one, or that of a refused object.
+fn is_line(octets: &[u8]) -> bool
+    ensures { result ≡ is_line octets.now }
+{
+    octets.starts_with(b"\n") || octets.starts_with(b"\r\n") || octets.starts_with(b"REFUSED;")
+}
+
+/// How many octets the first line has, with its line break.
+fn line_length(octets: &[u8]) -> usize
+    requires { 0 < length octets.now }
+    ensures some { 0 < result }
+    ensures within { result ≤ length octets.now }
+    ensures rest { drop result octets.now ≡ after_line octets.now }
+{
+    for (place, octet) in octets.iter().enumerate() {
+        if *octet == b'\n' {
+            return place + 1;
+        }
+    }
+    octets.len()
+}
+
+/// How many octets the first object has, with its line break; all, where none ends.
+fn object_length(octets: &[u8]) -> usize
+    requires { 0 < length octets.now }
+    ensures some { 0 < result }
+    ensures within { result ≤ length octets.now }
+    ensures rest { drop result octets.now ≡ after_object octets.now }
+{
+    match cut(octets) {
+        Some(end) => end,
         None => octets.len(),
     }
 }
@@ -82,36 +125,59 @@ fn return_piece<W: Output>(
     piece: &[u8],
     writer: &mut W,
 ) -> Result<(), WriteFault>
-    requires { AreListed way.listed }
+    ensures returns { OnOk result (Returns way.entry piece.now (W.contents writer.old) (W.contents writer.new)) }
+    ensures stops { IfErr result (StopsReturning way.entry piece.now (W.contents writer.old) (W.contents writer.new)) }
+    ensures mark { OnOk result (W.has_failed writer.new ≡ W.has_failed writer.old) }
+    ensures cause { IfErr result (WriteStopsFor (W.has_failed writer.new)) }
+    ensures told { IfErr result (KeepsButFailed (W.has_failed writer.old) (W.has_failed writer.new)) }
 {
-    match returned(alloc, way.original, way.listed, piece) {
-        Ok(Some(given)) => put_answer(alloc, way, given.as_slice(), writer),
-        Ok(None) => put_answer(alloc, way, piece, writer),
-        Err(AllocError) => Err(WriteFault::Memory),
+    match handed_back(alloc, way, piece) {
+        Ok(Some(out)) => writer.put(out.as_slice()),
+        Ok(None) => writer.put(piece),
+        Err(_) => Err(WriteFault::Memory),
     }
 }
 
-/// Hands on an answer, split where that is asked for.
-fn put_answer<W: Output>(
+/// What is handed on for a piece; None where that is the piece itself.
+fn handed_back(
     alloc: Global,
     way: WayBack<'_, '_, '_>,
-    answer: &[u8],
-    writer: &mut W,
-) -> Result<(), WriteFault> {
-    if !way.is_single {
-        return writer.put(answer);
+    piece: &[u8],
+) -> Result<Option<Vec<u8>>, AllocError>
+    ensures { IfOk result (λ found. MatchOption found (HandsBack way.entry piece.now piece.now) (λ out. HandsBack way.entry piece.now out.items)) }
+{
+    if is_line(piece) {
+        return Ok(None);
     }
-    match split(alloc, answer) {
-        Ok(Some(parts)) => put_parts(parts.as_slice(), writer),
-        Ok(None) => writer.put(answer),
-        Err(AllocError) => Err(WriteFault::Memory),
+    let Some(told) = returned(alloc, way.original, way.listed, piece)? else {
+        return parted(alloc, way.is_single, piece);
+    };
+    match parted(alloc, way.is_single, told.as_slice())? {
+        Some(out) => Ok(Some(out)),
+        None => Ok(Some(told)),
     }
 }
 
-/// Hands on objects, one after another.
-fn put_parts<W: Output>(parts: &[Vec<u8>], writer: &mut W) -> Result<(), WriteFault> {
-    for part in parts {
-        writer.put(part.as_slice())?;
+/// The VEVENTs of an object, each in an object of its own, where that is asked for; None where the object stays as it is.
+fn parted(alloc: Global, is_single: bool, told: &[u8]) -> Result<Option<Vec<u8>>, AllocError>
+    ensures { IfOk result (λ found. IfSome found (λ out. (is_single ≡ true) × IsParted told.now out.items)) }
+{
+    if !is_single {
+        return Ok(None);
     }
-    Ok(())
+    match split(alloc, told)? {
+        Some(parts) => Ok(Some(joined(alloc, parts.as_slice())?)),
+        None => Ok(None),
+    }
+}
+
+/// Octets, one after another.
+fn joined(alloc: Global, parts: &[Vec<u8>]) -> Result<Vec<u8>, AllocError>
+    ensures { IfOk result (λ out. out.items ≡ flat_map (λ part. part) (map (λ part. part.items) parts.now)) }
+{
+    let mut out = Vec::new(alloc);
+    for part in parts {
+        out.extend_from_slice(part.as_slice())?;
+    }
+    Ok(out)
 }

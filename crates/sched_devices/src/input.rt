@@ -5,7 +5,7 @@ ghost use Rattle.std.specs.Io.KnownBytes.{Consumes, IsAtEnd, Keeps};
 ghost use Rattle.std.specs.Io.{StartsWith};
 ghost use Rattle.std.specs.Io.Buffered.{reader_buffer, reader_capacity, reader_inner, reader_remaining};
 
-use std::alloc::Global;
+use std::alloc::{AllocError, Global};
 use std::io::{self, BufRead, BufReader, ErrorKind, Read};
 
 /// How often an interrupted call is tried again before the device counts as failed.
@@ -95,14 +95,16 @@ pub struct DeviceReader<R: Read + Drop> {
 }
 
 impl<R: Read + Drop> DeviceReader<R> {
-    /// A reader that hasn't failed, and has taken nothing of the device yet. An error where there is no memory for the buffer.
-    pub fn new(alloc: Global, device: R) -> io::Result<DeviceReader<R>>
+    /// A reader that hasn't failed, and has taken nothing of the device yet. Fails only where there is no memory for the buffer.
+    pub fn new(alloc: Global, device: R) -> Result<DeviceReader<R>, AllocError>
         ensures mark { IfOk result (λ reader. reader.failed ≡ false) }
         ensures device { IfOk result (λ reader. reader_inner reader.reader ≡ device) }
         ensures nothing { IfOk result (λ reader. reader_buffer reader.reader ≡ []) }
         ensures capacity { IfOk result (λ reader. reader_capacity reader.reader ≡ 8_192) }
     {
-        let reader = BufReader::new(alloc, device)?;
+        let Ok(reader) = BufReader::new(alloc, device) else {
+            return Err(AllocError);
+        };
         Ok(DeviceReader {
             reader,
             failed: false,
@@ -110,15 +112,21 @@ impl<R: Read + Drop> DeviceReader<R> {
     }
 
     /// The same, with a buffer of this many octets, at least one: a buffer of none would show nothing of the device.
-    /// An error where there is no memory for it.
-    pub fn with_capacity(alloc: Global, capacity: usize, device: R) -> io::Result<DeviceReader<R>>
+    /// Fails only where there is no memory for it.
+    pub fn with_capacity(
+        alloc: Global,
+        capacity: usize,
+        device: R,
+    ) -> Result<DeviceReader<R>, AllocError>
         ensures mark { IfOk result (λ reader. reader.failed ≡ false) }
         ensures device { IfOk result (λ reader. reader_inner reader.reader ≡ device) }
         ensures nothing { IfOk result (λ reader. reader_buffer reader.reader ≡ []) }
         ensures capacity { IfOk result (λ reader. 0 < capacity → reader_capacity reader.reader ≡ capacity) }
         ensures some { IfOk result (λ reader. 0 < reader_capacity reader.reader) }
     {
-        let reader = BufReader::with_capacity(alloc, capacity.max(1), device)?;
+        let Ok(reader) = BufReader::with_capacity(alloc, capacity.max(1), device) else {
+            return Err(AllocError);
+        };
         Ok(DeviceReader {
             reader,
             failed: false,

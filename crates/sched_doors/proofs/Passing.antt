@@ -1,5 +1,5 @@
 -- What is handed on of what was taken.
-use Rattle.std.proofs.Common.{◌≡◌, ℕ, Bool, true, false, List, [], ◌∷◌, ◌++◌, drop, length, Option, Some, None, Result, Ok, Err, IfErr, OnOk, OnSome, ap, sym, subst, ◌∙◌, refl}
+use Rattle.std.proofs.Common.{◌≡◌, ℕ, Bool, false, List, [], ◌++◌, drop, length, Option, Some, None, Result, Ok, Err, IfErr, OnOk, OnSome, ap, sym, subst, ◌∙◌}
 use Rattle.std.specs.Io.KnownBytes.{Consumes, Keeps, IsAtEnd}
 use Rattle.profile.specs.text.Trees.{Tree}
 use Rattle.sched_doors.specs.Handing.{HandsOn, Passes}

@@ -1,15 +1,8 @@
 -- What a door makes of what it reads.
-use Rattle.std.specs.Prelude.{◌≡◌, ℕ, Bool, true, false, List, [], length, Option, OnSome, option_map}
-use Rattle.std.specs.Borrow.{Bor}
+use Rattle.std.specs.Prelude.{◌≡◌, ℕ, Bool, true, false, List, [], length, Option, OnSome}
 use Rattle.std.specs.Io.KnownBytes.{Consumes, IsAtEnd}
-use Rattle.ical_tree.specs.Tree.{tree_of}
-use Rattle.ical_tree.specs.declared.component.Component.{Component}
 use Rattle.profile.specs.text.Trees.{Tree}
 use Rattle.profile.specs.doors.Adapting.{IsAdapted}
-
--- the object whose VTIMEZONEs are listed, if there is one
-abbrev pub list_of : Option (Bor Component) → Option Tree
-list_of listed = option_map (λ object. tree_of object.now) listed
 
 -- octets are handed on as they came, or as an object made readable, of whose zones only these go on beyond what is stated
 abbrev pub HandsOn : Option Tree → List ℕ → Bool → List (List ℕ) → List ℕ → Type 0

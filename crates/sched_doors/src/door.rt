@@ -2,20 +2,20 @@
 //! A stream may begin with a preamble or with an object. One object is in memory at a time; one that is longer than a message may be goes through
 //! in pieces, as it is.
 
-ghost use Rattle.std.specs.Prelude.{◌≡◌, [], drop, length, map, is_some, string_bytes, false, IfErr, IfOk, IfSome, OnErr, OnOk};
-ghost use Rattle.profile.specs.doors.Adapting.{IsAdapted};
-ghost use Rattle.sched_doors.specs.Handing.{AreLentNone, HandsOn, Passes, list_of};
+ghost use Rattle.std.specs.Prelude.{◌≡◌, [], drop, length, map, is_some, string_bytes, false, IfErr, OnErr, OnOk};
+ghost use Rattle.cal_doors.specs.Adapted.{list_of};
+ghost use Rattle.sched_doors.specs.Handing.{AreLentNone, HandsOn, Passes};
 ghost use Rattle.sched_doors.specs.Pieces.{KeepsButRead, StopsFor};
 ghost use Rattle.sched_doors.specs.declared.fault.DoorFault.TheVariants.{Memory};
 
 use crate::fault::DoorFault;
 use crate::piece::{Piece, take_object, take_piece};
 use crate::preamble::{LineSoFar, begins_with_preamble, take_preamble};
-use cal_doors::{Adapted, adapt};
+use cal_doors::adapt;
 use ical_lines::Cutter;
 use ical_tree::Component;
 use sched_devices::Input;
-use std::alloc::{AllocError, Global};
+use std::alloc::Global;
 use std::io::{self, ErrorKind};
 
 /// Where in its stream a door is.

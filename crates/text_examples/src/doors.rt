@@ -4,7 +4,7 @@
 //!
 //! FILE and LIST are files of octets. `door` says whether the object is made readable.
 
-use cal_doors::{Adapted, NamedZones, adapt};
+use cal_doors::{Adapted, adapt};
 use cal_zones::Zone;
 use example_cases::answers::{Answers, append, none, print_answer};
 use example_cases::words::{first_word, number};
@@ -12,7 +12,7 @@ use example_cases::{Case, NoAnswer};
 use ical_lines::{Limits, Unfolded};
 use ical_tree::{Component, read_object};
 use ical_values::LocalTime;
-use std::alloc::{AllocError, Global};
+use std::alloc::Global;
 use std::rt::Files;
 use std::{fs, io};
 
@@ -40,21 +40,11 @@ fn answer<R: Files + AllocGlobal>(rt: &R, case: Case<'_>) -> Result<String, NoAn
     answers_of(alloc, case, object.as_slice(), adapted)
 }
 
-/// What becomes of an object beside a list.
+/// What becomes of an object beside a list of VTIMEZONEs.
 fn adapted_beside(alloc: Global, object: &[u8], list: &[u8]) -> Result<Option<Adapted>, NoAnswer> {
     let text = Unfolded::read(alloc, list, Limits::Open)?;
     let zones = read_object(alloc, &text, Limits::Open)?;
-    Ok(adapted_with(alloc, object, &zones)?)
-}
-
-/// The same, with the list as an object of VTIMEZONEs.
-fn adapted_with(
-    alloc: Global,
-    object: &[u8],
-    zones: &Component<'_>,
-) -> Result<Option<Adapted>, AllocError> {
-    let named = NamedZones::of(alloc, zones)?;
-    adapt(alloc, object, Some(&named))
+    Ok(adapt(alloc, object, Some(&zones))?)
 }
 
 /// The answers to the steps.

@@ -9,7 +9,7 @@ use example_cases::Case;
 use ical_values::Address;
 use sched_cli::commands::{KeptText, run_check, run_keep, run_serve};
 use sched_cli::status::{DONE, report_read};
-use sched_cli::{run_expand, run_explain};
+use sched_cli::{run_expand, run_explain, run_explain_object};
 use std::alloc::Global;
 use std::io::{self, ErrorKind};
 use std::rt::Files;
@@ -64,6 +64,7 @@ fn run<R: Files + AllocGlobal>(rt: &R, case: Case<'_>) -> io::Result<Outcome> {
             run_check(alloc, reader, certificate, &room, &mut output, &mut errors)
         }
         "explain" => run_explain(number_in(reader), &mut output, &mut errors),
+        "explain-object" => run_explain_object(alloc, reader, &mut output, &mut errors),
         _ => return Err(io::Error::from(ErrorKind::InvalidData)),
     };
     Ok(Outcome {

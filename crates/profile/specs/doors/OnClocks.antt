@@ -6,8 +6,8 @@ use Rattle.profile.specs.text.Lines.{line_value}
 use Rattle.profile.specs.series.Days.{day_index}
 use Rattle.profile.specs.series.Rules.{Rule, RuleText, Until, UntilDay, UntilLocal, UntilInstant, rule_of, is_rule_day, last_rule_day}
 use Rattle.profile.specs.series.RuleTexts.{SpellsRule}
-use Rattle.profile.specs.series.Zones.{Zone, Means, Shows, local_time}
-use Rattle.profile.specs.series.GeneralZones.{Run, IsGeneralOffsetAt, MeansGenerally, ShowsBy}
+use Rattle.profile.specs.series.Zones.{Zone, Means, Shows, local_time, ShowsBy}
+use Rattle.profile.specs.series.GeneralZones.{Run, IsGeneralOffsetAt, MeansGenerally}
 use Rattle.profile.specs.events.Properties.{Length, LastsFor, lines_named}
 use Rattle.profile.specs.events.EventRules.{IsOnDay, as_end}
 use Rattle.profile.specs.doors.Uses.{IsLineIn, SaysLocal, SaysOnClock, SaysStamp}

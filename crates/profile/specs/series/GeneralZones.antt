@@ -1,9 +1,9 @@
 -- Zones in general: a VTIMEZONE with any number of observances, which begin by DTSTART, by RDATE and by yearly rules that may end
--- (RFC 5545 3.6.5). What a local time means is said here of any onsets and offsets, those of Zones.antt among them.
+-- (RFC 5545 3.6.5). The offset in force and what a local time means are those of Zones.antt, which are said there of any onsets.
 use Rattle.std.specs.Prelude.{◌≡◌, ℕ, ◌+◌, ◌-◌, ◌≤◌, ◌⊎◌, Contains, List, [], ◌∷◌, ℤ, pos, ◌+ℤ◌, ◌≤ℤ◌}
 use Rattle.std.specs.Int.Signed.{◌<ℤ◌}
 use Rattle.profile.specs.series.Rules.{count_days}
-use Rattle.profile.specs.series.Zones.{Observance, Zone, Constant, Single, Pair, Onset, IsOnset, begins_on, InForce, IsOffsetAt, Means}
+use Rattle.profile.specs.series.Zones.{Observance, Zone, Constant, Single, Pair, Onset, IsOnset, begins_on, InForce, IsOffsetAt, Means, MeansBy}
 
 -- WHAT IS WRITTEN
 
@@ -41,29 +41,6 @@ abbrev pub IsGeneralOffsetAt : List Run → ℤ → ℤ → Type 0
 IsGeneralOffsetAt zone instant offset = InForce (IsGeneralOnset zone) instant offset
 
 -- WHAT A LOCAL TIME MEANS
--- Its definitions are about any offsets at instants, `At`, and any onsets, `Is`.
-
--- at this instant the clocks show this local time
-abbrev pub ShowsBy : (ℤ → ℤ → Type 0) → ℤ → ℤ → Type 0
-ShowsBy At instant local = (offset : ℤ) × At instant offset × (instant +ℤ offset ≡ local)
-
--- the least instant at which they show it: the first of two where the local time occurs twice
-pub record IsShownFirstBy (At : ℤ → ℤ → Type 0) (local instant : ℤ) : Type 0 where
-  pub shown : ShowsBy At instant local
-  pub least : (other : ℤ) → ShowsBy At other local → instant ≤ℤ other
-
--- no instant shows it, since an onset sets the clocks from before it to after it; it is then read with the offset before that onset
-pub record IsSkippedBy (At : ℤ → ℤ → Type 0) (Is : Onset → Type 0) (local instant : ℤ) : Type 0 where
-  pub never : (other : ℤ) → ShowsBy At other local → ⊥
-  pub onset : Onset
-  pub listed : Is onset
-  pub set_from : (onset.instant +ℤ onset.before) ≤ℤ local
-  pub set_past : local <ℤ (onset.instant +ℤ onset.after)
-  pub read : instant +ℤ onset.before ≡ local
-
--- the instant that a local time means (RFC 5545 3.3.5)
-abbrev pub MeansBy : (ℤ → ℤ → Type 0) → (Onset → Type 0) → ℤ → ℤ → Type 0
-MeansBy At Is local instant = IsShownFirstBy At local instant ⊎ IsSkippedBy At Is local instant
 
 -- what it means in a zone in general
 abbrev pub MeansGenerally : List Run → ℤ → ℤ → Type 0

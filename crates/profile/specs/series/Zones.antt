@@ -116,28 +116,42 @@ pub record IsBounds (z : Zone) (least greatest : ℤ) : Type 0 where
   pub reaches_greatest : (instant : ℤ) × IsOffsetAt z instant greatest
 
 -- WHAT A LOCAL TIME MEANS
+-- Its definitions are about any offsets at instants, `At`, and any onsets, `Is`, up to the clocks of a zone.
 
--- at this instant the clocks of the zone show this local time
-abbrev pub Shows : Zone → ℤ → ℤ → Type 0
-Shows zone instant local = (offset : ℤ) × IsOffsetAt zone instant offset × (instant +ℤ offset ≡ local)
+-- at this instant the clocks show this local time
+abbrev pub ShowsBy : (ℤ → ℤ → Type 0) → ℤ → ℤ → Type 0
+ShowsBy At instant local = (offset : ℤ) × At instant offset × (instant +ℤ offset ≡ local)
 
 -- the least instant at which they show it: the first of two where the local time occurs twice
-pub record IsShownFirst (zone : Zone) (local instant : ℤ) : Type 0 where
-  pub shown : Shows zone instant local
-  pub least : (other : ℤ) → Shows zone other local → instant ≤ℤ other
+pub record IsShownFirstBy (At : ℤ → ℤ → Type 0) (local instant : ℤ) : Type 0 where
+  pub shown : ShowsBy At instant local
+  pub least : (other : ℤ) → ShowsBy At other local → instant ≤ℤ other
 
 -- no instant shows it, since an onset sets the clocks from before it to after it; it is then read with the offset before that onset
-pub record IsSkipped (zone : Zone) (local instant : ℤ) : Type 0 where
-  pub never : (other : ℤ) → Shows zone other local → ⊥
+pub record IsSkippedBy (At : ℤ → ℤ → Type 0) (Is : Onset → Type 0) (local instant : ℤ) : Type 0 where
+  pub never : (other : ℤ) → ShowsBy At other local → ⊥
   pub onset : Onset
-  pub listed : IsZoneOnset zone onset
+  pub listed : Is onset
   pub set_from : (onset.instant +ℤ onset.before) ≤ℤ local
   pub set_past : local <ℤ (onset.instant +ℤ onset.after)
   pub read : instant +ℤ onset.before ≡ local
 
 -- the instant that a local time means (RFC 5545 3.3.5)
+abbrev pub MeansBy : (ℤ → ℤ → Type 0) → (Onset → Type 0) → ℤ → ℤ → Type 0
+MeansBy At Is local instant = IsShownFirstBy At local instant ⊎ IsSkippedBy At Is local instant
+
+-- the clocks of a zone
+abbrev pub Shows : Zone → ℤ → ℤ → Type 0
+Shows zone instant local = ShowsBy (IsOffsetAt zone) instant local
+
+abbrev pub IsShownFirst : Zone → ℤ → ℤ → Type 0
+IsShownFirst zone local instant = IsShownFirstBy (IsOffsetAt zone) local instant
+
+abbrev pub IsSkipped : Zone → ℤ → ℤ → Type 0
+IsSkipped zone local instant = IsSkippedBy (IsOffsetAt zone) (IsZoneOnset zone) local instant
+
 abbrev pub Means : Zone → ℤ → ℤ → Type 0
-Means zone local instant = IsShownFirst zone local instant ⊎ IsSkipped zone local instant
+Means zone local instant = MeansBy (IsOffsetAt zone) (IsZoneOnset zone) local instant
 
 -- a local time means one instant
 abbrev pub IsOneMeaning : Zone → Type 0

@@ -11,7 +11,7 @@ use Rattle.cal_doors.proofs.choice.choose.Goals as goal
 pub returns-in-Some-2 : goal.returns-in-Some-2
 returns-in-Some-2 c =
     let from : to_z w64 (of_z w64 c.in-Some.from) ≡ c.args.times.first -ℤ pos 86_399 = search rules in
-    lasts_as_long (general_of c.args.general.now) (zone_of c.in-Some-2.zone) _ c.args.times.first (to_z w64 (of_z w64 c.in-Some.from)) c.args.times.last from
+    lasts_as_long (general_of c.args.general.now) (zone_of c.in-Some-2.zone) c.args.times.first (to_z w64 (of_z w64 c.in-Some.from)) c.args.times.last from
     (subst (λ o. IfSome o (λ zone. LastsAsLong (general_of c.args.general.now) (zone_of zone) (to_z w64 (of_z w64 c.in-Some.from)) c.args.times.last)) c.in-Some-2.is c.in_ok-zone.ensures)
 
 pub returns : goal.returns

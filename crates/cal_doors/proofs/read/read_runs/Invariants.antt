@@ -8,4 +8,4 @@ use Rattle.cal_doors.proofs.read.read_runs.Given as goal
 
 -- the runs of the parts so far were added
 abbrev pub invariant-loop-child : goal.invariant-loop-child
-invariant-loop-child l = PartsAdded (zone_parts l.zone) (parts_in is_part (drop l.child-index (component_children l.zone))) (runs_in l.runs.items)
+invariant-loop-child l = PartsAdded (zone_parts l.zone) (parts_in is_part (drop l.child-index (component_children l.zone))) l.has_part (runs_in l.runs.items)

@@ -1,5 +1,5 @@
-use Rattle.std.proofs.Common.{ap, subst}
-use Rattle.std.specs.Prelude.{Option, Some}
+use Rattle.std.proofs.Common.{subst}
+use Rattle.std.specs.Prelude.{Some}
 use Rattle.ical_tree.specs.Tree.{tree_of}
 use Rattle.ical_tree.specs.declared.component.Component.{Component}
 use Rattle.cal_doors.specs.Adapted.{AreChanges}

@@ -1,8 +1,7 @@
-use Rattle.std.proofs.Common.{◌≡◌, ◌∙◌, ap, sym, ◌-◌, ◌+◌, length, take, drop, arith}
+use Rattle.std.proofs.Common.{◌≡◌, ◌∙◌, sym, ◌-◌, ◌+◌, length, take, drop, arith}
 use Rattle.std.proofs.lemmas.Bool.Decides.{nat_tests}
 use Rattle.std.proofs.lemmas.List.{drop_all, nil_from_length}
 use Rattle.ical_tree.proofs.OneLine.{at_place}
-use Rattle.cal_doors.specs.Adapted.{others_among}
 use Rattle.cal_doors.proofs.RightOthers.{zone_before, same_first, none_left, rest_of}
 use Rattle.cal_doors.proofs.right.are_same_components.Goals as goal
 

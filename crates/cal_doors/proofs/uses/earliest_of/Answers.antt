@@ -1,4 +1,4 @@
-use Rattle.std.proofs.Common.{◌≡◌, subst, inl, inr, arith, ℤ, pos, negsuc, ◌-ℤ◌, ◌≤ℤ◌, to_z, of_z, w64, to_z-of_z}
+use Rattle.std.proofs.Common.{◌≡◌, subst, inl, inr, arith, pos, negsuc, ◌-ℤ◌, ◌≤ℤ◌, to_z, of_z, w64, to_z-of_z}
 use Rattle.std.proofs.lemmas.Int.{ints, clamps}
 use Rattle.cal_doors.proofs.UsesTexts.{earlier_back}
 use Rattle.cal_doors.proofs.uses.earliest_of.Goals as goal

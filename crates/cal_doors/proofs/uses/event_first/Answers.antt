@@ -2,7 +2,6 @@ use Rattle.std.proofs.Common.{◌≡◌, ◌∙◌, ap, sym, arith, rules, to_z,
 use Rattle.jiff_core.proofs.SignedLemmas.{signed_arith}
 use Rattle.ical_tree.specs.Runs.{lines_left}
 use Rattle.ical_lines.specs.Text.{line_text}
-use Rattle.ical_tree.specs.Tree.{component_lines}
 use Rattle.cal_doors.proofs.UsesScans.{none_scanned, one_scanned, all_scanned}
 use Rattle.cal_doors.proofs.UsesLines.{begins_earlier}
 use Rattle.cal_doors.proofs.uses.event_first.Goals as goal

@@ -1,7 +1,6 @@
-use Rattle.std.proofs.Common.{◌≡◌, ◌==◌, ap, arith, sym, rules, to_z, of_z, w64, to_z-of_z}
+use Rattle.std.proofs.Common.{◌≡◌, ◌==◌, ap, arith, sym, to_z, of_z, w64, to_z-of_z}
 use Rattle.jiff_core.proofs.SignedLemmas.{signed_arith}
 use Rattle.std.specs.List.{slice_split}
-use Rattle.ical_lines.specs.Text.{line_text}
 use Rattle.cal_rules.proofs.Cuts.{all_left, cut_more, cut_done}
 use Rattle.cal_doors.proofs.UsesScans.{none_scanned, one_scanned, all_scanned}
 use Rattle.cal_doors.proofs.UsesLines.{one_local}

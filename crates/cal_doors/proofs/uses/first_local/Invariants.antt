@@ -1,4 +1,4 @@
-use Rattle.std.proofs.Common.{◌≡◌, ◌==◌, ℕ, List, ℤ, ◌≤ℤ◌}
+use Rattle.std.proofs.Common.{◌==◌, ℕ, List, ℤ, ◌≤ℤ◌}
 use Rattle.std.specs.List.{slice_split}
 use Rattle.ical_lines.specs.Text.{line_text}
 use Rattle.profile.specs.text.Lines.{line_value}

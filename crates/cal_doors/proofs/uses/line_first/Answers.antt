@@ -1,7 +1,7 @@
 use Rattle.std.proofs.Common.{◌≡◌, ◌∙◌, sym, subst, to_z, of_z, w64, to_z-of_z}
 use Rattle.ical_lines.specs.Text.{line_text}
 use Rattle.profile.specs.series.RuleTexts.{SpellsRule}
-use Rattle.cal_doors.proofs.UsesLines.{if_ok, rule_begins, times_begin, says_nothing_first}
+use Rattle.cal_doors.proofs.UsesLines.{if_ok, rule_begins, times_begin}
 use Rattle.cal_doors.proofs.uses.line_first.Goals as goal
 
 pub returns-then-is_named : goal.returns-then-is_named

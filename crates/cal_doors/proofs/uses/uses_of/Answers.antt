@@ -2,7 +2,7 @@ use Rattle.std.proofs.Common.{◌∙◌, [], sym, subst}
 use Rattle.ical_tree.specs.Tree.{component_children}
 use Rattle.cal_doors.specs.Used.{AreUsesOf}
 use Rattle.cal_doors.proofs.UsesTables.{no_events}
-use Rattle.cal_doors.proofs.UsesEvents.{lines_of_events, event_there, other_there, all_there}
+use Rattle.cal_doors.proofs.UsesEvents.{event_there, other_there, all_there}
 use Rattle.cal_doors.proofs.uses.uses_of.Goals as goal
 
 pub loop-child-init : goal.loop-child-init

@@ -1,4 +1,4 @@
-use Rattle.std.proofs.Common.{◌≡◌, ◌∙◌, sym}
+use Rattle.std.proofs.Common.{◌∙◌}
 use Rattle.cal_doors.proofs.UsesTables.{widened}
 use Rattle.cal_doors.proofs.uses.widen.Goals as goal
 

@@ -8,8 +8,8 @@ use Rattle.sched_cli.proofs.place.place_of.Given as goal
 abbrev pub invariant-loop-left : goal.invariant-loop-left
 invariant-loop-left l = record {
   unfolds : Unfolds (physical_lines (without_mark l.fn.octets)) (lines_after l.left) l.begun.content.items l.begun.line l.begun.count;
-  found : FoundIn l.fn.number l.fn.octets l.search.found;
-  number : l.search.number ≡ l.fn.number;
+  found : FoundIn l.fn.sought l.fn.octets l.search.found;
+  sought : l.search.sought ≡ l.fn.sought;
 }
 
 abbrev pub decreases-loop-left : goal.decreases-loop-left

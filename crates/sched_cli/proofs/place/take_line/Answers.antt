@@ -4,7 +4,7 @@ use Rattle.sched_cli.proofs.place.take_line.Goals as goal
 
 pub returns-clause-begins : goal.returns-clause-begins
 returns-clause-begins c = λ e. (
-  subst (Finds c.args.search.now.number c.args.search.now.found c.look_at.new.self.found c.args.begun.now.line) c.as_slice.ensures.value c.in_ok-look_at.ensures.found,
+  subst (Finds c.args.search.now.sought c.args.search.now.found c.look_at.new.self.found c.args.begun.now.line) c.as_slice.ensures.value c.in_ok-look_at.ensures.found,
   c.in_ok-extend_from_slice-2.ensures.items ∙ ap (λ z. z ++ c.args.line.now) c.clear.ensures.items,
   refl,
 )

@@ -1,4 +1,4 @@
-use Rattle.std.proofs.Common.{◌∙◌, refl, sym, arith}
+use Rattle.std.proofs.Common.{◌∙◌, sym, arith}
 use Rattle.sched_doors.proofs.Taking.{fresh_goes_on, positive}
 use Rattle.sched_doors.proofs.piece.cut.Goals as goal
 

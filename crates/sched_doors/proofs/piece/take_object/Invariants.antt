@@ -1,4 +1,4 @@
-use Rattle.std.proofs.Common.{◌≡◌, ℕ, List, ◌++◌, ◌+◌, ◌-◌, ◌<◌, length}
+use Rattle.std.proofs.Common.{◌≡◌, ℕ, List, ◌++◌, ◌-◌, length}
 use Rattle.std.specs.Io.KnownBytes.{Consumes}
 use Rattle.sched_doors.proofs.piece.take_object.Given as goal
 

@@ -1,4 +1,4 @@
-use Rattle.std.proofs.Common.{◌≤◌, ◌∙◌, take, length, sym, subst, rules}
+use Rattle.std.proofs.Common.{◌≤◌, take, length, sym, subst, rules}
 use Rattle.sched_doors.specs.Pieces.{TakesPiece}
 use Rattle.sched_doors.proofs.Taking.{taken_of, taken_piece}
 use Rattle.sched_doors.proofs.piece.take_piece.Goals as goal

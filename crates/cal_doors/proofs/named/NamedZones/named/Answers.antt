@@ -1,4 +1,4 @@
-use Rattle.std.proofs.Common.{◌≡◌, ◌∙◌, ap, sym, subst}
+use Rattle.std.proofs.Common.{◌∙◌, ap, sym, subst}
 use denote.Ref.{Bor}
 use Rattle.std.specs.Prelude.{Option, find, option_copied}
 use Rattle.ical_tree.specs.Tree.{component_children}

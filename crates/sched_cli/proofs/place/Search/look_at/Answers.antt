@@ -1,9 +1,11 @@
-use Rattle.std.proofs.Common.{◌<◌, IsTrue, [], arith, inl, inr, length, refl, subst}
+use Rattle.std.proofs.Common.{◌≡◌, ◌<◌, [], arith, inl, inr, length, refl, subst, sym}
 use Rattle.std.proofs.lemmas.Bool.Decides.{nat_tests}
 use Rattle.ical_lines.specs.Fault.{RefusesOnly}
 use Rattle.profile.specs.text.Lines.{text_has}
 use Rattle.std.specs.Prelude.{true}
 use Rattle.sched_cli.specs.declared.blame.Blame.TheVariants as blames
+use Rattle.sched_cli.specs.Searching.{IsBlamed}
+use Rattle.sched_cli.specs.declared.place.Sought.TheVariants.{Fault}
 use Rattle.sched_cli.proofs.PlaceLemmas.{on_ok}
 use Rattle.sched_cli.proofs.place.Search.look_at.Goals as goal
 use Rattle.sched_cli.proofs.place.Search.look_at.Goals.{in-Ok, in-Err-Memory, in-Err-Refused, in-Err-Refused-2}
@@ -17,7 +19,8 @@ returns-clause-found c =
       | in-Err-Memory w ↦ rw w.result-is tt
       | in-Err-Refused w ↦
           let fault = subst (RefusesOnly (λ n. text_has true n octets)) w.in-Err-Refused.field-0-is w.in-Err-Refused.ensures.fault in
-          let has = subst (λ n. IsTrue (text_has true n octets)) w.if-refusal-self.true fault in
-          rw (w.result-is, w.self-is) (on_ok w.note.result _ _ (λ noted. inr (some, blames.Certain, [], inl refl, inl (refl, has), noted)) w.note.ensures.noted)
+          let is : c.args.self.now.sought ≡ Fault w.in-Err-Refused.refusal.number = w.is_fault.ensures w.if-is_fault.true in
+          let blamed = subst (λ sought. IsBlamed sought octets blames.Certain) (sym is) (inl (refl, fault)) in
+          rw (w.result-is, w.self-is) (on_ok w.note.result _ _ (λ noted. inr (some, blames.Certain, [], inl refl, blamed, noted)) w.note.ensures.noted)
       | in-Err-Refused-2 w ↦ rw (w.result-is, w.self-is) (inl refl)
     ]

@@ -1,0 +1,16 @@
+use Rattle.std.proofs.Common.{IfSome, subst}
+use Rattle.sched_cli.specs.InTheWay.{IsInTheWay}
+use Rattle.sched_cli.proofs.DiagnosisLemmas.{blamed_reason, way_reason}
+use Rattle.sched_cli.proofs.PlaceLemmas.{on_ok}
+use Rattle.sched_cli.proofs.diagnosis.append_reason.Goals as goal
+
+pub returns-in_default : goal.returns-in_default
+returns-in_default c =
+    on_ok c.end_line.result _ _ (λ f. blamed_reason c.args.octets.now _ _ _ c.args.number c.in_ok-append_blamed.ensures f) c.end_line.ensures
+
+pub returns : goal.returns
+returns c =
+    let octets = c.args.octets.now in
+    let n = c.args.number in
+    let is = subst (λ o. IfSome o (λ w. IsInTheWay octets n w)) c.in-Some.is c.in_ok-found.ensures in
+    on_ok c.append_help.result _ _ (λ h. way_reason octets _ _ _ _ _ n c.in-Some.found is c.in_ok-append_place.ensures c.in_ok-end_line.ensures c.in_ok-append_way.ensures h) c.append_help.ensures
