@@ -1,0 +1,4 @@
+pub mod GapLemmas
+pub mod Gathering
+pub mod Order
+pub mod SeriesWalk
