@@ -142,14 +142,15 @@ module _ (from until : ℤ) where
       sofar its)
 
   -- that at a place of what is kept
-  pub next_kept : (kept : List Series) (all : List Event) (k : ℕ) (d : Series) (found own : List Instance) → map series_said kept ≡ all → k < length kept
+  pub next_kept : (kept : List Series) (all : List Event) (k : ℕ) (one : Series) (found own : List Instance) → map series_said kept ≡ all → k < length kept → one ≡ get_or kept k one
       → AllPairs (λ one other. (a b : Instance) → IsInstance one a → IsInstance other b → a.key ≢ b.key) all → AreAllInSpan (IsInSeries (take k all)) from until found
-      → AreAllInSpan (IsInstance (series_said (get_or kept k d))) from until own → AreAllInSpan (IsInSeries (take (k + 1) all)) from until (found ++ own)
-  next_kept kept all k d found own are w differ sofar its =
-      let series = series_said (get_or kept k d) in
+      → AreAllInSpan (IsInstance (series_said one)) from until own → AreAllInSpan (IsInSeries (take (k + 1) all)) from until (found ++ own)
+  next_kept kept all k one found own are w is differ sofar its =
+      let series = series_said one in
       let long = length-map kept series_said in
       let count = ap length are in
-      next_series all k series found own (omega (arith, w, long, count)) (ap (λ l. get_or l k series) (sym are) ∙ get_or-map series_said kept k d series w) differ sofar its
+      let at = ap (λ l. get_or l k series) (sym are) ∙ get_or-map series_said kept k one series w ∙ ap series_said (sym is) in
+      next_series all k series found own (omega (arith, w, long, count)) at differ sofar its
 
   -- ---- both
 

@@ -16,5 +16,5 @@ loop-series-preserved c =
     let own = c.in_ok-own.own.items in
     let joined : map instance_of c.append.new.self.items ≡ map instance_of found ++ map instance_of own = ap (map instance_of) c.in_ok-append.ensures.items ∙ map-append instance_of found own in
     subst (AreAllInSpan (IsInSeries (take (k + 1) all)) from until) (sym joined)
-    (next_kept from until c.series-series-items.result.now all k _ (map instance_of found) (map instance_of own) c.series-series-items.ensures.are c.loop-series-test.true
+    (next_kept from until c.series-series-items.result.now all k c.series-item.result (map instance_of found) (map instance_of own) c.series-series-items.ensures.are c.loop-series-test.true c.series-item.is
     c.series-series-items.ensures.keys.0 c.loop-series.invariant c.in_ok-own.ensures)
