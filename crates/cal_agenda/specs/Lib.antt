@@ -1,2 +1,3 @@
 pub mod Gaps
 pub mod InSpan
+pub mod Printing

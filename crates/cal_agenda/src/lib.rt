@@ -8,6 +8,8 @@ mod in_order;
 mod in_span;
 mod of_series;
 mod of_singles;
+pub mod text;
 
 pub use confirmed::agenda;
 pub use free_spans::free;
+pub use text::{write_agenda, write_spans};
