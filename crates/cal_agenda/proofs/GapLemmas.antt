@@ -1,8 +1,10 @@
 -- What instances in order leave of a span are the spans in which nothing is.
-use Rattle.std.proofs.Common.{◌≡◌, ◌∙◌, zero, Bool, true, false, List, [], ◌∷◌, ◌++◌, refl, sym, subst, get_or, Ordering, inl, inr, arith, ℤ, pos, ◌-ℤ◌, ◌≤ℤ◌, ◌<ℤ◌}
-use Rattle.std.specs.Prelude.{Contains, AllPairs, int_lt, if◌then◌else◌}
+use Rattle.std.proofs.Common.{◌≡◌, ◌∙◌, ℕ, zero, suc, Bool, true, false, List, [], ◌∷◌, ◌++◌, length, refl, sym, subst, get_or, Ordering, inl, inr, arith, ℤ, pos, ◌-ℤ◌, ◌≤ℤ◌, ◌<ℤ◌}
+use Rattle.std.specs.Prelude.{Contains, AllPairs, IsTrue, ◌↔◌, ◌==◌, int_lt, if◌then◌else◌}
 use Rattle.std.specs.Int.{int_max}
 use Rattle.std.specs.declared.cmp.Ordering.TheVariants.{Less, Equal, Greater}
+use Rattle.std.proofs.lemmas.Bool.{true≢false}
+use Rattle.std.proofs.lemmas.Bool.Decides.{nat_tests}
 use Rattle.std.proofs.lemmas.Cmp.{int_ranked}
 use Rattle.std.proofs.lemmas.Int.{ints, by_lt_z}
 use Rattle.std.specs.Ordering.{int_cmp, ordering_then}
@@ -10,7 +12,7 @@ use Rattle.profile.specs.checker.Instances.{Instance, IsWithin, instance_cmp, ke
 use Rattle.profile.specs.checker.Agendas.{AreInSpan, IsFreeAt, IsFreeSpan, AreFreeSpans}
 use Rattle.cal_events.proofs.shared_lemmas.InOneOrder.{append_pairs, head_pairs, tail_pairs, first_or_later, later, none_in}
 use Rattle.cal_events.proofs.shared_lemmas.Overlaps.{later_of}
-use Rattle.cal_agenda.specs.Gaps.{span_if, gaps}
+use Rattle.cal_agenda.specs.Gaps.{span_if, gaps, IsFreeThroughout}
 
 -- ---- a span that holds an instant, or none
 
@@ -178,3 +180,16 @@ module _ (Is : Instance → Type 0) (from until : ℤ) (instances : List Instanc
     all = λ t within free. are.all t within (free_of t free);
     ordered = are.ordered;
   }
+
+-- free all the time where none is in the span
+pub free_if_none : (Is : Instance → Type 0) (from until : ℤ) (instances : List Instance) (is_none : Bool) → is_none ≡ (length instances == 0) → AreInSpan Is from until instances
+    → IsTrue is_none ↔ IsFreeThroughout Is from until
+free_if_none Is from until [] is_none e agenda = ((λ same t inside a is within. none_in a (agenda.all a is (t, inside, within))), λ free. e)
+free_if_none Is from until (a ∷ rest) is_none e agenda =
+    let found = agenda.only a (zero, omega arith, refl) in
+    let inside = found.1.1 in
+    let within = found.1.2 in
+    ((λ same. absurd (true≢false (sym same ∙ e ∙ some (length rest)))), λ free. absurd (free found.1.0 inside a found.0 within))
+  where
+    some : (n : ℕ) → (suc n == 0) ≡ false
+    some n = grind (arith, nat_tests)

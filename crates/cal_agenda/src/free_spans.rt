@@ -1,10 +1,10 @@
 //! When a room is free: what its agenda leaves of a span.
-ghost use Rattle.std.specs.Prelude.{◌≡◌, ◌++◌, map, IfOk, OnOk};
+ghost use Rattle.std.specs.Prelude.{◌≡◌, ◌↔◌, ◌++◌, ℤ, map, IfOk, IsTrue, OnOk};
 ghost use Rattle.std.specs.Int.{int_max};
-ghost use Rattle.profile.specs.checker.Agendas.{AreFreeSpans};
-ghost use Rattle.profile.specs.events.Confirmed.{IsOneOf};
+ghost use Rattle.profile.specs.checker.Agendas.{AreInSpan, AreFreeSpans};
+ghost use Rattle.profile.specs.events.Confirmed.{Confirmed, IsOneOf};
 ghost use Rattle.cal_events.specs.Calendar.{instance_of};
-ghost use Rattle.cal_agenda.specs.Gaps.{ends_of, span_if, gaps};
+ghost use Rattle.cal_agenda.specs.Gaps.{ends_of, span_if, gaps, IsFreeThroughout};
 
 use crate::confirmed::agenda;
 use cal_events::{Calendar, Instance, Span};
@@ -15,7 +15,27 @@ pub fn free(alloc: Global, calendar: &Calendar, span: Span) -> Result<Vec<Span>,
     ensures { IfOk result (λ spans. AreFreeSpans (IsOneOf calendar.now) span.start span.end (map ends_of spans.items)) }
 {
     let instances = agenda(alloc, calendar, span)?;
-    left_by(alloc, &instances, span)
+    free_by(alloc, &instances, span)
+}
+
+/// The same of a calendar of which these instances are in the span, as `agenda` gives them. Fails only when out of memory.
+pub fn free_by(
+    alloc: Global,
+    instances: &[Instance<'_>],
+    span: Span,
+) -> Result<Vec<Span>, AllocError>
+    ensures { IfOk result (λ spans. (calendar : Confirmed) → AreInSpan (IsOneOf calendar) span.start span.end (map instance_of instances.now)
+        → AreFreeSpans (IsOneOf calendar) span.start span.end (map ends_of spans.items)) }
+{
+    left_by(alloc, instances, span)
+}
+
+/// Whether the room is free all the time of a span, where these instances of its calendar are in it.
+pub fn is_free(instances: &[Instance<'_>]) -> bool
+    ensures { (calendar : Confirmed) (from until : ℤ) → AreInSpan (IsOneOf calendar) from until (map instance_of instances.now)
+        → IsTrue result ↔ IsFreeThroughout (IsOneOf calendar) from until }
+{
+    instances.is_empty()
 }
 
 /// What instances in order leave of a span. Fails only when out of memory.

@@ -11,5 +11,5 @@ mod of_singles;
 pub mod text;
 
 pub use confirmed::agenda;
-pub use free_spans::free;
+pub use free_spans::{free, free_by, is_free};
 pub use text::{write_agenda, write_spans};

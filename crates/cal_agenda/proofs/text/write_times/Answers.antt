@@ -1,4 +1,4 @@
-use Rattle.std.proofs.Common.{◌≡◌, to_z, of_z, w64, to_z-of_z, rules}
+use Rattle.std.proofs.Common.{◌≡◌, to_z, of_z, w64, to_z-of_z}
 use Rattle.cal_agenda.proofs.LineLemmas.{times_there}
 use Rattle.cal_agenda.proofs.text.write_times.Goals as goal
 
