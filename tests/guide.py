@@ -749,7 +749,7 @@ def command_line(cases, program):
     script = ROOT / "docs" / "roombox.bash"
     cases.holds("so is the completion", script.read_text(encoding="utf-8"), man_page.completion(program))
     if shutil.which("bash"):
-        for line, wanted in [("roombox ex", "expand explain"), ("roombox b", "box"), ("roombox serve --", "--report --help"), ("roombox keep --c", "--certificate"), ("roombox keep ", ""), ("roombox --v", "--version")]:
+        for line, wanted in [("roombox ex", "expand explain"), ("roombox b", "box"), ("roombox serve --", "--report --adapt --zones --help"), ("roombox keep --c", "--certificate"), ("roombox keep ", ""), ("roombox --v", "--version")]:
             line = line.split(" ")
             made = f"source '{script}'; COMP_WORDS=({' '.join(repr(word) for word in line)}); COMP_CWORD={len(line) - 1}; _roombox; echo \"${{COMPREPLY[*]}}\""
             cases.holds(f"completed: {line}", subprocess.run(["bash", "-c", made], capture_output=True, text=True).stdout, wanted + "\n")

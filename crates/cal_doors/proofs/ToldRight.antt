@@ -1,6 +1,6 @@
 -- What was read again and compared is right.
-use Rattle.std.proofs.Common.{◌≡◌, ◌∙◌, ◌⊎◌, inl, inr, ℕ, Bool, true, List, [], ◌∷◌, suc, sym, refl, ap, subst, arith}
-use Rattle.std.specs.Prelude.{Contains, Option, Some}
+use Rattle.std.proofs.Common.{◌≡◌, ◌∙◌, inl, inr, ℕ, true, List, [], ◌∷◌, sym, subst}
+use Rattle.std.specs.Prelude.{Contains, Option}
 use Rattle.std.specs.List.{AllZip}
 use Rattle.profile.specs.text.Lines.{logical_lines, reads_as_lines}
 use Rattle.profile.specs.text.Objects.{IsObject}
@@ -14,7 +14,7 @@ use Rattle.ical_tree.specs.Tree.{component_lines, component_children, tree_of}
 use Rattle.ical_tree.proofs.TreeOfLemmas.{tree_of-own}
 use Rattle.cal_doors.proofs.UsesEvents.{events_are}
 use Rattle.cal_doors.proofs.ToldWords.{alone}
-use Rattle.cal_doors.specs.Told.{events_among, HasItsZone, IsTold, IsAnswered, IsReturnedBy, IsSingle, IsSingleOf}
+use Rattle.cal_doors.specs.Told.{events_among, HasItsZone, IsTold, IsAnswered, IsReturnedBy, IsSingleOf}
 
 -- octets that were read as an object
 pub object_there : (octets : List ℕ) (text : List (List ℕ)) (object : Component) → text ≡ logical_lines octets → reads_as_lines true octets ≡ true → IsObject true (tree_of object) text
@@ -92,12 +92,15 @@ pub single_right : (whole part event : Component) (octets : List ℕ) (text : Li
     → IsObject true (tree_of part) text → component_lines part ≡ component_lines whole → events_among (component_children part) ≡ component_lines event ∷ []
     → ((name line : List ℕ) → IsLineIn name (component_lines event) line → zone_named name (tree_of part) ≡ zone_named name (tree_of whole))
     → IsSingleOf (tree_of whole) (component_lines event) octets
-single_right whole part event octets text lines reads spelled own only zones =
-    (tree_of part, object_there octets text part lines reads spelled, record {
-      only = events_are part ∙ only;
-      own = same_own part whole own;
-      zones = λ name (ls, line, c, is). zones name line (subst (λ l. IsLineIn name l line) (sym (alone (component_lines event) ls (subst (λ l. Contains l ls) (events_are part ∙ only) c))) is);
-    })
+single_right whole part event octets text lines reads spelled own only zones = (
+  tree_of part,
+  object_there octets text part lines reads spelled,
+  record {
+    only = events_are part ∙ only;
+    own = same_own part whole own;
+    zones = λ name (ls, line, c, is). zones name line (subst (λ l. IsLineIn name l line) (sym (alone (component_lines event) ls (subst (λ l. Contains l ls) (events_are part ∙ only) c))) is);
+  },
+)
 
 abbrev Fits : Tree → List (List ℕ) → Tree → Type 0
 Fits object lines part = (vevents part ≡ lines ∷ []) × (tree_own part ≡ tree_own object)

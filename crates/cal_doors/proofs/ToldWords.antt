@@ -1,6 +1,6 @@
 -- Words of an object for an answer, and lines that are told in them.
-use Rattle.std.proofs.Common.{◌≡◌, ◌∙◌, ◌⊎◌, inl, inr, ℕ, suc, ◌<◌, ℤ, Bool, true, List, [], ◌∷◌, ◌++◌, length, get_or, codes, sym, refl, ap, subst, arith}
-use Rattle.std.specs.Prelude.{All, Contains, Option, Some, None, option_map, unwrap_or}
+use Rattle.std.proofs.Common.{◌≡◌, ◌∙◌, ◌⊎◌, inl, inr, ℕ, ◌<◌, ℤ, true, List, [], ◌∷◌, ◌++◌, length, get_or, codes, sym, ap, subst}
+use Rattle.std.specs.Prelude.{Contains, Some, None, option_map, unwrap_or}
 use Rattle.std.specs.List.{AllZip}
 use Rattle.std.proofs.lemmas.List.Elements.{Contains-push_cases, Contains-append_cases, All-push, All-get_or, All-head, All-tail, All-contains_itself, All-contains}
 use Rattle.profile.specs.text.Lines.{line_name, line_value, line_param}

@@ -1,6 +1,6 @@
 -- The table of the zones that an object names, and times in these zones.
-use Rattle.std.proofs.Common.{◌≡◌, ◌∙◌, ap, sym, refl, subst, ℕ, ℤ, pos, Bool, true, false, cond, codes, List, [], ◌∷◌, inl, arith}
-use Rattle.std.specs.Prelude.{All, Option, Some, None, option_map, String, string_bytes, unwrap_or, Result, Ok, Err, IfOk}
+use Rattle.std.proofs.Common.{◌≡◌, ap, sym, refl, subst, ℕ, ℤ, pos, Bool, true, false, cond, codes, List, [], ◌∷◌, inl, arith}
+use Rattle.std.specs.Prelude.{Option, Some, None, option_map, String, string_bytes, unwrap_or, Result, Ok, Err, IfOk}
 use Rattle.std.specs.Result.{result_ok}
 use Rattle.std.specs.Map.{lookup}
 use Rattle.std.specs.Str.{bytes_eq}
@@ -15,7 +15,7 @@ use Rattle.profile.specs.text.Values.{SpellsStamp, SpellsLocal}
 use Rattle.profile.specs.series.Zones.{Constant, Means}
 use Rattle.profile.specs.series.ZoneTexts.{SaysZone}
 use Rattle.profile.specs.events.Properties.{Fixed, Unsaid, DateTime, Date, Period, Other, TimeKind, allows, kind_named, time_kind}
-use Rattle.profile.specs.events.ZonedTimes.{zone_named, SaysZoneOf, SpellsZoned, SaysInstant, clock_of}
+use Rattle.profile.specs.events.ZonedTimes.{zone_named, SaysZoneOf, SpellsZoned, SaysInstant}
 use Rattle.cal_zones.specs.Kinds.{zone_of}
 use Rattle.cal_zones.specs.declared.zone.Zone.{Zone}
 use Rattle.cal_doors.specs.Told.{IsZoneOf, AreZonesOf}

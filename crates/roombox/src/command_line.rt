@@ -1,5 +1,6 @@
 //! The words of the command line (clap reads them).
 
+use crate::agenda::Agenda;
 use clap::error::ErrorKind;
 use clap::{Arg, ArgAction, ArgMatches, Command, Error};
 use sched_cli::commands::KeptText;
@@ -27,6 +28,7 @@ pub enum Invocation<'a> {
         is_single: bool,
         zones: Option<&'a str>,
     },
+    Agenda(Agenda<'a>),
     Check {
         calendar: &'a str,
         certificate: &'a str,
@@ -125,6 +127,23 @@ Exit status: 0 yes; 1 no; 2 usage; 3 a file is too long; 4 a device failed, as w
 isn't there; 5 out of memory.
 
 Example: roombox check kept.ics kept.cert mailto:r1@example.com";
+
+const AGENDA: &str = "Prints what a room has confirmed in a span of time, or when it is free.";
+
+const AGENDA_MORE: &str = "\
+Input: a calendar that `roombox keep` prints. Standard input isn't read.
+
+Output: a line for each instance that shares an instant with the span: its start and its end, its
+UID, its organiser; by start. With --free a line for each span in which nothing is confirmed: its
+start and its end. A stamp is in UTC, as 20250415T070000Z; the span ends before --until. Without
+--from and --until it is all time up to the year 10000, which a series without end fills.
+
+Exit status: 0 done, and with --free, --from and --until: the whole span is free; 1 with these: it
+isn't; 2 usage; 3 CALENDAR is refused: standard error has the number; or it is too long; 4 a device
+failed, as where the file isn't there; 5 out of memory.
+
+Example: roombox agenda kept.ics mailto:r1@example.com --from 20250415T120000Z --until \
+20250415T130000Z --free";
 
 const EXPAND: &str = "Reads one iCalendar object of one event, and prints its first instances.";
 
@@ -252,6 +271,8 @@ pub enum BadWord<'a> {
     Limit(&'a str),
     Zone(&'a str),
     Number(&'a str),
+    From(&'a str),
+    Until(&'a str),
 }
 
 /// The usage fault for such a word, in the form of clap's own.
@@ -269,6 +290,12 @@ pub fn fault_of(alloc: Global, bad: BadWord<'_>) -> Result<Error, AllocError> {
         BadWord::Number(word) => format!(in alloc;
             "invalid value '{word}' for '[NUMBER]': it isn't the number of a refusal, such as 43"
         )?,
+        BadWord::From(word) => format!(in alloc;
+            "invalid value '{word}' for '--from <STAMP>': it isn't an instant in UTC such as 20250415T070000Z"
+        )?,
+        BadWord::Until(word) => format!(in alloc;
+            "invalid value '{word}' for '--until <STAMP>': it isn't an instant in UTC behind that of --from, such as 20250415T080000Z"
+        )?,
     };
     program(alloc)?.error(ErrorKind::ValueValidation, message.as_str())
 }
@@ -284,6 +311,7 @@ fn program<'a>(alloc: Global) -> Result<Command<'a>, AllocError> {
         .subcommand(serve_command(alloc)?)?
         .subcommand(keep_command(alloc)?)?
         .subcommand(adapt_command(alloc)?)?
+        .subcommand(agenda_command(alloc)?)?
         .subcommand(check_command(alloc)?)?
         .subcommand(expand_command(alloc)?)?
         .subcommand(explain_command(alloc)?)?
@@ -354,6 +382,29 @@ fn check_command<'a>(alloc: Global) -> Result<Command<'a>, AllocError> {
         .arg(required(alloc, "ROOM", ROOM_HELP))
 }
 
+fn agenda_command<'a>(alloc: Global) -> Result<Command<'a>, AllocError> {
+    let from = Arg::new(alloc, "from")
+        .long("from")
+        .value_name("STAMP")
+        .help("The first instant of the span, in UTC; the year 1 where it isn't given");
+    let until = Arg::new(alloc, "until")
+        .long("until")
+        .value_name("STAMP")
+        .help("The instant behind the span, in UTC; the year 10000 where it isn't given");
+    let free = Arg::new(alloc, "free")
+        .long("free")
+        .action(ArgAction::SetTrue)
+        .help("Print when the room is free; status 1 where it isn't all of the span");
+    Command::new(alloc, "agenda")
+        .about(AGENDA)
+        .after_help(AGENDA_MORE)
+        .arg(required(alloc, "CALENDAR", CALENDAR_HELP))?
+        .arg(required(alloc, "ROOM", ROOM_HELP))?
+        .arg(from)?
+        .arg(until)?
+        .arg(free)
+}
+
 fn expand_command<'a>(alloc: Global) -> Result<Command<'a>, AllocError> {
     let limit = Arg::new(alloc, "limit").long("limit").value_name("N").help(
         "How many instances at most, from 1 to 100000; 100 where it isn't given",
@@ -414,6 +465,13 @@ fn invocation_of<'a>(matches: &ArgMatches<'a>) -> Invocation<'a> {
             reading: reading_of(words),
         },
         Some(("adapt", words)) => adapt_of(words),
+        Some(("agenda", words)) => Invocation::Agenda(Agenda {
+            calendar: words.get_str("CALENDAR").unwrap_or(""),
+            room: words.get_str("ROOM").unwrap_or(""),
+            from: words.get_str("from"),
+            until: words.get_str("until"),
+            is_free: words.get_flag("free"),
+        }),
         Some(("check", words)) => Invocation::Check {
             calendar: words.get_str("CALENDAR").unwrap_or(""),
             certificate: words.get_str("CERTIFICATE").unwrap_or(""),

@@ -1,5 +1,6 @@
 //! The real reader, writer and files: `run` hands them to the commands.
 
+use crate::agenda::invoke_agenda;
 use crate::behind::{Answers, StreamWork, Work, run_behind};
 use crate::command_line::{BadWord, Invocation, Reading, fault_of, read_words};
 use crate::progress::Progress;
@@ -88,7 +89,11 @@ fn print_usage<R: Runtime + AllocGlobal>(rt: &R, error: &clap::Error) -> u8 {
 }
 
 /// Says that a word of the command line can't be read, and gives the status of a usage fault.
-fn refuse_word<R: Runtime + AllocGlobal>(rt: &R, alloc: Global, word: BadWord<'_>) -> u8 {
+pub(crate) fn refuse_word<R: Runtime + AllocGlobal>(
+    rt: &R,
+    alloc: Global,
+    word: BadWord<'_>,
+) -> u8 {
     match fault_of(alloc, word) {
         Ok(error) => print_usage(rt, &error),
         Err(_) => no_memory(rt),
@@ -123,6 +128,7 @@ fn invoke<R: Runtime + AllocGlobal>(
             is_single,
             zones,
         } => invoke_reply_to(rt, alloc, original, is_single, zones),
+        Invocation::Agenda(agenda) => invoke_agenda(rt, alloc, agenda),
         Invocation::Check {
             calendar,
             certificate,
@@ -152,7 +158,11 @@ fn invoke<R: Runtime + AllocGlobal>(
 }
 
 /// The room that a word names; else the status of a usage fault.
-fn read_room<R: Runtime + AllocGlobal>(rt: &R, alloc: Global, word: &str) -> Result<Address, u8> {
+pub(crate) fn read_room<R: Runtime + AllocGlobal>(
+    rt: &R,
+    alloc: Global,
+    word: &str,
+) -> Result<Address, u8> {
     match Address::read(alloc, word) {
         Ok(room) => Ok(room),
         Err(Fault::Memory) => Err(no_memory(rt)),

@@ -1,6 +1,7 @@
 //! The program `roombox`.
 #![tactic(auto)]
 
+mod agenda;
 mod behind;
 mod command_line;
 mod host;

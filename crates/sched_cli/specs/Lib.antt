@@ -1,4 +1,5 @@
 pub mod Adapting
+pub mod Agendas
 pub mod Blame
 pub mod Commands
 pub mod Diagnosis

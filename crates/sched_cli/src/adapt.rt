@@ -2,7 +2,7 @@
 
 ghost use Rattle.std.specs.Prelude.{◌≡◌, ◌⊎◌, ◌++◌, [], true, false, map, string_bytes, IfErr, IfOk, OnErr, OnOk};
 ghost use Rattle.std.specs.List.{flat_map};
-ghost use Rattle.sched_doors.specs.Handing.{list_of};
+ghost use Rattle.cal_doors.specs.Adapted.{list_of};
 ghost use Rattle.sched_cli.specs.Adapting.{AdaptsFront, AdaptsWhole, AdaptStopsFor, KeepsMarks, PassesOn, StopsPassing, StopsPutting, KeepsMark, adapt_status, adapt_text, adapted_text, goes_on_text};
 ghost use Rattle.sched_cli.specs.Commands.{BlamesDevice, IsStatusSaid, SaysLine, TellsDevice};
 ghost use Rattle.std.specs.Io.KnownBytes.{Appends};

@@ -89,7 +89,7 @@ fn keep_stream<R: Input>(
 }
 
 /// Writes octets, whole.
-fn write_out<W: Output, E: Output>(writer: &mut W, errors: &mut E, octets: &[u8]) -> u8
+pub(crate) fn write_out<W: Output, E: Output>(writer: &mut W, errors: &mut E, octets: &[u8]) -> u8
     ensures written { result ≡ 0 → Appends (W.contents writer.old) (W.contents writer.new) octets.now }
     ensures cut { result ≡ 4 → (n : ℕ) × Appends (W.contents writer.old) (W.contents writer.new) (take n octets.now) }
     ensures unwritten { result ≡ 5 → Keeps (W.contents writer.old) (W.contents writer.new) }

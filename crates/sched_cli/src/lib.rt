@@ -2,6 +2,7 @@
 #![tactic(auto)]
 
 pub mod adapt;
+pub mod agenda;
 mod blame;
 pub mod commands;
 pub mod diagnosis;
@@ -16,6 +17,7 @@ pub mod status;
 pub mod tally;
 
 pub use adapt::run_adapt;
+pub use agenda::{run_agenda, run_free};
 pub use commands::{run_check, run_keep, run_serve};
 pub use diagnosis::run_explain_object;
 pub use expand::run_expand;

@@ -21,5 +21,5 @@ returns c = λ right.
     let only = subst (λ cs. events_among cs ≡ component_lines event ∷ []) c.children.ensures (c.is_only_event.ensures c.if-not-is_only_event.false) in
     single_right whole part event octets text reads.0 reads.1 spelled (c.has_same_lines.ensures c.if-not-has_same_lines.false) only
     (λ name line is. subst (λ o. zone_named name (tree_of o) ≡ zone_named name (tree_of whole)) c.in_ok-its.ensures.object
-      (subst (λ o. zone_named name (tree_of c.in_ok-its.its.object.now) ≡ zone_named name (tree_of o)) c.requires.whole
-      (c.have_same_zones.ensures right name line (subst (λ ls. IsLineIn name ls line) (sym c.lines.ensures) is))))
+    (subst (λ o. zone_named name (tree_of c.in_ok-its.its.object.now) ≡ zone_named name (tree_of o)) c.requires.whole
+    (c.have_same_zones.ensures right name line (subst (λ ls. IsLineIn name ls line) (sym c.lines.ensures) is))))

@@ -1,9 +1,7 @@
-use Rattle.std.proofs.Common.{◌≡◌, ◌∙◌, refl, sym, subst, ◌+◌, ◌<◌, length, drop, arith}
+use Rattle.std.proofs.Common.{◌≡◌, ◌∙◌, refl, sym, subst, ◌+◌, drop}
 use Rattle.std.proofs.lemmas.List.{drop_all}
-use Rattle.std.specs.Prelude.{List, []}
+use Rattle.std.specs.Prelude.{[]}
 use Rattle.ical_tree.specs.Tree.{component_children, component_lines, tree_of}
-use Rattle.ical_tree.specs.declared.component.Component.{Component}
-use Rattle.ical_tree.proofs.OneLine.{at_place}
 use Rattle.cal_doors.specs.Told.{events_among, IsSingleOf}
 use Rattle.cal_doors.proofs.RightGiven.{of_some}
 use Rattle.cal_doors.proofs.ToldEvents.{none_made, one_made, other_made, all_made, child_at}

@@ -1,4 +1,4 @@
-use Rattle.std.proofs.Common.{◌≡◌, true, map}
+use Rattle.std.proofs.Common.{◌≡◌, true}
 use Rattle.std.specs.List.{AllZip}
 use Rattle.ical_tree.specs.Tree.{component_children, tree_of}
 use Rattle.profile.specs.text.Lines.{logical_lines, reads_as_lines}

@@ -23,6 +23,6 @@ returns c =
     let spelled = of_some _ told (λ o. IsObject true (tree_of o) text) c.in-Some-2.is c.in_ok-told.ensures in
     let right = c.in_ok-is_told.ensures c.if-not-branch.false in
     let here = subst (λ o. IsTold (tree_of asked) (tree_of o) (tree_of told) c.as_slice.result.now) c.in_ok-read.ensures.object
-      (subst (λ o. IsTold (tree_of o) (tree_of c.in_ok-read.read.object.now) (tree_of told) c.as_slice.result.now) c.in_ok-asked.ensures.object right) in
+    (subst (λ o. IsTold (tree_of o) (tree_of c.in_ok-read.read.object.now) (tree_of told) c.as_slice.result.now) c.in_ok-asked.ensures.object right) in
     answered_right (tree_of asked) (tree_of read) told answer octets text reads.0 reads.1 spelled
     (subst (IsTold (tree_of asked) (tree_of read) (tree_of told)) c.as_slice.ensures.value here)

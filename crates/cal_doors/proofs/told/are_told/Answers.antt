@@ -1,4 +1,4 @@
-use Rattle.std.proofs.Common.{◌≡◌, ◌∙◌, ap, sym, subst, ◌-◌, ◌+◌, length, take, drop, arith}
+use Rattle.std.proofs.Common.{◌≡◌, ◌∙◌, sym, subst, ◌-◌, ◌+◌, length, take, drop, arith}
 use Rattle.std.proofs.lemmas.Bool.Decides.{nat_tests}
 use Rattle.std.proofs.lemmas.List.{drop_all, nil_from_length}
 use Rattle.std.specs.List.{AllZip}
@@ -27,7 +27,7 @@ loop-event-preserved c = λ read answer are rest.
     let first = c.first-item.result in
     let same = c.are_told_lines.ensures c.if-not-are_told_lines.false read answer are in
     let each = subst (λ l. AllZip (TellsSame read answer) l (component_lines first)) c.lines.ensures
-      (subst (AllZip (TellsSame read answer) (lines_left c.lines.result)) c.lines-in-loop-event.ensures same) in
+    (subst (AllZip (TellsSame read answer) (lines_left c.lines.result)) c.lines-in-loop-event.ensures same) in
     c.loop-event.invariant read answer are (told_more (AllZip (TellsSame read answer)) (drop i told) (drop (i + 1) told) c.loop-event.left.now begin
     (take (length begin - 1) (drop 1 begin)) event first (at_place told i event c.loop-event-test.true c.event-item.is) (sym c.is_named.ensures ∙ c.if-not-is_named.false)
     c.from_event-left.ensures (rest_of begin first (omega (arith, c.in-len1-up.len_at_least)) c.first-item.is) each rest)

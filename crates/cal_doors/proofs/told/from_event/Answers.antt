@@ -1,4 +1,4 @@
-use Rattle.std.proofs.Common.{◌≡◌, ◌∙◌, sym, ◌-◌, length, take, drop, arith}
+use Rattle.std.proofs.Common.{◌∙◌, sym, ◌-◌, length, take, drop, arith}
 use Rattle.std.proofs.lemmas.List.{nil_from_length}
 use Rattle.cal_doors.proofs.RightOthers.{rest_of}
 use Rattle.cal_doors.proofs.ToldEvents.{pass_other, begin_here, begin_none}

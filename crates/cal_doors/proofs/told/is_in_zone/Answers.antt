@@ -1,6 +1,5 @@
-use Rattle.std.proofs.Common.{◌≡◌, ◌∙◌, ap, sym}
+use Rattle.std.proofs.Common.{◌∙◌, ap, sym}
 use Rattle.std.specs.Prelude.{option_map}
-use Rattle.std.specs.Borrow.{Bor}
 use Rattle.ical_lines.specs.Text.{line_text}
 use Rattle.cal_doors.proofs.ToldWords.{told_in_zone}
 use Rattle.cal_doors.proofs.told.is_in_zone.Goals as goal

@@ -22,7 +22,7 @@ returns c = λ right.
     let spelled = of_some _ given (λ o. IsObject true (tree_of o) text) c.in-Some-2.is c.in_ok-given.ensures in
     let are = c.are_told.ensures c.if-not-are_told.false read (tree_of told) c.requires.words in
     let events = subst (λ cs. AllZip (AllZip (TellsSame read (tree_of told))) (events_among cs) (events_among (component_children given))) c.children.ensures
-      (subst (λ cs. AllZip (AllZip (TellsSame read (tree_of told))) (events_among c.children.result.now) (events_among cs)) c.children-events.ensures are) in
+    (subst (λ cs. AllZip (AllZip (TellsSame read (tree_of told))) (events_among c.children.result.now) (events_among cs)) c.children-events.ensures are) in
     told_right asked read told given octets text reads.0 reads.1 spelled (c.has_same_lines.ensures c.if-not-has_same_lines.false) events
     (λ name line lines among is. subst (λ o. HasItsZone (tree_of o) asked read name) c.in_ok-zones.ensures.object
-      (c.have_zones.ensures right name line lines (subst (λ cs. Contains (events_among cs) lines) (sym c.children-events.ensures) among) is))
+    (c.have_zones.ensures right name line lines (subst (λ cs. Contains (events_among cs) lines) (sym c.children-events.ensures) among) is))

@@ -1,4 +1,4 @@
-use Rattle.std.proofs.Common.{◌≡◌, ◌∙◌, sym, subst}
+use Rattle.std.proofs.Common.{◌∙◌, sym, subst}
 use Rattle.std.specs.Prelude.{Contains}
 use Rattle.ical_lines.specs.Text.{line_text}
 use Rattle.ical_tree.specs.Runs.{lines_left}

@@ -1,4 +1,4 @@
-use Rattle.std.proofs.Common.{◌≡◌, ◌∙◌, ap, sym, subst}
+use Rattle.std.proofs.Common.{◌∙◌, ap, sym, subst}
 use Rattle.std.specs.Prelude.{Option, option_map, string_bytes, IfSome}
 use Rattle.std.specs.Borrow.{Bor}
 use Rattle.ical_tree.specs.Tree.{tree_of}

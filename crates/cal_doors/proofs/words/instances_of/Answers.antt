@@ -12,5 +12,5 @@ loop-child-preserved c = λ zones.
     let child = c.child-item.result in
     c.in_ok-add_instances.ensures (tree_of object) zones
     (λ is. subst (λ x. Contains (vevents (tree_of object)) (component_lines x)) (sym c.child-item.is)
-      (event_of object c.children-child-items.result.now c.loop-child.child-index child c.children-child-items.ensures c.loop-child-test.true (subst (λ x. is_event x ≡ true) c.child-item.is is)))
+    (event_of object c.children-child-items.result.now c.loop-child.child-index child c.children-child-items.ensures c.loop-child-test.true (subst (λ x. is_event x ≡ true) c.child-item.is is)))
     (c.loop-child.invariant zones)

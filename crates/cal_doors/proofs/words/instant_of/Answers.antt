@@ -1,6 +1,5 @@
 use Rattle.std.proofs.Common.{◌≡◌, ◌∙◌, ap, sym, subst, rules, to_z, of_z, w64, FitsSigned, to_z-of_z}
-use Rattle.std.specs.Prelude.{option_map, option_copied}
-use Rattle.std.specs.Borrow.{Bor}
+use Rattle.std.specs.Prelude.{option_map}
 use Rattle.ical_lines.specs.Text.{line_text}
 use Rattle.profile.specs.text.Values.{SpellsLocal}
 use Rattle.cal_doors.proofs.ToldZones.{zone_held, read_well, says_zoned}

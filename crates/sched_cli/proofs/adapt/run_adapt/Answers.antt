@@ -1,5 +1,5 @@
 use Rattle.std.proofs.Common.{◌∙◌, ap, refl}
-use Rattle.sched_doors.specs.Handing.{list_of}
+use Rattle.cal_doors.specs.Adapted.{list_of}
 use Rattle.sched_cli.specs.Adapting.{nothing}
 use Rattle.sched_cli.proofs.Adapted.{one_more, whole_pieces}
 use Rattle.sched_cli.proofs.adapt.run_adapt.Goals as goal

@@ -1,5 +1,5 @@
 use Rattle.std.proofs.Common.{◌≡◌, false}
-use Rattle.sched_doors.specs.Handing.{list_of}
+use Rattle.cal_doors.specs.Adapted.{list_of}
 use Rattle.sched_cli.specs.Adapting.{HandsOnAll}
 use Rattle.sched_cli.proofs.adapt.run_adapt.Given as goal
 

@@ -1,4 +1,4 @@
-use Rattle.std.proofs.Common.{◌≡◌, ◌∙◌, ap, sym, get_or, [], ℤ, pos, rules, to_z, of_z, w64, FitsSigned, to_z-of_z}
+use Rattle.std.proofs.Common.{◌∙◌, ap, sym, get_or, [], pos, rules, to_z, w64, FitsSigned, to_z-of_z}
 use Rattle.ical_lines.specs.Text.{line_text}
 use Rattle.cal_doors.specs.declared.words.Instance.{Instance}
 use Rattle.cal_doors.proofs.ToldWords.{instance_at}

@@ -1,4 +1,4 @@
-use Rattle.std.proofs.Common.{◌≡◌, ◌∙◌, ap, sym, subst}
+use Rattle.std.proofs.Common.{◌∙◌, ap, sym, subst}
 use Rattle.std.specs.Prelude.{option_copied}
 use Rattle.profile.specs.events.ZonedTimes.{zone_named, SaysZoneOf}
 use Rattle.cal_zones.specs.Kinds.{zone_of}

@@ -1,0 +1,5 @@
+pub mod GapLemmas
+pub mod Gathering
+pub mod LineLemmas
+pub mod Order
+pub mod SeriesWalk

@@ -1,0 +1,9 @@
+use Rattle.std.proofs.Common.{◌≡◌, ◌++◌, ℕ, List, map, take}
+use Rattle.cal_events.specs.Calendar.{instance_of}
+use Rattle.cal_agenda.specs.Printing.{LinesOf, IsAgendaLine}
+use Rattle.cal_agenda.proofs.text.write_agenda.Given as goal
+
+-- the lines of those before
+abbrev pub invariant-loop-instance : goal.invariant-loop-instance
+invariant-loop-instance l =
+    (text : List ℕ) × LinesOf IsAgendaLine (map instance_of (take l.instance-index l.instances)) text × (l.out.items ≡ l.fn.out.items ++ text)

@@ -1,0 +1,3 @@
+pub mod Gaps
+pub mod InSpan
+pub mod Printing

@@ -1,0 +1,108 @@
+//! `agenda`: what a room's calendar confirms in a span of time, by start and then by key; and when the room is free.
+ghost use Rattle.std.specs.Prelude.{◌≡◌, ◌⊎◌, ◌≤◌, ℕ, false, IfOk, IfErr};
+ghost use Rattle.std.specs.Io.KnownBytes.{Keeps};
+ghost use Rattle.ical_lines.specs.Fault.{RefusesBy};
+ghost use Rattle.ical_values.specs.Octets.{address_octets};
+ghost use Rattle.profile.specs.checker.Calendars.{CalendarTextFault};
+ghost use Rattle.sched_cli.specs.Agendas.{IsAgendaText, IsFreeText, PrintsAgenda, PrintsFree, free_status};
+ghost use Rattle.sched_cli.specs.Commands.{BlamesDevice, IsStatusSaid, SaysLine, TellsDevice, refused_text};
+
+use crate::commands::write_out;
+use crate::status::{DONE, NO, report_read};
+use cal_agenda::{agenda, free_by, is_free, write_agenda, write_spans};
+use cal_events::{Calendar, Span};
+use ical_lines::Fault;
+use ical_values::Address;
+use sched_box::Output;
+use std::alloc::Global;
+
+/// `agenda`: prints what the calendar confirms for this room in a span, as lines `start end UID organiser`.
+pub fn run_agenda<W: Output, E: Output>(
+    alloc: Global,
+    calendar: &[u8],
+    room: &Address,
+    span: Span,
+    writer: &mut W,
+    errors: &mut E,
+) -> u8
+    ensures agenda { result ≡ 0 → PrintsAgenda (address_octets room.now) calendar.now span.start span.end (W.contents writer.old) (W.contents writer.new) }
+    ensures unwritten { (result ≡ 3) ⊎ (result ≡ 5) → Keeps (W.contents writer.old) (W.contents writer.new) }
+    ensures refused { result ≡ 3 → (n : ℕ) × CalendarTextFault calendar.now n × SaysLine (refused_text n) (E.contents errors.old) (E.contents errors.new) (E.may_lose errors.new) }
+    ensures said { IsStatusSaid result (E.contents errors.old) (E.contents errors.new) (E.may_lose errors.new) }
+    ensures device { BlamesDevice false (W.has_failed writer.new) result }
+    ensures told { TellsDevice result false false (W.has_failed writer.old) (W.has_failed writer.new) }
+    ensures status { (result ≡ 0) ⊎ (result ≡ 3) ⊎ (result ≡ 4) ⊎ (result ≡ 5) }
+{
+    match agenda_text(alloc, calendar, room, span) {
+        Ok(text) => write_out(writer, errors, text.as_slice()),
+        Err(fault) => report_read(errors, fault),
+    }
+}
+
+/// The lines of what a calendar confirms for a room in a span.
+fn agenda_text(alloc: Global, calendar: &[u8], room: &Address, span: Span) -> Result<Vec<u8>, Fault>
+    ensures text { IfOk result (λ text. IsAgendaText (address_octets room.now) calendar.now span.start span.end text.items) }
+    ensures fault { IfErr result (RefusesBy (CalendarTextFault calendar.now)) }
+{
+    let calendar = Calendar::read(alloc, calendar, room)?;
+    let instances = agenda(alloc, &calendar, span)?;
+    let mut text = Vec::new(alloc);
+    write_agenda(alloc, &instances, &mut text)?;
+    Ok(text)
+}
+
+/// `free`: prints when this room is free in a span by its calendar, as lines `start end`. The status is 0 where it is free all the time, and 1 where
+/// it isn't.
+pub fn run_free<W: Output, E: Output>(
+    alloc: Global,
+    calendar: &[u8],
+    room: &Address,
+    span: Span,
+    writer: &mut W,
+    errors: &mut E,
+) -> u8
+    ensures free { result ≤ 1 → PrintsFree result (address_octets room.now) calendar.now span.start span.end (W.contents writer.old) (W.contents writer.new) }
+    ensures unwritten { (result ≡ 3) ⊎ (result ≡ 5) → Keeps (W.contents writer.old) (W.contents writer.new) }
+    ensures refused { result ≡ 3 → (n : ℕ) × CalendarTextFault calendar.now n × SaysLine (refused_text n) (E.contents errors.old) (E.contents errors.new) (E.may_lose errors.new) }
+    ensures said { IsStatusSaid result (E.contents errors.old) (E.contents errors.new) (E.may_lose errors.new) }
+    ensures device { BlamesDevice false (W.has_failed writer.new) result }
+    ensures told { TellsDevice result false false (W.has_failed writer.old) (W.has_failed writer.new) }
+    ensures status { (result ≤ 1) ⊎ (result ≡ 3) ⊎ (result ≡ 4) ⊎ (result ≡ 5) }
+{
+    match free_text(alloc, calendar, room, span) {
+        Ok((text, is_free)) => {
+            let written = write_out(writer, errors, text.as_slice());
+            with_answer(written, is_free)
+        }
+        Err(fault) => report_read(errors, fault),
+    }
+}
+
+/// The status of what was written: where it was, it says whether the room is free.
+fn with_answer(written: u8, is_free: bool) -> u8
+    ensures done { written ≡ 0 → result ≡ free_status is_free }
+    ensures other { (written ≡ 0 → ⊥) → result ≡ written }
+{
+    if written != DONE {
+        return written;
+    }
+    if is_free { DONE } else { NO }
+}
+
+/// The lines of when a room is free by its calendar, and whether it is all the time of the span.
+fn free_text(
+    alloc: Global,
+    calendar: &[u8],
+    room: &Address,
+    span: Span,
+) -> Result<(Vec<u8>, bool), Fault>
+    ensures text { IfOk result (λ free. IsFreeText (address_octets room.now) calendar.now span.start span.end free.1 free.0.items) }
+    ensures fault { IfErr result (RefusesBy (CalendarTextFault calendar.now)) }
+{
+    let calendar = Calendar::read(alloc, calendar, room)?;
+    let instances = agenda(alloc, &calendar, span)?;
+    let spans = free_by(alloc, &instances, span)?;
+    let mut text = Vec::new(alloc);
+    write_spans(&spans, &mut text)?;
+    Ok((text, is_free(&instances)))
+}
