@@ -362,15 +362,15 @@ def shifted(line, shift):
     return line.removesuffix(text) + (dt.datetime.strptime(text, FORM) + shift).strftime(FORM)
 
 
-def with_moved(octets):
-    """A weekly series whose second instance is an hour later."""
+def with_moved(octets, weeks=1):
+    """A weekly series of which the instance after so many weeks is an hour later."""
     lines = lines_of(octets)
     moved = []
     for line in lines[lines.index("BEGIN:VEVENT"):lines.index("END:VEVENT") + 1]:
         if line.startswith("DTSTART"):
-            moved.append("RECURRENCE-ID" + shifted(line, dt.timedelta(days=7)).removeprefix("DTSTART"))
+            moved.append("RECURRENCE-ID" + shifted(line, dt.timedelta(weeks=weeks)).removeprefix("DTSTART"))
         if line.startswith(("DTSTART", "DTEND")):
-            line = shifted(line, dt.timedelta(days=7, hours=1))
+            line = shifted(line, dt.timedelta(weeks=weeks, hours=1))
         if not line.startswith("RRULE"):
             moved.append(line)
     return octets.replace(b"END:VCALENDAR", "\r\n".join([*moved, "END:VCALENDAR"]).encode())
@@ -454,6 +454,21 @@ def the_way_back(program, folder, zones):
         expect(f"{name} --single: VEVENTs of an object", [part.count("BEGIN:VEVENT") for part in each], [1] * len(wanted))
 
 
+def two_moved(program, folder):
+    """Each instance that the original names has its line, the second too."""
+    octets = calendar(pair(name="Europe/Berlin"), event(WEEKLY, name="Europe/Berlin"))
+    moved = calendar(pair(name="Europe/Berlin"), event(WEEKLY, name="Europe/Berlin"))
+    for weeks in (1, 2):
+        part = parts_of(lines_of(with_moved(octets, weeks)), "VEVENT")[1]
+        moved = moved.replace(b"END:VCALENDAR", "\r\n".join([*part, "END:VCALENDAR"]).encode())
+    preamble = b"now 20250102T000000Z\r\nroom mailto:r1@example.com\r\n\r\n"
+    answer = run(program, "serve", "--adapt", given=preamble + moved).stdout
+    wanted = told_lines(moved, answer)
+    expect("two moved: lines", sum(map(is_instance, [line for part in wanted for line in part])), sum(map(is_instance, lines_of(answer))))
+    expect("two moved: both are named", {line for part in wanted for line in part if is_instance(line)}, {line for line in lines_of(moved) if is_instance(line)})
+    in_its_words("two moved", moved, wanted, told(program, folder, moved, answer), None)
+
+
 NEW_YORK = zone(
     part("DAYLIGHT", "20070311T020000", "-0500", "-0400", "RRULE:FREQ=YEARLY;BYMONTH=3;BYDAY=2SU"),
     part("STANDARD", "20071104T020000", "-0400", "-0500", "RRULE:FREQ=YEARLY;BYMONTH=11;BYDAY=1SU"), name="America/New_York")
@@ -486,7 +501,8 @@ def what_stays(program, folder):
     """Lines that no object has, what answers no instance of the original, and an original that is no object."""
     octets = calendar(pair(), event())
     other = b"BEGIN:VCALENDAR\r\nVERSION:2.0\r\nPRODID:x\r\nMETHOD:REPLY\r\nBEGIN:VEVENT\r\nUID:u\r\nRECURRENCE-ID:20250401T070000Z\r\nEND:VEVENT\r\nEND:VCALENDAR\r\n"
-    for answer in (b"", b"\r\n", b"\n\r\n\n", REFUSED_LINE * 2, b"REFUSED;OBJECT=1:40", other, b"\n" + other + b"\n" + other + REFUSED_LINE + other, other[:40], b"x"):
+    unnamed = other.replace(b"BEGIN:VEVENT", ("\r\n".join([*parts_of(lines_of(octets), "VTIMEZONE")[0], "BEGIN:VEVENT"])).encode())
+    for answer in (b"", b"\r\n", b"\n\r\n\n", unnamed, REFUSED_LINE * 2, b"REFUSED;OBJECT=1:40", other, b"\n" + other + b"\n" + other + REFUSED_LINE + other, other[:40], b"x"):
         for original in (octets, b"", b"x", octets[:60]):
             for words in ([], ["--single"]):
                 expect(f"{answer[:20]!r} stays {words}", told(program, folder, original, answer, *words), answer)
@@ -510,6 +526,7 @@ def main():
         behind_the_door(program, folder, berlin)
         histories(program, folder)
         the_way_back(program, folder, berlin)
+        two_moved(program, folder)
         what_organisers_send(program, folder)
         words_that_do_not_go(program, folder)
         what_stays(program, folder)
