@@ -146,7 +146,7 @@ zone mailto:ann@example.com +0530
 organiser mailto:ann@example.com""".split("\n")
 OCTETS = b"\0\t\n\r\x1b !\",.:;=\\\x7f\x80\xbf\xc3\xe2\xff"
 # of the command line
-WORDS = ["serve", "keep", "check", "expand", "explain", "box", "help", "--help", "-h", "--version", "--report", "--certificate", "--limit", "--limit=1", "--zone", "--zone=", "--zone=+0530", "--", "-", "", ROOM]
+WORDS = ["serve", "keep", "check", "expand", "explain", "box", "adapt", "agenda", "--free", "--from", "--until", "--reply-to", "--single", "--adapt", "--zones", "help", "--help", "-h", "--version", "--report", "--certificate", "--limit", "--limit=1", "--zone", "--zone=", "--zone=+0530", "--", "-", "", ROOM]
 WORDS += ["r1", "no/such/file", ".", *NUMBERS, *(f"--zone={words}" for words in ROOM_ZONES)]
 
 # ---- what is spoiled
@@ -421,11 +421,31 @@ def box_case(spoiler):
     return Case(["box", "config", "inbox", "outbox"], files=files)
 
 
+def adapt_case(spoiler):
+    return Case(["adapt", *spoiler.chance.choice(([], ["--report"]))], spoiler.spoiled(spoiler.chance.choice(("object", "stream"))))
+
+
+def back_case(spoiler):
+    """Answers on their way back: what an object is, spoiled once more, answers it."""
+    original = spoiler.spoiled("object")
+    answers = spoiler.chance.choice((original, spoiler.spoiled("object"), original + b"REFUSED;OBJECT=1:40\r\n" + original))
+    return Case(["adapt", "--reply-to", "original", *spoiler.chance.choice(([], ["--single"]))], answers, files={"original": original})
+
+
+def agenda_case(spoiler):
+    words = []
+    for name in ("--from", "--until"):
+        if spoiler.chance.random() < 0.9:
+            words += [name, spoiler.chance.choice(("20250301T000000Z", "20250310T090000Z", "20260101T000000Z", spoiler.chance.choice(TIMES)))]
+    return Case(["agenda", "calendar", ROOM, *words, *spoiler.chance.choice(([], ["--free"]))], files={"calendar": spoiler.spoiled("calendar", spoiler.chance.choice((0, 1, None)))})
+
+
 def words_case(spoiler):
     return Case([spoiler.chance.choice(WORDS) for _ in range(spoiler.chance.randrange(6))], spoiler.spoiled("stream", 1))
 
 
-CASES = {"serve": serve_case, "keep": keep_case, "check": check_case, "expand": expand_case, "explain": explain_case, "box": box_case, WORDS_OF_ALL: words_case}
+CASES = {"serve": serve_case, "keep": keep_case, "check": check_case, "expand": expand_case, "explain": explain_case, "box": box_case, "adapt": adapt_case, "back": back_case, "agenda": agenda_case,
+         WORDS_OF_ALL: words_case}
 
 
 class Ended:
@@ -493,6 +513,7 @@ def listed_statuses():
         part = part.split("\n.SH ")[0]
         said = part.split("Exit status: ")[1].split("\n.")[0]
         found[part.split()[0]] = {int(it) for it in re.findall(r"(?:^|;\s)(\d)\b", said)}
+    found["back"] = found["adapt"]
     found[WORDS_OF_ALL] = set().union(*found.values())
     return found
 
