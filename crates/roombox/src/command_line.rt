@@ -139,8 +139,8 @@ start and its end. A stamp is in UTC, as 20250415T070000Z; the span ends before 
 --from and --until it is all time up to the year 10000, which a series without end fills.
 
 Exit status: 0 done, and with --free, --from and --until: the whole span is free; 1 with these: it
-isn't; 2 usage; 3 CALENDAR is refused: standard error has the number; or it is too long; 4 a device
-failed, as where the file isn't there; 5 out of memory.
+isn't; 2 usage; 3 CALENDAR is refused: standard error has the number, which docs/PROFILE.md lists;
+or it is too long; 4 a device failed, as where the file isn't there; 5 out of memory.
 
 Example: roombox agenda kept.ics mailto:r1@example.com --from 20250415T120000Z --until \
 20250415T130000Z --free";
