@@ -521,7 +521,8 @@ def listed_statuses():
 def said_as_listed(ended, case):
     """Whether standard error has what the guide says of the status."""
     forms = {2: rb"error: .*", 3: rb"roombox: (refused \d+|too long|differs [\x21-\x7e]+)\n", 4: rb"roombox: device\n", 5: rb"roombox: memory\n"}
-    form = rb"roombox: \d+ objects?, .*\n" if ended.status == 0 and "--report" in case.words else rb""
+    report = rb"(roombox: object \d+: [^\n]*\n)*" if case.words[:1] == ["adapt"] else rb"roombox: \d+ objects?, .*\n"
+    form = report if ended.status == 0 and "--report" in case.words else rb""
     return re.fullmatch(forms.get(ended.status, form), ended.said, re.DOTALL)
 
 
@@ -574,7 +575,7 @@ class Fuzz:
         unknown = set(listed) - set(CASES) - {"help"}
         if unknown:
             sys.exit(f"commands that nothing spoils: {unknown}")
-        return [command for command in listed if command != "help"] + [WORDS_OF_ALL]
+        return [command for command in listed if command != "help"] + ["back", WORDS_OF_ALL]
 
     def spoil(self, command, seconds):
         """Spoils the input of a command for so many seconds."""
