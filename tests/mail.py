@@ -60,7 +60,7 @@ class Post:
         return [sys.executable, MAIL, "take", str(self.box), str(self.arriving)]
 
     def answering(self):
-        return ["flock", str(self.box / "inbox"), PROGRAM, "box", *(str(self.box / name) for name in ("config", "inbox", "outbox"))]
+        return ["flock", str(self.box / "inbox"), PROGRAM, "box", "--adapt", *(str(self.box / name) for name in ("config", "inbox", "outbox"))]
 
     def sending(self, *way):
         return [sys.executable, MAIL, "send", str(self.box), "--sender", BOX, "--roombox", PROGRAM, *(way or ("--maildir", str(self.leaving)))]
@@ -180,6 +180,25 @@ def producers(cases, parent):
     heads = [(message["From"], message["Sender"], message["In-Reply-To"], message["Auto-Submitted"], message.get_content_type()) for message in sent]
     cases.holds("their heads", heads[7], (ROOM, BOX, "<cyrus-caldav-4711-1741000000-0@imap.example.com>", "auto-replied", "multipart/alternative"))
     cases.holds("each mail has an id of its own", len({message["Message-ID"] for message in sent}), 8)
+
+
+def in_its_words(cases, parent):
+    """GNOME's series with a moved instance, whose VTIMEZONE no room reads as it is: a mail for each of the two, in the words of the invitation."""
+    zone = "/freeassociation.sourceforge.net/America/New_York"
+    series = (ROOT / "tests" / "producers" / "gnome--03-weekly-endless.ics").read_text()
+    moved = ["BEGIN:VEVENT", "UID:gnome-03", "DTSTAMP:20250101T080000Z", f"RECURRENCE-ID;TZID={zone}:20250319T090000", f"DTSTART;TZID={zone}:20250319T140000", f"DTEND;TZID={zone}:20250319T150000",
+             "SUMMARY:Weekly endless", "SEQUENCE:1", f"ORGANIZER:mailto:{ANN}", f"ATTENDEE:mailto:{ROOM}", "END:VEVENT", "END:VCALENDAR", ""]
+    post = Post(parent)
+    post.deliver(mail(series.replace("END:VCALENDAR\n", "\n".join(moved))))
+    cases.holds("a series of GNOME's by mail", (post.run(), post.left()), ([0, 0, 0], 0))
+    sent = list(map(calendar_of, post.sent()))
+    cases.holds("a mail for each VEVENT", [(method, lines.count("BEGIN:VEVENT")) for method, lines in sent], [("REPLY", 1), ("REPLY", 1)])
+    cases.holds("the series and the instance", [[line for line in lines if line.startswith("RECURRENCE-ID")] for _, lines in sent], [[], [f"RECURRENCE-ID;TZID={zone}:20250319T090000"]])
+    wanted = series.replace("\n ", "")
+    wanted = wanted[wanted.index("BEGIN:VTIMEZONE"):wanted.index("BEGIN:VEVENT")].splitlines()
+    lines = sent[1][1]
+    cases.holds("with the VTIMEZONE that the mail brought", lines[lines.index("BEGIN:VTIMEZONE"):lines.index("BEGIN:VEVENT")], wanted)
+    cases.holds("both are booked", [[line for line in lines if line.startswith("ATTENDEE")] for _, lines in sent], [[f"ATTENDEE;PARTSTAT=ACCEPTED:mailto:{ROOM}"]] * 2)
 
 
 def again(cases, parent):
@@ -571,7 +590,7 @@ def unstopped(cases, parent):
 
 def main():
     cases = Cases()
-    parts = [producers, again, in_order, no_invitations, several_objects, no_objects, methods, charsets, told, one_notice, not_told, odd_heads, organisers, by_sendmail, side_by_side, stopped_at_each_step,
+    parts = [producers, in_its_words, again, in_order, no_invitations, several_objects, no_objects, methods, charsets, told, one_notice, not_told, odd_heads, organisers, by_sendmail, side_by_side, stopped_at_each_step,
              unstopped, stopped_maildir, stopped_sendmail]
     where = sys.argv[2] if len(sys.argv) > 2 else MEMORY if os.access(MEMORY, os.W_OK) else None
     with tempfile.TemporaryDirectory(dir=where) as parent:

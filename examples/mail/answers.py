@@ -126,10 +126,10 @@ def notice(complaints, sender, answered):
 
 def explained(roombox, number, message):
     """What roombox says about a refusal: of the object itself if it says the same number, else of the number."""
-    of_object = subprocess.run([roombox, "explain"], input=message, capture_output=True)
+    of_object = subprocess.run([roombox.program, "explain"], input=message, capture_output=True)
     if re.match(rb"refused %d\b" % number, of_object.stdout):
         return of_object.stdout.decode(errors="replace")
-    return subprocess.run([roombox, "explain", str(number)], stdin=subprocess.DEVNULL, capture_output=True, text=True).stdout
+    return subprocess.run([roombox.program, "explain", str(number)], stdin=subprocess.DEVNULL, capture_output=True, text=True).stdout
 
 
 def complaints_about(box, stem, roombox):
@@ -160,7 +160,7 @@ def may_be_written_to(address, box, sender):
 def mails_of(box, stem, sender, roombox):
     """All mails that the answer of this name becomes, in their order."""
     message, answered = box.message(stem), answered_by(box, stem)
-    objects = [sent for answer in split_objects(REFUSED.sub(b"", box.answer(stem))) for sent in adapted_back(answer, message)]
+    objects = split_objects(adapted_back(REFUSED.sub(b"", box.answer(stem)), message, roombox))
     found = [mail_with(octets, message, sender, answered) for octets in objects]
     # the notice of a mail comes with the answer to its last object
     if answered and answered["stems"][-1] == stem and may_be_written_to(answered["sender"], box, sender):

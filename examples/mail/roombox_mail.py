@@ -1,7 +1,7 @@
 """Brings the mails of a maildir to a box of roombox, and its answers to people by mail (RFC 6047). README.md, beside it, says how it is set up.
 
     python3 roombox_mail.py take BOX MAILDIR
-    python3 roombox_mail.py send BOX --sender ADDRESS (--sendmail PROGRAM | --maildir MAILDIR) [--roombox PROGRAM]
+    python3 roombox_mail.py send BOX --sender ADDRESS (--sendmail PROGRAM | --maildir MAILDIR) [--roombox PROGRAM] [--zones FILE]
 
 `take` gives each object of each new mail a name in BOX/inbox, and moves the mail from `new` to `cur`. `send` makes mails of each new file of BOX/outbox
 and hands them over. Between the two `roombox box` is run. Each does what is left of a run that was stopped first, so that no mail is lost and none is
@@ -21,6 +21,7 @@ import time
 from collections import Counter
 from pathlib import Path
 
+from adapting import Roombox
 from answers import mail_of_faults, mails_of
 from files import PART, Box, locked, octets_of, put, put_for_good, sync, write_synced
 from mails import read_mail
@@ -241,7 +242,7 @@ def by_maildir(maildir):
 def send(box, words, lock):
     """Makes mails of each new answer, and hands over what is in the queue."""
     hand = by_sendmail(words.sendmail, words.sender, lock) if words.sendmail else by_maildir(words.maildir)
-    answers = queue_answers(box, words.sender, words.roombox)
+    answers = queue_answers(box, words.sender, Roombox(words.roombox, words.zones))
     queue_faults(box, words.sender)
     went, stay = hand_over(box, hand)
     print(f"{answers} answers, {went} mails handed over, {stay} left")
@@ -260,7 +261,8 @@ def command_line():
         command.add_argument("box", metavar="BOX", help="the folder with config, inbox and outbox")
     taking.add_argument("maildir", metavar="MAILDIR", type=Path)
     sending.add_argument("--sender", required=True, help="the address of the box itself, which writes to people")
-    sending.add_argument("--roombox", default="roombox", metavar="PROGRAM", help="the program that explains refusals")
+    sending.add_argument("--roombox", default="roombox", metavar="PROGRAM", help="the program that explains refusals, and tells answers in the words of the mails")
+    sending.add_argument("--zones", metavar="FILE", help="what `roombox box --adapt` is given so")
     way = sending.add_mutually_exclusive_group(required=True)
     way.add_argument("--sendmail", metavar="PROGRAM", help="a program that is called as sendmail is")
     way.add_argument("--maildir", metavar="MAILDIR", type=Path, help="a maildir on the disk of BOX")
@@ -275,7 +277,7 @@ def main():
         with locked(box.mail) as lock:
             finish_taking(box, json.loads(octets_of(box.taking) or b"[]"))
             return take(box, words.maildir) if words.command == "take" else send(box, words, lock)
-    except (OSError, Fault) as fault:
+    except (OSError, Fault, subprocess.CalledProcessError) as fault:
         print(f"roombox_mail: {fault}", file=sys.stderr)
         return 1
 
