@@ -498,14 +498,23 @@ def words_that_do_not_go(program, folder):
 
 
 def what_stays(program, folder):
-    """Lines that no object has, what answers no instance of the original, and an original that is no object."""
+    """Lines that no object has, and what answers no instance of the original."""
     octets = calendar(pair(), event())
     other = b"BEGIN:VCALENDAR\r\nVERSION:2.0\r\nPRODID:x\r\nMETHOD:REPLY\r\nBEGIN:VEVENT\r\nUID:u\r\nRECURRENCE-ID:20250401T070000Z\r\nEND:VEVENT\r\nEND:VCALENDAR\r\n"
     unnamed = other.replace(b"BEGIN:VEVENT", ("\r\n".join([*parts_of(lines_of(octets), "VTIMEZONE")[0], "BEGIN:VEVENT"])).encode())
     for answer in (b"", b"\r\n", b"\n\r\n\n", unnamed, REFUSED_LINE * 2, b"REFUSED;OBJECT=1:40", other, b"\n" + other + b"\n" + other + REFUSED_LINE + other, other[:40], b"x"):
-        for original in (octets, b"", b"x", octets[:60]):
-            for words in ([], ["--single"]):
-                expect(f"{answer[:20]!r} stays {words}", told(program, folder, original, answer, *words), answer)
+        for words in ([], ["--single"]):
+            expect(f"{answer[:20]!r} stays {words}", told(program, folder, octets, answer, *words), answer)
+
+
+def what_answers_no_object(program, folder):
+    """An original that is no object is refused by its number, before anything is written."""
+    octets, file = calendar(pair(), event()), folder / "original.ics"
+    for original, number in ((b"", 20), (b"x\r\n", 1), (octets[:60], 20), (octets + octets, 20), (octets.replace(b"METHOD:REQUEST", b"METHOD"), 1)):
+        file.write_bytes(original)
+        for words in ([], ["--single"]):
+            end = run(program, "adapt", "--reply-to", str(file), *words, given=octets)
+            expect(f"{original[:20]!r} is refused {words}", (end.returncode, end.stdout, end.stderr), (3, b"", b"roombox: refused %d\n" % number))
 
 
 def main():
@@ -530,6 +539,7 @@ def main():
         what_organisers_send(program, folder)
         words_that_do_not_go(program, folder)
         what_stays(program, folder)
+        what_answers_no_object(program, folder)
     print(f"{len(faults)} faults")
     return 1 if faults else 0
 

@@ -3,7 +3,7 @@
 use crate::host::{
     ErrorPrinter, Folders, answer_files, no_memory, read_file, read_input, report_file,
 };
-use ical_lines::{Limits, Unfolded};
+use ical_lines::{Fault, Limits, Unfolded};
 use ical_tree::{Component, read_object};
 use ical_values::Address;
 use sched_box::{DeviceReader, DeviceWriter, Input, Output};
@@ -85,6 +85,13 @@ fn run_listed<R: Runtime + AllocGlobal>(
         Work::Stream(work) => run_stream(rt, alloc, listed, work),
         Work::Back(answers) => hand_back(rt, alloc, listed, answers),
     }
+}
+
+/// Reads octets that have to be one object, within the limits of a message; what is wrong with them, if something is.
+pub(crate) fn read_whole(alloc: Global, octets: &[u8]) -> Result<(), Fault> {
+    let text = Unfolded::read(alloc, octets, Limits::Message)?;
+    read_object(alloc, &text, Limits::Message)?;
+    Ok(())
 }
 
 /// Hands on answers from standard input, all of which is read first.

@@ -222,8 +222,8 @@ object that it answers, as that came: its names of zones, its VTIMEZONEs, and it
 RECURRENCE-ID names the same instant. What can't be told so is handed on as it is, and so is a line
 REFUSED. All is read before anything is written. --single takes an object of several VEVENTs apart.
 
-Exit status: 0 done; 2 usage; 3 FILE is refused: standard error has the number; or a file, or the
-input with --reply-to, is too long; 4 a device failed, as where a file isn't there; 5 out of
+Exit status: 0 done; 2 usage; 3 FILE or ORIGINAL is refused: standard error has the number; or one,
+or the input with --reply-to, is too long; 4 a device failed, as where a file isn't there; 5 out of
 memory. docs/PROFILE.md lists all numbers.
 
 Example: roombox adapt < examples/first-request.ics-stream | roombox serve

@@ -1,7 +1,7 @@
 //! The real reader, writer and files: `run` hands them to the commands.
 
 use crate::agenda::invoke_agenda;
-use crate::behind::{Answers, StreamWork, Work, run_behind};
+use crate::behind::{Answers, StreamWork, Work, read_whole, run_behind};
 use crate::command_line::{BadWord, Invocation, Reading, fault_of, read_words};
 use crate::progress::Progress;
 use cal_zones::RoomZone;
@@ -10,7 +10,7 @@ use ical_values::Address;
 use sched_box::config::LONGEST;
 use sched_box::{DeviceReader, DeviceWriter, Output};
 use sched_cli::commands::{KeptText, run_check, run_keep, run_serve};
-use sched_cli::status::{USAGE, report_device, report_memory, report_too_long};
+use sched_cli::status::{USAGE, report_device, report_memory, report_read, report_too_long};
 use sched_cli::{
     Tally, run_expand, run_explain, run_explain_object, run_folders, run_serve_report,
 };
@@ -222,7 +222,7 @@ fn invoke_keep<R: Runtime + AllocGlobal>(
     run_keep(alloc, room, kept, &mut reader, &mut writer, &mut errors)
 }
 
-/// Hands on answers to the object of a file.
+/// Hands on answers to the object of a file, which has to be one.
 fn invoke_reply_to<R: Runtime + AllocGlobal>(
     rt: &R,
     alloc: Global,
@@ -230,12 +230,14 @@ fn invoke_reply_to<R: Runtime + AllocGlobal>(
     is_single: bool,
     zones: Option<&str>,
 ) -> u8 {
+    let mut errors = DeviceWriter::new(ErrorPrinter { to: rt });
     let original = match read_file(rt, alloc, original) {
         Ok(octets) => octets,
-        Err(fault) => {
-            return report_file(&mut DeviceWriter::new(ErrorPrinter { to: rt }), fault);
-        }
+        Err(fault) => return report_file(&mut errors, fault),
     };
+    if let Err(fault) = read_whole(alloc, original.as_slice()) {
+        return report_read(&mut errors, fault);
+    }
     let answers = Answers {
         original: original.as_slice(),
         is_single,
