@@ -500,6 +500,19 @@ def check(program, pieces, singles, series=0):
     return seconds, peak, size
 
 
+def agenda(program, pieces, first, until, lines):
+    """So many lines of what a calendar confirms from a day on and before another."""
+    with tempfile.TemporaryDirectory() as folder:
+        kept = os.path.join(folder, "kept.ics")
+        with open(kept, "wb") as file:
+            size = sum(file.write(piece) for piece in pieces)
+        words = [program, "agenda", kept, ROOM.format(0), "--from", f"{first:%Y%m%d}T000000Z", "--until", f"{until:%Y%m%d}T000000Z"]
+        seconds, peak, status, output = run(words, None)
+    if status or output.count(b"\n") != lines:
+        sys.exit(f"agenda: status {status}, {output.count(bytes([10]))} lines")
+    return seconds, peak, size
+
+
 def expand(program, series, first, count):
     """The first instances of a series, of which the first is known."""
     with tempfile.TemporaryFile() as stream:
@@ -645,6 +658,9 @@ def main():
     grown("objects with history at the door", (1_000, 10_000), lambda count: adapt(program, with_history(count), count), None)
     grown("dates of a zone at the door", (2_000, 20_000), lambda count: adapt(program, dates_of_a_zone(count), 1), "octets")
     grown("zones of an object at the door", (140, 1_400), lambda count: adapt(program, names_of_zones(count), count + 1), "octets")
+    grown("singles, of which an agenda has a day", (10_000, 100_000), lambda count: agenda(program, calendar(count), datetime(2025, 1, 7), datetime(2025, 1, 8), 24), None)
+    listed = lambda days: agenda(program, endless(["FREQ=DAILY"]), datetime(9000, 1, 1), datetime(9000, 1, 1) + timedelta(days=days), days)
+    grown("days in the year 9000 of an agenda", (10_000, 100_000), listed, None)
     grown("requests onto one busy time", (6_000, 60_000), lambda count: serve(program, declines(count), 1), None)
     revised = lambda count: serve(program, revisions(count), MEETINGS + count // 2)
     grown(f"revisions of {MEETINGS:,} meetings", (10_000, 100_000), revised, None)
