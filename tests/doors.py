@@ -510,7 +510,7 @@ def what_stays(program, folder):
 def what_answers_no_object(program, folder):
     """An original that is no object is refused by its number, before anything is written."""
     octets, file = calendar(pair(), event()), folder / "original.ics"
-    for original, number in ((b"", 20), (b"x\r\n", 1), (octets[:60], 20), (octets + octets, 20), (octets.replace(b"METHOD:REQUEST", b"METHOD"), 1)):
+    for original, number in ((b"", 23), (b"x\r\n", 1), (octets[:octets.index(b"PRODID")], 21), (octets + octets, 23), (octets.replace(b"METHOD:REQUEST", b"METHOD"), 1)):
         file.write_bytes(original)
         for words in ([], ["--single"]):
             end = run(program, "adapt", "--reply-to", str(file), *words, given=octets)
