@@ -73,6 +73,16 @@ def read(*names):
     return b"".join(open(os.path.join(folder, name), "rb").read() for name in names)
 
 
+def produced(name):
+    with open(os.path.join(os.path.dirname(__file__), "producers", f"{name}.ics"), "rb") as file:
+        return file.read()
+
+
+def ample(words, stream):
+    """What a run writes that has memory enough."""
+    return subprocess.run(words, input=stream, capture_output=True, check=True).stdout
+
+
 def run(words, stream, shim, number):
     environment = dict(os.environ, LD_PRELOAD=shim, REFUSED_ALLOCATION=str(number))
     return subprocess.run(words, input=stream, capture_output=True, env=environment, check=False)
@@ -179,7 +189,20 @@ def main():
         days, days_certificate = os.path.join(folder, "days.ics"), os.path.join(folder, "days.cert")
         open(days, "wb").write(read("calendar-day-of-new-york"))
         open(days_certificate, "wb").write(read("certificate-3"))
+        # what the door makes, and what it tells on the way back, tests/doors.py judges
+        history, original = produced("gnome--03-weekly-endless"), os.path.join(folder, "original.ics")
+        moved = produced("cyrus-ruby--07b-instance-moved")
+        open(original, "wb").write(moved)
+        readable = ample([program, "adapt"], history)
+        answer = ample([program, "serve", "--adapt"], b"now 20250102T000000Z\nroom mailto:room1@example.com\nroom mailto:room1@rooms.example.net\n\n" + moved)
+        back = [program, "adapt", "--reply-to", original, "--single"]
         rows = [
+            ("an object with history at the door", [program, "adapt"], history, [b"", readable]),
+            ("an answer on its way back", back, answer, [b"", ample(back, answer)]),
+            ("an agenda", [program, "agenda", kept, room], b"", [b"", b"20250310T090000Z 20250310T100000Z a mailto:ann@example.com\n"]),
+            ("when a room is free", [program, "agenda", kept, room, "--free", "--from", "20250310T000000Z", "--until", "20250311T000000Z"], b"",
+             [b"", b"20250310T000000Z 20250310T090000Z\n20250310T100000Z 20250311T000000Z\n"], 1),
+            ("what of a zone is in the way", [program, "explain"], read("explain-head", "zone-with-until", "explain-event"), [b"", read("explained-with-until")], 1),
             ("an accepted request", [program, "serve"], read("preamble", "request-a"), [b"", accepted]),
             ("a declined request", [program, "serve"], decline, [b"", accepted, accepted + declined]),
             ("an ADD", [program, "serve"], read("preamble", "add-n-two"), [b"", read("accepted-n-two-instances", "refresh-n")]),
