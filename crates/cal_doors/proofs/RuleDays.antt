@@ -20,7 +20,7 @@ use Rattle.cal_zones.proofs.Casts.{narrow, wide_offset}
 use Rattle.cal_doors.specs.Ends.{IsNearInstant}
 use Rattle.cal_doors.specs.Reading.{IsLastFrom, AreDaysTo, AreNoDaysTo}
 use Rattle.cal_doors.specs.declared.rule.Last.{Last}
-use Rattle.cal_doors.specs.declared.rule.Last.TheVariants.{Never, Before, On}
+use Rattle.cal_doors.specs.declared.rule.Last.TheVariants.{Never, Before, Far, On}
 use Rattle.cal_doors.specs.Listed.{HasStart, days_to, AreDaysOf, AreMany}
 
 -- ---- DTSTART
@@ -53,7 +53,7 @@ one_end from (Some count) (Some until) a b h k = absurd h
 
 pub one_last : (o : Observance) (end : End) (a b : ℕ) → IsLastOnsetDay o end a → IsLastOnsetDay o end b → a ≡ b
 one_last o general.Never a b h k = absurd h
-one_last o (AfterCount count) a b h k = h ∙ sym k
+one_last o (AfterCount count) a b h k = absurd h
 one_last o (AtInstant until) a b h k =
     let low = (k a).0 ((h a).1 (omega arith)) in
     let high = (h b).0 ((k b).1 (omega arith)) in
@@ -170,15 +170,16 @@ module _ (start from : ℤ) (text : List ℕ) (first : ℕ) (rule : RuleText) (i
     ends = ends_as o r.end has (ends_there r.end ends);
   }
 
-  pub days_said : (o : Observance) (end : End) (last : ℕ) (days : List ℕ) → HasStart start from o → IsEndOf from rule.count rule.until end → IsLastOnsetDay o end last → AreDaysOf rule first last days
-      → SpellsDays o text days
-  days_said o end last days has ends allowed (are, few) = record {
+  pub days_said : (o : Observance) (end : End) (last : ℕ) (days : List ℕ) → HasStart start from o → IsEndOf from rule.count rule.until end → IsLastOnsetDay o end last → last ≤ o.day + 14_610
+      → AreDaysOf rule first last days → SpellsDays o text days
+  days_said o end last days has ends allowed near (are, few) = record {
     rule = is.spelled_rule;
     spelled = is.spelled;
     end = end;
     ends = ends_as o end has (ends_there end ends);
     last = last;
     allowed = allowed;
+    near = near;
     listed = are ∙ sym (same_days o has last);
     few = few;
   }
@@ -201,6 +202,15 @@ module _ (start from : ℤ) (text : List ℕ) (first : ℕ) (rule : RuleText) (i
   no_last o end has ends none days s =
       let same = one_end from rule.count rule.until s.end end (end_here o s.rule s.end has s.spelled s.ends) ends in
       none s.last (subst (λ (e : End). IsLastOnsetDay o e s.last) same s.allowed)
+
+  -- the last day is too far
+  pub no_far_day : (o : Observance) (end : End) (last : ℕ) → HasStart start from o → IsEndOf from rule.count rule.until end → IsLastOnsetDay o end last → o.day + 14_610 < last → (days : List ℕ)
+      → SpellsDays o text days → ⊥
+  no_far_day o end last has ends allowed far days s =
+      let same = one_end from rule.count rule.until s.end end (end_here o s.rule s.end has s.spelled s.ends) ends in
+      let at : s.last ≡ last = one_last o end s.last last (subst (λ (e : End). IsLastOnsetDay o e s.last) same s.allowed) allowed in
+      let near = s.near in
+      omega (arith, far, near, at)
 
   -- too many days
   pub no_days : (o : Observance) (end : End) (last : ℕ) → HasStart start from o → IsEndOf from rule.count rule.until end → IsLastOnsetDay o end last → AreMany rule first last → (days : List ℕ) → SpellsDays o text days → ⊥
@@ -299,11 +309,13 @@ module _ (start from : ℤ) (text : List ℕ) (first : ℕ) (rule : RuleText) (i
   days_to_last o end Before days has ends until h =
       let early = until o has in
       let before : early.0 < first = omega (arith, early.2, is.here o has) in
-      days_said start from text first rule is o end early.0 days has ends early.1 (subst (AreDaysOf rule first early.0) (sym h) (days_early rule first early.0 before))
-  days_to_last o end (On last) days has ends until h = days_said start from text first rule is o end (day_index last) days has ends (until o has) h
+      days_said start from text first rule is o end early.0 days has ends early.1 (omega (arith, early.2)) (subst (AreDaysOf rule first early.0) (sym h) (days_early rule first early.0 before))
+  days_to_last o end Far days has ends until h = absurd h
+  days_to_last o end (On last) days has ends until h = let there = until o has in days_said start from text first rule is o end (day_index last) days has ends there.0 there.1 h
 
   pub no_days_to_last : (o : Observance) (end : End) (last : Last) → HasStart start from o → IsEndOf from rule.count rule.until end → IsLastFrom start from end last → AreNoDaysTo rule first last
       → (days : List ℕ) → SpellsDays o text days → ⊥
   no_days_to_last o end Never has ends until h = no_last start from text first rule is o end has ends (until o)
   no_days_to_last o end Before has ends until h = absurd h
-  no_days_to_last o end (On last) has ends until h = no_days start from text first rule is o end (day_index last) has ends (until o has) h
+  no_days_to_last o end Far has ends until h = let far = until o has in no_far_day start from text first rule is o end far.0 has ends far.1 far.2
+  no_days_to_last o end (On last) has ends until h = no_days start from text first rule is o end (day_index last) has ends (until o has).0 h

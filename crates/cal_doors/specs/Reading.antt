@@ -1,5 +1,5 @@
 -- What the reader of a VTIMEZONE in general sees.
-use Rattle.std.specs.Prelude.{◌≡◌, ◌<◌, ℕ, true, List, [], ◌∷◌, ◌++◌, map, codes, Some, ℤ}
+use Rattle.std.specs.Prelude.{◌≡◌, ◌<◌, ◌≤◌, ℕ, ◌+◌, true, List, [], ◌∷◌, ◌++◌, map, codes, Some, ℤ}
 use Rattle.std.specs.List.{AllZip}
 use Rattle.profile.specs.events.Properties.{Says, SomeLine}
 use Rattle.profile.specs.text.Values.{SpellsLocal}
@@ -18,7 +18,7 @@ use Rattle.cal_doors.specs.declared.rule.EndingRule.{EndingRule}
 use Rattle.cal_doors.specs.declared.rule.PartRule.{PartRule}
 use Rattle.cal_doors.specs.declared.rule.PartRule.TheVariants.{Yearly, Listed}
 use Rattle.cal_doors.specs.declared.rule.Last.{Last}
-use Rattle.cal_doors.specs.declared.rule.Last.TheVariants.{Never, Before, On}
+use Rattle.cal_doors.specs.declared.rule.Last.TheVariants.{Never, Before, Far, On}
 
 -- what a rule and its end represent
 abbrev pub ending_of : EndingRule → texts.EndingRule
@@ -37,18 +37,21 @@ SpellsNoRuleOf start from text = (o : Observance) → HasStart start from o → 
 abbrev pub IsLastFrom : ℤ → ℤ → End → Last → Type 0
 IsLastFrom start from end Never = (o : Observance) (day : ℕ) → IsLastOnsetDay o end day → ⊥
 IsLastFrom start from end Before = (o : Observance) → HasStart start from o → (day : ℕ) × IsLastOnsetDay o end day × (day < o.day)
-IsLastFrom start from end (On last) = (o : Observance) → HasStart start from o → IsLastOnsetDay o end (day_index last)
+IsLastFrom start from end Far = (o : Observance) → HasStart start from o → (day : ℕ) × IsLastOnsetDay o end day × (o.day + 14_610 < day)
+IsLastFrom start from end (On last) = (o : Observance) → HasStart start from o → IsLastOnsetDay o end (day_index last) × (day_index last ≤ o.day + 14_610)
 
 -- up to then these are the days of a rule from one on
 abbrev pub AreDaysTo : RuleText → ℕ → Last → List ℕ → Type 0
 AreDaysTo rule first Never days = ⊥
 AreDaysTo rule first Before days = days ≡ []
+AreDaysTo rule first Far days = ⊥
 AreDaysTo rule first (On last) days = AreDaysOf rule first (day_index last) days
 
 -- they don't end, or are too many
 abbrev pub AreNoDaysTo : RuleText → ℕ → Last → Type 0
 AreNoDaysTo rule first Never = Unit {0}
 AreNoDaysTo rule first Before = ⊥
+AreNoDaysTo rule first Far = Unit {0}
 AreNoDaysTo rule first (On last) = AreMany rule first (day_index last)
 
 -- a part has this DTSTART and these offsets

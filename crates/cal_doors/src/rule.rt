@@ -15,7 +15,7 @@ ghost use Rattle.cal_doors.specs.Listed.{AreDaysOf, AreMany};
 ghost use Rattle.cal_doors.specs.Reading.{SpellsRuleOf, SpellsNoRuleOf, IsLastFrom, AreDaysTo, AreNoDaysTo};
 
 use crate::end::{End, YearDay};
-use cal_days::{Day, LAST_INDEX};
+use cal_days::Day;
 use cal_rules::{Rule, RuleText, Until, one_rule};
 use cal_zones::day_named;
 use ical_lines::{Fault, Refusal};
@@ -24,6 +24,9 @@ use std::alloc::{AllocError, Global};
 
 /// The most days of a rule that are listed; this profile's choice.
 const MOST_DAYS: usize = 200;
+
+/// The most days from DTSTART to the last of them, 40 years; this profile's choice. A rule that has no day is looked through up to there.
+const MOST_SPAN: u32 = 14_610;
 
 /// What the RRULE of a part says.
 #[derive(Drop)]
@@ -42,7 +45,7 @@ pub(crate) struct EndingRule {
 }
 
 /// The rule that a text spells, in a part with this DTSTART and this TZOFFSETFROM. Refused with 40 where it spells none, where a date ends it, and where it
-/// isn't of one day a year, and doesn't end or has more than 200 days.
+/// isn't of one day a year, and UNTIL doesn't end it within 40 years or it has more than 200 days.
 pub(crate) fn read_rule(
     alloc: Global,
     text: &str,
@@ -121,10 +124,12 @@ fn last_instant(until: &Until, from: UtcOffset) -> Option<i64>
 /// Up to when the onsets of a rule come.
 #[derive(Clone, Copy)]
 enum Last {
-    /// They don't end.
+    /// UNTIL doesn't end them.
     Never,
     /// None comes: the end is before DTSTART.
     Before,
+    /// More than 40 years from DTSTART on.
+    Far,
     /// Up to this day.
     On(Day),
 }
@@ -136,7 +141,7 @@ fn last_day(end: End, start: LocalTime, from: UtcOffset) -> Last
 {
     match end {
         End::Never => Last::Never,
-        End::After(_) => Last::On(Day::at_index(LAST_INDEX).unwrap()),
+        End::After(_) => Last::Never,
         End::At(until) => last_until(until, start, from),
     }
 }
@@ -153,10 +158,13 @@ fn last_until(until: i64, start: LocalTime, from: UtcOffset) -> Last
         return Last::Before;
     }
     let days = (end.abs_diff(begin) / DAY_SECONDS as u64) as u32;
+    if days > MOST_SPAN {
+        return Last::Far;
+    }
     Last::On(Day::at_index(first.index() + days).unwrap())
 }
 
-/// The days of a rule from one on, up to the last. None where it doesn't end, and where there are more than 200.
+/// The days of a rule from one on, up to the last. None where UNTIL doesn't end it within 40 years, and where there are more than 200.
 fn days_of(
     alloc: Global,
     rule: RuleText,
@@ -167,7 +175,7 @@ fn days_of(
         (λ days. AreDaysTo rule (day_index first) last (map day_index days.items))) }
 {
     match last {
-        Last::Never => Ok(None),
+        Last::Never | Last::Far => Ok(None),
         Last::Before => Ok(Some(Vec::new(alloc))),
         Last::On(last) => listed_days(alloc, rule, first, last),
     }

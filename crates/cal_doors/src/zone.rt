@@ -36,7 +36,7 @@ impl GeneralZone {
     /// The zone that a VTIMEZONE says: the runs of its parts, in their order (RFC 5545 3.6.5). Refused with 11 where a DTSTART is no local time,
     /// with 13 where an offset is none; else with 40: where there is no part, where DTSTART, TZOFFSETFROM or TZOFFSETTO is missing or occurs
     /// twice, where DTSTART is in UTC or in a zone, where an RDATE isn't of local times, and where RRULE occurs twice, is ended by a date, or isn't of
-    /// one day a year and doesn't end or has more than 200 days. Fails also when out of memory.
+    /// one day a year and UNTIL doesn't end it within 40 years of DTSTART or it has more than 200 days. Fails also when out of memory.
     pub fn read(alloc: Global, zone: &Component) -> Result<GeneralZone, Fault>
         ensures says { IfOk result (λ z. SaysGeneralZone (tree_of zone.now) (general_of z)) }
         ensures fault { IfErr result (RefusesBy (GeneralZoneFault (tree_of zone.now))) }

@@ -1,12 +1,12 @@
 -- VTIMEZONEs in general: which runs of onsets their lines say, and what can be wrong with them (RFC 5545 3.6.5).
 -- A part of a VTIMEZONE, STANDARD or DAYLIGHT, is its content lines here.
-use Rattle.std.specs.Prelude.{◌≡◌, ◌↔◌, ℕ, ◌<◌, ◌≤◌, true, ◌==◌, Contains, List, [], ◌∷◌, ◌++◌, length, map, codes, Option, Some, None, ℤ, ◌+ℤ◌, ◌-ℤ◌, ◌≤ℤ◌}
+use Rattle.std.specs.Prelude.{◌≡◌, ◌↔◌, ℕ, ◌+◌, ◌<◌, ◌≤◌, true, ◌==◌, Contains, List, [], ◌∷◌, ◌++◌, length, map, codes, Option, Some, None, ℤ, ◌+ℤ◌, ◌-ℤ◌, ◌≤ℤ◌}
 use Rattle.std.specs.List.{AllZip, flat_map, slice_split}
 use Rattle.profile.specs.text.Lines.{line_value, line_param}
 use Rattle.profile.specs.text.Trees.{Tree}
 use Rattle.profile.specs.text.Values.{SpellsLocal}
 use Rattle.profile.specs.events.Properties.{Says, SomeLine, IsMissing, OccursMoreThanOnce, lines_named, is_date_time}
-use Rattle.profile.specs.series.Rules.{RuleText, Until, UntilDay, UntilLocal, UntilInstant, on_day_of_start, rule_of, rule_days_from, last_rule_day}
+use Rattle.profile.specs.series.Rules.{RuleText, Until, UntilDay, UntilLocal, UntilInstant, on_day_of_start, rule_of, rule_days_from}
 use Rattle.profile.specs.series.RuleTexts.{SpellsRule}
 use Rattle.profile.specs.series.Zones.{Observance, local_time}
 use Rattle.profile.specs.series.ZoneTexts.{parts_by, is_part, IsLocalLine, IsOffsetLine, YearRule, year_pattern, is_one_day, time_names, IsFixedLine, IsNoLocalLine, IsNoOffsetLine}
@@ -85,13 +85,14 @@ pub record SpellsEnding (o : Observance) (text : List ℕ) (r : EndingRule) : Ty
 abbrev pub IsEndingLine : Observance → List ℕ → EndingRule → Type 0
 IsEndingLine o line r = SpellsEnding o (line_value line) r
 
--- the last day on which an end allows an onset at the second of DTSTART, read with TZOFFSETFROM. One that never comes allows no last day
+-- the last day on which UNTIL allows an onset at the second of DTSTART, read with TZOFFSETFROM. Another end allows none here
 abbrev pub IsLastOnsetDay : Observance → End → ℕ → Type 0
 IsLastOnsetDay o Never last = ⊥
-IsLastOnsetDay o (AfterCount count) last = last ≡ last_rule_day
+IsLastOnsetDay o (AfterCount count) last = ⊥
 IsLastOnsetDay o (AtInstant until) last = (day : ℕ) → (local_time day o.second ≤ℤ (until +ℤ o.offset_from)) ↔ (day ≤ last)
 
--- the text is a rule that ends, of whatever form, and these are its days from DTSTART on (RFC 5545 3.3.10), at most 200, this profile's choice
+-- the text is a rule that UNTIL ends, of whatever form, and these are its days from DTSTART on (RFC 5545 3.3.10): at most 200, and over at most
+-- 40 years, this profile's choice
 pub record SpellsDays (o : Observance) (text : List ℕ) (days : List ℕ) : Type 0 where
   pub rule : RuleText
   pub spelled : SpellsRule text rule
@@ -99,6 +100,7 @@ pub record SpellsDays (o : Observance) (text : List ℕ) (days : List ℕ) : Typ
   pub ends : IsEndOf o.offset_from rule.count rule.until end
   pub last : ℕ
   pub allowed : IsLastOnsetDay o end last
+  pub near : last ≤ o.day + 14_610
   pub listed : days ≡ rule_days_from (rule_of (on_day_of_start o.day rule) o.day last) o.day
   pub few : length days ≤ 200
 
@@ -144,7 +146,7 @@ SaysGeneralZone t runs = PartsSayRuns (parts_by is_part t) runs
 abbrev pub IsNoDatesLine : List ℕ → Type 0
 IsNoDatesLine line = (dates : List ℤ) → IsDatesLine line dates → ⊥
 
--- the text spells no rule, or one that a date ends; or it isn't of one day a year, and doesn't end or has more days than are listed
+-- the text spells no rule, or one that a date ends; or it isn't of one day a year, and UNTIL doesn't end it soon, or it has more days than are listed
 abbrev pub SpellsNoOnsets : Observance → List ℕ → Type 0
 SpellsNoOnsets o text = ((r : EndingRule) → SpellsEnding o text r → ⊥) × ((days : List ℕ) → SpellsDays o text days → ⊥)
 
