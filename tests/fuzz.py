@@ -548,6 +548,8 @@ def followed_up(command, case, runner, ended):
         (runner.folder / "calendar").write_bytes(ended.output)
         (runner.folder / "certificate").write_bytes(certificate.output)
         again = runner.run(["check", "calendar", "certificate", case.words[1]])
+        if again.status is None:
+            return again, "the checker isn't done in time"
         if (certificate.status, again.status, again.output) != (0, 0, b"yes\n"):
             return again, "what is kept doesn't pass"
     if command == "box":
