@@ -6,3 +6,5 @@ pub mod Worlds
 pub mod Schedules
 -- folders of messages and of answers, and what a stop may leave of them
 pub mod Folders
+-- several boxes that share the rooms and organisers of one
+pub mod Divisions
