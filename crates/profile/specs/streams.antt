@@ -8,3 +8,5 @@ pub mod Schedules
 pub mod Folders
 -- several boxes that share the rooms and organisers of one
 pub mod Divisions
+-- what became of each object, for who reads a report
+pub mod Reports
