@@ -8,8 +8,8 @@ use ical_tree::{Component, read_object};
 use ical_values::Address;
 use sched_box::{DeviceReader, DeviceWriter, Input, Output};
 use sched_cli::commands::{KeptText, run_keep, run_serve};
-use sched_cli::status::report_read;
-use sched_cli::{Tally, WayBack, run_adapt, run_returned, run_serve_report};
+use sched_cli::status::{DEVICE, DONE, report_read};
+use sched_cli::{Log, Tally, WayBack, run_adapt, run_returned, run_serve_report};
 use sched_devices::DiskFolder;
 use sched_doors::{AdaptedInbox, Door};
 use std::alloc::Global;
@@ -155,7 +155,8 @@ fn serve_behind<R: Runtime + AllocGlobal, I: Input + Drop>(
     };
     let mut writer = DeviceWriter::new(io::writer(rt));
     let status = if report {
-        run_serve_report(alloc, door, &mut Tally::new(writer), &mut said)
+        let mut log = Log::new(alloc, DeviceWriter::new(ErrorPrinter { to: rt }));
+        run_serve_report(alloc, door, &mut Tally::new(writer), &mut log, &mut said)
     } else {
         run_serve(alloc, door, &mut writer, &mut said)
     };
@@ -188,7 +189,9 @@ fn say_at_end<R: Runtime + AllocGlobal, I: Input + Drop>(
     if door.is_out_of_memory() {
         return no_memory(rt);
     }
-    // Where standard error fails, nobody is left to be told.
-    let _ = DeviceWriter::new(ErrorPrinter { to: rt }).put(said);
-    status
+    match DeviceWriter::new(ErrorPrinter { to: rt }).put(said) {
+        Err(_) if status == DONE => DEVICE,
+        // Where standard error fails too, nobody is left to be told.
+        _ => status,
+    }
 }

@@ -12,7 +12,8 @@ use sched_box::{DeviceReader, DeviceWriter, Output};
 use sched_cli::commands::{KeptText, run_check, run_keep, run_serve};
 use sched_cli::status::{USAGE, report_device, report_memory, report_read, report_too_long};
 use sched_cli::{
-    Tally, run_expand, run_explain, run_explain_object, run_folders, run_serve_report,
+    Log, Tally, run_expand, run_explain, run_explain_object, run_folders, run_folders_report,
+    run_serve_report,
 };
 use sched_devices::{DiskFolder, Folder};
 use std::alloc::Global;
@@ -152,8 +153,16 @@ fn invoke<R: Runtime + AllocGlobal>(
             config,
             inbox,
             outbox,
+            report,
             reading,
-        } => invoke_box(rt, alloc, stderr, config, inbox, outbox, reading),
+        } => {
+            let folders = FolderWords {
+                inbox,
+                outbox,
+                report,
+            };
+            invoke_box(rt, alloc, stderr, config, folders, reading)
+        }
     }
 }
 
@@ -194,7 +203,14 @@ fn invoke_serve<R: Runtime + AllocGlobal>(
     };
     let mut writer = DeviceWriter::new(io::writer(rt));
     if report {
-        return run_serve_report(alloc, &mut reader, &mut Tally::new(writer), &mut errors);
+        let mut log = Log::new(alloc, DeviceWriter::new(ErrorPrinter { to: rt }));
+        return run_serve_report(
+            alloc,
+            &mut reader,
+            &mut Tally::new(writer),
+            &mut log,
+            &mut errors,
+        );
     }
     run_serve(alloc, &mut reader, &mut writer, &mut errors)
 }
@@ -331,11 +347,37 @@ fn invoke_explain_object<R: Runtime + AllocGlobal>(rt: &R, alloc: Global) -> u8 
     }
 }
 
+/// The number in a word, which may be a line that says it: `REFUSED;OBJECT=3:43`, `roombox: refused 43` or `no 82`.
+fn number_of(word: &str) -> &str {
+    let word = word.trim_ascii();
+    if let Some(rest) = word.strip_prefix("REFUSED;OBJECT=") {
+        return match rest.split_once(':') {
+            Some((_, number)) => number,
+            None => rest,
+        };
+    }
+    if let Some(number) = word.strip_prefix("roombox: refused ") {
+        return number;
+    }
+    match word.strip_prefix("no ") {
+        Some(rest) => first_word(rest),
+        None => word,
+    }
+}
+
+/// What comes before a blank.
+fn first_word(text: &str) -> &str {
+    match text.split_once(' ') {
+        Some((word, _)) => word,
+        None => text,
+    }
+}
+
 /// Says what the number of a refusal means; a usage fault where nothing has that number.
 fn invoke_explain<R: Runtime + AllocGlobal>(rt: &R, alloc: Global, word: &str) -> u8 {
     let mut errors = DeviceWriter::new(ErrorPrinter { to: rt });
     let mut writer = DeviceWriter::new(io::writer(rt));
-    let status = match word.parse::<u8>() {
+    let status = match number_of(word).parse::<u8>() {
         Ok(number) => run_explain(number, &mut writer, &mut errors),
         Err(_) => USAGE,
     };
@@ -351,8 +393,7 @@ fn invoke_box<R: Runtime + AllocGlobal>(
     alloc: Global,
     stderr: Stderr,
     config: &str,
-    inbox: &str,
-    outbox: &str,
+    words: FolderWords<'_>,
     reading: Reading<'_>,
 ) -> u8 {
     let config = match read_front(rt, alloc, config, CONFIG_OCTETS) {
@@ -363,14 +404,23 @@ fn invoke_box<R: Runtime + AllocGlobal>(
     };
     let folders = Folders {
         config: config.as_slice(),
-        inbox,
-        outbox,
+        inbox: words.inbox,
+        outbox: words.outbox,
+        report: words.report,
         is_watched: stderr.is_terminal(),
     };
     match reading {
-        Reading::Plain => answer_files(rt, alloc, folders, DiskFolder::new(rt, inbox)),
+        Reading::Plain => answer_files(rt, alloc, folders, DiskFolder::new(rt, words.inbox)),
         Reading::Adapted(zones) => run_behind(rt, alloc, zones, Work::Files(folders)),
     }
+}
+
+/// The folders that the words of `box` name.
+#[derive(Clone, Copy)]
+struct FolderWords<'a> {
+    inbox: &'a str,
+    outbox: &'a str,
+    report: bool,
 }
 
 /// What `box` works on.
@@ -379,6 +429,8 @@ pub(crate) struct Folders<'a> {
     pub(crate) config: &'a [u8],
     pub(crate) inbox: &'a str,
     pub(crate) outbox: &'a str,
+    /// It is said what came to nothing.
+    pub(crate) report: bool,
     /// Someone watches how far it is.
     pub(crate) is_watched: bool,
 }
@@ -390,14 +442,34 @@ pub(crate) fn answer_files<R: Runtime + AllocGlobal, I: Folder + Drop>(
     folders: Folders<'_>,
     inbox: I,
 ) -> u8 {
-    let mut errors = DeviceWriter::new(ErrorPrinter { to: rt });
-    let mut outbox = DiskFolder::new(rt, folders.outbox);
     if folders.is_watched {
-        let mut shown = Progress::new(rt, inbox);
-        return run_folders(alloc, folders.config, &mut shown, &mut outbox, &mut errors);
+        return answer_inbox(rt, alloc, folders, &mut Progress::new(rt, inbox));
     }
     let mut inbox = inbox;
-    run_folders(alloc, folders.config, &mut inbox, &mut outbox, &mut errors)
+    answer_inbox(rt, alloc, folders, &mut inbox)
+}
+
+/// Answers them, and says what came to nothing where that is wanted.
+fn answer_inbox<R: Runtime + AllocGlobal, I: Folder>(
+    rt: &R,
+    alloc: Global,
+    folders: Folders<'_>,
+    inbox: &mut I,
+) -> u8 {
+    let mut errors = DeviceWriter::new(ErrorPrinter { to: rt });
+    let mut outbox = DiskFolder::new(rt, folders.outbox);
+    if folders.report {
+        let mut log = Log::new(alloc, DeviceWriter::new(ErrorPrinter { to: rt }));
+        return run_folders_report(
+            alloc,
+            folders.config,
+            inbox,
+            &mut outbox,
+            &mut log,
+            &mut errors,
+        );
+    }
+    run_folders(alloc, folders.config, inbox, &mut outbox, &mut errors)
 }
 
 pub(crate) fn report_file<E: Output>(errors: &mut E, fault: FileFault) -> u8 {
