@@ -253,7 +253,8 @@ const READABLE_HELP: &str = "Make objects readable on their way in, as `roombox 
 
 const ZONES_HELP: &str = "The file of VTIMEZONEs for names without one";
 
-const REPORT_HELP: &str = "Say on standard error which objects came to nothing and why; at the end how many were refused, by number";
+const REPORT_HELP: &str =
+    "Say on standard error which objects came to nothing and why; at the end how many were refused, by number";
 
 const BOX_REPORT_HELP: &str =
     "Say on standard error which objects of files that weren't answered before came to nothing, and why";

@@ -393,13 +393,5 @@ pub fn run_box_telling<I: Folder, O: Folder, J: Journal>(
     let files = message_files(alloc, inbox)?;
     let theirs = sorted_names(alloc, outbox)?;
     let mut books = Books::new(alloc, config)?;
-    answer_all(
-        alloc,
-        inbox,
-        outbox,
-        &mut books,
-        &files,
-        &theirs,
-        journal,
-    )
+    answer_all(alloc, inbox, outbox, &mut books, &files, &theirs, journal)
 }

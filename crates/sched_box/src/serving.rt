@@ -123,15 +123,7 @@ fn serve_telling<R: Input, W: Output, J: Journal>(
         (record { input = R.remaining reader.old; left = R.remaining reader.new; output = W.contents writer.old; written = W.contents writer.new })) }
 {
     let mut books = Books::new(alloc, config)?;
-    serve_objects(
-        alloc,
-        &mut books,
-        reader,
-        writer,
-        now,
-        MOST_OCTETS,
-        journal,
-    )
+    serve_objects(alloc, &mut books, reader, writer, now, MOST_OCTETS, journal)
 }
 
 /// What a room keeps after the same objects: its calendar and its certificate, for which the checker says yes.

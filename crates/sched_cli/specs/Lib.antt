@@ -3,6 +3,7 @@ pub mod Agendas
 pub mod Blame
 pub mod Commands
 pub mod Diagnosis
+pub mod EventFlaws
 pub mod Explained
 pub mod Expanding
 pub mod InTheWay

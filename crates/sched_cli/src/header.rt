@@ -1,9 +1,7 @@
 //! A lenient look at an object: METHOD, UID and ORGANIZER by the first line of each name, whether the object is read or not.
 
+use crate::shown::MOST_SHOWN;
 use std::alloc::{AllocError, Global};
-
-/// The most octets of a value that are shown.
-pub(crate) const MOST_SHOWN: usize = 200;
 
 /// The values of the first line of each name, each as far as it is shown and one octet more; empty where there is none.
 #[derive(Drop)]

@@ -6,6 +6,7 @@ pub mod agenda;
 mod blame;
 pub mod commands;
 pub mod diagnosis;
+mod event_flaw;
 pub mod expand;
 pub mod explain;
 pub mod folders;
@@ -13,8 +14,10 @@ mod header;
 pub mod log;
 mod obstacle;
 pub mod place;
+pub mod preamble;
 mod refused_zone;
 mod returned;
+mod shown;
 pub mod status;
 pub mod tally;
 

@@ -5,7 +5,8 @@ ghost use Rattle.std.specs.List.{list_all};
 ghost use Rattle.sched_box.specs.Journal.{fate_said};
 ghost use Rattle.sched_cli.specs.Logging.{IsObjectLine, LogTells, fate_words, is_shown, is_taken};
 
-use crate::header::{Header, MOST_SHOWN};
+use crate::header::Header;
+use crate::shown::{append_cut, append_shown};
 use itoa::Buffer;
 use sched_box::{Fate, Journal, Output, WriteFault};
 use std::alloc::{AllocError, Global};
@@ -171,45 +172,5 @@ fn append_value(line: &mut Vec<u8>, before: &[u8], value: &[u8]) -> Result<(), A
         return Ok(());
     }
     line.extend_from_slice(before)?;
-    let shown = &value[..value.len().min(MOST_SHOWN)];
-    append_shown(line, shown)?;
-    if value.len() > MOST_SHOWN {
-        line.extend_from_slice(b"..")?;
-    }
-    Ok(())
-}
-
-/// Octets as printable ASCII: every other one, and `%`, as `%` and two hexadecimal digits.
-fn append_shown(line: &mut Vec<u8>, octets: &[u8]) -> Result<(), AllocError>
-    ensures { OnOk result ((text : List ℕ) × (list_all is_shown text ≡ true) × (line.new.items ≡ line.old.items ++ text)) }
-{
-    for octet in octets {
-        append_octet(line, *octet)?;
-    }
-    Ok(())
-}
-
-fn append_octet(line: &mut Vec<u8>, octet: u8) -> Result<(), AllocError>
-    ensures { OnOk result ((text : List ℕ) × (list_all is_shown text ≡ true) × (line.new.items ≡ line.old.items ++ text)) }
-{
-    if (b' '..=b'~').contains(&octet) && octet != b'%' {
-        line.push(octet)?;
-        return Ok(());
-    }
-    line.push(b'%')?;
-    line.push(digit(octet / 16))?;
-    line.push(digit(octet % 16))?;
-    Ok(())
-}
-
-/// The hexadecimal digit of a number below 16.
-fn digit(value: u8) -> u8
-    requires { value < 16 }
-    ensures { is_shown result ≡ true }
-{
-    if value < 10 {
-        b'0' + value
-    } else {
-        b'A' + (value - 10)
-    }
+    append_cut(line, value)
 }
