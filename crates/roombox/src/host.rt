@@ -224,7 +224,7 @@ fn invoke_serve<R: Runtime + AllocGlobal>(
 }
 
 /// Serves, and says what came to nothing.
-fn serve_reporting<R: Runtime + AllocGlobal, I: Input, W: Output>(
+fn serve_reporting<R: Runtime + AllocGlobal, I: Input, W: Output + Drop>(
     rt: &R,
     alloc: Global,
     reader: &mut I,

@@ -1,5 +1,5 @@
 -- What became of the objects so far, and who was told of it.
-use Rattle.std.proofs.Common.{◌≡◌, ◌≤◌, ◌+◌, ◌∷◌, ◌++◌, ◌∙◌, ℕ, ℤ, Bool, true, false, List, [], length, inl, inr, refl, sym, ap, subst, arith}
+use Rattle.std.proofs.Common.{◌≡◌, ◌≤◌, ◌+◌, ◌∷◌, ◌++◌, ◌∙◌, ℕ, ℤ, Bool, true, false, if◌then◌else◌, List, [], length, inl, inr, refl, sym, ap, subst, arith}
 use Rattle.std.proofs.lemmas.List.{append_assoc, append-nil}
 use Rattle.profile.specs.events.Messages.{Message}
 use Rattle.profile.specs.rooms.Rooms.{Kind}

@@ -1,6 +1,6 @@
 //! Which property of a VEVENT is missing, or there twice, where an object is refused for that (RFC 5545 3.6.1).
 
-ghost use Rattle.std.specs.Prelude.{◌≡◌, ◌×◌, None, IfOk, IfSome};
+ghost use Rattle.std.specs.Prelude.{◌≡◌, None, IfOk, IfSome};
 ghost use Rattle.ical_tree.specs.Tree.{component_children, component_lines};
 ghost use Rattle.sched_cli.specs.EventFlaws.{FlawIn, IsFlaw, IsFlawIn, IsFlawPlaced};
 ghost use Rattle.sched_cli.specs.InTheWay.{sought_line};

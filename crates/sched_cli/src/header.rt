@@ -55,24 +55,34 @@ impl Header {
         }
         self.begun = Begun::Nothing;
         if let Some(value) = value_named(line, b"METHOD") {
-            return self.begin(Begun::Method, self.method.is_empty(), value);
+            return self.begin(Begun::Method, value);
         }
         if let Some(value) = value_named(line, b"UID") {
-            return self.begin(Begun::Uid, self.uid.is_empty(), value);
+            return self.begin(Begun::Uid, value);
         }
         if let Some(value) = value_named(line, b"ORGANIZER") {
-            return self.begin(Begun::Organizer, self.organizer.is_empty(), value);
+            return self.begin(Begun::Organizer, value);
         }
         Ok(())
     }
 
-    /// Begins a value, if it is the first of its name.
-    fn begin(&mut self, begun: Begun, is_first: bool, value: &[u8]) -> Result<(), AllocError> {
-        if !is_first {
+    /// Begins a value, if it is the first of its name that isn't empty.
+    fn begin(&mut self, begun: Begun, value: &[u8]) -> Result<(), AllocError> {
+        if self.has(begun) {
             return Ok(());
         }
         self.begun = begun;
         self.extend(value)
+    }
+
+    /// Whether a value is known.
+    fn has(&self, begun: Begun) -> bool {
+        match begun {
+            Begun::Nothing => true,
+            Begun::Method => !self.method().is_empty(),
+            Begun::Uid => !self.uid().is_empty(),
+            Begun::Organizer => !self.organizer().is_empty(),
+        }
     }
 
     /// Goes on with the value that has begun.

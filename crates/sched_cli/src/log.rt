@@ -1,6 +1,6 @@
 //! `--report`: says of each object that came to nothing what became of it, in a line of its own.
 
-ghost use Rattle.std.specs.Prelude.{◌≡◌, ◌×◌, ◌++◌, ◌<◌, ℕ, List, Option, None, decimal, codes, true, false, IfOk, OnOk};
+ghost use Rattle.std.specs.Prelude.{◌≡◌, ◌++◌, ◌<◌, ℕ, List, Option, None, decimal, codes, true, false, IfOk, OnOk};
 ghost use Rattle.std.specs.List.{list_all};
 ghost use Rattle.sched_box.specs.Journal.{fate_said};
 ghost use Rattle.sched_cli.specs.Logging.{IsObjectLine, LogTells, fate_words, is_shown, is_taken};
@@ -160,7 +160,8 @@ fn append_header(alloc: Global, line: &mut Vec<u8>, octets: &[u8]) -> Result<(),
     let header = Header::of(alloc, octets)?;
     append_value(line, b", ", header.method())?;
     append_value(line, b", UID ", header.uid())?;
-    append_value(line, b", ORGANIZER ", header.organizer())
+    append_value(line, b", ORGANIZER ", header.organizer())?;
+    Ok(())
 }
 
 /// A value behind what names it, where there is one. At most 200 octets of it are shown, and `..` behind them.

@@ -341,7 +341,7 @@ pub fn preamble_in(octets: &[u8]) -> &[u8] {
     let mut length: usize = 0;
     for whole in octets.split(|octet| *octet == b'\n') {
         length = length.saturating_add(whole.len()).saturating_add(1);
-        if whole.is_empty() || whole == b"\r" {
+        if matches!(whole, [] | [b'\r']) {
             break;
         }
     }

@@ -1,6 +1,6 @@
 //! Octets of others as they are shown on standard error: in printable ASCII, on one line, and not too many.
 
-ghost use Rattle.std.specs.Prelude.{◌≡◌, ◌×◌, ◌++◌, ◌<◌, ℕ, List, true, OnOk};
+ghost use Rattle.std.specs.Prelude.{◌≡◌, ◌++◌, ◌<◌, ℕ, List, true, OnOk};
 ghost use Rattle.std.specs.List.{list_all};
 ghost use Rattle.sched_cli.specs.Logging.{is_shown};
 
@@ -13,11 +13,11 @@ pub(crate) const MOST_SHOWN: usize = 200;
 pub(crate) fn append_cut(line: &mut Vec<u8>, octets: &[u8]) -> Result<(), AllocError>
     ensures { OnOk result ((text : List ℕ) × (list_all is_shown text ≡ true) × (line.new.items ≡ line.old.items ++ text)) }
 {
-    if octets.len() <= MOST_SHOWN {
-        return append_shown(line, octets);
+    let front = &octets[..octets.len().min(MOST_SHOWN)];
+    append_shown(line, front)?;
+    if octets.len() > MOST_SHOWN {
+        line.extend_from_slice(b"..")?;
     }
-    append_shown(line, &octets[..MOST_SHOWN])?;
-    line.extend_from_slice(b"..")?;
     Ok(())
 }
 

@@ -1,6 +1,6 @@
 //! `serve --report`: counts the REFUSED lines as they are written, by their numbers.
 
-ghost use Rattle.std.specs.Prelude.{◌≡◌, ◌×◌, ◌⊎◌, ◌++◌, ℕ, List, Some, None, true, OnOk};
+ghost use Rattle.std.specs.Prelude.{◌≡◌, ◌⊎◌, ◌++◌, ℕ, List, Some, None, true, OnOk};
 ghost use Rattle.sched_box.specs.Serving.{TellsStream};
 ghost use Rattle.sched_box.specs.declared.serving.ServeReport.{ServeReport as SaidReport};
 ghost use Rattle.sched_devices.specs.declared.output.WriteFault.TheVariants as write;
