@@ -347,8 +347,8 @@ fn last_local(line: Line<'_>) -> i64
     last
 }
 
-/// Whether the values of a line are times.
-pub(crate) fn is_time_line(line: Line<'_>) -> bool
+/// Whether the values of a line are times: whether it is a DTSTART, DTEND, RECURRENCE-ID, RDATE or EXDATE (RFC 5545 3.8.2, 3.8.4.4, 3.8.5).
+pub fn is_time_line(line: Line<'_>) -> bool
     ensures { result ≡ is_time_line (line_text line.entry) }
 {
     line.is_named("DTSTART")

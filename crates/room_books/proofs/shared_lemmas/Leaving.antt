@@ -1,11 +1,11 @@
 -- What is gone is found by binary search, and is no longer in the way: what the timeline has beside it stays confirmed.
 -- Cited by busy_beside of decide, busy_beside_series of decide, decide of decide, is_among of gone, sort of gone, Room::answers_after of room and 4 more.
-use Rattle.std.proofs.Common.{◌≡◌, ◌≢◌, ◌∙◌, ℕ, ◌+◌, ◌<◌, ◌≤◌, ℤ, ◌≤ℤ◌, Bool, true, false, ◌&&◌, List, ◌++◌, length, get_or, inl, inr, Option, None, Some, Result, Ok, Err, refl, sym, ap, subst, arith, length-append}
+use Rattle.std.proofs.Common.{◌≡◌, ◌∙◌, ℕ, ◌+◌, ◌≤◌, ℤ, ◌≤ℤ◌, Bool, true, false, ◌&&◌, List, ◌++◌, length, get_or, inl, inr, Option, None, Some, Result, Ok, Err, refl, sym, ap, subst, arith, length-append}
 use Rattle.std.specs.Prelude.{slice_get, ◌==◌}
 use Rattle.std.specs.declared.cmp.Ordering.TheVariants.{Equal}
 use Rattle.std.specs.Cmp.{IsTotalOrder}
 use Rattle.std.specs.FinMap.{int_cmp-IsAntisymmetric}
-use Rattle.std.specs.List.{Contains, AllPairs, IsDistinct, position}
+use Rattle.std.specs.List.{Contains, IsDistinct, position}
 use Rattle.std.specs.List.Sorted.{IsPermutation, IsSearchInRange, IsBinarySearchResult, IsSortedByKey}
 use Rattle.std.specs.Map.{lookup, keys_of}
 use Rattle.std.specs.Ordering.{is_eq}
@@ -17,7 +17,7 @@ use Rattle.std.proofs.lemmas.List.Elements.{Contains-append_left, Contains-appen
 use Rattle.std.proofs.lemmas.List.Folds.{list_any_at, list_any_none}
 use Rattle.std.proofs.lemmas.List.Sorted.{searchable_from_sorted, Contains-permutation, IsPermutation-sym, IsPermutation-trans, IsPermutation-append_left, length_permutation}
 use Rattle.itip_order.proofs.Order.{then_equal}
-use Rattle.cal_events.proofs.shared_lemmas.Distinct.{Distinct, distinct_permutation}
+use Rattle.cal_events.proofs.shared_lemmas.Distinct.{pairs_permuted}
 use Rattle.profile.specs.checker.Instances.{Instance}
 use Rattle.cal_events.specs.declared.instance.Single.{Single}
 use Rattle.cal_events.specs.declared.sweep.Span.{Span}
@@ -68,19 +68,7 @@ found_single xs single (Err i) up in_range parted =
       | inr from ↦ same_tie single (get_or xs k d) (ap is_eq (parts.1 k d from lt))
     ]))
 
--- ---- pairs in another order
-
-pub pairs_permuted : {X : Type 0} (R : X → X → Type 0) → ((a b : X) → R a b → R b a) → (xs ys : List X) → IsPermutation xs ys → AllPairs R xs → AllPairs R ys
-pairs_permuted {X} R back xs ys same p =
-    let distinct : Distinct R xs = λ i j d hi hj ne. elim (cases_lt i j) [
-      | inl less ↦ p i j d less hj
-      | inr from ↦ back (get_or xs j d) (get_or xs i d) (p j i d (below i j from ne) hi)
-    ] in
-    let turned = distinct_permutation R xs ys same distinct in
-    λ i j d less within. turned i j d (omega (arith, less, within)) within (λ e. omega (arith, less, e))
-  where
-    below : (i j : ℕ) → j ≤ i → i ≢ j → j < i
-    below i j h n = grind arith
+-- ---- singles in another order
 
 abbrev pub Apart : Single → Single → Type 0
 Apart a b = (t : ℤ) → HaveInstant a.span b.span t → ⊥
