@@ -6,7 +6,7 @@ ghost use Rattle.ical_tree.specs.Tree.{IsObjectOf, component_lines, tree_of};
 ghost use Rattle.profile.specs.text.Lines.{logical_lines};
 ghost use Rattle.profile.specs.series.ZoneTexts.{ZoneFault};
 ghost use Rattle.cal_doors.specs.Named.{AreNamed};
-ghost use Rattle.sched_cli.specs.InTheWay.{IsInTheWay, IsPlaced, IsRefusedAs, NamesRefused, RefusedBy, sought_line};
+ghost use Rattle.sched_cli.specs.InTheWay.{IsInTheWay, IsPlacedInOctets, IsRefusedAs, NamesRefused, RefusedBy, sought_line};
 
 use crate::obstacle::{Obstacle, PartCause, cause_in};
 use crate::place::{Place, Sought, Spot, place_of};
@@ -176,7 +176,7 @@ fn placed(
     zone: usize,
     found: PartCause<'_>,
 ) -> Result<Option<InTheWay>, AllocError>
-    ensures { IfOk result (λ way. IfSome way (IsPlaced octets.now found.entry)) }
+    ensures { IfOk result (λ way. IfSome way (IsPlacedInOctets octets.now found.entry)) }
 {
     let spot = Spot {
         zone,
