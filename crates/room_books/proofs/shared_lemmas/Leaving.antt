@@ -24,7 +24,7 @@ use Rattle.cal_events.specs.declared.sweep.Span.{Span}
 use Rattle.room_books.specs.declared.meeting.MeetingKey.{MeetingKey}
 use Rattle.room_books.specs.declared.kept.Meeting.{Meeting}
 use Rattle.room_books.specs.declared.timeline.Busy.{Busy}
-use Rattle.room_books.specs.Gone.{HaveInstant, AreSeparate, IsParted, IsPartOf, single_cmp, the_single}
+use Rattle.room_books.specs.Gone.{HaveInstant, AreSeparate, IsPartedInto, IsPartOf, single_cmp, the_single}
 use Rattle.room_books.specs.Timeline.{HoldsInstants, busy_in, has_single, is_own_place, is_leaving, same_single, IsSharedIn, IsTimelineOf}
 use Rattle.room_books.specs.Meeting.{same_key, keyed_instance, instance_list, confirmed_at, meeting_singles, singles_by, singles_in, instance_span, others, AreAllApart, IsSpanFree}
 use Rattle.room_books.proofs.shared_lemmas.Pairs.{pairs_from}
@@ -76,19 +76,19 @@ Apart a b = (t : ℤ) → HaveInstant a.span b.span t → ⊥
 pub apart_back : (a b : Single) → Apart a b → Apart b a
 apart_back a b h t have = h t (record { in_first = have.in_second; in_second = have.in_first; before = have.before })
 
-pub parted_separate : (all gone kept : List Single) → IsParted all gone kept → AreSeparate all → AreSeparate (gone ++ kept)
+pub parted_separate : (all gone kept : List Single) → IsPartedInto all gone kept → AreSeparate all → AreSeparate (gone ++ kept)
 parted_separate all gone kept same h = pairs_permuted Apart apart_back all (gone ++ kept) same h
 
-pub kept_separate : (all gone kept : List Single) → IsParted all gone kept → AreSeparate all → AreSeparate kept
+pub kept_separate : (all gone kept : List Single) → IsPartedInto all gone kept → AreSeparate all → AreSeparate kept
 kept_separate all gone kept same h = pairs_from Apart kept (pairs_right Apart gone kept (pairs_to Apart (gone ++ kept) (parted_separate all gone kept same h)))
 
-pub parted_length : (all gone kept : List Single) → IsParted all gone kept → length all ≡ length gone + length kept
+pub parted_length : (all gone kept : List Single) → IsPartedInto all gone kept → length all ≡ length gone + length kept
 parted_length all gone kept same = let n = length_permutation all (gone ++ kept) same in omega (arith, n, length-append gone kept)
 
-pub kept_within : (all gone kept : List Single) → IsParted all gone kept → (s : Single) → Contains kept s → Contains all s
+pub kept_within : (all gone kept : List Single) → IsPartedInto all gone kept → (s : Single) → Contains kept s → Contains all s
 kept_within all gone kept same s c = Contains-permutation (gone ++ kept) all s (IsPermutation-sym all (gone ++ kept) same) (Contains-append_right gone kept s c)
 
-pub parted_part : (all gone kept : List Single) → IsParted all gone kept → IsPartOf kept all
+pub parted_part : (all gone kept : List Single) → IsPartedInto all gone kept → IsPartOf kept all
 parted_part all gone kept same = record {
   within = kept_within all gone kept same;
   shorter = (let n = parted_length all gone kept same in omega (arith, n));
@@ -96,7 +96,7 @@ parted_part all gone kept same = record {
 }
 
 -- the same in the order of those that are gone
-pub parted_sorted : (all gone sorted kept : List Single) → IsPermutation gone sorted → IsParted all gone kept → IsParted all sorted kept
+pub parted_sorted : (all gone sorted kept : List Single) → IsPermutation gone sorted → IsPartedInto all gone kept → IsPartedInto all sorted kept
 parted_sorted all gone sorted kept p same = IsPermutation-trans all (gone ++ kept) (sorted ++ kept) same (IsPermutation-append_left kept gone sorted p)
 
 -- ---- by the timeline
@@ -107,7 +107,7 @@ and_false false = refl
 
 module _ (k : MeetingKey) (es : List (MeetingKey × Meeting)) (distinct : IsDistinct same_key (keys_of es)) (own : Option ℕ) (own_is : own ≡ position (same_key k) (keys_of es))
     (items : List Busy) (timeline : IsTimelineOf (confirmed_at es) items) (apart : AreAllApart es)
-    (gone kept : List Single) (parted : IsParted (singles_by (lookup (same_key k) es)) gone kept) where
+    (gone kept : List Single) (parted : IsPartedInto (singles_by (lookup (same_key k) es)) gone kept) where
   abbrev before : List Single
   before = singles_by (lookup (same_key k) es)
 
