@@ -2,12 +2,12 @@ use Rattle.std.proofs.Common.{◌≡◌, ◌∙◌, Bool, true, false, ℕ, List
 use Rattle.std.proofs.lemmas.Result.{IfOk-weaker}
 use Rattle.ical_lines.specs.Text.{line_text}
 use Rattle.sched_cli.specs.Blame.{IsBlame}
-use Rattle.sched_cli.specs.Searching.{IsAlone, IsBlamed, blame_if, can_misfit}
+use Rattle.sched_cli.specs.Searching.{HoldsIfCertain, IsBlamed, blame_if, can_misfit}
 use Rattle.sched_cli.specs.declared.place.Sought.TheVariants.{Fault}
 use Rattle.sched_cli.proofs.place.Search.blame_fault.Goals as goal
 
 -- a test that says so of a line alone
-alone : (P : Type 0) (b : Bool) → (b ≡ true → P) → IsAlone P (blame_if b)
+alone : (P : Type 0) (b : Bool) → (b ≡ true → P) → HoldsIfCertain P (blame_if b)
 alone P true says = says refl
 alone P false says = tt
 
