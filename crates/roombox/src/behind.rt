@@ -124,7 +124,9 @@ fn run_stream<R: Runtime + AllocGlobal>(
     listed: Option<&Component<'_>>,
     work: StreamWork<'_>,
 ) -> u8 {
-    let mut input = WatchedReader::new(alloc, rt.reader());
+    let Ok(mut input) = WatchedReader::new(alloc, rt.reader()) else {
+        return no_memory(rt);
+    };
     let mut output = WatchedWriter::new(io::writer(rt));
     let status = match DeviceReader::new(alloc, &mut input) {
         Ok(reader) => {

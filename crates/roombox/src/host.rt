@@ -206,7 +206,9 @@ fn invoke_serve<R: Runtime + AllocGlobal>(
     if let Reading::Adapted(zones) = reading {
         return run_behind(rt, alloc, zones, Work::Stream(StreamWork::Serve { report }));
     }
-    let mut input = WatchedReader::new(alloc, rt.reader());
+    let Ok(mut input) = WatchedReader::new(alloc, rt.reader()) else {
+        return no_memory(rt);
+    };
     let mut output = WatchedWriter::new(io::writer(rt));
     let status = match DeviceReader::new(alloc, &mut input) {
         Ok(mut reader) => {
@@ -256,7 +258,9 @@ fn invoke_keep<R: Runtime + AllocGlobal>(
             Work::Stream(StreamWork::Keep { room, kept }),
         );
     }
-    let mut input = WatchedReader::new(alloc, rt.reader());
+    let Ok(mut input) = WatchedReader::new(alloc, rt.reader()) else {
+        return no_memory(rt);
+    };
     let mut output = WatchedWriter::new(io::writer(rt));
     let status = match DeviceReader::new(alloc, &mut input) {
         Ok(mut reader) => {

@@ -20,12 +20,13 @@ pub(crate) struct WatchedReader<R: Read + Drop> {
 }
 
 impl<R: Read + Drop> WatchedReader<R> {
-    pub(crate) fn new(alloc: Global, device: R) -> WatchedReader<R> {
-        WatchedReader {
+    /// A reader of which nothing was read yet. All that it remembers has its memory from now on.
+    pub(crate) fn new(alloc: Global, device: R) -> Result<WatchedReader<R>, AllocError> {
+        Ok(WatchedReader {
             device,
-            front: Vec::new(alloc),
+            front: Vec::with_capacity(alloc, LONGEST + 1)?,
             kind: None,
-        }
+        })
     }
 
     pub(crate) fn kind(&self) -> Option<ErrorKind> {
@@ -42,7 +43,7 @@ impl<R: Read + Drop> Read for WatchedReader<R> {
         match self.device.read(buffer) {
             Ok(count) => {
                 let room = (LONGEST + 1).saturating_sub(self.front.len());
-                // Where memory for it is refused, the reason isn't said.
+                // there is room for it
                 let _ = self.front.extend_from_slice(&buffer[..count.min(room)]);
                 Ok(count)
             }
