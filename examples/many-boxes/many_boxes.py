@@ -48,6 +48,11 @@ def last_number(stems):
 # ---- give: from a folder into the log
 
 
+def names_of(spool):
+    """The files that wait, in the order in which they are given."""
+    return sorted(name for name in os.listdir(spool) if not name.startswith(".") and "\n" not in name)
+
+
 def batch(spool, names, most):
     """The files that make the next entry, with their octets: as many as fit. One that may run on into the next is an entry alone."""
     taken, size = [], 0
@@ -82,7 +87,7 @@ def give(arguments, engine):
         last, fields = log.last()
         take_away(spool, given(fields))
         while not arguments.until or last < arguments.until:
-            taken = batch(spool, sorted(name for name in os.listdir(spool) if not name.startswith(".")), arguments.files)
+            taken = batch(spool, names_of(spool), arguments.files)
             if not taken:
                 time.sleep(PAUSE)
                 continue
