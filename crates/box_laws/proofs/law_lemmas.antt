@@ -7,3 +7,4 @@ pub mod Runs
 pub mod NewBoxes
 pub mod OneByOne
 pub mod FileByFile
+pub mod Inboxes

@@ -1,6 +1,7 @@
 //! One box, or several that share its rooms and organisers.
 
 ghost use Rattle.profile.specs.streams.Divisions.{AreOneByOne, FilesAreOneByOne, NewBoxesAreOne, SeveralActAsOne};
+ghost use Rattle.box_laws.specs.Inboxes.{InboxesActAsOne};
 
 use itip_messages::one_message;
 
@@ -15,6 +16,8 @@ pub fn several_act_as_one()
     // A division: boxes that have taken nothing keep what one box keeps that hosts all.
     ensures new_boxes { NewBoxesAreOne }
     ensures one { SeveralActAsOne }
+    // Boxes of folders, from nothing: what their outboxes have for the files of an inbox, the outbox of the one may have, joined object by object.
+    ensures inboxes { InboxesActAsOne }
 {
     one_message();
 }
