@@ -1,5 +1,5 @@
 -- Several boxes of folders that are fed the same files, and one that is fed them too.
-use Rattle.std.specs.Prelude.{◌≡◌, ℕ, List, map, All}
+use Rattle.std.specs.Prelude.{◌≡◌, List, map, All}
 use Rattle.std.specs.List.{AllZip, flat_map}
 use Rattle.profile.specs.streams.Divisions.{AreTold, IsDivided, IsDoneByOne, Served, Told}
 use Rattle.profile.specs.streams.Folders.{AnswersFiles, File, MessageFile}

@@ -1,12 +1,11 @@
 -- Two boxes of one room each, and one box of both: that there is such a division, and what the law allows there and what it doesn't.
-use Rattle.std.proofs.Common.{◌≡◌, ◌∙◌, ℕ, ℤ, true, false, List, [], ◌∷◌, ◌++◌, codes, get_or, refl, sym, ap, subst, arith}
+use Rattle.std.proofs.Common.{◌≡◌, ◌∙◌, ℕ, true, false, List, [], ◌∷◌, ◌++◌, codes, get_or, refl, sym, ap, subst, arith}
 use Rattle.std.specs.Prelude.{All}
-use Rattle.std.specs.List.{AllZip}
 use Rattle.std.proofs.lemmas.List.{append-nil}
 use Rattle.std.proofs.lemmas.List.Elements.{All-cons, All-contains, All-nil, Contains-append_right}
 use Rattle.std.proofs.lemmas.List.Sorted.{IsPermutation-append_comm, IsPermutation-refl}
 use Rattle.profile.specs.events.Messages.{Message, SpellsMessage, is_to_rooms}
-use Rattle.profile.specs.streams.Divisions.{Answer, HostsOrganiser, IsDivided, IsJoined, IsOfPieces, IsRefusal, KeepsAll, Piece, Told, by_fault, by_host, by_none, by_rooms}
+use Rattle.profile.specs.streams.Divisions.{Answer, IsDivided, IsJoined, IsRefusal, KeepsAll, Piece, Told, by_fault, by_host, by_none, by_rooms}
 use Rattle.profile.specs.streams.Streams.{Box, Config, Hosted, Takes, in_utc, new_box, refused_line}
 use Rattle.box_laws.proofs.law_lemmas.NewBoxes.{new_boxes}
 

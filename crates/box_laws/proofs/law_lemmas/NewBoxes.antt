@@ -1,12 +1,12 @@
 -- Boxes that have taken nothing: those of a division keep what one box of all rooms and organisers keeps.
-use Rattle.std.proofs.Common.{◌≡◌, ◌≢◌, ◌∙◌, ℕ, List, [], ◌∷◌, ◌++◌, length, map, refl, sym, ap, subst, arith}
+use Rattle.std.proofs.Common.{◌≡◌, ◌≢◌, ◌∙◌, ℕ, List, [], ◌∷◌, ◌++◌, map, refl, sym, ap, subst, arith}
 use Rattle.std.specs.Prelude.{AllPairs, IsPermutation}
 use Rattle.std.specs.List.{flat_map}
 use Rattle.std.proofs.lemmas.List.{length-map, map-append, map-id}
 use Rattle.std.proofs.lemmas.List.Sorted.{IsPermutation-map}
 use Rattle.profile.specs.organisers.Organisers.{empty_organiser}
-use Rattle.profile.specs.streams.Divisions.{IsDivided, KeepsAll, NewBoxesAreOne}
-use Rattle.profile.specs.streams.Streams.{Box, Config, Hosted, HostedOrganiser, new_box, new_room}
+use Rattle.profile.specs.streams.Divisions.{NewBoxesAreOne}
+use Rattle.profile.specs.streams.Streams.{Config, Hosted, HostedOrganiser, new_box, new_room}
 use Rattle.box_laws.proofs.law_lemmas.Lists.{map_map}
 use Rattle.box_laws.proofs.law_lemmas.OrganiserSteps.{organisers_of, rooms_of}
 

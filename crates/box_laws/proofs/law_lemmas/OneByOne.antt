@@ -1,9 +1,9 @@
 -- What is written for the objects of a stream is the answers to each, one behind the other.
-use Rattle.std.proofs.Common.{◌≡◌, ◌∙◌, ℕ, ℤ, ◌+◌, List, [], ◌∷◌, ◌++◌, map, refl, sym, ap, subst, arith}
+use Rattle.std.proofs.Common.{◌≡◌, ◌∙◌, ℕ, ℤ, ◌+◌, List, [], ◌∷◌, ◌++◌, map, refl, sym, ap, subst}
 use Rattle.std.specs.Prelude.{sum}
 use Rattle.std.specs.List.{flat_map}
 use Rattle.std.proofs.lemmas.List.Sums.{sum_by-cons}
-use Rattle.profile.specs.streams.Divisions.{Answer, AnswersEach, AreOneByOne, Told, told_from}
+use Rattle.profile.specs.streams.Divisions.{Answer, AnswersEach, AreOneByOne, told_from}
 use Rattle.profile.specs.streams.Streams.{AllAnswers, Answers, Box}
 
 abbrev pub written_in : List Answer → List ℕ

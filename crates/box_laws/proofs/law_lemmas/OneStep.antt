@@ -1,8 +1,8 @@
 -- One object: whatever several boxes do with it, one box that keeps all their books may do that together.
-use Rattle.std.proofs.Common.{◌≡◌, ◌≢◌, ◌∙◌, ℕ, ℤ, ◌+◌, ◌<◌, ◌≤◌, Bool, true, false, List, [], ◌∷◌, ◌++◌, length, map, refl, sym, ap, subst, arith, inl, inr, ◌⊎◌}
+use Rattle.std.proofs.Common.{◌≡◌, ◌≢◌, ◌∙◌, ℕ, ◌≤◌, true, false, List, [], ◌∷◌, ◌++◌, map, refl, sym, ap, subst, arith, inl, inr}
 use Rattle.std.specs.Prelude.{All, AllPairs, Contains, IsPermutation}
 use Rattle.std.specs.List.{AllZip, flat_map}
-use Rattle.std.proofs.lemmas.Bool.{true≢false, false≢true, cases_Bool}
+use Rattle.std.proofs.lemmas.Bool.{true≢false, cases_Bool}
 use Rattle.std.proofs.lemmas.List.{length-map}
 use Rattle.std.proofs.lemmas.List.Elements.{All-append, All-cons, All-head, All-nil, All-tail, All-weaker}
 use Rattle.std.proofs.lemmas.List.Sorted.{Contains-permutation, IsPermutation-map}
@@ -11,8 +11,8 @@ use Rattle.profile.specs.streams.Divisions.{Answer, IsJoined, IsRefusal, KeepsAl
 use Rattle.profile.specs.streams.Streams.{Answers, Box, HostFault, Hosted, HostedOrganiser, ObjectFault, Steps, StepsFor, in_state, not_hosted, refused_line}
 use Rattle.box_laws.proofs.law_lemmas.Lists.{all_left, all_right}
 use Rattle.box_laws.proofs.law_lemmas.Organisers.{addresses_kept, count_at, count_permuted, from_there, is_there, none_counted, once_at_most, there_from, with_book}
-use Rattle.box_laws.proofs.law_lemmas.OrganiserSteps.{HasHost, IsChanged, IsElsewhere, IsTakenBy, IsRefusedBy, IsUntouched, TakesOrRefuses, TakesWith, afters, all_untouched, among_all, befores, changed_organisers, count_elsewhere, count_in, count_of_one, fault_of_host, may_take, organisers_of, rooms_of, same_boxes, same_rooms, taken_with, unchanged, who_hosts}
-use Rattle.box_laws.proofs.law_lemmas.RoomSteps.{TakesByRooms, after_of, all_pieces, before_of, octets_of, one_takes}
+use Rattle.box_laws.proofs.law_lemmas.OrganiserSteps.{HasHost, IsChanged, IsElsewhere, IsTakenBy, IsRefusedBy, IsUntouched, TakesOrRefuses, TakesWith, afters, all_untouched, among_all, befores, changed_organisers, count_elsewhere, count_of_one, fault_of_host, may_take, organisers_of, same_boxes, same_rooms, taken_with, unchanged, who_hosts}
+use Rattle.box_laws.proofs.law_lemmas.RoomSteps.{TakesByRooms, after_of, all_pieces, octets_of, one_takes}
 
 -- what a box may do with the object
 abbrev pub IsAnswer : Told → Answer → Type 0

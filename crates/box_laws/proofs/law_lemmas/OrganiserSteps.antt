@@ -1,15 +1,15 @@
 -- What comes to an organiser: the box that hosts it takes it or refuses it, the others refuse it with 70, and one box does as the host does.
-use Rattle.std.proofs.Common.{◌≡◌, ◌∙◌, ℕ, ℤ, ◌+◌, ◌≤◌, Bool, true, false, cond, ◌||◌, List, [], ◌∷◌, ◌++◌, map, refl, sym, ap, subst, arith, inl, inr, ◌⊎◌}
+use Rattle.std.proofs.Common.{◌≡◌, ◌∙◌, ℕ, ◌+◌, ◌≤◌, Bool, true, false, cond, List, [], ◌∷◌, ◌++◌, map, refl, sym, ap, subst, arith, inl, inr, ◌⊎◌}
 use Rattle.std.specs.Prelude.{All, Contains}
 use Rattle.std.specs.List.{flat_map}
 use Rattle.std.proofs.lemmas.Bool.{true≢false, false≢true, cases_Bool}
 use Rattle.std.proofs.lemmas.List.{map-append}
-use Rattle.std.proofs.lemmas.List.Elements.{All-append, All-cons, All-head, All-nil, All-tail, Contains-append_left, Contains-append_right}
+use Rattle.std.proofs.lemmas.List.Elements.{All-cons, All-head, All-nil, All-tail, Contains-append_left, Contains-append_right}
 use Rattle.std.proofs.lemmas.Slice.Eq.{bytes_eq-Decides}
 use Rattle.profile.specs.events.Messages.{Message}
 use Rattle.profile.specs.organisers.Organisers.{OrganiserBook, StateFault}
 use Rattle.profile.specs.streams.Divisions.{Answer, IsRefusal, Told}
-use Rattle.profile.specs.streams.Streams.{Box, HostFault, Hosted, HostedOrganiser, IsTaken, TakesObject, in_state, not_hosted, refused_line}
+use Rattle.profile.specs.streams.Streams.{Box, HostFault, Hosted, HostedOrganiser, IsTaken, TakesObject, in_state, not_hosted}
 use Rattle.box_laws.proofs.law_lemmas.Organisers.{count_append, count_at, host_there, is_there, kept, none_are, none_counted, parted, some_counted, with_book}
 
 abbrev pub befores : List Answer → List Box

@@ -1,10 +1,9 @@
 -- Organisers of one address among many, of whom there is one at most: what one of them keeps changes, and nobody else does.
-use Rattle.std.proofs.Common.{◌≡◌, ◌≢◌, ◌∙◌, ℕ, ◌+◌, ◌<◌, ◌≤◌, suc, zero, Bool, true, false, cond, ◌||◌, List, [], ◌∷◌, ◌++◌, length, map, get_or, refl, sym, ap, subst, arith, inl, inr, ◌⊎◌}
-use Rattle.std.specs.Prelude.{All, AllPairs, Contains, IsPermutation}
-use Rattle.std.specs.List.{list_any, flat_map}
+use Rattle.std.proofs.Common.{◌≡◌, ◌≢◌, ◌∙◌, ℕ, ◌+◌, ◌<◌, ◌≤◌, suc, zero, Bool, true, false, cond, ◌||◌, List, [], ◌∷◌, ◌++◌, map, refl, sym, ap, subst, arith, inl, inr}
+use Rattle.std.specs.Prelude.{AllPairs, Contains, IsPermutation}
+use Rattle.std.specs.List.{list_any}
 use Rattle.std.specs.Str.{bytes_eq}
-use Rattle.std.proofs.lemmas.Bool.{true≢false, false≢true, cases_Bool, or_parts}
-use Rattle.std.proofs.lemmas.List.Elements.{All-nil, All-cons, All-head, All-tail}
+use Rattle.std.proofs.lemmas.Bool.{false≢true, cases_Bool, or_parts}
 use Rattle.std.proofs.lemmas.List.Recursion.{is_sum_by}
 use Rattle.std.proofs.lemmas.List.Sorted.{sum_by-IsPermutation}
 use Rattle.std.proofs.lemmas.Slice.Eq.{bytes_eq-Decides}

@@ -1,5 +1,5 @@
 -- A message to rooms: what all rooms of several boxes write for it, the rooms of one box write in another order.
-use Rattle.std.proofs.Common.{◌≡◌, ◌∙◌, ℕ, ℤ, true, List, [], ◌∷◌, ◌++◌, map, refl, sym, ap, subst}
+use Rattle.std.proofs.Common.{◌≡◌, ◌∙◌, ℕ, ℤ, List, [], ◌∷◌, ◌++◌, map, refl, sym, ap, subst}
 use Rattle.std.specs.Prelude.{All, IsPermutation}
 use Rattle.std.specs.List.{AllZip, flat_map}
 use Rattle.std.proofs.lemmas.List.{map-append}
@@ -7,7 +7,7 @@ use Rattle.std.proofs.lemmas.List.Elements.{All-append, All-cons, All-head, All-
 use Rattle.std.proofs.lemmas.List.Sorted.{All-permutation, IsPermutation-map}
 use Rattle.profile.specs.events.Messages.{Message}
 use Rattle.profile.specs.streams.Divisions.{Answer, IsOfPieces, Piece}
-use Rattle.profile.specs.streams.Streams.{AllTake, Box, Hosted, Takes}
+use Rattle.profile.specs.streams.Streams.{AllTake, Hosted, Takes}
 use Rattle.box_laws.proofs.law_lemmas.Lists.{permuted}
 
 module _ (moment : ℤ) (said : Message) where

@@ -1,10 +1,10 @@
 -- Objects one after another: whatever several boxes do with them, one box that keeps all their books may do that together. Behind
 -- several_act_as_one.
-use Rattle.std.proofs.Common.{◌≡◌, ◌∙◌, ℕ, ℤ, ◌+◌, ◌<◌, suc, zero, List, [], ◌∷◌, ◌++◌, length, map, get_or, refl, sym, ap, subst, arith, inl, inr, ◌⊎◌}
+use Rattle.std.proofs.Common.{◌≡◌, ◌∙◌, ℕ, ◌<◌, suc, zero, List, [], ◌∷◌, length, map, get_or, refl, sym, ap, subst, arith}
 use Rattle.std.specs.Prelude.{All}
 use Rattle.std.proofs.lemmas.List.Elements.{All-map, All-weaker}
-use Rattle.profile.specs.streams.Divisions.{Answer, AnswersEach, IsDoneByOne, IsJoined, IsServed, KeepsAll, Served, SeveralActAsOne, Told}
-use Rattle.profile.specs.streams.Streams.{Answers, Box}
+use Rattle.profile.specs.streams.Divisions.{Answer, AnswersEach, IsDoneByOne, IsJoined, IsServed, KeepsAll, Served, Told}
+use Rattle.profile.specs.streams.Streams.{Box}
 use Rattle.box_laws.proofs.law_lemmas.Lists.{chosen, mapped_alike, map_map}
 use Rattle.box_laws.proofs.law_lemmas.OrganiserSteps.{afters, befores}
 use Rattle.box_laws.proofs.law_lemmas.OneStep.{IsAnswer, Joins, Laws, joins}
