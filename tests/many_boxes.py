@@ -29,6 +29,9 @@ ROOT = Path(__file__).resolve().parent.parent
 EXAMPLE = ROOT / "examples" / "many-boxes"
 MANY_BOXES = str(EXAMPLE / "many_boxes.py")
 sys.path.insert(0, str(EXAMPLE))
+
+from joining import joined, parts  # noqa: E402
+
 SEED = 20_250_310
 NOW = "20250102T000000Z"
 # files an entry, and entries at once, in the run with kills: small, so that there is much to kill
@@ -245,6 +248,10 @@ class Office:
         folder = self.folder / box / "inbox"
         return {name: (folder / name).read_bytes() for name in sorted(os.listdir(folder)) if name.endswith(".ics")}
 
+    def answers(self, log):
+        """The octets that a log of answers has for each file."""
+        return {fields[b"stem"].decode() + ".out": fields[b"octets"] for _, fields in self.engine.entries(log)}
+
     def outbox(self, box):
         folder = self.folder / box / "outbox"
         return {name: (folder / name).read_bytes() for name in sorted(os.listdir(folder)) if name.endswith(".out")}
@@ -301,10 +308,9 @@ def killed(office, programs, kills, chance):
 # ---- what has to hold
 
 
-def is_sorted_out(octets):
-    """The objects of an answer, as often as they come, and its lines for refused objects."""
-    import joining
-    objects, refused = joining.parts(octets)
+def told_apart(octets):
+    """The objects of an answer, as often as they come, and its refusals by the number of the object."""
+    objects, refused = parts(octets)
     return collections.Counter(objects), refused
 
 
@@ -327,20 +333,20 @@ def as_one_box(cases, parent, program, count):
         (one / "inbox" / name).write_bytes(octets)
     ended = subprocess.run([program, "box", one / "config", one / "inbox", one / "outbox"], capture_output=True)
     cases.holds("how the one box ends", (ended.returncode, ended.stderr), (0, b""))
-    joined = {fields[b"stem"].decode() + ".out": fields[b"octets"] for _, fields in office.engine.entries("answers")}
+    together = office.answers("answers")
     alone = {name: (one / "outbox" / name).read_bytes() for name in sorted(os.listdir(one / "outbox")) if name.endswith(".out")}
-    cases.holds("the files of the one box", sorted(joined), sorted(alone))
+    cases.holds("the files of the one box", sorted(together), sorted(alone))
     refused = collections.Counter()
     for name, octets in alone.items():
-        cases.holds(f"what is joined in {name}", is_sorted_out(joined[name]), is_sorted_out(octets))
-        refused.update(is_sorted_out(octets)[1].values())
+        cases.holds(f"what is joined in {name}", told_apart(together[name]), told_apart(octets))
+        refused.update(told_apart(octets)[1].values())
     cases.holds("refusals of each kind", all(refused[number] for number in (b"70", b"71")), True)
     fetched = office.folder / "fetched"
     fetched.mkdir()
     port = ["--port", office.engine.port, "--until", entries]
     wait(cases, "fetch", [Program(office.folder, "fetch", "fetch", fetched, *port)])
-    cases.holds("what is fetched", {name: (fetched / name).read_bytes() for name in sorted(os.listdir(fetched))}, joined)
-    print(f"as one box: {count} messages, {entries} entries, {sum(refused.values())} refusals, {sum(sum(is_sorted_out(octets)[0].values()) for octets in alone.values())} answers")
+    cases.holds("what is fetched", {name: (fetched / name).read_bytes() for name in sorted(os.listdir(fetched))}, together)
+    print(f"as one box: {count} messages, {entries} entries, {sum(refused.values())} refusals, {sum(sum(told_apart(octets)[0].values()) for octets in alone.values())} answers")
     office.end()
 
 
@@ -375,31 +381,28 @@ def after_kills(cases, parent, program, options):
     for box in boxes:
         inbox, outbox = office.inbox(box), office.outbox(box)
         cases.holds(f"the inbox of {box} is the log", inbox == wanted, True)
-        sent = {fields[b"stem"].decode() + ".out": fields[b"octets"] for _, fields in office.engine.entries(f"answers:{box}")}
+        sent = office.answers(f"answers:{box}")
         cases.holds(f"what {box} sent is its outbox", sent == outbox, True)
         fresh = office.folder / f"fresh-{box}"
         fresh.mkdir()
         subprocess.run([program, "box", office.folder / box / "config", office.folder / box / "inbox", fresh], check=True)
         cases.holds(f"the outbox of {box} is that of a run that nobody stopped", {name: (fresh / name).read_bytes() for name in os.listdir(fresh)} == outbox, True)
         answers.append(outbox)
-    import joining
-    joined = {fields[b"stem"].decode() + ".out": fields[b"octets"] for _, fields in office.engine.entries("answers")}
-    cases.holds("the joined answers", joined == {name: joining.joined([outbox[name] for outbox in answers]) for name in answers[0]}, True)
+    cases.holds("the joined answers", office.answers("answers") == {name: joined([outbox[name] for outbox in answers]) for name in answers[0]}, True)
     began = time.monotonic()
     with concurrent.futures.ThreadPoolExecutor(max(1, (os.cpu_count() or 1))) as pool:
         jobs = []
         for box in boxes:
             config = (office.folder / box / "config").read_text()
             own = b"\r\n".join(office.inbox(box).values())
+            cases.holds(f"{box} has the whole log", own == whole, True)
             for number in range(options.rooms):
                 room = room_address(box, number)
-                jobs.append((room, pool.submit(kept, program, config, own, room), pool.submit(kept, program, config, whole, room),
-                             pool.submit(kept, program, f"room {room}\n", whole, room)))
+                jobs.append((room, pool.submit(kept, program, config, own, room), pool.submit(kept, program, f"room {room}\n", whole, room)))
         events = 0
-        for room, in_box, at_once, alone in jobs:
+        for room, in_box, alone in jobs:
             status, octets = in_box.result()
             cases.holds(f"what {room} keeps: status", status, 0)
-            cases.holds(f"what {room} keeps, by the whole log", at_once.result() == (status, octets), True)
             cases.holds(f"what {room} keeps alone", alone.result() == (status, octets), True)
             events += octets.count(b"BEGIN:VEVENT")
     print(f"kept: {len(jobs)} rooms, {events} events, compared in {time.monotonic() - began:.0f} seconds")
