@@ -215,10 +215,10 @@ fn append_flaw_words(text: &mut Vec<u8>, kind: FlawKind, property: &[u8]) -> Res
 fn append_around(
     text: &mut Vec<u8>,
     before: &[u8],
-    property: &[u8],
+    word: &[u8],
     behind: &[u8],
 ) -> Result<(), AllocError>
-    ensures { OnOk result (text.new.items ≡ text.old.items ++ (before.now ++ (property.now ++ behind.now))) }
+    ensures { OnOk result (text.new.items ≡ text.old.items ++ (before.now ++ (word.now ++ behind.now))) }
 {
     text.extend_from_slice(before)?;
     text.extend_from_slice(property)?;
