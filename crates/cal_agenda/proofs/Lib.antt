@@ -2,4 +2,5 @@ pub mod GapLemmas
 pub mod Gathering
 pub mod LineLemmas
 pub mod Order
+pub mod PublishLemmas
 pub mod SeriesWalk

@@ -105,12 +105,7 @@ fn span_line(alloc: Global, span: Span, zone: Option<Zone>) -> Result<String, Al
 }
 
 /// Two instants in UTC, and in the local time of a zone where one is given, with blanks between them.
-fn times_text(
-    alloc: Global,
-    start: i64,
-    end: i64,
-    zone: Option<Zone>,
-) -> Result<String, AllocError>
+fn times_text(alloc: Global, start: i64, end: i64, zone: Option<Zone>) -> Result<String, AllocError>
     ensures { IfOk result (λ text. IsTimesText (option_map zone_of zone) start end (string_bytes text)) }
 {
     let first = instant_text(alloc, start)?;
