@@ -180,7 +180,7 @@ def cases():
         ("an object without an end", ONE, [ROOM, "--from", "20250415T080000Z", "--ics"], 2, ""),
         ("an object without a beginning", ONE, [ROOM, "--until", "20250415T080000Z", "--ics"], 2, ""),
         ("an object of what is free", ONE, [ROOM, *day, "--ics", "--free"], 2, ""),
-        ("an object in a zone", ONE, [ROOM, *day, "--ics", berlin], 2, ""),
+        ("an object is in UTC, whatever zone is shown", ONE, [ROOM, *day, "--ics", berlin], 0, published),
         ("no stamp", ONE, [ROOM, "--from", "2025-04-15"], 2, ""),
         ("a local time", ONE, [ROOM, "--until", "20250415T080000"], 2, ""),
         ("an end before its start", ONE, [ROOM, "--from", "20250415T080000Z", "--until", "20250415T080000Z"], 2, ""),

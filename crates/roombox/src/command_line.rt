@@ -163,7 +163,7 @@ With --zone start and end are followed by the local times of that zone, in the w
 expand --help` explains. It only shows them: the calendar names the zone of its room itself.
 
 With --ics, --from and --until it prints an iCalendar object that programs subscribe to, with a
-VEVENT for each instance, all times in UTC, and who booked it as SUMMARY.
+VEVENT for each instance, all times in UTC also with --zone, and who booked it as SUMMARY.
 
 Exit status: 0 done, and with --free, --from and --until: the whole span is free; 1 with these: it
 isn't; 2 usage; 3 CALENDAR is refused: standard error has the number, which docs/PROFILE.md lists;
@@ -446,7 +446,6 @@ fn agenda_command<'a>(alloc: Global) -> Result<Command<'a>, AllocError> {
         .action(ArgAction::SetTrue)
         .help("Print an iCalendar object for subscribing; with --from and --until")
         .conflicts_with("free")?
-        .conflicts_with("zone")?
         .requires_arg("from")?
         .requires_arg("until")?;
     Command::new(alloc, "agenda")
