@@ -220,8 +220,8 @@ concat_more (t ∷ ts) text = ap (λ l. t ++ l) (concat_more ts text) ∙ sym (a
 zip_more : (R : List ℕ → List ℕ → Type 0) (xs ys : List (List ℕ)) (x y : List ℕ) → AllZip R xs ys → R x y → AllZip R (xs ++ x ∷ []) (ys ++ y ∷ [])
 zip_more R [] [] x y all is = (is, tt)
 zip_more R [] (b ∷ bs) x y all is = absurd all
-zip_more R (a ∷ as) [] x y all is = absurd all
-zip_more R (a ∷ as) (b ∷ bs) x y all is = (all.0, zip_more R as bs x y all.1 is)
+zip_more R (a ∷ others) [] x y all is = absurd all
+zip_more R (a ∷ others) (b ∷ bs) x y all is = (all.0, zip_more R others bs x y all.1 is)
 
 pub none_shown : (organiser : Organiser) (octets : List ℕ) → octets ≡ [] → AreShown organiser [] octets
 none_shown organiser octets e = record { texts = []; each = λ book keeps. tt; is = e }
