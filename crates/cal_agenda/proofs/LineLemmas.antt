@@ -25,3 +25,14 @@ module _ {X : Type 0} (IsLine : X → List ℕ → Type 0) where
       → (text : List ℕ) × LinesOf IsLine (map view (take k all)) text × (now ≡ old ++ text)
       → (text : List ℕ) × LinesOf IsLine (map view all) text × (now ≡ old ++ text)
   all_lines view all k old now w (text, are, f) = (text, subst (λ l. LinesOf IsLine (map view l) text) (take_all k all w) are, f)
+
+-- ---- pieces, as a text is made of them and as it is said
+
+pub four_pieces : (a b c d : List ℕ) → a ++ (b ++ (c ++ d)) ≡ ((a ++ b) ++ c) ++ d
+four_pieces a b c d = simp append_assoc
+
+pub five_pieces : (a b c d e : List ℕ) → a ++ (b ++ (c ++ (d ++ e))) ≡ (((a ++ b) ++ c) ++ d) ++ e
+five_pieces a b c d e = simp append_assoc
+
+pub six_pieces : (a b c d e f : List ℕ) → a ++ (b ++ (c ++ (d ++ (e ++ f)))) ≡ ((((a ++ b) ++ c) ++ d) ++ e) ++ f
+six_pieces a b c d e f = simp append_assoc

@@ -75,4 +75,4 @@ module _ (moment : ℤ) where
       ∙ append_assoc (written (published_opening name)) (written lines) (folded last)
       ∙ ap (λ t. written (published_opening name) ++ t) (ap (λ t. written lines ++ t) (sym (append-nil (folded last))) ∙ sym (flat_map-append folded lines (last ∷ [])))
       ∙ sym (flat_map-append folded (published_opening name) (lines ++ last ∷ []))
-    )
+      )

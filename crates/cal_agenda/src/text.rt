@@ -43,10 +43,10 @@ pub fn write_spans(
     ensures ok { OnOk result ((text : List ℕ) × LinesOf (IsFreeLine (option_map zone_of zone)) (map ends_of spans.now) text × (out.new.items ≡ out.old.items ++ text)) }
     ensures err { OnErr result (out.new.items ≡ out.old.items) }
 {
-    let start = out.len();
+    let kept = out.len();
     for span in spans {
         if write_span(alloc, *span, zone, out).is_err() {
-            out.truncate(start);
+            out.truncate(kept);
             return Err(AllocError);
         }
     }
@@ -64,7 +64,8 @@ fn write_instance(
     ensures err { OnErr result (out.new.items ≡ out.old.items) }
 {
     let line = instance_line(alloc, instance, zone)?;
-    out.extend_from_slice(line.as_bytes())
+    out.extend_from_slice(line.as_bytes())?;
+    Ok(())
 }
 
 /// Appends the line of a span. Where memory is refused, nothing is appended.
@@ -78,7 +79,8 @@ fn write_span(
     ensures err { OnErr result (out.new.items ≡ out.old.items) }
 {
     let line = span_line(alloc, span, zone)?;
-    out.extend_from_slice(line.as_bytes())
+    out.extend_from_slice(line.as_bytes())?;
+    Ok(())
 }
 
 /// The line of an instance.

@@ -8,9 +8,11 @@ use Rattle.cal_agenda.proofs.text.write_agenda.Goals as goal
 
 pub loop-instance-preserved : goal.loop-instance-preserved
 loop-instance-preserved c =
-    let (line, is, grown) = where_ok c.write_instance.result _ (sym c.is_err.ensures.value ∙ c.if-is_err.false) c.write_instance.ensures.ok in
-    (c.loop-instance.invariant.0, next_line (IsAgendaLine (option_map zone_of c.args.zone)) instance_of c.args.instances.now c.loop-instance.instance-index _ c.args.out.now.items c.loop-instance.out.items c.write_instance.new.out.items line
-    c.loop-instance-test.true is grown c.loop-instance.invariant.1)
+    let (line, is, grown) = where_ok c.write_instance.result _ (sym c.is_err.ensures.value ∙ c.if-is_err.false) c.write_instance.ensures.ok in (
+      c.loop-instance.invariant.0,
+      next_line (IsAgendaLine (option_map zone_of c.args.zone)) instance_of c.args.instances.now c.loop-instance.instance-index _ c.args.out.now.items c.loop-instance.out.items c.write_instance.new.out.items line
+          c.loop-instance-test.true is grown c.loop-instance.invariant.1,
+    )
 
 pub returns-then-is_err-clause-err : goal.returns-then-is_err-clause-err
 returns-then-is_err-clause-err c =

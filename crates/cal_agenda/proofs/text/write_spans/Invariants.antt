@@ -7,5 +7,5 @@ use Rattle.cal_agenda.proofs.text.write_spans.Given as goal
 -- the lines of those before
 abbrev pub invariant-loop-span : goal.invariant-loop-span
 invariant-loop-span l =
-    (l.start ≡ length l.fn.out.items)
+    (l.kept ≡ length l.fn.out.items)
     × ((text : List ℕ) × LinesOf (IsFreeLine (option_map zone_of l.fn.zone)) (map ends_of (take l.span-index l.spans)) text × (l.out.items ≡ l.fn.out.items ++ text))
