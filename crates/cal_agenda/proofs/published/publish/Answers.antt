@@ -1,4 +1,4 @@
-use Rattle.std.proofs.Common.{◌≡◌, ◌∙◌, ◌++◌, ◌∷◌, [], List, ℕ, map, ap, codes}
+use Rattle.std.proofs.Common.{◌∙◌, ◌++◌, ◌∷◌, [], List, ℕ, map, ap, codes}
 use Rattle.profile.specs.text.Lines.{written}
 use Rattle.profile.specs.checker.Publishing.{published_opening}
 use Rattle.cal_events.specs.Calendar.{instance_of}

@@ -1,4 +1,4 @@
-use Rattle.std.proofs.Common.{◌≡◌, ◌∙◌, ◌++◌, ◌∷◌, [], refl, ap, sym, codes, string_bytes, to_z, of_z, w64, to_z-of_z, rules, FitsSigned}
+use Rattle.std.proofs.Common.{◌≡◌, ◌∙◌, ◌++◌, ◌∷◌, [], refl, ap, codes, string_bytes, to_z, of_z, w64, to_z-of_z, rules, FitsSigned}
 use Rattle.profile.specs.text.Lines.{folded}
 use Rattle.profile.specs.text.Values.{escaped}
 use Rattle.profile.specs.checker.Publishing.{plain_address}
