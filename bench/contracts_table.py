@@ -72,6 +72,8 @@ CALLS = {
     },
     "organisers": {
         "organiser_books": ["Organiser::*"],
+    },
+    "schedules": {
         "sched_box": ["play", "World::room", "World::organiser", "World::sent"],
         "sched_laws": ["schedules_hold", "effect_or_none"],
     },
