@@ -9,6 +9,7 @@ clause, the comment above it, and in brackets the definitions of `specs/` that i
 bench/public_calls.py finds. The text is read, and not proved: `rt check` says whether a clause holds.
 """
 
+import fnmatch
 import re
 import sys
 
@@ -22,7 +23,7 @@ TABLE = re.compile(r"(<!-- table: bench/contracts_table\.py (\w+) -->\n)(.*?)(<!
 DEFINED = re.compile(r"^ *(?:pub )?(?:abbrev|unfoldable|data|record)(?: pub)? ([^\s:({]+)(?=[\s:({])(?!\s*(?:: Type 0|where\b|=))", re.MULTILINE)
 RELATION = re.compile(r"\b[A-Z]\w*\b")
 
-# For each table the crates and their calls; `Type::*` are all calls of a type.
+# For each table the crates and their calls; `*` stands for any letters, as `Type::*` for all calls of a type.
 CALLS = {
     "free": {
         "clash_check": ["check", "judge", "judge_read", "certificate_means_clear", "yes_means_free", "check_clash", "Drawing::new"],
@@ -50,7 +51,7 @@ CALLS = {
                        "series_are_said", "calendar_series_are_said", "instances_last"],
         "itip_messages": ["Message::*", "MessageComponent::slot_in", "MessageComponent::instances_in", "MessageComponent::names", "MessageComponent::without_instances",
                           "Attendees::contains", "component_lines", "one_message", "one_content"],
-        "cal_agenda": ["agenda", "free", "free_by", "is_free", "write_agenda", "write_spans"],
+        "cal_agenda": ["*"],
     },
     "written": {
         "ical_lines": ["write_line", "write_property", "write_pieces", "lines_read_back", "read_lines_are_content"],
@@ -75,12 +76,12 @@ CALLS = {
     },
     "schedules": {
         "sched_box": ["play", "World::room", "World::organiser", "World::sent"],
-        "sched_laws": ["schedules_hold", "effect_or_none"],
+        "sched_laws": ["*"],
     },
     "program": {
         "sched_devices": ["Input::*", "Output::*", "DeviceReader::with_capacity", "DeviceWriter::new", "Folder::*", "MemoryFolder::restart", "DiskFolder::publish"],
         "sched_box": ["Config::*", "read_preamble", "Objects::next_object", "serve", "serve_stream", "keep", "run_box", "MessageName::*"],
-        "sched_cli": ["run_serve", "run_serve_report", "run_keep", "run_check", "run_expand", "run_agenda", "run_free", "run_explain", "run_explain_object", "run_folders", "Tally::put"],
+        "sched_cli": ["run_serve*", "run_keep", "run_check", "run_expand", "run_agenda", "run_free", "run_explain*", "run_folders*", "run_[!ar]*"],
     },
 }
 
@@ -162,23 +163,21 @@ def said(clauses, known):
 
 
 def chosen(wanted, offered):
-    """The offered calls of a list of titles, in the order of that list; those that aren't offered are faults."""
+    """The offered calls of a list of titles, in the order of that list, each once; those that aren't offered are faults."""
     found, faults = [], []
     for one in wanted:
-        calls = [it for it in offered if it[0] == one or (one.endswith("::*") and it[0].startswith(one[:-1]))]
+        calls = [it for it in offered if fnmatch.fnmatchcase(it[0], one)]
         faults += [] if calls else [one]
-        found += calls
+        found += [it for it in calls if it not in found]
     return found, faults
 
 
-def table(name, crates, known):
-    """The rows of a table; ends the script where a call isn't offered, or has no comment. What implements a trait needs none."""
+def table(name, crates, known, wrong):
+    """The rows of a table. What isn't offered, or has no comment, is wrong; what implements a trait needs none."""
     rows = ["| Call | What it does | Its clauses, with the definitions that they name |\n|---|---|---|\n"]
     for crate, wanted in CALLS[name].items():
         calls, faults = chosen(wanted, documented(crates[crate]))
-        faults = [f"{it} isn't offered" for it in faults] + [f"{it[0]} has no doc comment" for it in calls if not (it[2] or it[1].trait)]
-        if faults:
-            sys.exit(f"{crate}: " + "; ".join(faults))
+        wrong += [f"{crate}: {it} isn't offered" for it in faults] + [f"{crate}: {it[0]} has no doc comment" for it in calls if not (it[2] or it[1].trait)]
         rows.append(f"| **{crate}** | | |\n")
         for one, call, comment, clauses in calls:
             law = " (a law)" if not call.parameters and not call.answer else ""
@@ -200,12 +199,15 @@ def main():
     places = [found[2] for found in TABLE.finditer(text)]
     if sorted(places) != sorted(CALLS):
         sys.exit(f"{PAGE.relative_to(ROOT)} has the tables {places}, and not {list(CALLS)}")
-    made = TABLE.sub(lambda found: found[1] + table(found[2], crates, known) + found[4], text)
+    wrong = []
+    made = TABLE.sub(lambda found: found[1] + table(found[2], crates, known, wrong) + found[4], text)
+    for line in wrong:
+        print(line)
     if sys.argv[1:]:
         print(f"{PAGE.relative_to(ROOT)}: the tables are {'those of the contracts' if made == text else 'stale: run bench/contracts_table.py'}")
-        return int(made != text)
+        return int(made != text or bool(wrong))
     PAGE.write_text(made, encoding="utf-8")
-    return 0
+    return int(bool(wrong))
 
 
 if __name__ == "__main__":

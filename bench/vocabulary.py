@@ -5,7 +5,8 @@
 
 A type is offered where `src/lib.rt` of a library has it in a `pub use`. What it is says the first sentence of its doc comment. Its definition in
 `profile` and its word in the RFCs are in bench/vocabulary.tsv: crate, types, definitions and word, parted by TABs. Either way the script ends
-with 1 where a type that is offered has no line there, where a line names a type that no crate offers, or a definition that profile hasn't.
+with 1 where a type that is offered has no line there, where a line names a type that no crate offers (it is left out then), or a definition
+that profile hasn't.
 """
 
 import re
@@ -64,7 +65,9 @@ def table():
     lines, last = ["| Type | What it is | Definition | RFC term |\n|---|---|---|---|\n"], None
     place = {crate: number for number, crate in enumerate(crates_below())}
     names = lambda words: ", ".join(f"`{it}`" for it in words) or "-"
-    for crate, own, meant, word in sorted(rows(), key=lambda it: place[it[0]]):
+    types = set(offered())
+    there = [(crate, [it for it in own if (crate, it) in types], meant, word) for crate, own, meant, word in rows()]
+    for crate, own, meant, word in sorted((it for it in there if it[1]), key=lambda it: place[it[0]]):
         lines += [f"| **{crate}** | | | |\n"] * (crate != last)
         lines.append(f"| {names(own)} | {' '.join(said(crate, it) for it in own)} | {names(meant)} | {word} |\n")
         last = crate
@@ -86,8 +89,7 @@ def faults():
 def main():
     if sys.argv[1:] not in ([], ["--check"]):
         sys.exit(__doc__)
-    if faults():
-        return 1
+    wrong = faults()
     text = PAGE.read_text(encoding="utf-8")
     head, begin, rest = text.partition(BEGIN)
     old, end, tail = rest.partition(END)
@@ -95,9 +97,9 @@ def main():
         sys.exit(f"{PAGE}: the two marker comments aren't there")
     if sys.argv[1:]:
         print(f"{PAGE.relative_to(ROOT)}: the table is {'that of the types' if old == table() else 'stale: run bench/vocabulary.py'}")
-        return int(old != table())
+        return int(old != table() or wrong)
     PAGE.write_text(head + begin + table() + end + tail, encoding="utf-8")
-    return 0
+    return int(wrong)
 
 
 if __name__ == "__main__":
