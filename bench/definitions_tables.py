@@ -11,7 +11,6 @@ import collections
 import re
 import sys
 
-import reading_paths
 from reading_paths import CRATES, PATHS, File, clause, imports, read, wanted
 from repository import ROOT
 
