@@ -20,8 +20,9 @@ TABLE = re.compile(r"(<!-- table: bench/attacks_table\.py(?: (\w+))? -->\n)(.*?)
 # the wrong bodies that have a name, each with its edits
 NAMED = {
     "a gap's times are read with the offset after it": ("gap_read_with_the_offset_after",),
+    "the fold at an only onset ends a second early": ("the_fold_at_the_only_onset",),
     "set positions are counted from DTSTART": ("set_positions_counted_from_dtstart",),
-    "a series isn't compared with itself": ("series_not_compared_with_itself",),
+    "a series isn't compared with itself": ("series_not_compared_with_itself", "a_series_not_compared_with_itself"),
     "a CANCEL of a meeting that isn't known is dropped": ("unknown_cancel_dropped",),
     "a room that one override alone names is dropped": ("room_named_in_one_override_dropped",),
     "a declined revision keeps the older booking; an invented decline; a repeat is answered anew": ("older_booking_kept", "invented_clash", "repeat_answered_anew"),
@@ -35,7 +36,8 @@ NAMED = {
         "an_arc_closed_at_its_end", "one_offset_of_two_forgotten", "the_stride_of_one_series", "arcs_of_one_residue_compared_with_itself"),
     "near onsets: without the width; of one half year; of 400 years alone; within half a day": (
         "near_onsets_without_the_width", "onsets_of_the_next_half_year_skipped", "onsets_of_400_years_alone", "near_onsets_only_half_a_day"),
-    "the books are forgotten": ("books_forgotten",),
+    "an old reply accepts a new revision": ("old_reply_accepts_a_new_revision",),
+    "the books are forgotten": ("books_forgotten", "books_of_a_world_forgotten"),
     "an answer is published before it is synced, or over another": ("published_before_synced", "published_over_an_answer"),
 }
 TOKEN = re.compile(r"""(?P<literal>b?'(?:\\.|[^'\\])'|b?"(?:\\.|[^"\\])*"|\d[\d_]*)|(?P<name>[^\W\d]\w*)|(?P<sign>\S)""")
