@@ -80,7 +80,8 @@ CALLS = {
     },
     "program": {
         "sched_devices": ["Input::*", "Output::*", "DeviceReader::with_capacity", "DeviceWriter::new", "Folder::*", "MemoryFolder::restart", "DiskFolder::publish"],
-        "sched_box": ["Config::*", "read_preamble", "Objects::next_object", "serve", "serve_stream*", "keep", "run_box*", "MessageName::*"],
+        "sched_box": ["Config::*", "read_preamble", "Objects::next_object", "serve", "serve_stream*", "keep", "shown_meetings", "run_box*", "MessageName::*"],
+        "box_laws": ["*"],
         "sched_cli": ["run_serve*", "run_keep", "run_check", "run_expand", "run_agenda", "run_free", "run_explain*", "run_folders*", "run_[!ar]*"],
     },
 }
@@ -176,6 +177,9 @@ def table(name, crates, known, wrong):
     """The rows of a table. What isn't offered, or has no comment, is wrong; what implements a trait needs none."""
     rows = ["| Call | What it does | Its clauses, with the definitions that they name |\n|---|---|---|\n"]
     for crate, wanted in CALLS[name].items():
+        if crate not in crates:
+            wrong.append(f"there is no crate {crate}")
+            continue
         calls, faults = chosen(wanted, documented(crates[crate]))
         wrong += [f"{crate}: {it} isn't offered" for it in faults] + [f"{crate}: {it[0]} has no doc comment" for it in calls if not (it[2] or it[1].trait)]
         rows.append(f"| **{crate}** | | |\n")
