@@ -46,7 +46,7 @@ CALLS = {
         "cal_zones": ["zone_name", "Zone::read", "Zone::single", "Zone::pair", "one_zone", "Zone::offset", "Zone::offsets", "Zone::first_onsets", "Zone::resolve", "Zone::last_day",
                       "Zone::regular_from", "Zone::period_days", "zones_repeat", "RoomZone::*", "Clock::*"],
         "cal_events": ["read_meeting", "Method::*", "judge_time", "When::instant", "is_in_event_dates", "one_event", "one_zoned_time", "EventComponent::singles", "EventComponent::series",
-                       "EventComponent::instances_in", "Time::instant_in", "Event::read", "Event::instances", "Event::first_overlap", "Instances::next", "one_meeting", "one_instance",
+                       "EventComponent::instances_in", "Time::instant_in", "Event::read", "Event::instances", "Event::first_overlap", "one_meeting", "one_instance",
                        "all_instances", "Calendar::*", "one_calendar_text", "singles_are_confirmed", "series_and_singles_divide", "zone_named_keeps", "Series::*", "all_starts",
                        "series_are_said", "calendar_series_are_said", "instances_last"],
         "itip_messages": ["Message::*", "MessageComponent::slot_in", "MessageComponent::instances_in", "MessageComponent::names", "MessageComponent::without_instances",
@@ -79,7 +79,7 @@ CALLS = {
         "sched_laws": ["*"],
     },
     "program": {
-        "sched_devices": ["Input::*", "Output::*", "DeviceReader::with_capacity", "DeviceWriter::new", "Folder::*", "MemoryFolder::restart", "DiskFolder::publish"],
+        "sched_devices": ["Input::*", "Output::*", "DeviceReader::with_capacity", "DeviceWriter::new", "Folder::*", "MemoryFolder::restart"],
         "sched_box": ["Config::*", "read_preamble", "Objects::next_object", "serve", "serve_stream*", "Journal::*", "keep", "shown_meetings", "run_box*", "MessageName::*"],
         "box_laws": ["*"],
         "sched_cli": ["run_serve*", "run_keep", "run_check", "run_expand", "run_agenda", "run_free", "run_explain*", "run_folders*", "run_[!ar]*"],
