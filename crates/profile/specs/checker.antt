@@ -3,3 +3,4 @@ pub mod Instances
 pub mod Certificates
 pub mod Calendars
 pub mod Agendas
+pub mod Publishing

@@ -6,3 +6,7 @@ pub mod Worlds
 pub mod Schedules
 -- folders of messages and of answers, and what a stop may leave of them
 pub mod Folders
+-- several boxes that share the rooms and organisers of one
+pub mod Divisions
+-- what became of each object, for who reads a report
+pub mod Reports

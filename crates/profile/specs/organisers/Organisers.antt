@@ -1,9 +1,11 @@
 -- The organiser machine: what an organiser keeps, and one step of it, as the server of RFC 6638 does it (3.2.1, 3.2.5, 3.2.8, 4.2).
-use Rattle.std.specs.Prelude.{◌≡◌, ℕ, ◌+◌, ◌<◌, Bool, true, false, not, ◌&&◌, ◌==◌, if◌then◌else◌, max, nat_lt, Contains, List, [], ◌∷◌, ◌++◌, map, filter, codes, Option, Some, None, ℤ}
-use Rattle.std.specs.List.{flat_map, list_any, list_all, find}
+use Rattle.std.specs.Prelude.{◌≡◌, ℕ, ◌+◌, ◌<◌, Bool, true, false, not, ◌&&◌, ◌==◌, if◌then◌else◌, max, nat_lt, Contains, AllPairs, List, [], ◌∷◌, ◌++◌, map, filter, codes, Option, Some, None, ℤ}
+use Rattle.std.specs.List.{flat_map, list_any, list_all, find, AllZip, concat}
 use Rattle.std.specs.Str.{bytes_eq}
 use Rattle.std.specs.Ordering.{is_eq, is_le, nat_cmp, int_cmp, ordering_then}
 use Rattle.std.specs.declared.cmp.Ordering.{Ordering}
+use Rattle.std.specs.declared.cmp.Ordering.TheVariants.{Less}
+use Rattle.std.specs.Cmp.Lexicographic.{slice_cmp}
 use Rattle.profile.specs.events.EventComponents.{Store, Reply, Participation, NeedsAction, Tentative, Accepted, Delegated, Declined, Attendee, EventComponent}
 use Rattle.profile.specs.events.Events.{is_master}
 use Rattle.profile.specs.rooms.Revisions.{Slot, Revision, slot_cmp}
@@ -209,6 +211,20 @@ IsShown organiser book uid None = last_store uid book ≡ None
 IsShown organiser book uid (Some octets) =
     (stored : Stored) × (last_store uid book ≡ Some stored)
     × IsMeetingText None organiser uid stored.revision (ShowsSeen book stored) stored.events octets
+
+-- these are the UIDs of all that was ever stored, each once, by their octets
+pub record AreStored (book : OrganiserBook) (uids : List (List ℕ)) : Type 0 where
+  pub all : (stored : Stored) → Contains book.stores stored → Contains uids stored.uid
+  pub only : (uid : List ℕ) → Contains uids uid → (stored : Stored) × Contains book.stores stored × (stored.uid ≡ uid)
+  pub ordered : AllPairs (λ a b. slice_cmp nat_cmp a b ≡ Less) uids
+
+-- these octets are the texts of all its meetings, one after another, by their UIDs
+pub record ShowsMeetings (organiser : List ℕ) (book : OrganiserBook) (octets : List ℕ) : Type 0 where
+  pub uids : List (List ℕ)
+  pub texts : List (List ℕ)
+  pub are : AreStored book uids
+  pub each : AllZip (λ uid text. IsShown organiser book uid (Some text)) uids texts
+  pub is : octets ≡ concat texts
 
 -- ---- what can be wrong with an object beside what the organiser keeps, by the number of its refusal
 
