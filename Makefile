@@ -72,9 +72,10 @@ bench: bin/roombox bin/text_examples bin/worked_examples bin/schedule_examples
 fuzz: bin/roombox
 	python3 tests/fuzz.py bin/roombox $(if $(SECONDS),--seconds $(SECONDS)) $(if $(COMMAND),--command $(COMMAND)) $(if $(SEED),--seed $(SEED))
 
-# The man page and the bash completion, docs/roombox.1 and docs/roombox.bash, from the program's help.
+# The man page and the bash completion, docs/roombox.1 and docs/roombox.bash, from the program's help; and the table of numbers in docs/REFERENCE.md.
 man: bin/roombox
 	python3 bench/man_page.py bin/roombox docs
+	python3 bench/user_tables.py
 
 # The program that `make run` has built, its man page, its completion in bash, its documents and its examples. It builds nothing: so it can be run by root.
 install:
