@@ -8,7 +8,7 @@ use Rattle.std.proofs.lemmas.List.{append_assoc, append-nil, map_push}
 use Rattle.std.proofs.lemmas.Option.{none-some, same_Some}
 use Rattle.profile.specs.text.Trees.{Tree, tree_own}
 use Rattle.profile.specs.doors.Uses.{NamesZone}
-use Rattle.profile.specs.doors.Adapting.{TakesPlace, IsGiven, IsOf, IsAdapted, without_zones}
+use Rattle.profile.specs.doors.Adapting.{TakesPlace, IsZoneGiven, IsOf, IsAdapted, without_zones}
 use Rattle.cal_zones.specs.Kinds.{zone_of}
 use Rattle.cal_doors.specs.Used.{held, AreUses}
 use Rattle.cal_doors.specs.Adapted.{AreChanges, IsRight, MeansNow, AllMeanNow, AreGoingOn}
@@ -127,7 +127,7 @@ all_named changes left names none distinct s =
 module _ {X Y : Type 0} (listed : Option Tree) (octets adapted : List ℕ) (before : Tree) (uses : List (String X × Use)) (changes : List (String Y × Choice)) (names : List (List ℕ))
     (are_uses : AreUses before uses) (are_changes : AreChanges listed before uses changes) (right : IsRight before uses changes adapted)
     (going_on : AreGoingOn changes names) where
-  by_change : (name : List ℕ) (u : Use) (o : Option Choice) → held name uses ≡ Some u → held name changes ≡ o → IsGiven listed before right.after name (list_any (bytes_eq name) names)
+  by_change : (name : List ℕ) (u : Use) (o : Option Choice) → held name uses ≡ Some u → held name changes ≡ o → IsZoneGiven listed before right.after name (list_any (bytes_eq name) names)
   by_change name u (Some c) used e =
       let now = right.changed name u c used e in
       record {
@@ -148,7 +148,7 @@ module _ {X Y : Type 0} (listed : Option Tree) (octets adapted : List ℕ) (befo
         same = inl read.2;
       }
 
-  each_given : (name : List ℕ) → NamesZone before name → IsGiven listed before right.after name (list_any (bytes_eq name) names)
+  each_given : (name : List ℕ) → NamesZone before name → IsZoneGiven listed before right.after name (list_any (bytes_eq name) names)
   each_given name there =
       let w = are_uses.covered name there.0 there.1 there.2 there.3 in
       by_change name w.0 (held name changes) w.1 refl

@@ -7,7 +7,7 @@ use Rattle.profile.specs.text.Trees.{Tree}
 use Rattle.profile.specs.series.Zones.{Zone}
 use Rattle.profile.specs.series.ZoneTexts.{SaysZone}
 use Rattle.profile.specs.events.ZonedTimes.{zone_named, SaysZoneOf}
-use Rattle.profile.specs.doors.Adapting.{SaysNothing, IsListed, IsSameFor}
+use Rattle.profile.specs.doors.Adapting.{SaysNothing, IsListedZone, IsSameFor}
 use Rattle.profile.specs.series.GeneralZones.{Run}
 use Rattle.profile.specs.series.GeneralZoneTexts.{SaysGeneralZone}
 use Rattle.cal_zones.specs.Kinds.{zone_of}
@@ -34,7 +34,7 @@ pub listed_meant : (listed : Option (Bor NamedZones)) (name : List ℕ) (own : O
     → listed ≡ Some zones → SaysNothing (option_map tree_at own) → zone_named name (tree_of zones.now.object.now) ≡ Some (tree_of part.now)
     → SaysGeneralZone (tree_of part.now) zone → (object : Tree) → option_map tree_at own ≡ zone_named name object → IsMeantZone (listed_of listed) object name zone
 listed_meant listed name own zones part zone is nothing found says object e =
-    (tree_of part.now, inr (subst SaysNothing e nothing, subst (λ (l : Option (Bor NamedZones)). IsListed (listed_of l) name (tree_of part.now)) (sym is) found), says)
+    (tree_of part.now, inr (subst SaysNothing e nothing, subst (λ (l : Option (Bor NamedZones)). IsListedZone (listed_of l) name (tree_of part.now)) (sym is) found), says)
 
 -- a room reads what the name means, or doesn't
 says_some : (o : Option Tree) (said : Zone) → SaysZoneOf o said → (part : Tree) × (o ≡ Some part) × SaysZone part said

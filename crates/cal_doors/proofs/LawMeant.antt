@@ -13,7 +13,7 @@ use Rattle.profile.specs.series.GeneralZones.{Run, IsGeneralOffsetAt, MeansGener
 use Rattle.profile.specs.series.GeneralZoneTexts.{SaysGeneralZone}
 use Rattle.profile.specs.events.EventRules.{IsOnDay}
 use Rattle.profile.specs.doors.Uses.{IsLineIn, SaysLocal, EventBeginsBy, EventEndsBy, LastsDays}
-use Rattle.profile.specs.doors.Adapting.{IsAdapted, IsGiven, TakesPlace, IsSameFor, always, as_long, beyond, tables_end, IsOverAt}
+use Rattle.profile.specs.doors.Adapting.{IsAdapted, IsZoneGiven, TakesPlace, IsSameFor, always, as_long, beyond, tables_end, IsOverAt}
 use Rattle.profile.specs.doors.OnClocks.{SaysSameAs, IsDaysLaterOn}
 use Rattle.cal_doors.specs.Laws.{IsMeantAfter, SaysTheSame, SaysSameUpTo, SaysTheSameUpTo}
 use Rattle.cal_doors.proofs.LawEvents.{OneRule, says_same, start_from, later_there}
@@ -97,7 +97,7 @@ module _ (meant part : Tree) (runs : List Run) (zone : Zone) (general : SaysGene
 
 module _ (one_rule : OneRule) (listed : Option Tree) (octets : List ℕ) (going_on : List (List ℕ)) (adapted : List ℕ) (a : IsAdapted listed octets going_on adapted)
     (name : List ℕ) (lines : List (List ℕ)) (line : List ℕ) (there : Contains (vevents a.before) lines) (is : IsLineIn name lines line) where
-  given : IsGiven listed a.before a.after name (list_any (bytes_eq name) going_on)
+  given : IsZoneGiven listed a.before a.after name (list_any (bytes_eq name) going_on)
   given = a.zones name (lines, line, there, is)
 
   taken : (AreSo : List Run → Zone → Type 0) → ((part : Tree) (zone : Zone) (p : TakesPlace listed a.before name (list_any (bytes_eq name) going_on) zone) → SaysZone part zone → AreSo p.zone zone)

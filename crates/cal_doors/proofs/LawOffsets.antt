@@ -12,7 +12,7 @@ use Rattle.profile.specs.events.Properties.{Says, BothOrNeither}
 use Rattle.profile.specs.series.Zones.{Observance, Zone, Constant, Single, Pair, Onset, IsOnset, IsZoneOnset, InForce, Since, Until, IsOffsetAt, Means, Shows, ShowsBy, MeansBy}
 use Rattle.profile.specs.series.ZoneTexts.{SaysZone, SaysPartTimes, HasForm, IsOffsetLine, constant, single, pair}
 use Rattle.profile.specs.series.GeneralZones.{Run, Never, IsGeneralOnset, IsGeneralOffsetAt, MeansGenerally}
-use Rattle.profile.specs.series.GeneralZoneTexts.{SaysTimes, AreFirstRuns, once, yearly, listed, IsRunAt, SaysRuns, SaysGeneralZone}
+use Rattle.profile.specs.series.GeneralZoneTexts.{SaysStartAndOffsets, AreFirstRuns, once, yearly, listed, IsRunAt, SaysRuns, SaysGeneralZone}
 use Rattle.cal_doors.proofs.LawClocks.{AreNear}
 
 -- ---- offsets that are spelled
@@ -79,7 +79,7 @@ firsts_short lines o runs h (once none e) = All-cons IsRunShort (record { observ
 firsts_short lines o runs h (yearly r says e) = All-cons IsRunShort (record { observance = o; end = r.end }) [] h (All-nil IsRunShort)
 firsts_short lines o runs h (listed days all says at) = dates_short o _ runs h at
 
-times_short : (lines : List (List ℕ)) (o : Observance) → SaysTimes lines o → IsShort o
+times_short : (lines : List (List ℕ)) (o : Observance) → SaysStartAndOffsets lines o → IsShort o
 times_short lines o says = (said_bound _ lines o.offset_from says.from, said_bound _ lines o.offset_to says.to)
 
 runs_short : (lines : List (List ℕ)) (runs : List Run) → SaysRuns lines runs → All IsRunShort runs

@@ -12,7 +12,7 @@ use Rattle.profile.specs.series.Rules.{is_missing, on_day_of_start}
 use Rattle.profile.specs.series.Zones.{Observance, local_time}
 use Rattle.profile.specs.series.ZoneTexts.{IsLocalLine, IsOffsetLine, time_names}
 use Rattle.profile.specs.series.GeneralZones.{End, Never, Run}
-use Rattle.profile.specs.series.GeneralZoneTexts.{without_end, IsRunAt, IsDatesLine, SaysTimes, SpellsEnding, SpellsDays, IsEndingLine, IsDaysLine, SaysRuns, PartsSayRuns, RunsFault, once, yearly, listed, missing, twice, fixed, bad_start, bad_from, bad_to, bad_rule}
+use Rattle.profile.specs.series.GeneralZoneTexts.{without_end, IsRunAt, IsDatesLine, SaysStartAndOffsets, SpellsEnding, SpellsOnsetDays, IsEndingLine, IsDaysLine, SaysRuns, PartsSayRuns, RunsFault, once, yearly, listed, missing, twice, fixed, bad_start, bad_from, bad_to, bad_rule}
 use Rattle.cal_zones.specs.Read.{StartFault, IsNotOnce, OffsetFault}
 use Rattle.cal_zones.specs.Shapes.{occurs_yearly}
 use Rattle.cal_zones.proofs.Named.{one_day_parts}
@@ -54,7 +54,7 @@ with_offsets from to = record { day = 0; second = 0; rule = None; offset_from = 
 
 module _ (lines : Lines) (start from to : ℤ) where
   -- an observance that has the times of a part
-  pub says_times : (o : Observance) → AreTimes lines start from to → HasTimes start from to o → SaysTimes lines o
+  pub says_times : (o : Observance) → AreTimes lines start from to → HasTimes start from to o → SaysStartAndOffsets lines o
   says_times o times has = record {
     start = subst (λ (t : ℤ). Says (codes "DTSTART") true IsLocalLine lines (Some t)) (sym has.begins.start_there) times.says_start;
     second = has.begins.second;
@@ -91,7 +91,7 @@ module _ (lines : Lines) (start from to : ℤ) where
       }
 
   pub listed_first : (line : List ℕ) (days : List ℕ) (old new : List Run) → IsClockSeconds start → OccursAtMostOnce (codes "RRULE") lines (Some line)
-      → ((o : Observance) → HasStart start from o → SpellsDays o (line_value line) days) → AddsDays start from to days old new → AddsFirst lines start from to old new
+      → ((o : Observance) → HasStart start from o → SpellsOnsetDays o (line_value line) days) → AddsDays start from to days old new → AddsFirst lines start from to old new
   listed_first line days old new range there spelled adds =
       let o = starting start from to in
       let times = some_times range in
@@ -112,7 +112,7 @@ module _ (lines : Lines) (start from to : ℤ) where
       (one_day_parts (without_end (on_day_of_start o.day says.rule)) (ending_of rule).each says.one_day).each
 
   -- none of its days is after year 9999
-  pub days_bound : (line days : List ℕ) → IsClockSeconds start → ((o : Observance) → HasStart start from o → SpellsDays o line days) → list_all (λ day. nat_le day 3_652_424) days ≡ true
+  pub days_bound : (line days : List ℕ) → IsClockSeconds start → ((o : Observance) → HasStart start from o → SpellsOnsetDays o line days) → list_all (λ day. nat_le day 3_652_424) days ≡ true
   days_bound line days range spelled = said_bound (starting start from to) line days (spelled (starting start from to) (some_start start from to range))
 
   -- its rule is none

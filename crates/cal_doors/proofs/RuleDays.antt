@@ -14,7 +14,7 @@ use Rattle.profile.specs.series.Zones.{Observance, local_time}
 use Rattle.profile.specs.series.ZoneTexts.{YearRule, is_one_day}
 use Rattle.profile.specs.series.GeneralZones.{End, AfterCount, AtInstant}
 use Rattle.profile.specs.series.GeneralZones as general
-use Rattle.profile.specs.series.GeneralZoneTexts.{without_end, IsEndOf, IsLastOnsetDay, EndingRule, SpellsEnding, SpellsDays}
+use Rattle.profile.specs.series.GeneralZoneTexts.{without_end, IsEndOf, IsLastOnsetDay, EndingRule, SpellsEnding, SpellsOnsetDays}
 use Rattle.profile.specs.text.Values.{IsClockSeconds, IsOffset}
 use Rattle.cal_zones.proofs.Casts.{narrow, wide_offset}
 use Rattle.cal_doors.specs.Ends.{IsNearInstant}
@@ -171,7 +171,7 @@ module _ (start from : ℤ) (text : List ℕ) (first : ℕ) (rule : RuleText) (i
   }
 
   pub days_said : (o : Observance) (end : End) (last : ℕ) (days : List ℕ) → HasStart start from o → IsEndOf from rule.count rule.until end → IsLastOnsetDay o end last → last ≤ o.day + 14_610
-      → AreDaysOf rule first last days → SpellsDays o text days
+      → AreDaysOf rule first last days → SpellsOnsetDays o text days
   days_said o end last days has ends allowed near (are, few) = record {
     rule = is.spelled_rule;
     spelled = is.spelled;
@@ -189,7 +189,7 @@ module _ (start from : ℤ) (text : List ℕ) (first : ℕ) (rule : RuleText) (i
 
   -- no end, so neither
   pub no_end : (o : Observance) → HasStart start from o → ((end : End) → IsEndOf from rule.count rule.until end → ⊥)
-      → ((r : EndingRule) → SpellsEnding o text r → ⊥) × ((days : List ℕ) → SpellsDays o text days → ⊥)
+      → ((r : EndingRule) → SpellsEnding o text r → ⊥) × ((days : List ℕ) → SpellsOnsetDays o text days → ⊥)
   no_end o has none = (λ r s. none r.end (end_here o s.rule r.end has s.spelled s.ends), λ days s. none s.end (end_here o s.rule s.end has s.spelled s.ends))
 
   pub no_day : (o : Observance) → HasStart start from o → ((r : YearRule) → is_one_day (without_end rule) r ≡ true → ⊥) → (r : EndingRule) → SpellsEnding o text r → ⊥
@@ -198,14 +198,14 @@ module _ (start from : ℤ) (text : List ℕ) (first : ℕ) (rule : RuleText) (i
       none r.each (subst (λ (t : RuleText). is_one_day (without_end t) r.each ≡ true) (ap (λ (t : RuleText). on_day_of_start o.day t) same ∙ rule_at o has) s.one_day)
 
   -- it comes to no last day
-  pub no_last : (o : Observance) (end : End) → HasStart start from o → IsEndOf from rule.count rule.until end → ((last : ℕ) → IsLastOnsetDay o end last → ⊥) → (days : List ℕ) → SpellsDays o text days → ⊥
+  pub no_last : (o : Observance) (end : End) → HasStart start from o → IsEndOf from rule.count rule.until end → ((last : ℕ) → IsLastOnsetDay o end last → ⊥) → (days : List ℕ) → SpellsOnsetDays o text days → ⊥
   no_last o end has ends none days s =
       let same = one_end from rule.count rule.until s.end end (end_here o s.rule s.end has s.spelled s.ends) ends in
       none s.last (subst (λ (e : End). IsLastOnsetDay o e s.last) same s.allowed)
 
   -- the last day is too far
   pub no_far_day : (o : Observance) (end : End) (last : ℕ) → HasStart start from o → IsEndOf from rule.count rule.until end → IsLastOnsetDay o end last → o.day + 14_610 < last → (days : List ℕ)
-      → SpellsDays o text days → ⊥
+      → SpellsOnsetDays o text days → ⊥
   no_far_day o end last has ends allowed far days s =
       let same = one_end from rule.count rule.until s.end end (end_here o s.rule s.end has s.spelled s.ends) ends in
       let at : s.last ≡ last = one_last o end s.last last (subst (λ (e : End). IsLastOnsetDay o e s.last) same s.allowed) allowed in
@@ -213,7 +213,7 @@ module _ (start from : ℤ) (text : List ℕ) (first : ℕ) (rule : RuleText) (i
       omega (arith, far, near, at)
 
   -- too many days
-  pub no_days : (o : Observance) (end : End) (last : ℕ) → HasStart start from o → IsEndOf from rule.count rule.until end → IsLastOnsetDay o end last → AreMany rule first last → (days : List ℕ) → SpellsDays o text days → ⊥
+  pub no_days : (o : Observance) (end : End) (last : ℕ) → HasStart start from o → IsEndOf from rule.count rule.until end → IsLastOnsetDay o end last → AreMany rule first last → (days : List ℕ) → SpellsOnsetDays o text days → ⊥
   no_days o end last has ends allowed many days s =
       let same = one_end from rule.count rule.until s.end end (end_here o s.rule s.end has s.spelled s.ends) ends in
       let at : s.last ≡ last = one_last o end s.last last (subst (λ (e : End). IsLastOnsetDay o e s.last) same s.allowed) allowed in
@@ -283,7 +283,7 @@ days_bound : (r : Rule) (from : ℕ) → list_all (λ day. nat_le day 3_652_424)
 unfolding rule_days_from
 days_bound r from = all_pass (is_rule_day r) (λ day. nat_le day 3_652_424) _ (day_bound r)
 
-pub said_bound : (o : Observance) (text days : List ℕ) → SpellsDays o text days → list_all (λ day. nat_le day 3_652_424) days ≡ true
+pub said_bound : (o : Observance) (text days : List ℕ) → SpellsOnsetDays o text days → list_all (λ day. nat_le day 3_652_424) days ≡ true
 said_bound o text days s = subst (λ (l : List ℕ). list_all (λ day. nat_le day 3_652_424) l ≡ true) (sym s.listed) (days_bound _ o.day)
 
 -- one of some days isn't either
@@ -304,7 +304,7 @@ in_years day second low high w = (omega (arith, signed_arith, low, high, w), ome
 
 module _ (start from : ℤ) (text : List ℕ) (first : ℕ) (rule : RuleText) (is : IsRuleOf start from text first rule) where
   pub days_to_last : (o : Observance) (end : End) (last : Last) (days : List ℕ) → HasStart start from o → IsEndOf from rule.count rule.until end → IsLastFrom start from end last
-      → AreDaysTo rule first last days → SpellsDays o text days
+      → AreDaysTo rule first last days → SpellsOnsetDays o text days
   days_to_last o end Never days has ends until h = absurd h
   days_to_last o end Before days has ends until h =
       let early = until o has in
@@ -314,7 +314,7 @@ module _ (start from : ℤ) (text : List ℕ) (first : ℕ) (rule : RuleText) (i
   days_to_last o end (On last) days has ends until h = let there = until o has in days_said start from text first rule is o end (day_index last) days has ends there.0 there.1 h
 
   pub no_days_to_last : (o : Observance) (end : End) (last : Last) → HasStart start from o → IsEndOf from rule.count rule.until end → IsLastFrom start from end last → AreNoDaysTo rule first last
-      → (days : List ℕ) → SpellsDays o text days → ⊥
+      → (days : List ℕ) → SpellsOnsetDays o text days → ⊥
   no_days_to_last o end Never has ends until h = no_last start from text first rule is o end has ends (until o)
   no_days_to_last o end Before has ends until h = absurd h
   no_days_to_last o end Far has ends until h = let far = until o has in no_far_day start from text first rule is o end far.0 has ends far.1 far.2

@@ -14,7 +14,7 @@ use Rattle.profile.specs.text.Trees.{Tree}
 use Rattle.profile.specs.text.Values.{SpellsStamp, SpellsLocal}
 use Rattle.profile.specs.series.Zones.{Constant, Means}
 use Rattle.profile.specs.series.ZoneTexts.{SaysZone}
-use Rattle.profile.specs.events.Properties.{Fixed, Unsaid, DateTime, Date, Period, Other, TimeKind, allows, kind_named, time_kind}
+use Rattle.profile.specs.events.Properties.{Fixed, Unsaid, DateTime, Date, Period, Other, TimeKind, allows_form, kind_named, time_kind}
 use Rattle.profile.specs.events.ZonedTimes.{zone_named, SaysZoneOf, SpellsZoned, SaysInstant}
 use Rattle.cal_zones.specs.Kinds.{zone_of}
 use Rattle.cal_zones.specs.declared.zone.Zone.{Zone}
@@ -62,25 +62,25 @@ read_well (Err e) P x same p = absurd (none-some x (sym same))
 utc_means : (t : ℤ) → Means (Constant (pos 0)) t t
 utc_means t = inl (record { shown = (pos 0, refl, omega (arith, ints)); least = λ other (offset, e, h). omega (arith, ints, e, h) })
 
-pub says_stamp : (object : Tree) (line : List ℕ) (t : ℤ) → allows (time_kind line) Fixed ≡ true → None ≡ line_param (codes "TZID") line → SpellsStamp (line_value line) t
+pub says_stamp : (object : Tree) (line : List ℕ) (t : ℤ) → allows_form (time_kind line) Fixed ≡ true → None ≡ line_param (codes "TZID") line → SpellsStamp (line_value line) t
     → SaysInstant object line Fixed t
 says_stamp object line t allowed none spells =
     (None, t, (allowed, subst (λ name. SpellsZoned object name (line_value line) None t) none spells), utc_means t)
 
-pub says_zoned : (object : Tree) (line name : List ℕ) (zone : Zone) (local t : ℤ) → allows (time_kind line) Fixed ≡ true → Some name ≡ line_param (codes "TZID") line
+pub says_zoned : (object : Tree) (line name : List ℕ) (zone : Zone) (local t : ℤ) → allows_form (time_kind line) Fixed ≡ true → Some name ≡ line_param (codes "TZID") line
     → SpellsLocal (line_value line) local → SaysZoneOf (zone_named name object) (zone_of zone) → Means (zone_of zone) local t → SaysInstant object line Fixed t
 says_zoned object line name zone local t allowed is spells says means =
     (Some (zone_of zone), local, (allowed, subst (λ n. SpellsZoned object n (line_value line) (Some (zone_of zone)) local) is (spells, says)), means)
 
 -- ---- VALUE
 
-pub unsaid_allows : (line : List ℕ) → None ≡ line_param (codes "VALUE") line → allows (time_kind line) Fixed ≡ true
-unsaid_allows line none = subst (λ o. allows (unwrap_or (option_map kind_named o) Unsaid) Fixed ≡ true) none refl
+pub unsaid_allows : (line : List ℕ) → None ≡ line_param (codes "VALUE") line → allows_form (time_kind line) Fixed ≡ true
+unsaid_allows line none = subst (λ o. allows_form (unwrap_or (option_map kind_named o) Unsaid) Fixed ≡ true) none refl
 
-pub date_time_allows : (line word : List ℕ) → Some word ≡ line_param (codes "VALUE") line → is_same_name word (codes "DATE-TIME") ≡ true → allows (time_kind line) Fixed ≡ true
+pub date_time_allows : (line word : List ℕ) → Some word ≡ line_param (codes "VALUE") line → is_same_name word (codes "DATE-TIME") ≡ true → allows_form (time_kind line) Fixed ≡ true
 date_time_allows line word is same =
-    subst (λ o. allows (unwrap_or (option_map kind_named o) Unsaid) Fixed ≡ true) is
-    (ap (λ b. allows (cond b DateTime (other word)) Fixed) same)
+    subst (λ o. allows_form (unwrap_or (option_map kind_named o) Unsaid) Fixed ≡ true) is
+    (ap (λ b. allows_form (cond b DateTime (other word)) Fixed) same)
   where
     other : List ℕ → TimeKind
     other w = cond (is_same_name w (codes "DATE")) Date (cond (is_same_name w (codes "PERIOD")) Period Other)

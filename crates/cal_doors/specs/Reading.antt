@@ -9,7 +9,7 @@ use Rattle.profile.specs.series.Zones.{Observance, local_time}
 use Rattle.profile.specs.series.ZoneTexts.{IsLocalLine, IsOffsetLine}
 use Rattle.profile.specs.series.GeneralZones.{End, Run}
 use Rattle.profile.specs.series.GeneralZoneTexts as texts
-use Rattle.profile.specs.series.GeneralZoneTexts.{IsRunAt, IsDatesLine, IsNoDatesLine, SaysDates, SpellsEnding, SpellsDays, SpellsNoOnsets, IsLastOnsetDay, AreFirstRuns, SaysRuns}
+use Rattle.profile.specs.series.GeneralZoneTexts.{IsRunAt, IsDatesLine, IsNoDatesLine, SaysDates, SpellsEnding, SpellsOnsetDays, SpellsNoOnsets, IsLastOnsetDay, AreFirstRuns, SaysRuns}
 use Rattle.cal_zones.specs.Shapes.{rule_named}
 use Rattle.cal_doors.specs.Ends.{end_of}
 use Rattle.cal_doors.specs.Listed.{HasStart, AreDaysOf, AreMany}
@@ -27,7 +27,7 @@ ending_of r = record { each = rule_named r.day.month r.day.days; end = end_of r.
 -- the text spells this rule, in each part with this DTSTART and this TZOFFSETFROM
 abbrev pub SpellsRuleOf : ℤ → ℤ → List ℕ → PartRule → Type 0
 SpellsRuleOf start from text (Yearly rule) = (o : Observance) → HasStart start from o → SpellsEnding o text (ending_of rule)
-SpellsRuleOf start from text (Listed days) = (o : Observance) → HasStart start from o → SpellsDays o text (map day_index days.items)
+SpellsRuleOf start from text (Listed days) = (o : Observance) → HasStart start from o → SpellsOnsetDays o text (map day_index days.items)
 
 -- it spells none in any
 abbrev pub SpellsNoRuleOf : ℤ → ℤ → List ℕ → Type 0

@@ -4,7 +4,7 @@ ghost use Rattle.std.specs.Prelude.{◌≡◌, ℕ, ℤ, List, true, Contains, c
 ghost use Rattle.ical_lines.specs.Text.{line_text};
 ghost use Rattle.ical_tree.specs.Tree.{component_lines, tree_of};
 ghost use Rattle.profile.specs.text.Trees.{Tree, vevents};
-ghost use Rattle.profile.specs.events.Properties.{Fixed, is_of, allows, time_kind};
+ghost use Rattle.profile.specs.events.Properties.{Fixed, is_of, allows_form, time_kind};
 ghost use Rattle.profile.specs.events.ZonedTimes.{SaysInstant};
 ghost use Rattle.profile.specs.series.ZoneTexts.{SaysZone};
 ghost use Rattle.cal_zones.specs.Kinds.{zone_of};
@@ -252,7 +252,7 @@ fn instant_of(line: Line<'_>, zones: &Zones) -> Option<i64>
 
 /// Whether a line is a date-time, or doesn't say what it is.
 fn may_be_fixed(line: Line<'_>) -> bool
-    ensures { result ≡ true → allows (time_kind (line_text line.entry)) Fixed ≡ true }
+    ensures { result ≡ true → allows_form (time_kind (line_text line.entry)) Fixed ≡ true }
 {
     match line.param("VALUE") {
         Some(word) => word.eq_ignore_ascii_case("DATE-TIME"),

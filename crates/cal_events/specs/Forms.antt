@@ -3,7 +3,7 @@ use Rattle.std.specs.Prelude.{◌≡◌, ℕ, true, List, codes, None, MatchOpti
 use Rattle.profile.specs.text.Lines.{line_param}
 use Rattle.profile.specs.text.Values.{SpellsStamp, SpellsLocal}
 use Rattle.profile.specs.events.Properties as properties
-use Rattle.profile.specs.events.Properties.{Form, Fixed, Floating, WholeDay, allows, time_kind, IsLocalText}
+use Rattle.profile.specs.events.Properties.{Form, Fixed, Floating, WholeDay, allows_form, time_kind, IsLocalText}
 use Rattle.profile.specs.events.ZonedTimes.{SpellsMidnight}
 use Rattle.cal_events.specs.Times.{form_said, zone_said, local_said}
 use Rattle.cal_events.specs.declared.when.TimeKind.{TimeKind}
@@ -30,5 +30,5 @@ SpellsAlone text time = (zone_said time ≡ None) × IsAlone text (form_said tim
 -- a text of a line is a time, whichever zone TZID names
 abbrev pub IsReadable : List ℕ → List ℕ → Type 0
 IsReadable line text =
-    MatchOption (line_param (codes "TZID") line) ((form : Form) × (local : ℤ) × (allows (time_kind line) form ≡ true) × IsAlone text form local)
-    (λ _. (allows (time_kind line) Fixed ≡ true) × IsLocalText text)
+    MatchOption (line_param (codes "TZID") line) ((form : Form) × (local : ℤ) × (allows_form (time_kind line) form ≡ true) × IsAlone text form local)
+    (λ _. (allows_form (time_kind line) Fixed ≡ true) × IsLocalText text)

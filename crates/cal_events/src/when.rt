@@ -7,7 +7,7 @@ ghost use Rattle.profile.specs.text.Values.{SpellsLocal};
 ghost use Rattle.profile.specs.series.Zones as zones;
 ghost use Rattle.profile.specs.series.Zones.{Means, IsNearEpoch};
 ghost use Rattle.profile.specs.events.Properties as properties;
-ghost use Rattle.profile.specs.events.Properties.{time_kind, allows, KindFault, NoTimeFault, IsDateText, malformed_number};
+ghost use Rattle.profile.specs.events.Properties.{time_kind, allows_form, KindFault, NoTimeFault, IsDateText, malformed_number};
 ghost use Rattle.profile.specs.events.ZonedTimes.{is_in_zone, SpellsForm, SpellsMidnight, SaysZonedText, SaysZonedTime, clock_of, InZoneFault, LocalFault, ZonedTextFault, ZonedTimeFault};
 ghost use Rattle.profile.specs.events.Placed.{zone_in};
 ghost use Rattle.cal_zones.specs.Kinds.{zone_of};
@@ -214,7 +214,7 @@ fn read_in_zone(
     zones: &ZonesOfObject<'_, '_>,
 ) -> Result<When, Refusal>
     requires zones { AreRead zones.now }
-    ensures allowed { IfOk result (λ t. IsTrue (allows (time_kind (line_text line.entry)) (form_said t))) }
+    ensures allowed { IfOk result (λ t. IsTrue (allows_form (time_kind (line_text line.entry)) (form_said t))) }
     ensures says { IfOk result (λ t. SpellsForm (object_of zones.now) (Some name.now) text.now (form_said t) (zone_said t) (local_said t)) }
     ensures fault { IfErr result (λ e. InZoneFault (object_of zones.now) name.now (time_kind (line_text line.entry)) text.now e.number) }
 {
@@ -226,7 +226,7 @@ fn read_in_zone(
 /// The local time that a text of a line with TZID spells, whichever zone has it (RFC 5545 3.3.5, form 3).
 /// Refused: as by `When::read` before it looks at the zone.
 fn read_local(line: Line<'_>, text: &str) -> Result<LocalTime, Refusal>
-    ensures allowed { OnOk result (IsTrue (allows (time_kind (line_text line.entry)) properties.Fixed)) }
+    ensures allowed { OnOk result (IsTrue (allows_form (time_kind (line_text line.entry)) properties.Fixed)) }
     ensures reads { IfOk result (SpellsLocal text.now) }
     ensures fault { IfErr result (λ e. LocalFault (time_kind (line_text line.entry)) text.now e.number) }
 {
@@ -240,7 +240,7 @@ fn read_local(line: Line<'_>, text: &str) -> Result<LocalTime, Refusal>
 /// The time that a text of a line without TZID spells: in UTC, without zone, or a date.
 /// Refused: as by `When::read`.
 fn read_alone(line: Line<'_>, text: &str) -> Result<When, Refusal>
-    ensures allowed { IfOk result (λ t. IsTrue (allows (time_kind (line_text line.entry)) (form_said t))) }
+    ensures allowed { IfOk result (λ t. IsTrue (allows_form (time_kind (line_text line.entry)) (form_said t))) }
     ensures says { IfOk result (SpellsAlone text.now) }
     ensures fault { IfErr result (λ e. KindFault (time_kind (line_text line.entry)) text.now e.number) }
 {
@@ -300,7 +300,7 @@ fn read_day(text: &str) -> Result<When, Refusal>
 
 /// A date-time, in UTC or without zone.
 fn read_date_time(text: &str) -> Result<When, Refusal>
-    ensures allowed { IfOk result (λ t. IsTrue (allows properties.DateTime (form_said t))) }
+    ensures allowed { IfOk result (λ t. IsTrue (allows_form properties.DateTime (form_said t))) }
     ensures says { IfOk result (SpellsAlone text.now) }
     ensures fault { IfErr result (λ e. NoTimeFault text.now e.number) }
 {

@@ -10,7 +10,7 @@ use Rattle.profile.specs.text.Lines.{line_value}
 use Rattle.profile.specs.text.Values.{IsClockSeconds, SpellsDuration, SpellsNegative, SpellsLong}
 use Rattle.profile.specs.series.Zones.{Zone, Means}
 use Rattle.profile.specs.events.Properties.{Form, Fixed, Floating, WholeDay, is_whole_day, Length, OccursAtMostOnce, SomeLine, length_seconds, LastsFor, IsNoDuration, IsNegativeOrLong}
-use Rattle.profile.specs.events.ZonedTimes.{is_in_zone, clock_of, SaysZonedTime, HasForm, EventTimes, IsInDates, IsCountedBy, LastsUntil, SaysNoStart, SaysInstant, SaysInDates, SaysOutOfDates, SaysEventTimes, EventTimesFault, bad_duration, ends_early, ends_late, ends_out, lasts_long, starts_out, other_form, part_of_day}
+use Rattle.profile.specs.events.ZonedTimes.{is_in_zone, clock_of, SaysZonedTime, SaysForm, EventTimes, IsInDates, IsCountedBy, LastsUntil, SaysNoStart, SaysInstant, SaysInDates, SaysOutOfDates, SaysEventTimes, EventTimesFault, bad_duration, ends_early, ends_late, ends_out, lasts_long, starts_out, other_form, part_of_day}
 use Rattle.cal_events.specs.declared.event_times.Extent.{Extent}
 use Rattle.cal_events.specs.declared.event_times.Extent.TheVariants.{To, For, Open}
 use Rattle.cal_events.specs.declared.event_times.SaidEnd.{SaidEnd}
@@ -107,8 +107,8 @@ module _ (object : Tree) (lines : Lines) (start : When) (instant : ℤ) (in_date
   begins extent a = some_line (codes "DTSTART") (λ line. SaysInstant object line (form_said start) instant) lines a.line a.once (instant_said extent a)
 
   -- its form
-  formed : (extent : Extent) → AreSaid object lines start instant in_dates extent → SomeLine (codes "DTSTART") (λ line. HasForm object line (form_said start)) lines
-  formed extent a = some_line (codes "DTSTART") (λ line. HasForm object line (form_said start)) lines a.line a.once (zone_said start, local_said start, a.start_said.says)
+  formed : (extent : Extent) → AreSaid object lines start instant in_dates extent → SomeLine (codes "DTSTART") (λ line. SaysForm object line (form_said start)) lines
+  formed extent a = some_line (codes "DTSTART") (λ line. SaysForm object line (form_said start)) lines a.line a.once (zone_said start, local_said start, a.start_said.says)
 
   pub times_said : (extent : Extent) (length : Duration) (stamp : ℤ) → stamp ≡ instant → AreSaid object lines start instant in_dates extent → GivesLength (form_said start) extent (length_of length)
       → length_seconds (length_of length) ≤ 31_622_400 → IsTrue in_dates → IsTrue (ends_in extent) → SaysEventTimes object lines (judged start stamp length)
@@ -167,11 +167,11 @@ module _ (object : Tree) (lines : Lines) (start : When) (instant : ℤ) (in_date
   pub extent_judged : {may : Bool} (extent : Extent) (n : ℕ) → AreSaid object lines start instant in_dates extent → ExtentFault (form_said start) extent n → EventTimesFault may object lines n
   extent_judged extent n a (is_other end differ) =
       let (line, once, none, (zone, local, says, means, dates)) = a.extent_in in
-      let last = some_line (codes "DTEND") (λ l. HasForm object l (form_of end.form)) lines line once (zone, local, says) in
+      let last = some_line (codes "DTEND") (λ l. SaysForm object l (form_of end.form)) lines line once (zone, local, says) in
       other_form (form_said start, form_of end.form, formed extent a, last, λ e. differ (sym e))
   extent_judged extent n a (is_part duration whole part) =
       let (line, none, once, lasts) = a.extent_in in
-      let first = subst (λ (f : Form). SomeLine (codes "DTSTART") (λ l. HasForm object l f) lines) whole (formed extent a) in
+      let first = subst (λ (f : Form). SomeLine (codes "DTSTART") (λ l. SaysForm object l f) lines) whole (formed extent a) in
       part_of_day (length_of duration, first, some_line (codes "DURATION") (λ l. LastsFor l (length_of duration)) lines line once lasts, part)
   extent_judged extent n a (lies_before end alike h) =
       let (line, once, none, time) = a.extent_in in

@@ -7,7 +7,7 @@ use denote.Ref.{Bor}
 use Rattle.profile.specs.text.Lines.{line_param}
 use Rattle.profile.specs.text.Trees.{Tree}
 use Rattle.profile.specs.events.Properties.{Form, Fixed, is_fixed, OccursAtMostOnce, BothOrNeither, Says}
-use Rattle.profile.specs.events.ZonedTimes.{HasForm, SaysOutOfDates}
+use Rattle.profile.specs.events.ZonedTimes.{SaysForm, SaysOutOfDates}
 use Rattle.profile.specs.events.Occurrences.{Time, IsFixedWhere, has_range, IsRecurrenceLine, OccurrenceFault, recurrence_out, unfixed}
 use Rattle.cal_events.specs.Times.{form_of, time_of}
 use Rattle.cal_events.specs.Occurrences.{IsRecurrenceSo, IsRecurrenceSaid}
@@ -33,7 +33,7 @@ unfixed_there {added} {fixed} object lines said s needed other = go s.line s.onc
     go None once h = absurd h
     go (Some line) once h =
         unfixed needed
-        (some_line (codes "RECURRENCE-ID") (λ l. (form : Form) × (form ≢ Fixed) × HasForm object l form) lines line once
+        (some_line (codes "RECURRENCE-ID") (λ l. (form : Form) × (form ≢ Fixed) × SaysForm object l form) lines line once
         (form_of said.time.form, (λ e. true≢false (sym (ap is_fixed e) ∙ other)), (h.1.0, h.1.1, h.1.2)))
 
 -- a time that is said and in the dates is that of RECURRENCE-ID

@@ -11,7 +11,7 @@ use Rattle.profile.specs.text.Trees.{Tree}
 use Rattle.profile.specs.text.Values.{SpellsDuration, SpellsNegative}
 use Rattle.profile.specs.series.Zones.{Zone, Constant, IsOneMeaning, Means}
 use Rattle.profile.specs.events.Properties.{lines_named, IsMissing, OccursAtMostOnce, SomeLine, Form, Fixed, Floating, WholeDay, Length, length_seconds, LastsFor, IsNegativeOrLong}
-use Rattle.profile.specs.events.ZonedTimes.{zone_named, is_in_zone, SaysZoneOf, SpellsZoned, SaysZonedText, SaysZonedTime, clock_of, SaysInstant, IsInDates, SaysInDates, SaysOutOfDates, ZonedTextFault, HasForm, EventTimes, IsCountedBy, SuitsForm, LastsUntil, LastsSo, LastsAlone, SaysEventTimes, SaysNoStart, SaysTimes, StartAndEndLie, names_of_times, EventTimesFault, bad_start, bad_end, bad_duration, ends_early, ends_late, lasts_long, starts_out, ends_out, other_form, part_of_day, no_start, twice, end_and_duration}
+use Rattle.profile.specs.events.ZonedTimes.{zone_named, is_in_zone, SaysZoneOf, SpellsZoned, SaysZonedText, SaysZonedTime, clock_of, SaysInstant, IsInDates, SaysInDates, SaysOutOfDates, ZonedTextFault, SaysForm, EventTimes, IsCountedBy, SuitsForm, LastsUntil, LastsSo, LastsAlone, SaysEventTimes, SaysNoStart, SaysTimes, StartAndEndLie, names_of_times, EventTimesFault, bad_start, bad_end, bad_duration, ends_early, ends_late, lasts_long, starts_out, ends_out, other_form, part_of_day, no_start, twice, end_and_duration}
 use Rattle.profile.specs.events.Occurrences.{IsOutside}
 use Rattle.ical_tree.proofs.OneLine.{IsFunctional, same_option, only_line}
 use Rattle.cal_events.proofs.shared_lemmas.Meanings.{one_meaning}
@@ -209,10 +209,10 @@ module _ (one : OneZonedTime) (none : NoTimeFault) (two : OneDuration) (apart : 
   start_said P l = subst (λ (x : List ℕ). SaysZonedTime object x times.form times.zone times.local) (start_is P l) s.says
 
   -- whatever is said of the start and the end that are there is of the form of the times
-  start_form : (form : Form) (l : SomeLine (codes "DTSTART") (λ line. HasForm object line form) lines) → times.form ≡ form
+  start_form : (form : Form) (l : SomeLine (codes "DTSTART") (λ line. SaysForm object line form) lines) → times.form ≡ form
   start_form form l = (one object l.0 (line_value l.0) times.form form times.zone l.2.0 times.local l.2.1 (start_said _ l) l.2.2).0
 
-  end_form : (form : Form) (l : SomeLine (codes "DTEND") (λ line. HasForm object line form) lines) → times.form ≡ form
+  end_form : (form : Form) (l : SomeLine (codes "DTEND") (λ line. SaysForm object line form) lines) → times.form ≡ form
   end_form form l = let until = (end_said _ l).1 in (one object l.0 (line_value l.0) times.form form until.0 l.2.0 until.1 l.2.1 until.2 l.2.2).0
 
   -- the start and the end that are there are those of the times

@@ -14,7 +14,7 @@ use Rattle.ical_tree.proofs.TreeOfLemmas.{tree_of-name, tree_of-own, tree_of-ins
 use Rattle.profile.specs.text.Lines.{line_param, is_same_name}
 use Rattle.profile.specs.text.Trees.{Tree, tree_name, tree_own}
 use Rattle.profile.specs.series.Zones as zones
-use Rattle.profile.specs.events.Properties.{BothOrNeither, Form, Fixed, Floating, WholeDay, allows, time_kind, KindFault}
+use Rattle.profile.specs.events.Properties.{BothOrNeither, Form, Fixed, Floating, WholeDay, allows_form, time_kind, KindFault}
 use Rattle.profile.specs.events.ZonedTimes.{has_zone_name, zone_named, SaysZoneOf, SpellsForm, SaysZonedText, NamedFault, InZoneFault, FaultIn, ZonedTextFault}
 use Rattle.cal_events.specs.Forms.{IsAlone}
 use Rattle.cal_events.specs.Zones.{is_zone_called, IsZoneRead}
@@ -70,7 +70,7 @@ weaker_fault (Refused e) P Q g h = g e.number h
 
 -- of a line with TZID
 pub zoned_said : (object : Tree) (line text name : List ℕ) (form : Form) (zone : Option zones.Zone) (local : ℤ) → line_param (codes "TZID") line ≡ Some name
-    → allows (time_kind line) form ≡ true → SpellsForm object (Some name) text form zone local → SaysZonedText object line text form zone local
+    → allows_form (time_kind line) form ≡ true → SpellsForm object (Some name) text form zone local → SaysZonedText object line text form zone local
 zoned_said object line text name form zone local e a h = (a, subst (λ (o : Option (List ℕ)). SpellsForm object o text form zone local) (sym e) h)
 
 pub zoned_fault : (object : Tree) (line text name : List ℕ) (n : ℕ) → line_param (codes "TZID") line ≡ Some name → InZoneFault object name (time_kind line) text n
@@ -85,7 +85,7 @@ alone_spelled object text Floating a local e h = (refl, e, h)
 alone_spelled object text WholeDay a local e h = (refl, e, h)
 
 pub alone_said : (object : Tree) (line text : List ℕ) (form : Form) (zone : Option zones.Zone) (local : ℤ) → line_param (codes "TZID") line ≡ None
-    → allows (time_kind line) form ≡ true → (zone ≡ None) × IsAlone text form local → SaysZonedText object line text form zone local
+    → allows_form (time_kind line) form ≡ true → (zone ≡ None) × IsAlone text form local → SaysZonedText object line text form zone local
 alone_said object line text form zone local e a h =
     (a, subst (λ (o : Option (List ℕ)). SpellsForm object o text form zone local) (sym e) (alone_spelled object text form zone local h.0 h.1))
 

@@ -6,7 +6,7 @@ use Rattle.std.specs.Prelude.{Option, Some, None, is_some, MatchOption, Result, 
 use Rattle.ical_lines.specs.declared.fault.Refusal.{Refusal}
 use Rattle.profile.specs.text.Trees.{Tree}
 use Rattle.profile.specs.text.Values.{SpellsLocal}
-use Rattle.profile.specs.events.Properties.{TimeKind, Unsaid, DateTime, Form, Fixed, allows, IsLocalText, KindFault}
+use Rattle.profile.specs.events.Properties.{TimeKind, Unsaid, DateTime, Form, Fixed, allows_form, IsLocalText, KindFault}
 use Rattle.profile.specs.events.ZonedTimes.{LocalFault, FaultIn}
 use Rattle.cal_events.specs.Forms.{IsAlone}
 
@@ -26,13 +26,13 @@ local_fault kind text (inr is) (Err e) n none = subst (λ (k : TimeKind). LocalF
 
 abbrev pub IsReadableIn : Option (List ℕ) → TimeKind → List ℕ → Type 0
 IsReadableIn zone kind text =
-    MatchOption zone ((form : Form) × (local : ℤ) × (allows kind form ≡ true) × IsAlone text form local) (λ _. (allows kind Fixed ≡ true) × IsLocalText text)
+    MatchOption zone ((form : Form) × (local : ℤ) × (allows_form kind form ≡ true) × IsAlone text form local) (λ _. (allows_form kind Fixed ≡ true) × IsLocalText text)
 
-pub local_in : (zone : Option (List ℕ)) (kind : TimeKind) (text : List ℕ) (local : ℤ) → is_some zone ≡ true → allows kind Fixed ≡ true → SpellsLocal text local → IsReadableIn zone kind text
+pub local_in : (zone : Option (List ℕ)) (kind : TimeKind) (text : List ℕ) (local : ℤ) → is_some zone ≡ true → allows_form kind Fixed ≡ true → SpellsLocal text local → IsReadableIn zone kind text
 local_in (Some name) kind text local e a h = (a, (local, h))
 local_in None kind text local e a h = absurd (false≢true e)
 
-pub alone_in : (zone : Option (List ℕ)) (kind : TimeKind) (text : List ℕ) (form : Form) (local : ℤ) → is_some zone ≡ false → allows kind form ≡ true → IsAlone text form local
+pub alone_in : (zone : Option (List ℕ)) (kind : TimeKind) (text : List ℕ) (form : Form) (local : ℤ) → is_some zone ≡ false → allows_form kind form ≡ true → IsAlone text form local
     → IsReadableIn zone kind text
 alone_in (Some name) kind text form local e a h = absurd (true≢false e)
 alone_in None kind text form local e a h = (form, local, a, h)

@@ -8,7 +8,7 @@ use Rattle.profile.specs.text.Trees.{Tree}
 use Rattle.profile.specs.text.Values.{SpellsStamp, SpellsLocal}
 use Rattle.profile.specs.series.Zones.{Zone}
 use Rattle.profile.specs.series.ZoneTexts.{SaysZone, ZoneFault}
-use Rattle.profile.specs.events.Properties.{TimeKind, Unsaid, DateTime, Date, Period, Other, Form, Fixed, Floating, WholeDay, allows, time_kind, KindFault}
+use Rattle.profile.specs.events.Properties.{TimeKind, Unsaid, DateTime, Date, Period, Other, Form, Fixed, Floating, WholeDay, allows_form, time_kind, KindFault}
 use Rattle.profile.specs.events.ZonedTimes.{zone_named, SaysZoneOf, SpellsZoned, SpellsMidnight, SpellsForm, SaysZonedText, LocalFault, NamedFault, FaultIn, ZonedTextFault}
 use Rattle.ical_values.proofs.Spelled.{date_length, clock_parts}
 use Rattle.ical_values.proofs.Readings.{date_same}
@@ -89,7 +89,7 @@ no_named f None a n h k = h
 no_named f (Some t) a n h k = f t a n h k
 
 -- with TZID
-no_local : (kind : TimeKind) (text : List ℕ) (s : ℤ) (n : ℕ) → allows kind Fixed ≡ true → SpellsLocal text s → LocalFault kind text n → ⊥
+no_local : (kind : TimeKind) (text : List ℕ) (s : ℤ) (n : ℕ) → allows_form kind Fixed ≡ true → SpellsLocal text s → LocalFault kind text n → ⊥
 no_local Unsaid text s n e h f = f.0 (s, h)
 no_local DateTime text s n e h f = f.0 (s, h)
 no_local Date text s n e h f = false≢true e
@@ -103,7 +103,7 @@ alone_form object text Fixed (Some a) s h = absurd h
 alone_form object text Floating a s h = h.2
 alone_form object text WholeDay a s h = h.2
 
-no_alone : (kind : TimeKind) (text : List ℕ) (form : Form) (s : ℤ) (n : ℕ) → allows kind form ≡ true → IsAlone text form s → KindFault kind text n → ⊥
+no_alone : (kind : TimeKind) (text : List ℕ) (form : Form) (s : ℤ) (n : ℕ) → allows_form kind form ≡ true → IsAlone text form s → KindFault kind text n → ⊥
 no_alone Unsaid text Fixed s n e h f = f.1.0 s h
 no_alone Unsaid text Floating s n e h f = f.1.1 (s, h)
 no_alone Unsaid text WholeDay s n e h f = f.0 (h.0, h.1)
@@ -120,7 +120,7 @@ no_alone Other text Fixed s n e h f = false≢true e
 no_alone Other text Floating s n e h f = false≢true e
 no_alone Other text WholeDay s n e h f = false≢true e
 
-no_spelled : NoFault → (object : Tree) (o : Option (List ℕ)) (kind : TimeKind) (text : List ℕ) (form : Form) (a : Option Zone) (s : ℤ) (n : ℕ) → allows kind form ≡ true
+no_spelled : NoFault → (object : Tree) (o : Option (List ℕ)) (kind : TimeKind) (text : List ℕ) (form : Form) (a : Option Zone) (s : ℤ) (n : ℕ) → allows_form kind form ≡ true
     → SpellsForm object o text form a s → FaultIn object o kind text n → ⊥
 no_spelled z object None kind text form a s n k h f = no_alone kind text form s n k (alone_form object text form a s h) f
 no_spelled z object (Some name) kind text Fixed None s n k h f = absurd h

@@ -18,7 +18,7 @@ use Rattle.std.proofs.lemmas.List.Splits.{slice_split_at, slice_split_none}
 use Rattle.std.proofs.lemmas.Map.Keys.{IsDistinct-from_apart}
 use Rattle.std.proofs.lemmas.Map.Made.{length-le_from_is_member, is_member-Decides}
 use Rattle.profile.specs.checker.Instances.{horizon}
-use Rattle.profile.specs.events.Properties.{Form, Fixed, Floating, WholeDay, allows, is_fixed, is_floating, is_whole_day, first_second, is_of, lines_named, time_kind}
+use Rattle.profile.specs.events.Properties.{Form, Fixed, Floating, WholeDay, allows_form, is_fixed, is_floating, is_whole_day, first_second, is_of, lines_named, time_kind}
 use Rattle.profile.specs.events.Occurrences.{ListedTime, Time, entries_of, entries_named, is_period, IsListed, IsInside}
 use Rattle.profile.specs.events.ZonedTimes.{SpellsForm, SaysZonedText, is_in_zone, IsInDates}
 use Rattle.profile.specs.rooms.Messages.{AreAscending, WritesListed, WritesTimes, instants_in, is_in_dates, is_of_form, list_lines}
@@ -70,7 +70,7 @@ pub record IsListName (name head : List ℕ) (form : Form) : Type 0 where
   pub own : (v : List ℕ) → is_of name ((head ++ codes ":") ++ v) ≡ true
   pub value : (v : List ℕ) → line_value ((head ++ codes ":") ++ v) ≡ v
   pub no_zone : (v : List ℕ) → line_param (codes "TZID") ((head ++ codes ":") ++ v) ≡ None
-  pub kind : (v : List ℕ) → allows (time_kind ((head ++ codes ":") ++ v)) form ≡ true
+  pub kind : (v : List ℕ) → allows_form (time_kind ((head ++ codes ":") ++ v)) form ≡ true
   pub content : (v : List ℕ) → IsClean v → is_content ((head ++ codes ":") ++ v) ≡ true
   pub property : (v : List ℕ) → is_property ((head ++ codes ":") ++ v) ≡ true
   pub other : (other v : List ℕ) → is_of other ((head ++ codes ":") ++ v) ≡ is_same_name name other

@@ -8,7 +8,7 @@ use Rattle.std.proofs.lemmas.Bool.Decides.{nat_tests}
 use Rattle.std.proofs.lemmas.List.{length-append, take_at, drop_at}
 use Rattle.std.proofs.Math.Bool.{and-false}
 use Rattle.std.proofs.Math.Seq.{take-length}
-use Rattle.profile.specs.events.Properties.{BothOrNeither, Form, Fixed, Floating, WholeDay, allows, is_of, time_kind, kind_named, Unsaid}
+use Rattle.profile.specs.events.Properties.{BothOrNeither, Form, Fixed, Floating, WholeDay, allows_form, is_of, time_kind, kind_named, Unsaid}
 use Rattle.profile.specs.events.ZonedTimes.{EventTimes, clock_of, is_in_zone, zone_named, SaysZoneOf, SpellsForm, SpellsZoned, SaysZonedTime}
 use Rattle.profile.specs.events.EventComponents.{EventComponent}
 use Rattle.profile.specs.rooms.Messages.{Content, IsContent, IsZoneRest}
@@ -221,7 +221,7 @@ start_says object name Fixed (Some zone) times line (text, w, e) u means plain m
     let z = zoned_start_is name text plain in
     let spelled : SpellsZoned object (Some name) text (Some zone) times.local = (clock_written text times.local w, m) in
     subst (λ (l : List ℕ). SaysZonedTime object l Fixed (Some zone) times.local) (sym e) (
-      ap (λ k. allows k Fixed) z.kind,
+      ap (λ k. allows_form k Fixed) z.kind,
       subst (λ (o : Option (List ℕ)). SpellsZoned object o (line_value (zoned_start name text)) (Some zone) times.local) (sym z.zone)
           (subst (λ (v : List ℕ). SpellsZoned object (Some name) v (Some zone) times.local) (sym z.value) spelled),
     )

@@ -22,14 +22,14 @@ SaysNothing None = Unit {0}
 SaysNothing (Some zone) = parts_by is_part zone ≡ []
 
 -- the VTIMEZONE of that name in a list of VTIMEZONEs, which is an object of them, if there is a list
-abbrev pub IsListed : Option Tree → List ℕ → Tree → Type 0
-IsListed None name zone = ⊥
-IsListed (Some zones) name zone = zone_named name zones ≡ Some zone
+abbrev pub IsListedZone : Option Tree → List ℕ → Tree → Type 0
+IsListedZone None name zone = ⊥
+IsListedZone (Some zones) name zone = zone_named name zones ≡ Some zone
 
 -- what a name means at the door: the VTIMEZONE of the object, or that of the list where it says nothing
 abbrev pub IsMeant : Option Tree → Tree → List ℕ → Tree → Type 0
 IsMeant listed object name zone =
-    ((zone_named name object ≡ Some zone) × (SaysNothing (Some zone) → ⊥)) ⊎ (SaysNothing (zone_named name object) × IsListed listed name zone)
+    ((zone_named name object ≡ Some zone) × (SaysNothing (Some zone) → ⊥)) ⊎ (SaysNothing (zone_named name object) × IsListedZone listed name zone)
 
 -- ---- what takes its place
 
@@ -68,7 +68,7 @@ pub record TakesPlace (listed : Option Tree) (object : Tree) (name : List ℕ) (
   pub same : IsSameFor zone other goes_on first last
 
 -- the VTIMEZONE that a name means afterwards is one that a room reads: the one before, or one whose zone takes the place of that
-pub record IsGiven (listed : Option Tree) (before after : Tree) (name : List ℕ) (goes_on : Bool) : Type 0 where
+pub record IsZoneGiven (listed : Option Tree) (before after : Tree) (name : List ℕ) (goes_on : Bool) : Type 0 where
   pub part : Tree
   pub there : zone_named name after ≡ Some part
   pub zone : Zone
@@ -95,7 +95,7 @@ pub record IsAdapted (listed : Option Tree) (octets : List ℕ) (going_on : List
   pub goes : IsOf adapted after
   pub own : tree_own after ≡ tree_own before
   pub others : without_zones after ≡ without_zones before
-  pub zones : (name : List ℕ) → NamesZone before name → IsGiven listed before after name (list_any (bytes_eq name) going_on)
+  pub zones : (name : List ℕ) → NamesZone before name → IsZoneGiven listed before after name (list_any (bytes_eq name) going_on)
   pub unread : List ℕ
   pub named : NamesZone before unread
   pub needed : (zone : Zone) → SaysZoneOf (zone_named unread before) zone → ⊥

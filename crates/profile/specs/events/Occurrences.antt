@@ -8,7 +8,7 @@ use Rattle.profile.specs.text.Lines.{line_value, line_param, is_same_name}
 use Rattle.profile.specs.text.Trees.{Tree}
 use Rattle.profile.specs.series.Zones.{Zone, Means}
 use Rattle.profile.specs.events.Properties.{Form, Fixed, is_of, lines_named, OccursAtMostOnce, OccursMoreThanOnce, SomeLine, Says}
-use Rattle.profile.specs.events.ZonedTimes.{is_in_zone, clock_of, IsInDates, SaysZonedText, SaysInDates, SaysOutOfDates, HasForm, ZonedTextFault, ZonedTimeFault}
+use Rattle.profile.specs.events.ZonedTimes.{is_in_zone, clock_of, IsInDates, SaysZonedText, SaysInDates, SaysOutOfDates, SaysForm, ZonedTextFault, ZonedTimeFault}
 
 -- ---- STATUS
 
@@ -124,7 +124,7 @@ pub data OccurrenceFault (added fixed : Bool) (object : Tree) (lines : List (Lis
   recurrence_out : SomeLine (codes "RECURRENCE-ID") (SaysOutOfDates false object) lines → OccurrenceFault added fixed object lines 52
   additions_out : (entry : ListedTime) → Contains (entries_named (codes "RDATE") lines) entry → IsOutside object entry → OccurrenceFault added fixed object lines 52
   -- where only a fixed time can name an instance, it is named by another one
-  unfixed : fixed ≡ true → SomeLine (codes "RECURRENCE-ID") (λ line. (form : Form) × (form ≢ Fixed) × HasForm object line form) lines
+  unfixed : fixed ≡ true → SomeLine (codes "RECURRENCE-ID") (λ line. (form : Form) × (form ≢ Fixed) × SaysForm object line form) lines
       → OccurrenceFault added fixed object lines 57
   two_recurrences : OccursMoreThanOnce (codes "RECURRENCE-ID") lines → OccurrenceFault added fixed object lines 61
   ranged : SomeLine (codes "RECURRENCE-ID") (λ line. has_range line ≡ true) lines → OccurrenceFault added fixed object lines 65

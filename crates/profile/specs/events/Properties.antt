@@ -109,22 +109,22 @@ is_whole_day Floating = false
 is_whole_day WholeDay = true
 
 -- VALUE allows this form
-abbrev pub allows : TimeKind → Form → Bool
-allows Unsaid Fixed = true
-allows Unsaid Floating = true
-allows Unsaid WholeDay = true
-allows DateTime Fixed = true
-allows DateTime Floating = true
-allows DateTime WholeDay = false
-allows Date Fixed = false
-allows Date Floating = false
-allows Date WholeDay = true
-allows Period Fixed = false
-allows Period Floating = false
-allows Period WholeDay = false
-allows Other Fixed = false
-allows Other Floating = false
-allows Other WholeDay = false
+abbrev pub allows_form : TimeKind → Form → Bool
+allows_form Unsaid Fixed = true
+allows_form Unsaid Floating = true
+allows_form Unsaid WholeDay = true
+allows_form DateTime Fixed = true
+allows_form DateTime Floating = true
+allows_form DateTime WholeDay = false
+allows_form Date Fixed = false
+allows_form Date Floating = false
+allows_form Date WholeDay = true
+allows_form Period Fixed = false
+allows_form Period Floating = false
+allows_form Period WholeDay = false
+allows_form Other Fixed = false
+allows_form Other Floating = false
+allows_form Other WholeDay = false
 
 -- VALUE says that the line's value is a date-time, or is absent
 abbrev pub is_date_time : List ℕ → Bool

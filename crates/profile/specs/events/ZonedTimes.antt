@@ -9,7 +9,7 @@ use Rattle.profile.specs.text.Values.{SpellsDate, SpellsStamp, SpellsLocal, unes
 use Rattle.profile.specs.checker.Instances.{horizon}
 use Rattle.profile.specs.series.Zones.{Zone, Constant, Means}
 use Rattle.profile.specs.series.ZoneTexts.{SaysZone, ZoneFault}
-use Rattle.profile.specs.events.Properties.{is_of, TimeKind, Unsaid, DateTime, Date, Period, Other, time_kind, Form, Fixed, Floating, WholeDay, allows, OccursAtMostOnce, OccursMoreThanOnce, IsMissing, SomeLine, IsLocalText, KindFault, Length, length_seconds, LastsFor, IsNoDuration, IsNegativeOrLong, longest, first_second}
+use Rattle.profile.specs.events.Properties.{is_of, TimeKind, Unsaid, DateTime, Date, Period, Other, time_kind, Form, Fixed, Floating, WholeDay, allows_form, OccursAtMostOnce, OccursMoreThanOnce, IsMissing, SomeLine, IsLocalText, KindFault, Length, length_seconds, LastsFor, IsNoDuration, IsNegativeOrLong, longest, first_second}
 
 -- ---- VTIMEZONEs by their names
 
@@ -61,15 +61,15 @@ SpellsForm object name text WholeDay zone local = (name ≡ None) × (zone ≡ N
 -- a text of a line says this local time, of this form, in this zone or in none: VALUE and TZID of the line are those of each of its texts
 abbrev pub SaysZonedText : Tree → List ℕ → List ℕ → Form → Option Zone → ℤ → Type 0
 SaysZonedText object line text form zone local =
-    (allows (time_kind line) form ≡ true) × SpellsForm object (line_param (codes "TZID") line) text form zone local
+    (allows_form (time_kind line) form ≡ true) × SpellsForm object (line_param (codes "TZID") line) text form zone local
 
 -- the line says it: its value is the one text
 abbrev pub SaysZonedTime : Tree → List ℕ → Form → Option Zone → ℤ → Type 0
 SaysZonedTime object line form zone local = SaysZonedText object line (line_value line) form zone local
 
 -- the line says a time of this form
-abbrev pub HasForm : Tree → List ℕ → Form → Type 0
-HasForm object line form = (zone : Option Zone) × (local : ℤ) × SaysZonedTime object line form zone local
+abbrev pub SaysForm : Tree → List ℕ → Form → Type 0
+SaysForm object line form = (zone : Option Zone) × (local : ℤ) × SaysZonedTime object line form zone local
 
 -- the clocks that show it: those of its zone, else those of UTC, which show the instant itself. Where a time isn't fixed, they are those of
 -- the room that asks; the rooms here go by UTC
@@ -138,7 +138,7 @@ NamedFault (Some part) number = ZoneFault part number
 -- the zone is looked at where the text is a local time
 abbrev pub InZoneFault : Tree → List ℕ → TimeKind → List ℕ → ℕ → Type 0
 InZoneFault object name kind text number =
-    LocalFault kind text number ⊎ ((allows kind Fixed ≡ true) × IsLocalText text × NamedFault (zone_named name object) number)
+    LocalFault kind text number ⊎ ((allows_form kind Fixed ≡ true) × IsLocalText text × NamedFault (zone_named name object) number)
 
 -- with TZID of this name, or without TZID
 abbrev pub FaultIn : Tree → Option (List ℕ) → TimeKind → List ℕ → ℕ → Type 0
@@ -246,13 +246,13 @@ StartAndEndLie object R lines =
 -- they have a start and an end of two forms
 abbrev pub FormsDiffer : Tree → List (List ℕ) → Type 0
 FormsDiffer object lines =
-    (start : Form) × (end : Form) × SomeLine (codes "DTSTART") (λ line. HasForm object line start) lines
-    × SomeLine (codes "DTEND") (λ line. HasForm object line end) lines × (start ≢ end)
+    (start : Form) × (end : Form) × SomeLine (codes "DTSTART") (λ line. SaysForm object line start) lines
+    × SomeLine (codes "DTEND") (λ line. SaysForm object line end) lines × (start ≢ end)
 
 -- they have a whole day and a DURATION that isn't of whole days
 abbrev pub LastsPartOfDay : Tree → List (List ℕ) → Type 0
 LastsPartOfDay object lines =
-    (length : Length) × SomeLine (codes "DTSTART") (λ line. HasForm object line WholeDay) lines
+    (length : Length) × SomeLine (codes "DTSTART") (λ line. SaysForm object line WholeDay) lines
     × SomeLine (codes "DURATION") (λ line. LastsFor line length) lines × (0 < length.seconds)
 
 abbrev pub names_of_times : List (List ℕ)

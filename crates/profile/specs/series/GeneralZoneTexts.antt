@@ -15,7 +15,7 @@ use Rattle.profile.specs.series.GeneralZones.{End, Never, AfterCount, AtInstant,
 -- ---- what a part says of its times
 
 -- its DTSTART and its two offsets (RFC 5545 3.6.5)
-pub record SaysTimes (lines : List (List ℕ)) (o : Observance) : Type 0 where
+pub record SaysStartAndOffsets (lines : List (List ℕ)) (o : Observance) : Type 0 where
   pub start : Says (codes "DTSTART") true IsLocalLine lines (Some (local_time o.day o.second))
   pub second : o.second < 86_400
   pub from : Says (codes "TZOFFSETFROM") true IsOffsetLine lines (Some o.offset_from)
@@ -93,7 +93,7 @@ IsLastOnsetDay o (AtInstant until) last = (day : ℕ) → (local_time day o.seco
 
 -- the text is a rule that UNTIL ends, of whatever form, and these are its days from DTSTART on (RFC 5545 3.3.10): at most 200, and over at most
 -- 40 years, this profile's choice
-pub record SpellsDays (o : Observance) (text : List ℕ) (days : List ℕ) : Type 0 where
+pub record SpellsOnsetDays (o : Observance) (text : List ℕ) (days : List ℕ) : Type 0 where
   pub rule : RuleText
   pub spelled : SpellsRule text rule
   pub end : End
@@ -105,7 +105,7 @@ pub record SpellsDays (o : Observance) (text : List ℕ) (days : List ℕ) : Typ
   pub few : length days ≤ 200
 
 abbrev pub IsDaysLine : Observance → List ℕ → List ℕ → Type 0
-IsDaysLine o line days = SpellsDays o (line_value line) days
+IsDaysLine o line days = SpellsOnsetDays o (line_value line) days
 
 -- ---- what a part says
 
@@ -120,7 +120,7 @@ pub data AreFirstRuns (lines : List (List ℕ)) (o : Observance) : List Run → 
 -- its runs
 pub record SaysRuns (lines : List (List ℕ)) (runs : List Run) : Type 0 where
   pub o : Observance
-  pub times : SaysTimes lines o
+  pub times : SaysStartAndOffsets lines o
   pub firsts : List Run
   pub are_first : AreFirstRuns lines o firsts
   pub dates : List ℤ
@@ -148,7 +148,7 @@ IsNoDatesLine line = (dates : List ℤ) → IsDatesLine line dates → ⊥
 
 -- the text spells no rule, or one that a date ends; or it isn't of one day a year, and UNTIL doesn't end it soon, or it has more days than are listed
 abbrev pub SpellsNoOnsets : Observance → List ℕ → Type 0
-SpellsNoOnsets o text = ((r : EndingRule) → SpellsEnding o text r → ⊥) × ((days : List ℕ) → SpellsDays o text days → ⊥)
+SpellsNoOnsets o text = ((r : EndingRule) → SpellsEnding o text r → ⊥) × ((days : List ℕ) → SpellsOnsetDays o text days → ⊥)
 
 -- what is wrong with a part
 pub data RunsFault (lines : List (List ℕ)) : ℕ → Type 0 where
@@ -160,7 +160,7 @@ pub data RunsFault (lines : List (List ℕ)) : ℕ → Type 0 where
   bad_to : SomeLine (codes "TZOFFSETTO") IsNoOffsetLine lines → RunsFault lines 13
   bad_date : SomeLine (codes "RDATE") IsNoDatesLine lines → RunsFault lines 40
   two_rules : OccursMoreThanOnce (codes "RRULE") lines → RunsFault lines 40
-  bad_rule : (o : Observance) → SaysTimes lines o → SomeLine (codes "RRULE") (λ line. SpellsNoOnsets o (line_value line)) lines → RunsFault lines 40
+  bad_rule : (o : Observance) → SaysStartAndOffsets lines o → SomeLine (codes "RRULE") (λ line. SpellsNoOnsets o (line_value line)) lines → RunsFault lines 40
 
 -- what is wrong with the parts
 pub data GeneralPartsFault (parts : List (List (List ℕ))) : ℕ → Type 0 where

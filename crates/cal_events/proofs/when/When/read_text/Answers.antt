@@ -2,7 +2,7 @@ use Rattle.std.proofs.Common.{◌≡◌, ◌∙◌, ap, sym, true}
 use Rattle.std.specs.Prelude.{option_map, Some}
 use Rattle.std.proofs.lemmas.Result.{IfErr-weaker}
 use Rattle.ical_lines.specs.Text.{line_text}
-use Rattle.profile.specs.events.Properties.{allows, time_kind, KindFault}
+use Rattle.profile.specs.events.Properties.{allows_form, time_kind, KindFault}
 use Rattle.profile.specs.events.ZonedTimes.{SpellsForm, SaysZonedText, InZoneFault, ZonedTextFault}
 use Rattle.cal_events.specs.Forms.{SpellsAlone}
 use Rattle.cal_events.specs.Times.{form_said, zone_said, local_said}
@@ -18,7 +18,7 @@ returns-in-Some-clause-says c =
     let object = object_of c.args.zones.now in
     let name = c.in-Some.name.now in
     let named = sym c.param.ensures ∙ ap (option_map (λ x. x.now)) c.in-Some.is in
-    ok_both _ (λ t. allows (time_kind line) (form_said t) ≡ true) (λ t. SpellsForm object (Some name) text (form_said t) (zone_said t) (local_said t))
+    ok_both _ (λ t. allows_form (time_kind line) (form_said t) ≡ true) (λ t. SpellsForm object (Some name) text (form_said t) (zone_said t) (local_said t))
     (λ t. SaysZonedText object line text (form_said t) (zone_said t) (local_said t))
     (λ t a h. zoned_said object line text name (form_said t) (zone_said t) (local_said t) named a h) c.read_in_zone.ensures.allowed c.read_in_zone.ensures.says
 
@@ -39,7 +39,7 @@ returns-in-None-clause-says c =
     let text = c.args.text.now in
     let object = object_of c.args.zones.now in
     let named = sym c.param.ensures ∙ ap (option_map (λ x. x.now)) c.in-None.is in
-    ok_both _ (λ t. allows (time_kind line) (form_said t) ≡ true) (SpellsAlone text)
+    ok_both _ (λ t. allows_form (time_kind line) (form_said t) ≡ true) (SpellsAlone text)
     (λ t. SaysZonedText object line text (form_said t) (zone_said t) (local_said t))
     (λ t a h. alone_said object line text (form_said t) (zone_said t) (local_said t) named a h) c.read_alone.ensures.allowed c.read_alone.ensures.says
 
