@@ -1,0 +1,171 @@
+"""Lists what somebody who trusts the definitions and the prover still has to believe, and writes it as a table of docs/ASSURANCE.md.
+
+    python3 bench/premises.py            writes the table between its two marker comments
+    python3 bench/premises.py --check    changes nothing; ends with 1 where the table isn't that of the sources
+    python3 bench/premises.py --list     prints what the sources have, a line each, with what is said of it here
+
+Three kinds of premises are looked for in what crates offer. *Asked*: a `requires` of a call, which each caller in this repository is proved to meet,
+and a caller elsewhere has to. *Represents*: a definition of a crate's own, not of `profile`, that stands left of an arrow in a clause: the clause says
+nothing of a value for which it doesn't hold. *Told*: a ghost member of a trait, by which a reader, a writer or a folder says what it holds. Each is
+`proved`, `tested` or `trusted`, as VERDICTS says; one without a verdict is a fault, and so is a verdict for what isn't there.
+"""
+
+import re
+import sys
+
+import public_calls
+from public_calls import blanked, closing
+from repository import ROOT, crates_below
+
+PAGE = ROOT / "docs" / "ASSURANCE.md"
+TABLE = re.compile(r"(<!-- table: bench/premises\.py -->\n)(.*?)(<!-- end of table -->\n)", re.DOTALL)
+DEFINED = re.compile(r"^ *(?:pub )?(?:abbrev|unfoldable|data|record)(?: pub)? ([^\s:({]+)", re.MULTILINE)
+GHOST = re.compile(r"\bghost (\w+)\b(?! *use)")
+
+# (kind, what): (verdict, why, or where)
+ASKED = "each call in this repository meets it"
+VERDICTS = {
+    ("asked", "Folder::sync_temp"): ("proved", ASKED + "; a temporary has been written"),
+    ("asked", "Folder::publish"): ("proved", ASKED + "; a temporary has been written"),
+    ("asked", "Rule::form_day"): ("proved", ASKED + "; a weekday"),
+    ("asked", "NamedZones::named"): ("proved", ASKED + "; each table that `NamedZones::of` made has it"),
+    ("asked", "EventComponent::instances_in"): ("proved", ASKED + "; the event was read from octets, which those of a `Message` were (its ghost field)"),
+    ("asked", "are_apart"): ("proved", ASKED + "; a modulus below 2^40, arcs around it"),
+    ("asked", "is_apart"): ("proved", ASKED + "; a modulus below 2^40, arcs around it"),
+    ("asked", "reaches"): ("proved", ASKED + "; a modulus below 2^40, residues around it"),
+    ("asked", "residues"): ("proved", ASKED + "; a modulus"),
+    ("asked", "span_end"): ("proved", ASKED + "; years 1 to 9999, a period, a width"),
+    ("asked", "Drawn::regular_from"): ("proved", ASKED + "; a series of the calendar"),
+    ("asked", "Drawn::period_days"): ("proved", ASKED + "; a series of the calendar"),
+    ("asked", "Drawn::width"): ("proved", ASKED + "; a series of the calendar"),
+    ("asked", "Drawn::residues"): ("proved", ASKED + "; a series of the calendar, a modulus"),
+    ("asked", "Drawn::begin"): ("proved", ASKED + "; a series of the calendar"),
+    ("asked", "Drawn::draw"): ("proved", ASKED + "; a series of the calendar"),
+    ("asked", "Drawn::single"): ("proved", ASKED + "; a single of the calendar"),
+    ("represents", "Represents"): ("proved", "a room has a book that messages led to (`reached`, in its type); `new` and `take` keep it"),
+    ("represents", "Keeps"): ("proved", "`new` gives an organiser that keeps the empty book, each call one that keeps the next"),
+    ("represents", "RepresentsHistory"): ("proved", "`Held::new` represents no part; `take`, `take_all` and `with` each the history with one more"),
+    ("represents", "RepresentsMessage"): ("proved", "a `Message` can't be made but by `Message::read`, whose clause gives it"),
+    ("represents", "SaysComponent"): ("proved", "of each component of a `Message` (`Message::read`)"),
+    ("represents", "HasInstances"): ("proved", "of each component of a `Message` that has its instances (`Message::read`)"),
+    ("represents", "IsWorldOf"): ("proved", "`play` gives a world that is of one that the steps lead to"),
+    ("represents", "PlaysTo"): ("proved", "`play` ends in a world to which its steps lead"),
+    ("represents", "IsMasterOf"): ("proved", "a `Series` has a master that says it (in its type)"),
+    ("represents", "SameParts"): ("proved", "a premise of the law that order and repeats don't matter, nothing else"),
+    ("represents", "AreKeptClear"): ("proved", "the room's own certificate of its series before; `extend` is called with nothing else"),
+    ("represents", "RefusesBy"): ("proved", "which fault a refusal has; read in the other direction, of any refusal"),
+    ("represents", "IfRefused"): ("proved", "which fault a refusal has; read in the other direction, of any refusal"),
+    ("represents", "IfRefusedStream"): ("proved", "which fault a refusal has; read in the other direction, of any refusal"),
+    ("represents", "IsObjectOf"): ("proved", "what was handed to the writer, when it says a tree"),
+    ("represents", "IsComing"): ("proved", "`Drawing::new` begins with all that is coming"),
+    ("represents", "IsSingleAt"): ("proved", "the single at a place of the list"),
+    ("represents", "MayLeave"): ("proved", "what a stop may leave, of the folder in memory"),
+    ("represents", "RunsWith"): ("proved", "the configuration spells hosts, or it doesn't"),
+    ("represents", "RunsNone"): ("proved", "the configuration spells hosts, or it doesn't"),
+    ("told", "Input.remaining"): ("tested", "a slice of octets and an inbox in memory tell it; a device doesn't, and `device_tests` and the scripts of `tests/` compare"),
+    ("told", "Input.lent"): ("tested", "what was lent and not consumed; as `remaining`"),
+    ("told", "Input.has_failed"): ("tested", "`DeviceReader` marks it when a read fails: `device_tests`, `tests/failing_devices.py`"),
+    ("told", "Input.fills"): ("tested", "how often it was filled, of a reader that counts; a device doesn't"),
+    ("told", "Output.contents"): ("tested", "a `Vec` tells it; a device doesn't, and `device_tests` compares"),
+    ("told", "Output.has_failed"): ("tested", "`DeviceWriter` marks it when a write or a flush fails: `device_tests`, `tests/failing_devices.py`"),
+    ("told", "Output.may_lose"): ("tested", "what a writer may hold back until it is flushed: `device_tests`"),
+    ("told", "Folder.is_known"): ("trusted", "`MemoryFolder` tells what it holds; a disk doesn't"),
+    ("told", "Folder.image"): ("trusted", "what a disk holds under each name; `MemoryFolder` is proved"),
+    ("told", "Folder.may_leave"): ("trusted", "that a disk keeps what it says it has synced, and makes a link whole or not at all"),
+    ("told", "Folder.moment"): ("trusted", "a count of what happened; nothing measures it"),
+    ("told", "Folder.left_since"): ("trusted", "what a stop at some moment might have left, as `may_leave`"),
+    ("told", "Folder.temporary"): ("trusted", "the file without a name; nobody else writes to an outbox"),
+    ("told", "Folder.failed"): ("tested", "`tests/box.py` has each call of the system fail in turn"),
+    ("told", "Folder.counts_held"): ("proved", "which failures are counted, of each folder there is"),
+    ("told", "Folder.counts_now"): ("proved", "which failures are counted, of each folder there is"),
+    ("told", "Folder.only_now"): ("proved", "which failures are counted, of each folder there is"),
+    ("told", "Recurs.member"): ("proved", "of `Series`, by its own contracts"),
+    ("told", "Recurs.period"): ("proved", "of `Series`, by its own contracts"),
+    ("told", "Recurs.regular"): ("proved", "of `Series`, by its own contracts"),
+    ("told", "Recurs.listed"): ("proved", "of `Series`, by its own contracts"),
+    ("told", "AttendeeLines.line"): ("proved", "of each that writes lines of attendees"),
+    ("told", "Drawn.calendar"): ("proved", "of `Drawing`, whose calendar was read"),
+    ("told", "Drawn.coming"): ("proved", "of `Drawing`"),
+    ("told", "Drawn.count"): ("proved", "of `Drawing`"),
+}
+KINDS = {
+    "asked": "*Asked of a caller (`requires`)*",
+    "represents": "*What a value has to represent, for a clause to say something of it*",
+    "told": "*What a trait's value tells, in ghost members*",
+}
+
+
+def own_definitions():
+    """The names that a crate other than `profile` defines in its specs/, and `profile` doesn't."""
+    found = {}
+    for path in (ROOT / "crates").glob("*/specs/**/*.antt"):
+        for name in DEFINED.findall(path.read_text(encoding="utf-8")):
+            found.setdefault(name, set()).add(path.relative_to(ROOT / "crates").parts[0])
+    return {name for name, crates in found.items() if "profile" not in crates}
+
+
+def title(call):
+    return f"{call.owner}::{call.name}" if call.owner else call.name
+
+
+def asked(crates):
+    """Each call that asks something of its caller."""
+    return {("asked", title(call)) for crate in crates for call in crate.calls if any(kind == "requires" for kind, _, _ in call.clauses)}
+
+
+def represented(crates):
+    """Each definition of a crate's own that a clause has left of an arrow; those of laws, which call nothing, aside."""
+    own, found = own_definitions(), set()
+    for crate in crates:
+        for call in crate.calls:
+            if call.parameters or call.answer:
+                for kind, _, words in call.clauses:
+                    premises = words.split("→")[:-1] if kind == "ensures" else []
+                    found |= {("represents", word) for part in premises for word in re.findall(r"\b[A-Z]\w+\b", part) if word in own}
+    return found
+
+
+def told(crates):
+    """Each ghost member of a trait that crates offer."""
+    found = set()
+    for crate in crates:
+        for module in crate.sources:
+            text = blanked((ROOT / "crates" / crate.name / "src" / f"{module}.rt").read_text(encoding="utf-8"))
+            for trait in re.finditer(r"\bpub trait (\w+)[^{]*\{", text):
+                body = text[trait.end() : closing(text, trait.end() - 1)]
+                found |= {("told", f"{trait[1]}.{member}") for member in GHOST.findall(body) if member != "use"}
+    return found
+
+
+def rows(found):
+    """The table's rows, kind by kind, in the order of VERDICTS."""
+    lines = ["| Premise | It is | Why, or where |\n|---|---|---|\n"]
+    for kind, head in KINDS.items():
+        lines.append(f"| {head} | | |\n")
+        lines += [f"| `{what}` | {verdict} | {why} |\n" for (its, what), (verdict, why) in VERDICTS.items() if its == kind and (its, what) in found]
+    return "".join(lines)
+
+
+def main():
+    if sys.argv[1:] not in ([], ["--check"], ["--list"]):
+        sys.exit(__doc__)
+    crates = [public_calls.Crate(name) for name in crates_below() if name not in public_calls.LEFT_OUT]
+    found = asked(crates) | represented(crates) | told(crates)
+    if sys.argv[1:] == ["--list"]:
+        for one in sorted(found):
+            print(*one, *VERDICTS.get(one, ("?", "no verdict")), sep=" | ")
+        return 0
+    wrong = [f"no verdict: {kind} {what}" for kind, what in sorted(found - set(VERDICTS))]
+    wrong += [f"not there: {kind} {what}" for kind, what in sorted(set(VERDICTS) - found)]
+    text = PAGE.read_text(encoding="utf-8")
+    made = TABLE.sub(lambda place: place[1] + rows(found) + place[3], text)
+    if made != text or not TABLE.search(text):
+        wrong += ["the table isn't that of the sources"] if sys.argv[1:] or not TABLE.search(text) else []
+        if not sys.argv[1:]:
+            PAGE.write_text(made, encoding="utf-8")
+    print("\n".join(wrong) or f"{len(found)} premises, each with a verdict")
+    return int(bool(wrong))
+
+
+if __name__ == "__main__":
+    sys.exit(main())
