@@ -12,7 +12,7 @@ MAN_PAGE = $(BELOW)/share/man/man1/roombox.1
 COMPLETION = $(BELOW)/share/bash-completion/completions/roombox
 # README, what it leads to, and the examples, with the same folders between them
 DOCUMENTS = $(BELOW)/share/doc/roombox
-DOCUMENT_FILES := README.md CHANGELOG.md $(wildcard docs/*) $(wildcard examples/*.ics* examples/*.replies) $(wildcard examples/mail/*.* examples/systemd/*.* examples/zones/*.*)
+DOCUMENT_FILES := README.md CHANGELOG.md $(wildcard docs/*.* docs/*/*.* examples/*.* examples/*/*.*)
 
 .PHONY: try run test attack bench fuzz man layout install uninstall deb clean
 
