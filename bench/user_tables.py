@@ -13,7 +13,7 @@ import sys
 from repository import ROOT
 
 # a text of `explain`, as it stands in the source
-EXPLAINED = re.compile(r'"(\d+): ([^"]+)\. What to do: ([^"]+)\.\\n"')
+EXPLAINED = re.compile(r'"(\d+): ((?:[^"\\]|\\.)+?)\. What to do: ((?:[^"\\]|\\.)+)\.\\n"')
 # a line of bench/doors/refused.txt
 COUNTED = re.compile(r"(\w+) (single|endless|moved)( --zones)? (\d+) zones, read as they came (\d+), now (\d+)")
 PRODUCERS = {
@@ -36,7 +36,7 @@ def row(cells):
 def refusals():
     """Each number that is explained, in their order."""
     texts = "".join(path.read_text(encoding="utf-8") for path in sorted((ROOT / "crates" / "sched_cli" / "src").glob("*.rt")))
-    rows = {int(number): (meaning, advice) for number, meaning, advice in EXPLAINED.findall(texts)}
+    rows = {int(number): [text.replace('\\"', '"') for text in said] for number, *said in EXPLAINED.findall(texts)}
     yield row(("No", "Meaning", "What to do")) + "|---|---|---|\n"
     for number in sorted(rows):
         yield row((str(number), *rows[number]))
